@@ -1,0 +1,5 @@
+pub mod Symbols
+pub mod Nationals
+pub mod Text
+pub mod Sequence
+pub mod Sessions

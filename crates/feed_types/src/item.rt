@@ -1,0 +1,37 @@
+//! What the numbers of a venue's session stand for.
+
+use crate::symbol::SymbolName;
+
+/// A venue's quotation of one symbol, both sides at once. Prices are in ten-thousandths of a dollar,
+/// sizes in shares. A side whose price or size is 0 isn't there.
+#[derive(Clone, Copy, Debug, PartialEq, Eq, Hash)]
+pub struct Quote {
+    pub symbol: SymbolName,
+    pub bid_price: u32,
+    pub bid_size: u64,
+    pub offer_price: u32,
+    pub offer_size: u64,
+    /// Whether the bid is an automated quotation. Only those are protected.
+    pub bid_auto: bool,
+    /// Whether the offer is an automated quotation.
+    pub offer_auto: bool,
+}
+
+/// What one sequence number of a session stands for.
+#[derive(Clone, Copy, Debug, PartialEq, Eq, Hash)]
+pub enum Item {
+    Quote(Quote),
+    /// The venue halts trading in the symbol, or trades it again.
+    Halt { symbol: SymbolName, halted: bool },
+    /// A message that is none of these. It takes its number and changes no quotation.
+    Other,
+    /// The end of the session, which has the number after the last message's.
+    End,
+}
+
+/// An item with its sequence number, from 1 on in each session.
+#[derive(Clone, Copy, Debug, PartialEq, Eq, Hash)]
+pub struct Numbered {
+    pub number: u64,
+    pub item: Item,
+}

@@ -1,0 +1,113 @@
+//! Symbols.
+
+ghost use Rattle.std.specs.Prelude.{◌≡◌, IsTrue, Some, length};
+ghost use Rattle.std.specs.List.{list_all};
+ghost use Rattle.std.specs.Option.{SomeIff};
+ghost use Rattle.feed_types.specs.Symbols.{is_space, is_name_byte, is_symbol_field, is_symbol_name, name_of, filled};
+
+use std::fmt;
+use std::marker::Model;
+
+/// How many bytes a symbol's field has.
+const FIELD: usize = 8;
+
+/// The name of a symbol: 1 to 8 bytes from `21` to `7e`, kept as its field, which is filled with
+/// spaces to eight bytes.
+#[derive(Clone, Copy, Debug, PartialEq, Eq, PartialOrd, Ord, Hash)]
+pub struct SymbolName {
+    bytes: [u8; 8],
+}
+
+impl Model for SymbolName {
+    ghost use Rattle.std.specs.Prelude.{ℕ, List, IsTrue};
+    ghost use Rattle.feed_types.specs.Symbols.{is_symbol_field};
+
+    ghost Value = { List ℕ };
+
+    ghost view = { λ s. s.bytes };
+
+    ghost invariant = { λ s. IsTrue (is_symbol_field s.bytes) };
+
+    ghost inverse = { λ field. record { bytes = field } };
+}
+
+fn is_all_name_bytes(bytes: &[u8]) -> bool
+    ensures { result ≡ list_all is_name_byte bytes.now }
+{
+    bytes.iter().all(|&byte| 0x21 <= byte && byte <= 0x7e)
+}
+
+/// Whether the bytes are a name: 1 to 8 bytes, each printable and no space.
+fn is_name(bytes: &[u8]) -> bool
+    ensures { result ≡ is_symbol_name bytes.now }
+{
+    !bytes.is_empty() && bytes.len() <= FIELD && is_all_name_bytes(bytes)
+}
+
+fn is_filling(bytes: &[u8]) -> bool
+    ensures { result ≡ list_all is_space bytes.now }
+{
+    bytes.iter().all(|&byte| byte == b' ')
+}
+
+/// How many bytes stand before the first space.
+fn name_len(field: &[u8]) -> usize
+    ensures { result ≡ length (name_of field.now) }
+{
+    field.iter().take_while(|byte| **byte != b' ').count()
+}
+
+impl SymbolName {
+    /// The symbol of a field of eight bytes, or `None` where the field is none: where no name stands at
+    /// its front, or another byte than a space behind it.
+    pub fn from_field(field: &[u8; 8]) -> Option<SymbolName>
+        ensures { SomeIff result (IsTrue (is_symbol_field field.now)) field.now }
+    {
+        let (name, filling) = field.split_at(name_len(field));
+        if is_name(name) && is_filling(filling) {
+            Some(SymbolName { bytes: *field })
+        } else {
+            None
+        }
+    }
+
+    /// The symbol of a name that isn't filled, or `None` where it is no name of 1 to 8 bytes.
+    pub fn from_text(name: &[u8]) -> Option<SymbolName>
+        ensures { SomeIff result (IsTrue (is_symbol_name name.now)) (filled name.now) }
+    {
+        if !is_name(name) {
+            return None;
+        }
+        let mut bytes = [b' '; FIELD];
+        bytes[..name.len()].copy_from_slice(name);
+        Some(SymbolName { bytes })
+    }
+
+    /// The field of eight bytes, filled with spaces, as quotations carry it.
+    pub fn field(self) -> [u8; 8]
+        ensures value { result ≡ self }
+        ensures symbol { IsTrue (is_symbol_field result) }
+    {
+        self.bytes
+    }
+
+    /// The name without its filling.
+    pub fn name(&self) -> &[u8]
+        ensures value { result.now ≡ name_of self.now }
+        ensures symbol { IsTrue (is_symbol_name result.now) }
+    {
+        &self.bytes[..name_len(&self.bytes)]
+    }
+}
+
+/// Prints the name without its filling.
+impl fmt::Display for SymbolName {
+    ghost output = { λ s. Some (name_of s) };
+
+    fn fmt<W: fmt::Write>(&self, f: &mut fmt::Formatter<W>) -> fmt::Result {
+        match str::from_utf8(self.name()) {
+            Ok(name) => f.write_str(name),
+            Err(_) => unreachable!(),
+        }
+    }
+}
