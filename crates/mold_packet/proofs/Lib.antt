@@ -1,0 +1,4 @@
+pub mod Cutting
+pub mod HeaderFields
+pub mod Spelling
+pub mod OneReading

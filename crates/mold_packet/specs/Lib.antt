@@ -1,0 +1,4 @@
+pub mod Block
+pub mod Content
+pub mod Faults
+pub mod Header

@@ -1,0 +1,33 @@
+ghost use Rattle.std.specs.Prelude.{◌≡◌, ◌≤◌, length};
+ghost use Rattle.mold_packet.specs.Header.{session_at, number_at, count_at};
+
+/// How many bytes a downstream packet's header has, and a whole request.
+pub(crate) const HEADER: usize = 20;
+
+#[inline]
+pub(crate) fn session_of(bytes: &[u8]) -> [u8; 10]
+    requires { 20 ≤ length bytes.now }
+    ensures { result ≡ session_at bytes.now }
+{
+    let mut session = [0; 10];
+    session.copy_from_slice(&bytes[..10]);
+    session
+}
+
+#[inline]
+pub(crate) fn number_of(bytes: &[u8]) -> u64
+    requires { 20 ≤ length bytes.now }
+    ensures { result ≡ number_at bytes.now }
+{
+    u64::from_be_bytes([
+        bytes[10], bytes[11], bytes[12], bytes[13], bytes[14], bytes[15], bytes[16], bytes[17],
+    ])
+}
+
+#[inline]
+pub(crate) fn count_of(bytes: &[u8]) -> u16
+    requires { 20 ≤ length bytes.now }
+    ensures { result ≡ count_at bytes.now }
+{
+    u16::from_be_bytes([bytes[18], bytes[19]])
+}

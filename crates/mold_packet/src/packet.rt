@@ -1,0 +1,119 @@
+ghost use Rattle.std.specs.Prelude.{◌≡◌, length};
+ghost use Rattle.mold_packet.specs.Content.{IsContent};
+ghost use Rattle.mold_packet.specs.Block.{blocks_at, AreBlocks};
+
+use crate::blocks::Messages;
+use std::marker::Model;
+
+/// What a downstream packet is, by its count field.
+#[derive(Clone, Copy, Debug, PartialEq, Eq, Hash)]
+pub enum Kind {
+    /// Count 1 to 65,534: that many messages, with the numbers from the packet's number on.
+    Messages,
+    /// Count 0: the packet's number is the next one that the sender expects to use.
+    Heartbeat,
+    /// Count `ffff`: the session has ended, and the packet's number is one more than its last message's.
+    End,
+}
+
+/// A downstream packet that was read. It borrows its messages from the datagram.
+#[derive(Debug, Drop)]
+pub struct Packet<'a> {
+    session: [u8; 10],
+    number: u64,
+    kind: Kind,
+    count: u16,
+    blocks: &'a [u8],
+    ignored: usize,
+}
+
+impl<'a> Model for Packet<'a> {
+    ghost use Rattle.mold_packet.specs.Content.{Content, IsContent};
+    ghost use Rattle.mold_packet.specs.Block.{blocks_at, AreBlocks};
+
+    ghost Value = { Content };
+
+    ghost view = { λ p. record { session = p.session; number = p.number; kind = p.kind; messages = blocks_at p.count p.blocks.now; ignored = p.ignored } };
+
+    ghost invariant = { λ p. AreBlocks p.count p.blocks.now × IsContent (record { session = p.session; number = p.number; kind = p.kind; messages = blocks_at p.count p.blocks.now; ignored = p.ignored }) };
+}
+
+impl<'a> Packet<'a> {
+    /// The packet with these fields, whose `blocks` are `count` message blocks and nothing else.
+    pub(crate) fn new(
+        session: [u8; 10],
+        number: u64,
+        kind: Kind,
+        count: u16,
+        blocks: &'a [u8],
+        ignored: usize,
+    ) -> Self
+        requires blocks { AreBlocks count blocks.now }
+        requires content { IsContent (record { session = session; number = number; kind = kind; messages = blocks_at count blocks.now; ignored = ignored }) }
+        ensures content { IsContent result }
+        ensures value { result ≡ record { session = session; number = number; kind = kind; messages = blocks_at count blocks.now; ignored = ignored } }
+    {
+        Packet {
+            session,
+            number,
+            kind,
+            count,
+            blocks,
+            ignored,
+        }
+    }
+
+    /// The session's name, ten bytes filled with spaces.
+    #[inline]
+    pub fn session(&self) -> [u8; 10]
+        ensures value { result ≡ self.now.session }
+        ensures content { IsContent self.now }
+    {
+        self.session
+    }
+
+    /// The sequence number, at least 1: of the first message, or as `Kind` says where there is none.
+    #[inline]
+    pub fn number(&self) -> u64
+        ensures value { result ≡ self.now.number }
+        ensures content { IsContent self.now }
+    {
+        self.number
+    }
+
+    /// Whether the packet has messages, or is a heartbeat or an end of session.
+    #[inline]
+    pub fn kind(&self) -> Kind
+        ensures value { result ≡ self.now.kind }
+        ensures content { IsContent self.now }
+    {
+        self.kind
+    }
+
+    /// How many messages there are: 1 to 65,534, or 0 in a heartbeat and an end of session.
+    #[inline]
+    pub fn count(&self) -> u16
+        ensures value { result ≡ length self.now.messages }
+        ensures content { IsContent self.now }
+    {
+        self.count
+    }
+
+    /// How many bytes of the datagram stand behind the packet. They were not read.
+    #[inline]
+    pub fn ignored(&self) -> usize
+        ensures value { result ≡ self.now.ignored }
+        ensures content { IsContent self.now }
+    {
+        self.ignored
+    }
+
+    /// The messages in order, each without its length field.
+    #[inline]
+    pub fn messages(&self) -> Messages<'a>
+        ensures value { result ≡ self.now.messages }
+        ensures content { IsContent self.now }
+    {
+        Messages::new(self.count, self.blocks)
+    }
+}

@@ -1,0 +1,52 @@
+ghost use Rattle.std.specs.Prelude.{◌≡◌, ◌≤◌, List, ℕ, length, IfOk, IfErr};
+ghost use Rattle.mold_packet.specs.Content.{Spells};
+ghost use Rattle.mold_packet.specs.Faults.{HasFault};
+
+use crate::blocks::split_blocks;
+use crate::fault::PacketFault;
+use crate::header::{HEADER, count_of, number_of, session_of};
+use crate::packet::{Kind, Packet};
+
+const HEARTBEAT: u16 = 0;
+
+const END: u16 = 0xffff;
+
+/// Reads a downstream packet, or tells the first fault that fits: `ShortHeader`, `TruncatedBlock`, `ZeroSequence` or
+/// `SequenceOverflow`.
+///
+/// | Offset | Length | Field |
+/// |---|---|---|
+/// | 0 | 10 | session |
+/// | 10 | 8 | sequence number |
+/// | 18 | 2 | message count: 0 is a heartbeat, `ffff` the end of the session |
+/// | 20 | | that many message blocks, none behind `0000` and `ffff` |
+///
+/// A message block is a length in 2 bytes, which does not count itself, and that many bytes. Numbers have their high
+/// byte first. Bytes behind the last block are not read, and [`Packet::ignored`] counts them. The source is MoldUDP64
+/// 1.00, "Downstream Packet", "Message Block", "Heartbeats" and "End of Session".
+///
+/// Reading goes over the blocks' lengths once, and over no message.
+pub fn read_packet(bytes: &[u8]) -> Result<Packet<'_>, PacketFault>
+    ensures spelled { IfOk result (λ packet. (rest : List ℕ) × Spells bytes.now packet rest) }
+    ensures fault { IfErr result (HasFault bytes.now) }
+{
+    if bytes.len() < HEADER {
+        return Err(PacketFault::ShortHeader);
+    }
+    let number = number_of(bytes);
+    let (kind, count) = match count_of(bytes) {
+        HEARTBEAT => (Kind::Heartbeat, 0),
+        END => (Kind::End, 0),
+        count => (Kind::Messages, count),
+    };
+    let Some((blocks, rest)) = split_blocks(count, &bytes[HEADER..]) else {
+        return Err(PacketFault::TruncatedBlock);
+    };
+    if number == 0 {
+        return Err(PacketFault::ZeroSequence);
+    }
+    if count > 0 && number > u64::MAX - u64::from(count - 1) {
+        return Err(PacketFault::SequenceOverflow);
+    }
+    Ok(Packet::new(session_of(bytes), number, kind, count, blocks, rest.len()))
+}
