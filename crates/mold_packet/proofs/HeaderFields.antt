@@ -1,9 +1,9 @@
 -- The header's fields are its bytes, and the bytes are the fields.
-use Rattle.std.proofs.Common.{◌≡◌, ℕ, ◌+◌, ◌^◌, ◌<◌, ◌≤◌, List, ◌++◌, length, get_or, take, drop, refl, sym, ap, ◌∙◌, inl, inr, append_assoc, length-append, arith}
+use Rattle.std.proofs.Common.{◌≡◌, ℕ, ◌+◌, ◌^◌, ◌<◌, ◌≤◌, List, [], ◌++◌, length, get_or, take, drop, refl, sym, ap, ◌∙◌, inl, inr, append_assoc, length-append, arith}
 use Rattle.std.specs.Int.{w16, w64, to_be_bytes, from_be_bytes}
 use Rattle.std.proofs.lemmas.Bool.{cases_lt}
 use Rattle.std.proofs.lemmas.Nat.{be_bytes_2, be_bytes_8, from_be_bytes-to_be_bytes_2, from_be_bytes-to_be_bytes_8}
-use Rattle.std.proofs.lemmas.List.{take_at, drop_at, take-append-drop, drop-drop, length-take, length-drop, get_or-take, get_or-drop, get_or_past}
+use Rattle.std.proofs.lemmas.List.{take_at, drop_at, drop_all, append-nil, take-append-drop, drop-drop, length-take, length-drop, get_or-take, get_or-drop, get_or_past}
 use Rattle.mold_packet.specs.Header.{header, session_at, number_at, count_at}
 
 -- a part of bytes holds bytes
@@ -63,3 +63,9 @@ parts bytes session number count body ten small few e =
       count_is = ap (λ (x : List ℕ). from_be_bytes w16 (take 2 x)) from_18 ∙ ap (from_be_bytes w16) (take_at (to_be_bytes w16 count) body 2 refl) ∙ from_be_bytes-to_be_bytes_2 count few;
       body_is = sym (drop-drop 2 18 bytes) ∙ ap (drop 2) from_18 ∙ drop_at (to_be_bytes w16 count) body 2 refl;
     }
+
+-- 20 bytes are a header and nothing else
+pub whole_header : (bytes session : List ℕ) (number count : ℕ) → length bytes ≡ 20 → ((i : ℕ) → get_or bytes i 0 < 256) → session ≡ session_at bytes → number ≡ number_at bytes → count ≡ count_at bytes → bytes ≡ header session number count
+whole_header bytes session number count exact h s n c =
+    header_of bytes session number count [] (omega arith) h s n c (drop_all 20 bytes (omega arith))
+    ∙ append-nil (header session number count)

@@ -1,4 +1,7 @@
 pub mod Cutting
+pub mod Growing
 pub mod HeaderFields
-pub mod Spelling
 pub mod OneReading
+pub mod Overwriting
+pub mod Packets
+pub mod Spelling

@@ -1,4 +1,7 @@
 pub mod Block
+pub mod Body
 pub mod Content
 pub mod Faults
 pub mod Header
+pub mod Request
+pub mod Writing

@@ -1,5 +1,5 @@
-ghost use Rattle.std.specs.Prelude.{◌≡◌, ◌≤◌, length};
-ghost use Rattle.mold_packet.specs.Header.{session_at, number_at, count_at};
+ghost use Rattle.std.specs.Prelude.{◌≡◌, ◌≤◌, ◌++◌, length, drop};
+ghost use Rattle.mold_packet.specs.Header.{header, session_at, number_at, count_at};
 
 /// How many bytes a downstream packet's header has, and a whole request.
 pub(crate) const HEADER: usize = 20;
@@ -30,4 +30,14 @@ pub(crate) fn count_of(bytes: &[u8]) -> u16
     ensures { result ≡ count_at bytes.now }
 {
     u16::from_be_bytes([bytes[18], bytes[19]])
+}
+
+/// Writes the fields into the first 20 bytes.
+pub(crate) fn write_header(session: &[u8; 10], number: u64, count: u16, out: &mut [u8])
+    requires { 20 ≤ length out.old }
+    ensures { out.new ≡ header session.now number count ++ drop 20 out.old }
+{
+    out[..10].copy_from_slice(session);
+    out[10..18].copy_from_slice(&number.to_be_bytes());
+    out[18..20].copy_from_slice(&count.to_be_bytes());
 }

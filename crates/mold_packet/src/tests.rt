@@ -1,4 +1,6 @@
-use crate::{Kind, PacketFault, read_packet};
+use crate::{
+    Body, Kind, PacketFault, Request, read_packet, read_request, write_packet, write_request,
+};
 use std::test::Fail;
 
 /// Number 1, one message of 26 bytes: a whole datagram of 48 bytes.
@@ -177,4 +179,128 @@ fn most_messages_are_read(rt: HostRuntime) -> Result<(), Fail> {
     }
     assert_eq!(rt; empty, 65_534);
     Ok(())
+}
+
+#[test]
+fn packets_are_written(rt: HostRuntime) -> Result<(), Fail> {
+    let session = b"0000000001";
+    let two: [&[u8]; 2] = [b"", b""];
+    let texts: [&[u8]; 2] = [b"ab", b"c"];
+    let mut out = [0xaa; 32];
+    assert_eq!(rt;
+        write_packet(session, 1, Body::Blocks(&two), &mut out[..24])?,
+        24
+    );
+    assert_eq!(rt;
+        out,
+        *b"0000000001\x00\x00\x00\x00\x00\x00\x00\x01\x00\x02\x00\x00\x00\x00\xaa\xaa\xaa\xaa\xaa\xaa\xaa\xaa"
+    );
+    assert_eq!(rt;
+        write_packet(
+            session,
+            0x0102_0304_0506_0708,
+            Body::Blocks(&texts),
+            &mut out
+        )?,
+        27
+    );
+    assert_eq!(rt;
+        out,
+        *b"0000000001\x01\x02\x03\x04\x05\x06\x07\x08\x00\x02\x00\x02ab\x00\x01c\xaa\xaa\xaa\xaa\xaa"
+    );
+    assert_eq!(rt; write_packet(session, 9, Body::Heartbeat, &mut out)?, 20);
+    assert_eq!(rt;
+        out,
+        *b"0000000001\x00\x00\x00\x00\x00\x00\x00\x09\x00\x00\x00\x02ab\x00\x01c\xaa\xaa\xaa\xaa\xaa"
+    );
+    assert_eq!(rt; write_packet(session, u64::MAX, Body::End, &mut out)?, 20);
+    assert_eq!(rt;
+        out,
+        *b"0000000001\xff\xff\xff\xff\xff\xff\xff\xff\xff\xff\x00\x02ab\x00\x01c\xaa\xaa\xaa\xaa\xaa"
+    );
+    Ok(())
+}
+
+#[test]
+fn packets_need_room(rt: HostRuntime) {
+    let session = b"0000000001";
+    let two: [&[u8]; 2] = [b"", b""];
+    let mut out = [0xaa; 24];
+    let table = [
+        (Body::Blocks(&two), 23),
+        (Body::Blocks(&two), 0),
+        (Body::Heartbeat, 19),
+        (Body::End, 19),
+    ];
+    for (body, len) in table {
+        assert_eq!(rt;
+            write_packet(session, 1, body, &mut out[..len]).err(),
+            Some(PacketFault::BufferTooSmall)
+        );
+        assert_eq!(rt; PacketFault::BufferTooSmall.code(), 5);
+        assert_eq!(rt; out, [0xaa; 24]);
+    }
+}
+
+#[test]
+fn requests_are_written(rt: HostRuntime) -> Result<(), Fail> {
+    let request = Request {
+        session: *b"0000000001",
+        number: 2,
+        count: 2,
+    };
+    let mut out = [0xaa; 22];
+    assert_eq!(rt;
+        write_request(&request, &mut out[..19]).err(),
+        Some(PacketFault::BufferTooSmall)
+    );
+    assert_eq!(rt; out, [0xaa; 22]);
+    assert_eq!(rt; write_request(&request, &mut out[..20])?, 20);
+    assert_eq!(rt;
+        out,
+        *b"0000000001\x00\x00\x00\x00\x00\x00\x00\x02\x00\x02\xaa\xaa"
+    );
+    assert_eq!(rt; write_request(&request, &mut out)?, 20);
+    assert_eq!(rt;
+        out,
+        *b"0000000001\x00\x00\x00\x00\x00\x00\x00\x02\x00\x02\xaa\xaa"
+    );
+    assert_eq!(rt; read_request(&out[..20])?, request);
+    Ok(())
+}
+
+#[test]
+fn requests_are_read(rt: HostRuntime) {
+    let request = Request {
+        session: *b"0000000001",
+        number: 0x0102_0304_0506_0708,
+        count: 0x0a0b,
+    };
+    let table: [(&[u8], Result<Request, PacketFault>); 6] = [
+        (
+            b"0000000001\x01\x02\x03\x04\x05\x06\x07\x08\x0a\x0b",
+            Ok(request),
+        ),
+        (
+            b"0000000001\x01\x02\x03\x04\x05\x06\x07\x08\x0a\x0b\x00",
+            Err(PacketFault::BadRequestLength),
+        ),
+        (
+            b"0000000001\x01\x02\x03\x04\x05\x06\x07\x08\x0a",
+            Err(PacketFault::BadRequestLength),
+        ),
+        (b"", Err(PacketFault::BadRequestLength)),
+        (
+            b"0000000001\x00\x00\x00\x00\x00\x00\x00\x00\x00\x02\x00",
+            Err(PacketFault::BadRequestLength),
+        ),
+        (
+            b"0000000001\x00\x00\x00\x00\x00\x00\x00\x00\x00\x02",
+            Err(PacketFault::ZeroSequence),
+        ),
+    ];
+    for (bytes, expected) in table {
+        assert_eq!(rt; read_request(bytes), expected);
+    }
+    assert_eq!(rt; PacketFault::BadRequestLength.code(), 6);
 }

@@ -1,0 +1,42 @@
+-- The blocks of the first i messages, and those of one more.
+use Rattle.std.proofs.Common.{◌≡◌, ℕ, ◌+◌, ◌<◌, ◌≤◌, zero, suc, Bor, List, [], ◌∷◌, ◌++◌, length, get_or, take, drop, sym, ap, ◌∙◌, arith, length-append}
+use Rattle.std.specs.List.{flat_map, AllByRecursion}
+use Rattle.std.proofs.lemmas.List.{take_more, map-append, append-nil, take-append-drop}
+use Rattle.std.proofs.lemmas.List.Concat.{flat_map-append}
+use Rattle.mold_packet.specs.Block.{block, IsMessage}
+use Rattle.mold_packet.specs.Body.{bytes_of}
+
+-- the blocks of these slices
+abbrev pub blocks_to : List (Bor (List ℕ)) → List ℕ
+blocks_to messages = flat_map block (bytes_of messages)
+
+abbrev pub nothing : Bor (List ℕ)
+nothing = record { ref_ptr = (0, 0); now = [] }
+
+pub blocks_more : (messages : List (Bor (List ℕ))) (i : ℕ) → i < length messages → blocks_to (take (i + 1) messages) ≡ blocks_to (take i messages) ++ block (get_or messages i nothing).now
+blocks_more messages i h =
+    let last : Bor (List ℕ) = get_or messages i nothing in
+    ap blocks_to (take_more messages i nothing h)
+    ∙ ap (flat_map block) (map-append (λ (m : Bor (List ℕ)). m.now) (take i messages) (last ∷ []))
+    ∙ flat_map-append block (bytes_of (take i messages)) (last.now ∷ [])
+    ∙ ap (λ (x : List ℕ). blocks_to (take i messages) ++ x) (append-nil (block last.now))
+
+pub message_at : (messages : List (Bor (List ℕ))) (i : ℕ) → AllByRecursion IsMessage (bytes_of messages) → i < length messages → IsMessage (get_or messages i nothing).now
+message_at [] i each h = omega arith
+message_at (m ∷ ms) zero each h = each.0
+message_at (m ∷ ms) (suc i) each h = message_at ms i each.1 (omega arith)
+
+pub length-blocks_more : (messages : List (Bor (List ℕ))) (i : ℕ) → i < length messages → length (blocks_to (take (i + 1) messages)) ≡ length (blocks_to (take i messages)) + (2 + length (get_or messages i nothing).now)
+length-blocks_more messages i h =
+    let last : List ℕ = (get_or messages i nothing).now in
+    ap (λ (x : List ℕ). length x) (blocks_more messages i h) ∙ omega (arith, length-append (blocks_to (take i messages)) (block last))
+
+pub blocks_within : (messages : List (Bor (List ℕ))) (i : ℕ) → i < length messages → length (blocks_to (take i messages)) + (2 + length (get_or messages i nothing).now) ≤ length (blocks_to messages)
+blocks_within messages i h =
+    let front : List (Bor (List ℕ)) = take (i + 1) messages in
+    let back : List (Bor (List ℕ)) = drop (i + 1) messages in
+    let all : blocks_to messages ≡ blocks_to front ++ blocks_to back =
+    ap blocks_to (sym (take-append-drop (i + 1) messages))
+    ∙ ap (flat_map block) (map-append (λ (m : Bor (List ℕ)). m.now) front back)
+    ∙ flat_map-append block (bytes_of front) (bytes_of back) in
+    omega (arith, length-blocks_more messages i h, ap (λ (x : List ℕ). length x) all, length-append (blocks_to front) (blocks_to back))

@@ -1,0 +1,63 @@
+ghost use Rattle.std.specs.Prelude.{◌≡◌, ◌≤◌, ◌<◌, length, take, IfOk, IfErr, OnOk};
+ghost use Rattle.mold_packet.specs.Request.{SpellsRequest, HasRequestFault};
+ghost use Rattle.mold_packet.specs.Writing.{WritesFirst};
+
+use crate::fault::PacketFault;
+use crate::header::{HEADER, count_of, number_of, session_of, write_header};
+
+/// Asks a session's sender for messages again.
+///
+/// | Offset | Length | Field |
+/// |---|---|---|
+/// | 0 | 10 | session |
+/// | 10 | 8 | sequence number of the first message wanted |
+/// | 18 | 2 | how many messages are wanted |
+///
+/// It is exactly 20 bytes long. Numbers have their high byte first. The source is MoldUDP64 1.00, "Request Packet".
+#[derive(Clone, Copy, Debug, PartialEq, Eq, Hash)]
+pub struct Request {
+    /// The session's name, ten bytes filled with spaces.
+    pub session: [u8; 10],
+    /// The first message wanted. A request that was read has at least 1.
+    pub number: u64,
+    /// How many messages are wanted.
+    pub count: u16,
+}
+
+/// Writes a request into the first 20 bytes of `out` and gives 20, or `BufferTooSmall` where there are fewer, and then
+/// nothing is written.
+///
+/// A request of any number and count is written, though no receiver takes the number 0.
+pub fn write_request(request: &Request, out: &mut [u8]) -> Result<usize, PacketFault>
+    ensures len { IfOk result (λ n. n ≡ 20) }
+    ensures spelled { OnOk result (SpellsRequest (take 20 out.new) request.now) }
+    ensures first { OnOk result (WritesFirst 20 out.old out.new) }
+    ensures refused { IfErr result (λ fault. (fault ≡ PacketFault.BufferTooSmall) × (length out.old < 20) × (out.new ≡ out.old)) }
+{
+    if out.len() < HEADER {
+        return Err(PacketFault::BufferTooSmall);
+    }
+    write_header(&request.session, request.number, request.count, out);
+    Ok(HEADER)
+}
+
+/// Reads a request, or tells the first fault that fits: `BadRequestLength` where there are not exactly 20 bytes, and
+/// `ZeroSequence` where the number is 0.
+pub fn read_request(bytes: &[u8]) -> Result<Request, PacketFault>
+    ensures spelled { IfOk result (SpellsRequest bytes.now) }
+    ensures from_one { IfOk result (λ request. 1 ≤ request.number) }
+    ensures fault { IfErr result (HasRequestFault bytes.now) }
+{
+    if bytes.len() != HEADER {
+        return Err(PacketFault::BadRequestLength);
+    }
+    let number = number_of(bytes);
+    if number == 0 {
+        return Err(PacketFault::ZeroSequence);
+    }
+    Ok(Request {
+        session: session_of(bytes),
+        number,
+        count: count_of(bytes),
+    })
+}

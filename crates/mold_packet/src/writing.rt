@@ -1,0 +1,75 @@
+ghost use Rattle.std.specs.Prelude.{◌≡◌, ◌+◌, ◌^◌, ◌<◌, ◌≤◌, ◌++◌, [], length, take, drop, IfOk, IfErr};
+ghost use Rattle.std.specs.List.{flat_map, AllByRecursion};
+ghost use Rattle.mold_packet.specs.Block.{block, IsMessage};
+ghost use Rattle.mold_packet.specs.Body.{BodyFits, bytes_of, packet_of};
+ghost use Rattle.mold_packet.specs.Content.{spelling, Spells};
+ghost use Rattle.mold_packet.specs.Writing.{WritesFirst};
+
+use crate::body::{Body, blocks_of, count_field_of};
+use crate::fault::PacketFault;
+use crate::header::{HEADER, write_header};
+
+/// How many bytes the blocks of these messages take.
+fn blocks_len(messages: &[&[u8]]) -> usize
+    requires few { length messages.now ≤ 65534 }
+    requires each { AllByRecursion IsMessage (bytes_of messages.now) }
+    ensures value { result ≡ length (flat_map block (bytes_of messages.now)) }
+    ensures small { result < 2 ^ 33 }
+{
+    let mut len = 0;
+    for message in messages {
+        len += 2 + message.len();
+    }
+    len
+}
+
+/// Writes the message's block to the front of `out`.
+fn write_block(message: &[u8], out: &mut [u8])
+    requires is_message { IsMessage message.now }
+    requires room { 2 + length message.now ≤ length out.old }
+    ensures { out.new ≡ block message.now ++ drop (2 + length message.now) out.old }
+{
+    let end = 2 + message.len();
+    out[..2].copy_from_slice(&(message.len() as u16).to_be_bytes());
+    out[2..end].copy_from_slice(message);
+}
+
+/// Writes the messages' blocks to the front of `out`, one after the other.
+fn write_blocks(messages: &[&[u8]], out: &mut [u8])
+    requires each { AllByRecursion IsMessage (bytes_of messages.now) }
+    requires room { length (flat_map block (bytes_of messages.now)) ≤ length out.old }
+    ensures { out.new ≡ flat_map block (bytes_of messages.now) ++ drop (length (flat_map block (bytes_of messages.now))) out.old }
+{
+    let mut end = 0;
+    for message in messages {
+        write_block(message, &mut out[end..]);
+        end += 2 + message.len();
+    }
+}
+
+/// Writes a downstream packet to the front of `out` and gives its length in bytes, or `BufferTooSmall` where `out` is
+/// shorter, and then nothing is written.
+///
+/// [`read_packet`](crate::read_packet) has the layout. The number is that of the first message, and at least 1; the
+/// last message's is at most 2^64 - 1.
+pub fn write_packet(
+    session: &[u8; 10],
+    number: u64,
+    body: Body<'_>,
+    out: &mut [u8],
+) -> Result<usize, PacketFault>
+    requires from_one { 1 ≤ number }
+    requires fits { BodyFits number body }
+    ensures spelled { IfOk result (λ n. Spells (take n out.new) (packet_of session.now number body.entry) []) }
+    ensures first { IfOk result (λ n. WritesFirst n out.old out.new) }
+    ensures refused { IfErr result (λ fault. (fault ≡ PacketFault.BufferTooSmall) × (length out.old < length (spelling (packet_of session.now number body.entry))) × (out.new ≡ out.old)) }
+{
+    let messages = blocks_of(body);
+    let len = HEADER + blocks_len(messages);
+    if out.len() < len {
+        return Err(PacketFault::BufferTooSmall);
+    }
+    write_header(session, number, count_field_of(number, body), out);
+    write_blocks(messages, &mut out[HEADER..]);
+    Ok(len)
+}
