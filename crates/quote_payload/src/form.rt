@@ -17,3 +17,8 @@ pub(crate) const HALT_LEN: usize = 10;
 pub(crate) const BID_AUTO: u8 = 1;
 /// The flag of an automated offer.
 pub(crate) const OFFER_AUTO: u8 = 2;
+
+/// The state of a symbol that is halted.
+pub(crate) const HALTED: u8 = 1;
+/// The state of a symbol that trades.
+pub(crate) const TRADING: u8 = 0;

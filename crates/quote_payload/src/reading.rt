@@ -5,7 +5,8 @@ ghost use Rattle.feed_types.specs.Symbols.{is_symbol_field};
 ghost use Rattle.quote_payload.specs.Payload.{symbol_of, u32_at, u64_at, quote1_of, quote2_of, state_of, item_of};
 
 use crate::form::{
-    BID_AUTO, HALT, HALT_LEN, OFFER_AUTO, QUOTE_1, QUOTE_1_LEN, QUOTE_2, QUOTE_2_LEN,
+    BID_AUTO, HALT, HALT_LEN, HALTED, OFFER_AUTO, QUOTE_1, QUOTE_1_LEN, QUOTE_2, QUOTE_2_LEN,
+    TRADING,
 };
 use feed_types::{Item, Quote, SymbolName};
 
@@ -78,11 +79,11 @@ fn read_halt(message: &[u8]) -> Item
     ensures { result ≡ (if is_symbol_field (symbol_of message.now) && nat_le (state_of message.now) 1 then Item.Halt (symbol_of message.now) (state_of message.now == 1) else Item.Other) }
 {
     match (symbol_at(message), message[9]) {
-        (Some(symbol), 0) => Item::Halt {
+        (Some(symbol), TRADING) => Item::Halt {
             symbol,
             halted: false,
         },
-        (Some(symbol), 1) => Item::Halt {
+        (Some(symbol), HALTED) => Item::Halt {
             symbol,
             halted: true,
         },

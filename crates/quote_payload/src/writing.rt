@@ -1,0 +1,101 @@
+//! Writing a message.
+
+ghost use Rattle.std.specs.Prelude.{◌≡◌, ◌+◌, ◌≤◌, ◌↔◌, IsTrue, ◌++◌, if◌then◌else◌, length, take};
+ghost use Rattle.quote_payload.specs.Payload.{item_of};
+ghost use Rattle.quote_payload.specs.Written.{FitsVersion1, flags_of, quote1_bytes, quote2_bytes, halt_bytes};
+
+use crate::form::{
+    BID_AUTO, HALT, HALT_LEN, HALTED, OFFER_AUTO, QUOTE_1, QUOTE_1_LEN, QUOTE_2, QUOTE_2_LEN,
+    TRADING,
+};
+use feed_types::{Item, Quote, SymbolName};
+
+/// Puts a field behind the fields that were written before it.
+fn put<const N: usize>(message: &mut [u8], offset: usize, field: [u8; N])
+    requires { offset + N ≤ length message.old }
+    ensures { take (offset + N) message.new ≡ take offset message.old ++ field.entry }
+{
+    message[offset..offset + N].copy_from_slice(&field);
+}
+
+fn flags(quote: &Quote) -> u8
+    ensures { result ≡ flags_of quote.now }
+{
+    let bid = if quote.bid_auto { BID_AUTO } else { 0 };
+    let offer = if quote.offer_auto { OFFER_AUTO } else { 0 };
+    bid | offer
+}
+
+/// Whether version 1 can carry the quotation.
+pub fn fits_v1(quote: &Quote) -> bool
+    ensures { IsTrue result ↔ FitsVersion1 quote.now }
+{
+    quote.bid_size <= u32::MAX.into() && quote.offer_size <= u32::MAX.into()
+}
+
+/// Writes a quotation in version 1.
+pub fn write_quote(quote: &Quote) -> [u8; 26]
+    requires { FitsVersion1 quote.now }
+    ensures bytes { result ≡ quote1_bytes quote.now }
+    ensures item { item_of result ≡ Item.Quote quote.now }
+{
+    let Quote {
+        symbol,
+        bid_price,
+        bid_size,
+        offer_price,
+        offer_size,
+        ..
+    } = *quote;
+    let mut message = [0; QUOTE_1_LEN];
+    put(&mut message, 0, [QUOTE_1]);
+    put(&mut message, 1, symbol.field());
+    put(&mut message, 9, bid_price.to_be_bytes());
+    put(&mut message, 13, (bid_size as u32).to_be_bytes());
+    put(&mut message, 17, offer_price.to_be_bytes());
+    put(&mut message, 21, (offer_size as u32).to_be_bytes());
+    put(&mut message, 25, [flags(quote)]);
+    message
+}
+
+/// Writes a quotation in version 2.
+pub fn write_quote2(quote: &Quote) -> [u8; 34]
+    ensures bytes { result ≡ quote2_bytes quote.now }
+    ensures item { item_of result ≡ Item.Quote quote.now }
+{
+    let Quote {
+        symbol,
+        bid_price,
+        bid_size,
+        offer_price,
+        offer_size,
+        ..
+    } = *quote;
+    let mut message = [0; QUOTE_2_LEN];
+    put(&mut message, 0, [QUOTE_2]);
+    put(&mut message, 1, symbol.field());
+    put(&mut message, 9, bid_price.to_be_bytes());
+    put(&mut message, 13, bid_size.to_be_bytes());
+    put(&mut message, 21, offer_price.to_be_bytes());
+    put(&mut message, 25, offer_size.to_be_bytes());
+    put(&mut message, 33, [flags(quote)]);
+    message
+}
+
+fn state(halted: bool) -> u8
+    ensures { result ≡ (if halted then 1 else 0) }
+{
+    if halted { HALTED } else { TRADING }
+}
+
+/// Writes a halt, or the end of one.
+pub fn write_halt(symbol: SymbolName, halted: bool) -> [u8; 10]
+    ensures bytes { result ≡ halt_bytes symbol halted }
+    ensures item { item_of result ≡ Item.Halt symbol halted }
+{
+    let mut message = [0; HALT_LEN];
+    put(&mut message, 0, [HALT]);
+    put(&mut message, 1, symbol.field());
+    put(&mut message, 9, [state(halted)]);
+    message
+}
