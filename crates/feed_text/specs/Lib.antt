@@ -1,0 +1,4 @@
+pub mod Capture
+pub mod Devices
+pub mod Kind
+pub mod DeviceLaws

@@ -1,0 +1,113 @@
+//! The records of a capture.
+ghost use Rattle.std.specs.Prelude.{◌≡◌, ℕ, ◌<◌, ◌≤◌, ◌++◌, ◌+◌, List, MatchOption, length, drop, take};
+ghost use Rattle.std.specs.Option.{SomeIff};
+ghost use Rattle.feed_text.specs.Capture.{IsKind, StandsAtFront, record_of, spelling};
+ghost use Rattle.feed_text.specs.Kind.{IsKindOf};
+
+use feed_types::{LineId, VenueId};
+
+/// How many bytes stand before those that a record's length counts.
+const HEADER: usize = 4;
+
+/// A record of a capture, which borrows what it holds.
+#[derive(Clone, Copy, Debug, PartialEq, Eq)]
+pub enum Record<'a> {
+    /// The bytes of one datagram, as they came on a line: at most 65,535.
+    Datagram {
+        venue: VenueId,
+        line: LineId,
+        bytes: &'a [u8],
+    },
+    /// The name of the venue's next session.
+    Renewal {
+        venue: VenueId,
+        session: [u8; 10],
+    },
+}
+
+/// What stands at the front of some bytes.
+#[derive(Clone, Copy, Debug, PartialEq, Eq)]
+pub enum Front<'a> {
+    /// A whole record, and how many bytes it takes: from 4 to 65,539.
+    Whole(Record<'a>, usize),
+    /// No record, however the bytes go on: of a venue or a kind that isn't there, or a renewal whose
+    /// length isn't 10.
+    Bad,
+    /// Less than a record. So many bytes have to be there, with those that are, before more can be told.
+    Wants(usize),
+}
+
+/// What a record holds.
+#[derive(Clone, Copy, Debug, PartialEq, Eq)]
+enum Kind {
+    Line(LineId),
+    Renewal,
+}
+
+/// The kind of a byte and a length, where there is one.
+fn kind_of(byte: u8, len: usize) -> Option<Kind>
+    ensures { MatchOption result (IsKind byte len → ⊥) (IsKindOf byte len) }
+{
+    match byte {
+        b'A' => Some(Kind::Line(LineId::A)),
+        b'B' => Some(Kind::Line(LineId::B)),
+        b'R' => Some(Kind::Line(LineId::Recovery)),
+        b'N' if len == 10 => Some(Kind::Renewal),
+        _ => None,
+    }
+}
+
+/// The venue of a byte, where it is one of so many.
+fn venue_of(venues: usize, byte: u8) -> Option<VenueId>
+    requires { venues ≤ 16 }
+    ensures { SomeIff result (byte < venues) byte }
+{
+    if usize::from(byte) < venues {
+        VenueId::new(byte)
+    } else {
+        None
+    }
+}
+
+/// The ten bytes.
+fn session_of(bytes: &[u8]) -> [u8; 10]
+    requires { length bytes.now ≡ 10 }
+    ensures { result ≡ bytes.now }
+{
+    let mut session = [0; 10];
+    session.copy_from_slice(bytes);
+    session
+}
+
+/// Reads the record at the front of the bytes, of a capture of so many venues.
+pub fn front_of(venues: usize, bytes: &[u8]) -> Front<'_>
+    requires { venues ≤ 16 }
+    ensures { StandsAtFront venues bytes.now result }
+{
+    if bytes.len() < HEADER {
+        return Front::Wants(HEADER);
+    }
+    let len = usize::from(bytes[2]) * 256 + usize::from(bytes[3]);
+    let Some(venue) = venue_of(venues, bytes[0]) else {
+        return Front::Bad;
+    };
+    let Some(kind) = kind_of(bytes[1], len) else {
+        return Front::Bad;
+    };
+    if bytes.len() < HEADER + len {
+        return Front::Wants(HEADER + len);
+    }
+    let held = &bytes[HEADER..HEADER + len];
+    let record = match kind {
+        Kind::Line(line) => Record::Datagram {
+            venue,
+            line,
+            bytes: held,
+        },
+        Kind::Renewal => Record::Renewal {
+            venue,
+            session: session_of(held),
+        },
+    };
+    Front::Whole(record, HEADER + len)
+}

@@ -1,0 +1,22 @@
+//! From the bytes of a capture to the lines that a replay prints.
+//!
+//! A capture is a list of records, one after the other: a datagram as it came on a line of a venue,
+//! or the name of a venue's next session. `specs/Capture.antt` has its grammar, and `capture::front_of`
+//! tells, by that grammar, what stands at the front of some bytes.
+//!
+//! What is read and written goes through two traits, `devices::CaptureIn` and `devices::TextOut`, whose
+//! laws say what a call did. `memory` has devices over memory, `system` over the standard streams, and
+//! `window` holds the bytes that were read and not yet used.
+//!
+//! Begin with `specs/Capture.antt`, then `devices.rt`.
+#![tactic(auto)]
+
+pub mod capture;
+pub mod devices;
+pub mod failures;
+pub mod laws;
+pub mod memory;
+pub mod system;
+#[cfg(test)]
+mod tests;
+pub mod window;
