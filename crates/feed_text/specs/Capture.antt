@@ -19,6 +19,7 @@ abbrev pub venue_of : CaptureRecord → ℕ
 venue_of (datagram_record venue line bytes) = venue
 venue_of (renewal_record venue session) = venue
 
+-- the byte that tells what a record holds
 abbrev pub kind_of : CaptureRecord → ℕ
 kind_of (datagram_record venue line bytes) = line_letter line
 kind_of (renewal_record venue session) = 78
@@ -36,7 +37,7 @@ spelling r = venue_of r ∷ kind_of r ∷ length (bytes_of r) / 256 ∷ length (
 abbrev pub stream_of : List CaptureRecord → List ℕ → List ℕ
 stream_of records rest = flat_map spelling records ++ rest
 
--- a kind, with a length that it may have
+-- a kind with a length that it may have: A, B and R with any, N with that of a session name
 abbrev pub IsKind : ℕ → ℕ → Type 0
 IsKind kind len = (kind ≡ 65) ⊎ (kind ≡ 66) ⊎ (kind ≡ 82) ⊎ ((kind ≡ 78) × (len ≡ 10))
 

@@ -1,15 +1,22 @@
 -- The laws of the devices over memory.
-use Rattle.std.proofs.Common.{◌≡◌, ℕ, ◌+◌, List, [], ◌++◌, append_assoc, append-nil, refl, sym, arith, length-append}
-use Rattle.feed_text.specs.Devices.{GivesBytes}
+use Rattle.std.proofs.Common.{◌≡◌, ℕ, ◌+◌, ◌*◌, ◌≤◌, List, [], ◌++◌, length, append_assoc, append-nil, refl, sym, ◌∙◌, arith, length-append}
+use Rattle.std.proofs.Math.Nat.{add-mul}
+use Rattle.feed_text.specs.Devices.{Held, GivesPieces}
 
-pub gives_none : (s : List ℕ) → GivesBytes s 0 [] s
-gives_none s = record { front = refl; each = omega arith }
+pub gives_none : (s : Held) → GivesPieces s 0 [] s
+gives_none s = record { front = refl; least = omega arith; most = omega arith; piece = refl }
 
-pub gives_more : (s t u : List ℕ) (m n : ℕ) (xs ys : List ℕ) → GivesBytes s m xs t → GivesBytes t n ys u → GivesBytes s (m + n) (xs ++ ys) u
-gives_more s t u m n xs ys a b = record {
-  front = rw (a.front, b.front, append_assoc) refl;
-  each = omega (arith, length-append {A = ℕ}, a.each, b.each);
-}
+pub gives_more : (s t u : Held) (m n : ℕ) (xs ys : List ℕ) → GivesPieces s m xs t → GivesPieces t n ys u → GivesPieces s (m + n) (xs ++ ys) u
+gives_more s t u m n xs ys a b =
+    let len : length (xs ++ ys) ≡ length xs + length ys = length-append xs ys in
+    let all : (m + n) * s.piece ≡ m * s.piece + n * s.piece = add-mul m n s.piece in
+    let most : length ys ≤ n * s.piece = rw (← a.piece) b.most in
+    record {
+      front = rw (a.front, b.front, append_assoc) refl;
+      least = omega (arith, a.least, b.least);
+      most = omega (arith, a.most);
+      piece = b.piece ∙ a.piece;
+    }
 
 pub back_none : (s : List ℕ) → s ≡ s ++ []
 back_none s = sym (append-nil s)

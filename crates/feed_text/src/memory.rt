@@ -1,7 +1,6 @@
 //! Devices over memory.
-ghost use Rattle.std.specs.Prelude.{◌≡◌, ℕ, ◌+◌, ◌++◌, [], List, length};
-ghost use Rattle.std.proofs.Common.{rules};
-ghost use Rattle.feed_text.specs.Devices.{GivesBytes, GivesEnd, Written};
+ghost use Rattle.std.specs.Prelude.{◌≡◌, ℕ, ◌+◌, ◌++◌, [], List, length, max};
+ghost use Rattle.feed_text.specs.Devices.{GivesPieces, GivesEnd, Written};
 ghost use Rattle.feed_text.specs.DeviceLaws.{gives_none, gives_more, back_none, back_more};
 
 use crate::devices::{CaptureIn, ReadStop, TextOut, WriteStop};
@@ -18,11 +17,12 @@ pub struct MemoryIn<'a> {
 }
 
 impl<'a> Model for MemoryIn<'a> {
-    ghost use Rattle.std.specs.Prelude.{ℕ, List, ◌<◌};
+    ghost use Rattle.std.specs.Prelude.{◌<◌};
+    ghost use Rattle.feed_text.specs.Devices.{Held};
 
-    ghost Value = { List ℕ };
+    ghost Value = { Held };
 
-    ghost view = { λ s. s.left.now };
+    ghost view = { λ s. record { bytes = s.left.now; piece = s.piece } };
 
     ghost invariant = { λ s. 0 < s.piece };
 }
@@ -30,7 +30,8 @@ impl<'a> Model for MemoryIn<'a> {
 impl<'a> MemoryIn<'a> {
     /// Of a piece of 0 a call gives one byte, as of a piece of 1.
     pub fn new(bytes: &'a [u8], piece: usize) -> MemoryIn<'a>
-        ensures { result ≡ bytes.now }
+        ensures bytes { result.bytes ≡ bytes.now }
+        ensures piece { result.piece ≡ max piece 1 }
     {
         MemoryIn {
             left: bytes,
@@ -40,7 +41,7 @@ impl<'a> MemoryIn<'a> {
 }
 
 impl CaptureIn for MemoryIn<'_> {
-    ghost gives = { GivesBytes };
+    ghost gives = { GivesPieces };
 
     ghost ends = { GivesEnd };
 
