@@ -1,2 +1,3 @@
-pub mod Items
 pub mod Fronts
+pub mod Items
+pub mod ReadBack

@@ -8,11 +8,11 @@ use Rattle.feed_types.specs.declared.item.Item.{Item}
 use Rattle.feed_types.specs.declared.item.Item.TheVariants as item
 
 -- the fields that a form may have, by their offset
-abbrev pub type_of : List ℕ → ℕ
-type_of message = slice_index message 0
+abbrev pub type_at : List ℕ → ℕ
+type_at message = slice_index message 0
 
-abbrev pub symbol_of : List ℕ → List ℕ
-symbol_of message = take 8 (drop 1 message)
+abbrev pub symbol_at : List ℕ → List ℕ
+symbol_at message = take 8 (drop 1 message)
 
 abbrev pub u32_at : ℕ → List ℕ → ℕ
 u32_at offset message = from_be_bytes w32 (take 4 (drop offset message))
@@ -25,15 +25,15 @@ is_flag_at offset mask message = not (bit_and (slice_index message offset) mask 
 
 -- a message of this type and length, whose symbol is one
 abbrev pub has_form : ℕ → ℕ → List ℕ → Bool
-has_form kind size message = (type_of message == kind) && ((length message == size) && is_symbol_field (symbol_of message))
+has_form kind size message = (type_at message == kind) && ((length message == size) && is_symbol_field (symbol_at message))
 
 -- a quotation in version 1, with sizes of 32 bits
-abbrev pub is_quote1 : List ℕ → Bool
-is_quote1 message = has_form 0x51 26 message
+abbrev pub is_version1 : List ℕ → Bool
+is_version1 message = has_form 0x51 26 message
 
-abbrev pub quote1_of : List ℕ → Quote
-quote1_of message = record {
-  symbol = symbol_of message;
+abbrev pub version1_of : List ℕ → Quote
+version1_of message = record {
+  symbol = symbol_at message;
   bid_price = u32_at 9 message;
   bid_size = u32_at 13 message;
   offer_price = u32_at 17 message;
@@ -43,12 +43,12 @@ quote1_of message = record {
 }
 
 -- a quotation in version 2, with sizes of 64 bits
-abbrev pub is_quote2 : List ℕ → Bool
-is_quote2 message = has_form 0x71 34 message
+abbrev pub is_version2 : List ℕ → Bool
+is_version2 message = has_form 0x71 34 message
 
-abbrev pub quote2_of : List ℕ → Quote
-quote2_of message = record {
-  symbol = symbol_of message;
+abbrev pub version2_of : List ℕ → Quote
+version2_of message = record {
+  symbol = symbol_at message;
   bid_price = u32_at 9 message;
   bid_size = u64_at 13 message;
   offer_price = u32_at 21 message;
@@ -58,15 +58,15 @@ quote2_of message = record {
 }
 
 -- a halt, or the end of one, by the state at its end: 01 halted, 00 trading
-abbrev pub state_of : List ℕ → ℕ
-state_of message = slice_index message 9
+abbrev pub state_at : List ℕ → ℕ
+state_at message = slice_index message 9
 
 abbrev pub is_halt : List ℕ → Bool
-is_halt message = has_form 0x48 10 message && nat_le (state_of message) 1
+is_halt message = has_form 0x48 10 message && nat_le (state_at message) 1
 
 -- the item that a message is
 unfoldable pub item_of : List ℕ → Item
 item_of message =
-    if is_quote1 message then item.Quote (quote1_of message) else
-    (if is_quote2 message then item.Quote (quote2_of message) else
-    (if is_halt message then item.Halt (symbol_of message) (state_of message == 1) else item.Other))
+    if is_version1 message then item.Quote (version1_of message) else
+    (if is_version2 message then item.Quote (version2_of message) else
+    (if is_halt message then item.Halt (symbol_at message) (state_at message == 1) else item.Other))

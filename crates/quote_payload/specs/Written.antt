@@ -12,12 +12,12 @@ pub record FitsVersion1 (quote : Quote) : Type 0 where
 abbrev pub flags_of : Quote → ℕ
 flags_of quote = bit_or (if quote.bid_auto then 1 else 0) (if quote.offer_auto then 2 else 0)
 
-abbrev pub quote1_bytes : Quote → List ℕ
-quote1_bytes quote =
+abbrev pub version1_bytes : Quote → List ℕ
+version1_bytes quote =
     (0x51 ∷ []) ++ quote.symbol ++ to_be_bytes w32 quote.bid_price ++ to_be_bytes w32 quote.bid_size ++ to_be_bytes w32 quote.offer_price ++ to_be_bytes w32 quote.offer_size ++ (flags_of quote ∷ [])
 
-abbrev pub quote2_bytes : Quote → List ℕ
-quote2_bytes quote =
+abbrev pub version2_bytes : Quote → List ℕ
+version2_bytes quote =
     (0x71 ∷ []) ++ quote.symbol ++ to_be_bytes w32 quote.bid_price ++ to_be_bytes w64 quote.bid_size ++ to_be_bytes w32 quote.offer_price ++ to_be_bytes w64 quote.offer_size ++ (flags_of quote ∷ [])
 
 abbrev pub halt_bytes : List ℕ → Bool → List ℕ

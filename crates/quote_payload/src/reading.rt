@@ -1,24 +1,24 @@
-//! Reading a message.
+//! Reading a message. Its fields are read where they stand, and only the eight bytes of the symbol are copied.
 
 ghost use Rattle.std.specs.Prelude.{◌≡◌, ◌≢◌, ◌+◌, ◌≤◌, IsTrue, SomeIff, length, if◌then◌else◌, ◌&&◌, ◌==◌, nat_le};
 ghost use Rattle.feed_types.specs.Symbols.{is_symbol_field};
-ghost use Rattle.quote_payload.specs.Payload.{symbol_of, u32_at, u64_at, quote1_of, quote2_of, state_of, item_of};
+ghost use Rattle.quote_payload.specs.Payload.{symbol_at, u32_at, u64_at, version1_of, version2_of, state_at, item_of};
 
 use crate::form::{
-    BID_AUTO, HALT, HALT_LEN, HALTED, OFFER_AUTO, QUOTE_1, QUOTE_1_LEN, QUOTE_2, QUOTE_2_LEN,
-    TRADING,
+    BID_AUTO, HALT, HALT_LEN, HALTED, OFFER_AUTO, TRADING, VERSION_1, VERSION_1_LEN, VERSION_2,
+    VERSION_2_LEN,
 };
 use feed_types::{Item, Quote, SymbolName};
 
-fn symbol_at(message: &[u8]) -> Option<SymbolName>
+fn read_symbol(message: &[u8]) -> Option<SymbolName>
     requires { 9 ≤ length message.now }
-    ensures { SomeIff result (IsTrue (is_symbol_field (symbol_of message.now))) (symbol_of message.now) }
+    ensures { SomeIff result (IsTrue (is_symbol_field (symbol_at message.now))) (symbol_at message.now) }
 {
     let field = message[1..].first_chunk::<8>()?;
     SymbolName::from_field(field)
 }
 
-fn number_at(message: &[u8], offset: usize) -> u32
+fn read_u32(message: &[u8], offset: usize) -> u32
     requires { offset + 4 ≤ length message.now }
     ensures { result ≡ u32_at offset message.now }
 {
@@ -26,7 +26,7 @@ fn number_at(message: &[u8], offset: usize) -> u32
     u32::from_be_bytes([field[0], field[1], field[2], field[3]])
 }
 
-fn long_number_at(message: &[u8], offset: usize) -> u64
+fn read_u64(message: &[u8], offset: usize) -> u64
     requires { offset + 8 ≤ length message.now }
     ensures { result ≡ u64_at offset message.now }
 {
@@ -36,39 +36,39 @@ fn long_number_at(message: &[u8], offset: usize) -> u64
     ])
 }
 
-fn read_quote_1(message: &[u8]) -> Item
+fn read_version1(message: &[u8]) -> Item
     requires { length message.now ≡ 26 }
-    ensures { result ≡ (if is_symbol_field (symbol_of message.now) then Item.Quote (quote1_of message.now) else Item.Other) }
+    ensures { result ≡ (if is_symbol_field (symbol_at message.now) then Item.Quote (version1_of message.now) else Item.Other) }
 {
-    let Some(symbol) = symbol_at(message) else {
+    let Some(symbol) = read_symbol(message) else {
         return Item::Other;
     };
     let flags = message[25];
     Item::Quote(Quote {
         symbol,
-        bid_price: number_at(message, 9),
-        bid_size: number_at(message, 13).into(),
-        offer_price: number_at(message, 17),
-        offer_size: number_at(message, 21).into(),
+        bid_price: read_u32(message, 9),
+        bid_size: read_u32(message, 13).into(),
+        offer_price: read_u32(message, 17),
+        offer_size: read_u32(message, 21).into(),
         bid_auto: flags & BID_AUTO != 0,
         offer_auto: flags & OFFER_AUTO != 0,
     })
 }
 
-fn read_quote_2(message: &[u8]) -> Item
+fn read_version2(message: &[u8]) -> Item
     requires { length message.now ≡ 34 }
-    ensures { result ≡ (if is_symbol_field (symbol_of message.now) then Item.Quote (quote2_of message.now) else Item.Other) }
+    ensures { result ≡ (if is_symbol_field (symbol_at message.now) then Item.Quote (version2_of message.now) else Item.Other) }
 {
-    let Some(symbol) = symbol_at(message) else {
+    let Some(symbol) = read_symbol(message) else {
         return Item::Other;
     };
     let flags = message[33];
     Item::Quote(Quote {
         symbol,
-        bid_price: number_at(message, 9),
-        bid_size: long_number_at(message, 13),
-        offer_price: number_at(message, 21),
-        offer_size: long_number_at(message, 25),
+        bid_price: read_u32(message, 9),
+        bid_size: read_u64(message, 13),
+        offer_price: read_u32(message, 21),
+        offer_size: read_u64(message, 25),
         bid_auto: flags & BID_AUTO != 0,
         offer_auto: flags & OFFER_AUTO != 0,
     })
@@ -76,9 +76,9 @@ fn read_quote_2(message: &[u8]) -> Item
 
 fn read_halt(message: &[u8]) -> Item
     requires { length message.now ≡ 10 }
-    ensures { result ≡ (if is_symbol_field (symbol_of message.now) && nat_le (state_of message.now) 1 then Item.Halt (symbol_of message.now) (state_of message.now == 1) else Item.Other) }
+    ensures { result ≡ (if is_symbol_field (symbol_at message.now) && nat_le (state_at message.now) 1 then Item.Halt (symbol_at message.now) (state_at message.now == 1) else Item.Other) }
 {
-    match (symbol_at(message), message[9]) {
+    match (read_symbol(message), message[9]) {
         (Some(symbol), TRADING) => Item::Halt {
             symbol,
             halted: false,
@@ -91,15 +91,31 @@ fn read_halt(message: &[u8]) -> Item
     }
 }
 
-/// The item that a message is, for every byte string.
+/// The item that a message is. The forms are this project's quotation payload, and numbers have their high byte first.
+///
+/// | Offset | Quotation, version 1, 26 bytes | Quotation, version 2, 34 bytes | Halt, 10 bytes |
+/// |---|---|---|---|
+/// | 0 | `51` | `71` | `48` |
+/// | 1 | symbol (8) | symbol (8) | symbol (8) |
+/// | 9 | bid price (4) | bid price (4) | state (1): `01` halted, `00` trading |
+/// | 13 | bid size (4) | bid size (8) | |
+/// | 17, 21 | offer price (4) | offer price (4) | |
+/// | 21, 25 | offer size (4) | offer size (8) | |
+/// | 25, 33 | flags (1) | flags (1) | |
+///
+/// Prices are in ten-thousandths of a dollar, sizes in shares. Bit 0 of the flags is set for an automated bid, bit 1 for
+/// an automated offer; the other bits are ignored.
+///
+/// Everything else is [`Item::Other`]: another first byte, another length, a symbol that isn't a name of 1 to 8 bytes
+/// and then spaces, another state. [`Item::End`] is announced by a packet and is no message.
 #[tactic(auto, unfolding(crate::specs::Payload::item_of))]
 pub fn read_item(message: &[u8]) -> Item
     ensures value { result ≡ item_of message.now }
     ensures never_end { result ≢ Item.End }
 {
     match message.first() {
-        Some(&QUOTE_1) if message.len() == QUOTE_1_LEN => read_quote_1(message),
-        Some(&QUOTE_2) if message.len() == QUOTE_2_LEN => read_quote_2(message),
+        Some(&VERSION_1) if message.len() == VERSION_1_LEN => read_version1(message),
+        Some(&VERSION_2) if message.len() == VERSION_2_LEN => read_version2(message),
         Some(&HALT) if message.len() == HALT_LEN => read_halt(message),
         _ => Item::Other,
     }

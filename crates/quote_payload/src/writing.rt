@@ -2,11 +2,11 @@
 
 ghost use Rattle.std.specs.Prelude.{◌≡◌, ◌+◌, ◌≤◌, ◌↔◌, IsTrue, ◌++◌, if◌then◌else◌, length, take};
 ghost use Rattle.quote_payload.specs.Payload.{item_of};
-ghost use Rattle.quote_payload.specs.Written.{FitsVersion1, flags_of, quote1_bytes, quote2_bytes, halt_bytes};
+ghost use Rattle.quote_payload.specs.Written.{FitsVersion1, flags_of, version1_bytes, version2_bytes, halt_bytes};
 
 use crate::form::{
-    BID_AUTO, HALT, HALT_LEN, HALTED, OFFER_AUTO, QUOTE_1, QUOTE_1_LEN, QUOTE_2, QUOTE_2_LEN,
-    TRADING,
+    BID_AUTO, HALT, HALT_LEN, HALTED, OFFER_AUTO, TRADING, VERSION_1, VERSION_1_LEN, VERSION_2,
+    VERSION_2_LEN,
 };
 use feed_types::{Item, Quote, SymbolName};
 
@@ -26,17 +26,19 @@ fn flags(quote: &Quote) -> u8
     bid | offer
 }
 
-/// Whether version 1 can carry the quotation.
+/// Whether version 1 can carry the quotation: whether both its sizes are at most 4,294,967,295.
 pub fn fits_v1(quote: &Quote) -> bool
     ensures { IsTrue result ↔ FitsVersion1 quote.now }
 {
     quote.bid_size <= u32::MAX.into() && quote.offer_size <= u32::MAX.into()
 }
 
-/// Writes a quotation in version 1.
+/// A quotation as a message of version 1, whose sizes have 32 bits: [`fits_v1`] tells whether it can be one.
+///
+/// The form is that of [`read_item`](crate::read_item), with all other bits of the flags 0.
 pub fn write_quote(quote: &Quote) -> [u8; 26]
     requires { FitsVersion1 quote.now }
-    ensures bytes { result ≡ quote1_bytes quote.now }
+    ensures bytes { result ≡ version1_bytes quote.now }
     ensures item { item_of result ≡ Item.Quote quote.now }
 {
     let Quote {
@@ -47,8 +49,8 @@ pub fn write_quote(quote: &Quote) -> [u8; 26]
         offer_size,
         ..
     } = *quote;
-    let mut message = [0; QUOTE_1_LEN];
-    put(&mut message, 0, [QUOTE_1]);
+    let mut message = [0; VERSION_1_LEN];
+    put(&mut message, 0, [VERSION_1]);
     put(&mut message, 1, symbol.field());
     put(&mut message, 9, bid_price.to_be_bytes());
     put(&mut message, 13, (bid_size as u32).to_be_bytes());
@@ -58,9 +60,11 @@ pub fn write_quote(quote: &Quote) -> [u8; 26]
     message
 }
 
-/// Writes a quotation in version 2.
+/// A quotation as a message of version 2, whose sizes have 64 bits, so that it can carry every quotation.
+///
+/// The form is that of [`read_item`](crate::read_item), with all other bits of the flags 0.
 pub fn write_quote2(quote: &Quote) -> [u8; 34]
-    ensures bytes { result ≡ quote2_bytes quote.now }
+    ensures bytes { result ≡ version2_bytes quote.now }
     ensures item { item_of result ≡ Item.Quote quote.now }
 {
     let Quote {
@@ -71,8 +75,8 @@ pub fn write_quote2(quote: &Quote) -> [u8; 34]
         offer_size,
         ..
     } = *quote;
-    let mut message = [0; QUOTE_2_LEN];
-    put(&mut message, 0, [QUOTE_2]);
+    let mut message = [0; VERSION_2_LEN];
+    put(&mut message, 0, [VERSION_2]);
     put(&mut message, 1, symbol.field());
     put(&mut message, 9, bid_price.to_be_bytes());
     put(&mut message, 13, bid_size.to_be_bytes());
@@ -88,7 +92,9 @@ fn state(halted: bool) -> u8
     if halted { HALTED } else { TRADING }
 }
 
-/// Writes a halt, or the end of one.
+/// A halt of the symbol as a message, or with `halted` false the message that it trades again.
+///
+/// The form is that of [`read_item`](crate::read_item).
 pub fn write_halt(symbol: SymbolName, halted: bool) -> [u8; 10]
     ensures bytes { result ≡ halt_bytes symbol halted }
     ensures item { item_of result ≡ Item.Halt symbol halted }

@@ -3,7 +3,7 @@ use Rattle.feed_types.specs.Symbols.{is_symbol_field}
 use Rattle.quote_payload.specs.Payload.{item_of}
 use Rattle.quote_payload.specs.Written.{halt_bytes}
 use Rattle.quote_payload.proofs.Fronts.{whole, next_field}
-use Rattle.quote_payload.proofs.Items.{item_of-halt}
+use Rattle.quote_payload.proofs.ReadBack.{item_of-halt}
 use Rattle.quote_payload.proofs.writing.write_halt.Goals as goal
 
 pub returns-clause-bytes : goal.returns-clause-bytes

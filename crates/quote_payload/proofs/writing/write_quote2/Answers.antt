@@ -1,14 +1,14 @@
 use Rattle.std.proofs.Common.{◌≡◌, ℕ, [], ◌∷◌, ap, ◌∙◌, subst, true, arith}
 use Rattle.feed_types.specs.Symbols.{is_symbol_field}
 use Rattle.quote_payload.specs.Payload.{item_of}
-use Rattle.quote_payload.specs.Written.{quote2_bytes}
+use Rattle.quote_payload.specs.Written.{version2_bytes}
 use Rattle.quote_payload.proofs.Fronts.{whole, next_field}
-use Rattle.quote_payload.proofs.Items.{item_of-quote2}
+use Rattle.quote_payload.proofs.ReadBack.{item_of-version2}
 use Rattle.quote_payload.proofs.writing.write_quote2.Goals as goal
 
 pub returns-clause-bytes : goal.returns-clause-bytes
 returns-clause-bytes c =
-    whole 34 c.put-7.new.message (quote2_bytes c.args.quote.now) (omega arith)
+    whole 34 c.put-7.new.message (version2_bytes c.args.quote.now) (omega arith)
     (next_field 33 34 _ _ _ _ _ c.put-7.ensures
     (next_field 25 33 _ _ _ _ _ c.put-6.ensures
     (next_field 21 25 _ _ _ _ _ c.put-5.ensures
@@ -21,4 +21,4 @@ returns-clause-bytes c =
 pub returns-clause-item : goal.returns-clause-item
 returns-clause-item c =
     ap item_of (returns-clause-bytes c)
-    ∙ item_of-quote2 c.args.quote.now (subst (λ x. is_symbol_field x ≡ true) c.field.ensures.value c.field.ensures.symbol) (omega arith) (omega arith) (omega arith) (omega arith)
+    ∙ item_of-version2 c.args.quote.now (subst (λ x. is_symbol_field x ≡ true) c.field.ensures.value c.field.ensures.symbol) (omega arith) (omega arith) (omega arith) (omega arith)
