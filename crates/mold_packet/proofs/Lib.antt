@@ -2,6 +2,8 @@ pub mod Cutting
 pub mod Growing
 pub mod HeaderFields
 pub mod OneReading
+pub mod OneRequest
 pub mod Overwriting
 pub mod Packets
+pub mod ReadsBack
 pub mod Spelling

@@ -5,6 +5,7 @@ ghost use Rattle.mold_packet.specs.Block.{block, IsMessage, IsCut, CutShort, Has
 use std::marker::Model;
 
 /// The message of the block at the front, and what follows the block, or `None` where it is cut.
+#[inline]
 fn first_block(bytes: &[u8]) -> Option<(&[u8], &[u8])>
     ensures message { IfSome result (λ r. IsMessage r.0.now) }
     ensures found { IfSome result (λ r. bytes.now ≡ block r.0.now ++ r.1.now) }
@@ -37,6 +38,13 @@ pub(crate) fn split_blocks(count: u16, body: &[u8]) -> Option<(&[u8], &[u8])>
 }
 
 /// The messages of a packet, in order. Nothing is copied: each is a part of the datagram.
+///
+/// In the datagram a message stands in a message block:
+///
+/// | Offset | Length | Field |
+/// |---|---|---|
+/// | 0 | 2 | message length, 0 to 65,535, which does not count itself |
+/// | 2 | the message length | message |
 #[derive(Debug, Drop)]
 pub struct Messages<'a> {
     left: u16,
@@ -70,11 +78,14 @@ impl<'a> Iterator for Messages<'a> {
 
     ghost remaining = { item_count (λ s. s) };
 
+    #[inline]
     fn next(&mut self) -> Option<&'a [u8]> {
         if self.left == 0 {
             return None;
         }
-        let (message, rest) = first_block(self.bytes)?;
+        let Some((message, rest)) = first_block(self.bytes) else {
+            unreachable!();
+        };
         self.left -= 1;
         self.bytes = rest;
         Some(message)

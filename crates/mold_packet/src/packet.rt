@@ -40,6 +40,7 @@ impl<'a> Model for Packet<'a> {
 
 impl<'a> Packet<'a> {
     /// The packet with these fields, whose `blocks` are `count` message blocks and nothing else.
+    #[inline]
     pub(crate) fn new(
         session: [u8; 10],
         number: u64,

@@ -11,21 +11,23 @@ const HEARTBEAT: u16 = 0;
 
 const END: u16 = 0xffff;
 
-/// Reads a downstream packet, or tells the first fault that fits: `ShortHeader`, `TruncatedBlock`, `ZeroSequence` or
-/// `SequenceOverflow`.
+/// Reads a downstream packet from a datagram, or tells the first fault that fits: `ShortHeader`, `TruncatedBlock`,
+/// `ZeroSequence`, `SequenceOverflow`. No other fault comes.
 ///
 /// | Offset | Length | Field |
 /// |---|---|---|
 /// | 0 | 10 | session |
 /// | 10 | 8 | sequence number |
-/// | 18 | 2 | message count: 0 is a heartbeat, `ffff` the end of the session |
-/// | 20 | | that many message blocks, none behind `0000` and `ffff` |
+/// | 18 | 2 | message count |
+/// | 20 | | message blocks |
 ///
-/// A message block is a length in 2 bytes, which does not count itself, and that many bytes. Numbers have their high
-/// byte first. Bytes behind the last block are not read, and [`Packet::ignored`] counts them. The source is MoldUDP64
-/// 1.00, "Downstream Packet", "Message Block", "Heartbeats" and "End of Session".
+/// Numbers are unsigned, with the high byte first. A count of 1 to 65,534 says how many message blocks follow
+/// ([`Messages`](crate::Messages) has their layout). A count of 0 is a heartbeat and a count of `ffff` the end of the
+/// session, and no block is read behind either. Bytes behind the last block are not read: [`Packet::ignored`] counts
+/// them. MoldUDP64 1.00, "Downstream Packet", "Message Block", "Heartbeats" and "End of Session", has all but the
+/// faults and the ignored bytes, which are this project's.
 ///
-/// Reading goes over the blocks' lengths once, and over no message.
+/// Reading goes over the lengths of the blocks once, and over no message.
 pub fn read_packet(bytes: &[u8]) -> Result<Packet<'_>, PacketFault>
     ensures spelled { IfOk result (λ packet. (rest : List ℕ) × Spells bytes.now packet rest) }
     ensures fault { IfErr result (HasFault bytes.now) }
