@@ -79,7 +79,10 @@ fn a_quotation_in_version_2(rt: HostRuntime) -> Result<(), Fail> {
         (101_600, 400),
         (true, true),
     );
+    let all_flags =
+        b"\x71\x41\x43\x4d\x45\x20\x20\x20\x20\x00\x01\x8c\x7c\x00\x00\x00\x01\x2a\x05\xf2\x00\x00\x01\x8c\xe0\x00\x00\x00\x00\x00\x00\x01\x90\xff";
     assert_eq!(rt; read_item(message), Item::Quote(is));
+    assert_eq!(rt; read_item(all_flags), Item::Quote(is));
     assert_eq!(rt; write_quote2(&is).as_slice(), message.as_slice());
     assert!(rt; !fits_v1(&is));
     Ok(())
@@ -211,8 +214,13 @@ fn sizes_that_version_1_cannot_carry(rt: HostRuntime) -> Result<(), Fail> {
         ),
         (
             u64::MAX,
+            0,
+            b"\x71ACME    \0\0\0\0\xff\xff\xff\xff\xff\xff\xff\xff\0\0\0\0\0\0\0\0\0\0\0\0\0",
+        ),
+        (
+            0,
             u64::MAX,
-            b"\x71ACME    \0\0\0\0\xff\xff\xff\xff\xff\xff\xff\xff\0\0\0\0\xff\xff\xff\xff\xff\xff\xff\xff\0",
+            b"\x71ACME    \0\0\0\0\0\0\0\0\0\0\0\0\0\0\0\0\xff\xff\xff\xff\xff\xff\xff\xff\0",
         ),
     ] {
         let quote = quote(symbol, (0, bid_size), (0, offer_size), (false, false));
@@ -223,6 +231,23 @@ fn sizes_that_version_1_cannot_carry(rt: HostRuntime) -> Result<(), Fail> {
             "{quote:?}"
         );
         assert_eq!(rt; read_item(message), Item::Quote(quote));
+    }
+    Ok(())
+}
+
+#[test]
+fn the_first_and_the_last_symbol(rt: HostRuntime) -> Result<(), Fail> {
+    for (name, message) in [
+        ("!", b"\x48\x21\x20\x20\x20\x20\x20\x20\x20\x01"),
+        ("~~~~~~~~", b"\x48\x7e\x7e\x7e\x7e\x7e\x7e\x7e\x7e\x01"),
+    ] {
+        let symbol = SymbolName::from_text(name.as_bytes()).ok_or("a name")?;
+        let halt = Item::Halt {
+            symbol,
+            halted: true,
+        };
+        assert_eq!(rt; read_item(message), halt, "{name}");
+        assert_eq!(rt; write_halt(symbol, true).as_slice(), message.as_slice());
     }
     Ok(())
 }
