@@ -39,7 +39,8 @@ block_len bytes = from_be_bytes w16 (take 2 bytes)
 -- the messages of the first n blocks
 abbrev pub blocks_at : ℕ → List ℕ → List (List ℕ)
 blocks_at zero bytes = []
-blocks_at (suc n) bytes = take (block_len bytes) (drop 2 bytes) ∷ blocks_at n (drop (block_len bytes) (drop 2 bytes))
+blocks_at (suc n) bytes =
+    let behind = drop 2 bytes in take (block_len bytes) behind ∷ blocks_at n (drop (block_len bytes) behind)
 
 -- n blocks and nothing else
 abbrev pub AreBlocks : ℕ → List ℕ → Type 0

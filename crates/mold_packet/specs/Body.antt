@@ -22,13 +22,20 @@ messages_of (Blocks blocks) = bytes_of blocks.now
 messages_of Heartbeat = []
 messages_of End = []
 
--- what a caller keeps: at least one block and fewer than the count of an end, the last number below 2^64, and no block
--- longer than its length field can say
+-- what a caller keeps: 1 to 65,534 blocks, the last one's number below 2^64, and each message short enough for its
+-- block's length field
 abbrev pub BodyFits : ℕ → Body → Type 0
-BodyFits number (Blocks blocks) = (1 ≤ length blocks.now) × (length blocks.now ≤ 65534) × (number + length blocks.now ≤ 2 ^ 64) × AllByRecursion IsMessage (bytes_of blocks.now)
+BodyFits number (Blocks blocks) = (1 ≤ length blocks.now) × (length blocks.now ≤ 65534)
+    × (number + length blocks.now ≤ 2 ^ 64) × AllByRecursion IsMessage (bytes_of blocks.now)
 BodyFits number Heartbeat = Unit {0}
 BodyFits number End = Unit {0}
 
 -- the packet that is written, with nothing behind it
 abbrev pub packet_of : List ℕ → ℕ → Body → Content
-packet_of session number body = record { session = session; number = number; kind = kind_of body; messages = messages_of body; ignored = 0 }
+packet_of session number body = record {
+  session = session;
+  number = number;
+  kind = kind_of body;
+  messages = messages_of body;
+  ignored = 0;
+}

@@ -6,7 +6,7 @@ use Rattle.mold_packet.specs.declared.packet.Kind.TheVariants.{Messages, Heartbe
 use Rattle.mold_packet.specs.Block.{block, IsMessage}
 use Rattle.mold_packet.specs.Header.{header}
 
--- messages carry the numbers from `number` on; `ignored` counts the bytes behind the packet
+-- the messages have the numbers from `number` on; `ignored` counts the bytes behind the packet
 pub record Content : Type 0 where
   pub session : List ℕ
   pub number : ℕ
@@ -26,7 +26,7 @@ KindFits Messages messages = (1 ≤ length messages) × (length messages ≤ 655
 KindFits Heartbeat messages = messages ≡ []
 KindFits End messages = messages ≡ []
 
--- the ranges of a packet: numbers begin at 1, and the last message's is below 2^64
+-- the ranges of a packet: numbers begin at 1, and that of the last message is at most 2^64 - 1
 pub record IsContent (packet : Content) : Type 0 where
   pub session : length packet.session ≡ 10
   pub from_one : 1 ≤ packet.number
@@ -37,7 +37,9 @@ pub record IsContent (packet : Content) : Type 0 where
 
 -- the packet's own bytes: the header, and the blocks one after the other
 abbrev pub spelling : Content → List ℕ
-spelling packet = header packet.session packet.number (count_field packet.kind packet.messages) ++ flat_map block packet.messages
+spelling packet =
+    header packet.session packet.number (count_field packet.kind packet.messages)
+    ++ flat_map block packet.messages
 
 -- the bytes spell the packet, and then comes the rest, which it ignores
 pub record Spells (bytes : List ℕ) (packet : Content) (rest : List ℕ) : Type 0 where

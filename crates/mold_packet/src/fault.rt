@@ -5,7 +5,8 @@ use thiserror::Error;
 
 /// Why bytes were not read, or nothing was written.
 ///
-/// Reading a packet gives the first of the first four that fits. Each fault has a number, which logs show.
+/// Reading a packet gives the first of the first four that fits. Each fault has a number, which
+/// logs show.
 #[derive(Clone, Copy, Debug, PartialEq, Eq, Hash, Error)]
 pub enum PacketFault {
     /// A packet has fewer than the 20 bytes of its header.

@@ -4,6 +4,12 @@ ghost use Rattle.mold_packet.specs.Header.{header, session_at, number_at, count_
 /// How many bytes a downstream packet's header has, and a whole request.
 pub(crate) const HEADER: usize = 20;
 
+/// The count of a heartbeat.
+pub(crate) const HEARTBEAT: u16 = 0;
+
+/// The count of an end of session.
+pub(crate) const END: u16 = 0xffff;
+
 #[inline]
 pub(crate) fn session_of(bytes: &[u8]) -> [u8; 10]
     requires { 20 ≤ length bytes.now }

@@ -7,28 +7,46 @@ ghost use Rattle.mold_packet.specs.declared.request.Request.{Request};
 
 /// Bytes spell one packet before one rest, and then have no fault; or they have one fault.
 ///
-/// So [`read_packet`](crate::read_packet) has only one right answer. The function does nothing: its contract is a law.
+/// So [`read_packet`](crate::read_packet) has one right answer. The function does nothing: its
+/// contract is a law.
 pub fn one_reading()
-    ensures packet { (bytes : List ℕ) (p q : Content) (rest more : List ℕ) → Spells bytes p rest → Spells bytes q more → p ≡ q }
-    ensures rest { (bytes : List ℕ) (p q : Content) (rest more : List ℕ) → Spells bytes p rest → Spells bytes q more → rest ≡ more }
-    ensures no_fault { (bytes : List ℕ) (p : Content) (rest : List ℕ) (fault : PacketFault) → Spells bytes p rest → HasFault bytes fault → ⊥ }
-    ensures fault { (bytes : List ℕ) (f g : PacketFault) → HasFault bytes f → HasFault bytes g → f ≡ g }
+    ensures packet { (bytes : List ℕ) (p q : Content) (rest more : List ℕ)
+        → Spells bytes p rest → Spells bytes q more → p ≡ q }
+    ensures rest { (bytes : List ℕ) (p q : Content) (rest more : List ℕ)
+        → Spells bytes p rest → Spells bytes q more → rest ≡ more }
+    ensures no_fault { (bytes : List ℕ) (p : Content) (rest : List ℕ) (fault : PacketFault)
+        → Spells bytes p rest → HasFault bytes fault → ⊥ }
+    ensures fault { (bytes : List ℕ) (f g : PacketFault)
+        → HasFault bytes f → HasFault bytes g → f ≡ g }
 {}
 
 /// Bytes spell one request, and have no fault if its number is at least 1; or they have one fault.
 ///
-/// So [`read_request`](crate::read_request) has only one right answer. The function does nothing: its contract is a law.
+/// So [`read_request`](crate::read_request) has one right answer. The function does nothing: its
+/// contract is a law.
 pub fn one_request()
-    ensures request { (bytes : List ℕ) (r s : Request) → SpellsRequest bytes r → SpellsRequest bytes s → r ≡ s }
-    ensures no_fault { (bytes : List ℕ) (r : Request) (fault : PacketFault) → SpellsRequest bytes r → 1 ≤ r.number → HasRequestFault bytes fault → ⊥ }
-    ensures fault { (bytes : List ℕ) (f g : PacketFault) → HasRequestFault bytes f → HasRequestFault bytes g → f ≡ g }
+    ensures request { (bytes : List ℕ) (r s : Request)
+        → SpellsRequest bytes r → SpellsRequest bytes s → r ≡ s }
+    ensures no_fault { (bytes : List ℕ) (r : Request) (fault : PacketFault)
+        → SpellsRequest bytes r → 1 ≤ r.number → HasRequestFault bytes fault → ⊥ }
+    ensures fault { (bytes : List ℕ) (f g : PacketFault)
+        → HasRequestFault bytes f → HasRequestFault bytes g → f ≡ g }
 {}
 
-/// What was written reads back: an answer that keeps the clauses of [`read_packet`](crate::read_packet) on a packet's
-/// spelling is that packet, and so it is with [`read_request`](crate::read_request) and a request from number 1 on.
+/// What was written reads back. An answer that keeps the clauses of
+/// [`read_packet`](crate::read_packet) on a packet's spelling is that packet, and so it is with
+/// [`read_request`](crate::read_request) and a request whose number is at least 1.
 ///
 /// The function does nothing: its contract is a law.
 pub fn reads_back()
-    ensures packet { (bytes : List ℕ) (written : Content) (answer : Result Content PacketFault) → Spells bytes written [] → IfOk answer (λ packet. (rest : List ℕ) × Spells bytes packet rest) → IfErr answer (HasFault bytes) → answer ≡ Ok written }
-    ensures request { (bytes : List ℕ) (written : Request) (answer : Result Request PacketFault) → SpellsRequest bytes written → 1 ≤ written.number → IfOk answer (SpellsRequest bytes) → IfErr answer (HasRequestFault bytes) → answer ≡ Ok written }
+    ensures packet { (bytes : List ℕ) (written : Content) (answer : Result Content PacketFault)
+        → Spells bytes written []
+        → IfOk answer (λ packet. (rest : List ℕ) × Spells bytes packet rest)
+        → IfErr answer (HasFault bytes)
+        → answer ≡ Ok written }
+    ensures request { (bytes : List ℕ) (written : Request) (answer : Result Request PacketFault)
+        → SpellsRequest bytes written → 1 ≤ written.number
+        → IfOk answer (SpellsRequest bytes)
+        → IfErr answer (HasRequestFault bytes)
+        → answer ≡ Ok written }
 {}

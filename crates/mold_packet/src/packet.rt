@@ -1,6 +1,5 @@
 ghost use Rattle.std.specs.Prelude.{◌≡◌, length};
 ghost use Rattle.mold_packet.specs.Content.{IsContent};
-ghost use Rattle.mold_packet.specs.Block.{blocks_at, AreBlocks};
 
 use crate::blocks::Messages;
 use std::marker::Model;
@@ -12,58 +11,36 @@ pub enum Kind {
     Messages,
     /// Count 0: the packet's number is the next one that the sender expects to use.
     Heartbeat,
-    /// Count `ffff`: the session has ended, and the packet's number is one more than its last message's.
+    /// Count `ffff`: the session has ended, and the packet's number is one more than its last
+    /// message's.
     End,
 }
 
 /// A downstream packet that was read. It borrows its messages from the datagram.
 #[derive(Debug, Drop)]
 pub struct Packet<'a> {
-    session: [u8; 10],
-    number: u64,
-    kind: Kind,
-    count: u16,
-    blocks: &'a [u8],
-    ignored: usize,
+    pub(crate) session: [u8; 10],
+    pub(crate) number: u64,
+    pub(crate) kind: Kind,
+    pub(crate) count: u16,
+    /// `count` message blocks, and nothing else.
+    pub(crate) blocks: &'a [u8],
+    pub(crate) ignored: usize,
 }
 
 impl<'a> Model for Packet<'a> {
-    ghost use Rattle.mold_packet.specs.Content.{Content, IsContent};
-    ghost use Rattle.mold_packet.specs.Block.{blocks_at, AreBlocks};
+    ghost use Rattle.mold_packet.specs.Content.{Content};
 
     ghost Value = { Content };
 
-    ghost view = { λ p. record { session = p.session; number = p.number; kind = p.kind; messages = blocks_at p.count p.blocks.now; ignored = p.ignored } };
+    ghost use Rattle.mold_packet.specs.Packet.{content_of, IsSound};
 
-    ghost invariant = { λ p. AreBlocks p.count p.blocks.now × IsContent (record { session = p.session; number = p.number; kind = p.kind; messages = blocks_at p.count p.blocks.now; ignored = p.ignored }) };
+    ghost view = { content_of };
+
+    ghost invariant = { IsSound };
 }
 
 impl<'a> Packet<'a> {
-    /// The packet with these fields, whose `blocks` are `count` message blocks and nothing else.
-    #[inline]
-    pub(crate) fn new(
-        session: [u8; 10],
-        number: u64,
-        kind: Kind,
-        count: u16,
-        blocks: &'a [u8],
-        ignored: usize,
-    ) -> Self
-        requires blocks { AreBlocks count blocks.now }
-        requires content { IsContent (record { session = session; number = number; kind = kind; messages = blocks_at count blocks.now; ignored = ignored }) }
-        ensures content { IsContent result }
-        ensures value { result ≡ record { session = session; number = number; kind = kind; messages = blocks_at count blocks.now; ignored = ignored } }
-    {
-        Packet {
-            session,
-            number,
-            kind,
-            count,
-            blocks,
-            ignored,
-        }
-    }
-
     /// The session's name, ten bytes filled with spaces.
     #[inline]
     pub fn session(&self) -> [u8; 10]
@@ -73,7 +50,8 @@ impl<'a> Packet<'a> {
         self.session
     }
 
-    /// The sequence number, at least 1: of the first message, or as `Kind` says where there is none.
+    /// The sequence number, at least 1: of the first message, or as `Kind` says where there is
+    /// none.
     #[inline]
     pub fn number(&self) -> u64
         ensures value { result ≡ self.now.number }

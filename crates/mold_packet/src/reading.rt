@@ -4,15 +4,11 @@ ghost use Rattle.mold_packet.specs.Faults.{HasFault};
 
 use crate::blocks::split_blocks;
 use crate::fault::PacketFault;
-use crate::header::{HEADER, count_of, number_of, session_of};
+use crate::header::{END, HEADER, HEARTBEAT, count_of, number_of, session_of};
 use crate::packet::{Kind, Packet};
 
-const HEARTBEAT: u16 = 0;
-
-const END: u16 = 0xffff;
-
-/// Reads a downstream packet from a datagram, or tells the first fault that fits: `ShortHeader`, `TruncatedBlock`,
-/// `ZeroSequence`, `SequenceOverflow`. No other fault comes.
+/// Reads a downstream packet from a datagram, or tells the first fault that fits: `ShortHeader`,
+/// `TruncatedBlock`, `ZeroSequence`, `SequenceOverflow`. No other fault comes.
 ///
 /// | Offset | Length | Field |
 /// |---|---|---|
@@ -21,11 +17,12 @@ const END: u16 = 0xffff;
 /// | 18 | 2 | message count |
 /// | 20 | | message blocks |
 ///
-/// Numbers are unsigned, with the high byte first. A count of 1 to 65,534 says how many message blocks follow
-/// ([`Messages`](crate::Messages) has their layout). A count of 0 is a heartbeat and a count of `ffff` the end of the
-/// session, and no block is read behind either. Bytes behind the last block are not read: [`Packet::ignored`] counts
-/// them. MoldUDP64 1.00, "Downstream Packet", "Message Block", "Heartbeats" and "End of Session", has all but the
-/// faults and the ignored bytes, which are this project's.
+/// Numbers are unsigned, with the high byte first. A count of 1 to 65,534 says how many message
+/// blocks follow ([`Messages`](crate::Messages) has their layout). A count of 0 is a heartbeat and
+/// a count of `ffff` the end of the session, and no block is read behind either. Bytes behind the
+/// last block are not read: [`Packet::ignored`] counts them. MoldUDP64 1.00, "Downstream Packet",
+/// "Message Block", "Heartbeats" and "End of Session", has all but the faults and the ignored
+/// bytes, which are this project's.
 ///
 /// Reading goes over the lengths of the blocks once, and over no message.
 pub fn read_packet(bytes: &[u8]) -> Result<Packet<'_>, PacketFault>
@@ -50,5 +47,12 @@ pub fn read_packet(bytes: &[u8]) -> Result<Packet<'_>, PacketFault>
     if count > 0 && number > u64::MAX - u64::from(count - 1) {
         return Err(PacketFault::SequenceOverflow);
     }
-    Ok(Packet::new(session_of(bytes), number, kind, count, blocks, rest.len()))
+    Ok(Packet {
+        session: session_of(bytes),
+        number,
+        kind,
+        count,
+        blocks,
+        ignored: rest.len(),
+    })
 }

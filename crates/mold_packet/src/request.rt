@@ -1,6 +1,6 @@
 ghost use Rattle.std.specs.Prelude.{◌≡◌, ◌≤◌, ◌<◌, length, take, IfOk, IfErr, OnOk};
 ghost use Rattle.mold_packet.specs.Request.{SpellsRequest, HasRequestFault};
-ghost use Rattle.mold_packet.specs.Writing.{WritesFirst};
+ghost use Rattle.mold_packet.specs.Writing.{WritesFirst, WritesNothing};
 
 use crate::fault::PacketFault;
 use crate::header::{HEADER, count_of, number_of, session_of, write_header};
@@ -13,7 +13,8 @@ use crate::header::{HEADER, count_of, number_of, session_of, write_header};
 /// | 10 | 8 | sequence number of the first message wanted |
 /// | 18 | 2 | how many messages are wanted |
 ///
-/// It is exactly 20 bytes long. Numbers have their high byte first. The source is MoldUDP64 1.00, "Request Packet".
+/// It is exactly 20 bytes long. Numbers have their high byte first. The source is MoldUDP64 1.00,
+/// "Request Packet".
 #[derive(Clone, Copy, Debug, PartialEq, Eq, Hash)]
 pub struct Request {
     /// The session's name, ten bytes filled with spaces.
@@ -24,15 +25,15 @@ pub struct Request {
     pub count: u16,
 }
 
-/// Writes a request into the first 20 bytes of `out` and gives 20, or `BufferTooSmall` where there are fewer, and then
-/// nothing is written.
+/// Writes a request into the first 20 bytes of `out` and gives 20, or `BufferTooSmall` where there
+/// are fewer, and then nothing is written.
 ///
 /// A request of any number and count is written, though no receiver takes the number 0.
 pub fn write_request(request: &Request, out: &mut [u8]) -> Result<usize, PacketFault>
     ensures len { IfOk result (λ n. n ≡ 20) }
     ensures spelled { OnOk result (SpellsRequest (take 20 out.new) request.now) }
     ensures first { OnOk result (WritesFirst 20 out.old out.new) }
-    ensures refused { IfErr result (λ fault. (fault ≡ PacketFault.BufferTooSmall) × (length out.old < 20) × (out.new ≡ out.old)) }
+    ensures refused { IfErr result (λ fault. WritesNothing fault 20 out.old out.new) }
 {
     if out.len() < HEADER {
         return Err(PacketFault::BufferTooSmall);
@@ -41,8 +42,8 @@ pub fn write_request(request: &Request, out: &mut [u8]) -> Result<usize, PacketF
     Ok(HEADER)
 }
 
-/// Reads a request, or tells the first fault that fits: `BadRequestLength` where there are not exactly 20 bytes, and
-/// `ZeroSequence` where the number is 0.
+/// Reads a request, or tells the first fault that fits: `BadRequestLength` where there are not
+/// exactly 20 bytes, and `ZeroSequence` where the number is 0.
 pub fn read_request(bytes: &[u8]) -> Result<Request, PacketFault>
     ensures spelled { IfOk result (SpellsRequest bytes.now) }
     ensures from_one { IfOk result (λ request. 1 ≤ request.number) }

@@ -304,3 +304,29 @@ fn requests_are_read(rt: HostRuntime) {
     }
     assert_eq!(rt; PacketFault::BadRequestLength.code(), 6);
 }
+
+#[test]
+fn faults_have_texts(rt: HostRuntime) -> Result<(), Fail> {
+    let table = [
+        (
+            PacketFault::ShortHeader,
+            "the packet is shorter than its header of 20 bytes",
+        ),
+        (PacketFault::TruncatedBlock, "a message block is cut short"),
+        (PacketFault::ZeroSequence, "the sequence number is 0"),
+        (
+            PacketFault::SequenceOverflow,
+            "the last message's sequence number is past 2^64 - 1",
+        ),
+        (PacketFault::BufferTooSmall, "the buffer is too small"),
+        (
+            PacketFault::BadRequestLength,
+            "the request is not 20 bytes long",
+        ),
+    ];
+    for (fault, text) in table {
+        let shown = format!(in rt.alloc(); "{fault}")?;
+        assert_eq!(rt; shown.as_str(), text);
+    }
+    Ok(())
+}

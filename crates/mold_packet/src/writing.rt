@@ -3,9 +3,9 @@ ghost use Rattle.std.specs.List.{flat_map, AllByRecursion};
 ghost use Rattle.mold_packet.specs.Block.{block, IsMessage};
 ghost use Rattle.mold_packet.specs.Body.{BodyFits, bytes_of, packet_of};
 ghost use Rattle.mold_packet.specs.Content.{spelling, Spells};
-ghost use Rattle.mold_packet.specs.Writing.{WritesFirst};
+ghost use Rattle.mold_packet.specs.Writing.{WritesFirst, WritesNothing};
 
-use crate::body::{Body, blocks_of, count_field_of};
+use crate::body::Body;
 use crate::fault::PacketFault;
 use crate::header::{HEADER, write_header};
 
@@ -38,7 +38,8 @@ fn write_block(message: &[u8], out: &mut [u8])
 fn write_blocks(messages: &[&[u8]], out: &mut [u8])
     requires each { AllByRecursion IsMessage (bytes_of messages.now) }
     requires room { length (flat_map block (bytes_of messages.now)) ≤ length out.old }
-    ensures { out.new ≡ flat_map block (bytes_of messages.now) ++ drop (length (flat_map block (bytes_of messages.now))) out.old }
+    ensures { let blocks = flat_map block (bytes_of messages.now) in
+        out.new ≡ blocks ++ drop (length blocks) out.old }
 {
     let mut end = 0;
     for message in messages {
@@ -47,11 +48,12 @@ fn write_blocks(messages: &[&[u8]], out: &mut [u8])
     }
 }
 
-/// Writes a downstream packet to the front of `out` and gives its length in bytes, or `BufferTooSmall` where `out` is
-/// shorter, and then nothing is written.
+/// Writes a downstream packet to the front of `out` and gives its length in bytes, or
+/// `BufferTooSmall` where `out` is shorter, and then nothing is written. No other fault comes.
 ///
-/// [`read_packet`](crate::read_packet) has the layout. The number is that of the first message, and at least 1; the
-/// last message's is at most 2^64 - 1.
+/// [`read_packet`](crate::read_packet) has the layout. The number is at least 1. It is that of the
+/// first message, and the last message's is at most 2^64 - 1; [`Body`] says what it is where there
+/// are none.
 pub fn write_packet(
     session: &[u8; 10],
     number: u64,
@@ -60,16 +62,19 @@ pub fn write_packet(
 ) -> Result<usize, PacketFault>
     requires from_one { 1 ≤ number }
     requires fits { BodyFits number body }
-    ensures spelled { IfOk result (λ n. Spells (take n out.new) (packet_of session.now number body.entry) []) }
+    ensures spelled { IfOk result (λ n.
+        Spells (take n out.new) (packet_of session.now number body.entry) []) }
     ensures first { IfOk result (λ n. WritesFirst n out.old out.new) }
-    ensures refused { IfErr result (λ fault. (fault ≡ PacketFault.BufferTooSmall) × (length out.old < length (spelling (packet_of session.now number body.entry))) × (out.new ≡ out.old)) }
+    ensures refused { IfErr result (λ fault.
+        let n = length (spelling (packet_of session.now number body.entry)) in
+        WritesNothing fault n out.old out.new) }
 {
-    let messages = blocks_of(body);
+    let messages = body.messages();
     let len = HEADER + blocks_len(messages);
     if out.len() < len {
         return Err(PacketFault::BufferTooSmall);
     }
-    write_header(session, number, count_field_of(number, body), out);
+    write_header(session, number, body.count_field(), out);
     write_blocks(messages, &mut out[HEADER..]);
     Ok(len)
 }

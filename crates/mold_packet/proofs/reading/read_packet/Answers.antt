@@ -1,6 +1,6 @@
-use Rattle.std.proofs.Common.{◌≡◌, ℕ, List, length, refl, sym, ◌∙◌, arith, subst}
+use Rattle.std.proofs.Common.{◌≡◌, ℕ, List, length, rules, refl, sym, ◌∙◌, arith}
 use Rattle.std.proofs.lemmas.List.{take_rest}
-use Rattle.mold_packet.specs.Content.{Content, IsContent, count_field, Spells}
+use Rattle.mold_packet.specs.Content.{count_field}
 use Rattle.mold_packet.proofs.Spelling.{spells_from}
 use Rattle.mold_packet.proofs.reading.read_packet.Goals as goal
 use Rattle.mold_packet.proofs.reading.read_packet.Goals.{Joined-count_of, in-0, in-65535, in_default}
@@ -14,9 +14,7 @@ field c messages e = elim c.match-count_of.branch [
 ]
 
 pub returns-clause-spelled : goal.returns-clause-spelled
-returns-clause-spelled c =
-    let P : Content → Type 0 = λ p. Spells c.args.bytes.now p c.in-Some.rest.now in (
-      c.in-Some.rest.now,
-      subst P (sym c.new.ensures.value)
-          (spells_from _ _ _ (omega arith) (λ i. omega (arith, c.type_inv.bytes i)) (subst (λ p. IsContent p) c.new.ensures.value c.new.ensures.content) c.session_of.ensures c.number_of-number.ensures (field (goal.at.returns-clause-spelled c).Joined-count_of _ c.in-Some.ensures.found.count ∙ c.count_of.ensures) (sym (take_rest c.args.bytes.now 20) ∙ c.in-Some.ensures.found.spelled) refl),
-    )
+returns-clause-spelled c = (
+  c.in-Some.rest.now,
+  spells_from _ _ _ (omega arith) (λ i. omega (arith, c.type_inv.bytes i)) (search rules) c.session_of.ensures c.number_of-number.ensures (field (goal.at.returns-clause-spelled c).Joined-count_of _ c.in-Some.ensures.found.count ∙ c.count_of.ensures) (sym (take_rest c.args.bytes.now 20) ∙ c.in-Some.ensures.found.spelled) refl,
+)

@@ -6,11 +6,11 @@ use Rattle.mold_packet.proofs.writing.write_packet.Goals.{After-write_blocks}
 
 steps : (c : After-write_blocks) → Steps c.args.session.now c.args.number c.args.body c.args.out.now c.write_header.new.out c.write_blocks.new.out c.blocks_len-len.result
 steps c = record {
-  count = c.count_field_of.result;
-  messages = bytes_of c.blocks_of-messages.result.now;
+  count = c.count_field.result;
+  messages = bytes_of c.messages-messages.result.now;
   ten = omega arith;
-  count_is = c.count_field_of.ensures;
-  messages_are = c.blocks_of-messages.ensures;
+  count_is = c.count_field.ensures;
+  messages_are = c.messages-messages.ensures;
   len_is = c.blocks_len-len.ensures.value;
   headed_is = c.write_header.ensures;
   blocks_are = c.write_blocks.ensures;
