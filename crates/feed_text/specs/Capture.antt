@@ -84,4 +84,4 @@ record_of (Renewal venue session) = renewal_record venue session
 abbrev pub StandsAtFront : ℕ → List ℕ → Front → Type 0
 StandsAtFront venues bytes (Whole r len) = IsRecord venues (record_of r) × (len ≡ length (spelling (record_of r))) × (bytes ≡ spelling (record_of r) ++ drop len bytes)
 StandsAtFront venues bytes Bad = IsBad venues bytes
-StandsAtFront venues bytes (Wants n) = IsWanted venues bytes n
+StandsAtFront venues bytes (Wants n) = IsWanted venues bytes n × (n < 65540)

@@ -1,5 +1,5 @@
 -- What devices over memory hold, and what calls of a reader came to.
-use Rattle.std.specs.Prelude.{◌≡◌, ℕ, ◌*◌, ◌≤◌, List, ◌++◌, length, []}
+use Rattle.std.specs.Prelude.{◌≡◌, ℕ, ◌*◌, ◌≤◌, List, ◌++◌, length, [], take}
 
 -- what was written into memory, and how many calls failed
 pub record Written : Type 0 where
@@ -33,3 +33,26 @@ pub record Came {R : Type 0} (gives : R → ℕ → List ℕ → R → Type 0) (
   pub bytes : List ℕ
   pub given : gives from calls bytes to
   pub behind : new ≡ old ++ bytes
+
+-- The same, and then one more call showed the end.
+pub record CameAll {R : Type 0} (gives : R → ℕ → List ℕ → R → Type 0) (ends : R → R → Type 0) (from to : R) (old new : List ℕ) (calls : ℕ) : Type 0 where
+  pub mid : R
+  pub came : Came gives from mid old new calls
+  pub end : ends mid to
+
+-- The same after some calls, whatever came of the reader then.
+pub record CameSome {R : Type 0} (gives : R → ℕ → List ℕ → R → Type 0) (from : R) (old new : List ℕ) : Type 0 where
+  pub calls : ℕ
+  pub mid : R
+  pub came : Came gives from mid old new calls
+
+-- A writer took a front of the text.
+pub record Wrote {W : Type 0} (adds : W → List ℕ → W → Type 0) (before : W) (text : List ℕ) (after : W) : Type 0 where
+  pub count : ℕ
+  pub taken : adds before (take count text) after
+
+-- A writer took a front of the old text, and the new text is what is left.
+pub record Moved {W : Type 0} (adds : W → List ℕ → W → Type 0) (before after : W) (old new : List ℕ) : Type 0 where
+  pub shown : List ℕ
+  pub taken : adds before shown after
+  pub left : old ≡ shown ++ new

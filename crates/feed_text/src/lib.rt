@@ -14,8 +14,13 @@
 pub mod capture;
 pub mod devices;
 pub mod failures;
+pub mod fault;
+mod input;
 pub mod laws;
 pub mod memory;
+mod output;
+pub mod replay;
+pub mod reporter;
 pub mod system;
 #[cfg(test)]
 mod tests;

@@ -1,13 +1,17 @@
 //! Each public call on ample memory, on bytes that were spelled by hand.
-ghost use Rattle.std.specs.Prelude.{◌≡◌, ◌<◌, ◌≤◌, length};
+ghost use Rattle.std.specs.Prelude.{◌≡◌, ◌<◌, ◌≤◌, length, refl};
 
 use crate::capture::{Front, Record, front_of};
 use crate::devices::{CaptureIn, ReadStop, TextOut, WriteStop};
 use crate::failures::Failures;
+use crate::fault::ReplayFault;
 use crate::memory::{MemoryIn, MemoryOut};
+use crate::replay::replay_with;
+use crate::reporter::Reporter;
 use crate::system::{StreamIn, StreamOut};
 use crate::window::{Turn, Window};
 use feed_types::LineId;
+use std::alloc::{AllocError, Global};
 use std::io::{self, ErrorKind, Read, Write};
 use std::marker::Brand;
 use std::sync::ledger::{Blank, Ledger};
@@ -261,4 +265,82 @@ fn memory_takes_text(rt: HostRuntime) -> Result<(), Fail> {
         .ok_or("no memory")?;
     assert_eq!(rt; text.as_slice(), b"venue 0 sent 4\n".as_slice());
     Ok(())
+}
+
+/// A reporter whose lines are the bytes that the records hold, and a last word.
+#[derive(Drop)]
+struct Held;
+
+impl Reporter for Held {
+    ghost venues = { λ _. 2 };
+
+    ghost tells = { λ _ _ _ _. Unit {0} };
+
+    ghost closes = { λ _ _. Unit {0} };
+
+    ghost tells_none = { λ _. tt };
+
+    ghost tells_more = { λ _ _ _ _ _ _ _ _ _. tt };
+
+    ghost venues_stay = { λ _ _ _ _ _. refl };
+
+    fn take(&mut self, next: Record<'_>, text: &mut Vec<u8>) -> Result<(), AllocError> {
+        match next {
+            Record::Datagram { bytes, .. } => text.extend_from_slice(bytes),
+            Record::Renewal { session, .. } => text.extend_from_slice(&session),
+        }
+    }
+
+    fn close(&self, text: &mut Vec<u8>) -> Result<(), AllocError> {
+        text.extend_from_slice(b"end")
+    }
+}
+
+/// What a replay of a capture comes to, by a reader that gives so many bytes a call.
+fn replayed<L: Ledger>(
+    alloc: Global,
+    capture: &[u8],
+    piece: usize,
+    turns: u64,
+    blank: Blank,
+) -> (Result<(), ReplayFault>, Vec<u8>)
+    requires name { blank.name ≡ L.name }
+    requires parts { blank.parts ≡ L.parts }
+    requires some { 0 < blank.parts }
+{
+    let mut reader = MemoryIn::new(capture, piece);
+    let mut writer: MemoryOut<L> = MemoryOut::new(Vec::new(alloc), Failures::new(blank));
+    let outcome = replay_with(alloc, 2, turns, &mut Held, &mut reader, &mut writer);
+    (outcome, writer.into_text())
+}
+
+#[test]
+fn replays(rt: HostRuntime) {
+    let whole: &[u8] = b"\0A\0\x03one\x01N\0\x0a0000000002\x01R\0\0\x01B\0\x01.";
+    let bad: &[u8] = b"\0A\0\x03one\x02A\0\x03two";
+    let short: &[u8] = b"\0A\0\x03one\x01B\0\x03tw";
+    let table: [(&[u8], usize, u64, Result<(), ReplayFault>, &[u8]); 8] = [
+        (b"", 1, 1, Ok(()), b"end"),
+        (whole, 1, 31, Ok(()), b"one0000000002.end"),
+        (
+            whole,
+            1,
+            30,
+            Err(ReplayFault::TooManyTurns),
+            b"one0000000002.",
+        ),
+        (whole, 1, 20, Err(ReplayFault::TooManyTurns), b"one"),
+        (whole, 100, 2, Ok(()), b"one0000000002.end"),
+        (bad, 5, 9, Err(ReplayFault::BadRecord), b"one"),
+        (short, 5, 9, Err(ReplayFault::ShortRecord), b"one"),
+        (short, 1, 13, Err(ReplayFault::TooManyTurns), b"one"),
+    ];
+    for (capture, piece, turns, ending, text) in table {
+        let seen = replayed::<Brand>(rt.alloc(), capture, piece, turns, Blank::new(1));
+        assert!(rt; seen.0 == ending, "of {capture:?} by {piece}, {turns}");
+        assert!(rt;
+            seen.1.as_slice() == text,
+            "of {capture:?} by {piece}, {turns}"
+        );
+    }
 }

@@ -126,7 +126,7 @@ impl Window {
         requires room { length self.old < 131072 }
         ensures went { result ≡ Turn.Went → Came R.gives reader.old reader.new self.old self.new 1 }
         ensures ended { result ≡ Turn.Ended → R.ends reader.old reader.new × (self.new ≡ self.old) }
-        ensures failed { result ≡ Turn.Failed → R.failures reader.new ≡ R.failures reader.old + 1 }
+        ensures failed { result ≡ Turn.Failed → (R.failures reader.new ≡ R.failures reader.old + 1) × (self.new ≡ self.old) }
         ensures kept { (result ≡ Turn.Failed → ⊥) → R.failures reader.new ≡ R.failures reader.old }
     {
         let (start, end) = make_room(&mut self.bytes, self.start, self.end);

@@ -1,0 +1,14 @@
+use Rattle.std.proofs.Common.{◌≡◌, ◌<◌, ◌≤◌, ◌-◌, ◌⊎◌, length}
+use Rattle.feed_text.specs.Devices.{Came}
+use Rattle.feed_text.proofs.input.fill.Given as goal
+
+abbrev pub invariant-loop-wanted : goal.invariant-loop-wanted
+invariant-loop-wanted g l = record {
+  came : Came g.R.CaptureIn.gives l.fn.reader l.reader l.fn.window l.window (l.fn.turns - l.turns);
+  turns : l.turns ≤ l.fn.turns;
+  progress : length l.fn.window < l.wanted → (length l.window ≡ length l.fn.window) ⊎ (l.turns < l.fn.turns);
+  kept : g.R.CaptureIn.failures l.reader ≡ g.R.CaptureIn.failures l.fn.reader;
+}
+
+abbrev pub decreases-loop-wanted : goal.decreases-loop-wanted
+decreases-loop-wanted g l = l.turns

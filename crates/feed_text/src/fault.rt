@@ -1,0 +1,37 @@
+//! Why a replay ended early.
+ghost use Rattle.std.specs.Prelude.{◌≡◌};
+ghost use Rattle.feed_text.specs.declared.fault.ReplayFault.TheVariants.{NoMemory};
+
+use std::alloc::AllocError;
+use thiserror::Error;
+
+/// Why a replay ended early.
+#[derive(Clone, Copy, Debug, PartialEq, Eq, Error)]
+pub enum ReplayFault {
+    /// A call of the reader failed.
+    #[error("read failed")]
+    ReadFailed,
+    /// A call of the writer failed, was interrupted, or would take nothing.
+    #[error("write failed")]
+    WriteFailed,
+    /// Four bytes that begin no record stand where a record should.
+    #[error("bad record")]
+    BadRecord,
+    /// The input ends within a record.
+    #[error("short record")]
+    ShortRecord,
+    /// As many calls of the reader as are allowed were made, and none had shown the end.
+    #[error("too many turns")]
+    TooManyTurns,
+    /// Memory was refused.
+    #[error("no memory")]
+    NoMemory,
+}
+
+impl From<AllocError> for ReplayFault {
+    ghost from_gives = { λ _ e. e ≡ NoMemory };
+
+    fn from(_error: AllocError) -> ReplayFault {
+        ReplayFault::NoMemory
+    }
+}
