@@ -22,8 +22,8 @@ messages_of (Blocks blocks) = bytes_of blocks.now
 messages_of Heartbeat = []
 messages_of End = []
 
--- what a caller keeps: 1 to 65,534 blocks, the last one's number below 2^64, and each message short enough for its
--- block's length field
+-- what a caller keeps: 1 to 65,534 blocks, the last one's number below 2^64, and each message short
+-- enough for its block's length field
 abbrev pub BodyFits : ℕ → Body → Type 0
 BodyFits number (Blocks blocks) = (1 ≤ length blocks.now) × (length blocks.now ≤ 65534)
     × (number + length blocks.now ≤ 2 ^ 64) × AllByRecursion IsMessage (bytes_of blocks.now)

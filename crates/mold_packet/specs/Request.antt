@@ -12,7 +12,8 @@ pub record SpellsRequest (bytes : List ℕ) (request : Request) : Type 0 where
   pub few : request.count < 2 ^ 16
   pub spelled : bytes ≡ header request.session request.number request.count
 
--- the fault is the first that fits, in this order: the length is wrong, the number is 0. Reading a request has no other
+-- the fault is the first that fits, in this order: the length is wrong, the number is 0. Reading a
+-- request has no other
 abbrev pub HasRequestFault : List ℕ → PacketFault → Type 0
 HasRequestFault bytes BadRequestLength = ¬ (length bytes ≡ 20)
 HasRequestFault bytes ZeroSequence = (length bytes ≡ 20) × (number_at bytes ≡ 0)

@@ -5,8 +5,8 @@ use thiserror::Error;
 
 /// Why bytes were not read, or nothing was written.
 ///
-/// Reading a packet gives the first of the first four that fits. Each fault has a number, which
-/// logs show.
+/// Reading a packet gives one of the first four, the first that fits. Each fault has a number, by
+/// which logs name it.
 #[derive(Clone, Copy, Debug, PartialEq, Eq, Hash, Error)]
 pub enum PacketFault {
     /// A packet has fewer than the 20 bytes of its header.
@@ -30,8 +30,6 @@ pub enum PacketFault {
 }
 
 impl PacketFault {
-    ghost use Rattle.mold_packet.specs.Faults.{code_of};
-
     /// The fault's number, from 1 to 6.
     pub fn code(self) -> u8
         ensures { result ≡ code_of self }

@@ -41,7 +41,7 @@ impl<'a> Model for Packet<'a> {
 }
 
 impl<'a> Packet<'a> {
-    /// The session's name, ten bytes filled with spaces.
+    /// The session's name: any ten bytes. A shorter name is filled with spaces.
     #[inline]
     pub fn session(&self) -> [u8; 10]
         ensures value { result ≡ self.now.session }

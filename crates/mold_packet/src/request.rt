@@ -17,7 +17,7 @@ use crate::header::{HEADER, count_of, number_of, session_of, write_header};
 /// "Request Packet".
 #[derive(Clone, Copy, Debug, PartialEq, Eq, Hash)]
 pub struct Request {
-    /// The session's name, ten bytes filled with spaces.
+    /// The session's name: any ten bytes. A shorter name is filled with spaces.
     pub session: [u8; 10],
     /// The first message wanted. A request that was read has at least 1.
     pub number: u64,
@@ -28,7 +28,7 @@ pub struct Request {
 /// Writes a request into the first 20 bytes of `out` and gives 20, or `BufferTooSmall` where there
 /// are fewer, and then nothing is written.
 ///
-/// A request of any number and count is written, though no receiver takes the number 0.
+/// A request of any number and count is written, though [`read_request`] refuses the number 0.
 pub fn write_request(request: &Request, out: &mut [u8]) -> Result<usize, PacketFault>
     ensures len { IfOk result (λ n. n ≡ 20) }
     ensures spelled { OnOk result (SpellsRequest (take 20 out.new) request.now) }
