@@ -1,0 +1,45 @@
+-- Where the last item sent stands.
+use Rattle.std.proofs.Common.{◌≡◌, ℕ, ◌+◌, ◌<◌, ◌≤◌, Bool, true, false, List, [], ◌∷◌, length, map, Option, Some, None, refl, ap, ◌∙◌, arith, inl, inr}
+use Rattle.std.specs.Prelude.{nat_le, ◌==◌, ◌⊎◌, if◌then◌else◌}
+use Rattle.std.specs.List.{range_with_len}
+use Rattle.std.proofs.lemmas.Bool.{cases_lt, eqb-true, lt-leb}
+use Rattle.std.proofs.lemmas.List.{length-append}
+use Rattle.std.proofs.lemmas.List.FromFn.{length-map-range_with_len}
+use Rattle.feed_types.specs.declared.item.Item.TheVariants as items
+use Rattle.line_arbiter.specs.Packets.{Arrival, carried, end_of}
+use Rattle.line_arbiter.specs.Streams.{end_at, front_of, numbered, stream_to}
+use Rattle.line_arbiter.specs.Holding.{held_at}
+use Rattle.line_arbiter.specs.States.{State, held_of}
+use Rattle.line_arbiter.specs.Fits.{Fits}
+
+pub length-stream : (P : List Arrival) (n : ℕ) → length (stream_to P n) ≡ n + length (end_at (end_of P) (n + 1))
+length-stream P n = omega (arith, length-append (map (numbered P) (range_with_len 1 n)) (end_at (end_of P) (n + 1)), length-map-range_with_len (numbered P) 1 n)
+
+some_if : {X : Type 0} (b : Bool) (x : X) → 0 < length (if b then x ∷ [] else []) → b ≡ true
+some_if true x h = refl
+some_if false x h = absurd (omega arith)
+
+most_if : {X : Type 0} (b : Bool) (x : X) → length (if b then x ∷ [] else []) ≤ 1
+most_if true x = omega arith
+most_if false x = omega arith
+
+-- End takes one place at most, and then stands at its number
+pub end_len : (o : Option ℕ) (m : ℕ) → 0 < length (end_at o m) → o ≡ Some m
+end_len None m h = absurd (omega arith)
+end_len (Some e) m h = ap (λ (k : ℕ). Some k) (eqb-true e m (some_if (e == m) (record { number = m; item = items.End }) h))
+
+pub end_most : (o : Option ℕ) (m : ℕ) → length (end_at o m) ≤ 1
+end_most None m = omega arith
+end_most (Some e) m = most_if (e == m) (record { number = m; item = items.End })
+
+-- the cursor is not past the front, or End was sent
+pub cursor : (s : State) (P : List Arrival) → Fits s P → (s.sent ≤ front_of P) ⊎ ((s.sent ≡ front_of P + 1) × (end_of P ≡ Some (front_of P + 1)))
+cursor s P fits = elim (cases_lt (front_of P) s.sent) [
+  | inl past ↦ inr (let within : s.sent ≤ length (stream_to P (front_of P)) = fits.sent in let len = length-stream P (front_of P) in let most = end_most (end_of P) (front_of P + 1) in
+      (omega arith, end_len (end_of P) (front_of P + 1) (omega arith)))
+  | inr le ↦ inl le
+]
+
+-- what is held past the last item sent is what was taken
+pub held_is : (s : State) (P : List Arrival) → Fits s P → (m : ℕ) → s.sent < m → held_at (held_of s) m ≡ carried P m
+held_is s P fits m h = let no : nat_le m s.sent ≡ false = lt-leb m s.sent h in fits.held m ∙ ap (λ (b : Bool). if b then None else carried P m) no

@@ -1,0 +1,85 @@
+-- How far the session is whole.
+use Rattle.std.proofs.Common.{◌≡◌, ℕ, ◌+◌, ◌-◌, ◌<◌, ◌≤◌, Bool, true, false, cond, List, [], ◌∷◌, get_or, Option, Some, None, refl, sym, ap, subst, ◌∙◌, arith, inl, inr}
+use Rattle.std.specs.Prelude.{IsSome, is_some, fold, max, ◌&&◌, if◌then◌else◌}
+use Rattle.std.specs.List.{find, range_with_len}
+use Rattle.std.specs.Option.{option_map}
+use Rattle.std.proofs.lemmas.Bool.{cases_lt, false≢true}
+use Rattle.std.proofs.lemmas.Bool.Decides.{nat_tests}
+use Rattle.std.proofs.lemmas.List.Sums.{prefix_len-le-length, prefix_len_passes, prefix_len_stops}
+use Rattle.std.proofs.lemmas.List.FromFn.{length-range_with_len, get_or-range_with_len}
+use Rattle.mold_packet.specs.Content.{Content}
+use Rattle.line_arbiter.specs.Packets.{Arrival, bringer, brings, carried, has_number, item_at, is_taken, last_of, top_of}
+use Rattle.line_arbiter.specs.Streams.{front_of}
+
+-- 1 to n were all taken, and the next wasn't
+pub record IsFront (P : List Arrival) (n : ℕ) : Type 0 where
+  pub all : (m : ℕ) → 1 ≤ m → m ≤ n → IsSome (carried P m)
+  pub next : carried P (n + 1) ≡ None
+
+-- nothing above the greatest number that was taken is carried
+abbrev topped : ℕ → Arrival → ℕ
+topped n a = if is_taken a.answer then max n (last_of a.packet) else n
+
+top_grows : (P : List Arrival) (n : ℕ) → n ≤ fold topped n P
+top_grows [] n = omega arith
+top_grows (a ∷ P) n = let step = top_step n (is_taken a.answer) (last_of a.packet) in let rest = top_grows P (topped n a) in omega arith
+  where
+    top_step : (n : ℕ) (b : Bool) (k : ℕ) → n ≤ (if b then max n k else n)
+    top_step n true k = omega arith
+    top_step n false k = omega arith
+
+not_in : (p : Content) (m : ℕ) → last_of p < m → has_number p m ≡ false
+not_in p m h = grind (arith, nat_tests)
+
+brings_none : (n m : ℕ) (b : Bool) (p : Content) → (if b then max n (last_of p) else n) < m → (b && has_number p m) ≡ false
+brings_none n m true p h = not_in p m (omega arith)
+brings_none n m false p h = refl
+
+bringer_above : (P : List Arrival) (n m : ℕ) → fold topped n P < m → bringer P m ≡ None
+bringer_above [] n m h = refl
+bringer_above (a ∷ P) n m h =
+    let grows = top_grows P (topped n a) in
+    let here : brings m a ≡ false = brings_none n m (is_taken a.answer) a.packet (omega arith) in
+    ap (λ (b : Bool). cond b (Some a) (find (brings m) P)) here ∙ bringer_above P (topped n a) m h
+
+pub carried_above : (P : List Arrival) (m : ℕ) → top_of P < m → carried P m ≡ None
+carried_above P m h = ap (λ (o : Option Arrival). option_map (λ (a : Arrival). item_at a.packet m) o) (bringer_above P 0 m h)
+
+none_is : {X : Type 0} (o : Option X) → is_some o ≡ false → o ≡ None
+none_is None h = refl
+none_is (Some x) h = absurd (false≢true (sym h))
+
+pub front_is : (P : List Arrival) → IsFront P (front_of P)
+front_is P =
+    let numbers = range_with_len 1 (top_of P) in
+    let test = λ (m : ℕ). is_some (carried P m) in
+    let len = length-range_with_len 1 (top_of P) in
+    let most = prefix_len-le-length test numbers in
+    record {
+      all = λ m one within.
+          let at : get_or numbers (m - 1) 0 ≡ m = get_or-range_with_len 1 (top_of P) (m - 1) 0 (omega arith) ∙ omega arith in
+          subst (λ (k : ℕ). IsSome (carried P k)) at (prefix_len_passes test numbers (m - 1) 0 (omega arith));
+      next = elim (cases_lt (front_of P) (top_of P)) [
+        | inl lt ↦
+            let at : get_or numbers (front_of P) 0 ≡ front_of P + 1 = get_or-range_with_len 1 (top_of P) (front_of P) 0 lt ∙ omega arith in
+            none_is (carried P (front_of P + 1)) (subst (λ (k : ℕ). is_some (carried P k) ≡ false) at (prefix_len_stops test numbers 0 (omega arith)))
+        | inr le ↦ carried_above P (front_of P + 1) (omega arith)
+      ];
+    }
+
+some_not_none : {X : Type 0} (o : Option X) → IsSome o → o ≡ None → ⊥
+some_not_none None h e = false≢true h
+some_not_none (Some x) h e = cc
+
+pub front_unique : (P : List Arrival) (m n : ℕ) → IsFront P m → IsFront P n → m ≡ n
+front_unique P m n a b = elim (cases_lt m n) [
+  | inl lt ↦ absurd (some_not_none (carried P (m + 1)) (b.all (m + 1) (omega arith) (omega arith)) a.next)
+  | inr le ↦ elim (cases_lt n m) [
+    | inl lt ↦ absurd (some_not_none (carried P (n + 1)) (a.all (n + 1) (omega arith) (omega arith)) b.next)
+    | inr ge ↦ omega arith
+  ]
+]
+
+-- a number is the front where 1 up to it were taken and the next wasn't
+pub front_of-unique : (P : List Arrival) (n : ℕ) → IsFront P n → n ≡ front_of P
+front_of-unique P n is = front_unique P n (front_of P) is (front_is P)

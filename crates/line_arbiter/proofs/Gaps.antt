@@ -1,0 +1,104 @@
+-- How many messages are missing at the front.
+use Rattle.std.proofs.Common.{◌≡◌, ℕ, ◌+◌, ◌-◌, ◌<◌, ◌≤◌, Bool, true, false, List, Option, Some, None, refl, sym, ap, ◌∙◌, arith, inl, inr}
+use Rattle.std.specs.Prelude.{◌⊎◌, IsSome, is_none, fold, max, min, ◌==◌, if◌then◌else◌}
+use Rattle.std.specs.List.{range_with_len, prefix_len}
+use Rattle.std.specs.Option.{option_map_or}
+use Rattle.std.proofs.lemmas.Bool.{false≢true, ne_eqb}
+use Rattle.std.proofs.lemmas.List.FromFn.{length-range_with_len, get_or-range_with_len}
+use Rattle.std.proofs.lemmas.List.Sums.{prefix_len_is, prefix_len-le-length}
+use Rattle.feed_types.specs.declared.item.Item.{Item}
+use Rattle.line_arbiter.specs.Packets.{Arrival, carried, end_of, heard, known_of}
+use Rattle.line_arbiter.specs.Streams.{front_of, gap_of, missing_count}
+use Rattle.line_arbiter.specs.Holding.{held_at}
+use Rattle.line_arbiter.specs.States.{State, held_of}
+use Rattle.line_arbiter.specs.Fits.{Fits}
+use Rattle.line_arbiter.proofs.Cursors.{cursor, held_is}
+
+-- a run of numbers that pass a test, up to the first that doesn't or to the range's end
+run_is : (q : ℕ → Bool) (a len n : ℕ) → n ≤ len → ((m : ℕ) → a ≤ m → m < a + n → q m ≡ true) → (n < len → q (a + n) ≡ false) → prefix_len q (range_with_len a len) ≡ n
+run_is q a len n within all stop = prefix_len_is q (range_with_len a len) n 0
+    (omega (arith, length-range_with_len a len))
+    (λ k below. ap q (get_or-range_with_len a len k 0 (omega arith)) ∙ all (a + k) (omega arith) (omega arith))
+    (λ more. let inside : n < len = omega (arith, length-range_with_len a len) in ap q (get_or-range_with_len a len n 0 inside) ∙ stop inside)
+
+is_held : (o : Option Item) → IsSome o → is_none o ≡ false
+is_held None h = absurd (false≢true h)
+is_held (Some x) h = refl
+
+-- once End was sent, the session is known to go as far as it is whole
+ended_known : (P : List Arrival) → end_of P ≡ Some (front_of P + 1) → known_of P ≡ front_of P
+ended_known P is = ap (λ (o : Option ℕ). option_map_or (λ e. e - 1) o (fold (λ k a. max k (heard a)) 0 P)) is ∙ omega arith
+
+-- past the front the numbers to ask for are past the last item sent too
+past_sent : (s : State) (P : List Arrival) → Fits s P → front_of P < min (known_of P) (s.sent + s.window) → s.sent ≤ front_of P
+past_sent s P fits more = elim (cursor s P fits) [
+  | inl within ↦ within
+  | inr ended ↦ let known = ended_known P ended.1 in absurd (omega arith)
+]
+
+-- Where nothing is held at the n numbers after the front, up to the last one that is known and in the window or to one
+-- where an item is held, n is how many are missing.
+pub missing_count-held : (s : State) (P : List Arrival) (n : ℕ) → Fits s P
+    → ((m : ℕ) → s.front < m → m ≤ s.front + n → held_at (held_of s) m ≡ None)
+    → s.front + n ≤ max s.front (min s.known (s.sent + s.window))
+    → (s.front + n ≡ max s.front (min s.known (s.sent + s.window))) ⊎ IsSome (held_at (held_of s) (s.front + n + 1))
+    → missing_count s.window s.sent P ≡ n
+missing_count-held s P n fits none within stop =
+    let front = fits.front in
+    let known = fits.known in
+    let next : s.front + n + 1 ≡ front_of P + 1 + n = omega arith in
+    run_is (λ m. is_none (carried P m)) (front_of P + 1) (min (known_of P) (s.sent + s.window) - front_of P) n
+    (omega arith)
+    (λ m low high. let sent = past_sent s P fits (omega arith) in ap (λ (o : Option Item). is_none o) (sym (held_is s P fits m (omega arith)) ∙ none m (omega arith) (omega arith)))
+    (λ more. elim stop [
+      | inl all ↦ absurd (omega arith)
+      | inr found ↦
+          let sent = past_sent s P fits (omega arith) in
+          ap (λ (m : ℕ). is_none (carried P m)) (sym next) ∙ ap (λ (o : Option Item). is_none o) (sym (held_is s P fits (s.front + n + 1) (omega arith))) ∙ is_held (held_at (held_of s) (s.front + n + 1)) found
+    ])
+
+-- no more is asked for than the window is wide
+pub gap-ranges : (s : State) (P : List Arrival) → Fits s P → missing_count s.window s.sent P ≤ s.window
+gap-ranges s P fits =
+    let most = prefix_len-le-length (λ m. is_none (carried P m)) (range_with_len (front_of P + 1) (min (known_of P) (s.sent + s.window) - front_of P)) in
+    let len = length-range_with_len (front_of P + 1) (min (known_of P) (s.sent + s.window) - front_of P) in
+    elim (cursor s P fits) [
+      | inl within ↦ omega arith
+      | inr ended ↦ let known = ended_known P ended.1 in omega arith
+    ]
+
+-- and nothing past what is known
+pub gap_known : (s : State) (P : List Arrival) → Fits s P → s.front + missing_count s.window s.sent P ≤ max s.front s.known
+gap_known s P fits =
+    let most = prefix_len-le-length (λ m. is_none (carried P m)) (range_with_len (front_of P + 1) (min (known_of P) (s.sent + s.window) - front_of P)) in
+    let len = length-range_with_len (front_of P + 1) (min (known_of P) (s.sent + s.window) - front_of P) in
+    let front = fits.front in
+    let known = fits.known in
+    omega arith
+
+-- so many numbers past the front hold nothing, up to the window's width, the limit, or the first that holds an item
+pub record IsMissing (s : State) (n : ℕ) : Type 0 where
+  pub free : (m : ℕ) → s.front < m → m ≤ s.front + n → held_at (held_of s) m ≡ None
+  pub within : s.front + n ≤ max s.front (min s.known (s.sent + s.window))
+  pub stop : (n ≡ s.window) ⊎ (s.front + n ≡ max s.front (min s.known (s.sent + s.window))) ⊎ IsSome (held_at (held_of s) (s.front + n + 1))
+
+missing_is : (s : State) (P : List Arrival) (n : ℕ) → Fits s P → IsMissing s n → missing_count s.window s.sent P ≡ n
+missing_is s P n fits missing =
+    let within = missing.within in
+    missing_count-held s P n fits missing.free within (elim missing.stop [
+      | inl wide ↦ inl (elim (cursor s P fits) [
+        | inl before ↦ let front = fits.front in omega arith
+        | inr ended ↦ let known = ended_known P ended.1 in let front = fits.front in let same = fits.known in omega arith
+      ])
+      | inr other ↦ other
+    ])
+
+pub gap_of-none : (s : State) (P : List Arrival) (n : ℕ) → Fits s P → IsMissing s n → n ≡ 0 → None ≡ gap_of s.session s.window s.sent P
+gap_of-none s P n fits missing none = sym (ap (λ (k : ℕ). if k == 0 then None else Some (record { session = s.session; number = front_of P + 1; count = k })) (missing_is s P n fits missing ∙ none))
+
+pub gap_of-some : (s : State) (P : List Arrival) (n : ℕ) → Fits s P → IsMissing s n → (n ≡ 0 → ⊥) → Some (record { session = s.session; number = s.front + 1; count = n }) ≡ gap_of s.session s.window s.sent P
+gap_of-some s P n fits missing some =
+    sym (
+    ap (λ (k : ℕ). if k == 0 then None else Some (record { session = s.session; number = front_of P + 1; count = k })) (missing_is s P n fits missing)
+    ∙ ap (λ (b : Bool). if b then None else Some (record { session = s.session; number = front_of P + 1; count = n })) (ne_eqb n 0 some)
+    ∙ ap (λ (k : ℕ). Some (record { session = s.session; number = k + 1; count = n })) (sym fits.front))

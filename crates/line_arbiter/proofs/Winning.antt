@@ -1,0 +1,88 @@
+-- What a line has won when one more packet has come.
+use Rattle.std.proofs.Common.{◌≡◌, ℕ, ◌+◌, ◌-◌, ◌≤◌, Bool, true, false, List, [], ◌∷◌, ◌++◌, length, Option, Some, None, refl, sym, ap, ◌∙◌, arith}
+use Rattle.std.specs.Prelude.{◌&&◌, is_none, max, count_by, if◌then◌else◌}
+use Rattle.std.specs.List.{range_with_len}
+use Rattle.std.specs.Option.{option_map, option_map_or, option_or}
+use Rattle.std.proofs.lemmas.Bool.{and_right}
+use Rattle.std.proofs.lemmas.Bool.Decides.{nat_tests}
+use Rattle.feed_types.specs.declared.line.LineId.{LineId}
+use Rattle.mold_packet.specs.Content.{Content}
+use Rattle.line_arbiter.specs.Packets.{Arrival, bringer, carried, has_number, is_taken, item_at, last_of, top_of}
+use Rattle.line_arbiter.specs.Streams.{is_same_line, wins_of}
+use Rattle.line_arbiter.specs.Outcomes.{new_count}
+use Rattle.line_arbiter.proofs.Counting.{one_if, count_sum, count_same, count_none, count_split, count_past}
+use Rattle.line_arbiter.proofs.Bringing.{bringer-push, none_above, top_of-push}
+
+-- the first to bring the number came on the line
+abbrev is_won : List Arrival → LineId → ℕ → Bool
+is_won P line m = option_map_or (λ a. is_same_line a.line line) (bringer P m) false
+
+-- the packet is the first to bring the number, and came on the line
+abbrev wins_it : List Arrival → Arrival → LineId → ℕ → Bool
+wins_it P a line m = (is_taken a.answer && is_same_line a.line line) && (is_none (bringer P m) && has_number a.packet m)
+
+and_true : (b : Bool) → (b && true) ≡ b
+and_true true = refl
+and_true false = refl
+
+-- a number has one first bringer: it is counted before, or now, or not
+counted_once : (f : Arrival → Bool) (a : Arrival) (o : Option Arrival) (t h s : Bool) → f a ≡ s
+    → one_if (option_map_or f (option_or o (if t && h then Some a else None)) false) ≡ one_if (option_map_or f o false) + one_if ((t && s) && (is_none o && h))
+counted_once f a (Some x) t h s e = let none : ((t && s) && false) ≡ false = and_right (t && s) false refl in omega (arith, ap one_if none)
+counted_once f a None true true s e = let same : f a ≡ (s && true) = e ∙ sym (and_true s) in omega (arith, ap one_if same)
+counted_once f a None true false s e = let none : (s && false) ≡ false = and_right s false refl in omega (arith, ap one_if none)
+counted_once f a None false h s e = refl
+
+won_once : (P : List Arrival) (a : Arrival) (line : LineId) (m : ℕ) → one_if (is_won (P ++ a ∷ []) line m) ≡ one_if (is_won P line m) + one_if (wins_it P a line m)
+won_once P a line m =
+    ap (λ (o : Option Arrival). one_if (option_map_or (λ (x : Arrival). is_same_line x.line line) o false)) (bringer-push P a m)
+    ∙ counted_once (λ (x : Arrival). is_same_line x.line line) a (bringer P m) (is_taken a.answer) (has_number a.packet m) (is_same_line a.line line) refl
+
+-- above the greatest number that was taken nothing is won
+won_to : (P : List Arrival) (line : LineId) (n : ℕ) → top_of P ≤ n → wins_of P line ≡ count_by (is_won P line) (range_with_len 1 n)
+won_to P line n within = count_past (is_won P line) 1 (top_of P) n within (λ m above. ap (λ (o : Option Arrival). option_map_or (λ (x : Arrival). is_same_line x.line line) o false) (none_above P m (omega arith)))
+
+-- a packet's numbers among those from 1 on
+own_numbers : (q : ℕ → Bool) (p : Content) (n : ℕ) → 1 ≤ p.number → p.number - 1 + length p.messages ≤ n
+    → count_by (λ m. q m && has_number p m) (range_with_len 1 n) ≡ count_by q (range_with_len p.number (length p.messages))
+own_numbers q p n one within =
+    let r : ℕ → Bool = λ (m : ℕ). q m && has_number p m in
+    let start : 1 + (p.number - 1) ≡ p.number = omega arith in
+    let to_end = count_past r 1 (p.number - 1 + length p.messages) n within (λ m past. let no : has_number p m ≡ false = grind (arith, nat_tests) in and_right (q m) (has_number p m) no) in
+    let before = count_none r 1 (p.number - 1) (λ m low high. let no : has_number p m ≡ false = grind (arith, nat_tests) in and_right (q m) (has_number p m) no) in
+    let own = count_same r q p.number (length p.messages) (λ m low high. let its : has_number p m ≡ true = grind (arith, nat_tests) in ap (λ (b : Bool). q m && b) its ∙ and_true (q m)) in
+    let there : count_by r (range_with_len (1 + (p.number - 1)) (length p.messages)) ≡ count_by r (range_with_len p.number (length p.messages)) = ap (λ (a : ℕ). count_by r (range_with_len a (length p.messages))) start in
+    omega (arith, count_split r 1 (p.number - 1) (length p.messages))
+
+no_item : {A B : Type 0} (f : A → B) (o : Option A) → is_none o ≡ is_none (option_map f o)
+no_item f None = refl
+no_item f (Some x) = refl
+
+-- what the packet wins
+won_now : (P : List Arrival) (a : Arrival) (line : LineId) (n : ℕ) → 1 ≤ a.packet.number → a.packet.number - 1 + length a.packet.messages ≤ n
+    → count_by (wins_it P a line) (range_with_len 1 n) ≡ (if is_taken a.answer && is_same_line a.line line then new_count P a.packet else 0)
+won_now P a line n one within = by_test (is_taken a.answer && is_same_line a.line line)
+  where
+    by_test : (b : Bool) → count_by (λ m. b && (is_none (bringer P m) && has_number a.packet m)) (range_with_len 1 n) ≡ (if b then new_count P a.packet else 0)
+    by_test true =
+        own_numbers (λ m. is_none (bringer P m)) a.packet n one within
+        ∙ count_same (λ m. is_none (bringer P m)) (λ m. is_none (carried P m)) a.packet.number (length a.packet.messages) (λ m low high. no_item (λ (x : Arrival). item_at x.packet m) (bringer P m))
+    by_test false = count_none (λ m. false) 1 n (λ m low high. refl)
+
+top_within : (P : List Arrival) (a : Arrival) → top_of (P ++ a ∷ []) ≤ top_of P + (a.packet.number - 1 + length a.packet.messages)
+top_within P a = omega (arith, top_of-push P a, pick (is_taken a.answer))
+  where
+    pick : (b : Bool) → (if b then max (top_of P) (last_of a.packet) else top_of P) ≤ top_of P + (a.packet.number - 1 + length a.packet.messages)
+    pick true = omega arith
+    pick false = omega arith
+
+-- one more packet wins for its line those of its numbers that were not taken before
+pub wins_of-push : (P : List Arrival) (a : Arrival) (line : LineId) → 1 ≤ a.packet.number
+    → wins_of (P ++ a ∷ []) line ≡ wins_of P line + (if is_taken a.answer && is_same_line a.line line then new_count P a.packet else 0)
+wins_of-push P a line one =
+    let n : ℕ = top_of P + (a.packet.number - 1 + length a.packet.messages) in
+    let old = won_to P line n (omega arith) in
+    let new = won_to (P ++ a ∷ []) line n (top_within P a) in
+    let sum = count_sum (is_won (P ++ a ∷ []) line) (is_won P line) (wins_it P a line) 1 n (λ m low high. won_once P a line m) in
+    let now = won_now P a line n one (omega arith) in
+    new ∙ sum ∙ omega arith

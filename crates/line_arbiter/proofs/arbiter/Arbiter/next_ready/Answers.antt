@@ -1,0 +1,13 @@
+use Rattle.std.proofs.Common.{◌∙◌, ap, ◌≡◌}
+use Rattle.std.specs.Prelude.{slice_get}
+use Rattle.line_arbiter.specs.Streams.{stream_to}
+use Rattle.line_arbiter.proofs.Standing.{stands_of}
+use Rattle.line_arbiter.proofs.Nexts.{next_is}
+use Rattle.line_arbiter.proofs.Genuine.{next_allowed}
+use Rattle.line_arbiter.proofs.arbiter.Arbiter.next_ready.Goals as goal
+
+pub returns-clause-stream : goal.returns-clause-stream
+returns-clause-stream g c P fits = c.ready.ensures.value ∙ next_is _ P c.ready.ensures.sound (stands_of fits) ∙ ap (λ n. slice_get (stream_to P n) c.args.self.now.sent) fits.front
+
+pub returns-clause-genuine : goal.returns-clause-genuine
+returns-clause-genuine g c P fits all = rw c.ready.ensures.value (next_allowed g.G.Genuine.carries g.G.Genuine.ends _ _ _ P (stands_of fits) all)

@@ -1,0 +1,52 @@
+use Rattle.std.proofs.Common.{ℕ, ◌∙◌, length, ap, arith}
+use Rattle.line_arbiter.specs.Steps.{TakesIn}
+use Rattle.line_arbiter.specs.States.{State}
+use Rattle.line_arbiter.proofs.Filling.{fresh_most}
+use Rattle.line_arbiter.proofs.Turns.{numbers_fit}
+use Rattle.line_arbiter.proofs.Soundness.{sound_after}
+use Rattle.line_arbiter.proofs.arbiter.Arbiter.take_messages.Given.{Over}
+use Rattle.line_arbiter.proofs.arbiter.Arbiter.take_messages.Goals as goal
+use Rattle.line_arbiter.proofs.arbiter.Arbiter.take_messages.Goals.{After-count}
+
+module _ (g : Over) (c : After-count g) where
+  -- the state with the window and the cursor as they are after the filling
+  at : ℕ → ℕ → State
+  at width base =
+      let i = c.self.inside in
+      record { venue = i.venue_id; sessions = i.names.items; session = i.session_name; window = width; sent = base; front = c.run_end-self-inside.result; known = c.raised-self-inside-2.result; end = i.end_number; places = c.fill-new.new.window.places; wins = c.add.new.self; earlier = i.won_before }
+
+  old : State
+  old =
+      let i = c.self.inside in
+      record { venue = i.venue_id; sessions = i.names.items; session = i.session_name; window = i.held.width; sent = i.held.base; front = i.run_to; known = i.known_to; end = i.end_number; places = i.held.places; wins = i.won; earlier = i.won_before }
+
+  takes : TakesIn c.args.line c.fill-new.result old (at c.fill-new.new.window.width c.fill-new.new.window.base) c.args.packet.now
+  unfolding at old
+  takes = record {
+    held = c.fill-new.ensures.after;
+    from = c.run_end-self-inside.ensures.from;
+    run = c.run_end-self-inside.ensures.run;
+    stop = c.run_end-self-inside.ensures.stop;
+    known = rw (← c.last_number-last.ensures.value) c.raised-self-inside-2.ensures;
+    wins = c.add.ensures;
+    others = ap (λ (width : ℕ). at width c.fill-new.new.window.base) c.fill-new.ensures.width ∙ ap (λ (base : ℕ). at c.self.inside.held.width base) c.fill-new.ensures.base;
+  }
+
+pub overflow_sub-result : goal.overflow_sub-result
+overflow_sub-result g c = let k = c.fill-new.ensures.count in let n = c.count.ensures in omega (arith, fresh_most (length c.args.packet.now.messages) c.self.inside.held.base c.self.inside.held c.args.packet.now)
+
+pub invariant_of-self-2 : goal.invariant_of-self-2
+unfolding at old
+invariant_of-self-2 g c =
+    sound_after c.args.line c.fill-new.result _ _ c.args.packet.now c.self.invariant (numbers_fit c.args.packet.now c.last_number-last.ensures.content) (rw (← c.last_number-last.ensures.value) c.if-is_past.ensures) (takes g (goal.at.invariant_of-self-2 g c).After-count)
+
+pub returns : goal.returns
+unfolding at old
+returns g c = rw (← c.self.view_is) (
+  takes g (goal.at.returns g c).After-count,
+  rw (← c.last_number-last.ensures.value) c.if-is_past.ensures,
+  let f = c.if-saturating_sub-from.false in let a = c.saturating_sub.ensures in let b = c.from.ensures in let l = c.last_number-last.ensures.value in let w = c.width.ensures.value in let s = c.base.ensures in omega arith,
+  c.if-disagrees.ensures,
+  c.fill-new.ensures.count,
+  let k = c.fill-new.ensures.count in let n = c.count.ensures in omega (arith, fresh_most (length c.args.packet.now.messages) c.self.inside.held.base c.self.inside.held c.args.packet.now),
+)

@@ -1,0 +1,11 @@
+pub mod Packets
+pub mod Streams
+pub mod Outcomes
+pub mod Holding
+pub mod States
+pub mod Fits
+pub mod Steps
+pub mod Renewals
+pub mod Carrying
+pub mod Pacing
+pub mod Codes

@@ -1,0 +1,62 @@
+-- What comes out: the items in sequence up to the first gap, the gap, and who brought what.
+use Rattle.std.specs.Prelude.{ℕ, ◌+◌, ◌-◌, Bool, true, false, ◌==◌, List, [], ◌∷◌, ◌++◌, length, map, flat_map, count_by, min, Option, Some, None, is_some, is_none, unwrap_or, if◌then◌else◌}
+use Rattle.std.specs.List.{range_with_len, prefix_len}
+use Rattle.std.specs.Option.{option_map_or}
+use Rattle.feed_types.specs.declared.item.Item.{Item}
+use Rattle.feed_types.specs.declared.item.Item.TheVariants as items
+use Rattle.feed_types.specs.declared.item.Numbered.{Numbered}
+use Rattle.feed_types.specs.declared.line.LineId.{LineId}
+use Rattle.feed_types.specs.declared.line.LineId.TheVariants.{A, B, Recovery}
+use Rattle.mold_packet.specs.declared.request.Request.{Request}
+use Rattle.line_arbiter.specs.Packets.{Arrival, bringer, carried, top_of, end_of, known_of}
+
+-- how far the session is whole: how many of the numbers 1, 2, .. were taken before the first that wasn't
+abbrev pub front_of : List Arrival → ℕ
+front_of P = prefix_len (λ m. is_some (carried P m)) (range_with_len 1 (top_of P))
+
+abbrev pub numbered : List Arrival → ℕ → Numbered
+numbered P m = record { number = m; item = unwrap_or (carried P m) items.Other }
+
+-- the End item, where the end is announced at this number
+abbrev pub end_at : Option ℕ → ℕ → List Numbered
+end_at None m = []
+end_at (Some e) m = if e == m then record { number = m; item = items.End } ∷ [] else []
+
+-- messages 1 to n, and then End where it is the next number
+abbrev pub stream_to : List Arrival → ℕ → List Numbered
+stream_to P n = map (numbered P) (range_with_len 1 n) ++ end_at (end_of P) (n + 1)
+
+-- the items in sequence: the messages up to the first gap, and End where it follows
+abbrev pub stream_of : List Arrival → List Numbered
+stream_of P = stream_to P (front_of P)
+
+-- the streams of a venue's sessions, one after another
+abbrev pub streams_of : List (List Arrival) → List Numbered
+streams_of sessions = flat_map stream_of sessions
+
+-- how many numbers from the front on are missing, as far as the window and what is known of go
+abbrev pub missing_count : ℕ → ℕ → List Arrival → ℕ
+missing_count window sent P = prefix_len (λ m. is_none (carried P m)) (range_with_len (front_of P + 1) (min (known_of P) (sent + window) - front_of P))
+
+-- the run of messages to ask for
+abbrev pub gap_of : List ℕ → ℕ → ℕ → List Arrival → Option Request
+gap_of session window sent P = if missing_count window sent P == 0 then None else Some (record { session = session; number = front_of P + 1; count = missing_count window sent P })
+
+-- how many taken messages are still to be sent
+abbrev pub held_count : ℕ → List Arrival → ℕ
+held_count sent P = count_by (λ m. is_some (carried P m)) (range_with_len (sent + 1) (top_of P - sent))
+
+abbrev pub is_same_line : LineId → LineId → Bool
+is_same_line A A = true
+is_same_line A B = false
+is_same_line A Recovery = false
+is_same_line B A = false
+is_same_line B B = true
+is_same_line B Recovery = false
+is_same_line Recovery A = false
+is_same_line Recovery B = false
+is_same_line Recovery Recovery = true
+
+-- how many numbers came first on the line
+abbrev pub wins_of : List Arrival → LineId → ℕ
+wins_of P line = count_by (λ m. option_map_or (λ a. is_same_line a.line line) (bringer P m) false) (range_with_len 1 (top_of P))

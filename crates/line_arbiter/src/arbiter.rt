@@ -1,0 +1,359 @@
+//! One venue's lines, in sequence.
+
+ghost use Rattle.std.specs.Prelude.{◌≡◌, ◌∷◌, ◌++◌, ◌↔◌, ◌+◌, ◌^◌, ◌<◌, ◌≤◌, ℕ, List, [], IfOk, IfErr, IfSome, IsOk, IsSome, IsErrOf, OnErr, OnOk, slice_get, MatchBool, Some, None, length};
+ghost use Rattle.feed_types.specs.Sequence.{IsAllowed};
+ghost use Rattle.mold_packet.specs.Content.{IsContent};
+ghost use Rattle.line_arbiter.specs.Packets.{Arrival, last_of};
+ghost use Rattle.line_arbiter.specs.Streams.{stream_of, gap_of, wins_of};
+ghost use Rattle.line_arbiter.specs.Outcomes.{IsOutcome};
+ghost use Rattle.line_arbiter.specs.States.{ordinal_of, next_of, new_state, count_on, shown, KeepsItsPlace};
+ghost use Rattle.line_arbiter.specs.Fits.{Fits, status_of};
+ghost use Rattle.line_arbiter.specs.Steps.{IsSound, IsAdvanced, IsBefore, MessagesStep, HeartbeatStep, EndStep, PacketStep, raised as raised_to};
+ghost use Rattle.line_arbiter.specs.Renewals.{IsRenewal, renewed};
+ghost use Rattle.line_arbiter.specs.Carrying.{AreGenuine};
+
+use crate::faults::{ArbiterFault, RenewFault};
+use crate::intake::{disagrees, fill, missing_after, run_end};
+use crate::outcome::{LineFault, Outcome};
+use crate::window::Window;
+use crate::wins::Wins;
+use arrayvec::ArrayVec;
+use feed_types::{Genuine, Item, LineId, Numbered, VenueId};
+use mold_packet::{Kind, Packet, Request};
+use std::alloc::Global;
+use std::marker::{Model, PhantomData};
+
+/// The greatest window, in messages.
+const MAX_WINDOW: u32 = 65_535;
+
+/// How many sessions a venue has at most.
+const MAX_SESSIONS: usize = 64;
+
+/// How far a venue's present session has come. Numbers count from 1.
+#[derive(Clone, Copy, Debug, PartialEq, Eq)]
+pub struct ArbiterStatus {
+    /// The number of the last item advanced past, 0 at first. End has a number of its own.
+    pub sent: u64,
+    /// The greatest number up to which every message was taken.
+    pub front: u64,
+    /// The greatest number up to which the session is known to go.
+    pub known: u64,
+    /// The announced end, one more than the last message's number.
+    pub end: Option<u64>,
+    /// How many messages were taken and not yet advanced past.
+    pub held: u32,
+}
+
+fn last_number(packet: &Packet<'_>) -> u64
+    requires { packet.now.kind ≡ Kind.Messages }
+    ensures value { result ≡ last_of packet.now }
+    ensures content { IsContent packet.now }
+{
+    packet.number() + u64::from(packet.count() - 1)
+}
+
+/// Whether the end is announced at the number or below it.
+fn is_past(end: Option<u64>, number: u64) -> bool
+    ensures { MatchBool result ((e : ℕ) × (end ≡ Some e) × (e ≤ number)) (IsBefore end number) }
+{
+    match end {
+        Some(end) => end <= number,
+        None => false,
+    }
+}
+
+/// The number up to which messages are known of, after one more number is heard of.
+fn raised(known: u64, end: Option<u64>, to: u64) -> u64
+    ensures { result ≡ raised_to known end to }
+{
+    if end.is_some() { known } else { known.max(to) }
+}
+
+/// What was taken from a venue's lines and not yet sent on.
+///
+/// `G` names what the lines may carry ([`Genuine`]); [`feed_types::Anything`] where nothing is known.
+#[derive(Drop)]
+pub struct Arbiter<G> {
+    venue_id: VenueId,
+    names: ArrayVec<[u8; 10], MAX_SESSIONS>,
+    session_name: [u8; 10],
+    held: Window,
+    run_to: u64,
+    known_to: u64,
+    end_number: Option<u64>,
+    won: Wins,
+    won_before: Wins,
+    lines: PhantomData<G>,
+}
+
+impl<G> Model for Arbiter<G> {
+    ghost use Rattle.line_arbiter.specs.States.{State};
+    ghost use Rattle.line_arbiter.specs.Steps.{IsSound};
+
+    ghost Value = { State };
+
+    ghost view = { λ a. record { venue = a.venue_id; sessions = a.names.items; session = a.session_name; window = a.held.width; sent = a.held.base; front = a.run_to; known = a.known_to; end = a.end_number; places = a.held.places; wins = a.won; earlier = a.won_before } };
+
+    ghost invariant = { λ a. IsSound (record { venue = a.venue_id; sessions = a.names.items; session = a.session_name; window = a.held.width; sent = a.held.base; front = a.run_to; known = a.known_to; end = a.end_number; places = a.held.places; wins = a.won; earlier = a.won_before }) };
+}
+
+impl<G: Genuine> Arbiter<G> {
+    /// An arbiter of the venue's first session, whose name is ten bytes, filled on the right with
+    /// spaces. The window is how many messages past the last item sent are held, 1 to 65,535; another
+    /// one is refused as BadWindow. It takes its memory here and none later; where there is none, the
+    /// answer is NoMemory.
+    pub fn new(
+        alloc: Global,
+        venue: VenueId,
+        session: [u8; 10],
+        window: u32,
+    ) -> Result<Self, ArbiterFault>
+        ensures made { IfOk result (λ a. a ≡ new_state venue session window) }
+        ensures fits { IfOk result (λ a. Fits a []) }
+        ensures bad_window { IsErrOf result ArbiterFault.BadWindow ↔ (¬ ((1 ≤ window) × (window ≤ 65535))) }
+    {
+        if window < 1 || window > MAX_WINDOW {
+            return Err(ArbiterFault::BadWindow);
+        }
+        let Ok(held) = Window::new(alloc, window) else {
+            return Err(ArbiterFault::NoMemory);
+        };
+        let mut names = ArrayVec::new();
+        names.push(session);
+        Ok(Arbiter {
+            venue_id: venue,
+            names,
+            session_name: session,
+            held,
+            run_to: 0,
+            known_to: 0,
+            end_number: None,
+            won: Wins::none(),
+            won_before: Wins::none(),
+            lines: PhantomData,
+        })
+    }
+
+    /// The venue whose lines these are.
+    pub fn venue(&self) -> VenueId
+        ensures { result ≡ self.now.venue }
+    {
+        self.venue_id
+    }
+
+    /// The present session's name.
+    pub fn session(&self) -> [u8; 10]
+        ensures { result ≡ self.now.session }
+    {
+        self.session_name
+    }
+
+    /// Which of the venue's sessions the present one is, counted from 1.
+    pub fn ordinal(&self) -> u64
+        ensures { result ≡ ordinal_of self.now }
+    {
+        self.names.len() as u64
+    }
+
+    fn ready(&self) -> Option<Numbered>
+        ensures value { result ≡ next_of self.now }
+        ensures sound { IsSound self.now }
+    {
+        let sent = self.held.base();
+        if let Some(item) = self.held.first() {
+            return Some(Numbered {
+                number: sent + 1,
+                item,
+            });
+        }
+        match self.end_number {
+            Some(end) if end > sent && end - sent == 1 => Some(Numbered {
+                number: end,
+                item: Item::End,
+            }),
+            _ => None,
+        }
+    }
+
+    fn drop_next(&mut self)
+        requires { IsSome (next_of self.old) }
+        ensures after { IsAdvanced self.old self.new }
+        ensures sound { IsSound self.old }
+    {
+        self.held.pass();
+    }
+
+    fn take_messages(&mut self, line: LineId, packet: &Packet<'_>) -> Result<Outcome, LineFault>
+        requires { packet.now.kind ≡ Kind.Messages }
+        ensures { MessagesStep line self.old self.new packet.now result }
+    {
+        let last = last_number(packet);
+        if is_past(self.end_number, last) {
+            return Err(LineFault::PastEnd);
+        }
+        if last.saturating_sub(self.held.base()) > u64::from(self.held.width()) {
+            self.known_to = raised(self.known_to, self.end_number, last);
+            return Ok(Outcome::Ahead);
+        }
+        if disagrees(&self.held, packet) {
+            return Err(LineFault::Conflict);
+        }
+        let new = fill(&mut self.held, packet);
+        self.run_to = run_end(&self.held, self.run_to);
+        self.known_to = raised(self.known_to, self.end_number, last);
+        self.won.add(line, new);
+        Ok(Outcome::Taken {
+            new,
+            repeated: packet.count() - new,
+        })
+    }
+
+    fn take_heartbeat(&mut self, number: u64) -> Result<Outcome, LineFault>
+        ensures { HeartbeatStep self.old self.new number result }
+    {
+        if let Some(end) = self.end_number
+            && end < number
+        {
+            return Err(LineFault::PastEnd);
+        }
+        self.known_to = raised(self.known_to, self.end_number, number.saturating_sub(1));
+        Ok(Outcome::Heartbeat)
+    }
+
+    fn take_end(&mut self, number: u64) -> Result<Outcome, LineFault>
+        requires { 1 ≤ number }
+        ensures { EndStep self.old self.new number result }
+    {
+        if let Some(end) = self.end_number {
+            return if end == number {
+                Ok(Outcome::Ended)
+            } else {
+                Err(LineFault::EndMoved)
+            };
+        }
+        if self.run_to >= number || self.held.holds_from(number) {
+            return Err(LineFault::EndTooEarly);
+        }
+        self.end_number = Some(number);
+        self.known_to = number - 1;
+        Ok(Outcome::Ended)
+    }
+
+    fn take_any(&mut self, line: LineId, packet: &Packet<'_>) -> Result<Outcome, LineFault>
+        ensures step { PacketStep line self.old self.new packet.now result }
+        ensures content { IsContent packet.now }
+    {
+        let number = packet.number();
+        if packet.session() != self.session_name {
+            return Err(LineFault::OtherSession);
+        }
+        match packet.kind() {
+            Kind::Messages => self.take_messages(line, packet),
+            Kind::Heartbeat => self.take_heartbeat(number),
+            Kind::End => self.take_end(number),
+        }
+    }
+
+    /// Takes a packet that came on a line, and answers what became of it. A refused packet changes
+    /// nothing. The refusals, in this order: another session's packet; messages at the announced end
+    /// or past it; a held message that reads otherwise; a heartbeat past the end; an end that differs
+    /// from the announced one, or lies at a message that was taken or before it.
+    pub fn take(&mut self, line: LineId, packet: &Packet<'_>) -> Result<Outcome, LineFault>
+        ensures outcome { (P : List Arrival) → Fits self.old P → IsOutcome self.old.session self.old.window self.old.sent P packet.now result }
+        ensures fits { (P : List Arrival) → Fits self.old P → Fits self.new (P ++ record { line = line; packet = packet.now; answer = result } ∷ []) }
+        ensures refused { OnErr result (self.new ≡ self.old) }
+        ensures kept { KeepsItsPlace self.old self.new }
+    {
+        self.take_any(line, packet)
+    }
+
+    /// The item after the last one advanced past, if it is there: a message, or End behind the last
+    /// one.
+    pub fn next_ready(&self) -> Option<Numbered>
+        ensures value { result ≡ next_of self.now }
+        ensures number { IfSome result (λ n. n.number ≡ self.now.sent + 1) }
+        ensures stream { (P : List Arrival) → Fits self.now P → result ≡ slice_get (stream_of P) self.now.sent }
+        ensures genuine { (P : List Arrival) → Fits self.now P → AreGenuine G.carries G.ends self.now.venue (ordinal_of self.now) P → IfSome result (λ n. IsAllowed G.carries G.ends self.now.venue (record { ordinal = ordinal_of self.now; number = n.number }) n.item) }
+    {
+        self.ready()
+    }
+
+    /// Goes past the item that is ready.
+    pub fn advance(&mut self)
+        requires { IsSome (next_of self.old) }
+        ensures after { IsAdvanced self.old self.new }
+        ensures fits { (P : List Arrival) → Fits self.old P → Fits self.new P }
+    {
+        self.drop_next();
+    }
+
+    /// The run of messages to ask for: from the first that is missing, as many as are missing in a row,
+    /// as far as the window and what is known of the session go. `None` where none is.
+    pub fn gap(&self) -> Option<Request>
+        ensures { (P : List Arrival) → Fits self.now P → result ≡ gap_of self.now.session self.now.window self.now.sent P }
+    {
+        let window_end = self
+            .held
+            .base()
+            .saturating_add(u64::from(self.held.width()));
+        let limit = self.run_to.max(self.known_to.min(window_end));
+        let count = missing_after(&self.held, self.run_to, limit);
+        if count == 0 {
+            return None;
+        }
+        Some(Request {
+            session: self.session_name,
+            number: self.run_to + 1,
+            count,
+        })
+    }
+
+    /// How many numbers the line brought first, over all sessions. The count stays at 2^64 - 1.
+    pub fn wins(&self, line: LineId) -> u64
+        ensures value { result ≡ count_on line self.now.wins }
+        ensures session { (P : List Arrival) → Fits self.now P → result ≡ shown (count_on line self.now.earlier + wins_of P line) }
+    {
+        self.won.on(line)
+    }
+
+    /// How far the present session has come.
+    pub fn status(&self) -> ArbiterStatus
+        ensures { (P : List Arrival) → Fits self.now P → result ≡ status_of self.now.sent P }
+    {
+        ArbiterStatus {
+            sent: self.held.base(),
+            front: self.run_to,
+            known: self.known_to,
+            end: self.end_number,
+            held: self.held.count(),
+        }
+    }
+
+    /// Begins the venue's next session under a name of ten bytes, once End was advanced past, and
+    /// answers its ordinal. Nothing of it has come yet; wins go on counting. The refusals, in this
+    /// order: NotEnded, SessionUsed, TooManySessions (64 at most).
+    pub fn renew(&mut self, session: [u8; 10]) -> Result<u64, RenewFault>
+        ensures answer { IsRenewal self.old session result }
+        ensures ok { OnOk result (self.new ≡ renewed self.old session) }
+        ensures fits { (P : List Arrival) → Fits self.old P → OnOk result (Fits self.new []) }
+        ensures refused { OnErr result (self.new ≡ self.old) }
+    {
+        if self.end_number != Some(self.held.base()) {
+            return Err(RenewFault::NotEnded);
+        }
+        if self.names.as_slice().contains(&session) {
+            return Err(RenewFault::SessionUsed);
+        }
+        if self.names.is_full() {
+            return Err(RenewFault::TooManySessions);
+        }
+        self.names.push(session);
+        self.session_name = session;
+        self.held.restart();
+        self.run_to = 0;
+        self.known_to = 0;
+        self.end_number = None;
+        self.won_before = self.won;
+        Ok(self.names.len() as u64)
+    }
+}

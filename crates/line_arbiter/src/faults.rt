@@ -1,0 +1,54 @@
+//! Why an arbiter isn't made, or doesn't begin its next session.
+
+ghost use Rattle.std.specs.Prelude.{◌≡◌};
+ghost use Rattle.line_arbiter.specs.Codes.{arbiter_fault_code, renew_fault_code};
+
+use thiserror::Error;
+
+/// Why there is no arbiter.
+#[derive(Clone, Copy, Debug, PartialEq, Eq, Hash, Error)]
+pub enum ArbiterFault {
+    #[error("the window isn't between 1 and 65,535 messages")]
+    BadWindow,
+    #[error("no memory for the window")]
+    NoMemory,
+}
+
+impl ArbiterFault {
+    /// The number that stands for the fault, 12 or 13.
+    pub fn code(self) -> u8
+        ensures { result ≡ arbiter_fault_code self }
+    {
+        match self {
+            ArbiterFault::NoMemory => 12,
+            ArbiterFault::BadWindow => 13,
+        }
+    }
+}
+
+/// Why the next session doesn't begin. The arbiter is as it was.
+#[derive(Clone, Copy, Debug, PartialEq, Eq, Hash, Error)]
+pub enum RenewFault {
+    /// The present session's End wasn't sent.
+    #[error("the session isn't over")]
+    NotEnded,
+    /// The venue has had a session of this name.
+    #[error("the session's name was used before")]
+    SessionUsed,
+    /// The venue has had 64 sessions.
+    #[error("the venue has had 64 sessions")]
+    TooManySessions,
+}
+
+impl RenewFault {
+    /// The number that stands for the fault in printed lines, 35 to 37.
+    pub fn code(self) -> u8
+        ensures { result ≡ renew_fault_code self }
+    {
+        match self {
+            RenewFault::NotEnded => 35,
+            RenewFault::SessionUsed => 36,
+            RenewFault::TooManySessions => 37,
+        }
+    }
+}

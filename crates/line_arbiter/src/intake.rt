@@ -1,0 +1,97 @@
+//! A packet's messages against a window, and into it.
+
+ghost use Rattle.std.specs.Prelude.{◌≡◌, ◌↔◌, ℕ, ◌+◌, ◌^◌, ◌<◌, ◌≤◌, None, IsSome, IsTrue, ◌⊎◌, length, MatchBool};
+ghost use Rattle.quote_payload.specs.Payload.{item_of};
+ghost use Rattle.line_arbiter.specs.Holding.{held_at, put_one, put_all, fresh_to, HoldsOther, HoldsNoOther, HeldAgrees, HeldDisagrees};
+
+use crate::window::Window;
+use mold_packet::Packet;
+use quote_payload::read_item;
+
+/// Whether another item is held at the number than the message reads as. A message is read only where
+/// an item is held.
+fn is_other(window: &Window, number: u64, message: &[u8]) -> bool
+    ensures { MatchBool result (HoldsOther window.now number (item_of message.now)) (HoldsNoOther window.now number (item_of message.now)) }
+{
+    match window.get(number) {
+        Some(found) => found != read_item(message),
+        None => false,
+    }
+}
+
+/// Whether a held message reads otherwise in the packet.
+pub(crate) fn disagrees(window: &Window, packet: &Packet<'_>) -> bool
+    ensures { MatchBool result (HeldDisagrees window.now packet.now) (HeldAgrees window.now packet.now) }
+{
+    let first = packet.number();
+    for (i, message) in packet.messages().enumerate() {
+        if is_other(window, first + i as u64, message) {
+            return true;
+        }
+    }
+    false
+}
+
+/// Holds the message where its number is past the base and free, and tells whether it did.
+fn put(window: &mut Window, number: u64, message: &[u8]) -> bool
+    requires { number ≤ window.old.base + window.old.width }
+    ensures after { (m : ℕ) → held_at window.new m ≡ put_one window.old.base number (item_of message.now) (held_at window.old m) m }
+    ensures told { IsTrue result ↔ ((window.old.base < number) × (held_at window.old number ≡ None)) }
+    ensures base { window.new.base ≡ window.old.base }
+    ensures width { window.new.width ≡ window.old.width }
+{
+    if number <= window.base() || window.get(number).is_some() {
+        return false;
+    }
+    window.hold(number, read_item(message));
+    true
+}
+
+/// Holds the packet's messages past the base where nothing is held, and tells how many it held.
+pub(crate) fn fill(window: &mut Window, packet: &Packet<'_>) -> u16
+    requires { packet.now.number + length packet.now.messages ≤ window.old.base + window.old.width + 1 }
+    ensures after { (m : ℕ) → held_at window.new m ≡ put_all window.old.base packet.now (held_at window.old m) m }
+    ensures count { result ≡ fresh_to (length packet.now.messages) window.old.base window.old packet.now }
+    ensures base { window.new.base ≡ window.old.base }
+    ensures width { window.new.width ≡ window.old.width }
+{
+    let first = packet.number();
+    let mut count: u16 = 0;
+    for (i, message) in packet.messages().enumerate() {
+        let is_new = put(window, first + i as u64, message);
+        count += u16::from(is_new);
+    }
+    count
+}
+
+/// The last number of the run of held numbers that goes on past `front`.
+pub(crate) fn run_end(window: &Window, front: u64) -> u64
+    ensures from { front ≤ result }
+    ensures run { (m : ℕ) → front < m → m ≤ result → IsSome (held_at window.now m) }
+    ensures stop { held_at window.now (result + 1) ≡ None }
+{
+    let mut end = front;
+    while window.holds_after(end) {
+        end += 1;
+    }
+    end
+}
+
+/// How many numbers after `front` hold nothing, up to the limit, to the first that holds an item, or
+/// to as many as the window is wide.
+pub(crate) fn missing_after(window: &Window, front: u64, limit: u64) -> u16
+    requires { front ≤ limit }
+    ensures free { (m : ℕ) → front < m → m ≤ front + result → held_at window.now m ≡ None }
+    ensures within { front + result ≤ limit }
+    ensures stop { (result ≡ window.now.width) ⊎ (front + result ≡ limit) ⊎ IsSome (held_at window.now (front + result + 1)) }
+{
+    let width = window.width();
+    let mut count: u16 = 0;
+    while u32::from(count) < width
+        && front + u64::from(count) < limit
+        && !window.holds_after(front + u64::from(count))
+    {
+        count += 1;
+    }
+    count
+}

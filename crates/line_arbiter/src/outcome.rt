@@ -1,0 +1,54 @@
+//! What becomes of a packet.
+
+use thiserror::Error;
+
+/// What became of a packet that was accepted.
+#[derive(Clone, Copy, Debug, PartialEq, Eq, Hash)]
+pub enum Outcome {
+    /// Its messages are held, or were already: so many numbers came first with this packet, so many
+    /// had come before.
+    Taken { new: u16, repeated: u16 },
+    Heartbeat,
+    /// The end of the session is announced.
+    Ended,
+    /// Its last number lies beyond the window. Nothing of it is held.
+    Ahead,
+}
+
+/// Why a packet was refused. It has changed nothing.
+#[derive(Clone, Copy, Debug, PartialEq, Eq, Hash, Error)]
+pub enum LineFault {
+    /// The packet's session name is another one.
+    #[error("the packet is of another session")]
+    OtherSession,
+    /// It has a message at the announced end or past it, or is a heartbeat past it.
+    #[error("the packet goes past the announced end of the session")]
+    PastEnd,
+    /// Another end was announced before.
+    #[error("another end of the session was announced before")]
+    EndMoved,
+    /// A message with the end's number or a greater one was taken before.
+    #[error("a message at the announced end or past it was taken before")]
+    EndTooEarly,
+    /// A message that is still held reads as another item at its number.
+    #[error("a message differs from the one taken before at its number")]
+    Conflict,
+}
+
+impl LineFault {
+    ghost use Rattle.std.specs.Prelude.{◌≡◌};
+    ghost use Rattle.line_arbiter.specs.Codes.{line_fault_code};
+
+    /// The number that stands for the fault in printed lines, 7 to 11.
+    pub fn code(self) -> u8
+        ensures { result ≡ line_fault_code self }
+    {
+        match self {
+            LineFault::OtherSession => 7,
+            LineFault::PastEnd => 8,
+            LineFault::EndMoved => 9,
+            LineFault::EndTooEarly => 10,
+            LineFault::Conflict => 11,
+        }
+    }
+}
