@@ -26,7 +26,7 @@ pub length-header : (session : List ℕ) (number count : ℕ) → length session
 length-header session number count h = omega (arith, length-append session (to_be_bytes w64 number ++ to_be_bytes w16 count))
 
 -- any 20 bytes or more are a header and what follows it
-pub header_is : (bytes : List ℕ) → 20 ≤ length bytes → ((i : ℕ) → get_or bytes i 0 < 256) → bytes ≡ header (session_at bytes) (number_at bytes) (count_at bytes) ++ drop 20 bytes
+header_is : (bytes : List ℕ) → 20 ≤ length bytes → ((i : ℕ) → get_or bytes i 0 < 256) → bytes ≡ header (session_at bytes) (number_at bytes) (count_at bytes) ++ drop 20 bytes
 header_is bytes long h =
     let n : to_be_bytes w64 (number_at bytes) ≡ take 8 (drop 10 bytes) = be_bytes_8 (take 8 (drop 10 bytes)) (number_at bytes) (omega (arith, length-take 8 (drop 10 bytes), length-drop 10 bytes)) (part_is bytes 10 8 h) refl in
     let c : to_be_bytes w16 (count_at bytes) ≡ take 2 (drop 18 bytes) = be_bytes_2 (take 2 (drop 18 bytes)) (count_at bytes) (omega (arith, length-take 2 (drop 18 bytes), length-drop 18 bytes)) (part_is bytes 18 2 h) refl in

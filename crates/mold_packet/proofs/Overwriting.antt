@@ -5,13 +5,13 @@ use Rattle.mold_packet.specs.Writing.{WritesFirst}
 use borrow.Rule.Slice.PartMut.{put_mid}
 
 -- what stood behind the front is written over
-pub put_mid-append : (front tail part : List ℕ) (a k : ℕ) → length front ≡ a → put_mid a k (front ++ tail) part ≡ front ++ (part ++ drop k tail)
+put_mid-append : (front tail part : List ℕ) (a k : ℕ) → length front ≡ a → put_mid a k (front ++ tail) part ≡ front ++ (part ++ drop k tail)
 put_mid-append front tail part a k h =
     ap (λ (x : List ℕ). x ++ (part ++ drop k (drop a (front ++ tail)))) (take_at front tail a h)
     ∙ ap (λ (x : List ℕ). front ++ (part ++ drop k x)) (drop_at front tail a h)
 
 -- the next part of a buffer whose first a bytes are written
-pub put_mid_next : (front old part : List ℕ) (a k : ℕ) → length front ≡ a → put_mid a k (front ++ drop a old) part ≡ (front ++ part) ++ drop (a + k) old
+put_mid_next : (front old part : List ℕ) (a k : ℕ) → length front ≡ a → put_mid a k (front ++ drop a old) part ≡ (front ++ part) ++ drop (a + k) old
 put_mid_next front old part a k h =
     put_mid-append front (drop a old) part a k h
     ∙ ap (λ (x : List ℕ). front ++ (part ++ x)) (drop-drop k a old)

@@ -32,12 +32,12 @@ pub record Steps (session : List ℕ) (number : ℕ) (body : Body) (old headed b
   pub headed_is : headed ≡ header session number count ++ drop 20 old
   pub blocks_are : blocks ≡ flat_map block messages ++ drop (length (flat_map block messages)) (take (length headed - 20) (drop 20 headed))
 
-pub length-spelling : {session : List ℕ} {number : ℕ} {body : Body} {old headed blocks : List ℕ} {len : ℕ} → Steps session number body old headed blocks len → length (spelling (packet_of session number body)) ≡ 20 + len
+length-spelling : {session : List ℕ} {number : ℕ} {body : Body} {old headed blocks : List ℕ} {len : ℕ} → Steps session number body old headed blocks len → length (spelling (packet_of session number body)) ≡ 20 + len
 length-spelling {session} {number} {body} s =
     let front : List ℕ = header session number (count_field (kind_of body) (messages_of body)) in
     omega (arith, length-append front (flat_map block (messages_of body)), length-header session number (count_field (kind_of body) (messages_of body)) s.ten, ap (λ (x : List (List ℕ)). length (flat_map block x)) s.messages_are, s.len_is)
 
-pub spelling_written : {session : List ℕ} {number : ℕ} {body : Body} {old headed blocks : List ℕ} {len : ℕ} → Steps session number body old headed blocks len → put_mid 20 (length headed - 20) headed blocks ≡ spelling (packet_of session number body) ++ drop (20 + len) old
+spelling_written : {session : List ℕ} {number : ℕ} {body : Body} {old headed blocks : List ℕ} {len : ℕ} → Steps session number body old headed blocks len → put_mid 20 (length headed - 20) headed blocks ≡ spelling (packet_of session number body) ++ drop (20 + len) old
 spelling_written {session} {number} {body} {old} {headed} {blocks} {len} s =
     tail_written headed (header session number s.count) old blocks (flat_map block s.messages) 20 (length (flat_map block s.messages)) s.headed_is (length-header session number s.count s.ten) s.blocks_are
     ∙ ap (λ (x : ℕ). (header session number x ++ flat_map block s.messages) ++ drop (20 + length (flat_map block s.messages)) old) s.count_is
