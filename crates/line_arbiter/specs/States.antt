@@ -68,7 +68,3 @@ pub record KeepsItsPlace (old new : State) : Type 0 where
   pub window : new.window ≡ old.window
   pub sent : new.sent ≡ old.sent
   pub earlier : new.earlier ≡ old.earlier
-
--- End was sent: the session is over
-abbrev pub HasEnded : State → Type 0
-HasEnded s = s.end ≡ Some s.sent

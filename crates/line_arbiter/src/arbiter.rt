@@ -333,7 +333,7 @@ impl<G: Genuine> Arbiter<G> {
     /// answers its ordinal. Nothing of it has come yet; wins go on counting. The refusals, in this
     /// order: NotEnded, SessionUsed, TooManySessions (64 at most).
     pub fn renew(&mut self, session: [u8; 10]) -> Result<u64, RenewFault>
-        ensures answer { IsRenewal self.old session result }
+        ensures answer { IsRenewal self.old.sessions self.old.end self.old.sent session result }
         ensures ok { OnOk result (self.new ≡ renewed self.old session) }
         ensures fits { (P : List Arrival) → Fits self.old P → OnOk result (Fits self.new []) }
         ensures refused { OnErr result (self.new ≡ self.old) }
