@@ -1,12 +1,12 @@
--- Who brought what, when one more packet has come.
-use Rattle.std.proofs.Common.{◌≡◌, ℕ, ◌<◌, ◌≤◌, Bool, true, false, cond, List, [], ◌∷◌, ◌++◌, Some, None, refl, ap, ◌∙◌, arith}
+-- What a list of packets brought, announced and made known, when one more packet has come.
+use Rattle.std.proofs.Common.{◌≡◌, ℕ, Bool, true, false, List, [], ◌∷◌, ◌++◌, Some, None, refl, ap, ◌∙◌, ◌-◌, Option}
 use Rattle.std.specs.Prelude.{◌&&◌, fold, max, find, if◌then◌else◌}
-use Rattle.std.specs.Option.{option_map, option_or}
-use Rattle.std.proofs.lemmas.Bool.Decides.{nat_tests}
+use Rattle.std.specs.Option.{option_map, option_or, option_map_or}
 use Rattle.std.proofs.lemmas.List.Folds.{find-append}
-use Rattle.std.proofs.lemmas.List.Sums.{fold_push}
-use Rattle.mold_packet.specs.Content.{Content}
-use Rattle.line_arbiter.specs.Packets.{Arrival, bringer, brings, carried, has_number, is_taken, item_at, last_of, top_of}
+use Rattle.std.proofs.lemmas.List.Sums.{fold_push, fold-append}
+use Rattle.line_arbiter.specs.Packets.{Arrival, bringer, brings, carried, has_number, is_taken, item_at, last_of, top_of, end_of, heard, is_ended, known_of}
+use Rattle.line_arbiter.specs.Steps.{raised}
+use Rattle.line_arbiter.proofs.Options.{or_none, map_or, picked}
 
 abbrev higher : ℕ → Arrival → ℕ
 higher n a = if is_taken a.answer then max n (last_of a.packet) else n
@@ -17,36 +17,38 @@ top_of-push P a = fold_push higher 0 P a
 pub bringer-push : (P : List Arrival) (a : Arrival) (m : ℕ) → bringer (P ++ a ∷ []) m ≡ option_or (bringer P m) (if brings m a then Some a else None)
 bringer-push P a m = find-append (brings m) P (a ∷ [])
 
-no_lower : (n : ℕ) (a : Arrival) → n ≤ higher n a
-no_lower n a = pick (is_taken a.answer)
+find_one : {A B : Type 0} (f : A → B) (q : A → Bool) (a : A) → option_map f (find q (a ∷ [])) ≡ (if q a then Some (f a) else None)
+find_one f q a = picked f (q a) a
+
+pub carried-push : (P : List Arrival) (a : Arrival) (m : ℕ) → carried (P ++ a ∷ []) m ≡ option_or (carried P m) (if brings m a then Some (item_at a.packet m) else None)
+carried-push P a m =
+    ap (option_map (λ (x : Arrival). item_at x.packet m)) (find-append (brings m) P (a ∷ []))
+    ∙ map_or (λ (x : Arrival). item_at x.packet m) (find (brings m) P) (find (brings m) (a ∷ []))
+    ∙ ap (option_or (carried P m)) (find_one (λ (x : Arrival). item_at x.packet m) (brings m) a)
+
+-- a packet that was not taken carries nothing
+pub carried_same : (P : List Arrival) (a : Arrival) (m : ℕ) → is_taken a.answer ≡ false → carried (P ++ a ∷ []) m ≡ carried P m
+carried_same P a m untaken = carried-push P a m ∙ ap (λ (b : Bool). option_or (carried P m) (if b && has_number a.packet m then Some (item_at a.packet m) else None)) untaken ∙ or_none (carried P m)
+
+pub carried_more : (P : List Arrival) (a : Arrival) (m : ℕ) → is_taken a.answer ≡ true → carried (P ++ a ∷ []) m ≡ option_or (carried P m) (if has_number a.packet m then Some (item_at a.packet m) else None)
+carried_more P a m was_taken = carried-push P a m ∙ ap (λ (b : Bool). option_or (carried P m) (if b && has_number a.packet m then Some (item_at a.packet m) else None)) was_taken
+
+pub end_of-push : (P : List Arrival) (a : Arrival) → end_of (P ++ a ∷ []) ≡ option_or (end_of P) (if is_ended a.answer then Some a.packet.number else None)
+end_of-push P a =
+    ap (option_map (λ (x : Arrival). x.packet.number)) (find-append (λ (x : Arrival). is_ended x.answer) P (a ∷ []))
+    ∙ map_or (λ (x : Arrival). x.packet.number) (find (λ (x : Arrival). is_ended x.answer) P) (find (λ (x : Arrival). is_ended x.answer) (a ∷ []))
+    ∙ ap (option_or (end_of P)) (find_one (λ (x : Arrival). x.packet.number) (λ (x : Arrival). is_ended x.answer) a)
+
+pub end_same : (P : List Arrival) (a : Arrival) → is_ended a.answer ≡ false → end_of (P ++ a ∷ []) ≡ end_of P
+end_same P a unended = end_of-push P a ∙ ap (λ (b : Bool). option_or (end_of P) (if b then Some a.packet.number else None)) unended ∙ or_none (end_of P)
+
+pub known-push : (P : List Arrival) (a : Arrival) → is_ended a.answer ≡ false → known_of (P ++ a ∷ []) ≡ raised (known_of P) (end_of P) (heard a)
+known-push P a unended =
+    let top : fold (λ k x. max k (heard x)) 0 (P ++ a ∷ []) ≡ max (fold (λ k x. max k (heard x)) 0 P) (heard a) = fold-append (λ k x. max k (heard x)) 0 P (a ∷ []) in
+    ap (λ (o : Option ℕ). option_map_or (λ e. e - 1) o (fold (λ k x. max k (heard x)) 0 (P ++ a ∷ []))) (end_same P a unended)
+    ∙ ap (λ (n : ℕ). option_map_or (λ e. e - 1) (end_of P) n) top
+    ∙ by_end (end_of P) (fold (λ k x. max k (heard x)) 0 P) (heard a)
   where
-    pick : (b : Bool) → n ≤ (if b then max n (last_of a.packet) else n)
-    pick true = omega arith
-    pick false = omega arith
-
-from_start : (n : ℕ) (P : List Arrival) → n ≤ fold higher n P
-from_start n [] = omega arith
-from_start n (a ∷ P) = omega (arith, no_lower n a, from_start (higher n a) P)
-
-past_last : (p : Content) (m : ℕ) → last_of p < m → has_number p m ≡ false
-past_last p m h = grind (arith, nat_tests)
-
-brings_none : (n m : ℕ) (a : Arrival) → higher n a < m → brings m a ≡ false
-brings_none n m a h = pick (is_taken a.answer) h
-  where
-    pick : (b : Bool) → (if b then max n (last_of a.packet) else n) < m → (b && has_number a.packet m) ≡ false
-    pick true h = past_last a.packet m (omega arith)
-    pick false h = refl
-
-find_none : (n m : ℕ) (P : List Arrival) → fold higher n P < m → find (brings m) P ≡ None
-find_none n m [] h = refl
-find_none n m (a ∷ P) h =
-    ap (λ (b : Bool). cond b (Some a) (find (brings m) P)) (brings_none n m a (omega (arith, from_start (higher n a) P)))
-    ∙ find_none (higher n a) m P h
-
--- nothing was brought above the greatest number that was taken
-pub none_above : (P : List Arrival) (m : ℕ) → top_of P < m → bringer P m ≡ None
-none_above P m h = find_none 0 m P h
-
-pub carried_none_above : (P : List Arrival) (m : ℕ) → top_of P < m → carried P m ≡ None
-carried_none_above P m h = ap (option_map (λ (a : Arrival). item_at a.packet m)) (none_above P m h)
+    by_end : (o : Option ℕ) (k n : ℕ) → option_map_or (λ e. e - 1) o (max k n) ≡ raised (option_map_or (λ e. e - 1) o k) o n
+    by_end None k n = refl
+    by_end (Some e) k n = refl

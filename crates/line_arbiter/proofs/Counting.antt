@@ -1,5 +1,6 @@
 -- Counts over a range of numbers.
-use Rattle.std.proofs.Common.{◌≡◌, ℕ, zero, suc, ◌+◌, ◌-◌, ◌<◌, ◌≤◌, Bool, false, cond, List, [], ◌∷◌, length, refl, ap, ◌∙◌, arith}
+use mir.Val.{bool_byte}
+use Rattle.std.proofs.Common.{◌≡◌, ℕ, zero, suc, ◌+◌, ◌-◌, ◌<◌, ◌≤◌, Bool, true, false, cond, List, [], ◌∷◌, length, refl, ap, ◌∙◌, arith}
 use Rattle.std.specs.Prelude.{count_by, slice_get}
 use Rattle.std.specs.List.{range_with_len}
 use Rattle.std.specs.Option.{option_map_or}
@@ -64,3 +65,12 @@ count_numbers p q (x ∷ xs) a h =
     let here : one_if (p x) ≡ one_if (q a) = ap one_if (h 0 (omega arith) ∙ ap q (let e : a + 0 ≡ a = omega arith in e)) in
     let rest = count_numbers p q xs (a + 1) (λ k within. h (suc k) (omega arith) ∙ ap q (let e : a + suc k ≡ a + 1 + k = omega arith in e)) in
     omega (arith, count_first p x xs, count_first q a (range_with_len (a + 1) (length xs)))
+
+-- a range with one more number
+pub count_more : (q : ℕ → Bool) (a n : ℕ) → count_by q (range_with_len a (n + 1)) ≡ count_by q (range_with_len a n) + one_if (q (a + n))
+count_more q a n = let one = count_first q (a + n) [] in omega (arith, count_split q a n 1)
+
+-- a truth value as a byte
+pub byte_is : (b : Bool) → bool_byte b ≡ one_if b
+byte_is true = refl
+byte_is false = refl

@@ -1,24 +1,16 @@
--- Putting a packet's messages into a map, one after the other.
-use Rattle.std.proofs.Common.{◌≡◌, ℕ, ◌+◌, ◌-◌, ◌<◌, ◌≤◌, Bool, true, false, cond, List, Option, Some, None, refl, sym, ap, ◌∙◌, arith, inl, inr}
-use Rattle.std.specs.Prelude.{nat_eq, nat_le, nat_lt, ◌&&◌, is_none, IsTrue, ◌↔◌, count_by, if◌then◌else◌}
-use Rattle.std.specs.List.{range_with_len, sum_by}
+-- Putting a packet's messages into a window, one after the other.
+use Rattle.std.proofs.Common.{◌≡◌, ℕ, ◌+◌, ◌-◌, ◌<◌, ◌≤◌, Bool, true, false, cond, Option, Some, None, refl, sym, ap, ◌∙◌, arith, inl, inr}
+use Rattle.std.specs.Prelude.{nat_eq, nat_le, nat_lt, ◌&&◌, is_none, IsTrue, ◌↔◌, if◌then◌else◌}
+use Rattle.std.specs.List.{range_with_len}
 use Rattle.std.proofs.lemmas.Bool.{cases_lt, cases_order, false≢true}
 use Rattle.std.proofs.lemmas.Bool.Decides.{nat_tests}
-use Rattle.std.proofs.lemmas.List.{map-id}
-use Rattle.std.proofs.lemmas.List.FromFn.{length-range_with_len, sum_by-map-range_with_len_more}
+use Rattle.std.proofs.lemmas.List.FromFn.{length-range_with_len}
 use Rattle.std.proofs.lemmas.List.Sums.{count_by-le-length}
 use Rattle.feed_types.specs.declared.item.Item.{Item}
 use Rattle.mold_packet.specs.Content.{Content}
 use Rattle.line_arbiter.specs.Packets.{item_at, message_item}
 use Rattle.line_arbiter.specs.Holding.{Held, fresh_to, held_at, put_one, put_to}
-use Rattle.line_arbiter.specs.Steps.{counted}
-
-nothing_put : (n sent : ℕ) (p : Content) (m : ℕ) → put_to 0 sent p None m ≡ None
-nothing_put n sent p m = grind (arith, nat_tests)
-
-pub put_none : (sent : ℕ) (p : Content) (found : Option Item) (m : ℕ) → found ≡ put_to 0 sent p found m
-put_none sent p None m = sym (nothing_put 0 sent p m)
-put_none sent p (Some x) m = refl
+use Rattle.line_arbiter.proofs.Counting.{count_more}
 
 same_place : (p : Content) (n m : ℕ) → m ≡ p.number + n → item_at p m ≡ message_item p n
 same_place p n m e = ap (message_item p) (let k : m - p.number ≡ n = omega arith in k)
@@ -59,13 +51,6 @@ one_put n sent p m =
 pub put_more : (n sent : ℕ) (p : Content) (found : Option Item) (m : ℕ) → put_one sent (p.number + n) (message_item p n) (put_to n sent p found m) m ≡ put_to (n + 1) sent p found m
 put_more n sent p None m = one_put n sent p m
 put_more n sent p (Some x) m = refl
-
-pub count_more : (q : ℕ → Bool) (a n : ℕ) → count_by q (range_with_len a (n + 1)) ≡ count_by q (range_with_len a n) + cond (q (a + n)) 1 0
-count_more q a n =
-    let g : ℕ → ℕ = λ x. cond (q x) 1 0 in
-    ap (sum_by g) (sym (map-id (range_with_len a (n + 1))))
-    ∙ sum_by-map-range_with_len_more g (λ (x : ℕ). x) a n (a + n) refl
-    ∙ ap (λ (xs : List ℕ). sum_by g xs + g (a + n)) (map-id (range_with_len a n))
 
 count_at : (b : Bool) (k : ℕ) (found : Option Item) (sent : ℕ) → (IsTrue b ↔ ((sent < k) × (found ≡ None))) → (nat_lt sent k && is_none found) ≡ b
 count_at true k found sent told = let both = told.0 refl in rw both.1 (grind (arith, nat_tests))

@@ -16,7 +16,7 @@ pub record IsFront (P : List Arrival) (n : ℕ) : Type 0 where
   pub all : (m : ℕ) → 1 ≤ m → m ≤ n → IsSome (carried P m)
   pub next : carried P (n + 1) ≡ None
 
--- nothing above the greatest number that was taken is carried
+-- nothing is brought or carried above the greatest number that was taken
 abbrev topped : ℕ → Arrival → ℕ
 topped n a = if is_taken a.answer then max n (last_of a.packet) else n
 
@@ -28,14 +28,14 @@ top_grows (a ∷ P) n = let step = top_step n (is_taken a.answer) (last_of a.pac
     top_step n true k = omega arith
     top_step n false k = omega arith
 
-not_in : (p : Content) (m : ℕ) → last_of p < m → has_number p m ≡ false
+pub not_in : (p : Content) (m : ℕ) → last_of p < m → has_number p m ≡ false
 not_in p m h = grind (arith, nat_tests)
 
 brings_none : (n m : ℕ) (b : Bool) (p : Content) → (if b then max n (last_of p) else n) < m → (b && has_number p m) ≡ false
 brings_none n m true p h = not_in p m (omega arith)
 brings_none n m false p h = refl
 
-bringer_above : (P : List Arrival) (n m : ℕ) → fold topped n P < m → bringer P m ≡ None
+pub bringer_above : (P : List Arrival) (n m : ℕ) → fold topped n P < m → bringer P m ≡ None
 bringer_above [] n m h = refl
 bringer_above (a ∷ P) n m h =
     let grows = top_grows P (topped n a) in
@@ -67,19 +67,15 @@ front_is P =
       ];
     }
 
-some_not_none : {X : Type 0} (o : Option X) → IsSome o → o ≡ None → ⊥
-some_not_none None h e = false≢true h
-some_not_none (Some x) h e = cc
+not_none : {X : Type 0} (o : Option X) → IsSome o → o ≡ None → ⊥
+not_none None h e = false≢true h
+not_none (Some x) h e = cc
 
 pub front_unique : (P : List Arrival) (m n : ℕ) → IsFront P m → IsFront P n → m ≡ n
 front_unique P m n a b = elim (cases_lt m n) [
-  | inl lt ↦ absurd (some_not_none (carried P (m + 1)) (b.all (m + 1) (omega arith) (omega arith)) a.next)
+  | inl lt ↦ absurd (not_none (carried P (m + 1)) (b.all (m + 1) (omega arith) (omega arith)) a.next)
   | inr le ↦ elim (cases_lt n m) [
-    | inl lt ↦ absurd (some_not_none (carried P (n + 1)) (a.all (n + 1) (omega arith) (omega arith)) b.next)
+    | inl lt ↦ absurd (not_none (carried P (n + 1)) (a.all (n + 1) (omega arith) (omega arith)) b.next)
     | inr ge ↦ omega arith
   ]
 ]
-
--- a number is the front where 1 up to it were taken and the next wasn't
-pub front_of-unique : (P : List Arrival) (n : ℕ) → IsFront P n → n ≡ front_of P
-front_of-unique P n is = front_unique P n (front_of P) is (front_is P)

@@ -1,18 +1,19 @@
 -- How many messages are missing at the front.
-use Rattle.std.proofs.Common.{◌≡◌, ℕ, ◌+◌, ◌-◌, ◌<◌, ◌≤◌, Bool, true, false, List, Option, Some, None, refl, sym, ap, ◌∙◌, arith, inl, inr}
-use Rattle.std.specs.Prelude.{◌⊎◌, IsSome, is_none, fold, max, min, ◌==◌, if◌then◌else◌}
+use Rattle.std.proofs.Common.{◌≡◌, ℕ, ◌+◌, ◌-◌, ◌<◌, ◌≤◌, Bool, true, false, List, Option, Some, None, sym, ap, ◌∙◌, arith, inl, inr}
+use Rattle.std.specs.Prelude.{◌⊎◌, IsSome, is_none, max, min, ◌==◌, if◌then◌else◌}
 use Rattle.std.specs.List.{range_with_len, prefix_len}
-use Rattle.std.specs.Option.{option_map_or}
-use Rattle.std.proofs.lemmas.Bool.{false≢true, ne_eqb}
+use Rattle.std.proofs.lemmas.Bool.{ne_eqb}
 use Rattle.std.proofs.lemmas.List.FromFn.{length-range_with_len, get_or-range_with_len}
-use Rattle.std.proofs.lemmas.List.Sums.{prefix_len_is, prefix_len-le-length}
+use Rattle.std.proofs.lemmas.List.Sums.{prefix_len_is}
 use Rattle.feed_types.specs.declared.item.Item.{Item}
-use Rattle.line_arbiter.specs.Packets.{Arrival, carried, end_of, heard, known_of}
-use Rattle.line_arbiter.specs.Streams.{front_of, gap_of, missing_count}
+use Rattle.line_arbiter.specs.Packets.{Arrival, carried, known_of}
+use Rattle.line_arbiter.specs.Streams.{front_of, missing_count, gap_of}
 use Rattle.line_arbiter.specs.Holding.{held_at}
 use Rattle.line_arbiter.specs.States.{State, held_of}
 use Rattle.line_arbiter.specs.Fits.{Fits}
-use Rattle.line_arbiter.proofs.Cursors.{cursor, held_is}
+use Rattle.line_arbiter.proofs.Standing.{stands_of}
+use Rattle.line_arbiter.proofs.Options.{some_not_none}
+use Rattle.line_arbiter.proofs.Cursors.{cursor, held_is, known_at_end}
 
 -- a run of numbers that pass a test, up to the first that doesn't or to the range's end
 run_is : (q : ℕ → Bool) (a len n : ℕ) → n ≤ len → ((m : ℕ) → a ≤ m → m < a + n → q m ≡ true) → (n < len → q (a + n) ≡ false) → prefix_len q (range_with_len a len) ≡ n
@@ -21,24 +22,16 @@ run_is q a len n within all stop = prefix_len_is q (range_with_len a len) n 0
     (λ k below. ap q (get_or-range_with_len a len k 0 (omega arith)) ∙ all (a + k) (omega arith) (omega arith))
     (λ more. let inside : n < len = omega (arith, length-range_with_len a len) in ap q (get_or-range_with_len a len n 0 inside) ∙ stop inside)
 
-is_held : (o : Option Item) → IsSome o → is_none o ≡ false
-is_held None h = absurd (false≢true h)
-is_held (Some x) h = refl
-
--- once End was sent, the session is known to go as far as it is whole
-ended_known : (P : List Arrival) → end_of P ≡ Some (front_of P + 1) → known_of P ≡ front_of P
-ended_known P is = ap (λ (o : Option ℕ). option_map_or (λ e. e - 1) o (fold (λ k a. max k (heard a)) 0 P)) is ∙ omega arith
-
 -- past the front the numbers to ask for are past the last item sent too
-past_sent : (s : State) (P : List Arrival) → Fits s P → front_of P < min (known_of P) (s.sent + s.window) → s.sent ≤ front_of P
-past_sent s P fits more = elim (cursor s P fits) [
+past_sent : (s : State) (P : List Arrival) → Fits s P → s.front < min s.known (s.sent + s.window) → s.sent ≤ s.front
+past_sent s P fits more = elim (cursor s P (stands_of fits)) [
   | inl within ↦ within
-  | inr ended ↦ let known = ended_known P ended.1 in absurd (omega arith)
+  | inr ended ↦ let to = fits.known in let known = known_at_end P (s.front + 1) ended.1 in absurd (omega arith)
 ]
 
 -- Where nothing is held at the n numbers after the front, up to the last one that is known and in the window or to one
 -- where an item is held, n is how many are missing.
-pub missing_count-held : (s : State) (P : List Arrival) (n : ℕ) → Fits s P
+missing_count-held : (s : State) (P : List Arrival) (n : ℕ) → Fits s P
     → ((m : ℕ) → s.front < m → m ≤ s.front + n → held_at (held_of s) m ≡ None)
     → s.front + n ≤ max s.front (min s.known (s.sent + s.window))
     → (s.front + n ≡ max s.front (min s.known (s.sent + s.window))) ⊎ IsSome (held_at (held_of s) (s.front + n + 1))
@@ -49,32 +42,13 @@ missing_count-held s P n fits none within stop =
     let next : s.front + n + 1 ≡ front_of P + 1 + n = omega arith in
     run_is (λ m. is_none (carried P m)) (front_of P + 1) (min (known_of P) (s.sent + s.window) - front_of P) n
     (omega arith)
-    (λ m low high. let sent = past_sent s P fits (omega arith) in ap (λ (o : Option Item). is_none o) (sym (held_is s P fits m (omega arith)) ∙ none m (omega arith) (omega arith)))
+    (λ m low high. let sent = past_sent s P fits (omega arith) in ap (λ (o : Option Item). is_none o) (sym (held_is s P (stands_of fits) m (omega arith)) ∙ none m (omega arith) (omega arith)))
     (λ more. elim stop [
       | inl all ↦ absurd (omega arith)
       | inr found ↦
           let sent = past_sent s P fits (omega arith) in
-          ap (λ (m : ℕ). is_none (carried P m)) (sym next) ∙ ap (λ (o : Option Item). is_none o) (sym (held_is s P fits (s.front + n + 1) (omega arith))) ∙ is_held (held_at (held_of s) (s.front + n + 1)) found
+          ap (λ (m : ℕ). is_none (carried P m)) (sym next) ∙ ap (λ (o : Option Item). is_none o) (sym (held_is s P (stands_of fits) (s.front + n + 1) (omega arith))) ∙ some_not_none (held_at (held_of s) (s.front + n + 1)) found
     ])
-
--- no more is asked for than the window is wide
-pub gap-ranges : (s : State) (P : List Arrival) → Fits s P → missing_count s.window s.sent P ≤ s.window
-gap-ranges s P fits =
-    let most = prefix_len-le-length (λ m. is_none (carried P m)) (range_with_len (front_of P + 1) (min (known_of P) (s.sent + s.window) - front_of P)) in
-    let len = length-range_with_len (front_of P + 1) (min (known_of P) (s.sent + s.window) - front_of P) in
-    elim (cursor s P fits) [
-      | inl within ↦ omega arith
-      | inr ended ↦ let known = ended_known P ended.1 in omega arith
-    ]
-
--- and nothing past what is known
-pub gap_known : (s : State) (P : List Arrival) → Fits s P → s.front + missing_count s.window s.sent P ≤ max s.front s.known
-gap_known s P fits =
-    let most = prefix_len-le-length (λ m. is_none (carried P m)) (range_with_len (front_of P + 1) (min (known_of P) (s.sent + s.window) - front_of P)) in
-    let len = length-range_with_len (front_of P + 1) (min (known_of P) (s.sent + s.window) - front_of P) in
-    let front = fits.front in
-    let known = fits.known in
-    omega arith
 
 -- so many numbers past the front hold nothing, up to the window's width, the limit, or the first that holds an item
 pub record IsMissing (s : State) (n : ℕ) : Type 0 where
@@ -86,9 +60,9 @@ missing_is : (s : State) (P : List Arrival) (n : ℕ) → Fits s P → IsMissing
 missing_is s P n fits missing =
     let within = missing.within in
     missing_count-held s P n fits missing.free within (elim missing.stop [
-      | inl wide ↦ inl (elim (cursor s P fits) [
+      | inl wide ↦ inl (elim (cursor s P (stands_of fits)) [
         | inl before ↦ let front = fits.front in omega arith
-        | inr ended ↦ let known = ended_known P ended.1 in let front = fits.front in let same = fits.known in omega arith
+        | inr ended ↦ let known = known_at_end P (s.front + 1) ended.1 in let same = fits.known in omega arith
       ])
       | inr other ↦ other
     ])

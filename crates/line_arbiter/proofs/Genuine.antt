@@ -16,7 +16,7 @@ use Rattle.line_arbiter.specs.Holding.{held_at}
 use Rattle.line_arbiter.specs.States.{State, held_of, next_from, next_of}
 use Rattle.line_arbiter.specs.Carrying.{AreGenuine}
 use Rattle.line_arbiter.proofs.Standing.{Stands}
-use Rattle.line_arbiter.proofs.Nexts.{held_is}
+use Rattle.line_arbiter.proofs.Cursors.{held_is}
 
 taken_ok : (r : Result Outcome LineFault) → is_taken r ≡ true → IsOk r
 taken_ok (Ok outcome) h = refl

@@ -1,21 +1,30 @@
+-- values and counts
+pub mod Options
+pub mod Counting
+-- the definitions over a list of packets
 pub mod Fronts
 pub mod Bringing
-pub mod Counting
 pub mod Winning
-pub mod LineCounts
-pub mod Cursors
-pub mod HeldCounts
-pub mod Gaps
-pub mod Blanks
-pub mod Standing
-pub mod Nexts
+-- a window
+pub mod Places
+pub mod Windows
 pub mod Turns
 pub mod Filling
+-- an arbiter that fits its packets
+pub mod Standing
+pub mod Cursors
+pub mod Nexts
+pub mod Gaps
+pub mod HeldCounts
+pub mod LineCounts
+-- one more packet
 pub mod Soundness
 pub mod Growth
+pub mod Answering
 pub mod PacketSteps
+-- genuine packets, and the laws
 pub mod Genuine
+pub mod Arrivals
 pub mod OfSession
 pub mod InSequence
 pub mod Accepting
-pub mod Arrivals

@@ -1,5 +1,5 @@
 -- The wins that an arbiter keeps, as a packet comes.
-use Rattle.std.proofs.Common.{◌≡◌, ℕ, ◌+◌, ◌≤◌, Bool, true, false, List, [], ◌∷◌, ◌++◌, Option, Some, None, min, refl, sym, ap, ◌∙◌, arith}
+use Rattle.std.proofs.Common.{◌≡◌, ℕ, ◌+◌, ◌≤◌, Bool, true, false, List, [], ◌∷◌, ◌++◌, Option, Some, None, refl, sym, ap, ◌∙◌, arith}
 use Rattle.std.specs.Prelude.{◌&&◌, max, count_by, if◌then◌else◌}
 use Rattle.std.specs.List.{range_with_len}
 use Rattle.std.specs.Option.{option_or, option_map_or}
@@ -13,10 +13,7 @@ use Rattle.line_arbiter.specs.Steps.{counted}
 use Rattle.line_arbiter.proofs.Bringing.{bringer-push, top_of-push}
 use Rattle.line_arbiter.proofs.Counting.{count_same}
 use Rattle.line_arbiter.proofs.Winning.{wins_of-push}
-
-or_none : {X : Type 0} (o : Option X) → option_or o None ≡ o
-or_none None = refl
-or_none (Some x) = refl
+use Rattle.line_arbiter.proofs.Options.{or_none}
 
 -- a packet that is not taken wins nothing
 pub wins_of-untaken : (P : List Arrival) (a : Arrival) (line : LineId) → is_taken a.answer ≡ false → wins_of (P ++ a ∷ []) line ≡ wins_of P line

@@ -3,9 +3,8 @@ use Rattle.std.proofs.Common.{◌≡◌, ℕ, zero, suc, ◌+◌, ◌<◌, ◌�
 use Rattle.std.specs.Prelude.{IsSome, slice_get, nat_eq, nat_le, ◌==◌, if◌then◌else◌}
 use Rattle.std.specs.List.{range_with_len}
 use Rattle.std.specs.Option.{option_map, unwrap_or}
-use Rattle.std.proofs.lemmas.Bool.{cases_lt, eqb-true, ne_eqb, lt-leb}
+use Rattle.std.proofs.lemmas.Bool.{cases_lt, ne_eqb}
 use Rattle.std.proofs.lemmas.Bool.Decides.{nat_tests}
-use Rattle.std.proofs.lemmas.List.{length-append}
 use Rattle.std.proofs.lemmas.List.FromFn.{length-map-range_with_len}
 use Rattle.std.proofs.lemmas.Option.{slice_get-map, slice_get_past}
 use Rattle.feed_types.specs.declared.item.Item.{Item}
@@ -17,6 +16,7 @@ use Rattle.line_arbiter.specs.States.{State, count_on, held_of, next_from, next_
 use Rattle.line_arbiter.specs.Steps.{IsAdvanced, IsSound}
 use Rattle.line_arbiter.proofs.Fronts.{IsFront}
 use Rattle.line_arbiter.proofs.Standing.{Stands}
+use Rattle.line_arbiter.proofs.Cursors.{held_is, end_len, end_most, length-stream}
 
 get_left : {X : Type 0} (xs ys : List X) (i : ℕ) → i < length xs → slice_get (xs ++ ys) i ≡ slice_get xs i
 get_left [] ys i h = absurd (omega arith)
@@ -42,29 +42,9 @@ front_at P n i h =
 end_comes : (P : List Arrival) (n : ℕ) → slice_get (stream_to P n) n ≡ slice_get (end_at (end_of P) (n + 1)) 0
 end_comes P n = get_right (map (numbered P) (range_with_len 1 n)) (end_at (end_of P) (n + 1)) n (length-map-range_with_len (numbered P) 1 n)
 
-pub length-stream : (P : List Arrival) (n : ℕ) → length (stream_to P n) ≡ n + length (end_at (end_of P) (n + 1))
-length-stream P n = omega (arith, length-append (map (numbered P) (range_with_len 1 n)) (end_at (end_of P) (n + 1)), length-map-range_with_len (numbered P) 1 n)
-
-some_if : {X : Type 0} (b : Bool) (x : X) → 0 < length (if b then x ∷ [] else []) → b ≡ true
-some_if true x h = refl
-some_if false x h = absurd (omega arith)
-
-most_if : {X : Type 0} (b : Bool) (x : X) → length (if b then x ∷ [] else []) ≤ 1
-most_if true x = omega arith
-most_if false x = omega arith
-
 first_if : {X : Type 0} (b : Bool) (x : X) → (if b then Some x else None) ≡ slice_get (if b then x ∷ [] else []) 0
 first_if true x = refl
 first_if false x = refl
-
--- End takes one place at most, and then stands at its number
-pub end_len : (o : Option ℕ) (m : ℕ) → 0 < length (end_at o m) → o ≡ Some m
-end_len None m h = absurd (omega arith)
-end_len (Some e) m h = ap (λ (k : ℕ). Some k) (eqb-true e m (some_if (e == m) (record { number = m; item = items.End }) h))
-
-pub end_most : (o : Option ℕ) (m : ℕ) → length (end_at o m) ≤ 1
-end_most None m = omega arith
-end_most (Some e) m = most_if (e == m) (record { number = m; item = items.End })
 
 -- nothing held: the next item is End or none
 from_end : (o : Option ℕ) (m : ℕ) → next_from m None o ≡ slice_get (end_at o m) 0
@@ -74,10 +54,6 @@ from_end (Some e) m = first_if (e == m) (record { number = m; item = items.End }
 from_held : (m : ℕ) (item : Option Item) (o : Option ℕ) → IsSome item → next_from m item o ≡ Some (record { number = m; item = unwrap_or item items.Other })
 from_held m None o h = absurd cc
 from_held m (Some x) o h = refl
-
--- what is held past the last item sent is what was taken
-pub held_is : (s : State) (P : List Arrival) → Stands s P → (m : ℕ) → s.sent < m → held_at (held_of s) m ≡ carried P m
-held_is s P fits m h = let no : nat_le m s.sent ≡ false = lt-leb m s.sent h in fits.held m ∙ ap (λ (b : Bool). if b then None else carried P m) no
 
 none_from : (o : Option Item) → ((item : Item) → o ≡ Some item → ⊥) → o ≡ None
 none_from None h = refl
@@ -114,7 +90,7 @@ next_is s P sound fits =
       ]
     ]
 
--- what was held at a number is held after the removal of another, and nothing at the one removed
+-- the next item is one of the stream
 pub ready_within : (s : State) (P : List Arrival) → IsSound s → Stands s P → IsSome (next_of s) → s.sent + 1 ≤ length (stream_to P s.front)
 ready_within s P sound fits ready =
     slice_get_some (stream_to P s.front) s.sent (subst (λ o. IsSome o) (next_is s P sound fits) ready)

@@ -1,38 +1,40 @@
--- The steps at a heartbeat and at an end, and the step at any packet.
-use Rattle.std.proofs.Common.{◌≡◌, ℕ, ◌+◌, ◌-◌, ◌<◌, ◌≤◌, Bool, true, false, List, [], ◌∷◌, ◌++◌, Option, Some, None, Result, Ok, Err, refl, sym, ap, subst, ◌∙◌, arith, inl, inr}
-use Rattle.std.specs.Prelude.{nat_le, fold, max, ◌⊎◌, IsSome, if◌then◌else◌}
-use Rattle.std.specs.Option.{option_or, option_map_or}
-use Rattle.std.proofs.lemmas.Bool.{cases_lt, false≢true}
+-- An arbiter fits its packets after one more of any kind.
+use Rattle.std.proofs.Common.{◌≡◌, ℕ, ◌+◌, ◌-◌, ◌<◌, ◌≤◌, false, List, [], ◌∷◌, ◌++◌, Option, Some, None, Result, Ok, Err, refl, sym, ap, subst, ◌∙◌, arith, inl, inr}
+use Rattle.std.specs.Prelude.{nat_le, ◌⊎◌, IsSome, if◌then◌else◌}
+use Rattle.std.specs.Option.{option_or}
 use Rattle.feed_types.specs.declared.item.Item.{Item}
 use Rattle.feed_types.specs.declared.line.LineId.{LineId}
 use Rattle.mold_packet.specs.declared.packet.Kind.{Kind}
-use Rattle.mold_packet.specs.declared.packet.Kind.TheVariants as kinds
 use Rattle.mold_packet.specs.Content.{Content, IsContent}
 use Rattle.line_arbiter.specs.declared.outcome.Outcome.{Outcome}
 use Rattle.line_arbiter.specs.declared.outcome.Outcome.TheVariants.{Taken, Heartbeat, Ended, Ahead}
 use Rattle.line_arbiter.specs.declared.outcome.LineFault.{LineFault}
 use Rattle.line_arbiter.specs.declared.outcome.LineFault.TheVariants.{OtherSession, PastEnd, EndMoved, EndTooEarly, Conflict}
-use Rattle.line_arbiter.specs.Packets.{Arrival, carried, end_of, heard, is_ended, is_taken, known_of}
-use Rattle.line_arbiter.specs.Outcomes.{IsOutcome, ToEnd, ToHeartbeat, ToKind}
+use Rattle.line_arbiter.specs.Packets.{Arrival, carried, end_of, is_ended, is_taken, last_of}
 use Rattle.line_arbiter.specs.Holding.{held_at}
 use Rattle.line_arbiter.specs.States.{State, count_on, held_of, shown}
-use Rattle.line_arbiter.specs.Steps.{EndStep, HeartbeatStep, KindStep, PacketStep}
+use Rattle.line_arbiter.specs.Steps.{EndStep, HeartbeatStep, KindStep, PacketStep, MessagesStep}
 use Rattle.line_arbiter.proofs.Standing.{Stands}
+use Rattle.mold_packet.specs.declared.packet.Kind.TheVariants as kinds
 use Rattle.line_arbiter.proofs.LineCounts.{wins_of-untaken}
-use Rattle.line_arbiter.proofs.Nexts.{held_is, length-stream}
-use Rattle.line_arbiter.proofs.Growth.{cursor, stream_len, carried_same, end_of-push, fits_heard, fits_refused, messages_answer, messages_fits}
+use Rattle.line_arbiter.proofs.Bringing.{carried_same, end_of-push}
+use Rattle.line_arbiter.proofs.Cursors.{known_at_end, length-stream, open_cursor, stream_len}
+use Rattle.line_arbiter.proofs.Growth.{fits_heard, fits_refused, fits_taken}
+use Rattle.line_arbiter.proofs.Answering.{before_is, new_is}
 
-heartbeat_answer : (old new : State) (P : List Arrival) (n : ℕ) (answer : Result Outcome LineFault) → Stands old P → HeartbeatStep old new n answer → ToHeartbeat P n answer
-heartbeat_answer old new P n (Err PastEnd) fits h = (h.1, sym fits.end ∙ h.2, h.3)
-heartbeat_answer old new P n (Ok Heartbeat) fits h = λ e is. h.1 e (fits.end ∙ is)
-heartbeat_answer old new P n (Ok Ended) fits h = h
-heartbeat_answer old new P n (Ok Ahead) fits h = h
-heartbeat_answer old new P n (Ok (Taken fresh repeated)) fits h = h
-heartbeat_answer old new P n (Err OtherSession) fits h = h
-heartbeat_answer old new P n (Err EndMoved) fits h = h
-heartbeat_answer old new P n (Err EndTooEarly) fits h = h
-heartbeat_answer old new P n (Err Conflict) fits h = h
+-- messages
+messages_fits : (old new : State) (P : List Arrival) (line : LineId) (p : Content) (answer : Result Outcome LineFault) → 1 ≤ p.number → Stands old P → MessagesStep line old new p answer → Stands new (P ++ record { line = line; packet = p; answer = answer } ∷ [])
+messages_fits old new P line p (Err PastEnd) one fits h = fits_refused old new P line p PastEnd h.0 fits
+messages_fits old new P line p (Err Conflict) one fits h = fits_refused old new P line p Conflict h.0 fits
+messages_fits old new P line p (Ok Ahead) one fits h = subst (λ (x : State). Stands x (P ++ record { line = line; packet = p; answer = Ok Ahead } ∷ [])) (sym h.0) (fits_heard old P (record { line = line; packet = p; answer = Ok Ahead }) refl refl fits)
+messages_fits old new P line p (Ok (Taken fresh repeated)) one fits h = fits_taken fresh old new P (record { line = line; packet = p; answer = Ok (Taken fresh repeated) }) one (h.4 ∙ new_is old P p fits one (before_is old P (last_of p) fits h.1)) refl refl refl h.1 h.0 fits
+messages_fits old new P line p (Ok Heartbeat) one fits h = absurd h
+messages_fits old new P line p (Ok Ended) one fits h = absurd h
+messages_fits old new P line p (Err OtherSession) one fits h = absurd h
+messages_fits old new P line p (Err EndMoved) one fits h = absurd h
+messages_fits old new P line p (Err EndTooEarly) one fits h = absurd h
 
+-- a heartbeat
 heartbeat_fits : (old new : State) (P : List Arrival) (line : LineId) (p : Content) (answer : Result Outcome LineFault) → Stands old P → HeartbeatStep old new p.number answer → Stands new (P ++ record { line = line; packet = p; answer = answer } ∷ [])
 heartbeat_fits old new P line p (Err PastEnd) fits h = fits_refused old new P line p PastEnd h.0 fits
 heartbeat_fits old new P line p (Ok Heartbeat) fits h = subst (λ (x : State). Stands x (P ++ record { line = line; packet = p; answer = Ok Heartbeat } ∷ [])) (sym h.0) (fits_heard old P (record { line = line; packet = p; answer = Ok Heartbeat }) refl refl fits)
@@ -43,50 +45,6 @@ heartbeat_fits old new P line p (Err OtherSession) fits h = absurd h
 heartbeat_fits old new P line p (Err EndMoved) fits h = absurd h
 heartbeat_fits old new P line p (Err EndTooEarly) fits h = absurd h
 heartbeat_fits old new P line p (Err Conflict) fits h = absurd h
-
--- what is held was taken
-taken_from_held : (s : State) (P : List Arrival) (m : ℕ) → Stands s P → IsSome (held_at (held_of s) m) → IsSome (carried P m)
-taken_from_held s P m fits h = open_if (nat_le m s.sent) (carried P m) (subst (λ o. IsSome o) (fits.held m) h)
-  where
-    open_if : (b : Bool) (o : Option Item) → IsSome (if b then None else o) → IsSome o
-    open_if true o h = absurd (false≢true h)
-    open_if false o h = h
-
--- while no end is announced, the cursor is not past the front
-open_cursor : (s : State) (P : List Arrival) → Stands s P → s.end ≡ None → s.sent ≤ s.front
-open_cursor s P fits is = elim (cursor s P fits) [
-  | inl within ↦ within
-  | inr ended ↦ let gone : Some (s.front + 1) ≡ None = sym ended.1 ∙ sym fits.end ∙ is in absurd cc
-]
-
--- and each number that was taken is below n where the front and all that is held are
-all_below : (s : State) (P : List Arrival) (n : ℕ) → Stands s P → s.end ≡ None → s.front < n → ((m : ℕ) → IsSome (held_at (held_of s) m) → m < n) → (m : ℕ) → IsSome (carried P m) → m < n
-all_below s P n fits is front held m h = elim (cases_lt s.sent m) [
-  | inl lt ↦ held m (subst (λ o. IsSome o) (sym (held_is s P fits m lt)) h)
-  | inr le ↦ let k = open_cursor s P fits is in omega arith
-]
-
-end_answer : (old new : State) (P : List Arrival) (n : ℕ) (answer : Result Outcome LineFault) → 1 ≤ n → Stands old P → EndStep old new n answer → ToEnd P n answer
-end_answer old new P n (Err EndMoved) one fits h = (h.1, sym fits.end ∙ h.2, h.3)
-end_answer old new P n (Err EndTooEarly) one fits h =
-    let found : (m : ℕ) × (n ≤ m) × IsSome (carried P m) = elim h.2 [
-      | inl front ↦ (old.front, front, fits.front.all old.front (omega arith) (omega arith))
-      | inr there ↦ (there.0, there.1, taken_from_held old P there.0 fits there.2)
-    ] in
-    (sym fits.end ∙ h.1, found.0, found.1, found.2)
-end_answer old new P n (Ok Ended) one fits h = elim h [
-  | inl again ↦ inl (sym fits.end ∙ again.1)
-  | inr first ↦ inr (sym fits.end ∙ first.1, all_below old P n fits first.1 first.2 first.3)
-]
-end_answer old new P n (Ok Heartbeat) one fits h = h
-end_answer old new P n (Ok Ahead) one fits h = h
-end_answer old new P n (Ok (Taken fresh repeated)) one fits h = h
-end_answer old new P n (Err OtherSession) one fits h = h
-end_answer old new P n (Err PastEnd) one fits h = h
-end_answer old new P n (Err Conflict) one fits h = h
-
-announced_known : (P : List Arrival) (e : ℕ) → end_of P ≡ Some e → known_of P ≡ e - 1
-announced_known P e is = ap (λ (o : Option ℕ). option_map_or (λ x. x - 1) o (fold (λ k x. max k (heard x)) 0 P)) is
 
 -- the end is announced by the first packet that says so
 end_fits : (old new : State) (P : List Arrival) (a : Arrival) → a.answer ≡ Ok Ended → 1 ≤ a.packet.number
@@ -102,7 +60,7 @@ end_fits old new P a ended one h fits =
           let now : end_of (P ++ a ∷ []) ≡ Some a.packet.number = end ∙ ap (λ (o : Option ℕ). option_or o (Some a.packet.number)) was in
           subst (λ (x : State). Stands x (P ++ a ∷ [])) (sym again.0) (record {
             front = record { all = λ m h k. rw (quiet m) (fits.front.all m h k); next = quiet (old.front + 1) ∙ fits.front.next };
-            known = fits.known ∙ announced_known P a.packet.number was ∙ sym (announced_known (P ++ a ∷ []) a.packet.number now);
+            known = fits.known ∙ known_at_end P a.packet.number was ∙ sym (known_at_end (P ++ a ∷ []) a.packet.number now);
             end = fits.end ∙ was ∙ sym now;
             sent = rw (stream_len P (P ++ a ∷ []) old.front (now ∙ sym was)) fits.sent;
             held = λ m. fits.held m ∙ ap (λ (o : Option Item). if nat_le m old.sent then None else o) (sym (quiet m));
@@ -113,7 +71,7 @@ end_fits old new P a ended one h fits =
           let now : end_of (P ++ a ∷ []) ≡ Some a.packet.number = end ∙ ap (λ (o : Option ℕ). option_or o (Some a.packet.number)) was in
           subst (λ (x : State). Stands x (P ++ a ∷ [])) (sym first.0) (record {
             front = record { all = λ m h k. rw (quiet m) (fits.front.all m h k); next = quiet (old.front + 1) ∙ fits.front.next };
-            known = sym (announced_known (P ++ a ∷ []) a.packet.number now);
+            known = sym (known_at_end (P ++ a ∷ []) a.packet.number now);
             end = sym now;
             sent = let l = length-stream (P ++ a ∷ []) old.front in let k = open_cursor old P fits first.1 in omega arith;
             held = λ m. fits.held m ∙ ap (λ (o : Option Item). if nat_le m old.sent then None else o) (sym (quiet m));
@@ -132,21 +90,10 @@ end_step_fits old new P line p (Err OtherSession) one fits h = absurd h
 end_step_fits old new P line p (Err PastEnd) one fits h = absurd h
 end_step_fits old new P line p (Err Conflict) one fits h = absurd h
 
-kind_answer : (kind : Kind) (line : LineId) (old new : State) (P : List Arrival) (p : Content) (answer : Result Outcome LineFault) → 1 ≤ p.number → Stands old P → KindStep kind line old new p answer → ToKind kind old.window old.sent P p answer
-kind_answer kinds.Messages line old new P p answer one fits h = messages_answer line old new P p answer one fits h
-kind_answer kinds.Heartbeat line old new P p answer one fits h = heartbeat_answer old new P p.number answer fits h
-kind_answer kinds.End line old new P p answer one fits h = end_answer old new P p.number answer one fits h
-
 kind_fits : (kind : Kind) (old new : State) (P : List Arrival) (line : LineId) (p : Content) (answer : Result Outcome LineFault) → 1 ≤ p.number → Stands old P → KindStep kind line old new p answer → Stands new (P ++ record { line = line; packet = p; answer = answer } ∷ [])
 kind_fits kinds.Messages old new P line p answer one fits h = messages_fits old new P line p answer one fits h
 kind_fits kinds.Heartbeat old new P line p answer one fits h = heartbeat_fits old new P line p answer fits h
 kind_fits kinds.End old new P line p answer one fits h = end_step_fits old new P line p answer one fits h
-
-pub packet_answer : (line : LineId) (old new : State) (P : List Arrival) (p : Content) (answer : Result Outcome LineFault) → IsContent p → Stands old P → PacketStep line old new p answer → IsOutcome old.session old.window old.sent P p answer
-packet_answer line old new P p answer content fits h = elim h [
-  | inl other ↦ inl (other.0, other.1)
-  | inr same ↦ inr (same.0, kind_answer p.kind line old new P p answer content.from_one fits same.1)
-]
 
 pub packet_fits : (old new : State) (P : List Arrival) (line : LineId) (p : Content) (answer : Result Outcome LineFault) → IsContent p → Stands old P → PacketStep line old new p answer → Stands new (P ++ record { line = line; packet = p; answer = answer } ∷ [])
 packet_fits old new P line p answer content fits h = elim h [

@@ -19,11 +19,6 @@ turn (x ∷ xs) (suc n) m rest e =
     let t = turn xs n m rest e in
     record { within = let k = t.within in omega arith; here = t.here; after = rw add-one (rw add-one at t.after) }
 
-pub all_over : (ms : List (List ℕ)) (n : ℕ) → drop n ms ≡ [] → length ms ≤ n
-all_over [] n e = omega arith
-all_over (x ∷ xs) zero e = absurd cc
-all_over (x ∷ xs) (suc n) e = let k = all_over xs n e in omega arith
-
 -- all of a packet's numbers fit
 pub numbers_fit : (p : Content) → IsContent p → p.number + length p.messages ≤ 2 ^ 64
 numbers_fit p h = h.in_range

@@ -11,7 +11,8 @@ use Rattle.line_arbiter.specs.Packets.{Arrival, bringer, carried, has_number, is
 use Rattle.line_arbiter.specs.Streams.{is_same_line, wins_of}
 use Rattle.line_arbiter.specs.Outcomes.{new_count}
 use Rattle.line_arbiter.proofs.Counting.{one_if, count_sum, count_same, count_none, count_split, count_past}
-use Rattle.line_arbiter.proofs.Bringing.{bringer-push, none_above, top_of-push}
+use Rattle.line_arbiter.proofs.Bringing.{bringer-push, top_of-push}
+use Rattle.line_arbiter.proofs.Fronts.{bringer_above}
 
 -- the first to bring the number came on the line
 abbrev is_won : List Arrival → LineId → ℕ → Bool
@@ -40,7 +41,7 @@ won_once P a line m =
 
 -- above the greatest number that was taken nothing is won
 won_to : (P : List Arrival) (line : LineId) (n : ℕ) → top_of P ≤ n → wins_of P line ≡ count_by (is_won P line) (range_with_len 1 n)
-won_to P line n within = count_past (is_won P line) 1 (top_of P) n within (λ m above. ap (λ (o : Option Arrival). option_map_or (λ (x : Arrival). is_same_line x.line line) o false) (none_above P m (omega arith)))
+won_to P line n within = count_past (is_won P line) 1 (top_of P) n within (λ m above. ap (λ (o : Option Arrival). option_map_or (λ (x : Arrival). is_same_line x.line line) o false) (bringer_above P 0 m (omega arith)))
 
 -- a packet's numbers among those from 1 on
 own_numbers : (q : ℕ → Bool) (p : Content) (n : ℕ) → 1 ≤ p.number → p.number - 1 + length p.messages ≤ n

@@ -1,5 +1,5 @@
 -- When a request for a gap goes out (this project's choice).
-use Rattle.std.specs.Prelude.{◌≡◌, ◌≢◌, ℕ, ◌+◌, ◌<◌, ◌≤◌, ◌⊎◌, Option, Some, None}
+use Rattle.std.specs.Prelude.{◌≡◌, ℕ, ◌+◌, ◌<◌, Option, Some, None}
 use Rattle.mold_packet.specs.declared.request.Request.{Request}
 
 -- a request that went out: its first number, and when

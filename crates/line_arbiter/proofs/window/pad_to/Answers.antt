@@ -1,5 +1,5 @@
 use Rattle.std.proofs.Common.{◌∙◌, arith}
-use Rattle.line_arbiter.proofs.Blanks.{blank_more}
+use Rattle.line_arbiter.proofs.Places.{blank_more}
 use Rattle.line_arbiter.proofs.window.pad_to.Goals as goal
 
 pub loop-ring-preserved : goal.loop-ring-preserved

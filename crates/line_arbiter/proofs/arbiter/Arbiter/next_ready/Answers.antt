@@ -1,4 +1,4 @@
-use Rattle.std.proofs.Common.{◌∙◌, ap, ◌≡◌}
+use Rattle.std.proofs.Common.{◌∙◌, ap}
 use Rattle.std.specs.Prelude.{slice_get}
 use Rattle.line_arbiter.specs.Streams.{stream_to}
 use Rattle.line_arbiter.proofs.Standing.{stands_of}

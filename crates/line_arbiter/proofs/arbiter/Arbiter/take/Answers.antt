@@ -1,5 +1,6 @@
 use Rattle.line_arbiter.proofs.Standing.{stands_of, fits_of}
-use Rattle.line_arbiter.proofs.PacketSteps.{packet_answer, packet_fits}
+use Rattle.line_arbiter.proofs.Answering.{packet_answer}
+use Rattle.line_arbiter.proofs.PacketSteps.{packet_fits}
 use Rattle.line_arbiter.proofs.arbiter.Arbiter.take.Goals as goal
 
 pub returns-clause-outcome : goal.returns-clause-outcome

@@ -1,6 +1,6 @@
 use Rattle.std.proofs.Common.{ap, arith}
 use Rattle.line_arbiter.specs.Holding.{Held}
-use Rattle.line_arbiter.proofs.Blanks.{IsHeld-put, hold_held, hold_free}
+use Rattle.line_arbiter.proofs.Windows.{IsHeld-put, hold_held, hold_free}
 use Rattle.line_arbiter.proofs.window.Window.hold.Goals as goal
 
 pub invariant_of-self : goal.invariant_of-self

@@ -2,7 +2,7 @@ use Rattle.std.proofs.Common.{◌≡◌, ◌≢◌, ◌+◌, ◌<◌, ◌≤◌,
 use Rattle.std.specs.Prelude.{nat_le, IsSome, MatchBool}
 use Rattle.std.proofs.lemmas.Bool.{eq-eqb, false≢true, leb-true, leb-false}
 use Rattle.line_arbiter.specs.Holding.{Held, held_at}
-use Rattle.line_arbiter.proofs.Blanks.{highest, none_above}
+use Rattle.line_arbiter.proofs.Windows.{highest, none_above}
 use Rattle.line_arbiter.proofs.window.Window.holds_from.Goals as goal
 
 decided : (held : Held) (number : ℕ) → IsSome (held_at held (held.base + length held.places)) → (t : Bool) → nat_le number (held.base + length held.places) ≡ t → MatchBool t ((m : ℕ) × (number ≤ m) × IsSome (held_at held m)) ((m : ℕ) → IsSome (held_at held m) → m < number)

@@ -1,16 +1,13 @@
-use Rattle.std.proofs.Common.{◌≡◌, Bool, true, false, Option, cond, ap, ◌∙◌, arith, refl}
-use mir.Val.{bool_byte}
+use Rattle.std.proofs.Common.{◌≡◌, Bool, Option, cond, ap, ◌∙◌, arith}
 use Rattle.std.specs.Prelude.{is_some}
 use Rattle.std.specs.Option.{option_and_then}
 use Rattle.feed_types.specs.declared.item.Item.{Item}
 use Rattle.line_arbiter.specs.Holding.{Held}
-use Rattle.line_arbiter.proofs.Blanks.{IsHeld-pass, next_fits, pass_held, some_first, in_place}
+use Rattle.line_arbiter.proofs.Counting.{byte_is}
+use Rattle.line_arbiter.proofs.Places.{in_place, some_first}
+use Rattle.line_arbiter.proofs.Windows.{IsHeld-pass, next_fits, pass_held}
 use Rattle.line_arbiter.proofs.window.Window.pass.Goals as goal
 use Rattle.line_arbiter.proofs.window.Window.pass.Goals.{After-from}
-
-byte_is : (b : Bool) → bool_byte b ≡ cond b 1 0
-byte_is true = refl
-byte_is false = refl
 
 -- what is no longer counted
 first_counts : (c : After-from) → c.from.result ≡ cond (is_some (in_place c.self.inside.ring.items 0)) 1 0
