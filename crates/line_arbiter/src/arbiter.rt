@@ -40,7 +40,7 @@ pub struct ArbiterStatus {
     pub known: u64,
     /// The announced end, one more than the last message's number.
     pub end: Option<u64>,
-    /// How many messages were taken and not yet advanced past.
+    /// How many messages were taken and not yet advanced past, at most the window.
     pub held: u32,
 }
 
@@ -141,14 +141,14 @@ impl<G: Genuine> Arbiter<G> {
         self.venue_id
     }
 
-    /// The present session's name.
+    /// The present session's name: ten bytes, filled on the right with spaces.
     pub fn session(&self) -> [u8; 10]
         ensures { result ≡ self.now.session }
     {
         self.session_name
     }
 
-    /// Which of the venue's sessions the present one is, counted from 1.
+    /// Which of the venue's sessions the present one is, counted from 1 to 64.
     pub fn ordinal(&self) -> u64
         ensures { result ≡ ordinal_of self.now }
     {
@@ -268,7 +268,7 @@ impl<G: Genuine> Arbiter<G> {
     }
 
     /// The item after the last one advanced past, if it is there: a message, or End behind the last
-    /// one.
+    /// one. Nothing is ready after End. It stays until `advance`.
     pub fn next_ready(&self) -> Option<Numbered>
         ensures value { result ≡ next_of self.now }
         ensures number { IfSome result (λ n. n.number ≡ self.now.sent + 1) }
@@ -278,7 +278,7 @@ impl<G: Genuine> Arbiter<G> {
         self.ready()
     }
 
-    /// Goes past the item that is ready.
+    /// Goes past the item that is ready, so that the next one may be. One has to be ready.
     pub fn advance(&mut self)
         requires { IsSome (next_of self.old) }
         ensures after { IsAdvanced self.old self.new }

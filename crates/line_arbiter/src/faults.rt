@@ -8,8 +8,10 @@ use thiserror::Error;
 /// Why there is no arbiter.
 #[derive(Clone, Copy, Debug, PartialEq, Eq, Hash, Error)]
 pub enum ArbiterFault {
+    /// A window has 1 to 65,535 messages.
     #[error("the window isn't between 1 and 65,535 messages")]
     BadWindow,
+    /// The memory for the window's places was refused.
     #[error("no memory for the window")]
     NoMemory,
 }

@@ -8,10 +8,11 @@ pub enum Outcome {
     /// Its messages are held, or were already: so many numbers came first with this packet, so many
     /// had come before.
     Taken { new: u16, repeated: u16 },
+    /// It is a heartbeat: the session goes at least to before its number.
     Heartbeat,
-    /// The end of the session is announced.
+    /// The end of the session is announced, now or before.
     Ended,
-    /// Its last number lies beyond the window. Nothing of it is held.
+    /// Its last number lies beyond the window. It is known of, and nothing of it is held.
     Ahead,
 }
 
