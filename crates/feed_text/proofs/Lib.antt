@@ -2,3 +2,8 @@ pub mod Ranges
 pub mod Reading
 pub mod Calls
 pub mod Steps
+pub mod Rest
+pub mod VenueSteps
+pub mod Growing
+pub mod Telling
+pub mod Replayed

@@ -3,3 +3,8 @@ pub mod Devices
 pub mod Kind
 pub mod DeviceLaws
 pub mod Progress
+pub mod Lines
+pub mod Printed
+pub mod Following
+pub mod TellingLaws
+pub mod Replays

@@ -16,15 +16,21 @@
 
 pub mod capture;
 pub mod devices;
+mod engine;
 pub mod failures;
 pub mod fault;
 mod input;
 pub mod laws;
+mod lines;
+#[cfg(test)]
+mod lines_tests;
 pub mod memory;
 mod output;
 pub mod replay;
-pub mod reporter;
+mod reporter;
 pub mod system;
 #[cfg(test)]
 mod tests;
-pub mod window;
+mod venue;
+mod venues;
+mod window;

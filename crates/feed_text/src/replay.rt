@@ -1,81 +1,59 @@
-//! A replay: a capture is read, and the lines of its records are written.
-ghost use Rattle.std.specs.Prelude.{◌≡◌, ◌≢◌, ℕ, ◌+◌, ◌-◌, ◌<◌, ◌≤◌, ◌++◌, [], List, Ok, Err, IfOk, OnOk, OnErr, IsErrOf, length, true, false};
+//! The replay of a capture.
+ghost use Rattle.std.specs.Prelude.{◌≡◌, ℕ, ◌+◌, ◌≤◌, OnOk, OnErr, IsErrOf, length};
 ghost use Rattle.feed_text.specs.Capture.{IsBad, IsShort};
-ghost use Rattle.feed_text.specs.Devices.{Wrote};
-ghost use Rattle.feed_text.specs.Progress.{Closed, ClosedPart, IsUnfinished, Stopped, StoppedSome, StoppedAtEnd, StoppedAtCall, ReplayedAll, ReplayedPart};
+ghost use Rattle.feed_text.specs.Progress.{IsUnfinished};
+ghost use Rattle.feed_text.specs.Replays.{venues_in, ReplaysAll, ReplaysTo, ReplaysSome, ReplaysToEnd, ReplaysUntil, ReplaysFront};
 
-use crate::capture::{Front, front_of};
 use crate::devices::{CaptureIn, TextOut};
+use crate::engine::replay_with;
 use crate::fault::ReplayFault;
-use crate::input::fill;
-use crate::output::{flush, flush_full};
-use crate::reporter::Reporter;
-use crate::window::Window;
+use crate::venues::Venues;
 use std::alloc::Global;
 
-/// Writes the last lines, where no byte is left over.
-fn finish<W: TextOut, P: Reporter>(
-    window: &Window,
-    mut text: Vec<u8>,
-    reporter: &P,
-    writer: &mut W,
-) -> Result<(), ReplayFault>
-    requires text { text.items ≡ [] }
-    ensures ok { OnOk result (Closed W.adds P.closes reporter.now writer.old writer.new × (window.now ≡ [])) }
-    ensures short { IsErrOf result ReplayFault.ShortRecord → (0 < length window.now) × (writer.new ≡ writer.old) }
-    ensures part { OnErr result (ClosedPart W.adds P.closes reporter.now writer.old writer.new) }
-    ensures failed { IsErrOf result ReplayFault.WriteFailed → W.failures writer.new ≡ W.failures writer.old + 1 }
-    ensures faults { (e : _) → IsErrOf result e → (e ≢ ReplayFault.ShortRecord) → (e ≢ ReplayFault.NoMemory) → e ≡ ReplayFault.WriteFailed }
-{
-    if !window.is_empty() {
-        return Err(ReplayFault::ShortRecord);
-    }
-    reporter.close(&mut text)?;
-    flush(&mut text, writer)
+/// What a replay is asked for.
+#[derive(Clone, Copy, Debug)]
+pub struct ReplayConfig<'a> {
+    /// The names of the venues' first sessions, ten bytes each, filled on the right with spaces: 1 to 16,
+    /// any names.
+    pub sessions: &'a [[u8; 10]],
+    /// How many messages past the last item sent are held, in each venue: 1 to 65,535.
+    pub window: u32,
+    /// Whether a gap line is printed where a datagram leaves a gap.
+    pub gaps: bool,
+    /// How many calls of the reader may be made.
+    pub turns: u64,
 }
 
-/// Reads a capture of so many venues to its end, and writes the lines of its records and the last lines.
+/// Reads a capture to its end, and writes the lines of its records and then those of its venues.
 ///
 /// What is ready is written before the reader is called again, so that a pipe shows lines as they come.
-/// Every call of the reader is a turn, also one that was interrupted.
-pub fn replay_with<R: CaptureIn, W: TextOut, P: Reporter>(
+/// Every call of the reader is a turn, also one that was interrupted. Memory is taken for the venues'
+/// windows, for the bytes of a read and for a text of about a page, and none for a record.
+pub fn replay<R: CaptureIn, W: TextOut>(
     alloc: Global,
-    venues: usize,
-    turns: u64,
-    reporter: &mut P,
+    config: &ReplayConfig<'_>,
     reader: &mut R,
     writer: &mut W,
 ) -> Result<(), ReplayFault>
-    requires few { venues ≤ 16 }
-    requires venues { P.venues reporter.old ≡ venues }
-    ensures ok { OnOk result (ReplayedAll R.gives R.ends W.adds P.tells P.closes venues turns reader.old reader.new writer.old writer.new reporter.old reporter.new) }
-    ensures bad { IsErrOf result ReplayFault.BadRecord → StoppedSome R.gives W.adds P.tells venues (IsBad venues) reader.old reader.new writer.old writer.new reporter.old reporter.new }
-    ensures short { IsErrOf result ReplayFault.ShortRecord → StoppedAtEnd R.gives R.ends W.adds P.tells venues (IsShort venues) reader.old reader.new writer.old writer.new reporter.old reporter.new }
-    ensures turns { IsErrOf result ReplayFault.TooManyTurns → Stopped R.gives W.adds P.tells venues (IsUnfinished venues) reader.old turns reader.new writer.old writer.new reporter.old reporter.new }
-    ensures read { IsErrOf result ReplayFault.ReadFailed → StoppedAtCall R.gives W.adds P.tells venues (IsUnfinished venues) reader.old writer.old writer.new reporter.old reporter.new × (R.failures reader.new ≡ R.failures reader.old + 1) }
+    requires some { 1 ≤ length config.now.sessions.now }
+    requires few { length config.now.sessions.now ≤ 16 }
+    requires least { 1 ≤ config.now.window }
+    requires most { config.now.window ≤ 65535 }
+    ensures ok { OnOk result (ReplaysAll R.gives R.ends W.adds config.now reader.old reader.new writer.old writer.new) }
+    ensures bad { IsErrOf result ReplayFault.BadRecord → ReplaysSome R.gives W.adds config.now (IsBad (venues_in config.now)) reader.old reader.new writer.old writer.new }
+    ensures short { IsErrOf result ReplayFault.ShortRecord → ReplaysToEnd R.gives R.ends W.adds config.now (IsShort (venues_in config.now)) reader.old reader.new writer.old writer.new }
+    ensures turns { IsErrOf result ReplayFault.TooManyTurns → ReplaysTo R.gives W.adds config.now (IsUnfinished (venues_in config.now)) reader.old config.now.turns reader.new writer.old writer.new }
+    ensures read { IsErrOf result ReplayFault.ReadFailed → ReplaysUntil R.gives W.adds config.now (IsUnfinished (venues_in config.now)) reader.old writer.old writer.new × (R.failures reader.new ≡ R.failures reader.old + 1) }
     ensures write { IsErrOf result ReplayFault.WriteFailed → W.failures writer.new ≡ W.failures writer.old + 1 }
-    ensures part { OnErr result (ReplayedPart R.gives W.adds P.tells P.closes venues reader.old writer.old writer.new reporter.old) }
+    ensures part { OnErr result (ReplaysFront R.gives W.adds config.now reader.old writer.old writer.new) }
 {
-    let mut window = Window::new(alloc)?;
-    let mut text = Vec::new(alloc);
-    let mut turns_left = turns;
-    'records: loop {
-        match front_of(venues, window.unread()) {
-            Front::Whole(record, len) => {
-                reporter.take(record, &mut text)?;
-                window.advance(len);
-                flush_full(&mut text, writer)?;
-            }
-            Front::Bad => {
-                flush(&mut text, writer)?;
-                return Err(ReplayFault::BadRecord);
-            }
-            Front::Wants(wanted) => {
-                flush(&mut text, writer)?;
-                if !fill(&mut window, reader, wanted, &mut turns_left)? {
-                    return finish(&window, text, reporter, writer);
-                }
-            }
-        }
-    }
+    let mut venues = Venues::new(alloc, config.sessions, config.window, config.gaps)?;
+    replay_with(
+        alloc,
+        config.sessions.len(),
+        config.turns,
+        &mut venues,
+        reader,
+        writer,
+    )
 }

@@ -1,5 +1,5 @@
 //! What makes lines of records.
-ghost use Rattle.std.specs.Prelude.{◌≡◌, ℕ, ◌++◌, [], ◌∷◌, List, IfOk, OnOk, OnErr};
+ghost use Rattle.std.specs.Prelude.{◌≡◌, ℕ, ◌++◌, [], ◌∷◌, List, OnOk};
 ghost use Rattle.feed_text.specs.Capture.{CaptureRecord, IsRecord, record_of};
 ghost use Rattle.feed_text.specs.Progress.{Tells, Closes};
 
@@ -17,17 +17,15 @@ pub trait Reporter {
     /// At this state these are the last lines.
     ghost closes: { Self → List ℕ → Type 0 };
 
-    /// Prints the lines of the next record behind the text. Where memory for them is refused the text is as it
-    /// was, and no other record can be taken.
+    /// Prints the lines of the next record behind the text. Where memory for them is refused, no other record
+    /// can be taken.
     fn take(&mut self, next: Record<'_>, text: &mut Vec<u8>) -> Result<(), AllocError>
         requires { IsRecord (venues self.old) (record_of next) }
-        ensures told { OnOk result (Tells tells self.old (record_of next.entry) text.old.items text.new.items self.new) }
-        ensures unchanged { OnErr result (text.new.items ≡ text.old.items) };
+        ensures { OnOk result (Tells tells self.old (record_of next.entry) text.old.items text.new.items self.new) };
 
-    /// Prints the last lines behind the text. Where memory for them is refused the text is as it was.
+    /// Prints the last lines behind the text.
     fn close(&self, text: &mut Vec<u8>) -> Result<(), AllocError>
-        ensures closed { OnOk result (Closes closes self.now text.old.items text.new.items) }
-        ensures unchanged { OnErr result (text.new.items ≡ text.old.items) };
+        ensures { OnOk result (Closes closes self.now text.old.items text.new.items) };
 
     /// No record gives no line.
     ghost tells_none: { (s : Self) → tells s [] [] s };

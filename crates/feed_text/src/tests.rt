@@ -3,10 +3,10 @@ ghost use Rattle.std.specs.Prelude.{◌≡◌, ◌<◌, ◌≤◌, length, refl}
 
 use crate::capture::{Front, Record, front_of};
 use crate::devices::{CaptureIn, ReadStop, TextOut, WriteStop};
+use crate::engine::replay_with;
 use crate::failures::Failures;
 use crate::fault::ReplayFault;
 use crate::memory::{MemoryIn, MemoryOut};
-use crate::replay::replay_with;
 use crate::reporter::Reporter;
 use crate::system::{StreamIn, StreamOut};
 use crate::window::{Turn, Window};

@@ -1,6 +1,6 @@
 use Rattle.std.proofs.Common.{◌≡◌, ◌+◌, ◌*◌, ◌-◌, ◌<◌, ◌≤◌, length}
 use Rattle.feed_text.specs.Progress.{SoFar}
-use Rattle.feed_text.proofs.replay.replay_with.Given as goal
+use Rattle.feed_text.proofs.engine.replay_with.Given as goal
 
 abbrev pub invariant-records : goal.invariant-records
 invariant-records g l = record {

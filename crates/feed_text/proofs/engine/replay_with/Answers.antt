@@ -3,8 +3,8 @@ use Rattle.feed_text.specs.declared.fault.ReplayFault.TheVariants.{TooManyTurns,
 use Rattle.feed_text.specs.Capture.{record_of}
 use Rattle.std.proofs.lemmas.Result.{err_from_is_err_and, on_ok_weaker, on_err_weaker}
 use Rattle.feed_text.proofs.Steps.{Laws, so_far_none, so_far_step, so_far_moved, so_far_read, so_far_empty, part_of, part_wrote, part_closed, stopped_of, all_of, on_err, unfinished_from, short_of}
-use Rattle.feed_text.proofs.replay.replay_with.Given.{Over}
-use Rattle.feed_text.proofs.replay.replay_with.Goals as goal
+use Rattle.feed_text.proofs.engine.replay_with.Given.{Over}
+use Rattle.feed_text.proofs.engine.replay_with.Goals as goal
 
 laws_of : (g : Over) → Laws g.R.CaptureIn.gives g.W.TextOut.adds g.P.Reporter.tells
 laws_of g = record {
@@ -34,16 +34,16 @@ returns-in_err-take-in-Whole-clause-part g c = on_err _ (part_of c.records.invar
 
 pub records-preserved-in_ok-flush_full-in-Whole : goal.records-preserved-in_ok-flush_full-in-Whole
 records-preserved-in_ok-flush_full-in-Whole g c = record {
-  so_far = so_far_moved (laws_of g) (so_far_step (record_of c.in-Whole.record) c.in-Whole.len c.unread.result.now c.advance.new.self (laws_of g) c.in-Whole.ensures.0 c.unread.ensures c.in-Whole.ensures.2 c.advance.ensures c.in_ok-take-in-Whole.ensures.told c.records.invariant.so_far) c.in_ok-flush_full-in-Whole.ensures.ok;
+  so_far = so_far_moved (laws_of g) (so_far_step (record_of c.in-Whole.record) c.in-Whole.len c.unread.result.now c.advance.new.self (laws_of g) c.in-Whole.ensures.0 c.unread.ensures c.in-Whole.ensures.2 c.advance.ensures c.in_ok-take-in-Whole.ensures c.records.invariant.so_far) c.in_ok-flush_full-in-Whole.ensures.ok;
   turns = c.records.invariant.turns;
   room = rw c.advance.ensures (omega (arith, c.records.invariant.room, length-drop {A = ℕ}));
   reads = c.records.invariant.reads;
   writes = search rules;
-  venues = g.met.P.Reporter.venues_stay _ _ _ _ c.in_ok-take-in-Whole.ensures.told.told ∙ c.records.invariant.venues;
+  venues = g.met.P.Reporter.venues_stay _ _ _ _ c.in_ok-take-in-Whole.ensures.told ∙ c.records.invariant.venues;
 }
 
 pub returns-in_err-flush_full-in-Whole-clause-part : goal.returns-in_err-flush_full-in-Whole-clause-part
-returns-in_err-flush_full-in-Whole-clause-part g c = on_err _ (part_wrote (laws_of g) (so_far_step (record_of c.in-Whole.record) c.in-Whole.len c.unread.result.now c.advance.new.self (laws_of g) c.in-Whole.ensures.0 c.unread.ensures c.in-Whole.ensures.2 c.advance.ensures c.in_ok-take-in-Whole.ensures.told c.records.invariant.so_far) c.in_err-flush_full-in-Whole.ensures.part)
+returns-in_err-flush_full-in-Whole-clause-part g c = on_err _ (part_wrote (laws_of g) (so_far_step (record_of c.in-Whole.record) c.in-Whole.len c.unread.result.now c.advance.new.self (laws_of g) c.in-Whole.ensures.0 c.unread.ensures c.in-Whole.ensures.2 c.advance.ensures c.in_ok-take-in-Whole.ensures c.records.invariant.so_far) c.in_err-flush_full-in-Whole.ensures.part)
 
 pub returns-in_err-flush-in-Bad-clause-part : goal.returns-in_err-flush-in-Bad-clause-part
 returns-in_err-flush-in-Bad-clause-part g c = on_err _ (part_wrote (laws_of g) c.records.invariant.so_far c.in_err-flush-in-Bad.ensures.part)

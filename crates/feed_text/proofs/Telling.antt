@@ -1,0 +1,131 @@
+-- One more record, and the venue that it is of goes on.
+use Rattle.std.proofs.Common.{◌≡◌, ◌≢◌, ℕ, zero, suc, ◌+◌, ◌<◌, ◌≤◌, List, [], ◌∷◌, ◌++◌, length, map, take, drop, get_or, length-append, Some, refl, sym, ap, subst, ◌∙◌, append_assoc, append-nil, arith, inl, inr}
+use Rattle.std.specs.Prelude.{◌⊎◌, slice_get, slice_set, Result, Ok, Err, OnOk}
+use Rattle.std.proofs.Math.ListN.{length-set, drop_of_length-le}
+use Rattle.std.proofs.lemmas.List.{append_cancel_left, length-map, map-append, take_more}
+use Rattle.std.proofs.lemmas.Grind.{common_steps}
+use Rattle.std.proofs.lemmas.Option.{slice_get_within}
+use Rattle.feed_text.specs.Capture.{CaptureRecord, venue_of}
+use Rattle.feed_text.specs.Printed.{History, new_history, PrintsAt, last_line, last_lines}
+use Rattle.feed_text.specs.Following.{Venue, VenueList, Follows, FollowAll, Grows, PrintsOne, TellsLines}
+use Rattle.feed_text.specs.Progress.{Tells}
+use Rattle.feed_text.proofs.Rest.{rest_at}
+
+-- an element within a list
+get_within : {X : Type 0} (xs : List X) (i : ℕ) → i < length xs → (x : X) × (slice_get xs i ≡ Some x)
+get_within [] i h = absurd (omega arith)
+get_within (x ∷ xs) zero h = (x, refl)
+get_within (x ∷ xs) (suc i) h = get_within xs i (omega arith)
+
+get_set_same : {X : Type 0} (xs : List X) (i : ℕ) (x y : X) → slice_get (slice_set xs i x) i ≡ Some y → y ≡ x
+get_set_same [] i x y e = absurd cc
+get_set_same (z ∷ xs) zero x y e = cc
+get_set_same (z ∷ xs) (suc i) x y e = get_set_same xs i x y e
+
+get_set_other : {X : Type 0} (xs : List X) (i j : ℕ) (x : X) → j ≢ i → slice_get (slice_set xs i x) j ≡ slice_get xs j
+get_set_other [] i j x h = refl
+get_set_other (z ∷ xs) zero zero x h = absurd (h refl)
+get_set_other (z ∷ xs) zero (suc j) x h = refl
+get_set_other (z ∷ xs) (suc i) zero x h = refl
+get_set_other (z ∷ xs) (suc i) (suc j) x h = get_set_other xs i j x (λ e. h (omega arith))
+
+same_or_not : (j i : ℕ) → (j ≡ i) ⊎ (j ≢ i)
+same_or_not zero zero = inl refl
+same_or_not zero (suc i) = inr (λ e. absurd (omega arith))
+same_or_not (suc j) zero = inr (λ e. absurd (omega arith))
+same_or_not (suc j) (suc i) = elim (same_or_not j i) [ inl e ↦ inl (ap suc e) | inr n ↦ inr (λ e. n (omega arith)) ]
+
+-- one venue and its history go on
+follow_set : (window i : ℕ) (vs : List Venue) (hs : List History) (v : Venue) (h : History) → FollowAll window vs hs → Follows window i v h → FollowAll window (slice_set vs i v) (slice_set hs i h)
+follow_set window i vs hs v h f now = record {
+  count = length-set vs i v ∙ f.count ∙ sym (length-set hs i h);
+  each = λ j w k e g. elim (same_or_not j i) [
+    | inl same ↦
+        let a : w ≡ v = get_set_same vs i v w (subst (λ (n : ℕ). slice_get (slice_set vs i v) n ≡ Some w) same e) in
+        let b : k ≡ h = get_set_same hs i h k (subst (λ (n : ℕ). slice_get (slice_set hs i h) n ≡ Some k) same g) in
+        rw (same, a, b) now
+    | inr other ↦ f.each j w k (sym (get_set_other vs i j v other) ∙ e) (sym (get_set_other hs i j h other) ∙ g)
+  ];
+}
+
+-- a list as long as one that has a place has it too
+pub history_at : (window : ℕ) (vs : List Venue) (hs : List History) (i : ℕ) (v : Venue) → FollowAll window vs hs → slice_get vs i ≡ Some v → (h : History) × (slice_get hs i ≡ Some h) × Follows window i v h
+history_at window vs hs i v f at =
+    let within = slice_get_within vs i v at in
+    let n = f.count in
+    let h = get_within hs i (omega arith) in
+    (h.0, h.1, f.each i v h.0 at h.1)
+
+-- one record
+pub tell_one : (from to : VenueList) (r : CaptureRecord) (old new : List ℕ) (v w : Venue) → slice_get from.items (venue_of r) ≡ Some v → to.items ≡ slice_set from.items (venue_of r) w → to.gaps ≡ from.gaps → Grows old new
+    → ((width : ℕ) (h : History) → Follows width (venue_of r) v h → PrintsOne width from.gaps r h old new w) → Tells TellsLines from r old new to
+tell_one from to r old new v w at set gaps g step = record {
+  lines = g.more;
+  told = record {
+    gaps = gaps;
+    count = ap length set ∙ length-set from.items (venue_of r) w;
+    told = λ window hs f.
+        let h = history_at window from.items hs (venue_of r) v f at in
+        let one = step window h.0 h.2 in
+        let lines : one.lines ≡ g.more = append_cancel_left old one.lines g.more (sym one.behind ∙ g.behind) in
+        record {
+          after = slice_set hs (venue_of r) one.after;
+          prints = (
+            slice_set hs (venue_of r) one.after,
+            g.more,
+            [],
+            record { before = h.0; after = one.after; at = h.1; prints = subst (λ (ls : List ℕ). PrintsAt window from.gaps r h.0 ls one.after) lines one.prints; others = refl },
+            (refl, refl),
+            sym (append-nil g.more),
+          );
+          follow = rw set (follow_set window (venue_of r) from.items hs w one.after f one.follows);
+        };
+  };
+  behind = g.behind;
+}
+
+pub on_ok_both : {T E : Type 0} (r : Result T E) {P Q S : Type 0} → (P → Q → S) → OnOk r P → OnOk r Q → OnOk r S
+on_ok_both (Ok x) f p q = f p q
+on_ok_both (Err e) f p q = tt
+
+slice_get_push : {X : Type 0} (xs : List X) (y : X) (i : ℕ) (x : X) → slice_get (xs ++ y ∷ []) i ≡ Some x → (slice_get xs i ≡ Some x) ⊎ ((i ≡ length xs) × (x ≡ y))
+slice_get_push [] y zero x e = inr (refl, cc)
+slice_get_push [] y (suc i) x e = absurd cc
+slice_get_push (z ∷ xs) y zero x e = inl e
+slice_get_push (z ∷ xs) y (suc i) x e = elim (slice_get_push xs y i x e) [ inl a ↦ inl a | inr b ↦ inr (ap suc b.0, b.1) ]
+
+follow_push : (window : ℕ) (vs : List Venue) (hs : List History) (v : Venue) (h : History) → FollowAll window vs hs → Follows window (length hs) v h → FollowAll window (vs ++ v ∷ []) (hs ++ h ∷ [])
+follow_push window vs hs v h f now = record {
+  count = length-append vs (v ∷ []) ∙ ap (λ (n : ℕ). n + 1) f.count ∙ sym (length-append hs (h ∷ []));
+  each = λ i w k e g. elim (slice_get_push vs v i w e) [
+    | inl a ↦ elim (slice_get_push hs h i k g) [
+      | inl b ↦ f.each i w k a b
+      | inr b ↦ let past = slice_get_within vs i w a in let n = f.count in absurd (omega (arith, b.0))
+    ]
+    | inr a ↦ elim (slice_get_push hs h i k g) [
+      | inl b ↦ let past = slice_get_within hs i k b in let n = f.count in absurd (omega (arith, a.0))
+      | inr b ↦ rw (b.0, a.1, b.1) now
+    ]
+  ];
+}
+
+-- one more venue, to which nothing came
+pub follow_next : (window : ℕ) (vs : List Venue) (sessions : List (List ℕ)) (i : ℕ) (v : Venue) → FollowAll window vs (map new_history (take i sessions)) → i < length sessions → Follows window i v (new_history (get_or sessions i [])) → FollowAll window (vs ++ v ∷ []) (map new_history (take (i + 1) sessions))
+follow_next window vs sessions i v f h now =
+    let hs : List History = map new_history (take i sessions) in
+    let len : length hs ≡ i = length-map (take i sessions) new_history ∙ length-take_le i sessions h in
+    let more : map new_history (take (i + 1) sessions) ≡ hs ++ new_history (get_or sessions i []) ∷ [] = rw (take_more sessions i [] h) (map-append new_history (take i sessions) (get_or sessions i [] ∷ [])) in
+    rw more (follow_push window vs hs v (new_history (get_or sessions i [])) f (rw len now))
+  where
+    length-take_le : (n : ℕ) (xs : List (List ℕ)) → n < length xs → length (take n xs) ≡ n
+    length-take_le n xs h = grind (arith, common_steps)
+
+-- one more last line
+pub close_more : (hs : List History) (i : ℕ) (h : History) (old new all : List ℕ) → slice_get hs i ≡ Some h → new ≡ old ++ last_line i h → old ++ last_lines i (drop i hs) ≡ all → new ++ last_lines (i + 1) (drop (i + 1) hs) ≡ all
+close_more hs i h old new all at put is =
+    let L = last_lines (i + 1) (drop (i + 1) hs) in
+    ap (λ (t : List ℕ). t ++ L) put ∙ append_assoc old (last_line i h) L ∙ ap (λ (t : List ℕ). old ++ t) (sym (ap (last_lines i) (rest_at hs i h (sym at)))) ∙ is
+
+-- and then there is none
+pub close_done : (hs : List History) (i : ℕ) (text all : List ℕ) → length hs ≤ i → text ++ last_lines i (drop i hs) ≡ all → text ≡ all
+close_done hs i text all h is = sym (append-nil text) ∙ ap (λ (t : List ℕ). text ++ t) (sym (ap (last_lines i) (drop_of_length-le hs h))) ∙ is

@@ -1,0 +1,131 @@
+-- What a venue's steps leave, said of plain states.
+use Rattle.std.proofs.Common.{◌≡◌, ℕ, ◌+◌, Bool, true, false, List, [], ◌∷◌, ◌++◌, length, refl, sym, ap, subst, ◌∙◌, append_assoc, append-nil, arith, length-append, inl, inr}
+use Rattle.std.specs.Prelude.{sum_by, Option, Result}
+use Rattle.std.proofs.lemmas.Grind.{flat_map-append}
+use Rattle.std.proofs.lemmas.List.Sums.{sum_by_push}
+use Rattle.feed_types.specs.declared.line.LineId.{LineId}
+use Rattle.feed_types.specs.declared.line.LineId.TheVariants.{A, B, Recovery}
+use Rattle.mold_packet.specs.declared.fault.PacketFault.{PacketFault}
+use Rattle.mold_packet.specs.declared.request.Request.{Request}
+use Rattle.mold_packet.specs.Content.{Content, Spells}
+use Rattle.mold_packet.specs.Faults.{HasFault, code_of}
+use Rattle.line_arbiter.specs.declared.faults.RenewFault.{RenewFault}
+use Rattle.line_arbiter.specs.Packets.{Arrival}
+use Rattle.line_arbiter.specs.Streams.{stream_of, streams_of, gap_of, wins_of}
+use Rattle.line_arbiter.specs.States.{State, count_on, shown}
+use Rattle.line_arbiter.specs.Fits.{Fits}
+use Rattle.feed_text.specs.Capture.{datagram_record, renewal_record}
+use Rattle.feed_text.specs.Lines.{packet_head, refused_tail, outcome_tail, gap_line, renew_line, venue_line, wins_by}
+use Rattle.feed_text.specs.Printed.{History, sent_of, sessions_of, ready_items, after_renewal, last_line}
+use Rattle.feed_text.specs.Following.{Venue, Follows, PrintsOutcome, PrintsOne, Renews}
+
+-- what an advance leaves, twice
+pub others_more : (old mid new : State) → new ≡ record mid { sent = new.sent; places = new.places } → mid ≡ record old { sent = mid.sent; places = mid.places } → new ≡ record old { sent = new.sent; places = new.places }
+others_more old mid new e f = subst (λ (s : State). new ≡ record s { sent = new.sent; places = new.places }) f e
+
+-- a count that is shown goes on from what was shown
+shown_more : (a b c : ℕ) → a ≡ shown b → shown (a + c) ≡ shown (b + c)
+shown_more a b c e = omega arith
+
+streams_more : (earlier : List (List Arrival)) (P : List Arrival) → length (streams_of (earlier ++ P ∷ [])) ≡ length (streams_of earlier) + length (stream_of P)
+streams_more earlier P =
+    ap length (flat_map-append stream_of earlier (P ∷ []) ∙ ap (λ (xs : List _). streams_of earlier ++ xs) (append-nil (stream_of P)))
+    ∙ length-append (streams_of earlier) (stream_of P)
+
+-- how many items of all sessions were sent
+pub sent_all : {width place : ℕ} {v : Venue} (h : History) → Follows width place v h → (n : ℕ) → n ≡ shown (v.sent_before + v.arbiter.sent) → n ≡ shown (length (streams_of (sessions_of h)))
+sent_all {v = v} h f n e =
+    e ∙ shown_more v.sent_before (length (streams_of h.earlier)) v.arbiter.sent f.sent_before
+    ∙ ap (λ (m : ℕ). shown (length (streams_of h.earlier) + m)) f.sent
+    ∙ ap shown (sym (streams_more h.earlier h.packets))
+
+-- and how many numbers the line brought first
+pub won_all : {width place : ℕ} {v : Venue} (h : History) → Follows width place v h → (line : LineId) (n : ℕ) → n ≡ shown (count_on line v.arbiter.earlier + wins_of h.packets line) → n ≡ shown (sum_by (λ packets. wins_of packets line) (sessions_of h))
+won_all {v = v} h f line n e =
+    e ∙ shown_more (count_on line v.arbiter.earlier) (sum_by (λ packets. wins_of packets line) h.earlier) (wins_of h.packets line) (f.won_before line)
+    ∙ ap shown (sym (sum_by_push (λ packets. wins_of packets line) h.earlier h.packets))
+
+pub last_is : (h : History) (place number sent a b recovery : ℕ) → number ≡ place → sent ≡ shown (length (streams_of (sessions_of h)))
+    → a ≡ shown (sum_by (λ packets. wins_of packets A) (sessions_of h)) → b ≡ shown (sum_by (λ packets. wins_of packets B) (sessions_of h)) → recovery ≡ shown (sum_by (λ packets. wins_of packets Recovery) (sessions_of h))
+    → venue_line number sent (wins_by a b recovery) ≡ last_line place h
+last_is h place number sent a b recovery e s x y z = rw (e, s, x, y, z) refl
+
+-- the lines of a packet, behind its head
+pub packet_lines : (width place number : ℕ) (h : History) (v : Venue) (line : LineId) (bytes rest : List ℕ) (p : Content) (t0 t1 t2 : List ℕ)
+    → number ≡ place → Spells bytes p rest → t1 ≡ t0 ++ packet_head number line → PrintsOutcome width place line p h t1 t2 v
+    → PrintsOne width false (datagram_record place line bytes) h t0 t2 v
+packet_lines width place number h v line bytes rest p t0 t1 t2 e spells head x =
+    let Q : List Arrival = h.packets ++ record { line = line; packet = p; answer = x.answer } ∷ [] in
+    record {
+      lines = packet_head place line ++ outcome_tail x.answer ++ ready_items place h Q ++ [];
+      after = record h { packets = Q };
+      prints = inr (record { packet = p; rest = rest; answer = x.answer; spells = spells; outcome = x.outcome; grown = refl; lines_are = refl });
+      follows = x.follows;
+      behind = joined (packet_head place line) (outcome_tail x.answer) (ready_items place h Q) (head ∙ ap (λ (n : ℕ). t0 ++ packet_head n line) e) x.behind;
+    }
+  where
+    joined : (a b c : List ℕ) → t1 ≡ t0 ++ a → t2 ≡ t1 ++ b ++ c → t2 ≡ t0 ++ (a ++ b ++ c ++ [])
+    joined a b c d e = rw (append-nil (a ++ b ++ c)) (e ∙ rw d (rw (append_assoc t0 a b, append_assoc t0 (a ++ b) c) refl))
+
+-- a datagram that is no packet
+pub fault_lines : (width place number code : ℕ) (h : History) (v : Venue) (line : LineId) (bytes : List ℕ) (fault : PacketFault) (t0 t1 t2 : List ℕ)
+    → number ≡ place → HasFault bytes fault → t1 ≡ t0 ++ packet_head number line → code ≡ code_of fault → t2 ≡ t1 ++ refused_tail code → Follows width place v h
+    → PrintsOne width false (datagram_record place line bytes) h t0 t2 v
+fault_lines width place number code h v line bytes fault t0 t1 t2 e has head coded refused f = record {
+  lines = packet_head place line ++ refused_tail (code_of fault) ++ [];
+  after = h;
+  prints = inl (record { fault = fault; has = has; same = refl; lines_are = refl });
+  follows = f;
+  behind = joined (packet_head place line) (refused_tail (code_of fault)) (head ∙ ap (λ (n : ℕ). t0 ++ packet_head n line) e) (refused ∙ ap (λ (n : ℕ). t1 ++ refused_tail n) coded);
+}
+  where
+    joined : (a b : List ℕ) → t1 ≡ t0 ++ a → t2 ≡ t1 ++ b → t2 ≡ t0 ++ (a ++ b ++ [])
+    joined a b d e = rw (append-nil (a ++ b)) (e ∙ rw d (rw (append_assoc t0 a b) refl))
+
+-- and then the gap line
+pub gap_added : (width place number : ℕ) (gap : Option Request) (h : History) (v : Venue) (line : LineId) (bytes t0 t1 t2 : List ℕ)
+    → PrintsOne width false (datagram_record place line bytes) h t0 t1 v
+    → number ≡ v.arbiter.venue
+    → ((P : List Arrival) → Fits v.arbiter P → gap ≡ gap_of v.arbiter.session v.arbiter.window v.arbiter.sent P)
+    → t2 ≡ t1 ++ gap_line number gap
+    → PrintsOne width true (datagram_record place line bytes) h t0 t2 v
+gap_added width place number gap h v line bytes t0 t1 t2 x e is put =
+    let f = x.follows in
+    let there : gap ≡ gap_of x.after.session width (sent_of x.after) x.after.packets = rw (← f.session, ← f.window, ← f.sent) (is x.after.packets f.fits) in
+    let G = gap_line place (gap_of x.after.session width (sent_of x.after) x.after.packets) in
+    let last : t2 ≡ t1 ++ G = put ∙ ap (λ (n : ℕ). t1 ++ gap_line n gap) (e ∙ f.number) ∙ ap (λ (g : Option Request). t1 ++ gap_line place g) there in
+    elim x.prints [
+      | inl a ↦ record {
+        lines = packet_head place line ++ refused_tail (code_of a.fault) ++ G;
+        after = x.after;
+        prints = inl (record { fault = a.fault; has = a.has; same = a.same; lines_are = refl });
+        follows = f;
+        behind = joined (packet_head place line ++ refused_tail (code_of a.fault)) G (x.behind ∙ ap (λ (t : List ℕ). t0 ++ t) a.lines_are) last;
+      }
+      | inr a ↦ record {
+        lines = packet_head place line ++ outcome_tail a.answer ++ ready_items place h x.after.packets ++ G;
+        after = x.after;
+        prints = inr (record { packet = a.packet; rest = a.rest; answer = a.answer; spells = a.spells; outcome = a.outcome; grown = a.grown; lines_are = refl });
+        follows = f;
+        behind = joined (packet_head place line ++ outcome_tail a.answer ++ ready_items place h x.after.packets) G (x.behind ∙ ap (λ (t : List ℕ). t0 ++ t) a.lines_are) last;
+      }
+    ]
+  where
+    joined : (a g : List ℕ) → t1 ≡ t0 ++ (a ++ []) → t2 ≡ t1 ++ g → t2 ≡ t0 ++ (a ++ g)
+    joined a g d e = e ∙ rw d (rw (append-nil a, append_assoc t0 a g) refl)
+
+pub renewal_line : (width place number : ℕ) (gaps : Bool) (h : History) (v : Venue) (name : List ℕ) (answer : Result ℕ RenewFault) (t0 t1 : List ℕ)
+    → number ≡ v.arbiter.venue → Renews width place name h v answer → t1 ≡ t0 ++ renew_line number answer
+    → PrintsOne width gaps (renewal_record place name) h t0 t1 v
+renewal_line width place number gaps h v name answer t0 t1 e x put =
+    let there : v.arbiter.venue ≡ place = place_of answer x.follows in
+    record {
+      lines = renew_line place answer;
+      after = after_renewal h name answer;
+      prints = record { answer = answer; is = x.is; after = refl; lines_are = refl };
+      follows = x.follows;
+      behind = put ∙ ap (λ (n : ℕ). t0 ++ renew_line n answer) (e ∙ there);
+    }
+  where
+    place_of : (a : Result ℕ RenewFault) → Follows width place v (after_renewal h name a) → v.arbiter.venue ≡ place
+    place_of a f = f.number

@@ -1,0 +1,66 @@
+-- The printed lines, this project's own format: fields parted by one space, numbers in decimal, and a line feed at the end.
+use Rattle.std.specs.Prelude.{ℕ, List, [], ◌∷◌, ◌++◌, codes, decimal, Option, Some, None, Result, Ok, Err, true, false}
+use Rattle.feed_types.specs.declared.item.Item.{Item}
+use Rattle.feed_types.specs.declared.item.Item.TheVariants as items
+use Rattle.feed_types.specs.declared.item.Numbered.{Numbered}
+use Rattle.feed_types.specs.declared.line.LineId.{LineId}
+use Rattle.feed_types.specs.declared.line.LineId.TheVariants.{A, B, Recovery}
+use Rattle.feed_types.specs.Text.{line_letter}
+use Rattle.mold_packet.specs.declared.request.Request.{Request}
+use Rattle.line_arbiter.specs.declared.outcome.Outcome.{Outcome}
+use Rattle.line_arbiter.specs.declared.outcome.Outcome.TheVariants.{Taken, Heartbeat, Ended, Ahead}
+use Rattle.line_arbiter.specs.declared.outcome.LineFault.{LineFault}
+use Rattle.line_arbiter.specs.declared.faults.RenewFault.{RenewFault}
+use Rattle.line_arbiter.specs.Codes.{line_fault_code, renew_fault_code}
+
+-- a number after a space
+abbrev pub field : ℕ → List ℕ
+field n = codes " " ++ decimal n
+
+abbrev pub line_end : List ℕ
+line_end = codes "\n"
+
+-- packet V L ..: the venue's number and the line's letter, and what became of the datagram
+abbrev pub packet_head : ℕ → LineId → List ℕ
+packet_head venue line = codes "packet" ++ field venue ++ codes " " ++ line_letter line ∷ []
+
+abbrev pub refused_tail : ℕ → List ℕ
+refused_tail code = codes " refused" ++ field code ++ line_end
+
+abbrev pub outcome_tail : Result Outcome LineFault → List ℕ
+outcome_tail (Ok (Taken new repeated)) = codes " taken" ++ field new ++ field repeated ++ line_end
+outcome_tail (Ok Heartbeat) = codes " heartbeat" ++ line_end
+outcome_tail (Ok Ended) = codes " ended" ++ line_end
+outcome_tail (Ok Ahead) = codes " ahead" ++ line_end
+outcome_tail (Err fault) = refused_tail (line_fault_code fault)
+
+abbrev pub item_word : Item → List ℕ
+item_word (items.Quote quote) = codes " quote"
+item_word (items.Halt symbol true) = codes " halt"
+item_word (items.Halt symbol false) = codes " trading"
+item_word items.Other = codes " other"
+item_word items.End = codes " end"
+
+-- item V NUMBER ..: an item that was ready
+abbrev pub item_line : ℕ → Numbered → List ℕ
+item_line venue n = codes "item" ++ field venue ++ field n.number ++ item_word n.item ++ line_end
+
+-- gap V NUMBER COUNT: the run of messages to ask for, where there is one
+abbrev pub gap_line : ℕ → Option Request → List ℕ
+gap_line venue None = []
+gap_line venue (Some request) = codes "gap" ++ field venue ++ field request.number ++ field request.count ++ line_end
+
+-- renew V ORDINAL, or renew V refused N
+abbrev pub renew_line : ℕ → Result ℕ RenewFault → List ℕ
+renew_line venue (Ok ordinal) = codes "renew" ++ field venue ++ field ordinal ++ line_end
+renew_line venue (Err fault) = codes "renew" ++ field venue ++ refused_tail (renew_fault_code fault)
+
+-- venue V sent SENT wins A B R: how many items were sent, and which lines brought how many numbers first
+abbrev pub venue_line : ℕ → ℕ → (LineId → ℕ) → List ℕ
+venue_line venue sent wins = codes "venue" ++ field venue ++ codes " sent" ++ field sent ++ codes " wins" ++ field (wins A) ++ field (wins B) ++ field (wins Recovery) ++ line_end
+
+-- counts by their lines
+abbrev pub wins_by : ℕ → ℕ → ℕ → LineId → ℕ
+wins_by a b recovery A = a
+wins_by a b recovery B = b
+wins_by a b recovery Recovery = recovery

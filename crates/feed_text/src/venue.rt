@@ -1,0 +1,164 @@
+//! One venue of a replay: its lines, and what they give.
+ghost use Rattle.std.specs.Prelude.{◌≡◌, ℕ, Bool, false, List, ◌++◌, ◌≤◌, length, drop, flat_map, IfOk, OnOk};
+ghost use Rattle.line_arbiter.specs.Packets.{Arrival};
+ghost use Rattle.line_arbiter.specs.Streams.{stream_of, streams_of};
+ghost use Rattle.line_arbiter.specs.States.{shown};
+ghost use Rattle.line_arbiter.specs.Fits.{Fits};
+ghost use Rattle.feed_text.specs.Capture.{datagram_record, renewal_record};
+ghost use Rattle.feed_text.specs.Lines.{item_line};
+ghost use Rattle.feed_text.specs.Printed.{History, new_history, sessions_of, last_line};
+ghost use Rattle.feed_text.specs.Following.{Follows, Grows, PrintsOutcome, PrintsOne, Renews};
+
+use crate::lines::{
+    put_gap, put_item, put_outcome, put_packet_head, put_refused, put_renewal, put_venue,
+};
+use feed_types::{Anything, LineId, VenueId};
+use line_arbiter::{Arbiter, RenewFault};
+use mold_packet::{Packet, read_packet};
+use std::alloc::{AllocError, Global};
+use std::marker::Model;
+
+/// A venue's arbiter, and how many items of the sessions that are over were sent. That count stays at
+/// 2^64 - 1.
+#[derive(Drop)]
+pub struct VenueReplay {
+    arbiter: Arbiter<Anything>,
+    sent_before: u64,
+}
+
+impl Model for VenueReplay {
+    ghost use Rattle.feed_text.specs.Following.{Venue};
+
+    ghost Value = { Venue };
+
+    ghost view = { λ v. record { arbiter = v.arbiter; sent_before = v.sent_before } };
+}
+
+/// Prints each item that is ready, and goes past it.
+fn put_ready(arbiter: &mut Arbiter<Anything>, text: &mut Vec<u8>) -> Result<(), AllocError>
+    ensures items { OnOk result ((P : List Arrival) → Fits arbiter.old P → text.new.items ≡ text.old.items ++ flat_map (item_line arbiter.old.venue) (drop arbiter.old.sent (stream_of P))) }
+    ensures fits { OnOk result ((P : List Arrival) → Fits arbiter.old P → Fits arbiter.new P × (arbiter.new.sent ≡ length (stream_of P))) }
+    ensures grows { OnOk result (Grows text.old.items text.new.items) }
+    ensures others { OnOk result (arbiter.new ≡ record arbiter.old { sent = arbiter.new.sent; places = arbiter.new.places }) }
+{
+    let venue = arbiter.venue();
+    while let Some(next) = arbiter.next_ready() {
+        put_item(text, venue, &next)?;
+        arbiter.advance();
+    }
+    Ok(())
+}
+
+impl VenueReplay {
+    /// A venue to which nothing came. It takes the memory of its window here, and none later.
+    pub fn new(
+        alloc: Global,
+        venue: VenueId,
+        session: [u8; 10],
+        window: u32,
+    ) -> Result<VenueReplay, AllocError>
+        requires least { 1 ≤ window }
+        requires most { window ≤ 65535 }
+        ensures { IfOk result (λ v. Follows window venue v (new_history session)) }
+    {
+        match Arbiter::new(alloc, venue, session, window) {
+            Ok(arbiter) => Ok(VenueReplay {
+                arbiter,
+                sent_before: 0,
+            }),
+            Err(_) => Err(AllocError),
+        }
+    }
+
+    /// How many items of all sessions were sent.
+    fn sent(&self) -> u64
+        ensures { (width place : ℕ) (h : History) → Follows width place self.now h → result ≡ shown (length (streams_of (sessions_of h))) }
+    {
+        self.sent_before.saturating_add(self.arbiter.status().sent)
+    }
+
+    /// Takes a packet, and prints what became of it and each item that is ready then.
+    fn put_packet(
+        &mut self,
+        line: LineId,
+        packet: &Packet<'_>,
+        text: &mut Vec<u8>,
+    ) -> Result<(), AllocError>
+        ensures prints { OnOk result ((width place : ℕ) (h : History) → Follows width place self.old h → PrintsOutcome width place line packet.now h text.old.items text.new.items self.new) }
+        ensures grows { OnOk result (Grows text.old.items text.new.items) }
+    {
+        let answer = self.arbiter.take(line, packet);
+        put_outcome(text, &answer)?;
+        put_ready(&mut self.arbiter, text)
+    }
+
+    /// Prints the line of a datagram, and each item that is ready then.
+    fn put_datagram(
+        &mut self,
+        line: LineId,
+        bytes: &[u8],
+        text: &mut Vec<u8>,
+    ) -> Result<(), AllocError>
+        ensures prints { OnOk result ((width place : ℕ) (h : History) → Follows width place self.old h → PrintsOne width false (datagram_record place line bytes.now) h text.old.items text.new.items self.new) }
+        ensures grows { OnOk result (Grows text.old.items text.new.items) }
+    {
+        put_packet_head(text, self.arbiter.venue(), line)?;
+        match read_packet(bytes) {
+            Ok(packet) => self.put_packet(line, &packet, text),
+            Err(fault) => put_refused(text, fault.code()),
+        }
+    }
+
+    /// Takes a datagram of a line and prints its lines: what became of it, each item that is ready then,
+    /// and where they are asked for the gap.
+    pub fn take(
+        &mut self,
+        line: LineId,
+        bytes: &[u8],
+        gaps: bool,
+        text: &mut Vec<u8>,
+    ) -> Result<(), AllocError>
+        ensures prints { OnOk result ((width place : ℕ) (h : History) → Follows width place self.old h → PrintsOne width gaps (datagram_record place line bytes.now) h text.old.items text.new.items self.new) }
+        ensures grows { OnOk result (Grows text.old.items text.new.items) }
+    {
+        self.put_datagram(line, bytes, text)?;
+        if gaps {
+            put_gap(text, self.arbiter.venue(), self.arbiter.gap())?;
+        }
+        Ok(())
+    }
+
+    /// Begins the next session, where it may begin.
+    fn next_session(&mut self, session: [u8; 10]) -> Result<u64, RenewFault>
+        ensures { (width place : ℕ) (h : History) → Follows width place self.old h → Renews width place session h self.new result }
+    {
+        let sent = self.sent();
+        let ordinal = self.arbiter.renew(session)?;
+        self.sent_before = sent;
+        Ok(ordinal)
+    }
+
+    /// Begins the next session under this name, where it may begin, and prints the line of that.
+    pub fn renew(&mut self, session: [u8; 10], text: &mut Vec<u8>) -> Result<(), AllocError>
+        ensures prints { OnOk result ((width place : ℕ) (gaps : Bool) (h : History) → Follows width place self.old h → PrintsOne width gaps (renewal_record place session) h text.old.items text.new.items self.new) }
+        ensures grows { OnOk result (Grows text.old.items text.new.items) }
+    {
+        let answer = self.next_session(session);
+        put_renewal(text, self.arbiter.venue(), &answer)
+    }
+
+    /// Prints the last line.
+    pub fn put_last(&self, text: &mut Vec<u8>) -> Result<(), AllocError>
+        ensures last { OnOk result ((width place : ℕ) (h : History) → Follows width place self.now h → text.new.items ≡ text.old.items ++ last_line place h) }
+        ensures grows { OnOk result (Grows text.old.items text.new.items) }
+    {
+        put_venue(
+            text,
+            self.arbiter.venue(),
+            self.sent(),
+            self.arbiter.wins(LineId::A),
+            self.arbiter.wins(LineId::B),
+            self.arbiter.wins(LineId::Recovery),
+        )
+    }
+}
