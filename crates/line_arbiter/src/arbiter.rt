@@ -201,11 +201,9 @@ impl<G: Genuine> Arbiter<G> {
         let new = fill(&mut self.held, packet);
         self.run_to = run_end(&self.held, self.run_to);
         self.known_to = raised(self.known_to, self.end_number, last);
+        let repeated = packet.count() - new;
         self.won.add(line, new);
-        Ok(Outcome::Taken {
-            new,
-            repeated: packet.count() - new,
-        })
+        Ok(Outcome::Taken { new, repeated })
     }
 
     fn take_heartbeat(&mut self, number: u64) -> Result<Outcome, LineFault>

@@ -6,9 +6,9 @@ use Rattle.line_arbiter.proofs.Turns.{numbers_fit}
 use Rattle.line_arbiter.proofs.Soundness.{sound_after}
 use Rattle.line_arbiter.proofs.arbiter.Arbiter.take_messages.Given.{Over}
 use Rattle.line_arbiter.proofs.arbiter.Arbiter.take_messages.Goals as goal
-use Rattle.line_arbiter.proofs.arbiter.Arbiter.take_messages.Goals.{After-count}
+use Rattle.line_arbiter.proofs.arbiter.Arbiter.take_messages.Goals.{After-add}
 
-module _ (g : Over) (c : After-count g) where
+module _ (g : Over) (c : After-add g) where
   -- the state with the window and the cursor as they are after the filling
   at : ℕ → ℕ → State
   at width base =
@@ -32,18 +32,18 @@ module _ (g : Over) (c : After-count g) where
     others = ap (λ (width : ℕ). at width c.fill-new.new.window.base) c.fill-new.ensures.width ∙ ap (λ (base : ℕ). at c.self.inside.held.width base) c.fill-new.ensures.base;
   }
 
-pub overflow_sub-result : goal.overflow_sub-result
-overflow_sub-result g c = let k = c.fill-new.ensures.count in let n = c.count.ensures in omega (arith, fresh_most (length c.args.packet.now.messages) c.self.inside.held.base c.self.inside.held c.args.packet.now)
+pub overflow_sub-repeated : goal.overflow_sub-repeated
+overflow_sub-repeated g c = let k = c.fill-new.ensures.count in let n = c.count.ensures in omega (arith, fresh_most (length c.args.packet.now.messages) c.self.inside.held.base c.self.inside.held c.args.packet.now)
 
 pub invariant_of-self-2 : goal.invariant_of-self-2
 unfolding at old
 invariant_of-self-2 g c =
-    sound_after c.args.line c.fill-new.result _ _ c.args.packet.now c.self.invariant (numbers_fit c.args.packet.now c.last_number-last.ensures.content) (rw (← c.last_number-last.ensures.value) c.if-is_past.ensures) (takes g (goal.at.invariant_of-self-2 g c).After-count)
+    sound_after c.args.line c.fill-new.result _ _ c.args.packet.now c.self.invariant (numbers_fit c.args.packet.now c.last_number-last.ensures.content) (rw (← c.last_number-last.ensures.value) c.if-is_past.ensures) (takes g (goal.at.invariant_of-self-2 g c).After-add)
 
 pub returns : goal.returns
 unfolding at old
 returns g c = rw (← c.self.view_is) (
-  takes g (goal.at.returns g c).After-count,
+  takes g (goal.at.returns g c).After-add,
   rw (← c.last_number-last.ensures.value) c.if-is_past.ensures,
   let f = c.if-saturating_sub-from.false in let a = c.saturating_sub.ensures in let b = c.from.ensures in let l = c.last_number-last.ensures.value in let w = c.width.ensures.value in let s = c.base.ensures in omega arith,
   c.if-disagrees.ensures,
