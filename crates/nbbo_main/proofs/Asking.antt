@@ -1,0 +1,55 @@
+-- What the values of the options come to, and what an error of clap comes to.
+use Rattle.std.proofs.Common.{rules, ◌≡◌, ◌^◌, ◌<◌, ◌⊎◌, inl, inr, ℕ, ◌∙◌, sym, ap, subst, List, Option, Some, None, Err, true, false, refl, arith}
+use Rattle.std.specs.Prelude.{◌≢◌, is_some}
+use Rattle.std.specs.Str.Parse.{IsNumeral, digits_value, without_leading_plus}
+use Rattle.clap.specs.Kinds.{IsAmong}
+use Rattle.clap.specs.Walk.{Row, Text}
+use Rattle.clap.specs.Faults.{fault_of}
+use Rattle.clap.specs.declared.error.kind.ErrorKind.{ErrorKind}
+use Rattle.clap.specs.declared.error.kind.ErrorKind.TheVariants.{DisplayHelp, OutOfMemory}
+use Rattle.nbbo_main.specs.CommandLine.{GivesNone, IsRefused, IsWindow, RefusesBy, list_in, nbbo_app, refusal_by}
+use Rattle.nbbo_main.specs.Sessions.{sessions_of}
+use Rattle.nbbo_main.specs.declared.sessions.SessionsFault.{SessionsFault}
+use Rattle.nbbo_main.specs.declared.sessions.SessionsFault.TheVariants as sessions
+use Rattle.nbbo_main.specs.declared.command_line.Refusal.{Refusal}
+use Rattle.nbbo_main.specs.declared.command_line.Refusal.TheVariants.{Help, Usage, BadSession, TooManySessions, NoMemory}
+
+not_some : {A : Type 0} (x : A) → Some x ≡ None → ⊥
+not_some x e = let bad : true ≡ false = ap is_some e in absurd (cc)
+
+-- the number that a text writes
+abbrev number_of : Text → ℕ
+number_of text = digits_value 10 (without_leading_plus text)
+
+-- a number that was read and kept is the window
+pub IsWindow-read : (text : Option Text) (w : ℕ) → (text ≡ None → Some w ≡ None) → ((t : Text) → text ≡ Some t → w ≡ number_of t) → IsWindow text w
+IsWindow-read None w none value = absurd (not_some w (none refl))
+IsWindow-read (Some t) w none value = λ numeral some few. value t refl
+
+-- where the number that was read is out of range the window is the usual one
+pub IsWindow-out : (text : Option Text) (w : ℕ) → ((t : Text) → text ≡ Some t → w ≡ number_of t) → (w < 1) ⊎ (65535 < w) → IsWindow text 4096
+IsWindow-out None w value out = refl
+IsWindow-out (Some t) w value out = λ numeral some few.
+    let is = value t refl in
+    elim out [ inl low ↦ absurd (omega arith) | inr high ↦ absurd (omega arith) ]
+
+-- and where none was read
+pub IsWindow-none : (text : Option Text) → ((t : Text) → text ≡ Some t → IsNumeral 10 (without_leading_plus t) × (number_of t < 2 ^ 32) → ⊥) → IsWindow text 4096
+IsWindow-none None unread = refl
+IsWindow-none (Some t) unread = λ numeral some few. absurd (unread t refl (numeral, omega arith))
+
+-- a fault of the list is the refusal
+pub GivesNone-fault : (rows : List Row) (list : Text) (fault : SessionsFault) → list ≡ list_in rows → (fault ≢ sessions.NoMemory → sessions_of list ≡ Err fault) → GivesNone rows (refusal_by fault)
+GivesNone-fault rows list sessions.BadSession e told = ap sessions_of (sym e) ∙ told (search rules)
+GivesNone-fault rows list sessions.TooManySessions e told = ap sessions_of (sym e) ∙ told (search rules)
+GivesNone-fault rows list sessions.NoMemory e told = tt
+
+-- an error of clap by one of its kinds is the refusal
+pub IsRefused-by : (words : List Text) (kind : ErrorKind) (refusal : Refusal) → RefusesBy kind refusal → (kind ≡ OutOfMemory) ⊎ IsAmong kind (fault_of nbbo_app words) → IsRefused words refusal
+IsRefused-by words kind (Help text) is (inl memory) = let bad : DisplayHelp ≡ OutOfMemory = sym is ∙ memory in absurd (cc)
+IsRefused-by words kind (Help text) is (inr among) = subst (λ (k : ErrorKind). IsAmong k (fault_of nbbo_app words)) is among
+IsRefused-by words kind (Usage text) is (inl memory) = absurd (is.1 memory)
+IsRefused-by words kind (Usage text) is (inr among) = (kind, is.0, among)
+IsRefused-by words kind NoMemory is among = tt
+IsRefused-by words kind BadSession is among = absurd is
+IsRefused-by words kind TooManySessions is among = absurd is

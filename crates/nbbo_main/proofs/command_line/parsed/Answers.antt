@@ -1,0 +1,14 @@
+use Rattle.std.proofs.Common.{◌≡◌, map, subst, refl, true}
+use Rattle.std.specs.Prelude.{string_bytes}
+use Rattle.clap.specs.Faults.{fault_of, is_simple_and_free}
+use Rattle.clap.specs.Kinds.{HasKind}
+use Rattle.clap.specs.Simple.{App}
+use Rattle.clap.specs.Values.{kind_of}
+use Rattle.nbbo_main.proofs.Asking.{IsRefused-by}
+use Rattle.nbbo_main.proofs.command_line.parsed.Goals as goal
+
+pub returns-in-Err-clause-refused : goal.returns-in-Err-clause-refused
+returns-in-Err-clause-refused c =
+    let words = map (λ word. string_bytes word) c.args.words.now in
+    let fails = subst (λ (a : App). is_simple_and_free a ≡ true → HasKind (fault_of a words) c.in-Err.error) c.in_ok-nbbo_command.ensures.app c.in-Err.ensures.kinds refl in
+    IsRefused-by words (kind_of c.in-Err.error) c.refusal_of.result c.refusal_of.ensures fails

@@ -1,0 +1,133 @@
+-- What a command line asks for, and why it is refused.
+--
+-- How words become the values of options is told by the crate clap: of the command below and some words, subcommand_of
+-- gives the subcommand with the values of its options, and fault_of what is wrong with the words.
+use Rattle.std.specs.Prelude.{◌≡◌, ◌≢◌, ◌≤◌, ◌∷◌, [], ℕ, List, Bool, true, false, Option, Some, None, Ok, Err, codes, if◌then◌else◌, pos, unwrap_or, string_bytes}
+use Rattle.std.specs.Str.{bytes_eq}
+use Rattle.std.specs.Str.Parse.{IsNumeral, digits_value, without_leading_plus}
+use Rattle.clap.specs.Walk.{Row, Rule, Text, first_of, one_of}
+use Rattle.clap.specs.Simple.{App, new_app, new_rule, on_top, subcommand_of, with_rule, with_subcommand}
+use Rattle.clap.specs.Faults.{fault_of}
+use Rattle.clap.specs.Kinds.{IsAmong}
+use Rattle.clap.specs.declared.builder.action.ArgAction.TheVariants.{SetTrue}
+use Rattle.clap.specs.declared.builder.value_parser.ValueParser.TheVariants.{Signed}
+use Rattle.clap.specs.declared.error.kind.ErrorKind.{ErrorKind}
+use Rattle.clap.specs.declared.error.kind.ErrorKind.TheVariants.{DisplayHelp, OutOfMemory}
+use Rattle.nbbo_main.specs.Sessions.{sessions_of}
+use Rattle.nbbo_main.specs.declared.sessions.SessionsFault.{SessionsFault}
+use Rattle.nbbo_main.specs.declared.sessions.SessionsFault.TheVariants as sessions
+use Rattle.nbbo_main.specs.declared.replay_settings.ReplaySettings.{ReplaySettings}
+use Rattle.nbbo_main.specs.declared.command_line.Refusal.{Refusal}
+use Rattle.nbbo_main.specs.declared.command_line.Refusal.TheVariants.{Help, Usage, BadSession, TooManySessions, NoMemory}
+
+-- ---- the options
+
+-- --sessions LIST, without which there is no replay
+abbrev pub sessions_rule : Rule
+sessions_rule = record (new_rule (codes "sessions")) { long = Some (codes "sessions"); value_names = 1; required = true }
+
+-- --window N, a number from 1 to 65535, by default 4096
+abbrev pub window_rule : Rule
+window_rule = record (new_rule (codes "window")) { long = Some (codes "window"); value_names = 1; parser = Some (Signed (pos 1) (pos 65535)); defaults = codes "4096" ∷ [] }
+
+-- --gaps
+abbrev pub gaps_rule : Rule
+gaps_rule = record (new_rule (codes "gaps")) { long = Some (codes "gaps"); action = Some SetTrue }
+
+abbrev pub replay_app : App
+replay_app = with_rule (with_rule (with_rule (new_app (codes "replay")) sessions_rule) window_rule) gaps_rule
+
+-- the program, which does nothing without a subcommand
+abbrev pub nbbo_app : App
+nbbo_app = with_subcommand (on_top (λ top. record top { subcommand_required = true; arg_required_else_help = true }) (new_app (codes "nbbo"))) replay_app.top
+
+-- ---- the values that they have
+
+-- the values of the options of replay, where that is the subcommand
+abbrev pub replay_rows : Option (Text × List Row) → List Row
+replay_rows None = []
+replay_rows (Some (name, rows)) = if bytes_eq name (codes "replay") then rows else []
+
+-- the list of sessions, empty where none is given
+abbrev pub list_in : List Row → Text
+list_in rows = unwrap_or (first_of (codes "sessions") rows) []
+
+-- the window that a text gives: the number that it is, where that is one from 1 to 65535
+abbrev pub IsWindow : Option Text → ℕ → Type 0
+IsWindow None window = window ≡ 4096
+IsWindow (Some text) window =
+    let number = digits_value 10 (without_leading_plus text) in
+    IsNumeral 10 (without_leading_plus text) → 1 ≤ number → number ≤ 65535 → window ≡ number
+
+-- a flag that is given has the value true, and one that isn't has the value false
+pub record IsFlag (text : Option Text) (flag : Bool) : Type 0 where
+  pub given : text ≡ Some (codes "true") → flag ≡ true
+  pub absent : text ≡ Some (codes "false") → flag ≡ false
+  pub unknown : text ≡ None → flag ≡ false
+
+-- The values of the options give these settings.
+pub record Gives (rows : List Row) (settings : ReplaySettings) : Type 0 where
+  pub sessions : sessions_of (list_in rows) ≡ Ok settings.sessions.items
+  pub window : IsWindow (one_of (codes "window") rows) settings.window
+  pub gaps : IsFlag (one_of (codes "gaps") rows) settings.gaps
+
+-- The values of the options give no settings, since the list of sessions is wrong, or memory was refused.
+abbrev pub GivesNone : List Row → Refusal → Type 0
+GivesNone rows BadSession = sessions_of (list_in rows) ≡ Err sessions.BadSession
+GivesNone rows TooManySessions = sessions_of (list_in rows) ≡ Err sessions.TooManySessions
+GivesNone rows NoMemory = Unit {0}
+GivesNone rows (Help text) = ⊥
+GivesNone rows (Usage text) = ⊥
+
+abbrev pub refusal_by : SessionsFault → Refusal
+refusal_by sessions.BadSession = BadSession
+refusal_by sessions.TooManySessions = TooManySessions
+refusal_by sessions.NoMemory = NoMemory
+
+-- clap answers no values, by an error of this kind
+abbrev pub RefusesBy : ErrorKind → Refusal → Type 0
+RefusesBy kind (Help text) = kind ≡ DisplayHelp
+RefusesBy kind (Usage text) = (kind ≢ DisplayHelp) × (kind ≢ OutOfMemory)
+RefusesBy kind NoMemory = Unit {0}
+RefusesBy kind BadSession = ⊥
+RefusesBy kind TooManySessions = ⊥
+
+-- ---- the two answers
+
+abbrev pub values_of : List Text → List Row
+values_of words = replay_rows (subcommand_of nbbo_app words)
+
+-- clap takes the words
+abbrev pub IsTaken : List Text → Type 0
+IsTaken words = fault_of nbbo_app words ≡ []
+
+-- The words ask for these settings.
+pub record Asks (words : List Text) (settings : ReplaySettings) : Type 0 where
+  pub taken : IsTaken words
+  pub given : Gives (values_of words) settings
+
+-- Why the words give no settings. To ask for help is one of the faults that clap finds; memory may be refused at any time.
+abbrev pub IsRefused : List Text → Refusal → Type 0
+IsRefused words (Help text) = IsAmong DisplayHelp (fault_of nbbo_app words)
+IsRefused words (Usage text) = (kind : ErrorKind) × (kind ≢ DisplayHelp) × IsAmong kind (fault_of nbbo_app words)
+IsRefused words BadSession = IsTaken words × GivesNone (values_of words) BadSession
+IsRefused words TooManySessions = IsTaken words × GivesNone (values_of words) TooManySessions
+IsRefused words NoMemory = Unit {0}
+
+-- ---- how a refusal ends the program
+
+-- 0 after help, 1 where memory was refused, else 2
+abbrev pub refusal_status : Refusal → ℕ
+refusal_status (Help text) = 0
+refusal_status (Usage text) = 2
+refusal_status BadSession = 2
+refusal_status TooManySessions = 2
+refusal_status NoMemory = 1
+
+-- what is printed: clap's text, or a line of the program's own
+abbrev pub refusal_text : Refusal → List ℕ
+refusal_text (Help text) = string_bytes text
+refusal_text (Usage text) = string_bytes text
+refusal_text BadSession = codes "nbbo: bad session\n"
+refusal_text TooManySessions = codes "nbbo: too many sessions\n"
+refusal_text NoMemory = codes "nbbo: no memory\n"
