@@ -25,16 +25,16 @@ place_after_all place [] = place
 place_after_all place (x ∷ xs) = place_after_all (place_after place x.item) xs
 
 -- the item may be carried at the place: an end number for End, a message's item otherwise
-abbrev pub IsAllowed : (ℕ → ℕ → ℕ → Item → Type 0) → (ℕ → ℕ → ℕ → Type 0) → ℕ → Place → Item → Type 0
-IsAllowed carries ends venue place End = ends venue place.ordinal place.number
-IsAllowed carries ends venue place Other = carries venue place.ordinal place.number Other
-IsAllowed carries ends venue place (Quote quote) = carries venue place.ordinal place.number (Quote quote)
-IsAllowed carries ends venue place (Halt symbol halted) = carries venue place.ordinal place.number (Halt symbol halted)
+abbrev pub MayCarry : (ℕ → ℕ → ℕ → Item → Type 0) → (ℕ → ℕ → ℕ → Type 0) → ℕ → Place → Item → Type 0
+MayCarry carries ends venue place End = ends venue place.ordinal place.number
+MayCarry carries ends venue place Other = carries venue place.ordinal place.number Other
+MayCarry carries ends venue place (Quote quote) = carries venue place.ordinal place.number (Quote quote)
+MayCarry carries ends venue place (Halt symbol halted) = carries venue place.ordinal place.number (Halt symbol halted)
 
 -- each item has the number of its place and may be carried there
 abbrev pub Continues : (ℕ → ℕ → ℕ → Item → Type 0) → (ℕ → ℕ → ℕ → Type 0) → ℕ → Place → List Numbered → Type 0
 Continues carries ends venue place [] = Unit {0}
-Continues carries ends venue place (x ∷ xs) = (x.number ≡ place.number) × IsAllowed carries ends venue place x.item × Continues carries ends venue (place_after place x.item) xs
+Continues carries ends venue place (x ∷ xs) = (x.number ≡ place.number) × MayCarry carries ends venue place x.item × Continues carries ends venue (place_after place x.item) xs
 
 -- The rule of a venue's items: the numbers are 1, 2 and so on; each item may be carried at its number in the present
 -- session; after End the next number is 1, in the next session; and nothing else follows End.

@@ -13,7 +13,7 @@ use Rattle.line_arbiter.specs.declared.outcome.LineFault.{LineFault}
 use Rattle.line_arbiter.specs.declared.outcome.LineFault.TheVariants.{OtherSession}
 use Rattle.line_arbiter.specs.Packets.{Arrival, is_ended}
 use Rattle.line_arbiter.specs.Outcomes.{ToMessages, ToHeartbeat, ToKind, IsOutcome}
-use Rattle.line_arbiter.specs.Carrying.{IsGenuine, IsGenuineArrival, AreGenuine}
+use Rattle.line_arbiter.specs.Carrying.{IsGenuineAt, IsGenuineArrival, AreGenuine}
 
 -- only an end of session is answered Ended
 messages_unended : (window sent : ℕ) (P : List Arrival) (p : Content) (answer : Result Outcome LineFault) → ToMessages window sent P p answer → is_ended answer ≡ true → ⊥
@@ -35,7 +35,7 @@ kind_ended kinds.Messages window sent P p answer h e = absurd (messages_unended 
 kind_ended kinds.Heartbeat window sent P p answer h e = absurd (heartbeat_unended P p.number answer h e)
 kind_ended kinds.End window sent P p answer h e = refl
 
-pub ended_is_end : (session : List ℕ) (window sent : ℕ) (P : List Arrival) (p : Content) (answer : Result Outcome LineFault) → IsOutcome session window sent P p answer → is_ended answer ≡ true → p.kind ≡ kinds.End
+ended_is_end : (session : List ℕ) (window sent : ℕ) (P : List Arrival) (p : Content) (answer : Result Outcome LineFault) → IsOutcome session window sent P p answer → is_ended answer ≡ true → p.kind ≡ kinds.End
 ended_is_end session window sent P p answer h e = elim h [
   | inl other ↦ absurd (refused answer other.1 e)
   | inr same ↦ kind_ended p.kind window sent P p answer same.1 e
@@ -46,7 +46,7 @@ ended_is_end session window sent P p answer h e = elim h [
     refused (Err fault) is e = false≢true e
 
 -- only a packet of the session is answered with an outcome
-pub accepted_is_of_session : (session : List ℕ) (window sent : ℕ) (P : List Arrival) (p : Content) (answer : Result Outcome LineFault) → IsOutcome session window sent P p answer → IsOk answer → p.session ≡ session
+accepted_is_of_session : (session : List ℕ) (window sent : ℕ) (P : List Arrival) (p : Content) (answer : Result Outcome LineFault) → IsOutcome session window sent P p answer → IsOk answer → p.session ≡ session
 accepted_is_of_session session window sent P p answer h ok = elim h [
   | inl other ↦ absurd (refused answer other.1 ok)
   | inr same ↦ same.0
@@ -56,14 +56,18 @@ accepted_is_of_session session window sent P p answer h ok = elim h [
     refused (Ok outcome) is ok = cc
     refused (Err fault) is ok = false≢true ok
 
-module _ (sessions : ℕ → ℕ → List ℕ → Type 0) (carries : ℕ → ℕ → ℕ → Item → Type 0) (ends : ℕ → ℕ → ℕ → Type 0) (venue ordinal : ℕ) where
-  pub genuine_arrival : (session : List ℕ) (window sent : ℕ) (P : List Arrival) (line : LineId) (p : Content) (answer : Result Outcome LineFault) → sessions venue ordinal session → IsGenuine sessions carries ends venue p → IsOutcome session window sent P p answer → IsGenuineArrival carries ends venue ordinal (record { line = line; packet = p; answer = answer })
-  genuine_arrival session window sent P line p answer named genuine h = record {
-    genuine = λ ok. genuine ordinal (rw (accepted_is_of_session session window sent P p answer h ok) named);
+module _ (carries : ℕ → ℕ → ℕ → Item → Type 0) (ends : ℕ → ℕ → ℕ → Type 0) (venue ordinal : ℕ) where
+  genuine_arrival : (session : List ℕ) (window sent : ℕ) (P : List Arrival) (line : LineId) (p : Content) (answer : Result Outcome LineFault) → (p.session ≡ session → IsGenuineAt carries ends venue ordinal p) → IsOutcome session window sent P p answer → IsGenuineArrival carries ends venue ordinal (record { line = line; packet = p; answer = answer })
+  genuine_arrival session window sent P line p answer genuine h = record {
+    genuine = λ ok. genuine (accepted_is_of_session session window sent P p answer h ok);
     ended = ended_is_end session window sent P p answer h;
   }
 
-module _ (carries : ℕ → ℕ → ℕ → Item → Type 0) (ends : ℕ → ℕ → ℕ → Type 0) (venue ordinal : ℕ) where
-  pub AreGenuine-push : (P : List Arrival) (a : Arrival) → AreGenuine carries ends venue ordinal P → IsGenuineArrival carries ends venue ordinal a → AreGenuine carries ends venue ordinal (P ++ a ∷ [])
+  AreGenuine-push : (P : List Arrival) (a : Arrival) → AreGenuine carries ends venue ordinal P → IsGenuineArrival carries ends venue ordinal a → AreGenuine carries ends venue ordinal (P ++ a ∷ [])
   AreGenuine-push [] a all one = (one, tt)
   AreGenuine-push (b ∷ P) a all one = (all.0, AreGenuine-push P a all.1 one)
+
+  -- what was taken stays genuine when a packet comes that is so where it is of the session
+  pub genuine_grows : (window sent : ℕ) (session : List ℕ) (P : List Arrival) (line : LineId) (p : Content) (answer : Result Outcome LineFault) → AreGenuine carries ends venue ordinal P → (p.session ≡ session → IsGenuineAt carries ends venue ordinal p) → IsOutcome session window sent P p answer
+      → AreGenuine carries ends venue ordinal (P ++ record { line = line; packet = p; answer = answer } ∷ [])
+  genuine_grows window sent session P line p answer all genuine h = AreGenuine-push P (record { line = line; packet = p; answer = answer }) all (genuine_arrival session window sent P line p answer genuine h)

@@ -7,7 +7,7 @@ use Rattle.std.proofs.lemmas.Bool.{and_parts, eqb-true, false≢true}
 use Rattle.feed_types.specs.declared.item.Item.{Item}
 use Rattle.feed_types.specs.declared.item.Item.TheVariants as items
 use Rattle.feed_types.specs.declared.item.Numbered.{Numbered}
-use Rattle.feed_types.specs.Sequence.{IsAllowed}
+use Rattle.feed_types.specs.Sequence.{MayCarry}
 use Rattle.quote_payload.proofs.Items.{item_of-never_end}
 use Rattle.line_arbiter.specs.declared.outcome.Outcome.{Outcome}
 use Rattle.line_arbiter.specs.declared.outcome.LineFault.{LineFault}
@@ -62,26 +62,26 @@ carried_never_end (a ∷ P) m item is h = by_test (λ k. carried_never_end P m i
     by_test later false is = later is
 
 -- a message's item that may be carried is allowed at its place
-allowed_item : (carries : ℕ → ℕ → ℕ → Item → Type 0) (ends : ℕ → ℕ → ℕ → Type 0) (venue ordinal m : ℕ) (item : Item) → carries venue ordinal m item → (item ≡ items.End → ⊥) → IsAllowed carries ends venue (record { ordinal = ordinal; number = m }) item
+allowed_item : (carries : ℕ → ℕ → ℕ → Item → Type 0) (ends : ℕ → ℕ → ℕ → Type 0) (venue ordinal m : ℕ) (item : Item) → carries venue ordinal m item → (item ≡ items.End → ⊥) → MayCarry carries ends venue (record { ordinal = ordinal; number = m }) item
 allowed_item carries ends venue ordinal m (items.Quote quote) may never = may
 allowed_item carries ends venue ordinal m (items.Halt symbol halted) may never = may
 allowed_item carries ends venue ordinal m items.Other may never = may
 allowed_item carries ends venue ordinal m items.End may never = absurd (never refl)
 
 allowed_next : (carries : ℕ → ℕ → ℕ → Item → Type 0) (ends : ℕ → ℕ → ℕ → Type 0) (venue ordinal m : ℕ) (held : Option Item) (end : Option ℕ)
-    → ((item : Item) → held ≡ Some item → IsAllowed carries ends venue (record { ordinal = ordinal; number = m }) item) → ((e : ℕ) → end ≡ Some e → ends venue ordinal e)
-    → IfSome (next_from m held end) (λ n. IsAllowed carries ends venue (record { ordinal = ordinal; number = n.number }) n.item)
+    → ((item : Item) → held ≡ Some item → MayCarry carries ends venue (record { ordinal = ordinal; number = m }) item) → ((e : ℕ) → end ≡ Some e → ends venue ordinal e)
+    → IfSome (next_from m held end) (λ n. MayCarry carries ends venue (record { ordinal = ordinal; number = n.number }) n.item)
 allowed_next carries ends venue ordinal m (Some item) end message last = message item refl
 allowed_next carries ends venue ordinal m None None message last = tt
 allowed_next carries ends venue ordinal m None (Some e) message last = by_test (e == m) refl
   where
-    by_test : (t : Bool) → (e == m) ≡ t → IfSome {T = Numbered} (if t then Some (record { number = m; item = items.End }) else None) (λ n. IsAllowed carries ends venue (record { ordinal = ordinal; number = n.number }) n.item)
+    by_test : (t : Bool) → (e == m) ≡ t → IfSome {T = Numbered} (if t then Some (record { number = m; item = items.End }) else None) (λ n. MayCarry carries ends venue (record { ordinal = ordinal; number = n.number }) n.item)
     by_test true is = subst (λ (n : ℕ). ends venue ordinal n) (eqb-true e m is) (last e refl)
     by_test false is = tt
 
 -- what comes next is allowed at its place, where what was taken is genuine
 pub next_allowed : (carries : ℕ → ℕ → ℕ → Item → Type 0) (ends : ℕ → ℕ → ℕ → Type 0) (venue ordinal : ℕ) (s : State) (P : List Arrival) → Stands s P → AreGenuine carries ends venue ordinal P
-    → IfSome (next_of s) (λ n. IsAllowed carries ends venue (record { ordinal = ordinal; number = n.number }) n.item)
+    → IfSome (next_of s) (λ n. MayCarry carries ends venue (record { ordinal = ordinal; number = n.number }) n.item)
 next_allowed carries ends venue ordinal s P stands all =
     let held : held_at (held_of s) (s.sent + 1) ≡ carried P (s.sent + 1) = held_is s P stands (s.sent + 1) (omega arith) in
     allowed_next carries ends venue ordinal (s.sent + 1) (held_at (held_of s) (s.sent + 1)) s.end

@@ -8,7 +8,7 @@ use Rattle.std.proofs.lemmas.Bool.Decides.{nat_tests}
 use Rattle.feed_types.specs.declared.item.Item.{Item}
 use Rattle.feed_types.specs.declared.item.Item.TheVariants as items
 use Rattle.feed_types.specs.declared.item.Numbered.{Numbered}
-use Rattle.feed_types.specs.Sequence.{Place, place_after, place_after_all, IsAllowed, Continues, IsInSequence}
+use Rattle.feed_types.specs.Sequence.{Place, place_after, place_after_all, MayCarry, Continues, IsInSequence}
 use Rattle.feed_types.proofs.Continuing.{Continues-append}
 use Rattle.line_arbiter.specs.Packets.{Arrival, carried, end_of}
 use Rattle.line_arbiter.specs.Streams.{front_of, numbered, end_at, stream_of, streams_of}
@@ -30,7 +30,7 @@ place_after_append place [] ys = refl
 place_after_append place (x ∷ xs) ys = place_after_append (place_after place x.item) xs ys
 
 module _ (carries : ℕ → ℕ → ℕ → Item → Type 0) (ends : ℕ → ℕ → ℕ → Type 0) (venue : ℕ) where
-  message_allowed : (ordinal n : ℕ) (item : Item) → (item ≡ items.End → ⊥) → carries venue ordinal n item → IsAllowed carries ends venue (place_at ordinal n) item
+  message_allowed : (ordinal n : ℕ) (item : Item) → (item ≡ items.End → ⊥) → carries venue ordinal n item → MayCarry carries ends venue (place_at ordinal n) item
   message_allowed ordinal n items.End never may = absurd (never refl)
   message_allowed ordinal n items.Other never may = may
   message_allowed ordinal n (items.Quote quote) never may = may
@@ -41,7 +41,7 @@ module _ (carries : ℕ → ℕ → ℕ → Item → Type 0) (ends : ℕ → ℕ
     never_end : (m : ℕ) → IsSome (carried P m) → unwrap_or (carried P m) items.Other ≡ items.End → ⊥
     never_end m h = carried_never_end P m (unwrap_or (carried P m) items.Other) (some_is (carried P m) h)
 
-    allowed : (m : ℕ) → IsSome (carried P m) → IsAllowed carries ends venue (place_at ordinal m) (unwrap_or (carried P m) items.Other)
+    allowed : (m : ℕ) → IsSome (carried P m) → MayCarry carries ends venue (place_at ordinal m) (unwrap_or (carried P m) items.Other)
     allowed m h = message_allowed ordinal m (unwrap_or (carried P m) items.Other) (never_end m h) (carried_may carries ends venue ordinal P m (unwrap_or (carried P m) items.Other) genuine (some_is (carried P m) h))
 
     next_place : (m : ℕ) → IsSome (carried P m) → place_after (place_at ordinal m) (unwrap_or (carried P m) items.Other) ≡ place_at ordinal (m + 1)

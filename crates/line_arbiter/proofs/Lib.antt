@@ -22,6 +22,7 @@ pub mod Soundness
 pub mod Growth
 pub mod Answering
 pub mod PacketSteps
+pub mod OneOutcome
 -- genuine packets, and the laws
 pub mod Genuine
 pub mod Arrivals

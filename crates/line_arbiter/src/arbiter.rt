@@ -1,7 +1,7 @@
 //! One venue's lines, in sequence.
 
 ghost use Rattle.std.specs.Prelude.{◌≡◌, ◌∷◌, ◌++◌, ◌↔◌, ◌+◌, ◌^◌, ◌<◌, ◌≤◌, ℕ, List, [], IfOk, IfErr, IfSome, IsOk, IsSome, IsErrOf, OnErr, OnOk, slice_get, MatchBool, Some, None, length};
-ghost use Rattle.feed_types.specs.Sequence.{IsAllowed};
+ghost use Rattle.feed_types.specs.Sequence.{MayCarry};
 ghost use Rattle.mold_packet.specs.Content.{IsContent};
 ghost use Rattle.line_arbiter.specs.Packets.{Arrival, last_of};
 ghost use Rattle.line_arbiter.specs.Streams.{stream_of, gap_of, wins_of};
@@ -271,7 +271,7 @@ impl<G: Genuine> Arbiter<G> {
         ensures value { result ≡ next_of self.now }
         ensures number { IfSome result (λ n. n.number ≡ self.now.sent + 1) }
         ensures stream { (P : List Arrival) → Fits self.now P → result ≡ slice_get (stream_of P) self.now.sent }
-        ensures genuine { (P : List Arrival) → Fits self.now P → AreGenuine G.carries G.ends self.now.venue (ordinal_of self.now) P → IfSome result (λ n. IsAllowed G.carries G.ends self.now.venue (record { ordinal = ordinal_of self.now; number = n.number }) n.item) }
+        ensures genuine { (P : List Arrival) → Fits self.now P → AreGenuine G.carries G.ends self.now.venue (ordinal_of self.now) P → IfSome result (λ n. MayCarry G.carries G.ends self.now.venue (record { ordinal = ordinal_of self.now; number = n.number }) n.item) }
     {
         self.ready()
     }

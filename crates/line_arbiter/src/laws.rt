@@ -1,15 +1,16 @@
 //! What the definitions mean for a session's messages.
 
-ghost use Rattle.std.specs.Prelude.{◌≡◌, ℕ, ◌≤◌, List, length, IsOk, Result};
+ghost use Rattle.std.specs.Prelude.{◌≡◌, ℕ, ◌≤◌, ◌++◌, ◌∷◌, [], List, length, IsOk, Result};
 ghost use Rattle.feed_types.specs.Sequence.{IsInSequence};
 ghost use Rattle.feed_types.specs.Sessions.{Session, IsSessionAt, Names};
+ghost use Rattle.feed_types.specs.declared.line.LineId.{LineId};
 ghost use Rattle.mold_packet.specs.Content.{Content, IsContent};
 ghost use Rattle.line_arbiter.specs.declared.outcome.Outcome.{Outcome};
 ghost use Rattle.line_arbiter.specs.declared.outcome.LineFault.{LineFault};
 ghost use Rattle.line_arbiter.specs.Packets.{Arrival, end_of};
 ghost use Rattle.line_arbiter.specs.Streams.{front_of, stream_of, streams_of};
 ghost use Rattle.line_arbiter.specs.Outcomes.{IsOutcome};
-ghost use Rattle.line_arbiter.specs.Carrying.{AreGenuine, AreGenuineFrom, IsOfSession, session_stream};
+ghost use Rattle.line_arbiter.specs.Carrying.{IsGenuineAt, AreGenuine, AreGenuineFrom, IsOfSession, session_stream};
 
 use feed_types::Genuine;
 
@@ -30,4 +31,15 @@ pub fn no_packet_is_refused<G: Genuine>()
 /// but the last are over, their streams one after another obey the rule of a venue's items.
 pub fn streams_are_in_sequence<G: Genuine>()
     ensures { (venue : ℕ) (sessions : List (List Arrival)) → AreGenuineFrom G.carries G.ends venue 1 sessions → IsInSequence G.carries G.ends venue (streams_of sessions) }
+{}
+
+/// A packet has one answer, whatever came before it.
+pub fn one_outcome()
+    ensures { (session : List ℕ) (window sent : ℕ) (P : List Arrival) (p : Content) (a b : Result Outcome LineFault) → IsOutcome session window sent P p a → IsOutcome session window sent P p b → a ≡ b }
+{}
+
+/// What was taken stays genuine when one more packet is answered that is genuine where it is of the
+/// session. So who keeps an arbiter needs to know of each packet that alone.
+pub fn what_is_taken_stays_genuine<G: Genuine>()
+    ensures { (venue ordinal window sent : ℕ) (session : List ℕ) (P : List Arrival) (line : LineId) (p : Content) (answer : Result Outcome LineFault) → AreGenuine G.carries G.ends venue ordinal P → (p.session ≡ session → IsGenuineAt G.carries G.ends venue ordinal p) → IsOutcome session window sent P p answer → AreGenuine G.carries G.ends venue ordinal (P ++ record { line = line; packet = p; answer = answer } ∷ []) }
 {}
