@@ -22,8 +22,6 @@ pub mod fault;
 mod input;
 pub mod laws;
 mod lines;
-#[cfg(test)]
-mod lines_tests;
 pub mod memory;
 mod output;
 pub mod replay;

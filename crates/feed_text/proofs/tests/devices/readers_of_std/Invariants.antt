@@ -1,4 +1,4 @@
-use Rattle.feed_text.proofs.tests.readers_of_std.Given as goal
+use Rattle.feed_text.proofs.tests.devices.readers_of_std.Given as goal
 
 abbrev pub ghosts-read_once : goal.ghosts-read_once
 ghosts-read_once g a = record { name = a.blank.name; parts = a.blank.parts }
