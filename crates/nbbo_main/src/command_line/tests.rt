@@ -12,12 +12,13 @@ fn words_of(alloc: Global, line: &str) -> Result<Vec<String>, AllocError> {
     Ok(words)
 }
 
-/// The status and the text of a line that is refused.
+/// Why a line is refused, if it is.
 fn refusal_at(alloc: Global, line: &str) -> Result<Option<Refusal>, AllocError> {
     let words = words_of(alloc, line)?;
     Ok(settings(alloc, words.as_slice()).err())
 }
 
+/// The settings that a line asks for.
 fn settings_at(rt: &(impl Abort + AllocGlobal), line: &str) -> ReplaySettings {
     let words = words_of(rt.alloc(), line).expect(rt, "memory");
     match settings(rt.alloc(), words.as_slice()) {
