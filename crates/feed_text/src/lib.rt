@@ -1,17 +1,18 @@
 //! From the bytes of a capture to the lines that a replay prints.
 //!
 //! A capture is a list of records, one after the other: a datagram as it came on a line of a venue,
-//! or the name of a venue's next session. `specs/Capture.antt` has its grammar, and `capture::front_of`
-//! tells, by that grammar, what stands at the front of some bytes.
+//! or the name of a venue's next session (`specs/Capture.antt`). Its text (`specs/Printed.antt`) is each
+//! record's lines, told by the arbiter's definitions over all that came to the record's venue before,
+//! and at the end a line for each venue.
 //!
-//! What is read and written goes through two traits, `devices::CaptureIn` and `devices::TextOut`, and
-//! what makes lines of records is a `reporter::Reporter`; their laws say what a call did. `memory` has
-//! devices over memory, `system` over the standard streams.
+//! The contract is that of `replay::replay`: where it answers Ok, what was read is a whole capture, and
+//! what was written is its text and nothing else. Each fault comes only when its cause did, and what was
+//! written then is a front of the text of the records read (`specs/Replays.antt`).
 //!
-//! The contract is that of `replay::replay_with`: what was read is the records of a capture, what was
-//! written is their lines and nothing else, and each fault comes only when its cause did.
+//! A replay reads and writes through two traits, `devices::CaptureIn` and `devices::TextOut`, whose laws
+//! say what a call did. `memory` has devices over memory, `system` over the standard streams.
 //!
-//! Begin with `specs/Capture.antt`, then `devices.rt` and `specs/Progress.antt`.
+//! Begin with `replay.rt`, then `specs/Printed.antt`; `engine.rt` has the loop, `venue.rt` a venue.
 #![tactic(auto)]
 
 pub mod capture;
