@@ -1,7 +1,5 @@
 -- A packet has one answer.
-use Rattle.std.proofs.Common.{◌≡◌, ◌≢◌, ℕ, ◌+◌, ◌<◌, ◌≤◌, List, length, Option, Some, None, Result, Ok, Err, inl, inr, refl, sym, ◌∙◌, arith}
-use Rattle.std.specs.Prelude.{IsSome}
-use Rattle.feed_types.specs.declared.item.Item.{Item}
+use Rattle.std.proofs.Common.{◌≡◌, ℕ, ◌+◌, List, length, Option, Some, None, Result, Ok, Err, inl, inr, refl, sym, ◌∙◌, arith}
 use Rattle.mold_packet.specs.declared.packet.Kind.{Kind}
 use Rattle.mold_packet.specs.declared.packet.Kind.TheVariants as kinds
 use Rattle.mold_packet.specs.Content.{Content}
@@ -9,7 +7,7 @@ use Rattle.line_arbiter.specs.declared.outcome.Outcome.{Outcome}
 use Rattle.line_arbiter.specs.declared.outcome.Outcome.TheVariants.{Taken, Heartbeat, Ended, Ahead}
 use Rattle.line_arbiter.specs.declared.outcome.LineFault.{LineFault}
 use Rattle.line_arbiter.specs.declared.outcome.LineFault.TheVariants.{OtherSession, PastEnd, EndMoved, EndTooEarly, Conflict}
-use Rattle.line_arbiter.specs.Packets.{Arrival, carried, end_of, last_of}
+use Rattle.line_arbiter.specs.Packets.{Arrival, end_of, last_of}
 use Rattle.line_arbiter.specs.Outcomes.{IsPast, IsBeforeEnd, Disagrees, Agrees, ToMessages, ToHeartbeat, ToEnd, ToKind, IsOutcome}
 
 same_some : (a b : ℕ) (o : Option ℕ) → o ≡ Some a → o ≡ Some b → a ≡ b

@@ -19,8 +19,7 @@ fn is_other(window: &Window, number: u64, message: &[u8]) -> bool
     }
 }
 
-/// Whether a held message reads otherwise in the packet.
-pub(crate) fn disagrees(window: &Window, packet: &Packet<'_>) -> bool
+fn some_is_other(window: &Window, packet: &Packet<'_>) -> bool
     ensures { MatchBool result (HeldDisagrees window.now packet.now) (HeldAgrees window.now packet.now) }
 {
     let first = packet.number();
@@ -30,6 +29,14 @@ pub(crate) fn disagrees(window: &Window, packet: &Packet<'_>) -> bool
         }
     }
     false
+}
+
+/// Whether a held message reads otherwise in the packet. Where all that is held lies below the packet, as
+/// most often, its messages aren't walked.
+pub(crate) fn disagrees(window: &Window, packet: &Packet<'_>) -> bool
+    ensures { MatchBool result (HeldDisagrees window.now packet.now) (HeldAgrees window.now packet.now) }
+{
+    window.holds_from(packet.number()) && some_is_other(window, packet)
 }
 
 /// Holds the message where its number is past the base and free, and tells whether it did.
@@ -47,8 +54,7 @@ fn put(window: &mut Window, number: u64, message: &[u8]) -> bool
     true
 }
 
-/// Holds the packet's messages past the base where nothing is held, and tells how many it held.
-pub(crate) fn fill(window: &mut Window, packet: &Packet<'_>) -> u16
+fn fill_each(window: &mut Window, packet: &Packet<'_>) -> u16
     requires { packet.now.number + length packet.now.messages ≤ window.old.base + window.old.width + 1 }
     ensures after { (m : ℕ) → held_at window.new m ≡ put_all window.old.base packet.now (held_at window.old m) m }
     ensures count { result ≡ fresh_to (length packet.now.messages) window.old.base window.old packet.now }
@@ -62,6 +68,22 @@ pub(crate) fn fill(window: &mut Window, packet: &Packet<'_>) -> u16
         count += u16::from(is_new);
     }
     count
+}
+
+/// Holds the packet's messages past the base where nothing is held, and tells how many it held. Where all
+/// of them were sent, as on the line that comes second, its messages aren't walked.
+pub(crate) fn fill(window: &mut Window, packet: &Packet<'_>) -> u16
+    requires { packet.now.number + length packet.now.messages ≤ window.old.base + window.old.width + 1 }
+    ensures after { (m : ℕ) → held_at window.new m ≡ put_all window.old.base packet.now (held_at window.old m) m }
+    ensures count { result ≡ fresh_to (length packet.now.messages) window.old.base window.old packet.now }
+    ensures base { window.new.base ≡ window.old.base }
+    ensures width { window.new.width ≡ window.old.width }
+{
+    let sent = window.base().saturating_sub(packet.number() - 1);
+    if sent >= u64::from(packet.count()) {
+        return 0;
+    }
+    fill_each(window, packet)
 }
 
 /// The last number of the run of held numbers that goes on past `front`.

@@ -3,7 +3,7 @@ use Rattle.quote_payload.specs.Payload.{item_of}
 use Rattle.line_arbiter.specs.Packets.{message_item}
 use Rattle.line_arbiter.specs.Holding.{HoldsNoOther}
 use Rattle.line_arbiter.proofs.Turns.{at_turn, go_on, numbers_fit}
-use Rattle.line_arbiter.proofs.intake.disagrees.Goals as goal
+use Rattle.line_arbiter.proofs.intake.some_is_other.Goals as goal
 
 pub loop-i-preserved : goal.loop-i-preserved
 loop-i-preserved c =

@@ -2,7 +2,7 @@ use Rattle.std.proofs.Common.{ℕ, ◌+◌, ◌<◌}
 use Rattle.line_arbiter.specs.Packets.{message_item}
 use Rattle.line_arbiter.specs.Holding.{HoldsNoOther}
 use Rattle.line_arbiter.proofs.Turns.{IsAt}
-use Rattle.line_arbiter.proofs.intake.disagrees.Given as goal
+use Rattle.line_arbiter.proofs.intake.some_is_other.Given as goal
 
 abbrev pub invariant-loop-i : goal.invariant-loop-i
 invariant-loop-i l = record {
