@@ -7,3 +7,4 @@ pub mod VenueSteps
 pub mod Growing
 pub mod Telling
 pub mod Replayed
+pub mod OneText

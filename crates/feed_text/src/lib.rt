@@ -12,6 +12,8 @@
 //! A replay reads and writes through two traits, `devices::CaptureIn` and `devices::TextOut`, whose laws
 //! say what a call did. `memory` has devices over memory, `system` over the standard streams.
 //!
+//! `laws` says that a capture has one reading, and its records one text.
+//!
 //! Begin with `replay.rt`, then `specs/Printed.antt`; `engine.rt` has the loop, `venue.rt` a venue.
 #![tactic(auto)]
 

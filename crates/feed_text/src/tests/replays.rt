@@ -177,8 +177,7 @@ fn one_venue(rt: HostRuntime) {
         ),
     ];
     for (capture, gaps, text) in table {
-        let seen =
-            run_in_memory(rt.alloc(), &[FIRST], gaps, capture, 4_096, 9);
+        let seen = run_in_memory(rt.alloc(), &[FIRST], gaps, capture, 4_096, 9);
         assert!(rt; seen.0 == Ok(()), "of {capture:?}");
         assert_eq!(rt; seen.1.as_slice(), text, "of {capture:?}");
     }
@@ -214,8 +213,7 @@ fn no_capture(rt: HostRuntime) {
         (b"\0H\0\0", ReplayFault::BadRecord),
     ];
     for (capture, fault) in table {
-        let seen =
-            run_in_memory(rt.alloc(), &[FIRST], true, capture, 9, 9);
+        let seen = run_in_memory(rt.alloc(), &[FIRST], true, capture, 9, 9);
         assert!(rt; seen.0 == Err(fault) && seen.1.is_empty(), "of {capture:?}");
     }
 }
@@ -386,7 +384,8 @@ fn readers_that_fail(rt: HostRuntime) {
 /// Whatever call of the writer fails, what the calls before took is there, and nothing else.
 #[test]
 fn writers_that_fail(rt: HostRuntime) {
-    let whole: &[u8] = b"packet 0 A taken 2 0\nitem 0 1 other\nitem 0 2 other\npacket 0 B taken 0 2\n\
+    let whole: &[u8] =
+        b"packet 0 A taken 2 0\nitem 0 1 other\nitem 0 2 other\npacket 0 B taken 0 2\n\
         packet 0 A taken 1 0\npacket 0 B taken 1 0\nitem 0 3 other\nitem 0 4 other\n\
         venue 0 sent 4 wins 3 1 0\n";
     let failed = Err(ReplayFault::WriteFailed);
