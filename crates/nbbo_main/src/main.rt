@@ -82,7 +82,9 @@ fn ended(rt: &HostRuntime, outcome: &Result<(), ReplayFault>) -> u8
 }
 
 /// Replays standard input, and gives the status of the program.
-fn replay_input(rt: &HostRuntime, settings: &ReplaySettings) -> u8 {
+fn replay_input(rt: &HostRuntime, settings: &ReplaySettings) -> u8
+    ensures { result ≤ 1 }
+{
     ended(
         rt,
         &replay_streams::<Brand, Brand>(rt, settings, Blank::new(1), Blank::new(1)),
@@ -113,7 +115,10 @@ fn words_of(rt: &HostRuntime) -> io::Result<Vec<String>> {
 }
 
 /// What comes of words that the system doesn't give as text.
-fn unread(rt: &HostRuntime, kind: ErrorKind) -> u8 {
+fn unread(rt: &HostRuntime, kind: ErrorKind) -> u8
+    ensures memory { kind ≡ ErrorKind.OutOfMemory → result ≡ 1 }
+    ensures text { kind ≢ ErrorKind.OutOfMemory → result ≡ 2 }
+{
     if kind == ErrorKind::OutOfMemory {
         return refused(rt, &Refusal::NoMemory);
     }
