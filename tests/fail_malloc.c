@@ -1,0 +1,55 @@
+/* Refuses the request for memory whose number is in REFUSE, counted from 1, and where AFTER is set each
+   one behind it, too. All others are met. Where COUNT names a file, how many requests there were is written to it at the end.
+   Loaded by LD_PRELOAD in tests/refused-memory. */
+#define _GNU_SOURCE
+#include <dlfcn.h>
+#include <errno.h>
+#include <stdio.h>
+#include <stdlib.h>
+
+static unsigned long requests;
+
+static int is_refused(void)
+{
+    const char *refuse = getenv("REFUSE");
+    requests++;
+    if (refuse == NULL)
+        return 0;
+    unsigned long number = strtoul(refuse, NULL, 10);
+    return requests == number || (getenv("AFTER") != NULL && number != 0 && requests > number);
+}
+
+void *malloc(size_t size)
+{
+    static void *(*next)(size_t);
+    if (next == NULL)
+        next = dlsym(RTLD_NEXT, "malloc");
+    if (is_refused()) {
+        errno = ENOMEM;
+        return NULL;
+    }
+    return next(size);
+}
+
+void *realloc(void *old, size_t size)
+{
+    static void *(*next)(void *, size_t);
+    if (next == NULL)
+        next = dlsym(RTLD_NEXT, "realloc");
+    if (is_refused()) {
+        errno = ENOMEM;
+        return NULL;
+    }
+    return next(old, size);
+}
+
+__attribute__((destructor)) static void tell(void)
+{
+    const char *path = getenv("COUNT");
+    unsigned long count = requests;
+    FILE *file = path == NULL ? NULL : fopen(path, "w");
+    if (file != NULL) {
+        fprintf(file, "%lu\n", count);
+        fclose(file);
+    }
+}
