@@ -1,6 +1,6 @@
 /* Refuses the request for memory whose number is in REFUSE, counted from 1, and where AFTER is set each
-   one behind it, too. All others are met. Where COUNT names a file, how many requests there were is written to it at the end.
-   Loaded by LD_PRELOAD in tests/refused-memory. */
+   one behind it, too. All others are met. Where COUNT names a file, how many requests there were is
+   written to it at the end. Loaded by LD_PRELOAD in tests/refused-memory. */
 #define _GNU_SOURCE
 #include <dlfcn.h>
 #include <errno.h>
