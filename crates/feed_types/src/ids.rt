@@ -36,6 +36,17 @@ impl VenueId {
         }
     }
 
+    /// The venue at this place of a list of venues, or `None` from 16 on.
+    pub const fn from_index(index: usize) -> Option<VenueId>
+        ensures { SomeIff result (index < 16) index }
+    {
+        if index < 16 {
+            Some(VenueId { place: index as u8 })
+        } else {
+            None
+        }
+    }
+
     /// The venue's number, for use as an index.
     pub const fn index(self) -> usize
         ensures value { result ≡ self }
