@@ -1,5 +1,5 @@
 -- Cited by private clauses alone: the ranks of one side of a symbol, best first.
-use Rattle.std.specs.Prelude.{◌≡◌, ℕ, ◌<◌, List, [], ◌∷◌, ◌==◌, false, true, Option, Some, None, ⊤, length, if◌then◌else◌}
+use Rattle.std.specs.Prelude.{◌≡◌, ℕ, ◌⊎◌, List, [], ◌∷◌, ◌==◌, false, true, Option, Some, None, ⊤, if◌then◌else◌}
 use Rattle.std.specs.List.{AllByRecursion}
 use Rattle.feed_types.specs.declared.line.Side.{Side}
 use Rattle.feed_types.specs.declared.national.Best.{Best}
@@ -9,6 +9,11 @@ use Rattle.nbbo_book.specs.Nationals.{beats}
 abbrev pub InRank : Side → (ℕ → ℕ) → List Best → Type 0
 InRank side age [] = ⊤
 InRank side age (x ∷ xs) = AllByRecursion (λ y. beats side age x y ≡ true) xs × InRank side age xs
+
+-- x is one of them
+abbrev pub IsIn : List Best → Best → Type 0
+IsIn [] x = ⊥
+IsIn (y ∷ ys) x = (y ≡ x) ⊎ IsIn ys x
 
 -- none of them is the venue's
 abbrev pub HasNone : ℕ → List Best → Type 0

@@ -1,7 +1,6 @@
 -- Cited by private clauses alone: what a book keeps of a symbol, and how an entry changes it.
-use Rattle.std.specs.Prelude.{◌≡◌, ◌≢◌, ℕ, ◌<◌, ◌≤◌, List, [], ◌∷◌, Bool, false, not, ◌&&◌, Option, Some, None, IsSome, slice_index_or, slice_set, length, map, if◌then◌else◌}
+use Rattle.std.specs.Prelude.{ℕ, ◌<◌, List, [], ◌∷◌, Bool, false, not, ◌&&◌, Option, Some, None, slice_index_or, slice_set, length, replicate, if◌then◌else◌}
 use Rattle.std.specs.Str.{bytes_eq}
-use Rattle.std.specs.List.{Contains}
 use Rattle.feed_types.specs.declared.journal.Entry.{Entry}
 use Rattle.feed_types.specs.declared.journal.Entry.TheVariants.{Consumed, SelfHelp}
 use Rattle.feed_types.specs.declared.item.Item.{Item}
@@ -131,3 +130,12 @@ scope_of_item item.End = All
 abbrev pub scope_of : Entry → Scope
 scope_of (Consumed venue numbered) = scope_of_item numbered.item
 scope_of (SelfHelp venue on) = All
+
+-- nothing is known of the symbol yet
+abbrev pub empty_side : BookSide
+empty_side =
+    record { standings = replicate 16 (record { shown = None; age = 0 }); ranks = record { items = [] } }
+
+abbrev pub empty_row : List ℕ → Row
+empty_row symbol =
+    record { symbol = symbol; bids = empty_side; offers = empty_side; halted = replicate 16 false }

@@ -1,7 +1,7 @@
 -- Cited by private clauses alone: the table of the symbols, and what every book keeps.
 use Rattle.std.specs.Prelude.{◌≡◌, ◌≢◌, ◌↔◌, ℕ, ◌<◌, ◌≤◌, nat_eq, List, [], ◌∷◌, Bool, false, not, ◌&&◌, Option, Some, None, IsSome, slice_index_or, length, map}
 use Rattle.std.specs.Int.{w64, from_be_bytes, to_be_bytes}
-use Rattle.std.specs.List.{AllByRecursion, IsDistinct, Contains}
+use Rattle.std.specs.List.{AllByRecursion, IsDistinct}
 use Rattle.feed_types.specs.declared.line.Side.{Side}
 use Rattle.feed_types.specs.declared.line.Side.TheVariants.{Bid, Offer}
 use Rattle.feed_types.specs.declared.national.Best.{Best}
@@ -10,21 +10,25 @@ use Rattle.nbbo_book.specs.declared.book_side.BookSide.{BookSide}
 use Rattle.nbbo_book.specs.declared.row.Row.{Row}
 use Rattle.nbbo_book.specs.Eligible.{ranked_by}
 use Rattle.nbbo_book.specs.Books.{BookState, standing_at}
-use Rattle.nbbo_book.specs.Ranks.{InRank}
+use Rattle.nbbo_book.specs.Ranks.{InRank, IsIn}
 use Rattle.nbbo_book.specs.Rows.{age_at}
 
 abbrev pub symbols_of : List Row → List (List ℕ)
 symbols_of rows = map (λ (row : Row). row.symbol) rows
 
+-- the eight bytes can be told from their word
+abbrev pub HasWord : List ℕ → Type 0
+HasWord symbol = to_be_bytes w64 (from_be_bytes w64 symbol) ≡ symbol
+
 -- the keys are the words of the symbols, in order and each once
 pub record IsTable (symbols : List (List ℕ)) (keys : List ℕ) : Type 0 where
   pub words : keys ≡ map (from_be_bytes w64) symbols
-  pub fields : map (to_be_bytes w64) keys ≡ symbols
+  pub told : AllByRecursion HasWord symbols
   pub distinct : IsDistinct nat_eq keys
 
 -- these are what the venues are ranked with, best first
 pub record IsRankingOf (side : Side) (rank : ℕ → Option Best) (age : ℕ → ℕ) (xs : List Best) : Type 0 where
-  pub members : (x : Best) → Contains xs x ↔ ((x.venue < 16) × (rank x.venue ≡ Some x))
+  pub members : (x : Best) → IsIn xs x ↔ ((x.venue < 16) × (rank x.venue ≡ Some x))
   pub order : InRank side age xs
 
 abbrev pub may_at : List Bool → List Bool → ℕ → Bool

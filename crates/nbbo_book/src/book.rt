@@ -1,6 +1,6 @@
 //! The book: the protected sides of all configured symbols.
 
-ghost use Rattle.std.specs.Prelude.{◌≡◌, ◌↔◌, ◌⊎◌, ◌<◌, ◌≤◌, ◌+◌, ◌++◌, ◌∷◌, [], List, ℕ, length, replicate, IfOk, OnOk, IsErrOf, IfSome, IsSome, IsTrue, Some, false};
+ghost use Rattle.std.specs.Prelude.{◌≡◌, ◌↔◌, ◌⊎◌, ◌<◌, ◌≤◌, ◌+◌, ◌++◌, ◌∷◌, [], List, ℕ, length, map, IfOk, OnOk, IsErrOf, IfSome, IsSome, IsTrue, Some, false};
 ghost use Rattle.std.specs.List.{IsDistinct};
 ghost use Rattle.std.specs.Str.{bytes_eq};
 ghost use Rattle.std.specs.Vec.{vec_len, vec_capacity};
@@ -8,8 +8,7 @@ ghost use Rattle.feed_types.specs.declared.journal.Entry.{Entry};
 ghost use Rattle.nbbo_book.specs.Books.{Fits, venue_of, is_configured};
 ghost use Rattle.nbbo_book.specs.Nationals.{national_of, IsRanking};
 ghost use Rattle.nbbo_book.specs.Changes.{changes_of};
-ghost use Rattle.nbbo_book.specs.Tables.{symbols_of, IsTable, IsRow};
-ghost use Rattle.std.specs.List.{AllByRecursion};
+ghost use Rattle.nbbo_book.specs.Rows.{empty_side as no_side, empty_row};
 
 use crate::book_side::BookSide;
 use crate::change::Change;
@@ -48,7 +47,9 @@ impl Model for Book {
     ghost invariant = { λ b. IsBook b.table.keys (record { symbols = symbols_of b.rows.items; venues = b.venues; last = b.last; applied = b.applied; helped = b.helped; rows = b.rows.items }) };
 }
 
-fn empty_side() -> BookSide {
+fn empty_side() -> BookSide
+    ensures { result ≡ no_side }
+{
     BookSide {
         standings: [Standing {
             shown: None,
@@ -59,7 +60,7 @@ fn empty_side() -> BookSide {
 }
 
 fn empty_rows(alloc: Global, symbols: &[SymbolName]) -> Result<Vec<Row>, AllocError>
-    ensures symbols { IfOk result (λ rows. symbols_of rows.items ≡ symbols.now) }
+    ensures { IfOk result (λ rows. rows.items ≡ map empty_row symbols.now) }
 {
     let mut rows = Vec::with_capacity(alloc, symbols.len())?;
     for symbol in symbols {

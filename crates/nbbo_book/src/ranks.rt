@@ -1,6 +1,6 @@
 //! The eligible sides of one side of a symbol, best first.
 
-ghost use Rattle.std.specs.Prelude.{◌≡◌, ◌≢◌, ◌+◌, ◌-◌, ◌<◌, ◌≤◌, ◌⊎◌, true, false, not, length, slice_index_or, insert, remove, IfSome, None};
+ghost use Rattle.std.specs.Prelude.{◌≡◌, ℕ, ◌+◌, ◌<◌, ◌≤◌, true, false, not, length, slice_index_or, insert, remove, IfSome, None};
 ghost use Rattle.nbbo_book.specs.Nationals.{beats};
 ghost use Rattle.nbbo_book.specs.Changes.{is_same_best};
 ghost use Rattle.nbbo_book.specs.Ranks.{InRank, without, with_rank, placed, front_of};
@@ -41,7 +41,7 @@ fn rise(
     ensures moved { ranks.new ≡ insert (remove ranks.old from) result x.now }
     ensures up { result ≤ from }
     ensures passed { result < from → beats side (age_at standings.now) x.now (slice_index_or (remove ranks.old from) result x.now) ≡ true }
-    ensures stopped { 0 < result → beats side (age_at standings.now) x.now (slice_index_or (remove ranks.old from) (result - 1) x.now) ≡ false }
+    ensures stopped { (k : ℕ) → result ≡ k + 1 → beats side (age_at standings.now) x.now (slice_index_or (remove ranks.old from) k x.now) ≡ false }
 {
     let mut at = from;
     while at > 0 {
@@ -60,7 +60,7 @@ fn rise(
 fn fall(side: Side, standings: &[Standing; 16], ranks: &mut [Best], from: usize, x: &Best)
     requires below { from < length ranks.old }
     requires here { slice_index_or ranks.old from x.now ≡ x.now }
-    requires stopped { 0 < from → beats side (age_at standings.now) x.now (slice_index_or (remove ranks.old from) (from - 1) x.now) ≡ false }
+    requires stopped { (k : ℕ) → from ≡ k + 1 → beats side (age_at standings.now) x.now (slice_index_or (remove ranks.old from) k x.now) ≡ false }
     requires order { InRank side (age_at standings.now) (remove ranks.old from) }
     ensures { ranks.new ≡ with_rank side (age_at standings.now) x.now (remove ranks.old from) }
 {

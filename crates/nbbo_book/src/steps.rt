@@ -1,6 +1,6 @@
 //! One more entry, applied to what is kept of the symbols.
 
-ghost use Rattle.std.specs.Prelude.{◌≡◌, ◌++◌, ◌+◌, ◌<◌, ◌≤◌, length, map};
+ghost use Rattle.std.specs.Prelude.{◌≡◌, ◌++◌, ◌∷◌, [], ◌+◌, ◌<◌, ◌≤◌, length, map};
 ghost use Rattle.std.specs.List.{AllByRecursion, filter_map};
 ghost use Rattle.std.specs.Vec.{vec_len, vec_capacity};
 ghost use Rattle.std.specs.Option.{option_to_list};
@@ -11,7 +11,7 @@ use crate::change::Change;
 use crate::row::Row;
 use crate::scope::{Scope, scope_of};
 use crate::table::{Table, find};
-use feed_types::{Entry, National};
+use feed_types::{Best, Entry, National, SymbolName};
 
 /// One more entry: its place in the order of all, its position, and the venues that self-help stands on
 /// after it.
@@ -23,6 +23,21 @@ pub struct Step {
     pub helped: [bool; 16],
 }
 
+fn append(out: &mut Vec<Change>, position: u64, symbol: SymbolName, national: National)
+    requires { vec_len out.old < vec_capacity out.old }
+    ensures items { out.new.items ≡ out.old.items ++ record { position = position; symbol = symbol; national = national } ∷ [] }
+    ensures len { vec_len out.new ≡ vec_len out.old + 1 }
+    ensures capacity { vec_capacity out.new ≡ vec_capacity out.old }
+{
+    let bid: Option<Best> = national.bid;
+    let offer: Option<Best> = national.offer;
+    out.push_reserved(Change {
+        position,
+        symbol,
+        national: National { bid, offer },
+    });
+}
+
 fn step_row(row: &mut Row, step: &Step, out: &mut Vec<Change>)
     requires ranked { IsRowRanked row.old }
     requires room { vec_len out.old < vec_capacity out.old }
@@ -32,12 +47,7 @@ fn step_row(row: &mut Row, step: &Step, out: &mut Vec<Change>)
     ensures capacity { vec_capacity out.new ≡ vec_capacity out.old }
 {
     if row.take_entry(&step.helped, &step.entry, step.age) {
-        let national: National = row.national();
-        out.push_reserved(Change {
-            position: step.position,
-            symbol: row.symbol,
-            national,
-        });
+        append(out, step.position, row.symbol, row.national());
     }
 }
 
