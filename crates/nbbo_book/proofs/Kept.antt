@@ -91,7 +91,7 @@ standing_set xs v st h = set_at xs v st _ h
 pub standing_off : (xs : List Standing) (v w : ℕ) (st : Standing) → nat_eq w v ≡ false → standing_at (set xs v st) w ≡ standing_at xs w
 standing_off xs v w st h = set_off xs v w st _ (apart_from v w h)
 
-nat_split : (w v : ℕ) (P : Type 0) → (w ≡ v → P) → (nat_eq w v ≡ false → P) → P
+pub nat_split : (w v : ℕ) (P : Type 0) → (w ≡ v → P) → (nat_eq w v ≡ false → P) → P
 nat_split w v P here there = (elim (nat_eq w v) as (λ t. nat_eq w v ≡ t → P) [ true ↦ λ e. here (nat_same w v e) | false ↦ there ]) refl
 
 -- a venue's standing is another one, of an age of its own

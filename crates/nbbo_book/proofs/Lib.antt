@@ -3,3 +3,8 @@ pub mod Moving
 pub mod Ranking
 pub mod Said
 pub mod Kept
+pub mod Firsts
+pub mod Fitting
+pub mod Words
+pub mod Stepping
+pub mod Whole

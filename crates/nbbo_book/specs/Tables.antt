@@ -1,7 +1,8 @@
 -- Cited by private clauses alone: the table of the symbols, and what every book keeps.
 use Rattle.std.specs.Prelude.{◌≡◌, ◌≢◌, ◌↔◌, ℕ, ◌<◌, ◌≤◌, nat_eq, List, [], ◌∷◌, Bool, false, not, ◌&&◌, Option, Some, None, IsSome, slice_index_or, length, map}
-use Rattle.std.specs.Int.{w64, from_be_bytes, to_be_bytes}
+use Rattle.std.specs.Int.{w64, to_be_bytes}
 use Rattle.std.specs.List.{AllByRecursion, IsDistinct}
+use Rattle.feed_types.specs.Symbols.{word_of}
 use Rattle.feed_types.specs.declared.line.Side.{Side}
 use Rattle.feed_types.specs.declared.line.Side.TheVariants.{Bid, Offer}
 use Rattle.feed_types.specs.declared.national.Best.{Best}
@@ -17,12 +18,12 @@ abbrev pub symbols_of : List Row → List (List ℕ)
 symbols_of rows = map (λ (row : Row). row.symbol) rows
 
 -- the eight bytes can be told from their word
-abbrev pub HasWord : List ℕ → Type 0
-HasWord symbol = to_be_bytes w64 (from_be_bytes w64 symbol) ≡ symbol
+pub record HasWord (symbol : List ℕ) : Type 0 where
+  pub told : to_be_bytes w64 (word_of symbol) ≡ symbol
 
 -- the keys are the words of the symbols, in order and each once
 pub record IsTable (symbols : List (List ℕ)) (keys : List ℕ) : Type 0 where
-  pub words : keys ≡ map (from_be_bytes w64) symbols
+  pub words : keys ≡ map word_of symbols
   pub told : AllByRecursion HasWord symbols
   pub distinct : IsDistinct nat_eq keys
 

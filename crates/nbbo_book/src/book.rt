@@ -6,6 +6,7 @@ ghost use Rattle.std.specs.Str.{bytes_eq};
 ghost use Rattle.std.specs.Vec.{vec_len, vec_capacity};
 ghost use Rattle.feed_types.specs.declared.journal.Entry.{Entry};
 ghost use Rattle.nbbo_book.specs.Books.{Fits, venue_of, is_configured};
+ghost use Rattle.nbbo_book.specs.Eligible.{is_self_helped as self_helped};
 ghost use Rattle.nbbo_book.specs.Nationals.{national_of, IsRanking};
 ghost use Rattle.nbbo_book.specs.Changes.{changes_of};
 ghost use Rattle.nbbo_book.specs.Rows.{empty_side as no_side, empty_row};
@@ -18,7 +19,7 @@ use crate::shown::Standing;
 use crate::steps::{Step, apply_step, helped_after};
 use crate::table::{Table, find, symbol_table};
 use arrayvec::ArrayVec;
-use feed_types::{Best, Entry, National, Side, SymbolName};
+use feed_types::{Best, Entry, National, Side, SymbolName, VenueId};
 use std::alloc::{AllocError, Global};
 use std::marker::Model;
 
@@ -164,6 +165,27 @@ impl Book {
             Side::Offer => &row.offers.ranks,
         };
         Some(ranks.as_slice())
+    }
+
+    /// Whether self-help stands on the venue.
+    pub fn is_self_helped(&self, venue: VenueId) -> bool
+        ensures { (entries : List Entry) → Fits self.now entries → result ≡ self_helped entries venue }
+    {
+        self.helped[venue.index()]
+    }
+
+    /// How many venues there are: `apply` takes entries of those below.
+    pub fn venue_count(&self) -> usize
+        ensures { result ≡ self.now.venues }
+    {
+        self.venues
+    }
+
+    /// The position of the last entry, 0 before any: that of the next one is greater.
+    pub fn last_position(&self) -> u64
+        ensures { result ≡ self.now.last }
+    {
+        self.last
     }
 
     /// How many symbols are configured: one entry makes at most so many changes.

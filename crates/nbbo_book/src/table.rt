@@ -1,7 +1,6 @@
 //! The table of the symbols, in configured order.
 
-ghost use Rattle.std.specs.Prelude.{◌≡◌, ◌↔◌, ◌<◌, ℕ, List, length, position, IfOk, OnOk, IsErrOf, map};
-ghost use Rattle.std.specs.Int.{w64, from_be_bytes, to_be_bytes};
+ghost use Rattle.std.specs.Prelude.{◌≡◌, ◌↔◌, ◌<◌, ℕ, List, length, position, IfOk, OnOk, IsErrOf};
 ghost use Rattle.std.specs.List.{IsDistinct};
 ghost use Rattle.std.specs.Str.{bytes_eq};
 ghost use Rattle.nbbo_book.specs.Tables.{IsTable};
@@ -16,13 +15,6 @@ const MAX_SYMBOLS: usize = 4096;
 
 /// The symbols' words: one number hashes faster than eight bytes.
 pub type Table = IndexSet<u64>;
-
-fn word(symbol: SymbolName) -> u64
-    ensures value { result ≡ from_be_bytes w64 symbol }
-    ensures field { to_be_bytes w64 result ≡ symbol }
-{
-    u64::from_be_bytes(symbol.field())
-}
 
 /// The table of these symbols.
 pub fn symbol_table(alloc: Global, symbols: &[SymbolName]) -> Result<Table, BookFault>
@@ -40,7 +32,7 @@ pub fn symbol_table(alloc: Global, symbols: &[SymbolName]) -> Result<Table, Book
         Err(_) => return Err(BookFault::NoMemory),
     };
     for symbol in symbols {
-        match table.insert(word(*symbol)) {
+        match table.insert(symbol.word()) {
             Ok(true) => {}
             Ok(false) => return Err(BookFault::DuplicateSymbol),
             Err(_) => return Err(BookFault::NoMemory),
@@ -54,5 +46,5 @@ pub fn symbol_table(alloc: Global, symbols: &[SymbolName]) -> Result<Table, Book
 pub fn find(table: &Table, symbol: SymbolName) -> Option<usize>
     ensures { (symbols : List (List ℕ)) → IsTable symbols table.now.keys → result ≡ position (bytes_eq symbol) symbols }
 {
-    table.get_index_of(&word(symbol))
+    table.get_index_of(&symbol.word())
 }
