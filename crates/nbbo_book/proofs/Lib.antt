@@ -8,3 +8,5 @@ pub mod Fitting
 pub mod Words
 pub mod Stepping
 pub mod Whole
+pub mod Eligibility
+pub mod Lawful

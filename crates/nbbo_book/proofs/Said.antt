@@ -68,7 +68,7 @@ pub same_side_refl : (x : Option Shown) → is_same_side x x ≡ true
 same_side_refl None = refl
 same_side_refl (Some x) = ap (λ t. t && ((nat_eq x.size x.size) && is_same_flag x.automated x.automated)) (nat_refl x.price) ∙ ap (λ t. t && is_same_flag x.automated x.automated) (nat_refl x.size) ∙ same_flag_refl x.automated
 
-since-≤ : (f : ℕ → Option Shown) (x : Option Shown) (n : ℕ) → since f x n ≤ n
+pub since-≤ : (f : ℕ → Option Shown) (x : Option Shown) (n : ℕ) → since f x n ≤ n
 since-≤ f x zero = omega arith
 since-≤ f x (suc n) = elim (is_same_side (f n) x) as (λ b. cond b (since f x n) (suc n) ≤ suc n) [ true ↦ omega (arith, since-≤ f x n) | false ↦ omega arith ]
 

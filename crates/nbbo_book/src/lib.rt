@@ -13,6 +13,7 @@ mod book;
 mod book_side;
 mod change;
 mod fault;
+mod laws;
 mod ranks;
 mod row;
 mod scope;
@@ -23,3 +24,7 @@ mod table;
 pub use book::Book;
 pub use change::Change;
 pub use fault::BookFault;
+pub use laws::{age_is_the_first, any_two_rank, one_best};
+
+#[cfg(test)]
+mod tests;
