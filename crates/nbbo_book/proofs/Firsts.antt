@@ -16,12 +16,11 @@ use Rattle.nbbo_book.proofs.Said.{and_left, and_right}
 use Rattle.nbbo_book.proofs.Kept.{ranked_own}
 
 -- among the numbers
-pub IsNumber : ℕ → List ℕ → Type 0
+abbrev pub IsNumber : ℕ → List ℕ → Type 0
 IsNumber v [] = ⊥
 IsNumber v (w ∷ ws) = (w ≡ v) ⊎ IsNumber v ws
 
 in_range : (n a v : ℕ) → a ≤ v → v < a + n → IsNumber v (range_with_len a n)
-unfolding IsNumber
 in_range zero a v low high = absurd (omega (arith, low, high))
 in_range (suc n) a v low high =
     (elim (nat_eq a v) as (λ t. nat_eq a v ≡ t → (a ≡ v) ⊎ IsNumber v (range_with_len (a + 1) n)) [
@@ -29,7 +28,6 @@ in_range (suc n) a v low high =
     | false ↦ λ e. inr (in_range n (a + 1) v (grind (arith, low, e)) (omega (arith, high))) ]) refl
 
 under_range : (n a v : ℕ) → IsNumber v (range_with_len a n) → v < a + n
-unfolding IsNumber
 under_range zero a v i = absurd i
 under_range (suc n) a v i = elim i [ inl e ↦ omega (arith, e) | inr k ↦ (let h : v < (a + 1) + n = under_range n (a + 1) v k in omega (arith, h)) ]
 
@@ -44,21 +42,18 @@ all_rest q None cs h = h
 all_rest q (Some d) cs h = and_right (q d) (list_all q cs) h
 
 pub all_at : (q : Best → Bool) (g : ℕ → Option Best) (vs : List ℕ) → list_all q (filter_map g vs) ≡ true → (v : ℕ) (c : Best) → IsNumber v vs → g v ≡ Some c → q c ≡ true
-unfolding IsNumber
 all_at q g [] h v c i e = absurd i
 all_at q g (w ∷ vs) h v c i e = elim i [
     inl k ↦ and_left (q c) (list_all q (filter_map g vs)) (sym (ap (λ o. list_all q (cons_option o (filter_map g vs))) (ap g k ∙ e)) ∙ h)
   | inr k ↦ all_at q g vs (all_rest q (g w) (filter_map g vs) h) v c k e ]
 
 pub all_here : (q : Best → Bool) (g : ℕ → Option Best) (vs : List ℕ) → ((w : ℕ) (d : Best) → IsNumber w vs → g w ≡ Some d → q d ≡ true) → list_all q (filter_map g vs) ≡ true
-unfolding IsNumber
 all_here q g [] h = refl
 all_here q g (w ∷ vs) h =
     let rest : list_all q (filter_map g vs) ≡ true = all_here q g vs (λ k d i e. h k d (inr i) e) in
     let R : Option Best → Type 0 = λ o. g w ≡ o → list_all q (cons_option o (filter_map g vs)) ≡ true in (elim (g w) as R [ None ↦ λ e. rest | Some d ↦ λ e. ap (λ t. t && list_all q (filter_map g vs)) (h w d (inl refl) e) ∙ rest ]) refl
 
-find_here : (p : Best → Bool) (g : ℕ → Option Best) (vs : List ℕ) (v : ℕ) (c : Best) → IsNumber v vs → g v ≡ Some c → p c ≡ true → ((w : ℕ) (d : Best) → IsNumber w vs → g w ≡ Some d → p d ≡ true → d ≡ c) → find p (filter_map g vs) ≡ Some c
-unfolding IsNumber
+pub find_here : (p : Best → Bool) (g : ℕ → Option Best) (vs : List ℕ) (v : ℕ) (c : Best) → IsNumber v vs → g v ≡ Some c → p c ≡ true → ((w : ℕ) (d : Best) → IsNumber w vs → g w ≡ Some d → p d ≡ true → d ≡ c) → find p (filter_map g vs) ≡ Some c
 find_here p g [] v c i e t u = absurd i
 find_here p g (w ∷ vs) v c i e t u =
     let rest : IsNumber v vs → find p (filter_map g vs) ≡ Some c = λ k. find_here p g vs v c k e t (λ x d j m n. u x d (inr j) m n) in
@@ -71,12 +66,11 @@ find_here p g (w ∷ vs) v c i e t u =
           true ↦ λ n. ap Some (u w d (inl refl) m n)
         | false ↦ λ n. elim i [ inl k ↦ (let same : d ≡ c = some_same (sym m ∙ ap g k ∙ e) in let no : true ≡ false = sym t ∙ ap p (sym same) ∙ n in cc) | inr k ↦ rest k ] ]) refl ]) refl
 
-none_here : (p : Best → Bool) (g : ℕ → Option Best) (vs : List ℕ) → ((w : ℕ) → IsNumber w vs → g w ≡ None) → find p (filter_map g vs) ≡ None
-unfolding IsNumber
+pub none_here : (p : Best → Bool) (g : ℕ → Option Best) (vs : List ℕ) → ((w : ℕ) → IsNumber w vs → g w ≡ None) → find p (filter_map g vs) ≡ None
 none_here p g [] h = refl
 none_here p g (w ∷ vs) h = ap (λ o. find p (cons_option o (filter_map g vs))) (h w (inl refl)) ∙ none_here p g vs (λ k i. h k (inr i))
 
-or_true : (a : Bool) → (a || true) ≡ true
+pub or_true : (a : Bool) → (a || true) ≡ true
 or_true true = refl
 or_true false = refl
 

@@ -80,13 +80,12 @@ data Top (g : ℕ → Option Best) (b : Side) (f : ℕ → ℕ) (vs : List ℕ) 
   First : (x : Best) → IsNumber x.venue vs → g x.venue ≡ Some x → ((w : ℕ) (y : Best) → IsNumber w vs → g w ≡ Some y → (y ≡ x) ⊎ (beats b f x y ≡ true)) → Top g b f vs
 
 top_of : (g : ℕ → Option Best) (b : Side) (f : ℕ → ℕ) (vs : List ℕ) → ((w : ℕ) (x : Best) → g w ≡ Some x → x.venue ≡ w) → ((x y : Best) → IsNumber x.venue vs → IsNumber y.venue vs → g x.venue ≡ Some x → g y.venue ≡ Some y → (y.venue ≡ x.venue → ⊥) → (beats b f x y ≡ true) ⊎ (beats b f y x ≡ true)) → Top g b f vs
-unfolding IsNumber
 top_of g b f [] own either = Nobody (λ w i. absurd i)
 top_of g b f (v ∷ vs) own either =
     let rest : Top g b f vs = top_of g b f vs own (λ x y i j. either x y (inr i) (inr j)) in
     (elim (g v) as (λ o. g v ≡ o → Top g b f (v ∷ vs)) [
       None ↦ λ none. elim rest [
-          Nobody no ↦ Nobody (λ w i. elim i [ inl e ↦ ap g (sym e) ∙ none | inr k ↦ no w k ])
+          Nobody nobody ↦ Nobody (λ w i. elim i [ inl e ↦ ap g (sym e) ∙ none | inr k ↦ nobody w k ])
         | First x i is wins ↦ First x (inr i) is (λ w y j e. elim j [ inl q ↦ (let no : None ≡ Some y = sym none ∙ ap g q ∙ e in cc) | inr k ↦ wins w y k e ]) ]
     | Some c ↦ λ here.
         let at : c.venue ≡ v = own v c here in
@@ -94,7 +93,7 @@ top_of g b f (v ∷ vs) own either =
         let told : g c.venue ≡ Some c = ap g at ∙ here in
         let alone : (w : ℕ) (y : Best) → v ≡ w → g w ≡ Some y → y ≡ c = λ w y q e. some_same (sym e ∙ ap g (sym q) ∙ here) in
         elim rest [
-          Nobody no ↦ First c inside told (λ w y j e. elim j [ inl q ↦ inl (alone w y q e) | inr k ↦ (let none : None ≡ Some y = sym (no w k) ∙ e in cc) ])
+          Nobody nobody ↦ First c inside told (λ w y j e. elim j [ inl q ↦ inl (alone w y q e) | inr k ↦ (let none : None ≡ Some y = sym (nobody w k) ∙ e in cc) ])
         | First x i is wins ↦ nat_split x.venue c.venue (Top g b f (v ∷ vs))
             (λ same.
               let one : x ≡ c = some_same (sym is ∙ ap g same ∙ told) in
@@ -145,9 +144,9 @@ best_found es s b x h =
 -- what the walk over the venues comes to
 pub best_cases : (es : List Entry) (s : List ℕ) (b : Side) → ((best_of es s b ≡ None) × ((x : Best) → IsEligible es s b x → ⊥)) ⊎ ((x : Best) × (best_of es s b ≡ Some x) × IsBest es s b x)
 best_cases es s b = elim (top es s b) [
-    Nobody no ↦ inl (
-      none_here (beats_others b (λ v. age_of es v s b) (eligible_sides es s b)) (eligible_of es s b) all_venues no
-      , λ x h. (let none : None ≡ Some x = sym (no x.venue (in_all_venues x.venue h.venue)) ∙ eligible_is es s b x h in cc))
+    Nobody nobody ↦ inl (
+      none_here (beats_others b (λ v. age_of es v s b) (eligible_sides es s b)) (eligible_of es s b) all_venues nobody
+      , λ x h. (let none : None ≡ Some x = sym (nobody x.venue (in_all_venues x.venue h.venue)) ∙ eligible_is es s b x h in cc))
   | First x i is wins ↦
       let best : IsBest es s b x = record {
         eligible = eligible_here es s b x.venue x i is;

@@ -13,12 +13,13 @@ use Rattle.nbbo_book.specs.declared.book_side.BookSide.{BookSide}
 use Rattle.nbbo_book.specs.declared.row.Row.{Row}
 use Rattle.nbbo_book.specs.Eligible.{ranked_by, eligible_of}
 use Rattle.nbbo_book.specs.Sides.{side_of, age_of}
-use Rattle.nbbo_book.specs.Nationals.{national_of}
+use Rattle.nbbo_book.specs.Nationals.{national_of, IsRanking}
 use Rattle.nbbo_book.specs.Changes.{changes_of}
 use Rattle.nbbo_book.specs.Books.{BookState, standing_at, SideFits, RowFits, Fits, venue_of}
 use Rattle.nbbo_book.specs.Ranks.{IsIn}
-use Rattle.nbbo_book.specs.Rows.{row_after, row_change, national_at, helped_after, empty_side, empty_row}
+use Rattle.nbbo_book.specs.Rows.{row_after, row_change, national_at, ranks_at, helped_after, empty_side, empty_row}
 use Rattle.nbbo_book.specs.Tables.{IsRankingOf, IsSide, IsRow, IsBook, IsTable, may_at, rank_at, symbols_of}
+use Rattle.nbbo_book.proofs.Eligibility.{ranking_is}
 use Rattle.nbbo_book.proofs.Kept.{ranked_nothing, long_set}
 use Rattle.nbbo_book.proofs.Fitting.{helped_fits}
 use Rattle.nbbo_book.proofs.Stepping.{rows_are, rows_fit, rows_keep_symbols, changes_are, national_is, side_ranking, may_is, found_symbol, all_rows_at}
@@ -69,7 +70,7 @@ national_found keys b es s i d h fits at =
     national_is es b.helped b.applied (get_or b.rows i d) fits.helped (all_rows_at (IsRow b.helped b.applied) b.rows i d found.0 h.rows) (all_rows_at (RowFits es) b.rows i d found.0 fits.rows)
     ∙ ap (national_of es) found.1
 
-pub bids_found : (keys : List ℕ) (b : BookState) (es : List Entry) (s : List ℕ) (i : ℕ) (d : Row) → IsBook keys b → Fits b es → position (bytes_eq s) (symbols_of b.rows) ≡ Some i → IsRankingOf Bid (eligible_of es s Bid) (λ w. age_of es w s Bid) (get_or b.rows i d).bids.ranks.items
+bids_found : (keys : List ℕ) (b : BookState) (es : List Entry) (s : List ℕ) (i : ℕ) (d : Row) → IsBook keys b → Fits b es → position (bytes_eq s) (symbols_of b.rows) ≡ Some i → IsRankingOf Bid (eligible_of es s Bid) (λ w. age_of es w s Bid) (get_or b.rows i d).bids.ranks.items
 bids_found keys b es s i d h fits at =
     let found = found_symbol b.rows s i d at in
     let r : Row = get_or b.rows i d in
@@ -78,7 +79,7 @@ bids_found keys b es s i d h fits at =
     subst (λ (t : List ℕ). IsRankingOf Bid (eligible_of es t Bid) (λ w. age_of es w t Bid) r.bids.ranks.items) found.1
       (side_ranking es r.symbol Bid b.helped r.halted b.applied r.bids (may_is es b.helped r fits.helped fit) fit.bids is.bids)
 
-pub offers_found : (keys : List ℕ) (b : BookState) (es : List Entry) (s : List ℕ) (i : ℕ) (d : Row) → IsBook keys b → Fits b es → position (bytes_eq s) (symbols_of b.rows) ≡ Some i → IsRankingOf Offer (eligible_of es s Offer) (λ w. age_of es w s Offer) (get_or b.rows i d).offers.ranks.items
+offers_found : (keys : List ℕ) (b : BookState) (es : List Entry) (s : List ℕ) (i : ℕ) (d : Row) → IsBook keys b → Fits b es → position (bytes_eq s) (symbols_of b.rows) ≡ Some i → IsRankingOf Offer (eligible_of es s Offer) (λ w. age_of es w s Offer) (get_or b.rows i d).offers.ranks.items
 offers_found keys b es s i d h fits at =
     let found = found_symbol b.rows s i d at in
     let r : Row = get_or b.rows i d in
@@ -86,6 +87,10 @@ offers_found keys b es s i d h fits at =
     let fit : RowFits es r = all_rows_at (RowFits es) b.rows i d found.0 fits.rows in
     subst (λ (t : List ℕ). IsRankingOf Offer (eligible_of es t Offer) (λ w. age_of es w t Offer) r.offers.ranks.items) found.1
       (side_ranking es r.symbol Offer b.helped r.halted b.applied r.offers (may_is es b.helped r fits.helped fit) fit.offers is.offers)
+
+pub ranking_found : (keys : List ℕ) (b : BookState) (es : List Entry) (s : List ℕ) (side : Side) (i : ℕ) (d : Row) → IsBook keys b → Fits b es → position (bytes_eq s) (symbols_of b.rows) ≡ Some i → IsRanking es s side (ranks_at side (get_or b.rows i d))
+ranking_found keys b es s Bid i d h fits at = ranking_is es s Bid (get_or b.rows i d).bids.ranks.items (bids_found keys b es s i d h fits at)
+ranking_found keys b es s Offer i d h fits at = ranking_is es s Offer (get_or b.rows i d).offers.ranks.items (offers_found keys b es s i d h fits at)
 
 -- a new book
 all_alike : {X : Type 0} (n v : ℕ) (x : X) → get_or (replicate n x) v x ≡ x

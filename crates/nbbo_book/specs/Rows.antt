@@ -105,6 +105,10 @@ abbrev pub national_at : Row → National
 national_at row =
     record { bid = front_of row.bids.ranks.items; offer = front_of row.offers.ranks.items }
 
+abbrev pub ranks_at : Side → Row → List Best
+ranks_at Bid row = row.bids.ranks.items
+ranks_at Offer row = row.offers.ranks.items
+
 abbrev pub row_change : List Bool → ℕ → ℕ → Entry → Row → Option Change
 row_change helped age position entry row =
     change_of position row.symbol (national_at row) (national_at (row_after helped age entry row))

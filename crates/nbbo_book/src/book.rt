@@ -159,12 +159,7 @@ impl Book {
         ensures ranking { (entries : List Entry) → Fits self.now entries → IfSome result (λ ranks. IsRanking entries symbol.now side ranks.now) }
     {
         let place = find(&self.table, *symbol)?;
-        let row = &self.rows[place];
-        let ranks = match side {
-            Side::Bid => &row.bids.ranks,
-            Side::Offer => &row.offers.ranks,
-        };
-        Some(ranks.as_slice())
+        Some(self.rows[place].ranks(side))
     }
 
     /// Whether self-help stands on the venue.

@@ -3,11 +3,11 @@
 ghost use Rattle.std.specs.Prelude.{◌≡◌, not, ◌&&◌, false, slice_index_or};
 ghost use Rattle.feed_types.specs.declared.line.Side.TheVariants.{Bid, Offer};
 ghost use Rattle.nbbo_book.specs.Changes.{is_same_national};
-ghost use Rattle.nbbo_book.specs.Rows.{IsRowRanked, row_quoted, row_ended, row_halted, row_helped, side_gated, row_after_item, row_after, national_at};
+ghost use Rattle.nbbo_book.specs.Rows.{IsRowRanked, row_quoted, row_ended, row_halted, row_helped, side_gated, row_after_item, row_after, national_at, ranks_at};
 
 use crate::book_side::BookSide;
 use crate::shown::{bid_of, offer_of};
-use feed_types::{Entry, Item, National, Quote, Side, SymbolName, VenueId};
+use feed_types::{Best, Entry, Item, National, Quote, Side, SymbolName, VenueId};
 
 /// What a book keeps of one symbol.
 #[derive(Drop)]
@@ -100,6 +100,16 @@ impl Row {
                 let may = !*on && !self.halted[venue.index()];
                 self.gate(*venue, may)
             }
+        }
+    }
+
+    /// The ranks of a side, best first.
+    pub fn ranks(&self, side: Side) -> &[Best]
+        ensures { result.now ≡ ranks_at side self.now }
+    {
+        match side {
+            Side::Bid => self.bids.ranks.as_slice(),
+            Side::Offer => self.offers.ranks.as_slice(),
         }
     }
 

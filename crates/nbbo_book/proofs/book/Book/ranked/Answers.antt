@@ -2,16 +2,12 @@ use Rattle.std.proofs.Common.{ℕ, List, ◌≡◌, ◌∙◌, ap, sym, subst, r
 use Rattle.std.specs.Prelude.{position, is_some}
 use Rattle.std.specs.Str.{bytes_eq}
 use Rattle.nbbo_book.specs.Books.{BookState, Fits, is_configured}
+use Rattle.nbbo_book.specs.Rows.{ranks_at}
 use Rattle.nbbo_book.specs.Tables.{symbols_of}
 use Rattle.nbbo_book.proofs.Words.{found_configured, missed_configured}
-use Rattle.feed_types.specs.declared.line.Side.{Side}
-use Rattle.feed_types.specs.declared.line.Side.TheVariants.{Bid, Offer}
 use Rattle.feed_types.specs.declared.national.Best.{Best}
-use Rattle.nbbo_book.specs.declared.row.Row.{Row}
 use Rattle.nbbo_book.specs.Nationals.{IsRanking}
-use Rattle.nbbo_book.proofs.Eligibility.{ranking_is}
-use Rattle.nbbo_book.proofs.Whole.{bids_found, offers_found}
-use Rattle.nbbo_book.proofs.book.Book.ranked.Goals.{in-Bid, in-Offer}
+use Rattle.nbbo_book.proofs.Whole.{ranking_found}
 use Rattle.nbbo_book.proofs.book.Book.ranked.Goals as goal
 
 pub returns-in_err-place-clause-configured : goal.returns-in_err-place-clause-configured
@@ -36,7 +32,5 @@ returns-clause-ranking c = λ entries fits.
     let b : BookState = record { symbols = symbols_of c.self.inside.rows.items; venues = c.self.inside.venues; last = c.self.inside.last; applied = c.self.inside.applied; helped = c.self.inside.helped; rows = c.self.inside.rows.items } in
     let here : Fits b entries = subst (λ (t : BookState). Fits t entries) (sym c.self.view_is) fits in
     let at : position (bytes_eq c.args.symbol.now) (symbols_of c.self.inside.rows.items) ≡ Some c.in_ok-place.place = sym (c.find.ensures (symbols_of c.self.inside.rows.items) c.self.invariant.table) ∙ was in
-    let row : Row = c.index-row.result.now in
-    let bids : IsRanking entries c.args.symbol.now Bid row.bids.ranks.items = subst (λ (t : Row). IsRanking entries c.args.symbol.now Bid t.bids.ranks.items) (sym c.index-row.ensures) (ranking_is entries c.args.symbol.now Bid _ (bids_found c.self.inside.table.keys b entries c.args.symbol.now c.in_ok-place.place row c.self.invariant here at)) in
-    let offers : IsRanking entries c.args.symbol.now Offer row.offers.ranks.items = subst (λ (t : Row). IsRanking entries c.args.symbol.now Offer t.offers.ranks.items) (sym c.index-row.ensures) (ranking_is entries c.args.symbol.now Offer _ (offers_found c.self.inside.table.keys b entries c.args.symbol.now c.in_ok-place.place row c.self.invariant here at)) in
-    elim c.match-side.branch [ in-Bid w ↦ ? | in-Offer w ↦ ? ]
+    subst (λ (t : List Best). IsRanking entries c.args.symbol.now c.args.side t) (sym (c.ranks.ensures ∙ ap (ranks_at c.args.side) c.index.ensures))
+      (ranking_found c.self.inside.table.keys b entries c.args.symbol.now c.args.side c.in_ok-place.place c.index.result.now c.self.invariant here at)
