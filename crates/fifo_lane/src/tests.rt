@@ -1,5 +1,5 @@
-//! What no clause says: that items move at all, that calls succeed where there is room, and that what
-//! is left in a lane is dropped.
+//! What no clause says: that items move at all, that calls succeed where there is room, and that
+//! what is left in a lane is dropped.
 
 ghost use Rattle.std.specs.Prelude.{◌≡◌};
 
@@ -25,7 +25,10 @@ impl<T> LaneRule<T> for AnyList {
 #[test]
 fn a_lane_of_two(rt: HostRuntime) -> Result<(), Fail> {
     let (mut sender, mut receiver) = lane::<char, AnyList>(rt.alloc(), 7, 2)?;
-    assert_eq!(rt; (sender.tag(), receiver.tag(), sender.capacity()), (7, 7, 2));
+    assert_eq!(rt;
+        (sender.tag(), receiver.tag(), sender.capacity()),
+        (7, 7, 2)
+    );
     assert_eq!(rt; sender.push(&rt, 'a'), Ok(()));
     assert_eq!(rt; sender.push(&rt, 'b'), Ok(()));
     assert_eq!(rt; sender.push(&rt, 'c'), Err('c'));
@@ -34,7 +37,10 @@ fn a_lane_of_two(rt: HostRuntime) -> Result<(), Fail> {
     assert_eq!(rt; receiver.pop(&rt), Some('b'));
     assert_eq!(rt; receiver.pop(&rt), Some('c'));
     assert_eq!(rt; receiver.pop(&rt), None);
-    assert_eq!(rt; (sender.tag(), receiver.tag(), sender.capacity()), (7, 7, 2));
+    assert_eq!(rt;
+        (sender.tag(), receiver.tag(), sender.capacity()),
+        (7, 7, 2)
+    );
     let mut inside = settle(sender, receiver);
     assert_eq!(rt; inside.next(&rt), None);
     assert_eq!(rt; inside.next(&rt), None);
@@ -53,11 +59,14 @@ fn capacities_and_faults(rt: HostRuntime) {
         let made = lane::<u8, AnyList>(rt.alloc(), 0, capacity);
         assert_eq!(rt; made.err(), fault, "{capacity}");
     }
-    assert_eq!(rt; (LaneFault::NoMemory.code(), LaneFault::BadCapacity.code()), (12, 22));
+    assert_eq!(rt;
+        (LaneFault::NoMemory.code(), LaneFault::BadCapacity.code()),
+        (12, 22)
+    );
 }
 
-// Pushes the numbers from `next` up to `last`, each until it is taken, in so many tries, and gives the
-// next one.
+// Pushes the numbers from `next` up to `last`, each until it is taken, in so many tries, and gives
+// the next one.
 fn push_all<W: Wait>(
     rt: &W,
     mut sender: Sender<u64, AnyList>,
