@@ -1,5 +1,5 @@
 -- What a pop leaves: of a lane with nothing inside, and of a settled one.
-use Rattle.std.proofs.Common.{◌≡◌, ℕ, true, List, [], ◌∷◌, ◌++◌, length, drop, Option, Some, None, MatchOption, sym, refl, ap, ◌∙◌, subst, append_assoc, append-nil}
+use Rattle.std.proofs.Common.{◌≡◌, ℕ, true, List, [], ◌∷◌, ◌++◌, length, drop, Option, Some, None, MatchOption, sym, refl, ap, ◌∙◌, append_assoc, append-nil}
 use Rattle.std.proofs.Math.Seq.{drop-append_seam, drop-length}
 use Rattle.crossbeam_queue.specs.Fifo.{Held}
 use Rattle.fifo_lane.specs.declared.known.Known.{Known}

@@ -20,6 +20,10 @@ lane_end_code {T} code =
     (λ p. record { lane = p.0; tag = p.1.0; capacity = p.1.1.0; items = p.1.1.1 }) (λ _. refl)
 
 module _ {T : Type 0} where
+  abbrev pub lane_end : TableId → ℕ → ℕ → List T → LaneEnd T
+  lane_end lane tag capacity items =
+      record { lane = lane; tag = tag; capacity = capacity; items = items }
+
   -- the same end, once these items went through it
   abbrev pub with_items : LaneEnd T → List T → LaneEnd T
   with_items e xs = record e { items = xs }

@@ -3,7 +3,7 @@
 ghost use Rattle.std.specs.Prelude.{◌≡◌, ◌≤◌, ◌++◌, ◌∷◌, [], true, MatchResult};
 ghost use Rattle.std.specs.Arc.{arc_value};
 ghost use Rattle.crossbeam_queue.specs.Passes.{view, IsPassOf, ruled_capacity};
-ghost use Rattle.fifo_lane.specs.Lane.{with_items, WasFull};
+ghost use Rattle.fifo_lane.specs.Lane.{lane_end, with_items, WasFull};
 ghost use Rattle.fifo_lane.specs.Passes.{sending};
 
 use crate::known::{LanePass, Queue};
@@ -22,7 +22,7 @@ pub struct Sender<T, R: LaneRule<T>> {
 }
 
 impl<T, R: LaneRule<T>> Model for Sender<T, R> {
-    ghost use Rattle.fifo_lane.specs.Lane.{LaneEnd, lane_end_code};
+    ghost use Rattle.fifo_lane.specs.Lane.{LaneEnd, lane_end, lane_end_code};
 
     ghost Value = { LaneEnd T };
 
@@ -32,12 +32,8 @@ impl<T, R: LaneRule<T>> Model for Sender<T, R> {
     ghost use Rattle.std.specs.Arc.{arc_value};
     ghost use Rattle.crossbeam_queue.specs.Passes.{view as known, IsPassOf, ruled_capacity};
 
-    ghost view = { λ s. record {
-      lane = s.pass.table_id;
-      tag = s.tag;
-      capacity = ruled_capacity (arc_value s.queue);
-      items = (known s.pass).sent;
-    } };
+    ghost view = { λ s. lane_end s.pass.table_id s.tag (ruled_capacity (arc_value s.queue))
+        (known s.pass).sent };
 
     ghost invariant = { λ s. IsPassOf (arc_value s.queue) s.pass
         × ((known s.pass).may_push ≡ true)
@@ -53,24 +49,15 @@ impl<T, R: LaneRule<T>> Sender<T, R> {
         requires view { view pass ≡ sending tag (ruled_capacity (arc_value queue)) [] }
         requires least { 1 ≤ ruled_capacity (arc_value queue) }
         requires most { ruled_capacity (arc_value queue) ≤ 65536 }
-        ensures { result ≡ record {
-          lane = pass.table_id;
-          tag = tag;
-          capacity = ruled_capacity (arc_value queue);
-          items = [];
-        } }
+        ensures { result ≡ lane_end pass.table_id tag (ruled_capacity (arc_value queue)) [] }
     {
         Sender { queue, pass, tag }
     }
 
     pub(crate) fn into_parts(self) -> (Arc<Queue<T, R>, Global>, LanePass<T>)
         ensures pass { IsPassOf (arc_value result.0) result.1 × ((view result.1).may_push ≡ true) }
-        ensures view { self ≡ record {
-          lane = result.1.table_id;
-          tag = (view result.1).tag;
-          capacity = (view result.1).capacity;
-          items = (view result.1).sent;
-        } }
+        ensures view { self ≡ lane_end result.1.table_id (view result.1).tag
+            (view result.1).capacity (view result.1).sent }
     {
         let Sender {
             queue,
