@@ -7,17 +7,15 @@
 use crossbeam_queue::ArrayQueue;
 use fifo_lane::{LaneRule, Receiver, Sender, lane};
 use std::alloc::Global;
-use std::hint;
-use std::io;
 use std::rt::Clock;
 use std::sync::Wait;
-use std::thread;
 use std::thread::Threads;
 use std::time::{Duration, Instant};
+use std::{hint, io, thread};
 
-const ITEMS: u64 = 1 << 20;
+const ITEMS: u64 = 1 << 17;
 
-const ROUNDS: u32 = 5;
+const ROUNDS: u32 = 64;
 
 // Allows every list.
 struct AnyList;
@@ -149,12 +147,7 @@ where
     let right = match way {
         Way::InTurn => in_turn(rt, &mut entry, &mut exit),
         Way::Filled => filled(rt, &mut entry, &mut exit, room),
-        Way::Between => thread::join(
-            rt,
-            move || put_all(rt, entry),
-            move || take_all(rt, exit),
-        )
-        .1,
+        Way::Between => thread::join(rt, move || put_all(rt, entry), move || take_all(rt, exit)).1,
     };
     let took = start.elapsed(rt).ok()?;
     if right == ITEMS { Some(took) } else { None }
