@@ -6,5 +6,5 @@ pub mod Rest
 pub mod VenueSteps
 pub mod Growing
 pub mod Telling
-pub mod Replayed
 pub mod OneText
+pub mod Stopping

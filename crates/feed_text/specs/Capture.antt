@@ -20,9 +20,9 @@ venue_of (datagram_record venue line bytes) = venue
 venue_of (renewal_record venue session) = venue
 
 -- the byte that tells what a record holds
-abbrev pub kind_of : CaptureRecord → ℕ
-kind_of (datagram_record venue line bytes) = line_letter line
-kind_of (renewal_record venue session) = 78
+abbrev pub kind_byte : CaptureRecord → ℕ
+kind_byte (datagram_record venue line bytes) = line_letter line
+kind_byte (renewal_record venue session) = 78
 
 -- the bytes that the length counts
 abbrev pub bytes_of : CaptureRecord → List ℕ
@@ -31,11 +31,11 @@ bytes_of (renewal_record venue session) = session
 
 -- the bytes of a record
 abbrev pub spelling : CaptureRecord → List ℕ
-spelling r = venue_of r ∷ kind_of r ∷ length (bytes_of r) / 256 ∷ length (bytes_of r) % 256 ∷ bytes_of r
+spelling r = venue_of r ∷ kind_byte r ∷ length (bytes_of r) / 256 ∷ length (bytes_of r) % 256 ∷ bytes_of r
 
 -- these records, and then this rest
-abbrev pub stream_of : List CaptureRecord → List ℕ → List ℕ
-stream_of records rest = flat_map spelling records ++ rest
+abbrev pub capture_of : List CaptureRecord → List ℕ → List ℕ
+capture_of records rest = flat_map spelling records ++ rest
 
 -- a kind with a length that it may have: A, B and R with any, N with that of a session name
 abbrev pub IsKind : ℕ → ℕ → Type 0
@@ -44,7 +44,7 @@ IsKind kind len = (kind ≡ 65) ⊎ (kind ≡ 66) ⊎ (kind ≡ 82) ⊎ ((kind �
 -- a record that a capture of so many venues may hold
 pub record IsRecord (venues : ℕ) (r : CaptureRecord) : Type 0 where
   pub venue : venue_of r < venues
-  pub kind : IsKind (kind_of r) (length (bytes_of r))
+  pub kind : IsKind (kind_byte r) (length (bytes_of r))
   pub len : length (bytes_of r) < 65536
 
 -- the length that a record's first four bytes give
@@ -66,6 +66,10 @@ pub record IsBad (venues : ℕ) (rest : List ℕ) : Type 0 where
 pub record IsShort (venues : ℕ) (rest : List ℕ) : Type 0 where
   pub some : 0 < length rest
   pub cut : (length rest < 4) ⊎ (IsHeader venues rest × (length rest < 4 + len_at rest))
+
+-- no record, and none that is wrong: nothing, or less than one
+abbrev pub IsUnfinished : ℕ → List ℕ → Type 0
+IsUnfinished venues rest = (rest ≡ []) ⊎ IsShort venues rest
 
 -- no record stands at the front: nothing is there, or what begins none, or less than one
 abbrev pub NoRecord : ℕ → List ℕ → Type 0

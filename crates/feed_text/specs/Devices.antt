@@ -56,3 +56,18 @@ pub record Moved {W : Type 0} (adds : W → List ℕ → W → Type 0) (before a
   pub shown : List ℕ
   pub taken : adds before shown after
   pub left : old ≡ shown ++ new
+
+-- ---- what the traits tell of their readers and writers
+
+-- How readers of a type go on: by so many calls these bytes came, one call showed the end, and how
+-- many calls failed. These are the members of the trait CaptureIn.
+pub record Reading (R : Type 0) : Type 1 where
+  pub gives : R → ℕ → List ℕ → R → Type 0
+  pub ends : R → R → Type 0
+  pub failures : R → ℕ
+
+-- How writers of a type go on: this text was taken, and how many calls failed. These are the
+-- members of the trait TextOut.
+pub record Writing (W : Type 0) : Type 1 where
+  pub adds : W → List ℕ → W → Type 0
+  pub failures : W → ℕ

@@ -1,5 +1,5 @@
--- What a replay keeps of each venue, and that it follows the histories.
-use Rattle.std.specs.Prelude.{◌≡◌, ℕ, Bool, List, [], ◌∷◌, ◌++◌, length, sum_by, Some, Result, slice_get}
+-- What a replay keeps of each venue, and that it follows the histories. Private clauses alone cite this file.
+use Rattle.std.specs.Prelude.{◌≡◌, ℕ, Bool, List, [], ◌∷◌, ◌++◌, ◌+◌, length, sum_by, Some, Result, Ok, Err, slice_get}
 use Rattle.feed_types.specs.declared.line.LineId.{LineId}
 use Rattle.mold_packet.specs.Content.{Content}
 use Rattle.line_arbiter.specs.declared.outcome.Outcome.{Outcome}
@@ -11,9 +11,12 @@ use Rattle.line_arbiter.specs.Outcomes.{IsOutcome}
 use Rattle.line_arbiter.specs.Renewals.{IsRenewal}
 use Rattle.line_arbiter.specs.States.{State, count_on, shown}
 use Rattle.line_arbiter.specs.Fits.{Fits}
+use Rattle.feed_text.specs.declared.fault.ReplayFault.{ReplayFault}
+use Rattle.feed_text.specs.declared.fault.ReplayFault.TheVariants.{ReadFailed, WriteFailed, BadRecord, ShortRecord, TooManyTurns, NoMemory}
 use Rattle.feed_text.specs.Capture.{CaptureRecord, venue_of}
+use Rattle.feed_text.specs.Devices.{Wrote}
 use Rattle.feed_text.specs.Lines.{outcome_tail}
-use Rattle.feed_text.specs.Printed.{History, sent_of, ready_items, after_renewal, PrintsAt, Prints, last_lines}
+use Rattle.feed_text.specs.Printed.{History, sent_of, ready_items, after_renewal, PrintsAt, PrintsRecord, last_lines}
 
 -- a venue's arbiter, and how many items of the sessions that are over were sent, as far as a u64 shows it
 pub record Venue : Type 0 where
@@ -67,18 +70,53 @@ pub record FollowAll (window : ℕ) (vs : List Venue) (hs : List History) : Type
   pub count : length vs ≡ length hs
   pub each : (i : ℕ) (v : Venue) (h : History) → slice_get vs i ≡ Some v → slice_get hs i ≡ Some h → Follows window i v h
 
--- Records print these lines, and the venues follow the histories that they lead to.
-pub record PrintsAll (window : ℕ) (gaps : Bool) (records : List CaptureRecord) (hs : List History) (lines : List ℕ) (vs : List Venue) : Type 0 where
+-- A record prints these lines behind the old text, and the venues follow the histories that it leads to.
+pub record PrintsNext (window : ℕ) (gaps : Bool) (r : CaptureRecord) (hs : List History)
+    (old new : List ℕ) (vs : List Venue) : Type 0 where
+  pub lines : List ℕ
   pub after : List History
-  pub prints : Prints window gaps records hs lines after
+  pub prints : PrintsRecord window gaps r hs lines after
   pub follow : FollowAll window vs after
+  pub behind : new ≡ old ++ lines
 
--- At this state these are the last lines, whatever histories the venues follow.
-abbrev pub ClosesLines : VenueList → List ℕ → Type 0
-ClosesLines at lines = (window : ℕ) (hs : List History) → FollowAll window at.items hs → lines ≡ last_lines 0 hs
-
--- From the one state these records give these lines and lead to the other, whatever histories the venues follow.
-pub record TellsLines (from : VenueList) (records : List CaptureRecord) (lines : List ℕ) (to : VenueList) : Type 0 where
+-- The venues take a record, whatever histories they follow.
+pub record TakesRecord (from : VenueList) (r : CaptureRecord) (old new : List ℕ) (to : VenueList)
+    : Type 0 where
   pub gaps : to.gaps ≡ from.gaps
   pub count : length to.items ≡ length from.items
-  pub told : (window : ℕ) (hs : List History) → FollowAll window from.items hs → PrintsAll window from.gaps records hs lines to.items
+  pub told : (window : ℕ) (hs : List History) → FollowAll window from.items hs
+      → PrintsNext window from.gaps r hs old new to.items
+
+-- The venues' last lines came behind the old text, whatever histories they follow.
+abbrev pub PrintsLast : VenueList → List ℕ → List ℕ → Type 0
+PrintsLast at old new =
+    (window : ℕ) (hs : List History) → FollowAll window at.items hs → new ≡ old ++ last_lines 0 hs
+
+-- How a replay stops with this text: it is written and memory was refused, or a front of it is and a call failed.
+abbrev pub Stops : {W : Type 0} (adds : W → List ℕ → W → Type 0) (failures : W → ℕ)
+    (text : List ℕ) (before after : W) → ReplayFault → Type 0
+Stops adds failures text before after NoMemory = adds before text after
+Stops adds failures text before after WriteFailed =
+    Wrote adds before text after × (failures after ≡ failures before + 1)
+Stops adds failures text before after BadRecord = ⊥
+Stops adds failures text before after ShortRecord = ⊥
+Stops adds failures text before after TooManyTurns = ⊥
+Stops adds failures text before after ReadFailed = ⊥
+
+-- the last lines, and a writer that took all of them, or a front of them
+pub record WritesLast (at : VenueList) (Takes : List ℕ → Type 0) : Type 0 where
+  pub lines : List ℕ
+  pub are : PrintsLast at [] lines
+  pub taken : Takes lines
+
+-- What writing the last lines came to, by its answer.
+abbrev pub Closes : {W : Type 0} (adds : W → List ℕ → W → Type 0) (failures : W → ℕ) (at : VenueList)
+    (before after : W) → Result (Unit {0}) ReplayFault → Type 0
+Closes adds failures at before after (Ok done) = WritesLast at (λ lines. adds before lines after)
+Closes adds failures at before after (Err NoMemory) = after ≡ before
+Closes adds failures at before after (Err WriteFailed) =
+    WritesLast at (λ lines. Wrote adds before lines after) × (failures after ≡ failures before + 1)
+Closes adds failures at before after (Err BadRecord) = ⊥
+Closes adds failures at before after (Err ShortRecord) = ⊥
+Closes adds failures at before after (Err TooManyTurns) = ⊥
+Closes adds failures at before after (Err ReadFailed) = ⊥

@@ -2,9 +2,7 @@ pub mod Capture
 pub mod Devices
 pub mod Kind
 pub mod DeviceLaws
-pub mod Progress
 pub mod Lines
 pub mod Printed
 pub mod Following
-pub mod TellingLaws
 pub mod Replays

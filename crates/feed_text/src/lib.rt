@@ -19,19 +19,17 @@
 
 pub mod capture;
 pub mod devices;
-mod engine;
 pub mod failures;
 pub mod fault;
 mod input;
 pub mod laws;
 mod lines;
 pub mod memory;
-mod output;
+pub mod output;
 pub mod replay;
-mod reporter;
 pub mod system;
 #[cfg(test)]
 mod tests;
+mod unread;
 mod venue;
 mod venues;
-mod window;

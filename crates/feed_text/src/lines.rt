@@ -2,7 +2,8 @@
 //!
 //! Only the text takes memory: words are pushed whole, and numbers are printed on the stack. Where memory
 //! is refused, a front of the line may stand behind the text.
-ghost use Rattle.std.specs.Prelude.{◌≡◌, ◌++◌, codes, decimal, OnOk};
+ghost use Rattle.std.specs.Prelude.{◌≡◌, ◌++◌, codes, decimal, OnOk, OnErr};
+ghost use Rattle.feed_text.specs.Following.{Grows};
 ghost use Rattle.feed_text.specs.Lines.{field, line_end, packet_head, refused_tail, outcome_tail, item_word, item_line, gap_line, renew_line, venue_line, wins_by};
 
 use feed_types::{Item, LineId, Numbered, VenueId};
@@ -14,7 +15,8 @@ use std::alloc::AllocError;
 /// A venue's number. Most have one digit, which is pushed as it is.
 #[tactic(auto, using(std::proofs::lemmas::Fmt::decimal_digit))]
 fn put_venue_number(text: &mut Vec<u8>, venue: VenueId) -> Result<(), AllocError>
-    ensures { OnOk result (text.new.items ≡ text.old.items ++ decimal venue) }
+    ensures line { OnOk result (text.new.items ≡ text.old.items ++ decimal venue) }
+    ensures part { OnErr result (Grows text.old.items text.new.items) }
 {
     let number = venue.index();
     if number < 10 {
@@ -30,7 +32,8 @@ const LONGEST_FIELD: usize = 21;
 
 /// A number after a space, both pushed at once.
 fn put_field(text: &mut Vec<u8>, number: u64) -> Result<(), AllocError>
-    ensures { OnOk result (text.new.items ≡ text.old.items ++ field number) }
+    ensures line { OnOk result (text.new.items ≡ text.old.items ++ field number) }
+    ensures part { OnErr result (Grows text.old.items text.new.items) }
 {
     let mut buffer = [0; LONGEST_FIELD];
     let start = write_digits(number, &mut buffer, LONGEST_FIELD) - 1;
@@ -44,7 +47,8 @@ pub(crate) fn put_packet_head(
     venue: VenueId,
     line: LineId,
 ) -> Result<(), AllocError>
-    ensures { OnOk result (text.new.items ≡ text.old.items ++ packet_head venue line) }
+    ensures line { OnOk result (text.new.items ≡ text.old.items ++ packet_head venue line) }
+    ensures part { OnErr result (Grows text.old.items text.new.items) }
 {
     text.extend_from_slice(b"packet ")?;
     put_venue_number(text, venue)?;
@@ -53,7 +57,8 @@ pub(crate) fn put_packet_head(
 
 /// The tail of a line that tells of a refusal.
 pub(crate) fn put_refused(text: &mut Vec<u8>, code: u8) -> Result<(), AllocError>
-    ensures { OnOk result (text.new.items ≡ text.old.items ++ refused_tail code) }
+    ensures line { OnOk result (text.new.items ≡ text.old.items ++ refused_tail code) }
+    ensures part { OnErr result (Grows text.old.items text.new.items) }
 {
     text.extend_from_slice(b" refused")?;
     put_field(text, u64::from(code))?;
@@ -65,7 +70,8 @@ pub(crate) fn put_outcome(
     text: &mut Vec<u8>,
     outcome: &Result<Outcome, LineFault>,
 ) -> Result<(), AllocError>
-    ensures { OnOk result (text.new.items ≡ text.old.items ++ outcome_tail outcome.now) }
+    ensures line { OnOk result (text.new.items ≡ text.old.items ++ outcome_tail outcome.now) }
+    ensures part { OnErr result (Grows text.old.items text.new.items) }
 {
     match *outcome {
         Ok(Outcome::Taken { new, repeated }) => {
@@ -83,7 +89,8 @@ pub(crate) fn put_outcome(
 
 /// The tail of an item's line: what the item is.
 fn put_item_tail(text: &mut Vec<u8>, item: &Item) -> Result<(), AllocError>
-    ensures { OnOk result (text.new.items ≡ text.old.items ++ item_word item.now ++ line_end) }
+    ensures line { OnOk result (text.new.items ≡ text.old.items ++ item_word item.now ++ line_end) }
+    ensures part { OnErr result (Grows text.old.items text.new.items) }
 {
     match item {
         Item::Quote(_) => text.extend_from_slice(b" quote\n"),
@@ -100,7 +107,8 @@ pub(crate) fn put_item(
     venue: VenueId,
     item: &Numbered,
 ) -> Result<(), AllocError>
-    ensures { OnOk result (text.new.items ≡ text.old.items ++ item_line venue item.now) }
+    ensures line { OnOk result (text.new.items ≡ text.old.items ++ item_line venue item.now) }
+    ensures part { OnErr result (Grows text.old.items text.new.items) }
 {
     text.extend_from_slice(b"item ")?;
     put_venue_number(text, venue)?;
@@ -114,7 +122,8 @@ pub(crate) fn put_gap(
     venue: VenueId,
     gap: Option<Request>,
 ) -> Result<(), AllocError>
-    ensures { OnOk result (text.new.items ≡ text.old.items ++ gap_line venue gap) }
+    ensures line { OnOk result (text.new.items ≡ text.old.items ++ gap_line venue gap) }
+    ensures part { OnErr result (Grows text.old.items text.new.items) }
 {
     let Some(request) = gap else {
         return Ok(());
@@ -132,7 +141,8 @@ pub(crate) fn put_renewal(
     venue: VenueId,
     renewal: &Result<u64, RenewFault>,
 ) -> Result<(), AllocError>
-    ensures { OnOk result (text.new.items ≡ text.old.items ++ renew_line venue renewal.now) }
+    ensures line { OnOk result (text.new.items ≡ text.old.items ++ renew_line venue renewal.now) }
+    ensures part { OnErr result (Grows text.old.items text.new.items) }
 {
     text.extend_from_slice(b"renew ")?;
     put_venue_number(text, venue)?;
@@ -147,7 +157,8 @@ pub(crate) fn put_renewal(
 
 /// The head of a venue's line: how many items were sent.
 fn put_sent(text: &mut Vec<u8>, venue: VenueId, sent: u64) -> Result<(), AllocError>
-    ensures { OnOk result (text.new.items ≡ text.old.items ++ codes "venue" ++ field venue ++ codes " sent" ++ field sent) }
+    ensures line { OnOk result (text.new.items ≡ text.old.items ++ codes "venue" ++ field venue ++ codes " sent" ++ field sent) }
+    ensures part { OnErr result (Grows text.old.items text.new.items) }
 {
     text.extend_from_slice(b"venue ")?;
     put_venue_number(text, venue)?;
@@ -157,7 +168,8 @@ fn put_sent(text: &mut Vec<u8>, venue: VenueId, sent: u64) -> Result<(), AllocEr
 
 /// The tail of a venue's line: how many numbers came first on A, on B and by recovery.
 fn put_wins(text: &mut Vec<u8>, a: u64, b: u64, recovery: u64) -> Result<(), AllocError>
-    ensures { OnOk result (text.new.items ≡ text.old.items ++ codes " wins" ++ field a ++ field b ++ field recovery ++ line_end) }
+    ensures line { OnOk result (text.new.items ≡ text.old.items ++ codes " wins" ++ field a ++ field b ++ field recovery ++ line_end) }
+    ensures part { OnErr result (Grows text.old.items text.new.items) }
 {
     text.extend_from_slice(b" wins")?;
     put_field(text, a)?;
@@ -176,7 +188,8 @@ pub(crate) fn put_venue(
     b: u64,
     recovery: u64,
 ) -> Result<(), AllocError>
-    ensures { OnOk result (text.new.items ≡ text.old.items ++ venue_line venue sent (wins_by a b recovery)) }
+    ensures line { OnOk result (text.new.items ≡ text.old.items ++ venue_line venue sent (wins_by a b recovery)) }
+    ensures part { OnErr result (Grows text.old.items text.new.items) }
 {
     put_sent(text, venue, sent)?;
     put_wins(text, a, b, recovery)

@@ -4,4 +4,4 @@ mod captures;
 mod devices;
 mod lines;
 mod replays;
-mod windows;
+mod unread;

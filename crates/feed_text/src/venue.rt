@@ -38,7 +38,7 @@ impl Model for VenueReplay {
 fn put_ready(arbiter: &mut Arbiter<Anything>, text: &mut Vec<u8>) -> Result<(), AllocError>
     ensures items { OnOk result ((P : List Arrival) → Fits arbiter.old P → text.new.items ≡ text.old.items ++ flat_map (item_line arbiter.old.venue) (drop arbiter.old.sent (stream_of P))) }
     ensures fits { OnOk result ((P : List Arrival) → Fits arbiter.old P → Fits arbiter.new P × (arbiter.new.sent ≡ length (stream_of P))) }
-    ensures grows { OnOk result (Grows text.old.items text.new.items) }
+    ensures grows { Grows text.old.items text.new.items }
     ensures others { OnOk result (arbiter.new ≡ record arbiter.old { sent = arbiter.new.sent; places = arbiter.new.places }) }
 {
     let venue = arbiter.venue();
@@ -85,7 +85,7 @@ impl VenueReplay {
         text: &mut Vec<u8>,
     ) -> Result<(), AllocError>
         ensures prints { OnOk result ((width place : ℕ) (h : History) → Follows width place self.old h → PrintsOutcome width place line packet.now h text.old.items text.new.items self.new) }
-        ensures grows { OnOk result (Grows text.old.items text.new.items) }
+        ensures grows { Grows text.old.items text.new.items }
     {
         let answer = self.arbiter.take(line, packet);
         put_outcome(text, &answer)?;
@@ -100,7 +100,7 @@ impl VenueReplay {
         text: &mut Vec<u8>,
     ) -> Result<(), AllocError>
         ensures prints { OnOk result ((width place : ℕ) (h : History) → Follows width place self.old h → PrintsOne width false (datagram_record place line bytes.now) h text.old.items text.new.items self.new) }
-        ensures grows { OnOk result (Grows text.old.items text.new.items) }
+        ensures grows { Grows text.old.items text.new.items }
     {
         put_packet_head(text, self.arbiter.venue(), line)?;
         match read_packet(bytes) {
@@ -119,7 +119,7 @@ impl VenueReplay {
         text: &mut Vec<u8>,
     ) -> Result<(), AllocError>
         ensures prints { OnOk result ((width place : ℕ) (h : History) → Follows width place self.old h → PrintsOne width gaps (datagram_record place line bytes.now) h text.old.items text.new.items self.new) }
-        ensures grows { OnOk result (Grows text.old.items text.new.items) }
+        ensures grows { Grows text.old.items text.new.items }
     {
         self.put_datagram(line, bytes, text)?;
         if gaps {
@@ -141,7 +141,7 @@ impl VenueReplay {
     /// Begins the next session under this name, where it may begin, and prints the line of that.
     pub fn renew(&mut self, session: [u8; 10], text: &mut Vec<u8>) -> Result<(), AllocError>
         ensures prints { OnOk result ((width place : ℕ) (gaps : Bool) (h : History) → Follows width place self.old h → PrintsOne width gaps (renewal_record place session) h text.old.items text.new.items self.new) }
-        ensures grows { OnOk result (Grows text.old.items text.new.items) }
+        ensures grows { Grows text.old.items text.new.items }
     {
         let answer = self.next_session(session);
         put_renewal(text, self.arbiter.venue(), &answer)
@@ -150,7 +150,7 @@ impl VenueReplay {
     /// Prints the last line.
     pub fn put_last(&self, text: &mut Vec<u8>) -> Result<(), AllocError>
         ensures last { OnOk result ((width place : ℕ) (h : History) → Follows width place self.now h → text.new.items ≡ text.old.items ++ last_line place h) }
-        ensures grows { OnOk result (Grows text.old.items text.new.items) }
+        ensures grows { Grows text.old.items text.new.items }
     {
         put_venue(
             text,

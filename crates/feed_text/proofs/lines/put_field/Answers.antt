@@ -17,8 +17,8 @@ write_digits-start-requires c = (omega (arith, length-decimal-le 20 c.args.numbe
 pub overflow_sub-start : goal.overflow_sub-start
 overflow_sub-start c = omega (arith, length-decimal-le 20 c.args.number (omega arith) (omega arith) c.ranges.number.fits)
 
-pub returns : goal.returns
-returns c =
+pub returns-clause-line : goal.returns-clause-line
+returns-clause-line c =
     let n = c.args.number in
     let short = length-decimal-le 20 n (omega arith) (omega arith) c.ranges.number.fits in
     let line = set_before c.write_digits-start.new.buf (decimal n) c.write_digits-start.result 32 (search rules) (omega arith) (omega (arith, short)) (c.write_digits-start.ensures.written) in

@@ -8,14 +8,14 @@ use Rattle.feed_text.proofs.venue.put_ready.Goals as goal
 
 pub loop-next-preserved : goal.loop-next-preserved
 loop-next-preserved c = record {
-  grows = grows_more (item_line c.venue-venue.result c.in-Some.next) c.loop-next.invariant.grows c.in_ok-put_item.ensures;
+  grows = grows_more (item_line c.venue-venue.result c.in-Some.next) c.loop-next.invariant.grows c.in_ok-put_item.ensures.line;
   fits = λ P f. c.advance.ensures.fits P (c.loop-next.invariant.fits P f);
   others = others_more c.args.arbiter.now c.loop-next.arbiter c.advance.new.self c.advance.ensures.after.others c.loop-next.invariant.others;
   items = λ P f.
       rw c.advance.ensures.after.sent
       (text_more (item_line c.venue-venue.result) (stream_of P) c.loop-next.arbiter.sent c.in-Some.next c.loop-next.text.items c.put_item.new.text.items _
       (c.in-Some.ensures.stream P (c.loop-next.invariant.fits P f))
-      c.in_ok-put_item.ensures
+      c.in_ok-put_item.ensures.line
       (c.loop-next.invariant.items P f));
 }
 

@@ -10,6 +10,6 @@ returns-in-Ok-clause-prints c =
     packet_lines width place c.venue.result h c.put_packet.new.self c.args.line c.args.bytes.now c.in-Ok.ensures.spelled.0 c.in-Ok.packet c.args.text.now.items c.put_packet_head.new.text.items c.put_packet.new.text.items
     (c.venue.ensures ∙ ap (λ (v : Venue). v.arbiter.venue) c.self.view_is ∙ f.number)
     c.in-Ok.ensures.spelled.1
-    c.in_ok-put_packet_head.ensures
+    c.in_ok-put_packet_head.ensures.line
     (d width place h f))
     c.put_packet.ensures.prints

@@ -18,4 +18,4 @@ returns-clause-last c =
     (won_all h g A c.wins.result (c.wins.ensures.session h.packets g.fits))
     (won_all h g B c.wins-2.result (c.wins-2.ensures.session h.packets g.fits))
     (won_all h g Recovery c.wins-3.result (c.wins-3.ensures.session h.packets g.fits))))
-    c.put_venue.ensures
+    c.put_venue.ensures.line

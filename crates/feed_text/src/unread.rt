@@ -6,7 +6,7 @@ use crate::devices::{CaptureIn, ReadStop};
 use std::alloc::{AllocError, Global};
 use std::marker::Model;
 
-/// How many bytes the window holds: a longest record, which has 65,539, and about as much again.
+/// How many bytes are held at most: a longest record, which has 65,539, and about as much again.
 pub const ROOM: usize = 131_072;
 
 /// The bytes are moved to the front once there is less room than this behind them.
@@ -25,13 +25,13 @@ pub enum Turn {
 
 /// The bytes that were read and not yet used, in order. Contracts see their list.
 #[derive(Drop)]
-pub struct Window {
+pub struct Unread {
     bytes: Vec<u8>,
     start: usize,
     end: usize,
 }
 
-impl Model for Window {
+impl Model for Unread {
     ghost use Rattle.std.specs.Prelude.{◌≡◌, ℕ, ◌≤◌, List, length, slice_range};
 
     ghost Value = { List ℕ };
@@ -78,13 +78,13 @@ fn read_behind<R: CaptureIn>(
     reader.read(&mut bytes.as_mut_slice()[end..])
 }
 
-impl Window {
-    /// An empty window. Its memory is asked for here and never again.
-    pub fn new(alloc: Global) -> Result<Window, AllocError>
+impl Unread {
+    /// No byte yet. Its memory is asked for here and never again.
+    pub fn new(alloc: Global) -> Result<Unread, AllocError>
         ensures { IfOk result (λ w. w ≡ []) }
     {
         let bytes = vec![in alloc; 0u8; ROOM]?;
-        Ok(Window {
+        Ok(Unread {
             bytes,
             start: 0,
             end: 0,
@@ -92,7 +92,7 @@ impl Window {
     }
 
     /// The bytes.
-    pub fn unread(&self) -> &[u8]
+    pub fn bytes(&self) -> &[u8]
         ensures { result.now ≡ self.now }
     {
         &self.bytes[self.start..self.end]
