@@ -15,7 +15,7 @@ use Rattle.line_arbiter.specs.Streams.{stream_of, streams_of, gap_of, wins_of}
 use Rattle.line_arbiter.specs.States.{State, count_on, shown}
 use Rattle.line_arbiter.specs.Fits.{Fits}
 use Rattle.feed_text.specs.Capture.{datagram_record, renewal_record}
-use Rattle.feed_text.specs.Lines.{packet_head, refused_tail, outcome_tail, gap_line, renew_line, venue_line, wins_by}
+use Rattle.feed_text.specs.Lines.{packet_head, refused_tail, outcome_tail, packet_line, fault_line, gap_line, renew_line, venue_line, wins_by}
 use Rattle.feed_text.specs.Printed.{History, sent_of, sessions_of, ready_items, after_renewal, last_line}
 use Rattle.feed_text.specs.Following.{Venue, Follows, PrintsOutcome, PrintsOne, Renews}
 
@@ -50,37 +50,38 @@ pub last_is : (h : History) (place number sent a b recovery : ℕ) → number �
     → venue_line number sent (wins_by a b recovery) ≡ last_line place h
 last_is h place number sent a b recovery e s x y z = rw (e, s, x, y, z) refl
 
--- the lines of a packet, behind its head
-pub packet_lines : (width place number : ℕ) (h : History) (v : Venue) (line : LineId) (bytes rest : List ℕ) (p : Content) (t0 t1 t2 : List ℕ)
-    → number ≡ place → Spells bytes p rest → t1 ≡ t0 ++ packet_head number line → PrintsOutcome width place line p h t1 t2 v
-    → PrintsOne width false (datagram_record place line bytes) h t0 t2 v
-packet_lines width place number h v line bytes rest p t0 t1 t2 e spells head x =
+-- the lines of a packet
+pub packet_lines : (width place : ℕ) (h : History) (v : Venue) (line : LineId) (bytes rest : List ℕ) (p : Content) (t0 t1 : List ℕ)
+    → Spells bytes p rest → PrintsOutcome width place line p h t0 t1 v
+    → PrintsOne width false (datagram_record place line bytes) h t0 t1 v
+packet_lines width place h v line bytes rest p t0 t1 spells x =
     let Q : List Arrival = h.packets ++ record { line = line; packet = p; answer = x.answer } ∷ [] in
     record {
       lines = packet_head place line ++ outcome_tail x.answer ++ ready_items place h Q ++ [];
       after = record h { packets = Q };
       prints = inr (record { packet = p; rest = rest; answer = x.answer; spells = spells; outcome = x.outcome; grown = refl; lines_are = refl });
       follows = x.follows;
-      behind = joined (packet_head place line) (outcome_tail x.answer) (ready_items place h Q) (head ∙ ap (λ (n : ℕ). t0 ++ packet_head n line) e) x.behind;
+      behind = joined (packet_line place line x.answer) (ready_items place h Q) x.behind;
     }
   where
-    joined : (a b c : List ℕ) → t1 ≡ t0 ++ a → t2 ≡ t1 ++ b ++ c → t2 ≡ t0 ++ (a ++ b ++ c ++ [])
-    joined a b c d e = rw (append-nil (a ++ b ++ c)) (e ∙ rw d (rw (append_assoc t0 a b, append_assoc t0 (a ++ b) c) refl))
+    joined : (a c : List ℕ) → t1 ≡ t0 ++ a ++ c → t1 ≡ t0 ++ (a ++ c ++ [])
+    joined a c e = rw (append-nil (a ++ c)) (e ∙ append_assoc t0 a c)
 
 -- a datagram that is no packet
-pub fault_lines : (width place number code : ℕ) (h : History) (v : Venue) (line : LineId) (bytes : List ℕ) (fault : PacketFault) (t0 t1 t2 : List ℕ)
-    → number ≡ place → HasFault bytes fault → t1 ≡ t0 ++ packet_head number line → code ≡ code_of fault → t2 ≡ t1 ++ refused_tail code → Follows width place v h
-    → PrintsOne width false (datagram_record place line bytes) h t0 t2 v
-fault_lines width place number code h v line bytes fault t0 t1 t2 e has head coded refused f = record {
+pub fault_lines : (width place number code : ℕ) (h : History) (v : Venue) (line : LineId) (bytes : List ℕ) (fault : PacketFault) (t0 t1 : List ℕ)
+    → number ≡ place → HasFault bytes fault → code ≡ code_of fault → t1 ≡ t0 ++ fault_line number line code → Follows width place v h
+    → PrintsOne width false (datagram_record place line bytes) h t0 t1 v
+fault_lines width place number code h v line bytes fault t0 t1 e has coded put f = record {
   lines = packet_head place line ++ refused_tail (code_of fault) ++ [];
   after = h;
   prints = inl (record { fault = fault; has = has; same = refl; lines_are = refl });
   follows = f;
-  behind = joined (packet_head place line) (refused_tail (code_of fault)) (head ∙ ap (λ (n : ℕ). t0 ++ packet_head n line) e) (refused ∙ ap (λ (n : ℕ). t1 ++ refused_tail n) coded);
+  behind = joined (fault_line place line (code_of fault))
+      (put ∙ ap (λ (n : ℕ). t0 ++ fault_line n line code) e ∙ ap (λ (n : ℕ). t0 ++ fault_line place line n) coded);
 }
   where
-    joined : (a b : List ℕ) → t1 ≡ t0 ++ a → t2 ≡ t1 ++ b → t2 ≡ t0 ++ (a ++ b ++ [])
-    joined a b d e = rw (append-nil (a ++ b)) (e ∙ rw d (rw (append_assoc t0 a b) refl))
+    joined : (a : List ℕ) → t1 ≡ t0 ++ a → t1 ≡ t0 ++ (a ++ [])
+    joined a e = rw (append-nil a) e
 
 -- and then the gap line
 pub gap_added : (width place number : ℕ) (gap : Option Request) (h : History) (v : Venue) (line : LineId) (bytes t0 t1 t2 : List ℕ)

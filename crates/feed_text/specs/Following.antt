@@ -15,7 +15,7 @@ use Rattle.feed_text.specs.declared.fault.ReplayFault.{ReplayFault}
 use Rattle.feed_text.specs.declared.fault.ReplayFault.TheVariants.{ReadFailed, WriteFailed, BadRecord, ShortRecord, TooManyTurns, NoMemory}
 use Rattle.feed_text.specs.Capture.{CaptureRecord, venue_of}
 use Rattle.feed_text.specs.Devices.{Wrote}
-use Rattle.feed_text.specs.Lines.{outcome_tail}
+use Rattle.feed_text.specs.Lines.{packet_line}
 use Rattle.feed_text.specs.Printed.{History, sent_of, ready_items, after_renewal, PrintsAt, PrintsRecord, last_lines}
 
 -- a venue's arbiter, and how many items of the sessions that are over were sent, as far as a u64 shows it
@@ -39,13 +39,15 @@ pub record Grows (old new : List ℕ) : Type 0 where
   pub more : List ℕ
   pub behind : new ≡ old ++ more
 
--- A packet's outcome and then the items that it made ready came behind the text, and the venue follows the history with
--- this packet.
-pub record PrintsOutcome (width place : ℕ) (line : LineId) (packet : Content) (h : History) (old new : List ℕ) (v : Venue) : Type 0 where
+-- The line of a packet and then the items that it made ready came behind the text, and the venue
+-- follows the history with this packet.
+pub record PrintsOutcome (width place : ℕ) (line : LineId) (packet : Content) (h : History)
+    (old new : List ℕ) (v : Venue) : Type 0 where
   pub answer : Result Outcome LineFault
   pub outcome : IsOutcome h.session width (sent_of h) h.packets packet answer
   pub follows : Follows width place v (record h { packets = h.packets ++ record { line = line; packet = packet; answer = answer } ∷ [] })
-  pub behind : new ≡ old ++ outcome_tail answer ++ ready_items place h (h.packets ++ record { line = line; packet = packet; answer = answer } ∷ [])
+  pub behind : new ≡ old ++ packet_line place line answer
+      ++ ready_items place h (h.packets ++ record { line = line; packet = packet; answer = answer } ∷ [])
 
 -- A renewal was answered, and the venue follows the history after it.
 pub record Renews (width place : ℕ) (name : List ℕ) (h : History) (v : Venue) (answer : Result ℕ RenewFault) : Type 0 where
