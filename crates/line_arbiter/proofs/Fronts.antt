@@ -67,7 +67,7 @@ front_is P =
       ];
     }
 
-not_none : {X : Type 0} (o : Option X) → IsSome o → o ≡ None → ⊥
+pub not_none : {X : Type 0} (o : Option X) → IsSome o → o ≡ None → ⊥
 not_none None h e = false≢true h
 not_none (Some x) h e = cc
 

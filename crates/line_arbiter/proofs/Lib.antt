@@ -4,6 +4,7 @@ pub mod Counting
 -- the definitions over a list of packets
 pub mod Fronts
 pub mod Bringing
+pub mod StreamGrowth
 pub mod Winning
 -- a window
 pub mod Places
@@ -29,3 +30,4 @@ pub mod Arrivals
 pub mod OfSession
 pub mod InSequence
 pub mod Accepting
+pub mod Below

@@ -1,6 +1,8 @@
 pub mod Packets
 pub mod Streams
 pub mod Outcomes
+pub mod Answered
+pub mod Histories
 pub mod Holding
 pub mod States
 pub mod Fits

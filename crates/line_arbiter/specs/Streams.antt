@@ -1,5 +1,5 @@
 -- What comes out: the items in sequence up to the first gap, the gap, and who brought what.
-use Rattle.std.specs.Prelude.{ℕ, ◌+◌, ◌-◌, Bool, true, false, ◌==◌, List, [], ◌∷◌, ◌++◌, map, flat_map, count_by, min, Option, Some, None, is_some, is_none, unwrap_or, if◌then◌else◌}
+use Rattle.std.specs.Prelude.{◌≡◌, ℕ, ◌+◌, ◌-◌, Bool, true, false, ◌==◌, List, [], ◌∷◌, ◌++◌, map, flat_map, count_by, min, Option, Some, None, is_some, is_none, unwrap_or, if◌then◌else◌}
 use Rattle.std.specs.List.{range_with_len, prefix_len}
 use Rattle.std.specs.Option.{option_map_or}
 use Rattle.feed_types.specs.declared.item.Item.TheVariants as items
@@ -8,6 +8,11 @@ use Rattle.feed_types.specs.declared.line.LineId.{LineId}
 use Rattle.feed_types.specs.declared.line.LineId.TheVariants.{A, B, Recovery}
 use Rattle.mold_packet.specs.declared.request.Request.{Request}
 use Rattle.line_arbiter.specs.Packets.{Arrival, bringer, carried, top_of, end_of, known_of}
+
+-- the longer list begins with the other
+pub record Begins {X : Type 0} (xs ys : List X) : Type 0 where
+  pub more : List X
+  pub is : ys ≡ xs ++ more
 
 -- how far the session is whole: how many of the numbers 1, 2, .. were taken before the first that wasn't
 abbrev pub front_of : List Arrival → ℕ
