@@ -15,6 +15,7 @@ pub mod Filling
 pub mod Standing
 pub mod Cursors
 pub mod Nexts
+pub mod Ending
 pub mod Gaps
 pub mod HeldCounts
 pub mod LineCounts
@@ -30,4 +31,6 @@ pub mod Arrivals
 pub mod OfSession
 pub mod InSequence
 pub mod Accepting
+pub mod Giving
+pub mod Naming
 pub mod Below

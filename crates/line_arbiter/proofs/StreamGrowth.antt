@@ -8,37 +8,37 @@ use Rattle.feed_types.specs.declared.item.Item.{Item}
 use Rattle.feed_types.specs.declared.item.Item.TheVariants as items
 use Rattle.feed_types.specs.declared.item.Numbered.{Numbered}
 use Rattle.line_arbiter.specs.Packets.{Arrival, brings, carried, end_of, is_ended, item_at}
-use Rattle.line_arbiter.specs.Streams.{Begins, front_of, numbered, end_at, stream_of}
+use Rattle.line_arbiter.specs.Streams.{Begins, front_of, item_numbered, end_at, stream_of}
 use Rattle.line_arbiter.proofs.Bringing.{carried-push, end_of-push}
 use Rattle.line_arbiter.proofs.Fronts.{front_is, not_none}
 use Rattle.line_arbiter.proofs.Genuine.{some_is}
 
 -- the announced end lies past the front
 abbrev pub EndsPast : List Arrival → Type 0
-EndsPast P = (e : ℕ) → end_of P ≡ Some e → front_of P < e
+EndsPast packets = (e : ℕ) → end_of packets ≡ Some e → front_of packets < e
 
-some_kept : (P : List Arrival) (a : Arrival) (m : ℕ) → IsSome (carried P m) → carried (P ++ a ∷ []) m ≡ carried P m
-some_kept P a m h =
-    let here : carried P m ≡ Some (unwrap_or (carried P m) items.Other) = some_is (carried P m) h in
-    carried-push P a m
+some_kept : (packets : List Arrival) (a : Arrival) (m : ℕ) → IsSome (carried packets m) → carried (packets ++ a ∷ []) m ≡ carried packets m
+some_kept packets a m h =
+    let here : carried packets m ≡ Some (unwrap_or (carried packets m) items.Other) = some_is (carried packets m) h in
+    carried-push packets a m
     ∙ ap (λ (o : Option Item). option_or o (if brings m a then Some (item_at a.packet m) else None)) here
     ∙ sym here
 
-end_kept : (P : List Arrival) (a : Arrival) (e : ℕ) → end_of P ≡ Some e → end_of (P ++ a ∷ []) ≡ Some e
-end_kept P a e is = end_of-push P a ∙ ap (λ (o : Option ℕ). option_or o (if is_ended a.answer then Some a.packet.number else None)) is
+end_kept : (packets : List Arrival) (a : Arrival) (e : ℕ) → end_of packets ≡ Some e → end_of (packets ++ a ∷ []) ≡ Some e
+end_kept packets a e is = end_of-push packets a ∙ ap (λ (o : Option ℕ). option_or o (if is_ended a.answer then Some a.packet.number else None)) is
 
-front_grows : (P : List Arrival) (a : Arrival) → front_of P ≤ front_of (P ++ a ∷ [])
-front_grows P a = elim (cases_lt (front_of (P ++ a ∷ [])) (front_of P)) [
+front_grows : (packets : List Arrival) (a : Arrival) → front_of packets ≤ front_of (packets ++ a ∷ [])
+front_grows packets a = elim (cases_lt (front_of (packets ++ a ∷ [])) (front_of packets)) [
   | inl lt ↦
-      let n = front_of (P ++ a ∷ []) + 1 in
-      let there : IsSome (carried P n) = (front_is P).all n (omega arith) (omega arith) in
-      absurd (not_none (carried P n) there (sym (some_kept P a n there) ∙ (front_is (P ++ a ∷ [])).next))
+      let n = front_of (packets ++ a ∷ []) + 1 in
+      let there : IsSome (carried packets n) = (front_is packets).all n (omega arith) (omega arith) in
+      absurd (not_none (carried packets n) there (sym (some_kept packets a n there) ∙ (front_is (packets ++ a ∷ [])).next))
   | inr le ↦ le
 ]
 
-same_messages : (P : List Arrival) (a : Arrival) (from n : ℕ) → ((m : ℕ) → from ≤ m → m < from + n → IsSome (carried P m)) → map (numbered (P ++ a ∷ [])) (range_with_len from n) ≡ map (numbered P) (range_with_len from n)
-same_messages P a from zero h = refl
-same_messages P a from (suc n) h = push from (some_kept P a from (h from (omega arith) (omega arith))) (same_messages P a (from + 1) n (λ m low high. h m (omega arith) (omega arith)))
+same_messages : (packets : List Arrival) (a : Arrival) (from n : ℕ) → ((m : ℕ) → from ≤ m → m < from + n → IsSome (carried packets m)) → map (item_numbered (packets ++ a ∷ [])) (range_with_len from n) ≡ map (item_numbered packets) (range_with_len from n)
+same_messages packets a from zero h = refl
+same_messages packets a from (suc n) h = push from (some_kept packets a from (h from (omega arith) (omega arith))) (same_messages packets a (from + 1) n (λ m low high. h m (omega arith) (omega arith)))
   where
     push : (m : ℕ) {x y : Option Item} {xs ys : List Numbered} → x ≡ y → xs ≡ ys → record { number = m; item = unwrap_or x items.Other } ∷ xs ≡ record { number = m; item = unwrap_or y items.Other } ∷ ys
     push m h k = rw (h, k) refl
@@ -55,51 +55,51 @@ range_split f from (suc n) k =
     ∙ ap (λ (xs : List Numbered). f from ∷ xs) (range_split f (from + 1) n k ∙ ap (λ (x : ℕ). map f (range_with_len (from + 1) n) ++ map f (range_with_len x k)) here)
 
 -- without End behind it, the front's messages are where the longer stream begins
-messages_grow : (P : List Arrival) (a : Arrival) → Begins (map (numbered P) (range_with_len 1 (front_of P)) ++ []) (stream_of (P ++ a ∷ []))
-messages_grow P a =
-    let Q = P ++ a ∷ [] in
-    let n = front_of P in
+messages_grow : (packets : List Arrival) (a : Arrival) → Begins (map (item_numbered packets) (range_with_len 1 (front_of packets)) ++ []) (stream_of (packets ++ a ∷ []))
+messages_grow packets a =
+    let Q = packets ++ a ∷ [] in
+    let n = front_of packets in
     let d = front_of Q - n in
-    let grows = front_grows P a in
+    let grows = front_grows packets a in
     let tail = end_at (end_of Q) (front_of Q + 1) in
     let whole : n + d ≡ front_of Q = omega arith in
     record {
-      more = map (numbered Q) (range_with_len (1 + n) d) ++ tail;
+      more = map (item_numbered Q) (range_with_len (1 + n) d) ++ tail;
       is =
-          ap (λ (k : ℕ). map (numbered Q) (range_with_len 1 k) ++ tail) (sym whole)
-          ∙ ap (λ (xs : List Numbered). xs ++ tail) (range_split (numbered Q) 1 n d)
-          ∙ ap (λ (xs : List Numbered). (xs ++ map (numbered Q) (range_with_len (1 + n) d)) ++ tail) (same_messages P a 1 n (λ m low high. (front_is P).all m low (omega arith)))
-          ∙ joined (map (numbered P) (range_with_len 1 n)) (map (numbered Q) (range_with_len (1 + n) d)) tail;
+          ap (λ (k : ℕ). map (item_numbered Q) (range_with_len 1 k) ++ tail) (sym whole)
+          ∙ ap (λ (xs : List Numbered). xs ++ tail) (range_split (item_numbered Q) 1 n d)
+          ∙ ap (λ (xs : List Numbered). (xs ++ map (item_numbered Q) (range_with_len (1 + n) d)) ++ tail) (same_messages packets a 1 n (λ m low high. (front_is packets).all m low (omega arith)))
+          ∙ joined (map (item_numbered packets) (range_with_len 1 n)) (map (item_numbered Q) (range_with_len (1 + n) d)) tail;
     }
   where
     joined : (xs ys zs : List Numbered) → (xs ++ ys) ++ zs ≡ (xs ++ []) ++ (ys ++ zs)
     joined xs ys zs = rw (append-nil xs, append_assoc xs ys zs) refl
 
-pub stream_grows : (P : List Arrival) (a : Arrival) → EndsPast (P ++ a ∷ []) → Begins (stream_of P) (stream_of (P ++ a ∷ []))
-stream_grows P a past = by_end (end_of P) refl
+pub stream_grows : (packets : List Arrival) (a : Arrival) → EndsPast (packets ++ a ∷ []) → Begins (stream_of packets) (stream_of (packets ++ a ∷ []))
+stream_grows packets a past = by_end (end_of packets) refl
   where
     front : List Numbered
-    front = map (numbered P) (range_with_len 1 (front_of P))
+    front = map (item_numbered packets) (range_with_len 1 (front_of packets))
 
-    by_test : (e : ℕ) (b : Bool) → (e == front_of P + 1) ≡ b → end_of P ≡ Some e → Begins (front ++ (if b then record { number = front_of P + 1; item = items.End } ∷ [] else [])) (stream_of (P ++ a ∷ []))
-    by_test e false other is = messages_grow P a
+    by_test : (e : ℕ) (b : Bool) → (e == front_of packets + 1) ≡ b → end_of packets ≡ Some e → Begins (front ++ (if b then record { number = front_of packets + 1; item = items.End } ∷ [] else [])) (stream_of (packets ++ a ∷ []))
+    by_test e false other is = messages_grow packets a
     by_test e true last is =
-        let Q = P ++ a ∷ [] in
-        let at : e ≡ front_of P + 1 = eqb-true e (front_of P + 1) last in
-        let there : end_of Q ≡ Some e = end_kept P a e is in
+        let Q = packets ++ a ∷ [] in
+        let at : e ≡ front_of packets + 1 = eqb-true e (front_of packets + 1) last in
+        let there : end_of Q ≡ Some e = end_kept packets a e is in
         let below = past e there in
-        let grows = front_grows P a in
-        let same : front_of Q ≡ front_of P = omega arith in
+        let grows = front_grows packets a in
+        let same : front_of Q ≡ front_of packets = omega arith in
         record {
           more = [];
           is =
-              ap (λ (k : ℕ). map (numbered Q) (range_with_len 1 k) ++ end_at (end_of Q) (k + 1)) same
-              ∙ ap (λ (xs : List Numbered). xs ++ end_at (end_of Q) (front_of P + 1)) (same_messages P a 1 (front_of P) (λ m low high. (front_is P).all m low (omega arith)))
-              ∙ ap (λ (o : Option ℕ). front ++ end_at o (front_of P + 1)) there
-              ∙ ap (λ (b : Bool). front ++ (if b then record { number = front_of P + 1; item = items.End } ∷ [] else [])) last
+              ap (λ (k : ℕ). map (item_numbered Q) (range_with_len 1 k) ++ end_at (end_of Q) (k + 1)) same
+              ∙ ap (λ (xs : List Numbered). xs ++ end_at (end_of Q) (front_of packets + 1)) (same_messages packets a 1 (front_of packets) (λ m low high. (front_is packets).all m low (omega arith)))
+              ∙ ap (λ (o : Option ℕ). front ++ end_at o (front_of packets + 1)) there
+              ∙ ap (λ (b : Bool). front ++ (if b then record { number = front_of packets + 1; item = items.End } ∷ [] else [])) last
               ∙ sym (append-nil _);
         }
 
-    by_end : (o : Option ℕ) → end_of P ≡ o → Begins (stream_of P) (stream_of (P ++ a ∷ []))
-    by_end None is = subst (λ (o : Option ℕ). Begins (front ++ end_at o (front_of P + 1)) (stream_of (P ++ a ∷ []))) (sym is) (messages_grow P a)
-    by_end (Some e) is = subst (λ (o : Option ℕ). Begins (front ++ end_at o (front_of P + 1)) (stream_of (P ++ a ∷ []))) (sym is) (by_test e (e == front_of P + 1) refl is)
+    by_end : (o : Option ℕ) → end_of packets ≡ o → Begins (stream_of packets) (stream_of (packets ++ a ∷ []))
+    by_end None is = subst (λ (o : Option ℕ). Begins (front ++ end_at o (front_of packets + 1)) (stream_of (packets ++ a ∷ []))) (sym is) (messages_grow packets a)
+    by_end (Some e) is = subst (λ (o : Option ℕ). Begins (front ++ end_at o (front_of packets + 1)) (stream_of (packets ++ a ∷ []))) (sym is) (by_test e (e == front_of packets + 1) refl is)
