@@ -54,17 +54,18 @@ missing_count-held s packets n fits none within stop =
 pub record IsMissing (s : State) (n : ℕ) : Type 0 where
   pub free : (m : ℕ) → s.front < m → m ≤ s.front + n → held_at (held_of s) m ≡ None
   pub within : s.front + n ≤ max s.front (min s.known (s.sent + s.window))
-  pub stop : (n ≡ s.window) ⊎ (s.front + n ≡ max s.front (min s.known (s.sent + s.window))) ⊎ IsSome (held_at (held_of s) (s.front + n + 1))
+  pub stop : (s.front < s.sent) ⊎ (s.sent + s.window ≤ s.front + n) ⊎ (s.front + n ≡ max s.front (min s.known (s.sent + s.window))) ⊎ IsSome (held_at (held_of s) (s.front + n + 1))
 
 missing_is : (s : State) (packets : List Arrival) (n : ℕ) → Fits s packets → IsMissing s n → missing_count s.window s.sent packets ≡ n
 missing_is s packets n fits missing =
     let within = missing.within in
     missing_count-held s packets n fits missing.free within (elim missing.stop [
-      | inl wide ↦ inl (elim (cursor s packets (stands_of fits)) [
-        | inl before ↦ let front = fits.front in omega arith
+      | inl past ↦ inl (elim (cursor s packets (stands_of fits)) [
+        | inl before ↦ absurd (omega arith)
         | inr ended ↦ let known = known_at_end packets (s.front + 1) ended.1 in let same = fits.known in omega arith
       ])
-      | inr other ↦ other
+      | inr (inl wide) ↦ inl (omega arith)
+      | inr (inr other) ↦ other
     ])
 
 pub gap_of-none : (s : State) (packets : List Arrival) (n : ℕ) → Fits s packets → IsMissing s n → n ≡ 0 → None ≡ gap_of s.session s.window s.sent packets

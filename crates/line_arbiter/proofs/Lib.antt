@@ -7,7 +7,8 @@ pub mod Bringing
 pub mod StreamGrowth
 pub mod Winning
 -- a window
-pub mod Places
+pub mod Marking
+pub mod Rings
 pub mod Windows
 pub mod Turns
 pub mod Filling

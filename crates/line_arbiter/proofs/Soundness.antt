@@ -61,7 +61,7 @@ passed : (b : Bool) (o : Option Item) (item : Item) → (if b then None else o) 
 passed true o item e = absurd cc
 passed false o item e = e
 
-pub sound_advanced : (old new : State) → IsSound old → new ≡ record old { sent = new.sent; places = new.places } → ((m : ℕ) → held_at (held_of new) m ≡ (if nat_eq m (old.sent + 1) then None else held_at (held_of old) m)) → IsSound new
+pub sound_advanced : (old new : State) → IsSound old → new ≡ record old { sent = new.sent; ring = new.ring } → ((m : ℕ) → held_at (held_of new) m ≡ (if nat_eq m (old.sent + 1) then None else held_at (held_of old) m)) → IsSound new
 sound_advanced old new sound others held =
     let end : new.end ≡ old.end = ap (λ (s : State). s.end) others in
     let front : new.front ≡ old.front = ap (λ (s : State). s.front) others in

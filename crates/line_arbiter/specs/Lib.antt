@@ -9,6 +9,7 @@ pub mod Genuine
 pub mod OfSession
 -- an arbiter
 pub mod Counts
+pub mod Marks
 pub mod Holding
 pub mod States
 pub mod Fits

@@ -41,7 +41,7 @@ pub record DropsNext (old new : State) : Type 0 where
   pub sent : new.sent ≡ old.sent + 1
   pub held : (m : ℕ)
       → held_at (held_of new) m ≡ (if nat_eq m (old.sent + 1) then None else held_at (held_of old) m)
-  pub others : new ≡ record old { sent = new.sent; places = new.places }
+  pub others : new ≡ record old { sent = new.sent; ring = new.ring }
 
 -- the packet's messages past `sent` are held, and the front has moved over what is there
 pub record TakesIn (line : LineId) (fresh : ℕ) (old new : State) (p : Content) : Type 0 where
@@ -51,7 +51,7 @@ pub record TakesIn (line : LineId) (fresh : ℕ) (old new : State) (p : Content)
   pub stop : held_at (held_of new) (new.front + 1) ≡ None
   pub known : new.known ≡ raised old.known old.end (last_of p)
   pub wins : new.wins ≡ counted line fresh old.wins
-  pub others : new ≡ record old { front = new.front; known = new.known; places = new.places; wins = new.wins }
+  pub others : new ≡ record old { front = new.front; known = new.known; ring = new.ring; wins = new.wins }
 
 -- a packet of messages: the answer, and the state that it leaves
 abbrev pub MessagesStep : LineId → State → State → Content → Result Outcome LineFault → Type 0

@@ -13,7 +13,7 @@ ghost use Rattle.line_arbiter.specs.Fits.{Fits, cursors_of};
 ghost use Rattle.line_arbiter.specs.Steps.{IsSound, DropsNext, MessagesStep, HeartbeatStep, EndStep, PacketStep, raised as raised_to};
 
 use crate::faults::{ArbiterFault, RenewFault};
-use crate::intake::{disagrees, fill, missing_after, run_end};
+use crate::intake::{disagrees, fill};
 use crate::outcome::{LineFault, Outcome};
 use crate::window::Window;
 use crate::wins::Wins;
@@ -92,9 +92,9 @@ impl<G> Model for Arbiter<G> {
 
     ghost Value = { State };
 
-    ghost view = { λ a. record { venue = a.venue_id; sessions = a.names.items; session = a.session_name; window = a.held.width; sent = a.held.base; front = a.run_to; known = a.known_to; end = a.end_number; places = a.held.places; wins = a.won; earlier = a.won_before } };
+    ghost view = { λ a. record { venue = a.venue_id; sessions = a.names.items; session = a.session_name; window = a.held.width; sent = a.held.base; front = a.run_to; known = a.known_to; end = a.end_number; ring = a.held.ring; wins = a.won; earlier = a.won_before } };
 
-    ghost invariant = { λ a. IsSound (record { venue = a.venue_id; sessions = a.names.items; session = a.session_name; window = a.held.width; sent = a.held.base; front = a.run_to; known = a.known_to; end = a.end_number; places = a.held.places; wins = a.won; earlier = a.won_before }) };
+    ghost invariant = { λ a. IsSound (record { venue = a.venue_id; sessions = a.names.items; session = a.session_name; window = a.held.width; sent = a.held.base; front = a.run_to; known = a.known_to; end = a.end_number; ring = a.held.ring; wins = a.won; earlier = a.won_before }) };
 }
 
 impl<G: Genuine> Arbiter<G> {
@@ -201,7 +201,7 @@ impl<G: Genuine> Arbiter<G> {
             return Err(LineFault::Conflict);
         }
         let new = fill(&mut self.held, packet);
-        self.run_to = run_end(&self.held, self.run_to);
+        self.run_to = self.held.run_end(self.run_to);
         self.known_to = raised(self.known_to, self.end_number, last);
         let repeated = packet.count() - new;
         self.won.add(line, new);
@@ -310,7 +310,7 @@ impl<G: Genuine> Arbiter<G> {
             .base()
             .saturating_add(u64::from(self.held.width()));
         let limit = self.run_to.max(self.known_to.min(window_end));
-        let count = missing_after(&self.held, self.run_to, limit);
+        let count = self.held.missing_after(self.run_to, limit);
         if count == 0 {
             return None;
         }
@@ -367,7 +367,7 @@ impl<G: Genuine> Arbiter<G> {
         }
         self.names.push(session);
         self.session_name = session;
-        self.held.restart();
+        self.held.move_to(0);
         self.run_to = 0;
         self.known_to = 0;
         self.end_number = None;

@@ -14,6 +14,7 @@ mod arbiter;
 mod faults;
 mod intake;
 mod laws;
+mod marks;
 mod outcome;
 mod pacer;
 mod window;
