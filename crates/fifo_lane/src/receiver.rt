@@ -1,0 +1,82 @@
+//! The receiving end of a lane.
+
+ghost use Rattle.std.specs.Prelude.{◌≡◌, ◌++◌, ◌∷◌, [], true, MatchOption};
+ghost use Rattle.std.specs.Arc.{arc_value};
+ghost use Rattle.crossbeam_queue.specs.Passes.{view, IsPassOf, ruled_capacity};
+ghost use Rattle.fifo_lane.specs.Lane.{with_items, WasEmpty};
+ghost use Rattle.fifo_lane.specs.Passes.{receiving};
+
+use crate::known::{LanePass, Queue};
+use crate::rule::LaneRule;
+use crate::steps::Popped;
+use std::alloc::Global;
+use std::marker::Model;
+use std::sync::{Arc, Wait};
+
+/// The receiving end of a lane. Contracts see it as a `LaneEnd` whose items are those received so far.
+#[derive(Drop)]
+pub struct Receiver<T, R: LaneRule<T>> {
+    queue: Arc<Queue<T, R>, Global>,
+    pass: LanePass<T>,
+    tag: u8,
+}
+
+impl<T, R: LaneRule<T>> Model for Receiver<T, R> {
+    ghost use Rattle.fifo_lane.specs.Lane.{LaneEnd, lane_end_code};
+
+    ghost Value = { LaneEnd T };
+
+    ghost coded = { lane_end_code T.code };
+
+    ghost use Rattle.std.specs.Prelude.{◌≡◌, true};
+    ghost use Rattle.std.specs.Arc.{arc_value};
+    ghost use Rattle.crossbeam_queue.specs.Passes.{view as known, IsPassOf, ruled_capacity};
+
+    ghost view = { λ s. record { lane = s.pass.table_id; tag = s.tag; capacity = ruled_capacity (arc_value s.queue); items = (known s.pass).received } };
+
+    ghost invariant = { λ s. IsPassOf (arc_value s.queue) s.pass × ((known s.pass).may_pop ≡ true) × ((known s.pass).tag ≡ s.tag) × ((known s.pass).capacity ≡ ruled_capacity (arc_value s.queue)) };
+}
+
+impl<T, R: LaneRule<T>> Receiver<T, R> {
+    pub(crate) fn made(
+        queue: Arc<Queue<T, R>, Global>,
+        pass: LanePass<T>,
+        tag: u8,
+    ) -> Receiver<T, R>
+        requires pass { IsPassOf (arc_value queue) pass }
+        requires view { view pass ≡ receiving tag (ruled_capacity (arc_value queue)) [] }
+        ensures { result ≡ record { lane = pass.table_id; tag = tag; capacity = ruled_capacity (arc_value queue); items = [] } }
+    {
+        Receiver { queue, pass, tag }
+    }
+
+    pub(crate) fn into_parts(self) -> (Arc<Queue<T, R>, Global>, LanePass<T>)
+        ensures pass { IsPassOf (arc_value result.0) result.1 × ((view result.1).may_pop ≡ true) }
+        ensures view { self ≡ record { lane = result.1.table_id; tag = (view result.1).tag; capacity = (view result.1).capacity; items = (view result.1).received } }
+    {
+        let Receiver {
+            queue,
+            pass,
+            tag: _,
+        } = self;
+        (queue, pass)
+    }
+
+    /// The tag that the lane was made with. Both ends show it, and it never changes.
+    pub fn tag(&self) -> u8
+        ensures { result ≡ self.now.tag }
+    {
+        self.tag
+    }
+
+    /// Receives the front item, or `None` where nothing is inside. What was received so far always obeys
+    /// the lane's rule.
+    pub fn pop<W: Wait>(&mut self, rt: &W) -> Option<T>
+        ensures popped { MatchOption result
+            ((self.new ≡ self.old) × WasEmpty R.may_send self.old)
+            (λ item. self.new ≡ with_items self.old (self.old.items ++ item ∷ [])) }
+        ensures rule { R.may_send self.old.tag self.new.items }
+    {
+        self.queue.pop_as::<Popped<R>, W>(rt, &mut self.pass)
+    }
+}
