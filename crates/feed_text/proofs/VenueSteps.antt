@@ -3,6 +3,7 @@ use Rattle.std.proofs.Common.{◌≡◌, ℕ, ◌+◌, Bool, true, false, List, 
 use Rattle.std.specs.Prelude.{sum_by, Option, Result}
 use Rattle.std.proofs.lemmas.Grind.{flat_map-append}
 use Rattle.std.proofs.lemmas.List.Sums.{sum_by_push}
+use Rattle.feed_types.specs.declared.item.Numbered.{Numbered}
 use Rattle.feed_types.specs.declared.line.LineId.{LineId}
 use Rattle.feed_types.specs.declared.line.LineId.TheVariants.{A, B, Recovery}
 use Rattle.mold_packet.specs.declared.fault.PacketFault.{PacketFault}
@@ -10,43 +11,64 @@ use Rattle.mold_packet.specs.declared.request.Request.{Request}
 use Rattle.mold_packet.specs.Content.{Content, Spells}
 use Rattle.mold_packet.specs.Faults.{HasFault, code_of}
 use Rattle.line_arbiter.specs.declared.faults.RenewFault.{RenewFault}
-use Rattle.line_arbiter.specs.Packets.{Arrival}
-use Rattle.line_arbiter.specs.Streams.{stream_of, streams_of, gap_of, wins_of}
-use Rattle.line_arbiter.specs.States.{State, count_on, shown}
+use Rattle.line_arbiter.specs.Packets.{Arrival, arrival_of}
+use Rattle.line_arbiter.specs.Streams.{stream_of, gap_of, wins_of}
+use Rattle.line_arbiter.specs.Histories.{Begun, items_of, streams_of, after_arrival}
+use Rattle.line_arbiter.specs.Counts.{count_on, shown}
+use Rattle.line_arbiter.specs.States.{State, KeepsAllButSent}
 use Rattle.line_arbiter.specs.Fits.{Fits}
 use Rattle.feed_text.specs.Capture.{datagram_record, renewal_record}
-use Rattle.feed_text.specs.Lines.{packet_head, refused_tail, outcome_tail, packet_line, fault_line, gap_line, renew_line, venue_line, wins_by}
-use Rattle.feed_text.specs.Printed.{History, sent_of, sessions_of, ready_items, after_renewal, last_line}
+use Rattle.feed_text.specs.Lines.{packet_line, fault_line, gap_line, renew_line, venue_line, wins_by}
+use Rattle.line_arbiter.specs.Histories.{History}
+use Rattle.feed_text.specs.Printed.{sent_of, all_wins_of, ready_items, after_answer, last_line}
 use Rattle.feed_text.specs.Following.{Venue, Follows, PrintsOutcome, PrintsOne, Renews}
 
--- what an advance leaves, twice
-pub others_more : (old mid new : State) → new ≡ record mid { sent = new.sent; places = new.places } → mid ≡ record old { sent = mid.sent; places = mid.places } → new ≡ record old { sent = new.sent; places = new.places }
-others_more old mid new e f = subst (λ (s : State). new ≡ record s { sent = new.sent; places = new.places }) f e
+-- nothing was sent yet
+pub kept_none : (s : State) → KeepsAllButSent s s
+kept_none s = record {
+  venue = refl; sessions = refl; session = refl; window = refl;
+  front = refl; known = refl; end = refl; wins = refl; earlier = refl;
+}
+
+-- one advance more
+pub kept_more : (old mid new : State) → KeepsAllButSent old mid → KeepsAllButSent mid new → KeepsAllButSent old new
+kept_more old mid new a b = record {
+  venue = b.venue ∙ a.venue;
+  sessions = b.sessions ∙ a.sessions;
+  session = b.session ∙ a.session;
+  window = b.window ∙ a.window;
+  front = b.front ∙ a.front;
+  known = b.known ∙ a.known;
+  end = b.end ∙ a.end;
+  wins = b.wins ∙ a.wins;
+  earlier = b.earlier ∙ a.earlier;
+}
 
 -- a count that is shown goes on from what was shown
 shown_more : (a b c : ℕ) → a ≡ shown b → shown (a + c) ≡ shown (b + c)
 shown_more a b c e = omega arith
 
-streams_more : (earlier : List (List Arrival)) (P : List Arrival) → length (streams_of (earlier ++ P ∷ [])) ≡ length (streams_of earlier) + length (stream_of P)
-streams_more earlier P =
-    ap length (flat_map-append stream_of earlier (P ∷ []) ∙ ap (λ (xs : List _). streams_of earlier ++ xs) (append-nil (stream_of P)))
-    ∙ length-append (streams_of earlier) (stream_of P)
+streams_more : (h : History) → length (streams_of h) ≡ length (items_of h.earlier) + length (stream_of h.present.packets)
+streams_more h =
+    ap length (flat_map-append (λ (session : Begun). stream_of session.packets) h.earlier (h.present ∷ [])
+    ∙ ap (λ (xs : List Numbered). items_of h.earlier ++ xs) (append-nil (stream_of h.present.packets)))
+    ∙ length-append (items_of h.earlier) (stream_of h.present.packets)
 
 -- how many items of all sessions were sent
-pub sent_all : {width place : ℕ} {v : Venue} (h : History) → Follows width place v h → (n : ℕ) → n ≡ shown (v.sent_before + v.arbiter.sent) → n ≡ shown (length (streams_of (sessions_of h)))
+pub sent_all : {width place : ℕ} {v : Venue} (h : History) → Follows width place v h → (n : ℕ) → n ≡ shown (v.sent_before + v.arbiter.sent) → n ≡ shown (length (streams_of h))
 sent_all {v = v} h f n e =
-    e ∙ shown_more v.sent_before (length (streams_of h.earlier)) v.arbiter.sent f.sent_before
-    ∙ ap (λ (m : ℕ). shown (length (streams_of h.earlier) + m)) f.sent
-    ∙ ap shown (sym (streams_more h.earlier h.packets))
+    e ∙ shown_more v.sent_before (length (items_of h.earlier)) v.arbiter.sent f.sent_before
+    ∙ ap (λ (m : ℕ). shown (length (items_of h.earlier) + m)) f.sent
+    ∙ ap shown (sym (streams_more h))
 
 -- and how many numbers the line brought first
-pub won_all : {width place : ℕ} {v : Venue} (h : History) → Follows width place v h → (line : LineId) (n : ℕ) → n ≡ shown (count_on line v.arbiter.earlier + wins_of h.packets line) → n ≡ shown (sum_by (λ packets. wins_of packets line) (sessions_of h))
+pub won_all : {width place : ℕ} {v : Venue} (h : History) → Follows width place v h → (line : LineId) (n : ℕ) → n ≡ shown (count_on line v.arbiter.earlier + wins_of h.present.packets line) → n ≡ shown (all_wins_of h line)
 won_all {v = v} h f line n e =
-    e ∙ shown_more (count_on line v.arbiter.earlier) (sum_by (λ packets. wins_of packets line) h.earlier) (wins_of h.packets line) (f.won_before line)
-    ∙ ap shown (sym (sum_by_push (λ packets. wins_of packets line) h.earlier h.packets))
+    e ∙ shown_more (count_on line v.arbiter.earlier) (sum_by (λ (session : Begun). wins_of session.packets line) h.earlier) (wins_of h.present.packets line) (f.won_before line)
+    ∙ ap shown (sym (sum_by_push (λ (session : Begun). wins_of session.packets line) h.earlier h.present))
 
-pub last_is : (h : History) (place number sent a b recovery : ℕ) → number ≡ place → sent ≡ shown (length (streams_of (sessions_of h)))
-    → a ≡ shown (sum_by (λ packets. wins_of packets A) (sessions_of h)) → b ≡ shown (sum_by (λ packets. wins_of packets B) (sessions_of h)) → recovery ≡ shown (sum_by (λ packets. wins_of packets Recovery) (sessions_of h))
+pub last_is : (h : History) (place number sent a b recovery : ℕ) → number ≡ place → sent ≡ shown (length (streams_of h))
+    → a ≡ shown (all_wins_of h A) → b ≡ shown (all_wins_of h B) → recovery ≡ shown (all_wins_of h Recovery)
     → venue_line number sent (wins_by a b recovery) ≡ last_line place h
 last_is h place number sent a b recovery e s x y z = rw (e, s, x, y, z) refl
 
@@ -55,10 +77,10 @@ pub packet_lines : (width place : ℕ) (h : History) (v : Venue) (line : LineId)
     → Spells bytes p rest → PrintsOutcome width place line p h t0 t1 v
     → PrintsOne width false (datagram_record place line bytes) h t0 t1 v
 packet_lines width place h v line bytes rest p t0 t1 spells x =
-    let Q : List Arrival = h.packets ++ record { line = line; packet = p; answer = x.answer } ∷ [] in
+    let Q : List Arrival = h.present.packets ++ arrival_of line p x.answer ∷ [] in
     record {
-      lines = packet_head place line ++ outcome_tail x.answer ++ ready_items place h Q ++ [];
-      after = record h { packets = Q };
+      lines = packet_line place line x.answer ++ ready_items place h Q ++ [];
+      after = after_arrival h (arrival_of line p x.answer);
       prints = inr (record { packet = p; rest = rest; answer = x.answer; spells = spells; outcome = x.outcome; grown = refl; lines_are = refl });
       follows = x.follows;
       behind = joined (packet_line place line x.answer) (ready_items place h Q) x.behind;
@@ -72,7 +94,7 @@ pub fault_lines : (width place number code : ℕ) (h : History) (v : Venue) (lin
     → number ≡ place → HasFault bytes fault → code ≡ code_of fault → t1 ≡ t0 ++ fault_line number line code → Follows width place v h
     → PrintsOne width false (datagram_record place line bytes) h t0 t1 v
 fault_lines width place number code h v line bytes fault t0 t1 e has coded put f = record {
-  lines = packet_head place line ++ refused_tail (code_of fault) ++ [];
+  lines = fault_line place line (code_of fault) ++ [];
   after = h;
   prints = inl (record { fault = fault; has = has; same = refl; lines_are = refl });
   follows = f;
@@ -92,23 +114,23 @@ pub gap_added : (width place number : ℕ) (gap : Option Request) (h : History) 
     → PrintsOne width true (datagram_record place line bytes) h t0 t2 v
 gap_added width place number gap h v line bytes t0 t1 t2 x e is put =
     let f = x.follows in
-    let there : gap ≡ gap_of x.after.session width (sent_of x.after) x.after.packets = rw (← f.session, ← f.window, ← f.sent) (is x.after.packets f.fits) in
-    let G = gap_line place (gap_of x.after.session width (sent_of x.after) x.after.packets) in
+    let there : gap ≡ gap_of x.after.present.name width (sent_of x.after) x.after.present.packets = rw (← f.session, ← f.window, ← f.sent) (is x.after.present.packets f.fits) in
+    let G = gap_line place (gap_of x.after.present.name width (sent_of x.after) x.after.present.packets) in
     let last : t2 ≡ t1 ++ G = put ∙ ap (λ (n : ℕ). t1 ++ gap_line n gap) (e ∙ f.number) ∙ ap (λ (g : Option Request). t1 ++ gap_line place g) there in
     elim x.prints [
       | inl a ↦ record {
-        lines = packet_head place line ++ refused_tail (code_of a.fault) ++ G;
+        lines = fault_line place line (code_of a.fault) ++ G;
         after = x.after;
         prints = inl (record { fault = a.fault; has = a.has; same = a.same; lines_are = refl });
         follows = f;
-        behind = joined (packet_head place line ++ refused_tail (code_of a.fault)) G (x.behind ∙ ap (λ (t : List ℕ). t0 ++ t) a.lines_are) last;
+        behind = joined (fault_line place line (code_of a.fault)) G (x.behind ∙ ap (λ (t : List ℕ). t0 ++ t) a.lines_are) last;
       }
       | inr a ↦ record {
-        lines = packet_head place line ++ outcome_tail a.answer ++ ready_items place h x.after.packets ++ G;
+        lines = packet_line place line a.answer ++ ready_items place h x.after.present.packets ++ G;
         after = x.after;
         prints = inr (record { packet = a.packet; rest = a.rest; answer = a.answer; spells = a.spells; outcome = a.outcome; grown = a.grown; lines_are = refl });
         follows = f;
-        behind = joined (packet_head place line ++ outcome_tail a.answer ++ ready_items place h x.after.packets) G (x.behind ∙ ap (λ (t : List ℕ). t0 ++ t) a.lines_are) last;
+        behind = joined (packet_line place line a.answer ++ ready_items place h x.after.present.packets) G (x.behind ∙ ap (λ (t : List ℕ). t0 ++ t) a.lines_are) last;
       }
     ]
   where
@@ -122,11 +144,11 @@ renewal_line width place number gaps h v name answer t0 t1 e x put =
     let there : v.arbiter.venue ≡ place = place_of answer x.follows in
     record {
       lines = renew_line place answer;
-      after = after_renewal h name answer;
+      after = after_answer h name answer;
       prints = record { answer = answer; is = x.is; after = refl; lines_are = refl };
       follows = x.follows;
       behind = put ∙ ap (λ (n : ℕ). t0 ++ renew_line n answer) (e ∙ there);
     }
   where
-    place_of : (a : Result ℕ RenewFault) → Follows width place v (after_renewal h name a) → v.arbiter.venue ≡ place
+    place_of : (a : Result ℕ RenewFault) → Follows width place v (after_answer h name a) → v.arbiter.venue ≡ place
     place_of a f = f.number

@@ -1,12 +1,14 @@
 //! One venue of a replay: its lines, and what they give.
 ghost use Rattle.std.specs.Prelude.{◌≡◌, ℕ, Bool, false, List, ◌++◌, ◌≤◌, length, drop, flat_map, IfOk, OnOk};
 ghost use Rattle.line_arbiter.specs.Packets.{Arrival};
-ghost use Rattle.line_arbiter.specs.Streams.{stream_of, streams_of};
-ghost use Rattle.line_arbiter.specs.States.{shown};
+ghost use Rattle.line_arbiter.specs.Streams.{stream_of};
+ghost use Rattle.line_arbiter.specs.Counts.{shown};
+ghost use Rattle.line_arbiter.specs.States.{KeepsAllButSent};
 ghost use Rattle.line_arbiter.specs.Fits.{Fits};
 ghost use Rattle.feed_text.specs.Capture.{datagram_record, renewal_record};
 ghost use Rattle.feed_text.specs.Lines.{item_line};
-ghost use Rattle.feed_text.specs.Printed.{History, new_history, sessions_of, last_line};
+ghost use Rattle.line_arbiter.specs.Histories.{History, new_history, streams_of};
+ghost use Rattle.feed_text.specs.Printed.{last_line};
 ghost use Rattle.feed_text.specs.Following.{Follows, Grows, PrintsOutcome, PrintsOne, Renews};
 
 use crate::lines::{put_fault, put_gap, put_item, put_packet, put_renewal, put_venue};
@@ -41,8 +43,7 @@ fn put_ready(arbiter: &mut Arbiter<Anything>, text: &mut Page) -> Result<(), All
     ensures fits { OnOk result ((P : List Arrival) → Fits arbiter.old P
         → Fits arbiter.new P × (arbiter.new.sent ≡ length (stream_of P))) }
     ensures grows { Grows text.old.items text.new.items }
-    ensures others { OnOk result
-        (arbiter.new ≡ record arbiter.old { sent = arbiter.new.sent; places = arbiter.new.places }) }
+    ensures kept { OnOk result (KeepsAllButSent arbiter.old arbiter.new) }
 {
     let venue = arbiter.venue();
     while let Some(next) = arbiter.next_ready() {
@@ -76,7 +77,7 @@ impl VenueReplay {
     /// How many items of all sessions were sent.
     fn sent(&self) -> u64
         ensures { (width place : ℕ) (h : History) → Follows width place self.now h
-            → result ≡ shown (length (streams_of (sessions_of h))) }
+            → result ≡ shown (length (streams_of h)) }
     {
         self.sent_before.saturating_add(self.arbiter.status().sent)
     }

@@ -1,7 +1,7 @@
 //! The venues of a replay.
 ghost use Rattle.std.specs.Prelude.{◌≡◌, ◌<◌, ◌≤◌, IfOk, OnOk, length, map};
 ghost use Rattle.feed_text.specs.Capture.{IsRecord, record_of};
-ghost use Rattle.feed_text.specs.Printed.{new_history};
+ghost use Rattle.line_arbiter.specs.Histories.{new_history};
 ghost use Rattle.feed_text.specs.Following.{FollowAll, Grows, PrintsLast, TakesRecord};
 
 use crate::capture::Record;
