@@ -12,10 +12,11 @@ use Rattle.line_arbiter.specs.declared.outcome.Outcome.{Outcome}
 use Rattle.line_arbiter.specs.declared.outcome.Outcome.TheVariants.{Taken, Heartbeat, Ended, Ahead}
 use Rattle.line_arbiter.specs.declared.outcome.LineFault.{LineFault}
 use Rattle.line_arbiter.specs.declared.outcome.LineFault.TheVariants.{OtherSession}
+use Rattle.feed_types.specs.Sequence.{Carries, Ends}
 use Rattle.line_arbiter.specs.Packets.{Arrival, is_ended, is_taken}
 use Rattle.line_arbiter.specs.Answered.{IsAnswered}
 use Rattle.line_arbiter.specs.Outcomes.{ToMessages, ToHeartbeat, ToKind, IsOutcome}
-use Rattle.line_arbiter.specs.Genuine.{Carries, Ends, IsGenuineAt, IsGenuineArrival, AreGenuine}
+use Rattle.line_arbiter.specs.Genuine.{IsGenuineAt, IsGenuineArrival, AreGenuine}
 
 -- only an end of session is answered Ended
 messages_unended : (window sent : ℕ) (packets : List Arrival) (p : Content) (answer : Result Outcome LineFault) → ToMessages window sent packets p answer → is_ended answer ≡ true → ⊥

@@ -12,8 +12,9 @@ use Rattle.line_arbiter.specs.declared.outcome.Outcome.{Outcome}
 use Rattle.line_arbiter.specs.declared.outcome.Outcome.TheVariants.{Taken, Heartbeat, Ended, Ahead}
 use Rattle.line_arbiter.specs.declared.outcome.LineFault.{LineFault}
 use Rattle.line_arbiter.specs.declared.outcome.LineFault.TheVariants.{OtherSession}
+use Rattle.feed_types.specs.Prefix.{IsPrefix}
 use Rattle.line_arbiter.specs.Packets.{Arrival, carried, end_of, last_of, has_number, is_taken, is_ended, item_at}
-use Rattle.line_arbiter.specs.Streams.{Begins, front_of, stream_of, IsComplete}
+use Rattle.line_arbiter.specs.Streams.{front_of, stream_of, IsComplete}
 use Rattle.line_arbiter.specs.Outcomes.{IsOutcome, ToKind, IsBefore}
 use Rattle.line_arbiter.specs.Answered.{IsAnswered, AreAnswered, AreAnsweredAfter}
 use Rattle.line_arbiter.specs.Renewals.{HasEnded}
@@ -116,7 +117,7 @@ below_of session window packets all = after [] packets below_none all
         subst (λ (xs : List Arrival). IsBelow xs) (append_assoc before (a ∷ []) rest)
         (after (before ++ a ∷ []) rest (below_grows window one.sent before a.line a.packet one.content below session a.answer one.outcome) all.1)
 
-pub answered_grows : (session : List ℕ) (window : ℕ) (packets : List Arrival) (a : Arrival) → AreAnswered session window packets → IsAnswered session window packets a → Begins (stream_of packets) (stream_of (packets ++ a ∷ []))
+pub answered_grows : (session : List ℕ) (window : ℕ) (packets : List Arrival) (a : Arrival) → AreAnswered session window packets → IsAnswered session window packets a → IsPrefix (stream_of packets) (stream_of (packets ++ a ∷ []))
 answered_grows session window packets a all one = stream_grows packets a (below_past (packets ++ a ∷ []) (below_of session window (packets ++ a ∷ []) (answered_more session window packets a all one)))
 
 -- where the last item sent is End, the session is over and all of its stream was sent

@@ -8,13 +8,13 @@ use Rattle.feed_types.specs.declared.item.Item.{Item}
 use Rattle.feed_types.specs.declared.item.Item.TheVariants as items
 use Rattle.feed_types.specs.declared.item.Numbered.{Numbered}
 use Rattle.feed_types.specs.Sequence.{MayCarry}
-use Rattle.quote_payload.proofs.Items.{item_of-never_end}
-use Rattle.line_arbiter.specs.declared.outcome.Outcome.{Outcome}
-use Rattle.line_arbiter.specs.declared.outcome.LineFault.{LineFault}
 use Rattle.line_arbiter.specs.Packets.{Arrival, brings, carried, end_of, has_number, is_ended, is_taken, item_at}
 use Rattle.line_arbiter.specs.Holding.{held_at}
 use Rattle.line_arbiter.specs.States.{State, held_of, next_from, next_of}
 use Rattle.line_arbiter.specs.Genuine.{AreGenuine}
+use Rattle.quote_payload.proofs.Items.{item_of-never_end}
+use Rattle.line_arbiter.specs.declared.outcome.Outcome.{Outcome}
+use Rattle.line_arbiter.specs.declared.outcome.LineFault.{LineFault}
 use Rattle.line_arbiter.proofs.Standing.{Stands}
 use Rattle.line_arbiter.proofs.Cursors.{held_is}
 

@@ -6,13 +6,13 @@ use Rattle.std.proofs.lemmas.Bool.Decides.{nat_tests}
 use Rattle.feed_types.specs.declared.item.Item.{Item}
 use Rattle.feed_types.specs.declared.item.Item.TheVariants as items
 use Rattle.feed_types.specs.declared.item.Numbered.{Numbered}
-use Rattle.feed_types.specs.Sessions.{Session, IsItemAt}
-use Rattle.mold_packet.specs.Content.{Content, IsContent}
+use Rattle.feed_types.specs.Sessions.{Session, IsItemAt, numbered_from, whole_session}
 use Rattle.line_arbiter.specs.Packets.{Arrival, end_of}
 use Rattle.line_arbiter.specs.Streams.{IsComplete, front_of, stream_of}
 use Rattle.line_arbiter.specs.Answered.{IsAnswered, AreAnswered, AreAnsweredAfter}
 use Rattle.line_arbiter.specs.Genuine.{IsGenuineAt, AreGenuine}
-use Rattle.line_arbiter.specs.OfSession.{IsOfSession, AreOfSession, GivesSession, numbered_from, session_stream, whole_stream}
+use Rattle.line_arbiter.specs.OfSession.{IsOfSession, AreOfSession, GivesSession, session_stream}
+use Rattle.mold_packet.specs.Content.{Content, IsContent}
 use Rattle.line_arbiter.proofs.Arrivals.{all_push, genuine_grows}
 use Rattle.line_arbiter.proofs.Genuine.{carried_may, end_may}
 use Rattle.line_arbiter.proofs.OfSession.{IsPartOf, front_within, stream_is}
@@ -71,7 +71,7 @@ take_all [] = refl
 take_all (x ∷ xs) = ap (λ (ys : List Item). x ∷ ys) (take_all xs)
 
 -- all of it, and then End
-whole_is : (s : Session) (front : ℕ) (end : Option ℕ) (e : ℕ) → front ≡ length s.items → end ≡ Some e → session_stream s front end ≡ whole_stream s
+whole_is : (s : Session) (front : ℕ) (end : Option ℕ) (e : ℕ) → front ≡ length s.items → end ≡ Some e → session_stream s front end ≡ whole_session s
 whole_is s front end e f g =
     ap (λ (o : Option ℕ). session_stream s front o) g
     ∙ ap (λ (n : ℕ). session_stream s n (Some e)) f

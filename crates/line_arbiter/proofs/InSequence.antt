@@ -9,11 +9,11 @@ use Rattle.feed_types.specs.declared.item.Item.{Item}
 use Rattle.feed_types.specs.declared.item.Item.TheVariants as items
 use Rattle.feed_types.specs.declared.item.Numbered.{Numbered}
 use Rattle.feed_types.specs.Sequence.{Place, place_after, place_after_all, MayCarry, Continues, IsInSequence}
-use Rattle.feed_types.proofs.Continuing.{Continues-append}
 use Rattle.line_arbiter.specs.Packets.{Arrival, carried, end_of}
 use Rattle.line_arbiter.specs.Streams.{front_of, item_numbered, end_at, stream_of, IsComplete}
 use Rattle.line_arbiter.specs.Histories.{Begun, History, all_begun, items_of, streams_of}
 use Rattle.line_arbiter.specs.Genuine.{AreGenuine, AreGenuineFrom}
+use Rattle.feed_types.proofs.Continuing.{Continues-append}
 use Rattle.line_arbiter.proofs.Fronts.{front_is}
 use Rattle.line_arbiter.proofs.Genuine.{some_is, carried_may, carried_never_end, end_may}
 

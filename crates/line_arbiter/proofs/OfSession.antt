@@ -9,11 +9,11 @@ use Rattle.std.proofs.lemmas.Option.{slice_get_within}
 use Rattle.feed_types.specs.declared.item.Item.{Item}
 use Rattle.feed_types.specs.declared.item.Item.TheVariants as items
 use Rattle.feed_types.specs.declared.item.Numbered.{Numbered}
-use Rattle.feed_types.specs.Sessions.{Session, IsSessionAt, IsItemAt, Names}
+use Rattle.feed_types.specs.Sessions.{Session, IsSessionAt, IsItemAt, Names, numbered_from}
 use Rattle.line_arbiter.specs.Packets.{Arrival, carried, end_of}
 use Rattle.line_arbiter.specs.Streams.{front_of, end_at, stream_of}
 use Rattle.line_arbiter.specs.Genuine.{AreGenuine}
-use Rattle.line_arbiter.specs.OfSession.{numbered_from, session_stream}
+use Rattle.line_arbiter.specs.OfSession.{session_stream}
 use Rattle.line_arbiter.proofs.Fronts.{front_is}
 use Rattle.line_arbiter.proofs.Genuine.{some_is, carried_may, end_may}
 

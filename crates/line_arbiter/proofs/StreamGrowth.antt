@@ -7,8 +7,9 @@ use Rattle.std.proofs.lemmas.Bool.{cases_lt, eqb-true, false≢true}
 use Rattle.feed_types.specs.declared.item.Item.{Item}
 use Rattle.feed_types.specs.declared.item.Item.TheVariants as items
 use Rattle.feed_types.specs.declared.item.Numbered.{Numbered}
+use Rattle.feed_types.specs.Prefix.{IsPrefix}
 use Rattle.line_arbiter.specs.Packets.{Arrival, brings, carried, end_of, is_ended, item_at}
-use Rattle.line_arbiter.specs.Streams.{Begins, front_of, item_numbered, end_at, stream_of}
+use Rattle.line_arbiter.specs.Streams.{front_of, item_numbered, end_at, stream_of}
 use Rattle.line_arbiter.proofs.Bringing.{carried-push, end_of-push}
 use Rattle.line_arbiter.proofs.Fronts.{front_is, not_none}
 use Rattle.line_arbiter.proofs.Genuine.{some_is}
@@ -55,7 +56,7 @@ range_split f from (suc n) k =
     ∙ ap (λ (xs : List Numbered). f from ∷ xs) (range_split f (from + 1) n k ∙ ap (λ (x : ℕ). map f (range_with_len (from + 1) n) ++ map f (range_with_len x k)) here)
 
 -- without End behind it, the front's messages are where the longer stream begins
-messages_grow : (packets : List Arrival) (a : Arrival) → Begins (map (item_numbered packets) (range_with_len 1 (front_of packets)) ++ []) (stream_of (packets ++ a ∷ []))
+messages_grow : (packets : List Arrival) (a : Arrival) → IsPrefix (map (item_numbered packets) (range_with_len 1 (front_of packets)) ++ []) (stream_of (packets ++ a ∷ []))
 messages_grow packets a =
     let Q = packets ++ a ∷ [] in
     let n = front_of packets in
@@ -64,7 +65,7 @@ messages_grow packets a =
     let tail = end_at (end_of Q) (front_of Q + 1) in
     let whole : n + d ≡ front_of Q = omega arith in
     record {
-      more = map (item_numbered Q) (range_with_len (1 + n) d) ++ tail;
+      rest = map (item_numbered Q) (range_with_len (1 + n) d) ++ tail;
       is =
           ap (λ (k : ℕ). map (item_numbered Q) (range_with_len 1 k) ++ tail) (sym whole)
           ∙ ap (λ (xs : List Numbered). xs ++ tail) (range_split (item_numbered Q) 1 n d)
@@ -75,13 +76,13 @@ messages_grow packets a =
     joined : (xs ys zs : List Numbered) → (xs ++ ys) ++ zs ≡ (xs ++ []) ++ (ys ++ zs)
     joined xs ys zs = rw (append-nil xs, append_assoc xs ys zs) refl
 
-pub stream_grows : (packets : List Arrival) (a : Arrival) → EndsPast (packets ++ a ∷ []) → Begins (stream_of packets) (stream_of (packets ++ a ∷ []))
+pub stream_grows : (packets : List Arrival) (a : Arrival) → EndsPast (packets ++ a ∷ []) → IsPrefix (stream_of packets) (stream_of (packets ++ a ∷ []))
 stream_grows packets a past = by_end (end_of packets) refl
   where
     front : List Numbered
     front = map (item_numbered packets) (range_with_len 1 (front_of packets))
 
-    by_test : (e : ℕ) (b : Bool) → (e == front_of packets + 1) ≡ b → end_of packets ≡ Some e → Begins (front ++ (if b then record { number = front_of packets + 1; item = items.End } ∷ [] else [])) (stream_of (packets ++ a ∷ []))
+    by_test : (e : ℕ) (b : Bool) → (e == front_of packets + 1) ≡ b → end_of packets ≡ Some e → IsPrefix (front ++ (if b then record { number = front_of packets + 1; item = items.End } ∷ [] else [])) (stream_of (packets ++ a ∷ []))
     by_test e false other is = messages_grow packets a
     by_test e true last is =
         let Q = packets ++ a ∷ [] in
@@ -91,7 +92,7 @@ stream_grows packets a past = by_end (end_of packets) refl
         let grows = front_grows packets a in
         let same : front_of Q ≡ front_of packets = omega arith in
         record {
-          more = [];
+          rest = [];
           is =
               ap (λ (k : ℕ). map (item_numbered Q) (range_with_len 1 k) ++ end_at (end_of Q) (k + 1)) same
               ∙ ap (λ (xs : List Numbered). xs ++ end_at (end_of Q) (front_of packets + 1)) (same_messages packets a 1 (front_of packets) (λ m low high. (front_is packets).all m low (omega arith)))
@@ -100,6 +101,6 @@ stream_grows packets a past = by_end (end_of packets) refl
               ∙ sym (append-nil _);
         }
 
-    by_end : (o : Option ℕ) → end_of packets ≡ o → Begins (stream_of packets) (stream_of (packets ++ a ∷ []))
-    by_end None is = subst (λ (o : Option ℕ). Begins (front ++ end_at o (front_of packets + 1)) (stream_of (packets ++ a ∷ []))) (sym is) (messages_grow packets a)
-    by_end (Some e) is = subst (λ (o : Option ℕ). Begins (front ++ end_at o (front_of packets + 1)) (stream_of (packets ++ a ∷ []))) (sym is) (by_test e (e == front_of packets + 1) refl is)
+    by_end : (o : Option ℕ) → end_of packets ≡ o → IsPrefix (stream_of packets) (stream_of (packets ++ a ∷ []))
+    by_end None is = subst (λ (o : Option ℕ). IsPrefix (front ++ end_at o (front_of packets + 1)) (stream_of (packets ++ a ∷ []))) (sym is) (messages_grow packets a)
+    by_end (Some e) is = subst (λ (o : Option ℕ). IsPrefix (front ++ end_at o (front_of packets + 1)) (stream_of (packets ++ a ∷ []))) (sym is) (by_test e (e == front_of packets + 1) refl is)

@@ -5,8 +5,8 @@ use Rattle.line_arbiter.specs.Packets.{Arrival, carried, end_of, known_of}
 use Rattle.line_arbiter.specs.Streams.{front_of, stream_of, held_count, wins_of}
 use Rattle.line_arbiter.specs.Counts.{count_on, shown}
 use Rattle.line_arbiter.specs.Holding.{held_at}
-use Rattle.line_arbiter.specs.declared.arbiter.ArbiterStatus.{ArbiterStatus}
 use Rattle.line_arbiter.specs.States.{State, held_of}
+use Rattle.line_arbiter.specs.declared.arbiter.ArbiterStatus.{ArbiterStatus}
 
 -- The state is that after these packets: its cursors are theirs, it holds what was taken past the last
 -- item sent, and each line has won what it brought first, beside what it had won in earlier sessions.

@@ -3,23 +3,13 @@ use Rattle.std.specs.Prelude.{◌≡◌, ℕ, ◌+◌, true, List, [], ◌∷◌
 use Rattle.std.specs.List.{AllByRecursion}
 use Rattle.feed_types.specs.declared.item.Item.{Item}
 use Rattle.feed_types.specs.declared.item.Numbered.{Numbered}
-use Rattle.feed_types.specs.Sequence.{MayCarry}
-use Rattle.mold_packet.specs.declared.packet.Kind.TheVariants as kinds
-use Rattle.mold_packet.specs.Content.{Content}
+use Rattle.feed_types.specs.Sequence.{Carries, Ends, MayCarry}
+use Rattle.feed_types.specs.Sessions.{SessionNames}
 use Rattle.line_arbiter.specs.Packets.{Arrival, has_number, is_ended, is_taken, item_at}
 use Rattle.line_arbiter.specs.Streams.{IsComplete}
 use Rattle.line_arbiter.specs.Histories.{Begun}
-
--- at a venue, in its session of an ordinal: the items that a number may carry, the numbers that may
--- be the end's, and the names that the session may have
-abbrev pub Carries : Type 1
-Carries = ℕ → ℕ → ℕ → Item → Type 0
-
-abbrev pub Ends : Type 1
-Ends = ℕ → ℕ → ℕ → Type 0
-
-abbrev pub Named : Type 1
-Named = ℕ → ℕ → List ℕ → Type 0
+use Rattle.mold_packet.specs.declared.packet.Kind.TheVariants as kinds
+use Rattle.mold_packet.specs.Content.{Content}
 
 -- each message of the packet may be carried at its number, and an end's number may be the end, in
 -- the venue's session of this ordinal
@@ -28,7 +18,7 @@ pub record IsGenuineAt (carries : Carries) (ends : Ends) (venue ordinal : ℕ) (
   pub end : p.kind ≡ kinds.End → ends venue ordinal p.number
 
 -- so it is in each session that has the packet's session name
-abbrev pub IsGenuine : Named → Carries → Ends → ℕ → Content → Type 0
+abbrev pub IsGenuine : SessionNames → Carries → Ends → ℕ → Content → Type 0
 IsGenuine sessions carries ends venue p =
     (ordinal : ℕ) → sessions venue ordinal p.session → IsGenuineAt carries ends venue ordinal p
 

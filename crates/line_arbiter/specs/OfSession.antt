@@ -1,15 +1,14 @@
 -- Packets of a session, and what they give.
 use Rattle.std.specs.Prelude.{◌≡◌, ℕ, ◌+◌, ◌-◌, ◌<◌, ◌≤◌, ◌&&◌, ◌==◌, List, [], ◌∷◌, ◌++◌, length, take, slice_get, Option, Some, is_some, IsOk, if◌then◌else◌}
 use Rattle.std.specs.List.{AllByRecursion}
-use Rattle.feed_types.specs.declared.item.Item.{Item}
-use Rattle.feed_types.specs.declared.item.Item.TheVariants as items
 use Rattle.feed_types.specs.declared.item.Numbered.{Numbered}
-use Rattle.feed_types.specs.Sessions.{Session, IsSessionAt, Names}
-use Rattle.mold_packet.specs.declared.packet.Kind.TheVariants as kinds
-use Rattle.mold_packet.specs.Content.{Content}
+use Rattle.feed_types.specs.Sessions.{Session, IsSessionAt, Names, SessionNames, numbered_from, end_item, whole_session}
+use Rattle.feed_types.specs.Sequence.{Carries, Ends}
 use Rattle.line_arbiter.specs.Packets.{Arrival, end_of, message_item}
 use Rattle.line_arbiter.specs.Streams.{IsComplete, front_of, stream_of}
-use Rattle.line_arbiter.specs.Genuine.{Carries, Ends, Named, AreGenuine}
+use Rattle.line_arbiter.specs.Genuine.{AreGenuine}
+use Rattle.mold_packet.specs.declared.packet.Kind.TheVariants as kinds
+use Rattle.mold_packet.specs.Content.{Content}
 
 -- The packet is of the session: its messages are the session's at their numbers, a heartbeat's number
 -- is at most the one after the last message's, and an end's number is that one.
@@ -25,22 +24,12 @@ abbrev pub AreOfSession : Session → List Arrival → Type 0
 AreOfSession session packets =
     AllByRecursion (λ a. a.packet.session ≡ session.name → IsOfSession session a.packet) packets
 
--- items with their numbers, from this number on
-abbrev pub numbered_from : ℕ → List Item → List Numbered
-numbered_from n [] = []
-numbered_from n (item ∷ rest) = record { number = n; item = item } ∷ numbered_from (n + 1) rest
-
 -- The session's stream up to a front: its items from the first to the front, and then End exactly
 -- where the end was announced and the front is the whole session.
 abbrev pub session_stream : Session → ℕ → Option ℕ → List Numbered
 session_stream session front end =
     numbered_from 1 (take front session.items)
-    ++ (if is_some end && (front == length session.items) then record { number = front + 1; item = items.End } ∷ [] else [])
-
--- all items of the session, and then End
-abbrev pub whole_stream : Session → List Numbered
-whole_stream session =
-    numbered_from 1 session.items ++ record { number = length session.items + 1; item = items.End } ∷ []
+    ++ (if is_some end && (front == length session.items) then end_item (front + 1) ∷ [] else [])
 
 -- The packets give the session: its items from the first up to the first gap, each once, and then End
 -- exactly where it was announced and nothing is missing. None of those that have its name was refused,
@@ -50,11 +39,11 @@ pub record GivesSession (session : Session) (packets : List Arrival) : Type 0 wh
   pub stream : stream_of packets ≡ session_stream session (front_of packets) (end_of packets)
   pub accepted : AllByRecursion (λ a. a.packet.session ≡ session.name → IsOk a.answer) packets
   pub whole : IsComplete packets
-      → (front_of packets ≡ length session.items) × (stream_of packets ≡ whole_stream session)
+      → (front_of packets ≡ length session.items) × (stream_of packets ≡ whole_session session)
 
 -- The lines carry exactly these sessions at the venue, this one has the ordinal, and what was taken of
 -- the packets is genuine in it.
-pub record AreGenuineOf (names : Named) (carries : Carries) (ends : Ends) (venue ordinal : ℕ) (all : List Session) (session : Session) (packets : List Arrival) : Type 0 where
+pub record AreGenuineOf (names : SessionNames) (carries : Carries) (ends : Ends) (venue ordinal : ℕ) (all : List Session) (session : Session) (packets : List Arrival) : Type 0 where
   pub lines : Names names carries ends venue all
   pub at : IsSessionAt all ordinal session
   pub genuine : AreGenuine carries ends venue ordinal packets

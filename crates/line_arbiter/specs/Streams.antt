@@ -5,14 +5,10 @@ use Rattle.std.specs.Option.{option_map_or}
 use Rattle.feed_types.specs.declared.item.Item.TheVariants as items
 use Rattle.feed_types.specs.declared.item.Numbered.{Numbered}
 use Rattle.feed_types.specs.declared.line.LineId.{LineId}
+use Rattle.feed_types.specs.Sessions.{end_item}
 use Rattle.feed_types.specs.declared.line.LineId.TheVariants.{A, B, Recovery}
 use Rattle.mold_packet.specs.declared.request.Request.{Request}
 use Rattle.line_arbiter.specs.Packets.{Arrival, bringer, carried, top_of, end_of, known_of}
-
--- the longer list begins with the other
-pub record Begins {X : Type 0} (xs ys : List X) : Type 0 where
-  pub more : List X
-  pub is : ys ≡ xs ++ more
 
 -- the numbers 1 to n were all taken
 abbrev pub AreTaken : List Arrival → ℕ → Type 0
@@ -30,7 +26,7 @@ item_numbered packets m = record { number = m; item = unwrap_or (carried packets
 -- the End item, where the end is announced at this number
 abbrev pub end_at : Option ℕ → ℕ → List Numbered
 end_at None m = []
-end_at (Some e) m = if e == m then record { number = m; item = items.End } ∷ [] else []
+end_at (Some e) m = if e == m then end_item m ∷ [] else []
 
 -- messages 1 to n, and then End where it is the next number
 abbrev pub stream_to : List Arrival → ℕ → List Numbered

@@ -2,8 +2,9 @@
 
 ghost use Rattle.std.specs.Prelude.{◌≡◌, ◌∷◌, ◌++◌, ◌↔◌, ◌+◌, ◌^◌, ◌<◌, ◌≤◌, ℕ, List, [], IfOk, IfErr, IfSome, IsOk, IsSome, IsErrOf, OnErr, OnOk, slice_get, MatchBool, Some, None, length};
 ghost use Rattle.mold_packet.specs.Content.{IsContent};
+ghost use Rattle.feed_types.specs.Prefix.{IsPrefix};
 ghost use Rattle.line_arbiter.specs.Packets.{Arrival, arrival_of, last_of};
-ghost use Rattle.line_arbiter.specs.Streams.{Begins, IsComplete, stream_of, gap_of, wins_of};
+ghost use Rattle.line_arbiter.specs.Streams.{IsComplete, stream_of, gap_of, wins_of};
 ghost use Rattle.line_arbiter.specs.Outcomes.{IsBefore, IsOutcome, IsPast};
 ghost use Rattle.line_arbiter.specs.Renewals.{HasEnded, IsRenewal};
 ghost use Rattle.line_arbiter.specs.Genuine.{AreGenuine, IsGenuineItem};
@@ -267,7 +268,7 @@ impl<G: Genuine> Arbiter<G> {
         ensures fits { (packets : List Arrival) → Fits self.old packets
             → Fits self.new (packets ++ arrival_of line packet.now result ∷ []) }
         ensures grows { (packets : List Arrival) → Fits self.old packets
-            → Begins (stream_of packets)
+            → IsPrefix (stream_of packets)
             (stream_of (packets ++ arrival_of line packet.now result ∷ [])) }
         ensures refused { OnErr result (self.new ≡ self.old) }
         ensures kept { KeepsItsPlace self.old self.new }
@@ -345,7 +346,7 @@ impl<G: Genuine> Arbiter<G> {
         }
     }
 
-    /// Begins the venue's next session under a name of ten bytes, once End was advanced past, and
+    /// IsPrefix the venue's next session under a name of ten bytes, once End was advanced past, and
     /// answers its ordinal. Nothing of it has come yet; wins go on counting. The refusals, in this
     /// order: NotEnded, SessionUsed, TooManySessions (64 at most).
     pub fn renew(&mut self, session: [u8; 10]) -> Result<u64, RenewFault>

@@ -3,18 +3,19 @@
 ghost use Rattle.std.specs.Prelude.{◌≡◌, ℕ, ◌+◌, ◌≤◌, ◌++◌, ◌∷◌, [], List, length, IsOk, Ok, None, Option, Result};
 ghost use Rattle.feed_types.specs.Sequence.{IsInSequence};
 ghost use Rattle.feed_types.specs.Sessions.{Session, IsSessionAt, Names};
-ghost use Rattle.mold_packet.specs.Content.{Content, IsContent};
-ghost use Rattle.line_arbiter.specs.declared.outcome.Outcome.{Outcome};
-ghost use Rattle.line_arbiter.specs.declared.outcome.LineFault.{LineFault};
-ghost use Rattle.line_arbiter.specs.declared.faults.RenewFault.{RenewFault};
+ghost use Rattle.feed_types.specs.Prefix.{IsPrefix};
 ghost use Rattle.line_arbiter.specs.Packets.{Arrival, carried, end_of};
-ghost use Rattle.line_arbiter.specs.Streams.{Begins, AreTaken, IsComplete, front_of, stream_of};
+ghost use Rattle.line_arbiter.specs.Streams.{AreTaken, IsComplete, front_of, stream_of};
 ghost use Rattle.line_arbiter.specs.Outcomes.{IsOutcome};
 ghost use Rattle.line_arbiter.specs.Answered.{IsAnswered, AreAnswered};
 ghost use Rattle.line_arbiter.specs.Renewals.{IsRenewal};
 ghost use Rattle.line_arbiter.specs.Histories.{History, all_begun, streams_of};
 ghost use Rattle.line_arbiter.specs.Genuine.{IsGenuine, IsGenuineAt, AreGenuine, AreGenuineFrom};
 ghost use Rattle.line_arbiter.specs.OfSession.{IsOfSession, AreOfSession, GivesSession, AreGenuineOf, session_stream};
+ghost use Rattle.mold_packet.specs.Content.{Content, IsContent};
+ghost use Rattle.line_arbiter.specs.declared.outcome.Outcome.{Outcome};
+ghost use Rattle.line_arbiter.specs.declared.outcome.LineFault.{LineFault};
+ghost use Rattle.line_arbiter.specs.declared.faults.RenewFault.{RenewFault};
 
 use feed_types::Genuine;
 
@@ -46,7 +47,7 @@ pub fn the_front_is_the_first_gap()
 pub fn a_stream_only_grows()
     ensures { (session : List ℕ) (window : ℕ) (packets : List Arrival) (a : Arrival)
         → AreAnswered session window packets → IsAnswered session window packets a
-        → Begins (stream_of packets) (stream_of (packets ++ a ∷ [])) }
+        → IsPrefix (stream_of packets) (stream_of (packets ++ a ∷ [])) }
 {}
 
 /// Packets that were answered as they should be are so with one more that is.
