@@ -1,6 +1,7 @@
 -- What a venue's steps leave, said of plain states.
 use Rattle.std.proofs.Common.{◌≡◌, ℕ, ◌+◌, Bool, true, false, List, [], ◌∷◌, ◌++◌, length, refl, sym, ap, subst, ◌∙◌, append_assoc, append-nil, arith, length-append, inl, inr}
-use Rattle.std.specs.Prelude.{sum_by, Option, Result}
+use Rattle.std.specs.Prelude.{sum_by, Option, Result, Ok, drop, flat_map}
+use Rattle.std.proofs.lemmas.List.{map-append}
 use Rattle.std.proofs.lemmas.Grind.{flat_map-append}
 use Rattle.std.proofs.lemmas.List.Sums.{sum_by_push}
 use Rattle.feed_types.specs.declared.item.Numbered.{Numbered}
@@ -10,15 +11,19 @@ use Rattle.mold_packet.specs.declared.fault.PacketFault.{PacketFault}
 use Rattle.mold_packet.specs.declared.request.Request.{Request}
 use Rattle.mold_packet.specs.Content.{Content, Spells}
 use Rattle.mold_packet.specs.Faults.{HasFault, code_of}
+use Rattle.line_arbiter.specs.declared.outcome.Outcome.{Outcome}
+use Rattle.line_arbiter.specs.declared.outcome.LineFault.{LineFault}
 use Rattle.line_arbiter.specs.declared.faults.RenewFault.{RenewFault}
-use Rattle.line_arbiter.specs.Packets.{Arrival, arrival_of}
+use Rattle.line_arbiter.specs.Packets.{Arrival, arrival_of, end_of}
 use Rattle.line_arbiter.specs.Streams.{stream_of, gap_of, wins_of}
-use Rattle.line_arbiter.specs.Histories.{Begun, items_of, streams_of, after_arrival}
-use Rattle.line_arbiter.specs.Counts.{count_on, shown}
-use Rattle.line_arbiter.specs.States.{State, KeepsAllButSent}
+use Rattle.line_arbiter.specs.Histories.{Begun, new_session, all_begun, names_of, items_of, streams_of, after_arrival}
+use Rattle.line_arbiter.specs.Outcomes.{IsOutcome}
+use Rattle.line_arbiter.specs.Renewals.{IsRenewal}
+use Rattle.line_arbiter.specs.Counts.{Counts, count_on, shown}
+use Rattle.line_arbiter.specs.States.{State, KeepsItsPlace, KeepsAllButSent, IsRenewed}
 use Rattle.line_arbiter.specs.Fits.{Fits}
 use Rattle.feed_text.specs.Capture.{datagram_record, renewal_record}
-use Rattle.feed_text.specs.Lines.{packet_line, fault_line, gap_line, renew_line, venue_line, wins_by}
+use Rattle.feed_text.specs.Lines.{packet_line, fault_line, item_line, gap_line, renew_line, venue_line, wins_by}
 use Rattle.line_arbiter.specs.Histories.{History}
 use Rattle.feed_text.specs.Printed.{sent_of, all_wins_of, ready_items, after_answer, last_line}
 use Rattle.feed_text.specs.Following.{Venue, Follows, PrintsOutcome, PrintsOne, Renews}
@@ -26,8 +31,15 @@ use Rattle.feed_text.specs.Following.{Venue, Follows, PrintsOutcome, PrintsOne, 
 -- nothing was sent yet
 pub kept_none : (s : State) → KeepsAllButSent s s
 kept_none s = record {
-  venue = refl; sessions = refl; session = refl; window = refl;
-  front = refl; known = refl; end = refl; wins = refl; earlier = refl;
+  venue = refl;
+  sessions = refl;
+  session = refl;
+  window = refl;
+  front = refl;
+  known = refl;
+  end = refl;
+  wins = refl;
+  earlier = refl;
 }
 
 -- one advance more
@@ -152,3 +164,100 @@ renewal_line width place number gaps h v name answer t0 t1 e x put =
   where
     place_of : (a : Result ℕ RenewFault) → Follows width place v (after_answer h name a) → v.arbiter.venue ≡ place
     place_of a f = f.number
+
+-- what stays of a venue while its session goes on
+pub record Stays (old new : State) : Type 0 where
+  pub venue : new.venue ≡ old.venue
+  pub sessions : new.sessions ≡ old.sessions
+  pub session : new.session ≡ old.session
+  pub window : new.window ≡ old.window
+  pub earlier : new.earlier ≡ old.earlier
+
+stays_taken : (old mid new : State) → KeepsItsPlace old mid → KeepsAllButSent mid new → Stays old new
+stays_taken old mid new a b = record {
+  venue = b.venue ∙ a.venue;
+  sessions = b.sessions ∙ a.sessions;
+  session = b.session ∙ a.session;
+  window = b.window ∙ a.window;
+  earlier = b.earlier ∙ a.earlier;
+}
+
+-- a packet was answered, and all that is ready was printed behind its line
+outcome_prints : (width place : ℕ) (h : History) (v : Venue) (new : State) (line : LineId) (p : Content) (answer : Result Outcome LineFault) (t0 t1 : List ℕ)
+    → Follows width place v h
+    → IsOutcome v.arbiter.session v.arbiter.window v.arbiter.sent h.present.packets p answer
+    → Fits new (h.present.packets ++ arrival_of line p answer ∷ [])
+    → new.sent ≡ length (stream_of (h.present.packets ++ arrival_of line p answer ∷ []))
+    → Stays v.arbiter new
+    → t1 ≡ t0 ++ packet_line place line answer ++ flat_map (item_line place) (drop v.arbiter.sent (stream_of (h.present.packets ++ arrival_of line p answer ∷ [])))
+    → PrintsOutcome width place line p h t0 t1 (record { arbiter = new; sent_before = v.sent_before })
+outcome_prints width place h v new line p answer t0 t1 f outcome fits sent stays put =
+    let Q = h.present.packets ++ arrival_of line p answer ∷ [] in
+    record {
+      answer = answer;
+      outcome = rw (← f.session, ← f.window, ← f.sent) outcome;
+      follows = record {
+        fits = fits;
+        number = stays.venue ∙ f.number;
+        window = stays.window ∙ f.window;
+        sessions = stays.sessions ∙ f.sessions ∙ same_names h.earlier;
+        session = stays.session ∙ f.session;
+        sent = sent;
+        sent_before = f.sent_before;
+        won_before = λ each. ap (λ (c : Counts). count_on each c) stays.earlier ∙ f.won_before each;
+      };
+      behind = put ∙ ap (λ (n : ℕ). t0 ++ packet_line place line answer ++ flat_map (item_line place) (drop n (stream_of Q))) f.sent;
+    }
+  where
+    same_names : (earlier : List Begun) → names_of (record h { earlier = earlier }) ≡ names_of (record (after_arrival h (arrival_of line p answer)) { earlier = earlier })
+    same_names [] = refl
+    same_names (b ∷ rest) = ap (λ (names : List (List ℕ)). b.name ∷ names) (same_names rest)
+
+-- a packet was taken, and then all that is ready was printed
+pub taken_prints : (width place number : ℕ) (h : History) (v : Venue) (mid new : State) (line : LineId) (p : Content) (answer : Result Outcome LineFault) (t0 t1 t2 : List ℕ)
+    → Follows width place v h
+    → ((packets : List Arrival) → Fits v.arbiter packets → IsOutcome v.arbiter.session v.arbiter.window v.arbiter.sent packets p answer)
+    → ((packets : List Arrival) → Fits v.arbiter packets → Fits mid (packets ++ arrival_of line p answer ∷ []))
+    → KeepsItsPlace v.arbiter mid
+    → number ≡ mid.venue
+    → t1 ≡ t0 ++ packet_line number line answer
+    → ((packets : List Arrival) → Fits mid packets → t2 ≡ t1 ++ flat_map (item_line mid.venue) (drop mid.sent (stream_of packets)))
+    → ((packets : List Arrival) → Fits mid packets → Fits new packets × (new.sent ≡ length (stream_of packets)))
+    → KeepsAllButSent mid new
+    → PrintsOutcome width place line p h t0 t2 (record { arbiter = new; sent_before = v.sent_before })
+taken_prints width place number h v mid new line p answer t0 t1 t2 f outcome fits kept is head items done sent =
+    let Q = h.present.packets ++ arrival_of line p answer ∷ [] in
+    let fits_mid : Fits mid Q = fits h.present.packets f.fits in
+    let both = done Q fits_mid in
+    let there : mid.venue ≡ place = kept.venue ∙ f.number in
+    outcome_prints width place h v new line p answer t0 t2 f (outcome h.present.packets f.fits) both.0 both.1 (stays_taken v.arbiter mid new kept sent)
+    (items Q fits_mid
+    ∙ ap (λ (t : List ℕ). t ++ flat_map (item_line mid.venue) (drop mid.sent (stream_of Q))) (head ∙ ap (λ (n : ℕ). t0 ++ packet_line n line answer) (is ∙ there))
+    ∙ ap (λ (n : ℕ). t0 ++ packet_line place line answer ++ flat_map (item_line n) (drop mid.sent (stream_of Q))) there
+    ∙ ap (λ (n : ℕ). t0 ++ packet_line place line answer ++ flat_map (item_line place) (drop n (stream_of Q))) kept.sent)
+
+-- the next session began
+pub renewed_follows : (width place : ℕ) (h : History) (v : Venue) (new : State) (name : List ℕ) (ordinal sent : ℕ)
+    → Follows width place v h
+    → IsRenewal v.arbiter.sessions v.arbiter.end v.arbiter.sent name (Ok ordinal)
+    → IsRenewed v.arbiter new name
+    → Fits new []
+    → sent ≡ shown (length (streams_of h))
+    → Renews width place name h (record { arbiter = new; sent_before = sent }) (Ok ordinal)
+renewed_follows width place h v new name ordinal sent f is renewed fits count = record {
+  is =
+      subst (λ (names : List (List ℕ)). IsRenewal names (end_of h.present.packets) (sent_of h) name (Ok ordinal)) f.sessions
+      (subst (λ (end : Option ℕ). IsRenewal v.arbiter.sessions end (sent_of h) name (Ok ordinal)) f.fits.end
+      (subst (λ (n : ℕ). IsRenewal v.arbiter.sessions v.arbiter.end n name (Ok ordinal)) f.sent is));
+  follows = record {
+    fits = fits;
+    number = renewed.venue ∙ f.number;
+    window = renewed.window ∙ f.window;
+    sessions = renewed.sessions ∙ ap (λ (names : List (List ℕ)). names ++ name ∷ []) f.sessions
+        ∙ sym (map-append (λ (session : Begun). session.name) (all_begun h) (new_session name ∷ []));
+    session = renewed.begun.session;
+    sent = renewed.begun.sent;
+    sent_before = count;
+    won_before = λ each. ap (λ (c : Counts). count_on each c) renewed.earlier ∙ won_all h f each (count_on each v.arbiter.wins) (f.fits.wins each);
+  };
+}
