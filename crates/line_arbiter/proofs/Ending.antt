@@ -1,6 +1,5 @@
 -- Once End was sent: all is sent, and nothing comes after it.
 use Rattle.std.proofs.Common.{◌≡◌, ℕ, ◌+◌, ◌<◌, List, length, None, Some, ap, subst, ◌∙◌, arith, inl, inr}
-use Rattle.feed_types.specs.declared.item.Item.{Item}
 use Rattle.line_arbiter.specs.Packets.{Arrival, end_of}
 use Rattle.line_arbiter.specs.Streams.{IsComplete, front_of, stream_of}
 use Rattle.line_arbiter.specs.Renewals.{HasEnded}

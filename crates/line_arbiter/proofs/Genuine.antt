@@ -1,6 +1,6 @@
 -- What was taken of genuine packets may be carried, and the end that they announced may be the end.
-use Rattle.std.proofs.Common.{◌≡◌, ℕ, Bool, true, false, cond, ◌+◌, List, [], ◌∷◌, Option, Some, None, Result, Ok, Err, refl, sym, ◌∙◌, subst, arith}
-use Rattle.std.specs.Prelude.{IfSome, IsOk, IsSome, ◌==◌, if◌then◌else◌}
+use Rattle.std.proofs.Common.{◌≡◌, ℕ, Bool, true, false, cond, ◌+◌, List, [], ◌∷◌, Option, Some, None, refl, sym, ◌∙◌, subst, arith}
+use Rattle.std.specs.Prelude.{IfSome, IsSome, ◌==◌, if◌then◌else◌}
 use Rattle.std.specs.List.{find}
 use Rattle.std.specs.Option.{option_map, unwrap_or}
 use Rattle.std.proofs.lemmas.Bool.{and_parts, eqb-true, false≢true}
@@ -13,8 +13,6 @@ use Rattle.line_arbiter.specs.Holding.{held_at}
 use Rattle.line_arbiter.specs.States.{State, held_of, next_from, next_of}
 use Rattle.line_arbiter.specs.Genuine.{AreGenuine}
 use Rattle.quote_payload.proofs.Items.{item_of-never_end}
-use Rattle.line_arbiter.specs.declared.outcome.Outcome.{Outcome}
-use Rattle.line_arbiter.specs.declared.outcome.LineFault.{LineFault}
 use Rattle.line_arbiter.proofs.Standing.{Stands}
 use Rattle.line_arbiter.proofs.Cursors.{held_is}
 

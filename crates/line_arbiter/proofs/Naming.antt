@@ -1,7 +1,6 @@
 -- A packet of one of the sessions that the lines carry is genuine.
-use Rattle.std.proofs.Common.{◌≡◌, ℕ, ◌+◌, List, length, Some, refl, sym, subst, ◌∙◌}
-use Rattle.feed_types.specs.declared.item.Item.{Item}
-use Rattle.feed_types.specs.Sessions.{Session, IsSessionAt, IsItemAt, Names, SessionNames}
+use Rattle.std.proofs.Common.{◌≡◌, ℕ, ◌+◌, List, length, refl, sym, subst, ◌∙◌}
+use Rattle.feed_types.specs.Sessions.{Session, IsSessionAt, Names, SessionNames}
 use Rattle.feed_types.specs.Sequence.{Carries, Ends}
 use Rattle.line_arbiter.specs.Genuine.{IsGenuine, IsGenuineAt}
 use Rattle.line_arbiter.specs.OfSession.{IsOfSession}

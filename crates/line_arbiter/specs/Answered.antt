@@ -1,5 +1,5 @@
 -- Packets that were answered as they should be, whatever had been sent on when each of them came.
-use Rattle.std.specs.Prelude.{◌≡◌, ℕ, List, [], ◌∷◌, ◌++◌}
+use Rattle.std.specs.Prelude.{ℕ, List, [], ◌∷◌, ◌++◌}
 use Rattle.mold_packet.specs.Content.{IsContent}
 use Rattle.line_arbiter.specs.Packets.{Arrival}
 use Rattle.line_arbiter.specs.Outcomes.{IsOutcome}

@@ -1,7 +1,6 @@
 -- Genuine packets: what the lines may carry at a venue, in each of its sessions.
 use Rattle.std.specs.Prelude.{◌≡◌, ℕ, ◌+◌, true, List, [], ◌∷◌}
 use Rattle.std.specs.List.{AllByRecursion}
-use Rattle.feed_types.specs.declared.item.Item.{Item}
 use Rattle.feed_types.specs.declared.item.Numbered.{Numbered}
 use Rattle.feed_types.specs.Sequence.{Carries, Ends, MayCarry}
 use Rattle.feed_types.specs.Sessions.{SessionNames}

@@ -7,6 +7,7 @@ pub mod Renewals
 pub mod Histories
 pub mod Genuine
 pub mod OfSession
+pub mod Through
 -- an arbiter
 pub mod Counts
 pub mod Marks

@@ -73,6 +73,14 @@ pub record KeepsItsPlace (old new : State) : Type 0 where
   pub sent : new.sent ≡ old.sent
   pub earlier : new.earlier ≡ old.earlier
 
+-- what a packet that passes through leaves: all but how far the session has come
+pub record KeepsItsSession (old new : State) : Type 0 where
+  pub venue : new.venue ≡ old.venue
+  pub sessions : new.sessions ≡ old.sessions
+  pub session : new.session ≡ old.session
+  pub window : new.window ≡ old.window
+  pub earlier : new.earlier ≡ old.earlier
+
 -- what an advance leaves: all but the last item sent
 pub record KeepsAllButSent (old new : State) : Type 0 where
   pub venue : new.venue ≡ old.venue

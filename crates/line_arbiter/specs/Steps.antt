@@ -13,7 +13,7 @@ use Rattle.line_arbiter.specs.declared.outcome.LineFault.TheVariants.{OtherSessi
 use Rattle.line_arbiter.specs.Packets.{last_of}
 use Rattle.line_arbiter.specs.Outcomes.{IsBefore, IsPast}
 use Rattle.line_arbiter.specs.Counts.{Counts, shown}
-use Rattle.line_arbiter.specs.Holding.{held_at, put_all, fresh_to, HeldAgrees, HeldDisagrees}
+use Rattle.line_arbiter.specs.Holding.{IsEmpty, held_at, put_all, fresh_to, HeldAgrees, HeldDisagrees}
 use Rattle.line_arbiter.specs.States.{State, held_of}
 
 -- What every arbiter keeps: what is held, and the front, lie below the announced end.
@@ -111,3 +111,29 @@ abbrev pub PacketStep : LineId → State → State → Content → Result Outcom
 PacketStep line old new p answer =
     ((p.session ≢ old.session) × (answer ≡ Err OtherSession) × (new ≡ old))
     ⊎ ((p.session ≡ old.session) × KindStep p.kind line old new p answer)
+
+-- the packet goes on where nothing is held
+pub record IsNext (s : State) (p : Content) : Type 0 where
+  pub first : p.number ≡ s.sent + 1
+  pub whole : s.front ≡ s.sent
+  pub empty : IsEmpty (held_of s)
+  pub before : IsBefore s.end (last_of p)
+  pub within : length p.messages ≤ s.window
+
+-- the cursors have gone past the packet, and still nothing is held
+pub record GoesPast (line : LineId) (old new : State) (p : Content) : Type 0 where
+  pub empty : IsEmpty (held_of new)
+  pub sent : new.sent ≡ last_of p
+  pub after : new ≡ record old {
+    sent = new.sent;
+    front = last_of p;
+    known = raised old.known old.end (last_of p);
+    ring = new.ring;
+    wins = counted line (length p.messages) old.wins;
+  }
+
+-- the answer to a packet of messages of the session that may pass through
+abbrev pub ThroughStep : LineId → State → State → Content → Option Outcome → Type 0
+ThroughStep line old new p None = (new ≡ old) × (IsNext old p → ⊥)
+ThroughStep line old new p (Some answer) =
+    IsNext old p × GoesPast line old new p × (answer ≡ Taken (length p.messages) 0)

@@ -1,6 +1,6 @@
 //! One venue's lines, in sequence.
 
-ghost use Rattle.std.specs.Prelude.{◌≡◌, ◌∷◌, ◌++◌, ◌↔◌, ◌+◌, ◌^◌, ◌<◌, ◌≤◌, ℕ, List, [], IfOk, IfErr, IfSome, IsOk, IsSome, IsErrOf, OnErr, OnOk, slice_get, MatchBool, Some, None, length};
+ghost use Rattle.std.specs.Prelude.{◌≡◌, ◌∷◌, ◌++◌, ◌↔◌, ◌+◌, ◌^◌, ◌<◌, ◌≤◌, ℕ, List, [], IfOk, IfErr, IfSome, IfNone, Ok, IsOk, IsSome, IsErrOf, OnErr, OnOk, slice_get, MatchBool, Some, None, length};
 ghost use Rattle.mold_packet.specs.Content.{IsContent};
 ghost use Rattle.feed_types.specs.Prefix.{IsPrefix};
 ghost use Rattle.line_arbiter.specs.Packets.{Arrival, arrival_of, last_of};
@@ -8,13 +8,15 @@ ghost use Rattle.line_arbiter.specs.Streams.{IsComplete, stream_of, gap_of, wins
 ghost use Rattle.line_arbiter.specs.Outcomes.{IsBefore, IsOutcome, IsPast};
 ghost use Rattle.line_arbiter.specs.Renewals.{HasEnded, IsRenewal};
 ghost use Rattle.line_arbiter.specs.Genuine.{AreGenuine, IsGenuineItem};
+ghost use Rattle.line_arbiter.specs.Through.{PassesThrough, SendsPacket};
 ghost use Rattle.line_arbiter.specs.Counts.{count_on, shown};
-ghost use Rattle.line_arbiter.specs.States.{ordinal_of, next_of, ShowsCursors, IsNew, KeepsItsPlace, IsAdvanced, IsRenewed};
+ghost use Rattle.line_arbiter.specs.States.{ordinal_of, next_of, ShowsCursors, IsNew, KeepsItsPlace, KeepsItsSession, IsAdvanced, IsRenewed};
 ghost use Rattle.line_arbiter.specs.Fits.{Fits, cursors_of};
-ghost use Rattle.line_arbiter.specs.Steps.{IsSound, DropsNext, MessagesStep, HeartbeatStep, EndStep, PacketStep, raised as raised_to};
+ghost use Rattle.line_arbiter.specs.Steps.{IsSound, IsNext, DropsNext, ThroughStep, MessagesStep, HeartbeatStep, EndStep, PacketStep, raised as raised_to};
 
 use crate::faults::{ArbiterFault, RenewFault};
 use crate::intake::{disagrees, fill};
+use crate::names::is_same_name;
 use crate::outcome::{LineFault, Outcome};
 use crate::window::Window;
 use crate::wins::Wins;
@@ -209,6 +211,35 @@ impl<G: Genuine> Arbiter<G> {
         Ok(Outcome::Taken { new, repeated })
     }
 
+    /// Whether the packet's first message is the next one, nothing is held, and the window is as wide.
+    fn is_next(&self, packet: &Packet<'_>, last: u64) -> bool
+        requires { last ≡ last_of packet.now }
+        ensures { MatchBool result (IsNext self.now packet.now) (IsNext self.now packet.now → ⊥) }
+    {
+        let sent = self.held.base();
+        packet.number() - 1 == sent
+            && self.run_to == sent
+            && self.held.is_empty()
+            && u32::from(packet.count()) <= self.held.width()
+            && !is_past(self.end_number, last)
+    }
+
+    fn pass_messages(&mut self, line: LineId, packet: &Packet<'_>) -> Option<Outcome>
+        requires { packet.now.kind ≡ Kind.Messages }
+        ensures { ThroughStep line self.old self.new packet.now result }
+    {
+        let last = last_number(packet);
+        if !self.is_next(packet, last) {
+            return None;
+        }
+        let new = packet.count();
+        self.held.move_to(last);
+        self.run_to = last;
+        self.known_to = raised(self.known_to, self.end_number, last);
+        self.won.add(line, new);
+        Some(Outcome::Taken { new, repeated: 0 })
+    }
+
     fn take_heartbeat(&mut self, number: u64) -> Result<Outcome, LineFault>
         ensures { HeartbeatStep self.old self.new number result }
     {
@@ -246,7 +277,7 @@ impl<G: Genuine> Arbiter<G> {
         ensures sound { IsSound self.new }
     {
         let number = packet.number();
-        if packet.session() != self.session_name {
+        if !is_same_name(&packet.session(), &self.session_name) {
             return Err(LineFault::OtherSession);
         }
         let answer = match packet.kind() {
@@ -274,6 +305,34 @@ impl<G: Genuine> Arbiter<G> {
         ensures kept { KeepsItsPlace self.old self.new }
     {
         self.take_any(line, packet)
+    }
+
+    /// Takes a packet of messages that goes on where nothing is held, and goes past all of them at once:
+    /// they are the next items of the stream, and the caller reads them from the packet. The answer is
+    /// that of `take`. `None` for any other packet, which changes nothing: then `take` it.
+    pub fn take_through(&mut self, line: LineId, packet: &Packet<'_>) -> Option<Outcome>
+        ensures through { (packets : List Arrival) → Fits self.old packets
+            → (IsSome result ↔ PassesThrough self.old.session self.old.window self.old.sent packets
+            packet.now) }
+        ensures outcome { (packets : List Arrival) → Fits self.old packets
+            → IfSome result (λ o. IsOutcome self.old.session self.old.window self.old.sent packets
+            packet.now (Ok o)) }
+        ensures fits { (packets : List Arrival) → Fits self.old packets
+            → IfSome result (λ o. Fits self.new
+            (packets ++ arrival_of line packet.now (Ok o) ∷ [])) }
+        ensures items { (packets : List Arrival) → Fits self.old packets
+            → IfSome result (λ o. SendsPacket self.old.sent self.new.sent packet.now
+            (packets ++ arrival_of line packet.now (Ok o) ∷ [])) }
+        ensures kept { IfSome result (λ o. KeepsItsSession self.old self.new) }
+        ensures none { IfNone result (self.new ≡ self.old) }
+    {
+        if !is_same_name(&packet.session(), &self.session_name) {
+            return None;
+        }
+        match packet.kind() {
+            Kind::Messages => self.pass_messages(line, packet),
+            Kind::Heartbeat | Kind::End => None,
+        }
     }
 
     /// The item after the last one advanced past, if it is there: a message, or End behind the last

@@ -15,6 +15,7 @@ mod faults;
 mod intake;
 mod laws;
 mod marks;
+mod names;
 mod outcome;
 mod pacer;
 mod window;

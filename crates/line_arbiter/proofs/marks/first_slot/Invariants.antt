@@ -1,4 +1,4 @@
-use Rattle.std.proofs.Common.{◌≡◌, ℕ, ◌-◌, ◌<◌, ◌≤◌, length}
+use Rattle.std.proofs.Common.{◌≡◌, ℕ, ◌-◌, ◌<◌, ◌≤◌}
 use Rattle.std.specs.Prelude.{not}
 use Rattle.line_arbiter.specs.Marks.{is_marked}
 use Rattle.line_arbiter.proofs.marks.first_slot.Given as goal

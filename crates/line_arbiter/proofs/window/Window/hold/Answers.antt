@@ -1,5 +1,5 @@
-use Rattle.std.proofs.Common.{◌≡◌, ℕ, ◌+◌, ◌≤◌, length, ap, refl, arith}
-use Rattle.line_arbiter.specs.Holding.{Held, Ring}
+use Rattle.std.proofs.Common.{length, refl, arith}
+use Rattle.line_arbiter.specs.Holding.{Ring}
 use Rattle.line_arbiter.proofs.Windows.{Holds, holds, count_most}
 use Rattle.line_arbiter.proofs.window.Window.hold.Goals as goal
 use Rattle.line_arbiter.proofs.window.Window.hold.Goals.{After-mark}

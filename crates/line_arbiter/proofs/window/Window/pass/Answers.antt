@@ -1,9 +1,8 @@
-use Rattle.std.proofs.Common.{◌≡◌, ℕ, ◌+◌, List, length, ap, ◌∙◌, refl, arith, rules}
-use Rattle.std.specs.Prelude.{nat_lt, if◌then◌else◌}
+use Rattle.std.proofs.Common.{◌≡◌, ℕ, List, length, ap, ◌∙◌, refl, rules}
 use Rattle.line_arbiter.specs.Holding.{Ring}
 use Rattle.line_arbiter.specs.Marks.{is_marked}
 use Rattle.line_arbiter.proofs.Counting.{byte_is, one_if}
-use Rattle.line_arbiter.proofs.Windows.{Passes, passes, first_mark, next_fits}
+use Rattle.line_arbiter.proofs.Windows.{Passes, passes, next_fits}
 use Rattle.line_arbiter.proofs.window.Window.pass.Goals as goal
 use Rattle.line_arbiter.proofs.window.Window.pass.Goals.{After-from}
 
