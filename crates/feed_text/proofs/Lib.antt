@@ -10,3 +10,4 @@ pub mod OneText
 pub mod Stopping
 pub mod Digits
 pub mod Places
+pub mod Passing

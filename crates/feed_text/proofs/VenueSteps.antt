@@ -20,7 +20,7 @@ use Rattle.line_arbiter.specs.Histories.{Begun, new_session, all_begun, names_of
 use Rattle.line_arbiter.specs.Outcomes.{IsOutcome}
 use Rattle.line_arbiter.specs.Renewals.{IsRenewal}
 use Rattle.line_arbiter.specs.Counts.{Counts, count_on, shown}
-use Rattle.line_arbiter.specs.States.{State, KeepsItsPlace, KeepsAllButSent, IsRenewed}
+use Rattle.line_arbiter.specs.States.{State, KeepsItsPlace, KeepsItsSession, KeepsAllButSent, IsRenewed}
 use Rattle.line_arbiter.specs.Fits.{Fits}
 use Rattle.feed_text.specs.Capture.{datagram_record, renewal_record}
 use Rattle.feed_text.specs.Lines.{packet_line, fault_line, item_line, gap_line, renew_line, venue_line, wins_by}
@@ -166,14 +166,7 @@ renewal_line width place number gaps h v name answer t0 t1 e x put =
     place_of a f = f.number
 
 -- what stays of a venue while its session goes on
-pub record Stays (old new : State) : Type 0 where
-  pub venue : new.venue ≡ old.venue
-  pub sessions : new.sessions ≡ old.sessions
-  pub session : new.session ≡ old.session
-  pub window : new.window ≡ old.window
-  pub earlier : new.earlier ≡ old.earlier
-
-stays_taken : (old mid new : State) → KeepsItsPlace old mid → KeepsAllButSent mid new → Stays old new
+stays_taken : (old mid new : State) → KeepsItsPlace old mid → KeepsAllButSent mid new → KeepsItsSession old new
 stays_taken old mid new a b = record {
   venue = b.venue ∙ a.venue;
   sessions = b.sessions ∙ a.sessions;
@@ -183,12 +176,12 @@ stays_taken old mid new a b = record {
 }
 
 -- a packet was answered, and all that is ready was printed behind its line
-outcome_prints : (width place : ℕ) (h : History) (v : Venue) (new : State) (line : LineId) (p : Content) (answer : Result Outcome LineFault) (t0 t1 : List ℕ)
+pub outcome_prints : (width place : ℕ) (h : History) (v : Venue) (new : State) (line : LineId) (p : Content) (answer : Result Outcome LineFault) (t0 t1 : List ℕ)
     → Follows width place v h
     → IsOutcome v.arbiter.session v.arbiter.window v.arbiter.sent h.present.packets p answer
     → Fits new (h.present.packets ++ arrival_of line p answer ∷ [])
     → new.sent ≡ length (stream_of (h.present.packets ++ arrival_of line p answer ∷ []))
-    → Stays v.arbiter new
+    → KeepsItsSession v.arbiter new
     → t1 ≡ t0 ++ packet_line place line answer ++ flat_map (item_line place) (drop v.arbiter.sent (stream_of (h.present.packets ++ arrival_of line p answer ∷ [])))
     → PrintsOutcome width place line p h t0 t1 (record { arbiter = new; sent_before = v.sent_before })
 outcome_prints width place h v new line p answer t0 t1 f outcome fits sent stays put =

@@ -1,21 +1,25 @@
 //! One venue of a replay: its lines, and what they give.
-ghost use Rattle.std.specs.Prelude.{◌≡◌, ℕ, Bool, false, List, ◌++◌, ◌≤◌, length, drop, flat_map, IfOk, OnOk};
+ghost use Rattle.std.specs.Prelude.{◌≡◌, ℕ, Bool, false, List, ◌++◌, ◌≤◌, length, drop, flat_map, map, Ok, IfOk, OnOk};
+ghost use Rattle.feed_types.specs.Sessions.{numbered_from};
+ghost use Rattle.quote_payload.specs.Payload.{item_of};
+ghost use Rattle.line_arbiter.specs.Through.{SendsPacket};
 ghost use Rattle.line_arbiter.specs.Packets.{Arrival};
 ghost use Rattle.line_arbiter.specs.Streams.{stream_of};
 ghost use Rattle.line_arbiter.specs.Counts.{shown};
 ghost use Rattle.line_arbiter.specs.States.{KeepsAllButSent};
 ghost use Rattle.line_arbiter.specs.Fits.{Fits};
 ghost use Rattle.feed_text.specs.Capture.{datagram_record, renewal_record};
-ghost use Rattle.feed_text.specs.Lines.{item_line};
+ghost use Rattle.feed_text.specs.Lines.{item_line, packet_line};
 ghost use Rattle.line_arbiter.specs.Histories.{History, new_history, streams_of};
 ghost use Rattle.feed_text.specs.Printed.{last_line};
 ghost use Rattle.feed_text.specs.Following.{Follows, Grows, PrintsOutcome, PrintsOne, Renews};
 
 use crate::lines::{put_fault, put_gap, put_item, put_packet, put_renewal, put_venue};
 use crate::page::Page;
-use feed_types::{Anything, LineId, VenueId};
-use line_arbiter::{Arbiter, RenewFault};
+use feed_types::{Anything, LineId, Numbered, VenueId};
+use line_arbiter::{Arbiter, Outcome, RenewFault};
 use mold_packet::{Packet, read_packet};
+use quote_payload::read_item;
 use std::alloc::{AllocError, Global};
 use std::marker::Model;
 
@@ -51,6 +55,51 @@ fn put_ready(arbiter: &mut Arbiter<Anything>, text: &mut Page) -> Result<(), All
         arbiter.advance();
     }
     Ok(())
+}
+
+/// Prints the items that a packet's messages are.
+#[inline(always)]
+fn put_items(venue: VenueId, packet: &Packet<'_>, text: &mut Page) -> Result<(), AllocError>
+    ensures items { OnOk result (text.new.items ≡ text.old.items
+        ++ flat_map (item_line venue)
+        (numbered_from packet.now.number (map item_of packet.now.messages))) }
+    ensures grows { Grows text.old.items text.new.items }
+{
+    let first = packet.number();
+    let mut messages = packet.messages();
+    let mut place: u64 = 0;
+    while let Some(message) = messages.next() {
+        let item = Numbered {
+            number: first + place,
+            item: read_item(message),
+        };
+        put_item(text, venue, &item)?;
+        place += 1;
+    }
+    Ok(())
+}
+
+/// Prints the line of a packet that passed through, its items, and what is ready behind them.
+fn put_passed(
+    arbiter: &mut Arbiter<Anything>,
+    line: LineId,
+    packet: &Packet<'_>,
+    outcome: Outcome,
+    text: &mut Page,
+) -> Result<(), AllocError>
+    ensures items { OnOk result ((from : ℕ) (packets : List Arrival) → Fits arbiter.old packets
+        → SendsPacket from arbiter.old.sent packet.now packets
+        → text.new.items ≡ text.old.items ++ packet_line arbiter.old.venue line (Ok outcome)
+        ++ flat_map (item_line arbiter.old.venue) (drop from (stream_of packets))) }
+    ensures fits { OnOk result ((packets : List Arrival) → Fits arbiter.old packets
+        → Fits arbiter.new packets × (arbiter.new.sent ≡ length (stream_of packets))) }
+    ensures grows { Grows text.old.items text.new.items }
+    ensures kept { OnOk result (KeepsAllButSent arbiter.old arbiter.new) }
+{
+    let venue = arbiter.venue();
+    put_packet(text, venue, line, &Ok(outcome))?;
+    put_items(venue, packet, text)?;
+    put_ready(arbiter, text)
 }
 
 impl VenueReplay {
@@ -95,6 +144,9 @@ impl VenueReplay {
             text.old.items text.new.items self.new) }
         ensures grows { Grows text.old.items text.new.items }
     {
+        if let Some(outcome) = self.arbiter.take_through(line, packet) {
+            return put_passed(&mut self.arbiter, line, packet, outcome, text);
+        }
         let answer = self.arbiter.take(line, packet);
         put_packet(text, self.arbiter.venue(), line, &answer)?;
         put_ready(&mut self.arbiter, text)
