@@ -1,7 +1,9 @@
 -- The capture, this project's own format for what came on the lines.
 --
--- A capture is a list of records, one after the other. A record is the venue (1 byte), a kind (1 byte), a length (2 bytes, big-endian) and that many bytes.
--- Kinds 41 (A), 42 (B) and 52 (R) are a datagram of line A, line B or Recovery. Kind 4e (N) is a renewal: its 10 bytes are the name of the venue's next session.
+-- A capture is a list of records, one after the other. A record is the venue (1 byte), a kind
+-- (1 byte), a length (2 bytes, big-endian) and that many bytes. Kinds 41 (A), 42 (B) and 52 (R) are
+-- a datagram of line A, line B or Recovery. Kind 4e (N) is a renewal: its 10 bytes are the name of
+-- the venue's next session.
 use Rattle.std.specs.Prelude.{◌≡◌, ℕ, ◌+◌, ◌*◌, ◌/◌, ◌%◌, ◌<◌, ◌≤◌, ◌⊎◌, List, [], ◌∷◌, ◌++◌, length, drop, flat_map, slice_index}
 use Rattle.feed_types.specs.declared.line.LineId.{LineId}
 use Rattle.feed_types.specs.Text.{line_letter}
@@ -31,7 +33,9 @@ bytes_of (renewal_record venue session) = session
 
 -- the bytes of a record
 abbrev pub spelling : CaptureRecord → List ℕ
-spelling r = venue_of r ∷ kind_byte r ∷ length (bytes_of r) / 256 ∷ length (bytes_of r) % 256 ∷ bytes_of r
+spelling r =
+    let len = length (bytes_of r) in
+    venue_of r ∷ kind_byte r ∷ len / 256 ∷ len % 256 ∷ bytes_of r
 
 -- these records, and then this rest
 abbrev pub capture_of : List CaptureRecord → List ℕ → List ℕ
@@ -75,17 +79,24 @@ IsUnfinished venues rest = (rest ≡ []) ⊎ IsShort venues rest
 abbrev pub NoRecord : ℕ → List ℕ → Type 0
 NoRecord venues rest = (rest ≡ []) ⊎ (IsBad venues rest ⊎ IsShort venues rest)
 
--- how many bytes tell what stands at the front: the first four, and once they are there all that they count
+-- how many bytes tell what stands at the front: the first four, and once they are there all that
+-- they count
 abbrev pub IsWanted : ℕ → List ℕ → ℕ → Type 0
-IsWanted venues bytes n = ((length bytes < 4) × (n ≡ 4)) ⊎ (IsHeader venues bytes × (n ≡ 4 + len_at bytes) × (length bytes < n))
+IsWanted venues bytes n =
+    ((length bytes < 4) × (n ≡ 4))
+    ⊎ (IsHeader venues bytes × (n ≡ 4 + len_at bytes) × (length bytes < n))
 
 -- the record that a borrowing one is
 abbrev pub record_of : Record → CaptureRecord
 record_of (Datagram venue line bytes) = datagram_record venue line bytes.now
 record_of (Renewal venue session) = renewal_record venue session
 
--- what stands at the front of some bytes: a record and what is left behind it, no record, or less than one
+-- what stands at the front of some bytes: a record and what is left behind it, no record, or less
+-- than one
 abbrev pub StandsAtFront : ℕ → List ℕ → Front → Type 0
-StandsAtFront venues bytes (Whole r len) = IsRecord venues (record_of r) × (len ≡ length (spelling (record_of r))) × (bytes ≡ spelling (record_of r) ++ drop len bytes)
+StandsAtFront venues bytes (Whole r len) =
+    IsRecord venues (record_of r)
+    × (len ≡ length (spelling (record_of r)))
+    × (bytes ≡ spelling (record_of r) ++ drop len bytes)
 StandsAtFront venues bytes Bad = IsBad venues bytes
 StandsAtFront venues bytes (Wants n) = IsWanted venues bytes n × (n < 65540)

@@ -73,16 +73,18 @@ pub record ReplaysFront {R W : Type 0} (reading : Reading R) (writing : Writing 
   pub read : HasRead reading config from calls mid records rest
   pub text : List ℕ
   pub is : (IsLinesOf config records text × (mid ≡ to))
-      ⊎ (IsTextOf config.sessions.now config.window config.gaps records text × (rest ≡ []) × reading.ends mid to)
+      ⊎ (IsTextOf config.sessions.now config.window config.gaps records text
+      × (rest ≡ []) × reading.ends mid to)
   pub wrote : Wrote writing.adds before text after
 
 -- What a replay came to, by its answer.
-abbrev pub Replays : {R W : Type 0} (reading : Reading R) (writing : Writing W) (config : ReplayConfig)
-    (from to : R) (before after : W) → Result (Unit {0}) ReplayFault → Type 0
+abbrev pub Replays : {R W : Type 0} (reading : Reading R) (writing : Writing W)
+    (config : ReplayConfig) (from to : R) (before after : W) → Result (Unit {0}) ReplayFault → Type 0
 Replays reading writing config from to before after (Ok done) =
     ReplaysAll reading writing config from to before after
 Replays reading writing config from to before after (Err BadRecord) =
-    ReplaysUntil reading writing config (IsBad (venues_in config)) (λ mid. mid ≡ to) from before after
+    ReplaysUntil reading writing config (IsBad (venues_in config)) (λ mid. mid ≡ to)
+    from before after
 Replays reading writing config from to before after (Err ShortRecord) =
     ReplaysUntil reading writing config (IsShort (venues_in config)) (λ mid. reading.ends mid to)
     from before after
@@ -90,7 +92,8 @@ Replays reading writing config from to before after (Err TooManyTurns) =
     ReplaysTo reading writing config (IsUnfinished (venues_in config)) from config.turns to
     before after
 Replays reading writing config from to before after (Err ReadFailed) =
-    ReplaysUntil reading writing config (IsUnfinished (venues_in config)) (λ mid. ⊤) from before after
+    ReplaysUntil reading writing config (IsUnfinished (venues_in config)) (λ mid. ⊤)
+    from before after
     × (reading.failures to ≡ reading.failures from + 1)
 Replays reading writing config from to before after (Err WriteFailed) =
     ReplaysFront reading writing config from to before after

@@ -14,14 +14,23 @@ pub fn fill<R: CaptureIn>(
     turns: &mut u64,
 ) -> Result<bool, ReplayFault>
     requires wanted { wanted < 65540 }
-    ensures more { result ≡ Ok true → Came R.gives reader.old reader.new unread.old unread.new (turns.old - turns.new) × (wanted ≤ length unread.new) }
-    ensures end { result ≡ Ok false → CameAll R.gives R.ends reader.old reader.new unread.old unread.new (turns.old - turns.new - 1) × (turns.new < turns.old) }
+    ensures more { result ≡ Ok true
+        → Came R.gives reader.old reader.new unread.old unread.new (turns.old - turns.new)
+        × (wanted ≤ length unread.new) }
+    ensures end { result ≡ Ok false
+        → CameAll R.gives R.ends reader.old reader.new unread.old unread.new
+        (turns.old - turns.new - 1)
+        × (turns.new < turns.old) }
     ensures lacking { (result ≡ Ok true → ⊥) → length unread.new < wanted }
-    ensures failed { IsErrOf result ReplayFault.ReadFailed → CameSome R.gives reader.old unread.old unread.new × (R.failures reader.new ≡ R.failures reader.old + 1) }
-    ensures stopped { IsErrOf result ReplayFault.TooManyTurns → Came R.gives reader.old reader.new unread.old unread.new turns.old }
+    ensures failed { IsErrOf result ReplayFault.ReadFailed
+        → CameSome R.gives reader.old unread.old unread.new
+        × (R.failures reader.new ≡ R.failures reader.old + 1) }
+    ensures stopped { IsErrOf result ReplayFault.TooManyTurns
+        → Came R.gives reader.old reader.new unread.old unread.new turns.old }
     ensures turns { turns.new ≤ turns.old }
     ensures progress { length unread.old < wanted → OnOk result (turns.new < turns.old) }
-    ensures faults { (e : _) → IsErrOf result e → (e ≢ ReplayFault.ReadFailed) → e ≡ ReplayFault.TooManyTurns }
+    ensures faults { (e : _) → IsErrOf result e
+        → (e ≢ ReplayFault.ReadFailed) → e ≡ ReplayFault.TooManyTurns }
     ensures kept { OnOk result (R.failures reader.new ≡ R.failures reader.old) }
     ensures room { OnOk result (length unread.new < 131073) }
 {

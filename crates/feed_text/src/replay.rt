@@ -65,7 +65,9 @@ pub fn replay<R: CaptureIn, W: TextOut>(
     requires few { length config.now.sessions.now ≤ 16 }
     requires least { 1 ≤ config.now.window }
     requires most { config.now.window ≤ 65535 }
-    ensures { Replays (record { gives = R.gives; ends = R.ends; failures = R.failures }) (record { adds = W.adds; failures = W.failures })
+    ensures { Replays
+        (record { gives = R.gives; ends = R.ends; failures = R.failures })
+        (record { adds = W.adds; failures = W.failures })
         config.now reader.old reader.new writer.old writer.new result }
 {
     let mut venues = Venues::new(alloc, config.sessions, config.window, config.gaps)?;

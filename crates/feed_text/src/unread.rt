@@ -38,7 +38,8 @@ impl Model for Unread {
 
     ghost view = { λ w. slice_range w.bytes.items w.start w.end };
 
-    ghost invariant = { λ w. (w.start ≤ w.end) × (w.end ≤ length w.bytes.items) × (length w.bytes.items ≡ 131072) };
+    ghost invariant = { λ w.
+        (w.start ≤ w.end) × (w.end ≤ length w.bytes.items) × (length w.bytes.items ≡ 131072) };
 }
 
 /// Moves the bytes from `start` to `end` to the front where that costs nothing or where there is little
@@ -69,7 +70,8 @@ fn read_behind<R: CaptureIn>(
     ensures front { take end bytes.new.items ≡ take end bytes.old.items }
     ensures len { length bytes.new.items ≡ length bytes.old.items }
     ensures count { IfOk result (λ n. end + n ≤ length bytes.new.items) }
-    ensures some { IfOk result (λ n. 0 < n → R.gives reader.old 1 (slice_range bytes.new.items end (end + n)) reader.new) }
+    ensures some { IfOk result (λ n.
+        0 < n → R.gives reader.old 1 (slice_range bytes.new.items end (end + n)) reader.new) }
     ensures end { result ≡ Ok 0 → R.ends reader.old reader.new }
     ensures interrupted { result ≡ Err ReadStop.Interrupted → R.gives reader.old 1 [] reader.new }
     ensures failed { result ≡ Err ReadStop.Failed → R.failures reader.new ≡ R.failures reader.old + 1 }
@@ -126,7 +128,8 @@ impl Unread {
         requires room { length self.old < 131072 }
         ensures went { result ≡ Turn.Went → Came R.gives reader.old reader.new self.old self.new 1 }
         ensures ended { result ≡ Turn.Ended → R.ends reader.old reader.new × (self.new ≡ self.old) }
-        ensures failed { result ≡ Turn.Failed → (R.failures reader.new ≡ R.failures reader.old + 1) × (self.new ≡ self.old) }
+        ensures failed { result ≡ Turn.Failed
+            → (R.failures reader.new ≡ R.failures reader.old + 1) × (self.new ≡ self.old) }
         ensures kept { (result ≡ Turn.Failed → ⊥) → R.failures reader.new ≡ R.failures reader.old }
     {
         let (start, end) = make_room(&mut self.bytes, self.start, self.end);
