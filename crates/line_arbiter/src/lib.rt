@@ -14,6 +14,8 @@ mod arbiter;
 mod faults;
 mod intake;
 mod laws;
+mod marks;
+mod names;
 mod outcome;
 mod pacer;
 mod window;
@@ -22,8 +24,10 @@ mod wins;
 pub use arbiter::{Arbiter, ArbiterStatus};
 pub use faults::{ArbiterFault, RenewFault};
 pub use laws::{
-    no_packet_is_refused, one_outcome, stream_is_the_session, streams_are_in_sequence,
-    what_is_taken_stays_genuine,
+    a_genuine_stream_is_the_session, a_renewal_comes_when_all_is_sent, a_stream_only_grows,
+    answers_go_on, no_genuine_packet_is_refused, one_outcome, one_renewal,
+    packets_of_sessions_are_genuine, streams_are_in_sequence, the_front_is_the_first_gap,
+    the_stream_is_the_session, what_is_taken_stays_genuine,
 };
 pub use outcome::{LineFault, Outcome};
 pub use pacer::Pacer;

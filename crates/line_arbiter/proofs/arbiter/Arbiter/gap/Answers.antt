@@ -16,10 +16,10 @@ missing g c =
     })
 
 pub returns-then-count-eq0 : goal.returns-then-count-eq0
-returns-then-count-eq0 g c P fits = gap_of-none _ P _ fits (missing g (goal.at.returns-then-count-eq0 g c).After-missing_after-count) c.if-count-eq0.true
+returns-then-count-eq0 g c packets fits = gap_of-none _ packets _ fits (missing g (goal.at.returns-then-count-eq0 g c).After-missing_after-count) c.if-count-eq0.true
 
 pub returns : goal.returns
-returns g c P fits =
+returns g c packets fits =
     let front = ap (λ (s : State). s.front) c.self.view_is in
     let session = ap (λ (s : State). s.session) c.self.view_is in
-    rw (front, session) (gap_of-some _ P _ fits (missing g (goal.at.returns g c).After-missing_after-count) c.if-count-eq0.false)
+    rw (front, session) (gap_of-some _ packets _ fits (missing g (goal.at.returns g c).After-missing_after-count) c.if-count-eq0.false)
