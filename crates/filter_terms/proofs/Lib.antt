@@ -1,1 +1,2 @@
 pub mod Advising
+pub mod Copying

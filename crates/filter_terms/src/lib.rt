@@ -16,6 +16,7 @@ mod answerer;
 mod filter;
 mod strategy;
 mod terms;
+mod text;
 
 pub use advice::{Advice, Limits};
 pub use adviser::{Advise, Adviser};

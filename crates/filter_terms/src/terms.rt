@@ -62,3 +62,25 @@ impl Terms {
         }
     }
 }
+
+/// Copies the terms with their lists and parts. It takes memory, so it can refuse.
+impl Clone for Terms {
+    ghost use Rattle.filter_terms.specs.Copies.{IsCopy};
+
+    ghost is_clone = { IsCopy };
+
+    fn clone(&self) -> Result<Terms, AllocError> {
+        match self {
+            Terms::All => Ok(Terms::All),
+            Terms::Symbol(symbol) => Ok(Terms::Symbol(*symbol)),
+            Terms::AnyOf(symbols) => Ok(Terms::AnyOf(symbols.clone()?)),
+            Terms::MinSize(size) => Ok(Terms::MinSize(*size)),
+            Terms::StateIs(state) => Ok(Terms::StateIs(*state)),
+            Terms::Both(first, second) => {
+                let first = Box::new(*Box::allocator(first), (**first).clone()?)?;
+                let second = Box::new(*Box::allocator(second), (**second).clone()?)?;
+                Ok(Terms::Both(first, second))
+            }
+        }
+    }
+}
