@@ -24,3 +24,6 @@ pub use answerer::Answers;
 pub use filter::Filter;
 pub use strategy::Strategy;
 pub use terms::Terms;
+
+#[cfg(test)]
+mod tests;
