@@ -1,0 +1,5 @@
+pub mod Growth
+pub mod Rising
+pub mod Prefixes
+pub mod CursorMoving
+pub mod Adding

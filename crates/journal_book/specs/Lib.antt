@@ -1,0 +1,5 @@
+pub mod Changes
+pub mod Wanted
+pub mod Journals
+pub mod Keeping
+pub mod Codes
