@@ -3,3 +3,5 @@ pub mod Rising
 pub mod Prefixes
 pub mod CursorMoving
 pub mod Adding
+pub mod NextPlaces
+pub mod Offering

@@ -9,12 +9,15 @@
 //! meet its terms, in order, from the first one of the journal on. Begin at `journal.rt`.
 #![tactic(auto)]
 
+mod consolidator;
 mod cursor;
 mod fault;
 mod journal;
 mod laws;
 mod notices;
+mod places;
 
+pub use consolidator::Consolidator;
 pub use cursor::Cursor;
 pub use fault::JournalFault;
 pub use journal::Journal;
