@@ -8,7 +8,7 @@ ghost use Rattle.journal_book.specs.Places.{IsNextOf, SameAnswers, SameAnswers-p
 
 use crate::fault::JournalFault;
 use crate::journal::Journal;
-use crate::places::next_place;
+use crate::places::{next_place, notice_at};
 use feed_types::{Entry, National, Notice, Numbered, SubscriberId, SymbolName, VenueId};
 use filter_terms::{Filter, Terms};
 use nbbo_book::BookFault;
@@ -153,7 +153,7 @@ impl Consolidator {
         ensures stays { StaysButCursors (journal_of self.old) (journal_of self.new) }
     {
         let place = self.next_place(id);
-        let found = self.journal.changes().get(place).copied();
+        let found = notice_at(self.journal.changes(), place);
         self.journal.look_to(id, place);
         found
     }

@@ -1,6 +1,6 @@
 //! The search for the next notice that a filter wants.
 
-ghost use Rattle.std.specs.Prelude.{◌<◌, ◌≤◌, ◌^◌, length};
+ghost use Rattle.std.specs.Prelude.{◌≡◌, ◌<◌, ◌≤◌, ◌^◌, length, slice_get};
 ghost use Rattle.filter_terms.specs.Terms.{meets};
 ghost use Rattle.filter_terms.specs.Filters.{terms_of};
 ghost use Rattle.journal_book.specs.Places.{IsNextPlace};
@@ -20,4 +20,11 @@ pub(crate) fn next_place(filter: &Filter, notices: &[Notice], from: usize) -> us
         }
     }
     notices.len()
+}
+
+/// The notice at the place, if the place isn't the end.
+pub(crate) fn notice_at(notices: &[Notice], place: usize) -> Option<Notice>
+    ensures { result ≡ slice_get notices.now place }
+{
+    notices.get(place).copied()
 }
