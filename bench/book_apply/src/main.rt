@@ -8,6 +8,9 @@
 //! prints how many changes there were.
 #![tactic(auto)]
 
+ghost use Rattle.std.specs.Prelude.{◌≡◌};
+ghost use Rattle.nbbo_book.specs.Books.{venue_of as venue_of_entry};
+
 use feed_types::{Entry, Item, Numbered, Quote, SymbolName, VenueId};
 use nbbo_book::{Book, Change};
 use std::alloc::Global;
@@ -60,7 +63,7 @@ fn is_word(words: &[String], place: usize, wanted: &str) -> bool {
     }
 }
 
-fn plan(words: &[String]) -> Plan {
+fn read_plan(words: &[String]) -> Plan {
     let kind = if is_word(words, 4, "repeat") {
         Kind::Repeat
     } else if is_word(words, 4, "size") {
@@ -129,7 +132,9 @@ fn entry(plan: &Plan, chance: &mut Chance, names: &[SymbolName]) -> Option<Entry
     })
 }
 
-fn venue_of(entry: &Entry) -> usize {
+fn venue_of(entry: &Entry) -> usize
+    ensures { result ≡ venue_of_entry entry.now }
+{
     match entry {
         Entry::Consumed { venue, numbered: _ } => venue.index(),
         Entry::SelfHelp { venue, on: _ } => venue.index(),
@@ -150,7 +155,7 @@ fn symbols(alloc: Global, count: u64) -> io::Result<Vec<SymbolName>> {
 fn main(rt: HostRuntime) -> io::Result<()> {
     let alloc = rt.alloc();
     let words: Vec<String> = env::args(&rt)?.collect(alloc)?;
-    let plan = plan(words.as_slice());
+    let plan = read_plan(words.as_slice());
     let names = symbols(alloc, plan.symbols)?;
     let mut out: Vec<Change> = Vec::with_capacity(alloc, names.len())?;
     let mut chance = Chance { state: 242_600 };

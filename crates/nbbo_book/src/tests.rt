@@ -10,17 +10,16 @@ mod worked;
 use crate::{Book, Change};
 use feed_types::{Best, Entry, Item, Numbered, Quote, SymbolName, VenueId};
 use std::process::Abort;
-use std::test::Fail;
 
 /// A price and a size.
 type Level = (u32, u64);
 
-fn venue(place: u8) -> Result<VenueId, Fail> {
-    Ok(VenueId::new(place).ok_or("below 16")?)
+fn venue(rt: &impl Abort, place: u8) -> VenueId {
+    VenueId::new(place).expect(rt, "below 16")
 }
 
-fn symbol(name: &str) -> Result<SymbolName, Fail> {
-    Ok(SymbolName::from_text(name.as_bytes()).ok_or("a name")?)
+fn symbol(rt: &impl Abort, name: &str) -> SymbolName {
+    SymbolName::from_text(name.as_bytes()).expect(rt, "a name")
 }
 
 /// A quotation with flags as on the wire: bit 0 for an automated bid, bit 1 for the offer.
@@ -52,12 +51,12 @@ fn venue_of(entry: &Entry) -> VenueId
     }
 }
 
-fn best(place: u8, level: Level) -> Result<Option<Best>, Fail> {
-    Ok(Some(Best {
-        venue: venue(place)?,
+fn best(rt: &impl Abort, place: u8, level: Level) -> Option<Best> {
+    Some(Best {
+        venue: venue(rt, place),
         price: level.0,
         size: level.1,
-    }))
+    })
 }
 
 /// Applies the entry, and leaves its changes in `out`.

@@ -143,18 +143,23 @@ fn level(chance: &mut Chance) -> (u32, u64) {
     (price, size)
 }
 
-fn entry(chance: &mut Chance, symbols: &[SymbolName], stranger: SymbolName) -> Result<Entry, Fail> {
-    let venue = venue(chance.below(16) as u8)?;
+fn entry(
+    rt: &impl Abort,
+    chance: &mut Chance,
+    symbols: &[SymbolName],
+    stranger: SymbolName,
+) -> Entry {
+    let venue = venue(rt, chance.below(16) as u8);
     let place = chance.below(9) as usize;
     let symbol = *symbols.get(place).unwrap_or(&stranger);
     let item = match chance.below(40) {
         0 => Item::End,
         1 => Item::Other,
         2 | 3 => {
-            return Ok(Entry::SelfHelp {
+            return Entry::SelfHelp {
                 venue,
                 on: chance.below(2) == 0,
-            });
+            };
         }
         4..=7 => Item::Halt {
             symbol,
@@ -165,7 +170,7 @@ fn entry(chance: &mut Chance, symbols: &[SymbolName], stranger: SymbolName) -> R
             quote(symbol, level(chance), level(chance), flags)
         }
     };
-    Ok(consumed(venue, item))
+    consumed(venue, item)
 }
 
 fn check_symbol(
@@ -220,9 +225,9 @@ fn as_recomputed(rt: HostRuntime) -> Result<(), Fail> {
     let alloc = rt.alloc();
     let mut symbols = Vec::new(alloc);
     for name in ["A", "B", "C", "D", "E", "F", "G", "H"] {
-        symbols.push(symbol(name)?)?;
+        symbols.push(symbol(&rt, name))?;
     }
-    let stranger = symbol("STRANGER")?;
+    let stranger = symbol(&rt, "STRANGER");
     let mut book = Book::new(alloc, &symbols, 16)?;
     let mut out = Vec::with_capacity(alloc, symbols.len())?;
     let mut chance = Chance { state: 242_600 };
@@ -233,7 +238,7 @@ fn as_recomputed(rt: HostRuntime) -> Result<(), Fail> {
     };
     let mut nationals = vec![in alloc; nobody; symbols.len()]?;
     for place in 0..ENTRIES {
-        let entry = entry(&mut chance, &symbols, stranger)?;
+        let entry = entry(&rt, &mut chance, &symbols, stranger);
         entries.push(entry)?;
         apply(&rt, &mut book, place + 1, entry, &mut out);
         let mut changes = Vec::new(alloc);

@@ -4,14 +4,15 @@ use super::{symbol, venue};
 use crate::{Book, BookFault};
 use feed_types::{Side, SymbolName};
 use std::alloc::Global;
+use std::process::Abort;
 use std::test::Fail;
 
 /// So many symbols, each another one.
-fn symbols(alloc: Global, count: usize) -> Result<Vec<SymbolName>, Fail> {
+fn symbols(rt: &impl Abort, alloc: Global, count: usize) -> Result<Vec<SymbolName>, Fail> {
     let mut symbols = Vec::new(alloc);
     for place in 0..count {
         let name = format!(in alloc; "S{place}")?;
-        symbols.push(symbol(&name)?)?;
+        symbols.push(symbol(rt, &name))?;
     }
     Ok(symbols)
 }
@@ -23,13 +24,13 @@ fn fault(alloc: Global, symbols: &[SymbolName], venues: usize) -> Option<BookFau
 #[test]
 fn refused_in_order(rt: HostRuntime) -> Result<(), Fail> {
     let alloc = rt.alloc();
-    let none = symbols(alloc, 0)?;
+    let none = symbols(&rt, alloc, 0)?;
     assert_eq!(rt; fault(alloc, &none, 0), Some(BookFault::BadVenueCount));
     assert_eq!(rt; fault(alloc, &none, 17), Some(BookFault::BadVenueCount));
     assert_eq!(rt; fault(alloc, &none, 1), None);
-    let most = symbols(alloc, 4096)?;
+    let most = symbols(&rt, alloc, 4096)?;
     assert_eq!(rt; fault(alloc, &most, 16), None);
-    let many = symbols(alloc, 4097)?;
+    let many = symbols(&rt, alloc, 4097)?;
     assert_eq!(rt; fault(alloc, &many, 17), Some(BookFault::BadVenueCount));
     assert_eq!(rt; fault(alloc, &many, 16), Some(BookFault::TooManySymbols));
     Ok(())
@@ -38,11 +39,11 @@ fn refused_in_order(rt: HostRuntime) -> Result<(), Fail> {
 #[test]
 fn refused_twice(rt: HostRuntime) -> Result<(), Fail> {
     let alloc = rt.alloc();
-    let mut twice = symbols(alloc, 3)?;
-    twice.push(symbol("S1")?)?;
+    let mut twice = symbols(&rt, alloc, 3)?;
+    twice.push(symbol(&rt, "S1"))?;
     assert_eq!(rt; fault(alloc, &twice, 0), Some(BookFault::BadVenueCount));
     assert_eq!(rt; fault(alloc, &twice, 1), Some(BookFault::DuplicateSymbol));
-    let same = vec![in alloc; symbol("ACME")?; 4097]?;
+    let same = vec![in alloc; symbol(&rt, "ACME"); 4097]?;
     assert_eq!(rt; fault(alloc, &same, 1), Some(BookFault::TooManySymbols));
     Ok(())
 }
@@ -61,7 +62,7 @@ fn numbers_of_faults(rt: HostRuntime) {
 
 #[test]
 fn symbols_that_are_not_there(rt: HostRuntime) -> Result<(), Fail> {
-    let (acme, other) = (symbol("ACME")?, symbol("OTHER")?);
+    let (acme, other) = (symbol(&rt, "ACME"), symbol(&rt, "OTHER"));
     let book = Book::new(rt.alloc(), &[acme], 3)?;
     assert_eq!(rt; book.national(&other), None);
     assert_eq!(rt; book.ranked(&other, Side::Bid), None);
@@ -70,6 +71,6 @@ fn symbols_that_are_not_there(rt: HostRuntime) -> Result<(), Fail> {
     assert_eq!(rt; book.symbol_count(), 1);
     assert_eq!(rt; book.venue_count(), 3);
     assert_eq!(rt; book.last_position(), 0);
-    assert_eq!(rt; book.is_self_helped(venue(2)?), false);
+    assert_eq!(rt; book.is_self_helped(venue(&rt, 2)), false);
     Ok(())
 }
