@@ -26,7 +26,7 @@ pub record Says {S : Type 0} (writing : Writing S) (text : List ℕ) (before aft
 abbrev pub hint_text : Bool → List ℕ
 hint_text at_terminal =
     if at_terminal
-    then codes "nbbo: reading a capture from the terminal; \"nbbo replay --help\" tells how to give a file\n"
+    then codes "nbbo: reading a capture from the terminal ('nbbo replay --help' tells more)\n"
     else []
 
 -- the settings as a replay takes them; it makes at most 1,000,000,000 calls of the reader

@@ -16,8 +16,7 @@ use std::alloc::Global;
 const MAX_TURNS: u64 = 1_000_000_000;
 
 /// What a terminal is told before it is read.
-const HINT: &str =
-    "nbbo: reading a capture from the terminal; \"nbbo replay --help\" tells how to give a file\n";
+const HINT: &str = "nbbo: reading a capture from the terminal ('nbbo replay --help' tells more)\n";
 
 /// What is asked of the replay.
 fn config_of(settings: &ReplaySettings) -> ReplayConfig<'_>
