@@ -8,3 +8,6 @@ pub mod Growing
 pub mod Telling
 pub mod OneText
 pub mod Stopping
+pub mod Digits
+pub mod Places
+pub mod Passing

@@ -9,7 +9,8 @@ use Rattle.feed_text.specs.declared.replay.ReplayConfig.{ReplayConfig}
 use Rattle.feed_text.specs.Capture.{CaptureRecord, IsRecord, IsShort, IsUnfinished, IsWanted, IsHeader, len_at, spelling, capture_of}
 use Rattle.feed_text.specs.Devices.{Reading, Writing, Came, CameAll, Wrote, Moved}
 use Rattle.feed_text.specs.Following.{VenueList, FollowAll, TakesRecord, PrintsLast}
-use Rattle.feed_text.specs.Printed.{History, new_history, Prints, PrintsRecord, last_lines}
+use Rattle.line_arbiter.specs.Histories.{History, new_history}
+use Rattle.feed_text.specs.Printed.{Prints, PrintsRecord, last_lines}
 use Rattle.feed_text.specs.Replays.{venues_in, HasRead, IsLinesOf, ReplaysAll, ReplaysTo, ReplaysUntil, ReplaysFront}
 
 -- the laws of a reader and a writer

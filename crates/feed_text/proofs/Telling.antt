@@ -6,7 +6,8 @@ use Rattle.std.proofs.lemmas.List.{length-map, map-append, take_more}
 use Rattle.std.proofs.lemmas.Grind.{common_steps}
 use Rattle.std.proofs.lemmas.Option.{slice_get_within}
 use Rattle.feed_text.specs.Capture.{CaptureRecord, venue_of}
-use Rattle.feed_text.specs.Printed.{History, new_history, last_line, last_lines}
+use Rattle.line_arbiter.specs.Histories.{History, new_history}
+use Rattle.feed_text.specs.Printed.{last_line, last_lines}
 use Rattle.feed_text.specs.Following.{Venue, VenueList, Follows, FollowAll, PrintsOne, TakesRecord}
 use Rattle.feed_text.proofs.Rest.{rest_at}
 

@@ -6,3 +6,5 @@ pub mod Lines
 pub mod Printed
 pub mod Following
 pub mod Replays
+pub mod Placing
+pub mod Pages

@@ -5,7 +5,8 @@ use Rattle.feed_text.specs.declared.fault.ReplayFault.TheVariants.{ReadFailed, W
 use Rattle.feed_text.specs.declared.replay.ReplayConfig.{ReplayConfig}
 use Rattle.feed_text.specs.Capture.{CaptureRecord, IsRecord, IsBad, IsShort, IsUnfinished, capture_of}
 use Rattle.feed_text.specs.Devices.{Reading, Writing, Wrote}
-use Rattle.feed_text.specs.Printed.{History, new_history, Prints, IsTextOf}
+use Rattle.line_arbiter.specs.Histories.{History, new_history}
+use Rattle.feed_text.specs.Printed.{Prints, IsTextOf}
 
 -- how many venues there are
 abbrev pub venues_in : ReplayConfig → ℕ

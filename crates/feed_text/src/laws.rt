@@ -1,7 +1,8 @@
 //! What the definitions mean together.
 ghost use Rattle.std.specs.Prelude.{◌≡◌, ℕ, Bool, List, All};
 ghost use Rattle.feed_text.specs.Capture.{CaptureRecord, IsRecord, NoRecord, capture_of};
-ghost use Rattle.feed_text.specs.Printed.{History, Prints, IsTextOf};
+ghost use Rattle.line_arbiter.specs.Histories.{History};
+ghost use Rattle.feed_text.specs.Printed.{Prints, IsTextOf};
 
 /// A capture has one reading: where the same bytes are records and then a rest that begins with none,
 /// the records and the rest are the same.

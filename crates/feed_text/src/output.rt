@@ -4,6 +4,7 @@ ghost use Rattle.feed_text.specs.Devices.{Wrote, Moved};
 
 use crate::devices::{TextOut, WriteStop};
 use crate::fault::ReplayFault;
+use crate::page::Page;
 
 /// Text goes out once it has so many bytes.
 const PAGE: usize = 65_536;
@@ -26,8 +27,10 @@ pub fn write_all<W: TextOut>(text: &[u8], writer: &mut W) -> Result<(), WriteSto
 }
 
 /// Writes all of the text, and empties it.
-pub(crate) fn flush<W: TextOut>(text: &mut Vec<u8>, writer: &mut W) -> Result<(), ReplayFault>
-    ensures ok { OnOk result (Moved W.adds writer.old writer.new text.old.items text.new.items × (text.new.items ≡ [])) }
+pub(crate) fn flush<W: TextOut>(text: &mut Page, writer: &mut W) -> Result<(), ReplayFault>
+    ensures ok { OnOk result
+        (Moved W.adds writer.old writer.new text.old.items text.new.items
+        × (text.new.items ≡ [])) }
     ensures only { OnErr result (IsErrOf result ReplayFault.WriteFailed) }
     ensures failed { OnErr result (W.failures writer.new ≡ W.failures writer.old + 1) }
     ensures part { OnErr result (Wrote W.adds writer.old text.old.items writer.new) }
@@ -43,8 +46,9 @@ pub(crate) fn flush<W: TextOut>(text: &mut Vec<u8>, writer: &mut W) -> Result<()
 }
 
 /// Writes all of the text once it fills a page.
-pub(crate) fn flush_full<W: TextOut>(text: &mut Vec<u8>, writer: &mut W) -> Result<(), ReplayFault>
-    ensures ok { OnOk result (Moved W.adds writer.old writer.new text.old.items text.new.items) }
+pub(crate) fn flush_full<W: TextOut>(text: &mut Page, writer: &mut W) -> Result<(), ReplayFault>
+    ensures ok { OnOk result
+        (Moved W.adds writer.old writer.new text.old.items text.new.items) }
     ensures only { OnErr result (IsErrOf result ReplayFault.WriteFailed) }
     ensures failed { OnErr result (W.failures writer.new ≡ W.failures writer.old + 1) }
     ensures part { OnErr result (Wrote W.adds writer.old text.old.items writer.new) }

@@ -9,6 +9,7 @@ use crate::devices::{CaptureIn, TextOut};
 use crate::fault::ReplayFault;
 use crate::input::fill;
 use crate::output::{flush, flush_full};
+use crate::page::Page;
 use crate::unread::Unread;
 use crate::venues::Venues;
 use std::alloc::Global;
@@ -29,7 +30,7 @@ pub struct ReplayConfig<'a> {
 
 /// Writes the text of the records before, so many bytes, where memory was refused for the next one's lines, and
 /// says how that ended.
-fn refused<W: TextOut>(text: &mut Vec<u8>, whole: usize, writer: &mut W) -> ReplayFault
+fn refused<W: TextOut>(text: &mut Page, whole: usize, writer: &mut W) -> ReplayFault
     ensures { Stops W.adds W.failures (take whole text.old.items) writer.old writer.new result }
 {
     text.truncate(whole);
@@ -40,7 +41,7 @@ fn refused<W: TextOut>(text: &mut Vec<u8>, whole: usize, writer: &mut W) -> Repl
 }
 
 /// Writes the last lines.
-fn close<W: TextOut>(venues: &Venues, mut text: Vec<u8>, writer: &mut W) -> Result<(), ReplayFault>
+fn close<W: TextOut>(venues: &Venues, mut text: Page, writer: &mut W) -> Result<(), ReplayFault>
     requires { text.items ≡ [] }
     ensures { Closes W.adds W.failures venues.now writer.old writer.new result }
 {
@@ -71,7 +72,7 @@ pub fn replay<R: CaptureIn, W: TextOut>(
 {
     let mut venues = Venues::new(alloc, config.sessions, config.window, config.gaps)?;
     let mut unread = Unread::new(alloc)?;
-    let mut text = Vec::new(alloc);
+    let mut text = Page::new(alloc);
     let mut turns = config.turns;
     'records: loop {
         match front_of(config.sessions.len(), unread.bytes()) {

@@ -1,10 +1,11 @@
 //! The venues of a replay.
 ghost use Rattle.std.specs.Prelude.{◌≡◌, ◌<◌, ◌≤◌, IfOk, OnOk, length, map};
 ghost use Rattle.feed_text.specs.Capture.{IsRecord, record_of};
-ghost use Rattle.feed_text.specs.Printed.{new_history};
+ghost use Rattle.line_arbiter.specs.Histories.{new_history};
 ghost use Rattle.feed_text.specs.Following.{FollowAll, Grows, PrintsLast, TakesRecord};
 
 use crate::capture::Record;
+use crate::page::Page;
 use crate::venue::VenueReplay;
 use feed_types::VenueId;
 use std::alloc::{AllocError, Global};
@@ -30,15 +31,15 @@ fn venue_at(place: usize) -> VenueId
     requires { place < 16 }
     ensures { result ≡ place }
 {
-    match VenueId::new(place as u8) {
+    match VenueId::from_index(place) {
         Some(venue) => venue,
         None => unreachable!(),
     }
 }
 
 impl Venues {
-    /// As many venues as there are session names, 16 at most, to which nothing came. They take the memory
-    /// of their windows here, and none later.
+    /// As many venues as there are session names, 16 at most, to which nothing came. They take the
+    /// memory of their windows here, and none later.
     pub fn new(
         alloc: Global,
         sessions: &[[u8; 10]],
@@ -59,11 +60,12 @@ impl Venues {
         Ok(Venues { venues, gaps })
     }
 
-    /// Takes a record, and prints its lines behind the text. Where memory for them is refused, a front of
-    /// them may stand there, and no other record can be taken.
-    pub fn take(&mut self, next: Record<'_>, text: &mut Vec<u8>) -> Result<(), AllocError>
+    /// Takes a record, and prints its lines behind the text. Where memory for them is refused, a
+    /// front of them may stand there, and no other record can be taken.
+    pub fn take(&mut self, next: Record<'_>, text: &mut Page) -> Result<(), AllocError>
         requires { IsRecord (length self.old.items) (record_of next) }
-        ensures takes { OnOk result (TakesRecord self.old (record_of next.entry) text.old.items text.new.items self.new) }
+        ensures takes { OnOk result (TakesRecord self.old (record_of next.entry)
+            text.old.items text.new.items self.new) }
         ensures grows { Grows text.old.items text.new.items }
     {
         match next {
@@ -79,7 +81,7 @@ impl Venues {
     }
 
     /// Prints the last lines behind the text.
-    pub fn put_last(&self, text: &mut Vec<u8>) -> Result<(), AllocError>
+    pub fn put_last(&self, text: &mut Page) -> Result<(), AllocError>
         ensures { OnOk result (PrintsLast self.now text.old.items text.new.items) }
     {
         for venue in &self.venues {

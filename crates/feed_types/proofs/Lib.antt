@@ -1,2 +1,4 @@
 pub mod Continuing
 pub mod Naming
+pub mod Fields
+pub mod OfSessions

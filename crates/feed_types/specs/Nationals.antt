@@ -1,4 +1,5 @@
--- The state of a national best (this project's profile): no side, one side, or how the two prices stand.
+-- The state of a national best (this project's profile): no side, one side, or how the two prices
+-- stand.
 use Rattle.std.specs.Prelude.{ℕ, nat_lt, ◌==◌, if◌then◌else◌, Option, Some, None}
 use Rattle.feed_types.specs.declared.national.Best.{Best}
 use Rattle.feed_types.specs.declared.national.National.{National}
@@ -6,7 +7,9 @@ use Rattle.feed_types.specs.declared.national.NationalState.{NationalState}
 use Rattle.feed_types.specs.declared.national.NationalState.TheVariants.{Empty, OneSided, Normal, Locked, Crossed}
 
 abbrev pub state_of_prices : ℕ → ℕ → NationalState
-state_of_prices bid offer = if bid == offer then Locked else (if nat_lt offer bid then Crossed else Normal)
+state_of_prices bid offer =
+    if bid == offer then Locked else
+    (if nat_lt offer bid then Crossed else Normal)
 
 abbrev pub state_of_sides : Option Best → Option Best → NationalState
 state_of_sides None None = Empty

@@ -4,7 +4,15 @@ use Rattle.feed_types.specs.declared.item.Item.{Item}
 use Rattle.feed_types.specs.declared.item.Item.TheVariants.{Quote, Halt, Other, End}
 use Rattle.feed_types.specs.declared.item.Numbered.{Numbered}
 
--- where a venue's items have come to: the session's ordinal, from 1, and the number that is next in it
+-- At this venue, in its session of this ordinal, the message of this number may read as this item.
+abbrev pub Carries : Type 1
+Carries = ℕ → ℕ → ℕ → Item → Type 0
+
+-- At this venue, its session of this ordinal may end with this end number.
+abbrev pub Ends : Type 1
+Ends = ℕ → ℕ → ℕ → Type 0
+
+-- where a venue's items have come to: the session's ordinal, from 1, and the number that is next
 pub record Place : Type 0 where
   pub ordinal : ℕ
   pub number : ℕ
@@ -17,7 +25,8 @@ abbrev pub place_after : Place → Item → Place
 place_after place End = record { ordinal = place.ordinal + 1; number = 1 }
 place_after place Other = record { ordinal = place.ordinal; number = place.number + 1 }
 place_after place (Quote quote) = record { ordinal = place.ordinal; number = place.number + 1 }
-place_after place (Halt symbol halted) = record { ordinal = place.ordinal; number = place.number + 1 }
+place_after place (Halt symbol halted) =
+    record { ordinal = place.ordinal; number = place.number + 1 }
 
 -- the place after a list of items
 abbrev pub place_after_all : Place → List Numbered → Place
@@ -25,18 +34,24 @@ place_after_all place [] = place
 place_after_all place (x ∷ xs) = place_after_all (place_after place x.item) xs
 
 -- the item may be carried at the place: an end number for End, a message's item otherwise
-abbrev pub MayCarry : (ℕ → ℕ → ℕ → Item → Type 0) → (ℕ → ℕ → ℕ → Type 0) → ℕ → Place → Item → Type 0
+abbrev pub MayCarry : Carries → Ends → ℕ → Place → Item → Type 0
 MayCarry carries ends venue place End = ends venue place.ordinal place.number
 MayCarry carries ends venue place Other = carries venue place.ordinal place.number Other
-MayCarry carries ends venue place (Quote quote) = carries venue place.ordinal place.number (Quote quote)
-MayCarry carries ends venue place (Halt symbol halted) = carries venue place.ordinal place.number (Halt symbol halted)
+MayCarry carries ends venue place (Quote quote) =
+    carries venue place.ordinal place.number (Quote quote)
+MayCarry carries ends venue place (Halt symbol halted) =
+    carries venue place.ordinal place.number (Halt symbol halted)
 
 -- each item has the number of its place and may be carried there
-abbrev pub Continues : (ℕ → ℕ → ℕ → Item → Type 0) → (ℕ → ℕ → ℕ → Type 0) → ℕ → Place → List Numbered → Type 0
+abbrev pub Continues : Carries → Ends → ℕ → Place → List Numbered → Type 0
 Continues carries ends venue place [] = Unit {0}
-Continues carries ends venue place (x ∷ xs) = (x.number ≡ place.number) × MayCarry carries ends venue place x.item × Continues carries ends venue (place_after place x.item) xs
+Continues carries ends venue place (x ∷ xs) =
+    (x.number ≡ place.number)
+    × MayCarry carries ends venue place x.item
+    × Continues carries ends venue (place_after place x.item) xs
 
--- The rule of a venue's items: the numbers are 1, 2 and so on; each item may be carried at its number in the present
--- session; after End the next number is 1, in the next session; and nothing else follows End.
-abbrev pub IsInSequence : (ℕ → ℕ → ℕ → Item → Type 0) → (ℕ → ℕ → ℕ → Type 0) → ℕ → List Numbered → Type 0
+-- The rule of a venue's items: the numbers are 1, 2 and so on; each item may be carried at its
+-- number in the present session; after End the next number is 1, in the next session; and nothing
+-- else follows End.
+abbrev pub IsInSequence : Carries → Ends → ℕ → List Numbered → Type 0
 IsInSequence carries ends venue items = Continues carries ends venue first_place items

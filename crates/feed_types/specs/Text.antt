@@ -14,11 +14,14 @@ line_letter Recovery = 82
 -- a price in ten-thousandths of a dollar: the whole dollars, a point and four digits
 abbrev pub price_text : ℕ → List ℕ
 price_text price =
-    decimal (price / 10000) ++ codes "." ++ decimal (price / 1000 % 10) ++ decimal (price / 100 % 10) ++ decimal (price / 10 % 10) ++ decimal (price % 10)
+    decimal (price / 10000) ++ codes "."
+    ++ decimal (price / 1000 % 10) ++ decimal (price / 100 % 10)
+    ++ decimal (price / 10 % 10) ++ decimal (price % 10)
 
 -- a side of a national best: the venue, the price and the size
 abbrev pub best_text : Best → List ℕ
-best_text best = decimal best.venue ++ codes ":" ++ price_text best.price ++ codes "x" ++ decimal best.size
+best_text best =
+    decimal best.venue ++ codes ":" ++ price_text best.price ++ codes "x" ++ decimal best.size
 
 abbrev pub side_text : Option Best → List ℕ
 side_text None = codes "none"

@@ -7,8 +7,8 @@ use crate::symbol::SymbolName;
 pub struct FeedConfig<'a> {
     /// The first session of each venue, ten bytes, filled on the right with spaces. 1 to 16 venues.
     pub sessions: &'a [[u8; 10]],
-    /// The symbols whose national best is kept, in the order in which changes are told. At most 4,096,
-    /// each once.
+    /// The symbols whose national best is kept, in the order in which changes are told. At most
+    /// 4,096, each once.
     pub symbols: &'a [SymbolName],
     /// How many messages past the last item sent a venue holds, 1 to 65,535.
     pub window: u32,

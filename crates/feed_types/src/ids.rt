@@ -7,7 +7,7 @@ use std::fmt;
 use std::marker::Model;
 
 /// One of up to 16 venues (exchanges), counted from 0 in the order of the configuration.
-#[derive(Clone, Copy, Debug, PartialEq, Eq, PartialOrd, Ord, Hash)]
+#[derive(Clone, Copy, Debug, Default, PartialEq, Eq, PartialOrd, Ord, Hash)]
 pub struct VenueId {
     place: u8,
 }
@@ -31,6 +31,17 @@ impl VenueId {
     {
         if place < 16 {
             Some(VenueId { place })
+        } else {
+            None
+        }
+    }
+
+    /// The venue at this place of a list of venues, or `None` from 16 on.
+    pub const fn from_index(index: usize) -> Option<VenueId>
+        ensures { SomeIff result (index < 16) index }
+    {
+        if index < 16 {
+            Some(VenueId { place: index as u8 })
         } else {
             None
         }

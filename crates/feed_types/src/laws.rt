@@ -1,18 +1,44 @@
-//! What follows from the rule of a venue's items.
+//! What follows from the definitions.
 
-ghost use Rattle.std.specs.Prelude.{◌≡◌, ℕ, List, [], ◌∷◌, ◌++◌};
-ghost use Rattle.feed_types.specs.declared.item.Item.{Item};
+ghost use Rattle.std.specs.Prelude.{◌≡◌, ℕ, List, [], ◌∷◌, ◌++◌, IsTrue};
 ghost use Rattle.feed_types.specs.declared.item.Numbered.{Numbered};
-ghost use Rattle.feed_types.specs.Sequence.{Place, first_place, place_after_all, MayCarry, IsInSequence};
+ghost use Rattle.feed_types.specs.Prefix.{IsPrefix};
+ghost use Rattle.feed_types.specs.Sequence.{first_place, place_after, place_after_all, MayCarry, IsInSequence};
+ghost use Rattle.feed_types.specs.Sessions.{Session, Names, whole_sessions};
+ghost use Rattle.feed_types.specs.Symbols.{is_symbol_field, word_of};
 
 use crate::genuine::Genuine;
 
 /// Items in sequence are so at every moment: each prefix of them obeys the rule.
 pub fn every_prefix_is_in_sequence<G: Genuine>()
-    ensures { (venue : ℕ) (xs ys : List Numbered) → IsInSequence G.carries G.ends venue (xs ++ ys) → IsInSequence G.carries G.ends venue xs }
+    ensures { (venue : ℕ) (xs ys : List Numbered) → IsInSequence G.carries G.ends venue (xs ++ ys) →
+        IsInSequence G.carries G.ends venue xs }
 {}
 
-/// One more item keeps the rule where it has the number of its place and may be carried there.
+/// One more item keeps the rule where it has the number of its place and may be carried there, and
+/// the place that follows is the one after it.
 pub fn one_more_in_sequence<G: Genuine>()
-    ensures { (venue : ℕ) (xs : List Numbered) (x : Numbered) → IsInSequence G.carries G.ends venue xs → x.number ≡ (place_after_all first_place xs).number → MayCarry G.carries G.ends venue (place_after_all first_place xs) x.item → IsInSequence G.carries G.ends venue (xs ++ x ∷ []) }
+    ensures rule { (venue : ℕ) (xs : List Numbered) (x : Numbered) →
+        IsInSequence G.carries G.ends venue xs →
+        x.number ≡ (place_after_all first_place xs).number →
+        MayCarry G.carries G.ends venue (place_after_all first_place xs) x.item →
+        IsInSequence G.carries G.ends venue (xs ++ x ∷ []) }
+    ensures place { (xs : List Numbered) (x : Numbered) →
+        place_after_all first_place (xs ++ x ∷ [])
+        ≡ place_after (place_after_all first_place xs) x.item }
+{}
+
+/// Where the lines carry exactly these sessions, items in sequence are the first of the sessions'
+/// items, session by session, each session's End behind it.
+pub fn sequence_is_of_the_sessions<G: Genuine>()
+    ensures { (venue : ℕ) (all : List Session) (xs : List Numbered) →
+        Names G.sessions G.carries G.ends venue all →
+        IsInSequence G.carries G.ends venue xs →
+        IsPrefix xs (whole_sessions all) }
+{}
+
+/// No two symbols have one word.
+pub fn one_symbol_a_word()
+    ensures { (a b : List ℕ) → IsTrue (is_symbol_field a) → IsTrue (is_symbol_field b) →
+        word_of a ≡ word_of b → a ≡ b }
 {}

@@ -1,11 +1,12 @@
 //! The vocabulary of the feed: what every other crate names in the same words.
 //!
 //! Plain `Copy` values without memory: venues, lines and subscribers, symbols, quotations and the
-//! items of a session, the national best and its notices, and the trait [`Genuine`], which says what
-//! a venue's lines may carry. Each value keeps its range by its type, so no other crate tests it again.
+//! items of a session, the national best and its notices, and the trait [`Genuine`], which says
+//! what a venue's lines may carry. Each value keeps its range by its type, so no other crate tests
+//! it again.
 //!
-//! Contract: what `new`, `from_field` and `from_text` accept is exactly what `specs/` allows, and each
-//! reader gives it back. Begin at `item.rt` for what flows, and at `genuine.rt` with
+//! Contract: what `new`, `from_index`, `from_field` and `from_text` accept is exactly what `specs/`
+//! allows, and each reader gives it back. Begin at `item.rt` for what flows, and at `genuine.rt` with
 //! `specs/Sequence.antt` for the order in which it flows.
 #![tactic(auto)]
 
@@ -25,7 +26,10 @@ pub use genuine::{Anything, Genuine};
 pub use ids::{SubscriberId, VenueId};
 pub use item::{Item, Numbered, Quote};
 pub use journal::{Entry, Notice};
-pub use laws::{every_prefix_is_in_sequence, one_more_in_sequence};
+pub use laws::{
+    every_prefix_is_in_sequence, one_more_in_sequence, one_symbol_a_word,
+    sequence_is_of_the_sessions,
+};
 pub use line::{LineId, Side};
 pub use national::{Best, National, NationalState};
 pub use price::Price;

@@ -1,9 +1,11 @@
 //! Symbols.
 
-ghost use Rattle.std.specs.Prelude.{◌≡◌, IsTrue, Some, length};
+ghost use Rattle.std.specs.Prelude.{◌≡◌, IsTrue, Some, not, ◌||◌, length};
+ghost use Rattle.std.specs.Int.{w64, to_be_bytes};
 ghost use Rattle.std.specs.List.{list_all};
 ghost use Rattle.std.specs.Option.{SomeIff};
-ghost use Rattle.feed_types.specs.Symbols.{is_space, is_name_byte, is_symbol_field, is_symbol_name, name_of, filled};
+ghost use Rattle.feed_types.specs.Symbols.{is_space, is_name_byte, is_symbol_field, is_symbol_name, name_of, filled, word_of};
+ghost use Rattle.feed_types.specs.FieldTests.{may_stand, stays_filled};
 
 use std::fmt;
 use std::marker::Model;
@@ -44,12 +46,6 @@ fn is_name(bytes: &[u8]) -> bool
     !bytes.is_empty() && bytes.len() <= FIELD && is_all_name_bytes(bytes)
 }
 
-fn is_filling(bytes: &[u8]) -> bool
-    ensures { result ≡ list_all is_space bytes.now }
-{
-    bytes.iter().all(|&byte| byte == b' ')
-}
-
 /// How many bytes stand before the first space.
 fn name_len(field: &[u8]) -> usize
     ensures { result ≡ length (name_of field.now) }
@@ -57,14 +53,65 @@ fn name_len(field: &[u8]) -> usize
     field.iter().take_while(|byte| **byte != b' ').count()
 }
 
+/// Whether the byte may stand in a field: printable, or a space.
+#[inline(always)]
+fn is_field_byte(byte: u8) -> bool
+    ensures { result ≡ may_stand byte }
+{
+    b' ' <= byte && byte <= 0x7e
+}
+
+/// Whether one byte may follow another: behind a space there are only spaces.
+#[inline(always)]
+fn may_follow(first: u8, second: u8) -> bool
+    ensures { result ≡ (not (is_space first) || is_space second) }
+{
+    first != b' ' || second == b' '
+}
+
+#[inline(always)]
+fn are_field_bytes(field: &[u8; 8]) -> bool
+    ensures { result ≡ list_all may_stand field.now }
+{
+    is_field_byte(field[0])
+        & is_field_byte(field[1])
+        & is_field_byte(field[2])
+        & is_field_byte(field[3])
+        & is_field_byte(field[4])
+        & is_field_byte(field[5])
+        & is_field_byte(field[6])
+        & is_field_byte(field[7])
+}
+
+#[inline(always)]
+fn end_in_spaces(field: &[u8; 8]) -> bool
+    ensures { result ≡ stays_filled field.now }
+{
+    may_follow(field[0], field[1])
+        & may_follow(field[1], field[2])
+        & may_follow(field[2], field[3])
+        & may_follow(field[3], field[4])
+        & may_follow(field[4], field[5])
+        & may_follow(field[5], field[6])
+        & may_follow(field[6], field[7])
+}
+
+/// Whether the field is a symbol's. Without branches, since each quotation is tested.
+#[inline(always)]
+fn is_field(field: &[u8; 8]) -> bool
+    ensures { result ≡ is_symbol_field field.now }
+{
+    are_field_bytes(field) & end_in_spaces(field) & (field[0] != b' ')
+}
+
 impl SymbolName {
-    /// The symbol of a field of eight bytes, or `None` where the field is none: where no name stands at
-    /// its front, or another byte than a space behind it.
+    /// The symbol of a field of eight bytes, or `None` where the field is none: where no name stands
+    /// at its front, or another byte than a space behind it.
+    #[inline(always)]
     pub fn from_field(field: &[u8; 8]) -> Option<SymbolName>
         ensures { SomeIff result (IsTrue (is_symbol_field field.now)) field.now }
     {
-        let (name, filling) = field.split_at(name_len(field));
-        if is_name(name) && is_filling(filling) {
+        if is_field(field) {
             Some(SymbolName { bytes: *field })
         } else {
             None
@@ -89,6 +136,16 @@ impl SymbolName {
         ensures symbol { IsTrue (is_symbol_field result) }
     {
         self.bytes
+    }
+
+    /// The field as one number, its first byte highest: equal exactly where the symbols are, and in
+    /// their order. As a key it hashes faster than eight bytes do.
+    #[inline(always)]
+    pub fn word(self) -> u64
+        ensures value { result ≡ word_of self }
+        ensures field { to_be_bytes w64 result ≡ self }
+    {
+        u64::from_be_bytes(self.bytes)
     }
 
     /// The name without its filling.

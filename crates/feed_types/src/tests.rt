@@ -48,6 +48,25 @@ fn names_that_are_symbols(rt: HostRuntime) {
     }
 }
 
+#[test]
+fn words_of_symbols(rt: HostRuntime) -> Result<(), Fail> {
+    let acme = SymbolName::from_text(b"ACME").ok_or("a name")?;
+    let acmf = SymbolName::from_text(b"ACMF").ok_or("a name")?;
+    assert_eq!(rt; acme.word(), 0x41434d4520202020);
+    assert!(rt; acme.word() < acmf.word());
+    Ok(())
+}
+
+#[test]
+fn sizes_without_holes(rt: HostRuntime) {
+    assert_eq!(rt; size_of::<Quote>(), 40);
+    assert_eq!(rt; size_of::<Item>(), 48);
+    assert_eq!(rt; size_of::<Numbered>(), 56);
+    assert_eq!(rt; size_of::<Entry>(), 64);
+    assert_eq!(rt; size_of::<Best>(), 16);
+    assert_eq!(rt; size_of::<Notice>(), 72);
+}
+
 fn side(price: u32) -> Option<Best> {
     let venue = VenueId::new(0)?;
     Some(Best {
@@ -92,6 +111,9 @@ fn states(rt: HostRuntime) {
 fn ranges(rt: HostRuntime) {
     assert_eq!(rt; VenueId::new(15).map(|venue| venue.index()), Some(15));
     assert_eq!(rt; VenueId::new(16), None);
+    assert_eq!(rt; VenueId::from_index(15), VenueId::new(15));
+    assert_eq!(rt; VenueId::from_index(16), None);
+    assert_eq!(rt; VenueId::from_index(256), None);
     assert_eq!(rt; SubscriberId::new(31).map(|id| id.index()), Some(31));
     assert_eq!(rt; SubscriberId::new(32), None);
 }

@@ -4,26 +4,26 @@ use Rattle.std.specs.Prelude.{IsOk}
 use Rattle.std.proofs.lemmas.Option.{slice_get_within}
 use Rattle.feed_types.specs.declared.item.Item.{Item}
 use Rattle.feed_types.specs.Sessions.{Session}
+use Rattle.line_arbiter.specs.Packets.{Arrival, end_of, last_of, message_item}
+use Rattle.line_arbiter.specs.Outcomes.{IsPast, Disagrees, ToMessages, ToHeartbeat, ToEnd, ToKind, IsOutcome}
+use Rattle.line_arbiter.specs.OfSession.{IsOfSession}
 use Rattle.mold_packet.specs.declared.packet.Kind.{Kind}
 use Rattle.mold_packet.specs.declared.packet.Kind.TheVariants as kinds
 use Rattle.mold_packet.specs.Content.{Content, IsContent, KindFits}
 use Rattle.line_arbiter.specs.declared.outcome.Outcome.{Outcome}
 use Rattle.line_arbiter.specs.declared.outcome.LineFault.{LineFault}
 use Rattle.line_arbiter.specs.declared.outcome.LineFault.TheVariants.{OtherSession, PastEnd, EndMoved, EndTooEarly, Conflict}
-use Rattle.line_arbiter.specs.Packets.{Arrival, last_of, message_item}
-use Rattle.line_arbiter.specs.Outcomes.{IsPast, Disagrees, ToMessages, ToHeartbeat, ToEnd, ToKind, IsOutcome}
-use Rattle.line_arbiter.specs.Carrying.{IsOfSession}
 use Rattle.line_arbiter.proofs.OfSession.{IsPartOf, taken_within}
 
-module _ (s : Session) (P : List Arrival) (part : IsPartOf s P) where
-  not_past : (p : Content) → IsOfSession s p → 1 ≤ length p.messages → IsPast P (last_of p) → ⊥
+module _ (s : Session) (packets : List Arrival) (part : IsPartOf s packets) where
+  not_past : (p : Content) → IsOfSession s p → 1 ≤ length p.messages → IsPast (end_of packets) (last_of p) → ⊥
   not_past p of some past =
-      let end = part.end past.end past.announced in
+      let end = part.end past.at past.announced in
       let last = slice_get_within s.items (p.number + (length p.messages - 1) - 1) (message_item p (length p.messages - 1)) (of.messages (length p.messages - 1) (omega arith)) in
       let k = past.past in
       omega arith
 
-  agrees : (sent : ℕ) (p : Content) → IsOfSession s p → Disagrees P sent p → ⊥
+  agrees : (sent : ℕ) (p : Content) → IsOfSession s p → Disagrees packets sent p → ⊥
   agrees sent p of other =
       let mine = (part.item (p.number + other.place) other.item other.taken).1 in
       other.differs (same_item other.item (message_item p other.place) (sym mine ∙ of.messages other.place other.in_packet))
@@ -31,7 +31,7 @@ module _ (s : Session) (P : List Arrival) (part : IsPartOf s P) where
       same_item : (x y : Item) → Some x ≡ Some y → x ≡ y
       same_item x y h = cc
 
-  messages_accepted : (window sent : ℕ) (p : Content) (answer : Result Outcome LineFault) → IsOfSession s p → 1 ≤ length p.messages → ToMessages window sent P p answer → IsOk answer
+  messages_accepted : (window sent : ℕ) (p : Content) (answer : Result Outcome LineFault) → IsOfSession s p → 1 ≤ length p.messages → ToMessages window sent packets p answer → IsOk answer
   messages_accepted window sent p (Ok outcome) of some h = refl
   messages_accepted window sent p (Err PastEnd) of some h = absurd (not_past p of some h)
   messages_accepted window sent p (Err Conflict) of some h = absurd (agrees sent p of h.2)
@@ -39,7 +39,7 @@ module _ (s : Session) (P : List Arrival) (part : IsPartOf s P) where
   messages_accepted window sent p (Err EndMoved) of some h = absurd h
   messages_accepted window sent p (Err EndTooEarly) of some h = absurd h
 
-  heartbeat_accepted : (n : ℕ) (answer : Result Outcome LineFault) → n ≤ length s.items + 1 → ToHeartbeat P n answer → IsOk answer
+  heartbeat_accepted : (n : ℕ) (answer : Result Outcome LineFault) → n ≤ length s.items + 1 → ToHeartbeat packets n answer → IsOk answer
   heartbeat_accepted n (Ok outcome) of h = refl
   heartbeat_accepted n (Err PastEnd) of h = let end = part.end h.0 h.1 in let k = h.2 in absurd (omega arith)
   heartbeat_accepted n (Err OtherSession) of h = absurd h
@@ -47,20 +47,20 @@ module _ (s : Session) (P : List Arrival) (part : IsPartOf s P) where
   heartbeat_accepted n (Err EndTooEarly) of h = absurd h
   heartbeat_accepted n (Err Conflict) of h = absurd h
 
-  end_accepted : (n : ℕ) (answer : Result Outcome LineFault) → n ≡ length s.items + 1 → ToEnd P n answer → IsOk answer
+  end_accepted : (n : ℕ) (answer : Result Outcome LineFault) → n ≡ length s.items + 1 → ToEnd packets n answer → IsOk answer
   end_accepted n (Ok outcome) of h = refl
   end_accepted n (Err EndMoved) of h = absurd (h.2 (part.end h.0 h.1 ∙ sym of))
-  end_accepted n (Err EndTooEarly) of h = let k = taken_within s P part h.1 h.3 in let above = h.2 in absurd (omega arith)
+  end_accepted n (Err EndTooEarly) of h = let k = taken_within s packets part h.1 h.3 in let above = h.2 in absurd (omega arith)
   end_accepted n (Err OtherSession) of h = absurd h
   end_accepted n (Err PastEnd) of h = absurd h
   end_accepted n (Err Conflict) of h = absurd h
 
-  kind_accepted : (kind : Kind) (window sent : ℕ) (p : Content) (answer : Result Outcome LineFault) → p.kind ≡ kind → KindFits kind p.messages → IsOfSession s p → ToKind kind window sent P p answer → IsOk answer
+  kind_accepted : (kind : Kind) (window sent : ℕ) (p : Content) (answer : Result Outcome LineFault) → p.kind ≡ kind → KindFits kind p.messages → IsOfSession s p → ToKind kind window sent packets p answer → IsOk answer
   kind_accepted kinds.Messages window sent p answer is fits of h = messages_accepted window sent p answer of fits.0 h
   kind_accepted kinds.Heartbeat window sent p answer is fits of h = heartbeat_accepted p.number answer (of.heartbeat is) h
   kind_accepted kinds.End window sent p answer is fits of h = end_accepted p.number answer (of.end is) h
 
-  pub accepted : (window sent : ℕ) (p : Content) (answer : Result Outcome LineFault) → IsContent p → IsOfSession s p → IsOutcome s.name window sent P p answer → IsOk answer
+  pub accepted : (window sent : ℕ) (p : Content) (answer : Result Outcome LineFault) → IsContent p → IsOfSession s p → IsOutcome s.name window sent packets p answer → IsOk answer
   accepted window sent p answer content of h = elim h [
     | inl other ↦ absurd (other.0 of.name)
     | inr same ↦ kind_accepted p.kind window sent p answer refl content.fits of same.1

@@ -1,9 +1,8 @@
 -- A genuine packet that was answered as it should be is a genuine arrival.
 use Rattle.std.proofs.Common.{◌≡◌, ℕ, true, List, [], ◌∷◌, ◌++◌, Result, Ok, Err, refl, inl, inr}
 use Rattle.std.specs.Prelude.{IsOk}
+use Rattle.std.specs.List.{AllByRecursion}
 use Rattle.std.proofs.lemmas.Bool.{false≢true}
-use Rattle.feed_types.specs.declared.item.Item.{Item}
-use Rattle.feed_types.specs.declared.line.LineId.{LineId}
 use Rattle.mold_packet.specs.declared.packet.Kind.{Kind}
 use Rattle.mold_packet.specs.declared.packet.Kind.TheVariants as kinds
 use Rattle.mold_packet.specs.Content.{Content}
@@ -11,34 +10,36 @@ use Rattle.line_arbiter.specs.declared.outcome.Outcome.{Outcome}
 use Rattle.line_arbiter.specs.declared.outcome.Outcome.TheVariants.{Taken, Heartbeat, Ended, Ahead}
 use Rattle.line_arbiter.specs.declared.outcome.LineFault.{LineFault}
 use Rattle.line_arbiter.specs.declared.outcome.LineFault.TheVariants.{OtherSession}
-use Rattle.line_arbiter.specs.Packets.{Arrival, is_ended}
+use Rattle.feed_types.specs.Sequence.{Carries, Ends}
+use Rattle.line_arbiter.specs.Packets.{Arrival, is_ended, is_taken}
+use Rattle.line_arbiter.specs.Answered.{IsAnswered}
 use Rattle.line_arbiter.specs.Outcomes.{ToMessages, ToHeartbeat, ToKind, IsOutcome}
-use Rattle.line_arbiter.specs.Carrying.{IsGenuineAt, IsGenuineArrival, AreGenuine}
+use Rattle.line_arbiter.specs.Genuine.{IsGenuineAt, IsGenuineArrival, AreGenuine}
 
 -- only an end of session is answered Ended
-messages_unended : (window sent : ℕ) (P : List Arrival) (p : Content) (answer : Result Outcome LineFault) → ToMessages window sent P p answer → is_ended answer ≡ true → ⊥
-messages_unended window sent P p (Ok Ended) h e = h
-messages_unended window sent P p (Ok Heartbeat) h e = false≢true e
-messages_unended window sent P p (Ok Ahead) h e = false≢true e
-messages_unended window sent P p (Ok (Taken new repeated)) h e = false≢true e
-messages_unended window sent P p (Err fault) h e = false≢true e
+messages_unended : (window sent : ℕ) (packets : List Arrival) (p : Content) (answer : Result Outcome LineFault) → ToMessages window sent packets p answer → is_ended answer ≡ true → ⊥
+messages_unended window sent packets p (Ok Ended) h e = h
+messages_unended window sent packets p (Ok Heartbeat) h e = false≢true e
+messages_unended window sent packets p (Ok Ahead) h e = false≢true e
+messages_unended window sent packets p (Ok (Taken new repeated)) h e = false≢true e
+messages_unended window sent packets p (Err fault) h e = false≢true e
 
-heartbeat_unended : (P : List Arrival) (n : ℕ) (answer : Result Outcome LineFault) → ToHeartbeat P n answer → is_ended answer ≡ true → ⊥
-heartbeat_unended P n (Ok Ended) h e = h
-heartbeat_unended P n (Ok Heartbeat) h e = false≢true e
-heartbeat_unended P n (Ok Ahead) h e = false≢true e
-heartbeat_unended P n (Ok (Taken new repeated)) h e = false≢true e
-heartbeat_unended P n (Err fault) h e = false≢true e
+heartbeat_unended : (packets : List Arrival) (n : ℕ) (answer : Result Outcome LineFault) → ToHeartbeat packets n answer → is_ended answer ≡ true → ⊥
+heartbeat_unended packets n (Ok Ended) h e = h
+heartbeat_unended packets n (Ok Heartbeat) h e = false≢true e
+heartbeat_unended packets n (Ok Ahead) h e = false≢true e
+heartbeat_unended packets n (Ok (Taken new repeated)) h e = false≢true e
+heartbeat_unended packets n (Err fault) h e = false≢true e
 
-kind_ended : (kind : Kind) (window sent : ℕ) (P : List Arrival) (p : Content) (answer : Result Outcome LineFault) → ToKind kind window sent P p answer → is_ended answer ≡ true → kind ≡ kinds.End
-kind_ended kinds.Messages window sent P p answer h e = absurd (messages_unended window sent P p answer h e)
-kind_ended kinds.Heartbeat window sent P p answer h e = absurd (heartbeat_unended P p.number answer h e)
-kind_ended kinds.End window sent P p answer h e = refl
+kind_ended : (kind : Kind) (window sent : ℕ) (packets : List Arrival) (p : Content) (answer : Result Outcome LineFault) → ToKind kind window sent packets p answer → is_ended answer ≡ true → kind ≡ kinds.End
+kind_ended kinds.Messages window sent packets p answer h e = absurd (messages_unended window sent packets p answer h e)
+kind_ended kinds.Heartbeat window sent packets p answer h e = absurd (heartbeat_unended packets p.number answer h e)
+kind_ended kinds.End window sent packets p answer h e = refl
 
-ended_is_end : (session : List ℕ) (window sent : ℕ) (P : List Arrival) (p : Content) (answer : Result Outcome LineFault) → IsOutcome session window sent P p answer → is_ended answer ≡ true → p.kind ≡ kinds.End
-ended_is_end session window sent P p answer h e = elim h [
+ended_is_end : (session : List ℕ) (window sent : ℕ) (packets : List Arrival) (p : Content) (answer : Result Outcome LineFault) → IsOutcome session window sent packets p answer → is_ended answer ≡ true → p.kind ≡ kinds.End
+ended_is_end session window sent packets p answer h e = elim h [
   | inl other ↦ absurd (refused answer other.1 e)
-  | inr same ↦ kind_ended p.kind window sent P p answer same.1 e
+  | inr same ↦ kind_ended p.kind window sent packets p answer same.1 e
 ]
   where
     refused : (r : Result Outcome LineFault) → r ≡ Err OtherSession → is_ended r ≡ true → ⊥
@@ -46,8 +47,8 @@ ended_is_end session window sent P p answer h e = elim h [
     refused (Err fault) is e = false≢true e
 
 -- only a packet of the session is answered with an outcome
-accepted_is_of_session : (session : List ℕ) (window sent : ℕ) (P : List Arrival) (p : Content) (answer : Result Outcome LineFault) → IsOutcome session window sent P p answer → IsOk answer → p.session ≡ session
-accepted_is_of_session session window sent P p answer h ok = elim h [
+accepted_is_of_session : (session : List ℕ) (window sent : ℕ) (packets : List Arrival) (p : Content) (answer : Result Outcome LineFault) → IsOutcome session window sent packets p answer → IsOk answer → p.session ≡ session
+accepted_is_of_session session window sent packets p answer h ok = elim h [
   | inl other ↦ absurd (refused answer other.1 ok)
   | inr same ↦ same.0
 ]
@@ -56,18 +57,29 @@ accepted_is_of_session session window sent P p answer h ok = elim h [
     refused (Ok outcome) is ok = cc
     refused (Err fault) is ok = false≢true ok
 
-module _ (carries : ℕ → ℕ → ℕ → Item → Type 0) (ends : ℕ → ℕ → ℕ → Type 0) (venue ordinal : ℕ) where
-  genuine_arrival : (session : List ℕ) (window sent : ℕ) (P : List Arrival) (line : LineId) (p : Content) (answer : Result Outcome LineFault) → (p.session ≡ session → IsGenuineAt carries ends venue ordinal p) → IsOutcome session window sent P p answer → IsGenuineArrival carries ends venue ordinal (record { line = line; packet = p; answer = answer })
-  genuine_arrival session window sent P line p answer genuine h = record {
-    genuine = λ ok. genuine (accepted_is_of_session session window sent P p answer h ok);
-    ended = ended_is_end session window sent P p answer h;
+taken_ok : (r : Result Outcome LineFault) → is_taken r ≡ true → IsOk r
+taken_ok (Ok outcome) h = refl
+taken_ok (Err fault) h = absurd (false≢true h)
+
+ended_ok : (r : Result Outcome LineFault) → is_ended r ≡ true → IsOk r
+ended_ok (Ok outcome) h = refl
+ended_ok (Err fault) h = absurd (false≢true h)
+
+pub all_push : {X : Type 0} (Q : X → Type 0) (xs : List X) (x : X) → AllByRecursion Q xs → Q x → AllByRecursion Q (xs ++ x ∷ [])
+all_push Q [] x all one = (one, tt)
+all_push Q (y ∷ xs) x all one = (all.0, all_push Q xs x all.1 one)
+
+module _ (carries : Carries) (ends : Ends) (venue ordinal : ℕ) where
+  genuine_arrival : (session : List ℕ) (window : ℕ) (packets : List Arrival) (a : Arrival) → (a.packet.session ≡ session → IsGenuineAt carries ends venue ordinal a.packet) → IsAnswered session window packets a → IsGenuineArrival carries ends venue ordinal a
+  genuine_arrival session window packets a genuine right = record {
+    taken = λ h. (genuine (accepted_is_of_session session window right.sent packets a.packet a.answer right.outcome (taken_ok a.answer h))).messages;
+    ended = λ h.
+        (genuine (accepted_is_of_session session window right.sent packets a.packet a.answer right.outcome (ended_ok a.answer h))).end
+        (ended_is_end session window right.sent packets a.packet a.answer right.outcome h);
   }
 
-  AreGenuine-push : (P : List Arrival) (a : Arrival) → AreGenuine carries ends venue ordinal P → IsGenuineArrival carries ends venue ordinal a → AreGenuine carries ends venue ordinal (P ++ a ∷ [])
-  AreGenuine-push [] a all one = (one, tt)
-  AreGenuine-push (b ∷ P) a all one = (all.0, AreGenuine-push P a all.1 one)
-
   -- what was taken stays genuine when a packet comes that is so where it is of the session
-  pub genuine_grows : (window sent : ℕ) (session : List ℕ) (P : List Arrival) (line : LineId) (p : Content) (answer : Result Outcome LineFault) → AreGenuine carries ends venue ordinal P → (p.session ≡ session → IsGenuineAt carries ends venue ordinal p) → IsOutcome session window sent P p answer
-      → AreGenuine carries ends venue ordinal (P ++ record { line = line; packet = p; answer = answer } ∷ [])
-  genuine_grows window sent session P line p answer all genuine h = AreGenuine-push P (record { line = line; packet = p; answer = answer }) all (genuine_arrival session window sent P line p answer genuine h)
+  pub genuine_grows : (window : ℕ) (session : List ℕ) (packets : List Arrival) (a : Arrival) → AreGenuine carries ends venue ordinal packets → (a.packet.session ≡ session → IsGenuineAt carries ends venue ordinal a.packet) → IsAnswered session window packets a
+      → AreGenuine carries ends venue ordinal (packets ++ a ∷ [])
+  genuine_grows window session packets a all genuine right =
+      all_push (IsGenuineArrival carries ends venue ordinal) packets a all (genuine_arrival session window packets a genuine right)

@@ -9,10 +9,11 @@ use Rattle.mold_packet.specs.Content.{Content}
 use Rattle.line_arbiter.specs.declared.outcome.LineFault.{LineFault}
 use Rattle.line_arbiter.specs.Packets.{Arrival, carried, end_of, has_number, heard, is_ended, is_taken, item_at, known_of, last_of}
 use Rattle.line_arbiter.specs.Streams.{wins_of}
-use Rattle.line_arbiter.specs.Outcomes.{new_count}
+use Rattle.line_arbiter.specs.Outcomes.{new_count, IsBefore}
 use Rattle.line_arbiter.specs.Holding.{held_at, put_all}
-use Rattle.line_arbiter.specs.States.{Counts, State, count_on, held_of, shown}
-use Rattle.line_arbiter.specs.Steps.{IsBefore, TakesIn, raised}
+use Rattle.line_arbiter.specs.Counts.{Counts, count_on, shown}
+use Rattle.line_arbiter.specs.States.{State, held_of}
+use Rattle.line_arbiter.specs.Steps.{TakesIn, raised}
 use Rattle.line_arbiter.proofs.Standing.{Stands}
 use Rattle.line_arbiter.proofs.LineCounts.{wins_of-untaken, wins_counted}
 use Rattle.line_arbiter.proofs.Options.{IsSome-or, IsSome-unless}
@@ -21,17 +22,17 @@ use Rattle.line_arbiter.proofs.Cursors.{cursor, length-stream, stream_len}
 use Rattle.line_arbiter.proofs.Fronts.{not_in}
 
 -- a packet that is not taken and ends nothing is at most heard of
-pub fits_heard : (s : State) (P : List Arrival) (a : Arrival) → is_taken a.answer ≡ false → is_ended a.answer ≡ false → Stands s P → Stands (record s { known = raised s.known s.end (heard a) }) (P ++ a ∷ [])
-fits_heard s P a untaken unended fits = record {
+pub fits_heard : (s : State) (packets : List Arrival) (a : Arrival) → is_taken a.answer ≡ false → is_ended a.answer ≡ false → Stands s packets → Stands (record s { known = raised s.known s.end (heard a) }) (packets ++ a ∷ [])
+fits_heard s packets a untaken unended fits = record {
   front = record {
-    all = λ m h k. rw (carried_same P a m untaken) (fits.front.all m h k);
-    next = carried_same P a (s.front + 1) untaken ∙ fits.front.next;
+    all = λ m h k. rw (carried_same packets a m untaken) (fits.front.all m h k);
+    next = carried_same packets a (s.front + 1) untaken ∙ fits.front.next;
   };
-  known = ap (λ (k : ℕ). raised k s.end (heard a)) fits.known ∙ ap (λ (o : Option ℕ). raised (known_of P) o (heard a)) fits.end ∙ sym (known-push P a unended);
-  end = fits.end ∙ sym (end_same P a unended);
-  sent = rw (stream_len P (P ++ a ∷ []) s.front (end_same P a unended)) fits.sent;
-  held = λ m. fits.held m ∙ ap (λ (o : Option Item). if nat_le m s.sent then None else o) (sym (carried_same P a m untaken));
-  wins = λ line. fits.wins line ∙ ap (λ (n : ℕ). shown (count_on line s.earlier + n)) (sym (wins_of-untaken P a line untaken));
+  known = ap (λ (k : ℕ). raised k s.end (heard a)) fits.known ∙ ap (λ (o : Option ℕ). raised (known_of packets) o (heard a)) fits.end ∙ sym (known-push packets a unended);
+  end = fits.end ∙ sym (end_same packets a unended);
+  sent = rw (stream_len packets (packets ++ a ∷ []) s.front (end_same packets a unended)) fits.sent;
+  held = λ m. fits.held m ∙ ap (λ (o : Option Item). if nat_le m s.sent then None else o) (sym (carried_same packets a m untaken));
+  wins = λ line. fits.wins line ∙ ap (λ (n : ℕ). shown (count_on line s.earlier + n)) (sym (wins_of-untaken packets a line untaken));
 }
 
 unheard : (k : ℕ) (o : Option ℕ) → raised k o 0 ≡ k
@@ -39,10 +40,10 @@ unheard k None = omega arith
 unheard k (Some e) = refl
 
 -- a refused packet leaves the state, and stands in the list
-pub fits_refused : (s new : State) (P : List Arrival) (line : LineId) (p : Content) (e : LineFault) → new ≡ s → Stands s P → Stands new (P ++ record { line = line; packet = p; answer = Err e } ∷ [])
-fits_refused s new P line p e same fits =
-    let F : State → Type 0 = λ x. Stands x (P ++ record { line = line; packet = p; answer = Err e } ∷ []) in
-    subst F (sym same) (subst (λ (k : ℕ). Stands (record s { known = k }) (P ++ record { line = line; packet = p; answer = Err e } ∷ [])) (unheard s.known s.end) (fits_heard s P (record { line = line; packet = p; answer = Err e }) refl refl fits))
+pub fits_refused : (s new : State) (packets : List Arrival) (line : LineId) (p : Content) (e : LineFault) → new ≡ s → Stands s packets → Stands new (packets ++ record { line = line; packet = p; answer = Err e } ∷ [])
+fits_refused s new packets line p e same fits =
+    let F : State → Type 0 = λ x. Stands x (packets ++ record { line = line; packet = p; answer = Err e } ∷ []) in
+    subst F (sym same) (subst (λ (k : ℕ). Stands (record s { known = k }) (packets ++ record { line = line; packet = p; answer = Err e } ∷ [])) (unheard s.known s.end) (fits_heard s packets (record { line = line; packet = p; answer = Err e }) refl refl fits))
 
 -- the map after a packet was taken in holds what is carried past `sent`
 taken_held : (sent m : ℕ) (p : Content) (o : Option Item) → put_all sent p (if nat_le m sent then None else o) m ≡ (if nat_le m sent then None else option_or o (if has_number p m then Some (item_at p m) else None))
@@ -67,46 +68,46 @@ taken_held sent m p o =
     before : (sent m : ℕ) (p : Content) → m ≤ sent → put_all sent p None m ≡ None
     before sent m p le = let t : nat_lt sent m ≡ false = le-ltb sent m le in ap (λ (b : Bool). if b && has_number p m then Some (item_at p m) else None) t
 
-pub fits_taken : (fresh : ℕ) (old new : State) (P : List Arrival) (a : Arrival) → 1 ≤ a.packet.number → fresh ≡ new_count P a.packet → is_taken a.answer ≡ true → is_ended a.answer ≡ false → heard a ≡ last_of a.packet → IsBefore old.end (last_of a.packet) → TakesIn a.line fresh old new a.packet → Stands old P → Stands new (P ++ a ∷ [])
-fits_taken fresh old new P a first is_fresh was_taken unended last before by fits =
+pub fits_taken : (fresh : ℕ) (old new : State) (packets : List Arrival) (a : Arrival) → 1 ≤ a.packet.number → fresh ≡ new_count packets a.packet → is_taken a.answer ≡ true → is_ended a.answer ≡ false → heard a ≡ last_of a.packet → IsBefore old.end (last_of a.packet) → TakesIn a.line fresh old new a.packet → Stands old packets → Stands new (packets ++ a ∷ [])
+fits_taken fresh old new packets a first is_fresh was_taken unended last before by fits =
     let sent : new.sent ≡ old.sent = ap (λ (s : State). s.sent) by.others in
     let end : new.end ≡ old.end = ap (λ (s : State). s.end) by.others in
-    let held : (m : ℕ) → held_at (held_of new) m ≡ (if nat_le m old.sent then None else carried (P ++ a ∷ []) m) = λ m.
-    by.held m ∙ ap (λ (o : Option Item). put_all old.sent a.packet o m) (fits.held m) ∙ taken_held old.sent m a.packet (carried P m)
-    ∙ ap (λ (o : Option Item). if nat_le m old.sent then None else o) (sym (carried_more P a m was_taken)) in
+    let held : (m : ℕ) → held_at (held_of new) m ≡ (if nat_le m old.sent then None else carried (packets ++ a ∷ []) m) = λ m.
+    by.held m ∙ ap (λ (o : Option Item). put_all old.sent a.packet o m) (fits.held m) ∙ taken_held old.sent m a.packet (carried packets m)
+    ∙ ap (λ (o : Option Item). if nat_le m old.sent then None else o) (sym (carried_more packets a m was_taken)) in
     record {
       front = record {
         all = λ m one most. elim (cases_lt old.front m) [
-          | inl new_one ↦ IsSome-unless (nat_le m old.sent) (carried (P ++ a ∷ []) m) (subst (λ o. IsSome o) (held m) (by.run m new_one most))
-          | inr old_one ↦ rw (carried_more P a m was_taken) (IsSome-or (carried P m) _ (fits.front.all m one old_one))
+          | inl new_one ↦ IsSome-unless (nat_le m old.sent) (carried (packets ++ a ∷ []) m) (subst (λ o. IsSome o) (held m) (by.run m new_one most))
+          | inr old_one ↦ rw (carried_more packets a m was_taken) (IsSome-or (carried packets m) _ (fits.front.all m one old_one))
         ];
         next = elim (cases_lt old.sent (new.front + 1)) [
           | inl lt ↦
               let out : nat_le (new.front + 1) old.sent ≡ false = lt-leb (new.front + 1) old.sent lt in
-              sym (ap (λ (b : Bool). if b then None else carried (P ++ a ∷ []) (new.front + 1)) out) ∙ sym (held (new.front + 1)) ∙ by.stop
-          | inr le ↦ elim (cursor old P fits) [
+              sym (ap (λ (b : Bool). if b then None else carried (packets ++ a ∷ []) (new.front + 1)) out) ∙ sym (held (new.front + 1)) ∙ by.stop
+          | inr le ↦ elim (cursor old packets fits) [
             | inl within ↦ let k = by.from in absurd (omega arith)
             | inr ended ↦
                 let k = by.from in
                 let same : new.front + 1 ≡ old.front + 1 = let e = ended.0 in omega arith in
                 let above : last_of a.packet < new.front + 1 = let e = before (old.front + 1) (fits.end ∙ ended.1) in omega arith in
-                carried_more P a (new.front + 1) was_taken
-                ∙ ap (λ (o : Option Item). option_or o (if has_number a.packet (new.front + 1) then Some (item_at a.packet (new.front + 1)) else None)) (ap (carried P) same ∙ fits.front.next)
+                carried_more packets a (new.front + 1) was_taken
+                ∙ ap (λ (o : Option Item). option_or o (if has_number a.packet (new.front + 1) then Some (item_at a.packet (new.front + 1)) else None)) (ap (carried packets) same ∙ fits.front.next)
                 ∙ ap (λ (b : Bool). if b then Some (item_at a.packet (new.front + 1)) else None) (not_in a.packet (new.front + 1) above)
           ]
         ];
       };
-      known = by.known ∙ ap (λ (k : ℕ). raised k old.end (last_of a.packet)) fits.known ∙ ap (λ (o : Option ℕ). raised (known_of P) o (last_of a.packet)) fits.end ∙ ap (λ (n : ℕ). raised (known_of P) (end_of P) n) (sym last) ∙ sym (known-push P a unended);
-      end = end ∙ fits.end ∙ sym (end_same P a unended);
+      known = by.known ∙ ap (λ (k : ℕ). raised k old.end (last_of a.packet)) fits.known ∙ ap (λ (o : Option ℕ). raised (known_of packets) o (last_of a.packet)) fits.end ∙ ap (λ (n : ℕ). raised (known_of packets) (end_of packets) n) (sym last) ∙ sym (known-push packets a unended);
+      end = end ∙ fits.end ∙ sym (end_same packets a unended);
       sent = rw sent (elim (cases_lt old.front new.front) [
-        | inl moved ↦ let l = length-stream (P ++ a ∷ []) new.front in elim (cursor old P fits) [ inl within ↦ omega arith | inr ended ↦ let e = ended.0 in omega arith ]
+        | inl moved ↦ let l = length-stream (packets ++ a ∷ []) new.front in elim (cursor old packets fits) [ inl within ↦ omega arith | inr ended ↦ let e = ended.0 in omega arith ]
         | inr stayed ↦
             let same : new.front ≡ old.front = let k = by.from in omega arith in
-            rw (same, stream_len P (P ++ a ∷ []) old.front (end_same P a unended)) fits.sent
+            rw (same, stream_len packets (packets ++ a ∷ []) old.front (end_same packets a unended)) fits.sent
       ]);
-      held = λ m. held m ∙ ap (λ (k : ℕ). if nat_le m k then None else carried (P ++ a ∷ []) m) (sym sent);
+      held = λ m. held m ∙ ap (λ (k : ℕ). if nat_le m k then None else carried (packets ++ a ∷ []) m) (sym sent);
       wins = λ line.
           ap (λ (counts : Counts). count_on line counts) by.wins
-          ∙ wins_counted P a fresh old.wins old.earlier was_taken first is_fresh fits.wins line
-          ∙ ap (λ (s : State). shown (count_on line s.earlier + wins_of (P ++ a ∷ []) line)) (sym by.others);
+          ∙ wins_counted packets a fresh old.wins old.earlier was_taken first is_fresh fits.wins line
+          ∙ ap (λ (s : State). shown (count_on line s.earlier + wins_of (packets ++ a ∷ []) line)) (sym by.others);
     }

@@ -4,9 +4,11 @@ pub mod Counting
 -- the definitions over a list of packets
 pub mod Fronts
 pub mod Bringing
+pub mod StreamGrowth
 pub mod Winning
 -- a window
-pub mod Places
+pub mod Marking
+pub mod Rings
 pub mod Windows
 pub mod Turns
 pub mod Filling
@@ -14,6 +16,7 @@ pub mod Filling
 pub mod Standing
 pub mod Cursors
 pub mod Nexts
+pub mod Ending
 pub mod Gaps
 pub mod HeldCounts
 pub mod LineCounts
@@ -23,9 +26,14 @@ pub mod Growth
 pub mod Answering
 pub mod PacketSteps
 pub mod OneOutcome
+pub mod Passing
+pub mod NameBytes
 -- genuine packets, and the laws
 pub mod Genuine
 pub mod Arrivals
 pub mod OfSession
 pub mod InSequence
 pub mod Accepting
+pub mod Giving
+pub mod Naming
+pub mod Below

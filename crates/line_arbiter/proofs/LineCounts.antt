@@ -8,7 +8,7 @@ use Rattle.feed_types.specs.declared.line.LineId.TheVariants.{A, B, Recovery}
 use Rattle.line_arbiter.specs.Packets.{Arrival, bringer, has_number, is_taken, last_of, top_of}
 use Rattle.line_arbiter.specs.Streams.{is_same_line, wins_of}
 use Rattle.line_arbiter.specs.Outcomes.{new_count}
-use Rattle.line_arbiter.specs.States.{Counts, count_on, shown}
+use Rattle.line_arbiter.specs.Counts.{Counts, count_on, shown}
 use Rattle.line_arbiter.specs.Steps.{counted}
 use Rattle.line_arbiter.proofs.Bringing.{bringer-push, top_of-push}
 use Rattle.line_arbiter.proofs.Counting.{count_same}
@@ -16,12 +16,12 @@ use Rattle.line_arbiter.proofs.Winning.{wins_of-push}
 use Rattle.line_arbiter.proofs.Options.{or_none}
 
 -- a packet that is not taken wins nothing
-pub wins_of-untaken : (P : List Arrival) (a : Arrival) (line : LineId) → is_taken a.answer ≡ false → wins_of (P ++ a ∷ []) line ≡ wins_of P line
-wins_of-untaken P a line untaken =
-    let top : top_of (P ++ a ∷ []) ≡ top_of P = top_of-push P a ∙ ap (λ (b : Bool). if b then max (top_of P) (last_of a.packet) else top_of P) untaken in
-    let same : (m : ℕ) → bringer (P ++ a ∷ []) m ≡ bringer P m = λ m. bringer-push P a m ∙ ap (λ (b : Bool). option_or (bringer P m) (if b && has_number a.packet m then Some a else None)) untaken ∙ or_none (bringer P m) in
-    ap (λ (n : ℕ). count_by (λ m. option_map_or (λ x. is_same_line x.line line) (bringer (P ++ a ∷ []) m) false) (range_with_len 1 n)) top
-    ∙ count_same (λ m. option_map_or (λ x. is_same_line x.line line) (bringer (P ++ a ∷ []) m) false) (λ m. option_map_or (λ x. is_same_line x.line line) (bringer P m) false) 1 (top_of P)
+pub wins_of-untaken : (packets : List Arrival) (a : Arrival) (line : LineId) → is_taken a.answer ≡ false → wins_of (packets ++ a ∷ []) line ≡ wins_of packets line
+wins_of-untaken packets a line untaken =
+    let top : top_of (packets ++ a ∷ []) ≡ top_of packets = top_of-push packets a ∙ ap (λ (b : Bool). if b then max (top_of packets) (last_of a.packet) else top_of packets) untaken in
+    let same : (m : ℕ) → bringer (packets ++ a ∷ []) m ≡ bringer packets m = λ m. bringer-push packets a m ∙ ap (λ (b : Bool). option_or (bringer packets m) (if b && has_number a.packet m then Some a else None)) untaken ∙ or_none (bringer packets m) in
+    ap (λ (n : ℕ). count_by (λ m. option_map_or (λ x. is_same_line x.line line) (bringer (packets ++ a ∷ []) m) false) (range_with_len 1 n)) top
+    ∙ count_same (λ m. option_map_or (λ x. is_same_line x.line line) (bringer (packets ++ a ∷ []) m) false) (λ m. option_map_or (λ x. is_same_line x.line line) (bringer packets m) false) 1 (top_of packets)
     (λ m low high. ap (λ (o : Option Arrival). option_map_or (λ x. is_same_line x.line line) o false) (same m))
 
 count_on-counted : (line other : LineId) (n : ℕ) (counts : Counts) → count_on other (counted line n counts) ≡ (if is_same_line line other then shown (count_on other counts + n) else count_on other counts)
@@ -40,11 +40,11 @@ saturated true earlier before n now e = omega arith
 saturated false earlier before n now e = omega arith
 
 -- a packet that is taken wins for its line what was not taken before
-pub wins_counted : (P : List Arrival) (a : Arrival) (fresh : ℕ) (old earlier : Counts) → is_taken a.answer ≡ true → 1 ≤ a.packet.number → fresh ≡ new_count P a.packet
-    → ((line : LineId) → count_on line old ≡ shown (count_on line earlier + wins_of P line))
-    → (line : LineId) → count_on line (counted a.line fresh old) ≡ shown (count_on line earlier + wins_of (P ++ a ∷ []) line)
-wins_counted P a fresh old earlier was_taken one is now line =
+pub wins_counted : (packets : List Arrival) (a : Arrival) (fresh : ℕ) (old earlier : Counts) → is_taken a.answer ≡ true → 1 ≤ a.packet.number → fresh ≡ new_count packets a.packet
+    → ((line : LineId) → count_on line old ≡ shown (count_on line earlier + wins_of packets line))
+    → (line : LineId) → count_on line (counted a.line fresh old) ≡ shown (count_on line earlier + wins_of (packets ++ a ∷ []) line)
+wins_counted packets a fresh old earlier was_taken one is now line =
     count_on-counted a.line line fresh old
-    ∙ saturated (is_same_line a.line line) (count_on line earlier) (wins_of P line) fresh (count_on line old) (now line)
-    ∙ ap (λ (n : ℕ). shown (count_on line earlier + (wins_of P line + (if is_same_line a.line line then n else 0)))) is
-    ∙ sym (ap (λ (n : ℕ). shown (count_on line earlier + n)) (wins_of-push P a line one ∙ ap (λ (b : Bool). wins_of P line + (if b && is_same_line a.line line then new_count P a.packet else 0)) was_taken))
+    ∙ saturated (is_same_line a.line line) (count_on line earlier) (wins_of packets line) fresh (count_on line old) (now line)
+    ∙ ap (λ (n : ℕ). shown (count_on line earlier + (wins_of packets line + (if is_same_line a.line line then n else 0)))) is
+    ∙ sym (ap (λ (n : ℕ). shown (count_on line earlier + n)) (wins_of-push packets a line one ∙ ap (λ (b : Bool). wins_of packets line + (if b && is_same_line a.line line then new_count packets a.packet else 0)) was_taken))

@@ -10,10 +10,11 @@ use Rattle.std.proofs.lemmas.Option.{slice_get-map, slice_get_past}
 use Rattle.feed_types.specs.declared.item.Item.{Item}
 use Rattle.feed_types.specs.declared.item.Item.TheVariants as items
 use Rattle.line_arbiter.specs.Packets.{Arrival, carried, end_of}
-use Rattle.line_arbiter.specs.Streams.{end_at, numbered, stream_to, wins_of}
+use Rattle.line_arbiter.specs.Streams.{end_at, item_numbered, stream_to, wins_of}
 use Rattle.line_arbiter.specs.Holding.{held_at}
-use Rattle.line_arbiter.specs.States.{State, count_on, held_of, next_from, next_of, shown}
-use Rattle.line_arbiter.specs.Steps.{IsAdvanced, IsSound}
+use Rattle.line_arbiter.specs.States.{State, held_of, next_from, next_of}
+use Rattle.line_arbiter.specs.Counts.{count_on, shown}
+use Rattle.line_arbiter.specs.Steps.{DropsNext, IsSound}
 use Rattle.line_arbiter.proofs.Fronts.{IsFront}
 use Rattle.line_arbiter.proofs.Standing.{Stands}
 use Rattle.line_arbiter.proofs.Cursors.{held_is, end_len, end_most, length-stream}
@@ -33,14 +34,14 @@ range_at a zero i h = absurd (omega arith)
 range_at a (suc n) zero h = ap (λ (k : ℕ). Some k) (omega arith)
 range_at a (suc n) (suc i) h = range_at (a + 1) n i (omega arith) ∙ ap (λ (k : ℕ). Some k) (omega arith)
 
-front_at : (P : List Arrival) (n i : ℕ) → i < n → slice_get (stream_to P n) i ≡ Some (numbered P (i + 1))
-front_at P n i h =
-    get_left (map (numbered P) (range_with_len 1 n)) (end_at (end_of P) (n + 1)) i (omega (arith, length-map-range_with_len (numbered P) 1 n))
-    ∙ slice_get-map (numbered P) (range_with_len 1 n) i ∙ ap (option_map (numbered P)) (range_at 1 n i h)
-    ∙ ap (λ (m : ℕ). Some (numbered P m)) (omega arith)
+front_at : (packets : List Arrival) (n i : ℕ) → i < n → slice_get (stream_to packets n) i ≡ Some (item_numbered packets (i + 1))
+front_at packets n i h =
+    get_left (map (item_numbered packets) (range_with_len 1 n)) (end_at (end_of packets) (n + 1)) i (omega (arith, length-map-range_with_len (item_numbered packets) 1 n))
+    ∙ slice_get-map (item_numbered packets) (range_with_len 1 n) i ∙ ap (option_map (item_numbered packets)) (range_at 1 n i h)
+    ∙ ap (λ (m : ℕ). Some (item_numbered packets m)) (omega arith)
 
-end_comes : (P : List Arrival) (n : ℕ) → slice_get (stream_to P n) n ≡ slice_get (end_at (end_of P) (n + 1)) 0
-end_comes P n = get_right (map (numbered P) (range_with_len 1 n)) (end_at (end_of P) (n + 1)) n (length-map-range_with_len (numbered P) 1 n)
+end_comes : (packets : List Arrival) (n : ℕ) → slice_get (stream_to packets n) n ≡ slice_get (end_at (end_of packets) (n + 1)) 0
+end_comes packets n = get_right (map (item_numbered packets) (range_with_len 1 n)) (end_at (end_of packets) (n + 1)) n (length-map-range_with_len (item_numbered packets) 1 n)
 
 first_if : {X : Type 0} (b : Bool) (x : X) → (if b then Some x else None) ≡ slice_get (if b then x ∷ [] else []) 0
 first_if true x = refl
@@ -55,45 +56,45 @@ from_held : (m : ℕ) (item : Option Item) (o : Option ℕ) → IsSome item → 
 from_held m None o h = absurd cc
 from_held m (Some x) o h = refl
 
-none_from : (o : Option Item) → ((item : Item) → o ≡ Some item → ⊥) → o ≡ None
+pub none_from : (o : Option Item) → ((item : Item) → o ≡ Some item → ⊥) → o ≡ None
 none_from None h = refl
 none_from (Some x) h = absurd (h x refl)
 
-past_end : (m e : ℕ) → e < m → next_from m None (Some e) ≡ None
+pub past_end : (m e : ℕ) → e < m → next_from m None (Some e) ≡ None
 past_end m e h = let no : (e == m) ≡ false = ne_eqb e m (λ same. omega arith) in ap (λ (b : Bool). if b then Some (record { number = m; item = items.End }) else None) no
 
-pub next_is : (s : State) (P : List Arrival) → IsSound s → Stands s P → next_of s ≡ slice_get (stream_to P s.front) s.sent
-next_is s P sound fits =
+pub next_is : (s : State) (packets : List Arrival) → IsSound s → Stands s packets → next_of s ≡ slice_get (stream_to packets s.front) s.sent
+next_is s packets sound fits =
     elim (cases_lt s.sent s.front) [
       | inl lt ↦
-          ap (λ o. next_from (s.sent + 1) o s.end) (held_is s P fits (s.sent + 1) (omega arith))
-          ∙ from_held (s.sent + 1) (carried P (s.sent + 1)) s.end (fits.front.all (s.sent + 1) (omega arith) (omega arith))
-          ∙ sym (front_at P s.front s.sent lt)
+          ap (λ o. next_from (s.sent + 1) o s.end) (held_is s packets fits (s.sent + 1) (omega arith))
+          ∙ from_held (s.sent + 1) (carried packets (s.sent + 1)) s.end (fits.front.all (s.sent + 1) (omega arith) (omega arith))
+          ∙ sym (front_at packets s.front s.sent lt)
       | inr le ↦ elim (cases_lt s.front s.sent) [
         | inl past ↦
-            let len = length-stream P s.front in
-            let some : end_of P ≡ Some (s.front + 1) = let k = fits.sent in end_len (end_of P) (s.front + 1) (omega arith) in
-            let sent : s.sent ≡ s.front + 1 = let k = fits.sent in omega (arith, end_most (end_of P) (s.front + 1)) in
+            let len = length-stream packets s.front in
+            let some : end_of packets ≡ Some (s.front + 1) = let k = fits.sent in end_len (end_of packets) (s.front + 1) (omega arith) in
+            let sent : s.sent ≡ s.front + 1 = let k = fits.sent in omega (arith, end_most (end_of packets) (s.front + 1)) in
             let none : held_at (held_of s) (s.sent + 1) ≡ None = none_from (held_at (held_of s) (s.sent + 1)) (λ item is. let k = sound.before_end (s.front + 1) (s.sent + 1) item (fits.end ∙ some) is in omega arith) in
             ap (λ o. next_from (s.sent + 1) o s.end) none
             ∙ ap (λ o. next_from (s.sent + 1) None o) (fits.end ∙ some)
             ∙ past_end (s.sent + 1) (s.front + 1) (omega arith)
-            ∙ sym (slice_get_past (stream_to P s.front) s.sent (omega (arith, end_most (end_of P) (s.front + 1))))
+            ∙ sym (slice_get_past (stream_to packets s.front) s.sent (omega (arith, end_most (end_of packets) (s.front + 1))))
         | inr le2 ↦
             let same : s.sent ≡ s.front = omega arith in
             ap (λ (k : ℕ). next_from (k + 1) (held_at (held_of s) (k + 1)) s.end) same
-            ∙ ap (λ o. next_from (s.front + 1) o s.end) (held_is s P fits (s.front + 1) (omega arith) ∙ fits.front.next)
+            ∙ ap (λ o. next_from (s.front + 1) o s.end) (held_is s packets fits (s.front + 1) (omega arith) ∙ fits.front.next)
             ∙ from_end s.end (s.front + 1)
             ∙ ap (λ o. slice_get (end_at o (s.front + 1)) 0) fits.end
-            ∙ sym (end_comes P s.front)
-            ∙ ap (slice_get (stream_to P s.front)) (sym same)
+            ∙ sym (end_comes packets s.front)
+            ∙ ap (slice_get (stream_to packets s.front)) (sym same)
       ]
     ]
 
 -- the next item is one of the stream
-pub ready_within : (s : State) (P : List Arrival) → IsSound s → Stands s P → IsSome (next_of s) → s.sent + 1 ≤ length (stream_to P s.front)
-ready_within s P sound fits ready =
-    slice_get_some (stream_to P s.front) s.sent (subst (λ o. IsSome o) (next_is s P sound fits) ready)
+pub ready_within : (s : State) (packets : List Arrival) → IsSound s → Stands s packets → IsSome (next_of s) → s.sent + 1 ≤ length (stream_to packets s.front)
+ready_within s packets sound fits ready =
+    slice_get_some (stream_to packets s.front) s.sent (subst (λ o. IsSome o) (next_is s packets sound fits) ready)
   where
     slice_get_some : {X : Type 0} (xs : List X) (i : ℕ) → IsSome (slice_get xs i) → i + 1 ≤ length xs
     slice_get_some [] i h = absurd cc
@@ -103,14 +104,14 @@ ready_within s P sound fits ready =
 one_further : {X : Type 0} (m n : ℕ) (x : Option X) → (if nat_eq m (n + 1) then None else (if nat_le m n then None else x)) ≡ (if nat_le m (n + 1) then None else x)
 one_further m n x = grind (arith, nat_tests)
 
-pub advance_fits : (old new : State) (P : List Arrival) → IsSound old → IsSome (next_of old) → IsAdvanced old new → Stands old P → Stands new P
-advance_fits old new P sound ready by fits =
+pub advance_fits : (old new : State) (packets : List Arrival) → IsSound old → IsSome (next_of old) → DropsNext old new → Stands old packets → Stands new packets
+advance_fits old new packets sound ready by fits =
     let front : new.front ≡ old.front = ap (λ (s : State). s.front) by.others in
     record {
-      front = subst (λ (n : ℕ). IsFront P n) (sym front) fits.front;
+      front = subst (λ (n : ℕ). IsFront packets n) (sym front) fits.front;
       known = ap (λ (s : State). s.known) by.others ∙ fits.known;
       end = ap (λ (s : State). s.end) by.others ∙ fits.end;
-      sent = rw (by.sent, front) (ready_within old P sound fits ready);
-      held = λ m. by.held m ∙ ap (λ (x : Option Item). if nat_eq m (old.sent + 1) then None else x) (fits.held m) ∙ one_further m old.sent (carried P m) ∙ ap (λ (k : ℕ). if nat_le m k then None else carried P m) (sym by.sent);
-      wins = λ line. ap (λ (s : State). count_on line s.wins) by.others ∙ fits.wins line ∙ ap (λ (s : State). shown (count_on line s.earlier + wins_of P line)) (sym by.others);
+      sent = rw (by.sent, front) (ready_within old packets sound fits ready);
+      held = λ m. by.held m ∙ ap (λ (x : Option Item). if nat_eq m (old.sent + 1) then None else x) (fits.held m) ∙ one_further m old.sent (carried packets m) ∙ ap (λ (k : ℕ). if nat_le m k then None else carried packets m) (sym by.sent);
+      wins = λ line. ap (λ (s : State). count_on line s.wins) by.others ∙ fits.wins line ∙ ap (λ (s : State). shown (count_on line s.earlier + wins_of packets line)) (sym by.others);
     }

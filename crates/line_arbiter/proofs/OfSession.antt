@@ -9,10 +9,11 @@ use Rattle.std.proofs.lemmas.Option.{slice_get_within}
 use Rattle.feed_types.specs.declared.item.Item.{Item}
 use Rattle.feed_types.specs.declared.item.Item.TheVariants as items
 use Rattle.feed_types.specs.declared.item.Numbered.{Numbered}
-use Rattle.feed_types.specs.Sessions.{Session, IsSessionAt, IsItemAt, Names}
+use Rattle.feed_types.specs.Sessions.{Session, IsSessionAt, IsItemAt, Names, numbered_from}
 use Rattle.line_arbiter.specs.Packets.{Arrival, carried, end_of}
 use Rattle.line_arbiter.specs.Streams.{front_of, end_at, stream_of}
-use Rattle.line_arbiter.specs.Carrying.{AreGenuine, numbered_from, session_stream}
+use Rattle.line_arbiter.specs.Genuine.{AreGenuine}
+use Rattle.line_arbiter.specs.OfSession.{session_stream}
 use Rattle.line_arbiter.proofs.Fronts.{front_is}
 use Rattle.line_arbiter.proofs.Genuine.{some_is, carried_may, end_may}
 
@@ -45,41 +46,41 @@ end_is_last (Some e) front len h =
     tests e front len h = grind (arith, nat_tests)
 
 -- what was taken is the session's: each message the one of its number, and the end the one after the last
-pub record IsPartOf (s : Session) (P : List Arrival) : Type 0 where
-  pub item : (m : ℕ) (item : Item) → carried P m ≡ Some item → IsItemAt s m item
-  pub end : (e : ℕ) → end_of P ≡ Some e → e ≡ length s.items + 1
+pub record IsPartOf (s : Session) (packets : List Arrival) : Type 0 where
+  pub item : (m : ℕ) (item : Item) → carried packets m ≡ Some item → IsItemAt s m item
+  pub end : (e : ℕ) → end_of packets ≡ Some e → e ≡ length s.items + 1
 
-pub part_of : (sessions : ℕ → ℕ → List ℕ → Type 0) (carries : ℕ → ℕ → ℕ → Item → Type 0) (ends : ℕ → ℕ → ℕ → Type 0) (venue ordinal : ℕ) (all : List Session) (s : Session) (P : List Arrival) → Names sessions carries ends venue all → IsSessionAt all ordinal s → AreGenuine carries ends venue ordinal P → IsPartOf s P
-part_of sessions carries ends venue ordinal all s P names at genuine = record {
+pub part_of : (sessions : ℕ → ℕ → List ℕ → Type 0) (carries : ℕ → ℕ → ℕ → Item → Type 0) (ends : ℕ → ℕ → ℕ → Type 0) (venue ordinal : ℕ) (all : List Session) (s : Session) (packets : List Arrival) → Names sessions carries ends venue all → IsSessionAt all ordinal s → AreGenuine carries ends venue ordinal packets → IsPartOf s packets
+part_of sessions carries ends venue ordinal all s packets names at genuine = record {
   item = λ m item is.
-      let found = (names.carried ordinal m item).0 (carried_may carries ends venue ordinal P m item genuine is) in
+      let found = (names.carried ordinal m item).0 (carried_may carries ends venue ordinal packets m item genuine is) in
       subst (λ (t : Session). IsItemAt t m item) (same_session found.0 found.1) found.2;
   end = λ e is.
-      let found = (names.ended ordinal e).0 (end_may carries ends venue ordinal P e genuine is) in
+      let found = (names.ended ordinal e).0 (end_may carries ends venue ordinal packets e genuine is) in
       subst (λ (t : Session). e ≡ length t.items + 1) (same_session found.0 found.1) found.2;
 } where
   same_session : (t : Session) → IsSessionAt all ordinal t → t ≡ s
   same_session t h = let mine : Some t ≡ Some s = sym h.1 ∙ at.1 in cc
 
-module _ (s : Session) (P : List Arrival) (part : IsPartOf s P) where
-  taken_is : (m : ℕ) → IsSome (carried P m) → IsItemAt s m (unwrap_or (carried P m) items.Other)
-  taken_is m h = part.item m (unwrap_or (carried P m) items.Other) (some_is (carried P m) h)
+module _ (s : Session) (packets : List Arrival) (part : IsPartOf s packets) where
+  taken_is : (m : ℕ) → IsSome (carried packets m) → IsItemAt s m (unwrap_or (carried packets m) items.Other)
+  taken_is m h = part.item m (unwrap_or (carried packets m) items.Other) (some_is (carried packets m) h)
 
-  pub taken_within : (m : ℕ) → IsSome (carried P m) → m ≤ length s.items
+  pub taken_within : (m : ℕ) → IsSome (carried packets m) → m ≤ length s.items
   taken_within m h =
-      let lt = slice_get_within s.items (m - 1) (unwrap_or (carried P m) items.Other) (taken_is m h).1 in
+      let lt = slice_get_within s.items (m - 1) (unwrap_or (carried packets m) items.Other) (taken_is m h).1 in
       omega arith
 
-  pub front_within : front_of P ≤ length s.items
-  front_within = elim (cases_lt 0 (front_of P)) [
-    | inl lt ↦ taken_within (front_of P) ((front_is P).all (front_of P) (omega arith) (omega arith))
+  pub front_within : front_of packets ≤ length s.items
+  front_within = elim (cases_lt 0 (front_of packets)) [
+    | inl lt ↦ taken_within (front_of packets) ((front_is packets).all (front_of packets) (omega arith) (omega arith))
     | inr le ↦ omega arith
   ]
 
-  item_in_row : (i : ℕ) → i < front_of P → slice_get s.items i ≡ Some (unwrap_or (carried P (1 + i)) items.Other)
-  item_in_row i lt = ap (slice_get s.items) (omega arith) ∙ (taken_is (1 + i) ((front_is P).all (1 + i) (omega arith) (omega arith))).1
+  item_in_row : (i : ℕ) → i < front_of packets → slice_get s.items i ≡ Some (unwrap_or (carried packets (1 + i)) items.Other)
+  item_in_row i lt = ap (slice_get s.items) (omega arith) ∙ (taken_is (1 + i) ((front_is packets).all (1 + i) (omega arith) (omega arith))).1
 
-  pub stream_is : stream_of P ≡ session_stream s (front_of P) (end_of P)
+  pub stream_is : stream_of packets ≡ session_stream s (front_of packets) (end_of packets)
   stream_is =
-      ap (λ (xs : List Numbered). xs ++ end_at (end_of P) (front_of P + 1)) (numbered_take (λ m. unwrap_or (carried P m) items.Other) s.items 1 (front_of P) item_in_row)
-      ∙ ap (λ (xs : List Numbered). numbered_from 1 (take (front_of P) s.items) ++ xs) (end_is_last (end_of P) (front_of P) (length s.items) part.end)
+      ap (λ (xs : List Numbered). xs ++ end_at (end_of packets) (front_of packets + 1)) (numbered_take (λ m. unwrap_or (carried packets m) items.Other) s.items 1 (front_of packets) item_in_row)
+      ∙ ap (λ (xs : List Numbered). numbered_from 1 (take (front_of packets) s.items) ++ xs) (end_is_last (end_of packets) (front_of packets) (length s.items) part.end)

@@ -8,7 +8,8 @@ use Rattle.mold_packet.specs.Content.{Content}
 use Rattle.line_arbiter.specs.Packets.{has_number, item_at, last_of}
 use Rattle.line_arbiter.specs.Holding.{held_at, put_all}
 use Rattle.line_arbiter.specs.States.{State, held_of}
-use Rattle.line_arbiter.specs.Steps.{IsBefore, IsSound, TakesIn}
+use Rattle.line_arbiter.specs.Outcomes.{IsBefore}
+use Rattle.line_arbiter.specs.Steps.{IsSound, TakesIn}
 
 -- what stands where: found there before, or put in from the packet
 pub record ComesFrom (p : Content) (m : ℕ) (item : Item) : Type 0 where
@@ -52,6 +53,7 @@ sound_after line fresh old new p sound fit before by =
             absurd (omega arith)
       ];
       named = subst (λ (names : List (List ℕ)). 1 ≤ length names) (sym (ap (λ (s : State). s.sessions) by.others)) sound.named;
+      few = subst (λ (names : List (List ℕ)). length names ≤ 64) (sym (ap (λ (s : State). s.sessions) by.others)) sound.few;
     }
 
 -- the item that is sent is held no longer
@@ -59,7 +61,7 @@ passed : (b : Bool) (o : Option Item) (item : Item) → (if b then None else o) 
 passed true o item e = absurd cc
 passed false o item e = e
 
-pub sound_advanced : (old new : State) → IsSound old → new ≡ record old { sent = new.sent; places = new.places } → ((m : ℕ) → held_at (held_of new) m ≡ (if nat_eq m (old.sent + 1) then None else held_at (held_of old) m)) → IsSound new
+pub sound_advanced : (old new : State) → IsSound old → new ≡ record old { sent = new.sent; ring = new.ring } → ((m : ℕ) → held_at (held_of new) m ≡ (if nat_eq m (old.sent + 1) then None else held_at (held_of old) m)) → IsSound new
 sound_advanced old new sound others held =
     let end : new.end ≡ old.end = ap (λ (s : State). s.end) others in
     let front : new.front ≡ old.front = ap (λ (s : State). s.front) others in
@@ -68,4 +70,5 @@ sound_advanced old new sound others held =
       before_end = λ e m item is here. sound.before_end e m item (sym end ∙ is) (passed (nat_eq m (old.sent + 1)) (held_at (held_of old) m) item (sym (held m) ∙ here));
       front_before_end = λ e is. let k = sound.front_before_end e (sym end ∙ is) in omega arith;
       named = subst (λ (names : List (List ℕ)). 1 ≤ length names) (sym (ap (λ (s : State). s.sessions) others)) sound.named;
+      few = subst (λ (names : List (List ℕ)). length names ≤ 64) (sym (ap (λ (s : State). s.sessions) others)) sound.few;
     }

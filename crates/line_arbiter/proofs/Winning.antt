@@ -16,11 +16,11 @@ use Rattle.line_arbiter.proofs.Fronts.{bringer_above}
 
 -- the first to bring the number came on the line
 abbrev is_won : List Arrival → LineId → ℕ → Bool
-is_won P line m = option_map_or (λ a. is_same_line a.line line) (bringer P m) false
+is_won packets line m = option_map_or (λ a. is_same_line a.line line) (bringer packets m) false
 
 -- the packet is the first to bring the number, and came on the line
 abbrev wins_it : List Arrival → Arrival → LineId → ℕ → Bool
-wins_it P a line m = (is_taken a.answer && is_same_line a.line line) && (is_none (bringer P m) && has_number a.packet m)
+wins_it packets a line m = (is_taken a.answer && is_same_line a.line line) && (is_none (bringer packets m) && has_number a.packet m)
 
 and_true : (b : Bool) → (b && true) ≡ b
 and_true true = refl
@@ -34,14 +34,14 @@ counted_once f a None true true s e = let same : f a ≡ (s && true) = e ∙ sym
 counted_once f a None true false s e = let none : (s && false) ≡ false = and_right s false refl in omega (arith, ap one_if none)
 counted_once f a None false h s e = refl
 
-won_once : (P : List Arrival) (a : Arrival) (line : LineId) (m : ℕ) → one_if (is_won (P ++ a ∷ []) line m) ≡ one_if (is_won P line m) + one_if (wins_it P a line m)
-won_once P a line m =
-    ap (λ (o : Option Arrival). one_if (option_map_or (λ (x : Arrival). is_same_line x.line line) o false)) (bringer-push P a m)
-    ∙ counted_once (λ (x : Arrival). is_same_line x.line line) a (bringer P m) (is_taken a.answer) (has_number a.packet m) (is_same_line a.line line) refl
+won_once : (packets : List Arrival) (a : Arrival) (line : LineId) (m : ℕ) → one_if (is_won (packets ++ a ∷ []) line m) ≡ one_if (is_won packets line m) + one_if (wins_it packets a line m)
+won_once packets a line m =
+    ap (λ (o : Option Arrival). one_if (option_map_or (λ (x : Arrival). is_same_line x.line line) o false)) (bringer-push packets a m)
+    ∙ counted_once (λ (x : Arrival). is_same_line x.line line) a (bringer packets m) (is_taken a.answer) (has_number a.packet m) (is_same_line a.line line) refl
 
 -- above the greatest number that was taken nothing is won
-won_to : (P : List Arrival) (line : LineId) (n : ℕ) → top_of P ≤ n → wins_of P line ≡ count_by (is_won P line) (range_with_len 1 n)
-won_to P line n within = count_past (is_won P line) 1 (top_of P) n within (λ m above. ap (λ (o : Option Arrival). option_map_or (λ (x : Arrival). is_same_line x.line line) o false) (bringer_above P 0 m (omega arith)))
+won_to : (packets : List Arrival) (line : LineId) (n : ℕ) → top_of packets ≤ n → wins_of packets line ≡ count_by (is_won packets line) (range_with_len 1 n)
+won_to packets line n within = count_past (is_won packets line) 1 (top_of packets) n within (λ m above. ap (λ (o : Option Arrival). option_map_or (λ (x : Arrival). is_same_line x.line line) o false) (bringer_above packets 0 m (omega arith)))
 
 -- a packet's numbers among those from 1 on
 own_numbers : (q : ℕ → Bool) (p : Content) (n : ℕ) → 1 ≤ p.number → p.number - 1 + length p.messages ≤ n
@@ -60,30 +60,30 @@ no_item f None = refl
 no_item f (Some x) = refl
 
 -- what the packet wins
-won_now : (P : List Arrival) (a : Arrival) (line : LineId) (n : ℕ) → 1 ≤ a.packet.number → a.packet.number - 1 + length a.packet.messages ≤ n
-    → count_by (wins_it P a line) (range_with_len 1 n) ≡ (if is_taken a.answer && is_same_line a.line line then new_count P a.packet else 0)
-won_now P a line n one within = by_test (is_taken a.answer && is_same_line a.line line)
+won_now : (packets : List Arrival) (a : Arrival) (line : LineId) (n : ℕ) → 1 ≤ a.packet.number → a.packet.number - 1 + length a.packet.messages ≤ n
+    → count_by (wins_it packets a line) (range_with_len 1 n) ≡ (if is_taken a.answer && is_same_line a.line line then new_count packets a.packet else 0)
+won_now packets a line n one within = by_test (is_taken a.answer && is_same_line a.line line)
   where
-    by_test : (b : Bool) → count_by (λ m. b && (is_none (bringer P m) && has_number a.packet m)) (range_with_len 1 n) ≡ (if b then new_count P a.packet else 0)
+    by_test : (b : Bool) → count_by (λ m. b && (is_none (bringer packets m) && has_number a.packet m)) (range_with_len 1 n) ≡ (if b then new_count packets a.packet else 0)
     by_test true =
-        own_numbers (λ m. is_none (bringer P m)) a.packet n one within
-        ∙ count_same (λ m. is_none (bringer P m)) (λ m. is_none (carried P m)) a.packet.number (length a.packet.messages) (λ m low high. no_item (λ (x : Arrival). item_at x.packet m) (bringer P m))
+        own_numbers (λ m. is_none (bringer packets m)) a.packet n one within
+        ∙ count_same (λ m. is_none (bringer packets m)) (λ m. is_none (carried packets m)) a.packet.number (length a.packet.messages) (λ m low high. no_item (λ (x : Arrival). item_at x.packet m) (bringer packets m))
     by_test false = count_none (λ m. false) 1 n (λ m low high. refl)
 
-top_within : (P : List Arrival) (a : Arrival) → top_of (P ++ a ∷ []) ≤ top_of P + (a.packet.number - 1 + length a.packet.messages)
-top_within P a = omega (arith, top_of-push P a, pick (is_taken a.answer))
+top_within : (packets : List Arrival) (a : Arrival) → top_of (packets ++ a ∷ []) ≤ top_of packets + (a.packet.number - 1 + length a.packet.messages)
+top_within packets a = omega (arith, top_of-push packets a, pick (is_taken a.answer))
   where
-    pick : (b : Bool) → (if b then max (top_of P) (last_of a.packet) else top_of P) ≤ top_of P + (a.packet.number - 1 + length a.packet.messages)
+    pick : (b : Bool) → (if b then max (top_of packets) (last_of a.packet) else top_of packets) ≤ top_of packets + (a.packet.number - 1 + length a.packet.messages)
     pick true = omega arith
     pick false = omega arith
 
 -- one more packet wins for its line those of its numbers that were not taken before
-pub wins_of-push : (P : List Arrival) (a : Arrival) (line : LineId) → 1 ≤ a.packet.number
-    → wins_of (P ++ a ∷ []) line ≡ wins_of P line + (if is_taken a.answer && is_same_line a.line line then new_count P a.packet else 0)
-wins_of-push P a line one =
-    let n : ℕ = top_of P + (a.packet.number - 1 + length a.packet.messages) in
-    let old = won_to P line n (omega arith) in
-    let new = won_to (P ++ a ∷ []) line n (top_within P a) in
-    let sum = count_sum (is_won (P ++ a ∷ []) line) (is_won P line) (wins_it P a line) 1 n (λ m low high. won_once P a line m) in
-    let now = won_now P a line n one (omega arith) in
+pub wins_of-push : (packets : List Arrival) (a : Arrival) (line : LineId) → 1 ≤ a.packet.number
+    → wins_of (packets ++ a ∷ []) line ≡ wins_of packets line + (if is_taken a.answer && is_same_line a.line line then new_count packets a.packet else 0)
+wins_of-push packets a line one =
+    let n : ℕ = top_of packets + (a.packet.number - 1 + length a.packet.messages) in
+    let old = won_to packets line n (omega arith) in
+    let new = won_to (packets ++ a ∷ []) line n (top_within packets a) in
+    let sum = count_sum (is_won (packets ++ a ∷ []) line) (is_won packets line) (wins_it packets a line) 1 n (λ m low high. won_once packets a line m) in
+    let now = won_now packets a line n one (omega arith) in
     new ∙ sum ∙ omega arith

@@ -3,20 +3,29 @@ use Rattle.std.specs.Prelude.{◌≡◌, ℕ, ◌+◌, ◌≤◌, nat_le, List, 
 use Rattle.feed_types.specs.declared.line.LineId.{LineId}
 use Rattle.line_arbiter.specs.Packets.{Arrival, carried, end_of, known_of}
 use Rattle.line_arbiter.specs.Streams.{front_of, stream_of, held_count, wins_of}
+use Rattle.line_arbiter.specs.Counts.{count_on, shown}
 use Rattle.line_arbiter.specs.Holding.{held_at}
+use Rattle.line_arbiter.specs.States.{State, held_of}
 use Rattle.line_arbiter.specs.declared.arbiter.ArbiterStatus.{ArbiterStatus}
-use Rattle.line_arbiter.specs.States.{State, count_on, shown, held_of}
 
--- The state is that after these packets: its cursors are theirs, it holds what was taken past the last item sent, and each
--- line has won what it brought first, beside what it had won in earlier sessions.
-pub record Fits (s : State) (P : List Arrival) : Type 0 where
-  pub front : s.front ≡ front_of P
-  pub known : s.known ≡ known_of P
-  pub end : s.end ≡ end_of P
-  pub sent : s.sent ≤ length (stream_of P)
-  pub held : (m : ℕ) → held_at (held_of s) m ≡ (if nat_le m s.sent then None else carried P m)
-  pub wins : (line : LineId) → count_on line s.wins ≡ shown (count_on line s.earlier + wins_of P line)
+-- The state is that after these packets: its cursors are theirs, it holds what was taken past the
+-- last item sent, and each line has won what it brought first, beside what it had won in earlier
+-- sessions.
+pub record Fits (s : State) (packets : List Arrival) : Type 0 where
+  pub front : s.front ≡ front_of packets
+  pub known : s.known ≡ known_of packets
+  pub end : s.end ≡ end_of packets
+  pub sent : s.sent ≤ length (stream_of packets)
+  pub held : (m : ℕ) → held_at (held_of s) m ≡ (if nat_le m s.sent then None else carried packets m)
+  pub wins : (line : LineId)
+      → count_on line s.wins ≡ shown (count_on line s.earlier + wins_of packets line)
 
 -- the cursors over these packets, with so many items sent
-abbrev pub status_of : ℕ → List Arrival → ArbiterStatus
-status_of sent P = record { sent = sent; front = front_of P; known = known_of P; end = end_of P; held = held_count sent P }
+abbrev pub cursors_of : ℕ → List Arrival → ArbiterStatus
+cursors_of sent packets = record {
+  sent = sent;
+  front = front_of packets;
+  known = known_of packets;
+  end = end_of packets;
+  held = held_count sent packets;
+}

@@ -1,11 +1,21 @@
+-- the definitions over packets
 pub mod Packets
 pub mod Streams
 pub mod Outcomes
+pub mod Answered
+pub mod Renewals
+pub mod Histories
+pub mod Genuine
+pub mod OfSession
+pub mod Through
+-- an arbiter
+pub mod Counts
+pub mod Marks
 pub mod Holding
 pub mod States
 pub mod Fits
 pub mod Steps
-pub mod Renewals
-pub mod Carrying
+pub mod Inside
+-- requests and printed numbers
 pub mod Pacing
 pub mod Codes

@@ -1,6 +1,6 @@
--- Which answer a packet gets, by cases on the answer: with the session, the window and the number of the last item sent,
--- after the packets that came before. No two answers fit one packet.
-use Rattle.std.specs.Prelude.{◌≡◌, ◌≢◌, ℕ, ◌+◌, ◌<◌, ◌≤◌, List, length, Some, None, IsSome, is_none, Result, Ok, Err, count_by, ◌⊎◌}
+-- Which answer a packet gets, by cases on the answer: with the session, the window and the number
+-- of the last item sent, after the packets that came before. No two answers fit one packet.
+use Rattle.std.specs.Prelude.{◌≡◌, ◌≢◌, ℕ, ◌+◌, ◌<◌, ◌≤◌, List, length, Option, Some, None, IsSome, is_none, Result, Ok, Err, count_by, ◌⊎◌}
 use Rattle.std.specs.List.{range_with_len}
 use Rattle.feed_types.specs.declared.item.Item.{Item}
 use Rattle.mold_packet.specs.declared.packet.Kind.{Kind}
@@ -13,73 +13,85 @@ use Rattle.line_arbiter.specs.declared.outcome.LineFault.TheVariants.{OtherSessi
 use Rattle.line_arbiter.specs.Packets.{Arrival, carried, end_of, last_of, message_item}
 
 -- the end is announced at this number or below it
-pub record IsPast (P : List Arrival) (n : ℕ) : Type 0 where
-  pub end : ℕ
-  pub announced : end_of P ≡ Some end
-  pub past : end ≤ n
+pub record IsPast (end : Option ℕ) (n : ℕ) : Type 0 where
+  pub at : ℕ
+  pub announced : end ≡ Some at
+  pub past : at ≤ n
 
 -- no end is announced at this number or below it
-abbrev pub IsBeforeEnd : List Arrival → ℕ → Type 0
-IsBeforeEnd P n = (end : ℕ) → end_of P ≡ Some end → n < end
+abbrev pub IsBefore : Option ℕ → ℕ → Type 0
+IsBefore end n = (at : ℕ) → end ≡ Some at → n < at
 
 -- a message past the last item sent was taken before, and read as another item
-pub record Disagrees (P : List Arrival) (sent : ℕ) (p : Content) : Type 0 where
+pub record Disagrees (packets : List Arrival) (sent : ℕ) (p : Content) : Type 0 where
   pub place : ℕ
   pub in_packet : place < length p.messages
   pub unsent : sent < p.number + place
   pub item : Item
-  pub taken : carried P (p.number + place) ≡ Some item
+  pub taken : carried packets (p.number + place) ≡ Some item
   pub differs : item ≢ message_item p place
 
 -- none did
 abbrev pub Agrees : List Arrival → ℕ → Content → Type 0
-Agrees P sent p = (k : ℕ) (item : Item) → k < length p.messages → sent < p.number + k → carried P (p.number + k) ≡ Some item → item ≡ message_item p k
+Agrees packets sent p =
+    (k : ℕ) (item : Item) → k < length p.messages → sent < p.number + k
+    → carried packets (p.number + k) ≡ Some item → item ≡ message_item p k
 
 -- how many of the packet's numbers were not taken before
 abbrev pub new_count : List Arrival → Content → ℕ
-new_count P p = count_by (λ m. is_none (carried P m)) (range_with_len p.number (length p.messages))
+new_count packets p =
+    count_by (λ m. is_none (carried packets m)) (range_with_len p.number (length p.messages))
 
 -- the answer to a packet of messages of the session
 abbrev pub ToMessages : ℕ → ℕ → List Arrival → Content → Result Outcome LineFault → Type 0
-ToMessages window sent P p (Err PastEnd) = IsPast P (last_of p)
-ToMessages window sent P p (Ok Ahead) = IsBeforeEnd P (last_of p) × (sent + window < last_of p)
-ToMessages window sent P p (Err Conflict) = IsBeforeEnd P (last_of p) × (last_of p ≤ sent + window) × Disagrees P sent p
-ToMessages window sent P p (Ok (Taken new repeated)) = IsBeforeEnd P (last_of p) × (last_of p ≤ sent + window) × Agrees P sent p × (new ≡ new_count P p) × (new + repeated ≡ length p.messages)
-ToMessages window sent P p (Ok Heartbeat) = ⊥
-ToMessages window sent P p (Ok Ended) = ⊥
-ToMessages window sent P p (Err OtherSession) = ⊥
-ToMessages window sent P p (Err EndMoved) = ⊥
-ToMessages window sent P p (Err EndTooEarly) = ⊥
+ToMessages window sent packets p (Err PastEnd) = IsPast (end_of packets) (last_of p)
+ToMessages window sent packets p (Ok Ahead) =
+    IsBefore (end_of packets) (last_of p) × (sent + window < last_of p)
+ToMessages window sent packets p (Err Conflict) =
+    IsBefore (end_of packets) (last_of p) × (last_of p ≤ sent + window) × Disagrees packets sent p
+ToMessages window sent packets p (Ok (Taken new repeated)) =
+    IsBefore (end_of packets) (last_of p) × (last_of p ≤ sent + window) × Agrees packets sent p
+    × (new ≡ new_count packets p) × (new + repeated ≡ length p.messages)
+ToMessages window sent packets p (Ok Heartbeat) = ⊥
+ToMessages window sent packets p (Ok Ended) = ⊥
+ToMessages window sent packets p (Err OtherSession) = ⊥
+ToMessages window sent packets p (Err EndMoved) = ⊥
+ToMessages window sent packets p (Err EndTooEarly) = ⊥
 
 -- the answer to a heartbeat with this number
 abbrev pub ToHeartbeat : List Arrival → ℕ → Result Outcome LineFault → Type 0
-ToHeartbeat P n (Err PastEnd) = (end : ℕ) × (end_of P ≡ Some end) × (end < n)
-ToHeartbeat P n (Ok Heartbeat) = (end : ℕ) → end_of P ≡ Some end → n ≤ end
-ToHeartbeat P n (Ok Ended) = ⊥
-ToHeartbeat P n (Ok Ahead) = ⊥
-ToHeartbeat P n (Ok (Taken new repeated)) = ⊥
-ToHeartbeat P n (Err OtherSession) = ⊥
-ToHeartbeat P n (Err EndMoved) = ⊥
-ToHeartbeat P n (Err EndTooEarly) = ⊥
-ToHeartbeat P n (Err Conflict) = ⊥
+ToHeartbeat packets n (Err PastEnd) = (end : ℕ) × (end_of packets ≡ Some end) × (end < n)
+ToHeartbeat packets n (Ok Heartbeat) = (end : ℕ) → end_of packets ≡ Some end → n ≤ end
+ToHeartbeat packets n (Ok Ended) = ⊥
+ToHeartbeat packets n (Ok Ahead) = ⊥
+ToHeartbeat packets n (Ok (Taken new repeated)) = ⊥
+ToHeartbeat packets n (Err OtherSession) = ⊥
+ToHeartbeat packets n (Err EndMoved) = ⊥
+ToHeartbeat packets n (Err EndTooEarly) = ⊥
+ToHeartbeat packets n (Err Conflict) = ⊥
 
 -- the answer to an end of session with this number
 abbrev pub ToEnd : List Arrival → ℕ → Result Outcome LineFault → Type 0
-ToEnd P n (Err EndMoved) = (end : ℕ) × (end_of P ≡ Some end) × (end ≢ n)
-ToEnd P n (Err EndTooEarly) = (end_of P ≡ None) × (m : ℕ) × (n ≤ m) × IsSome (carried P m)
-ToEnd P n (Ok Ended) = (end_of P ≡ Some n) ⊎ ((end_of P ≡ None) × ((m : ℕ) → IsSome (carried P m) → m < n))
-ToEnd P n (Ok Heartbeat) = ⊥
-ToEnd P n (Ok Ahead) = ⊥
-ToEnd P n (Ok (Taken new repeated)) = ⊥
-ToEnd P n (Err OtherSession) = ⊥
-ToEnd P n (Err PastEnd) = ⊥
-ToEnd P n (Err Conflict) = ⊥
+ToEnd packets n (Err EndMoved) = (end : ℕ) × (end_of packets ≡ Some end) × (end ≢ n)
+ToEnd packets n (Err EndTooEarly) =
+    (end_of packets ≡ None) × (m : ℕ) × (n ≤ m) × IsSome (carried packets m)
+ToEnd packets n (Ok Ended) =
+    (end_of packets ≡ Some n)
+    ⊎ ((end_of packets ≡ None) × ((m : ℕ) → IsSome (carried packets m) → m < n))
+ToEnd packets n (Ok Heartbeat) = ⊥
+ToEnd packets n (Ok Ahead) = ⊥
+ToEnd packets n (Ok (Taken new repeated)) = ⊥
+ToEnd packets n (Err OtherSession) = ⊥
+ToEnd packets n (Err PastEnd) = ⊥
+ToEnd packets n (Err Conflict) = ⊥
 
 abbrev pub ToKind : Kind → ℕ → ℕ → List Arrival → Content → Result Outcome LineFault → Type 0
-ToKind kinds.Messages window sent P p answer = ToMessages window sent P p answer
-ToKind kinds.Heartbeat window sent P p answer = ToHeartbeat P p.number answer
-ToKind kinds.End window sent P p answer = ToEnd P p.number answer
+ToKind kinds.Messages window sent packets p answer = ToMessages window sent packets p answer
+ToKind kinds.Heartbeat window sent packets p answer = ToHeartbeat packets p.number answer
+ToKind kinds.End window sent packets p answer = ToEnd packets p.number answer
 
 -- the answer to any packet
 abbrev pub IsOutcome : List ℕ → ℕ → ℕ → List Arrival → Content → Result Outcome LineFault → Type 0
-IsOutcome session window sent P p answer = ((p.session ≢ session) × (answer ≡ Err OtherSession)) ⊎ ((p.session ≡ session) × ToKind p.kind window sent P p answer)
+IsOutcome session window sent packets p answer =
+    ((p.session ≢ session) × (answer ≡ Err OtherSession))
+    ⊎ ((p.session ≡ session) × ToKind p.kind window sent packets p answer)

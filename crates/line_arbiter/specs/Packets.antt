@@ -1,5 +1,5 @@
--- What a venue's lines brought: definitions over the list of all packets that were given to its arbiter in the present
--- session, each with its line and its answer.
+-- What a venue's lines brought: definitions over the list of all packets that were given to its
+-- arbiter in the present session, each with its line and its answer.
 use Rattle.std.specs.Prelude.{ℕ, ◌+◌, ◌-◌, Bool, true, false, ◌&&◌, nat_lt, nat_le, List, [], length, fold, max, Option, Result, Ok, Err, find, slice_index_or, if◌then◌else◌}
 use Rattle.std.specs.Option.{option_map, option_map_or}
 use Rattle.feed_types.specs.declared.item.Item.{Item}
@@ -15,6 +15,10 @@ pub record Arrival : Type 0 where
   pub line : LineId
   pub packet : Content
   pub answer : Result Outcome LineFault
+
+-- the packet came on the line, and was answered so
+abbrev pub arrival_of : LineId → Content → Result Outcome LineFault → Arrival
+arrival_of line packet answer = record { line = line; packet = packet; answer = answer }
 
 -- the number of a packet's last message
 abbrev pub last_of : Content → ℕ
@@ -52,19 +56,19 @@ brings m a = is_taken a.answer && has_number a.packet m
 
 -- the first packet that brought a number
 abbrev pub bringer : List Arrival → ℕ → Option Arrival
-bringer P m = find (brings m) P
+bringer packets m = find (brings m) packets
 
 -- the item that was taken at a number: that of the first packet that brought it
 abbrev pub carried : List Arrival → ℕ → Option Item
-carried P m = option_map (λ a. item_at a.packet m) (bringer P m)
+carried packets m = option_map (λ a. item_at a.packet m) (bringer packets m)
 
 -- the greatest number that was taken, 0 where none was
 abbrev pub top_of : List Arrival → ℕ
-top_of P = fold (λ n a. if is_taken a.answer then max n (last_of a.packet) else n) 0 P
+top_of packets = fold (λ n a. if is_taken a.answer then max n (last_of a.packet) else n) 0 packets
 
 -- the announced end: the number of the first end of session that was answered Ended
 abbrev pub end_of : List Arrival → Option ℕ
-end_of P = option_map (λ a. a.packet.number) (find (λ a. is_ended a.answer) P)
+end_of packets = option_map (λ a. a.packet.number) (find (λ a. is_ended a.answer) packets)
 
 -- the number up to which an answered packet shows that there are messages
 abbrev pub heard_by : Content → Result Outcome LineFault → ℕ
@@ -77,6 +81,8 @@ heard_by p (Err fault) = 0
 abbrev pub heard : Arrival → ℕ
 heard a = heard_by a.packet a.answer
 
--- how far the session is known to go: to before the announced end, else to the greatest number heard of
+-- how far the session is known to go: to before the announced end, else to the greatest number
+-- heard of
 abbrev pub known_of : List Arrival → ℕ
-known_of P = option_map_or (λ e. e - 1) (end_of P) (fold (λ k a. max k (heard a)) 0 P)
+known_of packets =
+    option_map_or (λ e. e - 1) (end_of packets) (fold (λ k a. max k (heard a)) 0 packets)

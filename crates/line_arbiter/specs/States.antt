@@ -1,32 +1,15 @@
--- What an arbiter shows.
-use Rattle.std.specs.Prelude.{◌≡◌, ℕ, ◌+◌, ◌==◌, List, [], ◌∷◌, length, Option, Some, None, min, if◌then◌else◌}
+-- What an arbiter is: its venue and sessions, its cursors, and its wins. What it holds is seen
+-- through `held_at` alone.
+use Rattle.std.specs.Prelude.{◌≡◌, ℕ, ◌+◌, ◌==◌, List, [], ◌∷◌, ◌++◌, length, Option, Some, None, if◌then◌else◌}
 use Rattle.feed_types.specs.declared.item.Item.{Item}
 use Rattle.feed_types.specs.declared.item.Item.TheVariants as items
 use Rattle.feed_types.specs.declared.item.Numbered.{Numbered}
-use Rattle.feed_types.specs.declared.line.LineId.{LineId}
-use Rattle.feed_types.specs.declared.line.LineId.TheVariants.{A, B, Recovery}
-use Rattle.line_arbiter.specs.Holding.{Held, held_at}
+use Rattle.line_arbiter.specs.declared.arbiter.ArbiterStatus.{ArbiterStatus}
+use Rattle.line_arbiter.specs.Counts.{Counts, no_counts}
+use Rattle.line_arbiter.specs.Holding.{Held, Ring, held_at}
 
--- a count for each line
-pub record Counts : Type 0 where
-  pub a : ℕ
-  pub b : ℕ
-  pub recovery : ℕ
-
-abbrev pub no_counts : Counts
-no_counts = record { a = 0; b = 0; recovery = 0 }
-
-abbrev pub count_on : LineId → Counts → ℕ
-count_on A counts = counts.a
-count_on B counts = counts.b
-count_on Recovery counts = counts.recovery
-
--- a count that a u64 shows stays at its greatest value once it is there
-abbrev pub shown : ℕ → ℕ
-shown n = min n 18446744073709551615
-
--- sessions are the names of the venue's sessions so far, the present one last; earlier has the wins as they stood when
--- the present session began
+-- sessions are the names of the venue's sessions so far, the present one last; earlier has the wins
+-- as they stood when the present session began
 pub record State : Type 0 where
   pub venue : ℕ
   pub sessions : List (List ℕ)
@@ -36,29 +19,50 @@ pub record State : Type 0 where
   pub front : ℕ
   pub known : ℕ
   pub end : Option ℕ
-  pub places : List (Option Item)
+  pub ring : Ring
   pub wins : Counts
   pub earlier : Counts
-
--- an arbiter that was given nothing
-abbrev pub new_state : ℕ → List ℕ → ℕ → State
-new_state venue session window = record { venue = venue; sessions = session ∷ []; session = session; window = window; sent = 0; front = 0; known = 0; end = None; places = []; wins = no_counts; earlier = no_counts }
 
 -- which session it is: the first has ordinal 1
 abbrev pub ordinal_of : State → ℕ
 ordinal_of s = length s.sessions
 
 abbrev pub held_of : State → Held
-held_of s = record { base = s.sent; width = s.window; places = s.places }
+held_of s = record { base = s.sent; width = s.window; ring = s.ring }
 
 -- the item after the last one sent, if it is there
 abbrev pub next_from : ℕ → Option Item → Option ℕ → Option Numbered
 next_from m (Some item) end = Some (record { number = m; item = item })
 next_from m None None = None
-next_from m None (Some e) = if e == m then Some (record { number = m; item = items.End }) else None
+next_from m None (Some e) =
+    if e == m then Some (record { number = m; item = items.End }) else None
 
 abbrev pub next_of : State → Option Numbered
 next_of s = next_from (s.sent + 1) (held_at (held_of s) (s.sent + 1)) s.end
+
+-- the cursors as a status shows them
+pub record ShowsCursors (s : State) (status : ArbiterStatus) : Type 0 where
+  pub sent : status.sent ≡ s.sent
+  pub front : status.front ≡ s.front
+  pub known : status.known ≡ s.known
+  pub end : status.end ≡ s.end
+
+-- nothing came yet of the present session, which has this name
+pub record HasBegun (s : State) (name : List ℕ) : Type 0 where
+  pub session : s.session ≡ name
+  pub sent : s.sent ≡ 0
+  pub front : s.front ≡ 0
+  pub known : s.known ≡ 0
+  pub end : s.end ≡ None
+
+-- an arbiter that was given nothing
+pub record IsNew (s : State) (place : ℕ) (name : List ℕ) (width : ℕ) : Type 0 where
+  pub begun : HasBegun s name
+  pub venue : s.venue ≡ place
+  pub sessions : s.sessions ≡ name ∷ []
+  pub window : s.window ≡ width
+  pub wins : s.wins ≡ no_counts
+  pub earlier : s.earlier ≡ no_counts
 
 -- what a packet leaves: whose lines they are, the session, the window and the last item sent
 pub record KeepsItsPlace (old new : State) : Type 0 where
@@ -68,3 +72,37 @@ pub record KeepsItsPlace (old new : State) : Type 0 where
   pub window : new.window ≡ old.window
   pub sent : new.sent ≡ old.sent
   pub earlier : new.earlier ≡ old.earlier
+
+-- what a packet that passes through leaves: all but how far the session has come
+pub record KeepsItsSession (old new : State) : Type 0 where
+  pub venue : new.venue ≡ old.venue
+  pub sessions : new.sessions ≡ old.sessions
+  pub session : new.session ≡ old.session
+  pub window : new.window ≡ old.window
+  pub earlier : new.earlier ≡ old.earlier
+
+-- what an advance leaves: all but the last item sent
+pub record KeepsAllButSent (old new : State) : Type 0 where
+  pub venue : new.venue ≡ old.venue
+  pub sessions : new.sessions ≡ old.sessions
+  pub session : new.session ≡ old.session
+  pub window : new.window ≡ old.window
+  pub front : new.front ≡ old.front
+  pub known : new.known ≡ old.known
+  pub end : new.end ≡ old.end
+  pub wins : new.wins ≡ old.wins
+  pub earlier : new.earlier ≡ old.earlier
+
+-- the next item was sent on
+pub record IsAdvanced (old new : State) : Type 0 where
+  pub sent : new.sent ≡ old.sent + 1
+  pub kept : KeepsAllButSent old new
+
+-- the next session has begun, of which nothing came yet; wins go on
+pub record IsRenewed (old new : State) (name : List ℕ) : Type 0 where
+  pub begun : HasBegun new name
+  pub venue : new.venue ≡ old.venue
+  pub sessions : new.sessions ≡ old.sessions ++ name ∷ []
+  pub window : new.window ≡ old.window
+  pub wins : new.wins ≡ old.wins
+  pub earlier : new.earlier ≡ old.wins

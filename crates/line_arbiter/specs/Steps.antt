@@ -1,4 +1,5 @@
--- What one packet changes in an arbiter, said of its state alone.
+-- What one packet changes in an arbiter, said of its state alone. Only private clauses cite this
+-- file.
 use Rattle.std.specs.Prelude.{◌≡◌, ◌≢◌, ℕ, ◌+◌, ◌-◌, ◌^◌, ◌<◌, nat_eq, ◌⊎◌, Option, Some, None, IsSome, length, max, Result, Ok, Err, ◌≤◌, if◌then◌else◌}
 use Rattle.feed_types.specs.declared.item.Item.{Item}
 use Rattle.feed_types.specs.declared.line.LineId.{LineId}
@@ -11,17 +12,22 @@ use Rattle.line_arbiter.specs.declared.outcome.Outcome.TheVariants.{Taken, Heart
 use Rattle.line_arbiter.specs.declared.outcome.LineFault.{LineFault}
 use Rattle.line_arbiter.specs.declared.outcome.LineFault.TheVariants.{OtherSession, PastEnd, EndMoved, EndTooEarly, Conflict}
 use Rattle.line_arbiter.specs.Packets.{last_of}
-use Rattle.line_arbiter.specs.Holding.{held_at, put_all, fresh_to, HeldAgrees, HeldDisagrees}
-use Rattle.line_arbiter.specs.States.{State, Counts, shown, held_of}
+use Rattle.line_arbiter.specs.Outcomes.{IsBefore, IsPast}
+use Rattle.line_arbiter.specs.Counts.{Counts, shown}
+use Rattle.line_arbiter.specs.Holding.{IsEmpty, held_at, put_all, fresh_to, HeldAgrees, HeldDisagrees}
+use Rattle.line_arbiter.specs.States.{State, held_of}
 
 -- What every arbiter keeps: what is held, and the front, lie below the announced end.
 pub record IsSound (s : State) : Type 0 where
   pub end_small : (e : ℕ) → s.end ≡ Some e → e < 2 ^ 64
-  pub before_end : (e m : ℕ) (item : Item) → s.end ≡ Some e → held_at (held_of s) m ≡ Some item → m < e
+  pub before_end : (e m : ℕ) (item : Item)
+      → s.end ≡ Some e → held_at (held_of s) m ≡ Some item → m < e
   pub front_before_end : (e : ℕ) → s.end ≡ Some e → s.front < e
   pub named : 1 ≤ length s.sessions
+  pub few : length s.sessions ≤ 64
 
--- the number up to which there are messages, after one more is heard of: nothing changes once the end is announced
+-- the number up to which there are messages, after one more is heard of: nothing changes once the
+-- end is announced
 abbrev pub raised : ℕ → Option ℕ → ℕ → ℕ
 raised known None to = max known to
 raised known (Some e) to = known
@@ -32,11 +38,14 @@ counted A n counts = record counts { a = shown (counts.a + n) }
 counted B n counts = record counts { b = shown (counts.b + n) }
 counted Recovery n counts = record counts { recovery = shown (counts.recovery + n) }
 
--- the state after the next item was sent on: the cursor is one further, and that item is held no longer
-pub record IsAdvanced (old new : State) : Type 0 where
+-- the state after the next item was sent on: the cursor is one further, and that item is held no
+-- longer
+pub record DropsNext (old new : State) : Type 0 where
   pub sent : new.sent ≡ old.sent + 1
-  pub held : (m : ℕ) → held_at (held_of new) m ≡ (if nat_eq m (old.sent + 1) then None else held_at (held_of old) m)
-  pub others : new ≡ record old { sent = new.sent; places = new.places }
+  pub held : (m : ℕ)
+      → held_at (held_of new) m
+      ≡ (if nat_eq m (old.sent + 1) then None else held_at (held_of old) m)
+  pub others : new ≡ record old { sent = new.sent; ring = new.ring }
 
 -- the packet's messages past `sent` are held, and the front has moved over what is there
 pub record TakesIn (line : LineId) (fresh : ℕ) (old new : State) (p : Content) : Type 0 where
@@ -46,18 +55,28 @@ pub record TakesIn (line : LineId) (fresh : ℕ) (old new : State) (p : Content)
   pub stop : held_at (held_of new) (new.front + 1) ≡ None
   pub known : new.known ≡ raised old.known old.end (last_of p)
   pub wins : new.wins ≡ counted line fresh old.wins
-  pub others : new ≡ record old { front = new.front; known = new.known; places = new.places; wins = new.wins }
-
-abbrev pub IsBefore : Option ℕ → ℕ → Type 0
-IsBefore end n = (e : ℕ) → end ≡ Some e → n < e
+  pub others : new ≡ record old {
+    front = new.front;
+    known = new.known;
+    ring = new.ring;
+    wins = new.wins;
+  }
 
 -- a packet of messages: the answer, and the state that it leaves
 abbrev pub MessagesStep : LineId → State → State → Content → Result Outcome LineFault → Type 0
-MessagesStep line old new p (Err PastEnd) = (new ≡ old) × (e : ℕ) × (old.end ≡ Some e) × (e ≤ last_of p)
-MessagesStep line old new p (Ok Ahead) = (new ≡ record old { known = raised old.known old.end (last_of p) }) × IsBefore old.end (last_of p) × (old.sent + old.window < last_of p)
-MessagesStep line old new p (Err Conflict) = (new ≡ old) × IsBefore old.end (last_of p) × (last_of p ≤ old.sent + old.window) × HeldDisagrees (held_of old) p
-MessagesStep line old new p (Ok (Taken fresh repeated)) = TakesIn line fresh old new p × IsBefore old.end (last_of p) × (last_of p ≤ old.sent + old.window) × HeldAgrees (held_of old) p
-    × (fresh ≡ fresh_to (length p.messages) old.sent (held_of old) p) × (fresh + repeated ≡ length p.messages)
+MessagesStep line old new p (Err PastEnd) = (new ≡ old) × IsPast old.end (last_of p)
+MessagesStep line old new p (Ok Ahead) =
+    (new ≡ record old { known = raised old.known old.end (last_of p) })
+    × IsBefore old.end (last_of p) × (old.sent + old.window < last_of p)
+MessagesStep line old new p (Err Conflict) =
+    (new ≡ old) × IsBefore old.end (last_of p) × (last_of p ≤ old.sent + old.window)
+    × HeldDisagrees (held_of old) p
+MessagesStep line old new p (Ok (Taken fresh repeated)) =
+    TakesIn line fresh old new p
+    × IsBefore old.end (last_of p) × (last_of p ≤ old.sent + old.window)
+    × HeldAgrees (held_of old) p
+    × (fresh ≡ fresh_to (length p.messages) old.sent (held_of old) p)
+    × (fresh + repeated ≡ length p.messages)
 MessagesStep line old new p (Ok Heartbeat) = ⊥
 MessagesStep line old new p (Ok Ended) = ⊥
 MessagesStep line old new p (Err OtherSession) = ⊥
@@ -66,7 +85,9 @@ MessagesStep line old new p (Err EndTooEarly) = ⊥
 
 abbrev pub HeartbeatStep : State → State → ℕ → Result Outcome LineFault → Type 0
 HeartbeatStep old new n (Err PastEnd) = (new ≡ old) × (e : ℕ) × (old.end ≡ Some e) × (e < n)
-HeartbeatStep old new n (Ok Heartbeat) = (new ≡ record old { known = raised old.known old.end (n - 1) }) × ((e : ℕ) → old.end ≡ Some e → n ≤ e)
+HeartbeatStep old new n (Ok Heartbeat) =
+    (new ≡ record old { known = raised old.known old.end (n - 1) })
+    × ((e : ℕ) → old.end ≡ Some e → n ≤ e)
 HeartbeatStep old new n (Ok Ended) = ⊥
 HeartbeatStep old new n (Ok Ahead) = ⊥
 HeartbeatStep old new n (Ok (Taken fresh repeated)) = ⊥
@@ -77,8 +98,13 @@ HeartbeatStep old new n (Err Conflict) = ⊥
 
 abbrev pub EndStep : State → State → ℕ → Result Outcome LineFault → Type 0
 EndStep old new n (Err EndMoved) = (new ≡ old) × (e : ℕ) × (old.end ≡ Some e) × (e ≢ n)
-EndStep old new n (Err EndTooEarly) = (new ≡ old) × (old.end ≡ None) × ((n ≤ old.front) ⊎ ((m : ℕ) × (n ≤ m) × IsSome (held_at (held_of old) m)))
-EndStep old new n (Ok Ended) = ((new ≡ old) × (old.end ≡ Some n)) ⊎ ((new ≡ record old { end = Some n; known = n - 1 }) × (old.end ≡ None) × (old.front < n) × ((m : ℕ) → IsSome (held_at (held_of old) m) → m < n))
+EndStep old new n (Err EndTooEarly) =
+    (new ≡ old) × (old.end ≡ None)
+    × ((n ≤ old.front) ⊎ ((m : ℕ) × (n ≤ m) × IsSome (held_at (held_of old) m)))
+EndStep old new n (Ok Ended) =
+    ((new ≡ old) × (old.end ≡ Some n))
+    ⊎ ((new ≡ record old { end = Some n; known = n - 1 }) × (old.end ≡ None) × (old.front < n)
+    × ((m : ℕ) → IsSome (held_at (held_of old) m) → m < n))
 EndStep old new n (Ok Heartbeat) = ⊥
 EndStep old new n (Ok Ahead) = ⊥
 EndStep old new n (Ok (Taken fresh repeated)) = ⊥
@@ -92,4 +118,32 @@ KindStep kinds.Heartbeat line old new p answer = HeartbeatStep old new p.number 
 KindStep kinds.End line old new p answer = EndStep old new p.number answer
 
 abbrev pub PacketStep : LineId → State → State → Content → Result Outcome LineFault → Type 0
-PacketStep line old new p answer = ((p.session ≢ old.session) × (answer ≡ Err OtherSession) × (new ≡ old)) ⊎ ((p.session ≡ old.session) × KindStep p.kind line old new p answer)
+PacketStep line old new p answer =
+    ((p.session ≢ old.session) × (answer ≡ Err OtherSession) × (new ≡ old))
+    ⊎ ((p.session ≡ old.session) × KindStep p.kind line old new p answer)
+
+-- the packet goes on where nothing is held
+pub record IsNext (s : State) (p : Content) : Type 0 where
+  pub first : p.number ≡ s.sent + 1
+  pub whole : s.front ≡ s.sent
+  pub empty : IsEmpty (held_of s)
+  pub before : IsBefore s.end (last_of p)
+  pub within : length p.messages ≤ s.window
+
+-- the cursors have gone past the packet, and still nothing is held
+pub record GoesPast (line : LineId) (old new : State) (p : Content) : Type 0 where
+  pub empty : IsEmpty (held_of new)
+  pub sent : new.sent ≡ last_of p
+  pub after : new ≡ record old {
+    sent = new.sent;
+    front = last_of p;
+    known = raised old.known old.end (last_of p);
+    ring = new.ring;
+    wins = counted line (length p.messages) old.wins;
+  }
+
+-- the answer to a packet of messages of the session that may pass through
+abbrev pub ThroughStep : LineId → State → State → Content → Option Outcome → Type 0
+ThroughStep line old new p None = (new ≡ old) × (IsNext old p → ⊥)
+ThroughStep line old new p (Some answer) =
+    IsNext old p × GoesPast line old new p × (answer ≡ Taken (length p.messages) 0)

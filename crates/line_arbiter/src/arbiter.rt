@@ -1,19 +1,22 @@
 //! One venue's lines, in sequence.
 
-ghost use Rattle.std.specs.Prelude.{◌≡◌, ◌∷◌, ◌++◌, ◌↔◌, ◌+◌, ◌^◌, ◌<◌, ◌≤◌, ℕ, List, [], IfOk, IfErr, IfSome, IsOk, IsSome, IsErrOf, OnErr, OnOk, slice_get, MatchBool, Some, None, length};
-ghost use Rattle.feed_types.specs.Sequence.{MayCarry};
+ghost use Rattle.std.specs.Prelude.{◌≡◌, ◌∷◌, ◌++◌, ◌↔◌, ◌+◌, ◌^◌, ◌<◌, ◌≤◌, ℕ, List, [], IfOk, IfErr, IfSome, IfNone, Ok, IsOk, IsSome, IsErrOf, OnErr, OnOk, slice_get, MatchBool, Some, None, length};
 ghost use Rattle.mold_packet.specs.Content.{IsContent};
-ghost use Rattle.line_arbiter.specs.Packets.{Arrival, last_of};
-ghost use Rattle.line_arbiter.specs.Streams.{stream_of, gap_of, wins_of};
-ghost use Rattle.line_arbiter.specs.Outcomes.{IsOutcome};
-ghost use Rattle.line_arbiter.specs.States.{ordinal_of, next_of, new_state, count_on, shown, KeepsItsPlace};
-ghost use Rattle.line_arbiter.specs.Fits.{Fits, status_of};
-ghost use Rattle.line_arbiter.specs.Steps.{IsSound, IsAdvanced, IsBefore, MessagesStep, HeartbeatStep, EndStep, PacketStep, raised as raised_to};
-ghost use Rattle.line_arbiter.specs.Renewals.{IsRenewal, renewed};
-ghost use Rattle.line_arbiter.specs.Carrying.{AreGenuine};
+ghost use Rattle.feed_types.specs.Prefix.{IsPrefix};
+ghost use Rattle.line_arbiter.specs.Packets.{Arrival, arrival_of, last_of};
+ghost use Rattle.line_arbiter.specs.Streams.{IsComplete, stream_of, gap_of, wins_of};
+ghost use Rattle.line_arbiter.specs.Outcomes.{IsBefore, IsOutcome, IsPast};
+ghost use Rattle.line_arbiter.specs.Renewals.{HasEnded, IsRenewal};
+ghost use Rattle.line_arbiter.specs.Genuine.{AreGenuine, IsGenuineItem};
+ghost use Rattle.line_arbiter.specs.Through.{PassesThrough, SendsPacket};
+ghost use Rattle.line_arbiter.specs.Counts.{count_on, shown};
+ghost use Rattle.line_arbiter.specs.States.{ordinal_of, next_of, ShowsCursors, IsNew, KeepsItsPlace, KeepsItsSession, IsAdvanced, IsRenewed};
+ghost use Rattle.line_arbiter.specs.Fits.{Fits, cursors_of};
+ghost use Rattle.line_arbiter.specs.Steps.{IsSound, IsNext, DropsNext, ThroughStep, MessagesStep, HeartbeatStep, EndStep, PacketStep, raised as raised_to};
 
 use crate::faults::{ArbiterFault, RenewFault};
-use crate::intake::{disagrees, fill, missing_after, run_end};
+use crate::intake::{disagrees, fill};
+use crate::names::is_same_name;
 use crate::outcome::{LineFault, Outcome};
 use crate::window::Window;
 use crate::wins::Wins;
@@ -54,7 +57,7 @@ fn last_number(packet: &Packet<'_>) -> u64
 
 /// Whether the end is announced at the number or below it.
 fn is_past(end: Option<u64>, number: u64) -> bool
-    ensures { MatchBool result ((e : ℕ) × (end ≡ Some e) × (e ≤ number)) (IsBefore end number) }
+    ensures { MatchBool result (IsPast end number) (IsBefore end number) }
 {
     match end {
         Some(end) => end <= number,
@@ -71,7 +74,8 @@ fn raised(known: u64, end: Option<u64>, to: u64) -> u64
 
 /// What was taken from a venue's lines and not yet sent on.
 ///
-/// `G` names what the lines may carry ([`Genuine`]); [`feed_types::Anything`] where nothing is known.
+/// `G` names what the lines may carry ([`Genuine`]); [`feed_types::Anything`] where nothing is
+/// known.
 #[derive(Drop)]
 pub struct Arbiter<G> {
     venue_id: VenueId,
@@ -92,25 +96,28 @@ impl<G> Model for Arbiter<G> {
 
     ghost Value = { State };
 
-    ghost view = { λ a. record { venue = a.venue_id; sessions = a.names.items; session = a.session_name; window = a.held.width; sent = a.held.base; front = a.run_to; known = a.known_to; end = a.end_number; places = a.held.places; wins = a.won; earlier = a.won_before } };
+    ghost use Rattle.line_arbiter.specs.Inside.{arbiter_inside};
 
-    ghost invariant = { λ a. IsSound (record { venue = a.venue_id; sessions = a.names.items; session = a.session_name; window = a.held.width; sent = a.held.base; front = a.run_to; known = a.known_to; end = a.end_number; places = a.held.places; wins = a.won; earlier = a.won_before }) };
+    ghost view = { λ a. arbiter_inside a };
+
+    ghost invariant = { λ a. IsSound (arbiter_inside a) };
 }
 
 impl<G: Genuine> Arbiter<G> {
     /// An arbiter of the venue's first session, whose name is ten bytes, filled on the right with
-    /// spaces. The window is how many messages past the last item sent are held, 1 to 65,535; another
-    /// one is refused as BadWindow. It takes its memory here and none later; where there is none, the
-    /// answer is NoMemory.
+    /// spaces. The window is how many messages past the last item sent are held, 1 to 65,535;
+    /// another one is refused as BadWindow. It takes its memory here and none later; where there is
+    /// none, the answer is NoMemory.
     pub fn new(
         alloc: Global,
         venue: VenueId,
         session: [u8; 10],
         window: u32,
     ) -> Result<Self, ArbiterFault>
-        ensures made { IfOk result (λ a. a ≡ new_state venue session window) }
+        ensures made { IfOk result (λ a. IsNew a venue session window) }
         ensures fits { IfOk result (λ a. Fits a []) }
-        ensures bad_window { IsErrOf result ArbiterFault.BadWindow ↔ (¬ ((1 ≤ window) × (window ≤ 65535))) }
+        ensures bad_window { IsErrOf result ArbiterFault.BadWindow
+            ↔ (¬ ((1 ≤ window) × (window ≤ 65535))) }
     {
         if window < 1 || window > MAX_WINDOW {
             return Err(ArbiterFault::BadWindow);
@@ -150,7 +157,8 @@ impl<G: Genuine> Arbiter<G> {
 
     /// Which of the venue's sessions the present one is, counted from 1 to 64.
     pub fn ordinal(&self) -> u64
-        ensures { result ≡ ordinal_of self.now }
+        ensures value { result ≡ ordinal_of self.now }
+        ensures range { (1 ≤ result) × (result ≤ 64) }
     {
         self.names.len() as u64
     }
@@ -177,7 +185,7 @@ impl<G: Genuine> Arbiter<G> {
 
     fn drop_next(&mut self)
         requires { IsSome (next_of self.old) }
-        ensures after { IsAdvanced self.old self.new }
+        ensures after { DropsNext self.old self.new }
         ensures sound { IsSound self.old }
     {
         self.held.pass();
@@ -199,11 +207,41 @@ impl<G: Genuine> Arbiter<G> {
             return Err(LineFault::Conflict);
         }
         let new = fill(&mut self.held, packet);
-        self.run_to = run_end(&self.held, self.run_to);
+        self.run_to = self.held.run_end(self.run_to);
         self.known_to = raised(self.known_to, self.end_number, last);
         let repeated = packet.count() - new;
         self.won.add(line, new);
         Ok(Outcome::Taken { new, repeated })
+    }
+
+    /// Whether the packet's first message is the next one, nothing is held, and the window is as
+    /// wide.
+    fn is_next(&self, packet: &Packet<'_>, last: u64) -> bool
+        requires { last ≡ last_of packet.now }
+        ensures { MatchBool result (IsNext self.now packet.now) (IsNext self.now packet.now → ⊥) }
+    {
+        let sent = self.held.base();
+        packet.number() - 1 == sent
+            && self.run_to == sent
+            && self.held.is_empty()
+            && u32::from(packet.count()) <= self.held.width()
+            && !is_past(self.end_number, last)
+    }
+
+    fn pass_messages(&mut self, line: LineId, packet: &Packet<'_>) -> Option<Outcome>
+        requires { packet.now.kind ≡ Kind.Messages }
+        ensures { ThroughStep line self.old self.new packet.now result }
+    {
+        let last = last_number(packet);
+        if !self.is_next(packet, last) {
+            return None;
+        }
+        let new = packet.count();
+        self.held.move_to(last);
+        self.run_to = last;
+        self.known_to = raised(self.known_to, self.end_number, last);
+        self.won.add(line, new);
+        Some(Outcome::Taken { new, repeated: 0 })
     }
 
     fn take_heartbeat(&mut self, number: u64) -> Result<Outcome, LineFault>
@@ -240,29 +278,66 @@ impl<G: Genuine> Arbiter<G> {
     fn take_any(&mut self, line: LineId, packet: &Packet<'_>) -> Result<Outcome, LineFault>
         ensures step { PacketStep line self.old self.new packet.now result }
         ensures content { IsContent packet.now }
+        ensures sound { IsSound self.new }
     {
         let number = packet.number();
-        if packet.session() != self.session_name {
+        if !is_same_name(&packet.session(), &self.session_name) {
             return Err(LineFault::OtherSession);
         }
-        match packet.kind() {
+        let answer = match packet.kind() {
             Kind::Messages => self.take_messages(line, packet),
             Kind::Heartbeat => self.take_heartbeat(number),
             Kind::End => self.take_end(number),
-        }
+        };
+        let _held = &self.held;
+        answer
     }
 
     /// Takes a packet that came on a line, and answers what became of it. A refused packet changes
-    /// nothing. The refusals, in this order: another session's packet; messages at the announced end
-    /// or past it; a held message that reads otherwise; a heartbeat past the end; an end that differs
-    /// from the announced one, or lies at a message that was taken or before it.
+    /// nothing. The refusals, in this order: another session's packet; messages at the announced
+    /// end or past it; a held message that reads otherwise; a heartbeat past the end; an end that
+    /// differs from the announced one, or lies at a message that was taken or before it.
     pub fn take(&mut self, line: LineId, packet: &Packet<'_>) -> Result<Outcome, LineFault>
-        ensures outcome { (P : List Arrival) → Fits self.old P → IsOutcome self.old.session self.old.window self.old.sent P packet.now result }
-        ensures fits { (P : List Arrival) → Fits self.old P → Fits self.new (P ++ record { line = line; packet = packet.now; answer = result } ∷ []) }
+        ensures outcome { (packets : List Arrival) → Fits self.old packets
+            → IsOutcome self.old.session self.old.window self.old.sent packets packet.now result }
+        ensures fits { (packets : List Arrival) → Fits self.old packets
+            → Fits self.new (packets ++ arrival_of line packet.now result ∷ []) }
+        ensures grows { (packets : List Arrival) → Fits self.old packets
+            → IsPrefix (stream_of packets)
+            (stream_of (packets ++ arrival_of line packet.now result ∷ [])) }
         ensures refused { OnErr result (self.new ≡ self.old) }
         ensures kept { KeepsItsPlace self.old self.new }
     {
         self.take_any(line, packet)
+    }
+
+    /// Takes a packet of messages that goes on where nothing is held, and goes past all of them at
+    /// once: they are the next items of the stream, and the caller reads them from the packet. The
+    /// answer is that of `take`. `None` for any other packet, which changes nothing: then `take`
+    /// it.
+    pub fn take_through(&mut self, line: LineId, packet: &Packet<'_>) -> Option<Outcome>
+        ensures through { (packets : List Arrival) → Fits self.old packets
+            → (IsSome result ↔ PassesThrough self.old.session self.old.window self.old.sent packets
+            packet.now) }
+        ensures outcome { (packets : List Arrival) → Fits self.old packets
+            → IfSome result (λ o. IsOutcome self.old.session self.old.window self.old.sent packets
+            packet.now (Ok o)) }
+        ensures fits { (packets : List Arrival) → Fits self.old packets
+            → IfSome result (λ o. Fits self.new
+            (packets ++ arrival_of line packet.now (Ok o) ∷ [])) }
+        ensures items { (packets : List Arrival) → Fits self.old packets
+            → IfSome result (λ o. SendsPacket self.old.sent self.new.sent packet.now
+            (packets ++ arrival_of line packet.now (Ok o) ∷ [])) }
+        ensures kept { IfSome result (λ o. KeepsItsSession self.old self.new) }
+        ensures none { IfNone result (self.new ≡ self.old) }
+    {
+        if !is_same_name(&packet.session(), &self.session_name) {
+            return None;
+        }
+        match packet.kind() {
+            Kind::Messages => self.pass_messages(line, packet),
+            Kind::Heartbeat | Kind::End => None,
+        }
     }
 
     /// The item after the last one advanced past, if it is there: a message, or End behind the last
@@ -270,8 +345,12 @@ impl<G: Genuine> Arbiter<G> {
     pub fn next_ready(&self) -> Option<Numbered>
         ensures value { result ≡ next_of self.now }
         ensures number { IfSome result (λ n. n.number ≡ self.now.sent + 1) }
-        ensures stream { (P : List Arrival) → Fits self.now P → result ≡ slice_get (stream_of P) self.now.sent }
-        ensures genuine { (P : List Arrival) → Fits self.now P → AreGenuine G.carries G.ends self.now.venue (ordinal_of self.now) P → IfSome result (λ n. MayCarry G.carries G.ends self.now.venue (record { ordinal = ordinal_of self.now; number = n.number }) n.item) }
+        ensures over { HasEnded self.now.end self.now.sent → result ≡ None }
+        ensures stream { (packets : List Arrival) → Fits self.now packets
+            → result ≡ slice_get (stream_of packets) self.now.sent }
+        ensures genuine { (packets : List Arrival) → Fits self.now packets
+            → AreGenuine G.carries G.ends self.now.venue (ordinal_of self.now) packets
+            → IfSome result (IsGenuineItem G.carries G.ends self.now.venue (ordinal_of self.now)) }
     {
         self.ready()
     }
@@ -280,22 +359,19 @@ impl<G: Genuine> Arbiter<G> {
     pub fn advance(&mut self)
         requires { IsSome (next_of self.old) }
         ensures after { IsAdvanced self.old self.new }
-        ensures fits { (P : List Arrival) → Fits self.old P → Fits self.new P }
+        ensures fits { (packets : List Arrival) → Fits self.old packets → Fits self.new packets }
     {
         self.drop_next();
     }
 
-    /// The run of messages to ask for: from the first that is missing, as many as are missing in a row,
-    /// as far as the window and what is known of the session go. `None` where none is.
+    /// The run of messages to ask for: from the first that is missing, as many as are missing in a
+    /// row, as far as the window and what is known of the session go. `None` where none is.
     pub fn gap(&self) -> Option<Request>
-        ensures { (P : List Arrival) → Fits self.now P → result ≡ gap_of self.now.session self.now.window self.now.sent P }
+        ensures { (packets : List Arrival) → Fits self.now packets
+            → result ≡ gap_of self.now.session self.now.window self.now.sent packets }
     {
-        let window_end = self
-            .held
-            .base()
-            .saturating_add(u64::from(self.held.width()));
-        let limit = self.run_to.max(self.known_to.min(window_end));
-        let count = missing_after(&self.held, self.run_to, limit);
+        let limit = self.run_to.max(self.known_to);
+        let count = self.held.missing_after(self.run_to, limit);
         if count == 0 {
             return None;
         }
@@ -309,14 +385,17 @@ impl<G: Genuine> Arbiter<G> {
     /// How many numbers the line brought first, over all sessions. The count stays at 2^64 - 1.
     pub fn wins(&self, line: LineId) -> u64
         ensures value { result ≡ count_on line self.now.wins }
-        ensures session { (P : List Arrival) → Fits self.now P → result ≡ shown (count_on line self.now.earlier + wins_of P line) }
+        ensures session { (packets : List Arrival) → Fits self.now packets
+            → result ≡ shown (count_on line self.now.earlier + wins_of packets line) }
     {
         self.won.on(line)
     }
 
     /// How far the present session has come.
     pub fn status(&self) -> ArbiterStatus
-        ensures { (P : List Arrival) → Fits self.now P → result ≡ status_of self.now.sent P }
+        ensures cursors { ShowsCursors self.now result }
+        ensures packets { (packets : List Arrival) → Fits self.now packets
+            → result ≡ cursors_of self.now.sent packets }
     {
         ArbiterStatus {
             sent: self.held.base(),
@@ -327,13 +406,15 @@ impl<G: Genuine> Arbiter<G> {
         }
     }
 
-    /// Begins the venue's next session under a name of ten bytes, once End was advanced past, and
+    /// IsPrefix the venue's next session under a name of ten bytes, once End was advanced past, and
     /// answers its ordinal. Nothing of it has come yet; wins go on counting. The refusals, in this
     /// order: NotEnded, SessionUsed, TooManySessions (64 at most).
     pub fn renew(&mut self, session: [u8; 10]) -> Result<u64, RenewFault>
         ensures answer { IsRenewal self.old.sessions self.old.end self.old.sent session result }
-        ensures ok { OnOk result (self.new ≡ renewed self.old session) }
-        ensures fits { (P : List Arrival) → Fits self.old P → OnOk result (Fits self.new []) }
+        ensures ok { OnOk result (IsRenewed self.old self.new session) }
+        ensures fits { OnOk result (Fits self.new []) }
+        ensures complete { (packets : List Arrival) → Fits self.old packets
+            → OnOk result (IsComplete packets × (self.old.sent ≡ length (stream_of packets))) }
         ensures refused { OnErr result (self.new ≡ self.old) }
     {
         if self.end_number != Some(self.held.base()) {
@@ -347,7 +428,7 @@ impl<G: Genuine> Arbiter<G> {
         }
         self.names.push(session);
         self.session_name = session;
-        self.held.restart();
+        self.held.move_to(0);
         self.run_to = 0;
         self.known_to = 0;
         self.end_number = None;

@@ -8,10 +8,11 @@ use crate::window::Window;
 use mold_packet::Packet;
 use quote_payload::read_item;
 
-/// Whether another item is held at the number than the message reads as. A message is read only where
-/// an item is held.
+/// Whether another item is held at the number than the message reads as. A message is read only
+/// where an item is held.
 fn is_other(window: &Window, number: u64, message: &[u8]) -> bool
-    ensures { MatchBool result (HoldsOther window.now number (item_of message.now)) (HoldsNoOther window.now number (item_of message.now)) }
+    ensures { MatchBool result (HoldsOther window.now number (item_of message.now))
+        (HoldsNoOther window.now number (item_of message.now)) }
 {
     match window.get(number) {
         Some(found) => found != read_item(message),
@@ -20,7 +21,8 @@ fn is_other(window: &Window, number: u64, message: &[u8]) -> bool
 }
 
 fn some_is_other(window: &Window, packet: &Packet<'_>) -> bool
-    ensures { MatchBool result (HeldDisagrees window.now packet.now) (HeldAgrees window.now packet.now) }
+    ensures { MatchBool result (HeldDisagrees window.now packet.now)
+        (HeldAgrees window.now packet.now) }
 {
     let first = packet.number();
     for (i, message) in packet.messages().enumerate() {
@@ -31,10 +33,11 @@ fn some_is_other(window: &Window, packet: &Packet<'_>) -> bool
     false
 }
 
-/// Whether a held message reads otherwise in the packet. Where all that is held lies below the packet, as
-/// most often, its messages aren't walked.
+/// Whether a held message reads otherwise in the packet. Where all that is held lies below the
+/// packet, as most often, its messages aren't walked.
 pub(crate) fn disagrees(window: &Window, packet: &Packet<'_>) -> bool
-    ensures { MatchBool result (HeldDisagrees window.now packet.now) (HeldAgrees window.now packet.now) }
+    ensures { MatchBool result (HeldDisagrees window.now packet.now)
+        (HeldAgrees window.now packet.now) }
 {
     window.holds_from(packet.number()) && some_is_other(window, packet)
 }
@@ -42,22 +45,27 @@ pub(crate) fn disagrees(window: &Window, packet: &Packet<'_>) -> bool
 /// Holds the message where its number is past the base and free, and tells whether it did.
 fn put(window: &mut Window, number: u64, message: &[u8]) -> bool
     requires { number ≤ window.old.base + window.old.width }
-    ensures after { (m : ℕ) → held_at window.new m ≡ put_one window.old.base number (item_of message.now) (held_at window.old m) m }
-    ensures told { IsTrue result ↔ ((window.old.base < number) × (held_at window.old number ≡ None)) }
+    ensures after { (m : ℕ) → held_at window.new m
+        ≡ put_one window.old.base number (item_of message.now) (held_at window.old m) m }
+    ensures told { IsTrue result ↔ ((window.old.base < number)
+        × (held_at window.old number ≡ None)) }
     ensures base { window.new.base ≡ window.old.base }
     ensures width { window.new.width ≡ window.old.width }
 {
-    if number <= window.base() || window.get(number).is_some() {
+    let Some(slot) = window.free_slot(number) else {
         return false;
-    }
-    window.hold(number, read_item(message));
+    };
+    window.hold(number, slot, read_item(message));
     true
 }
 
 fn fill_each(window: &mut Window, packet: &Packet<'_>) -> u16
-    requires { packet.now.number + length packet.now.messages ≤ window.old.base + window.old.width + 1 }
-    ensures after { (m : ℕ) → held_at window.new m ≡ put_all window.old.base packet.now (held_at window.old m) m }
-    ensures count { result ≡ fresh_to (length packet.now.messages) window.old.base window.old packet.now }
+    requires { packet.now.number + length packet.now.messages
+        ≤ window.old.base + window.old.width + 1 }
+    ensures after { (m : ℕ) → held_at window.new m
+        ≡ put_all window.old.base packet.now (held_at window.old m) m }
+    ensures count { result
+        ≡ fresh_to (length packet.now.messages) window.old.base window.old packet.now }
     ensures base { window.new.base ≡ window.old.base }
     ensures width { window.new.width ≡ window.old.width }
 {
@@ -70,12 +78,15 @@ fn fill_each(window: &mut Window, packet: &Packet<'_>) -> u16
     count
 }
 
-/// Holds the packet's messages past the base where nothing is held, and tells how many it held. Where all
-/// of them were sent, as on the line that comes second, its messages aren't walked.
+/// Holds the packet's messages past the base where nothing is held, and tells how many it held.
+/// Where all of them were sent, as on the line that comes second, its messages aren't walked.
 pub(crate) fn fill(window: &mut Window, packet: &Packet<'_>) -> u16
-    requires { packet.now.number + length packet.now.messages ≤ window.old.base + window.old.width + 1 }
-    ensures after { (m : ℕ) → held_at window.new m ≡ put_all window.old.base packet.now (held_at window.old m) m }
-    ensures count { result ≡ fresh_to (length packet.now.messages) window.old.base window.old packet.now }
+    requires { packet.now.number + length packet.now.messages
+        ≤ window.old.base + window.old.width + 1 }
+    ensures after { (m : ℕ) → held_at window.new m
+        ≡ put_all window.old.base packet.now (held_at window.old m) m }
+    ensures count { result
+        ≡ fresh_to (length packet.now.messages) window.old.base window.old packet.now }
     ensures base { window.new.base ≡ window.old.base }
     ensures width { window.new.width ≡ window.old.width }
 {
@@ -84,36 +95,4 @@ pub(crate) fn fill(window: &mut Window, packet: &Packet<'_>) -> u16
         return 0;
     }
     fill_each(window, packet)
-}
-
-/// The last number of the run of held numbers that goes on past `front`.
-pub(crate) fn run_end(window: &Window, front: u64) -> u64
-    ensures from { front ≤ result }
-    ensures run { (m : ℕ) → front < m → m ≤ result → IsSome (held_at window.now m) }
-    ensures stop { held_at window.now (result + 1) ≡ None }
-{
-    let mut end = front;
-    while window.holds_after(end) {
-        end += 1;
-    }
-    end
-}
-
-/// How many numbers after `front` hold nothing, up to the limit, to the first that holds an item, or
-/// to as many as the window is wide.
-pub(crate) fn missing_after(window: &Window, front: u64, limit: u64) -> u16
-    requires { front ≤ limit }
-    ensures free { (m : ℕ) → front < m → m ≤ front + result → held_at window.now m ≡ None }
-    ensures within { front + result ≤ limit }
-    ensures stop { (result ≡ window.now.width) ⊎ (front + result ≡ limit) ⊎ IsSome (held_at window.now (front + result + 1)) }
-{
-    let width = window.width();
-    let mut count: u16 = 0;
-    while u32::from(count) < width
-        && front + u64::from(count) < limit
-        && !window.holds_after(front + u64::from(count))
-    {
-        count += 1;
-    }
-    count
 }

@@ -1,19 +1,21 @@
 //! Puts the messages of one venue's redundant lines in sequence, each once.
 //!
-//! An [`Arbiter`] is given the packets of lines A, B and Recovery in the order in which they came. It
-//! holds what lies past the last item sent in a window of fixed size, and gives the items out in
-//! sequence: messages up to the first gap, and End where it follows. A [`Pacer`] says when to ask for
-//! what is missing.
+//! An [`Arbiter`] is given the packets of lines A, B and Recovery in the order in which they came.
+//! It holds what lies past the last item sent in a window of fixed size, and gives the items out in
+//! sequence: messages up to the first gap, and End where it follows. A [`Pacer`] says when to ask
+//! for what is missing.
 //!
-//! Contract: for every list of packets that the arbiter was given in the present session, its answers,
-//! cursors and items are those that `specs/Outcomes.antt` and `specs/Streams.antt` define over that
-//! list. Begin at `arbiter.rt`; `laws.rt` says what follows for a session's messages.
+//! Contract: for every list of packets that the arbiter was given in the present session, its
+//! answers, cursors and items are those that `specs/Outcomes.antt` and `specs/Streams.antt` define
+//! over that list. Begin at `arbiter.rt`; `laws.rt` says what follows for a session's messages.
 #![tactic(auto)]
 
 mod arbiter;
 mod faults;
 mod intake;
 mod laws;
+mod marks;
+mod names;
 mod outcome;
 mod pacer;
 mod window;
@@ -22,8 +24,10 @@ mod wins;
 pub use arbiter::{Arbiter, ArbiterStatus};
 pub use faults::{ArbiterFault, RenewFault};
 pub use laws::{
-    no_packet_is_refused, one_outcome, stream_is_the_session, streams_are_in_sequence,
-    what_is_taken_stays_genuine,
+    a_genuine_stream_is_the_session, a_renewal_comes_when_all_is_sent, a_stream_only_grows,
+    answers_go_on, no_genuine_packet_is_refused, one_outcome, one_renewal,
+    packets_of_sessions_are_genuine, streams_are_in_sequence, the_front_is_the_first_gap,
+    the_stream_is_the_session, what_is_taken_stays_genuine,
 };
 pub use outcome::{LineFault, Outcome};
 pub use pacer::Pacer;

@@ -1,21 +1,25 @@
-//! The messages that were taken and not yet sent on, in a ring of fixed size.
+//! The messages that were taken and not yet sent on, in a ring of slots with a mark for each.
 
-ghost use Rattle.std.specs.Prelude.{◌≡◌, ℕ, ◌+◌, ◌-◌, ◌^◌, ◌<◌, ◌≤◌, ◌++◌, ◌∷◌, [], None, Some, length, replicate, slice_set, nat_eq, if◌then◌else◌, IfOk, IsSome, IsTrue, MatchBool, count_by, is_some};
-ghost use Rattle.std.specs.Option.{option_and_then};
-ghost use Rattle.line_arbiter.specs.Holding.{held_at, put_at, put_one};
+ghost use Rattle.std.specs.Prelude.{◌≡◌, ◌≢◌, ℕ, ◌+◌, ◌-◌, ◌*◌, ◌^◌, ◌<◌, ◌≤◌, ◌⊎◌, None, Some, Bool, true, not, length, replicate, slice_set, nat_eq, nat_lt, if◌then◌else◌, IfOk, IfSome, IfNone, IsSome, IsTrue, MatchBool, is_some, get_or};
+ghost use Rattle.line_arbiter.specs.Marks.{is_marked};
+ghost use Rattle.line_arbiter.specs.Holding.{count_held, held_at, item_in, put_one, slot_of as slot_of_place, IsEmpty, IsFree};
 
-use circular_buffer::HeapCircularBuffer;
+use crate::marks::{first_slot, has_mark, mark, unmark};
 use feed_types::Item;
 use std::alloc::{AllocError, Global};
 use std::marker::Model;
 
-/// Places for the numbers from `base + 1` on, as many as the window is wide. A place holds the item of
-/// its number, or nothing; the last place that there is holds one.
+/// Places for the numbers from `base_number + 1` on, as many as there are slots. The first place is
+/// in slot `first`, and the slots go round. A marked slot holds the item of its number. Nothing is
+/// held above `top_number`.
 #[derive(Drop)]
 pub(crate) struct Window {
     base_number: u64,
+    top_number: u64,
     held_items: u32,
-    ring: HeapCircularBuffer<Option<Item>>,
+    first: usize,
+    slots: Vec<Item>,
+    marks: Vec<u64>,
 }
 
 impl Model for Window {
@@ -23,73 +27,105 @@ impl Model for Window {
 
     ghost Value = { Held };
 
-    ghost view = { λ w. record { base = w.base_number; width = w.ring.capacity; places = w.ring.items } };
+    ghost use Rattle.line_arbiter.specs.Inside.{window_inside};
 
-    ghost invariant = { λ w. IsHeld w.base_number w.held_items w.ring.capacity w.ring.items };
+    ghost view = { window_inside };
+
+    ghost invariant = { λ w. IsHeld w.top_number w.held_items (window_inside w) };
 }
 
-/// Puts a place behind the last one.
-fn push(ring: &mut HeapCircularBuffer<Option<Item>>, place: Option<Item>)
-    requires { length ring.old.items < ring.old.capacity }
-    ensures items { ring.new.items ≡ ring.old.items ++ place ∷ [] }
-    ensures capacity { ring.new.capacity ≡ ring.old.capacity }
+fn blank_slots(alloc: Global, count: usize) -> Result<Vec<Item>, AllocError>
+    ensures { IfOk result (λ slots. length slots.items ≡ count) }
 {
-    ring.push_back(place);
+    vec![in alloc; Item::Other; count]
 }
 
-/// Puts empty places behind the last one until there are so many.
-fn pad_to(ring: &mut HeapCircularBuffer<Option<Item>>, count: usize)
-    requires { count ≤ ring.old.capacity }
-    ensures items { ring.new.items ≡ ring.old.items ++ replicate (count - length ring.old.items) None }
-    ensures capacity { ring.new.capacity ≡ ring.old.capacity }
+fn no_marks(alloc: Global, words: usize) -> Result<Vec<u64>, AllocError>
+    ensures { IfOk result (λ marks. marks.items ≡ replicate words 0) }
 {
-    while ring.len() < count {
-        push(ring, None);
+    vec![in alloc; 0; words]
+}
+
+/// The slot of a place.
+#[inline]
+fn slot_of(first: usize, width: usize, place: usize) -> usize
+    requires first { first < width }
+    requires place { place < width }
+    requires small { width ≤ 65535 }
+    ensures value { result ≡ slot_of_place first width place }
+    ensures within { result < width }
+{
+    let slot = first + place;
+    if slot < width { slot } else { slot - width }
+}
+
+/// The slot of the next place.
+#[inline]
+fn slot_after(slot: usize, width: usize) -> usize
+    requires { slot < width }
+    ensures { result ≡ (if nat_lt (slot + 1) width then slot + 1 else 0) }
+{
+    if slot + 1 < width { slot + 1 } else { 0 }
+}
+
+fn set(slots: &mut Vec<Item>, slot: usize, item: Item)
+    requires { slot < length slots.old.items }
+    ensures { slots.new.items ≡ slice_set slots.old.items slot item }
+{
+    slots[slot] = item;
+}
+
+/// The first place from this one on, below the end, that holds an item, or holds none, as asked;
+/// the end where there is none. The slots of the places lie in two rows: to the last slot, and from
+/// slot 0.
+fn first_place(
+    marks: &[u64],
+    first: usize,
+    width: usize,
+    held: bool,
+    from: usize,
+    end: usize,
+) -> usize
+    requires first { first < width }
+    requires small { width ≤ 65535 }
+    requires marks { width ≤ 64 * length marks.now }
+    requires order { from ≤ end }
+    requires within { end ≤ width }
+    ensures from { from ≤ result }
+    ensures to { result ≤ end }
+    ensures others { (k : ℕ) → from ≤ k → k < result
+        → is_marked marks.now (slot_of_place first width k) ≡ not held }
+    ensures found { result < end → is_marked marks.now (slot_of_place first width result) ≡ held }
+{
+    let turn = width - first;
+    if from < turn {
+        let row_end = end.min(turn);
+        let place = first_slot(marks, held, first + from, first + row_end) - first;
+        if place < row_end || row_end == end {
+            return place;
+        }
     }
-}
-
-fn set(ring: &mut HeapCircularBuffer<Option<Item>>, place: usize, item: Item)
-    requires { place < length ring.old.items }
-    ensures items { ring.new.items ≡ slice_set ring.old.items place (Some item) }
-    ensures capacity { ring.new.capacity ≡ ring.old.capacity }
-{
-    if let Some(slot) = ring.get_mut(place) {
-        *slot = Some(item);
-    }
-}
-
-/// Puts the item at a place, and empty places before it where there are none.
-fn put(ring: &mut HeapCircularBuffer<Option<Item>>, place: usize, item: Item)
-    requires { place < ring.old.capacity }
-    ensures items { ring.new.items ≡ put_at ring.old.items place item }
-    ensures capacity { ring.new.capacity ≡ ring.old.capacity }
-{
-    if place < ring.len() {
-        set(ring, place, item);
-    } else {
-        pad_to(ring, place);
-        push(ring, Some(item));
-    }
-}
-
-/// Whether the first place holds an item.
-fn is_held(first: Option<Option<Item>>) -> bool
-    ensures { result ≡ is_some (option_and_then (λ place. place) first) }
-{
-    matches!(first, Some(Some(_)))
+    first_slot(marks, held, from.max(turn) - turn, end - turn) + turn
 }
 
 impl Window {
     /// An empty window of so many places. This alone takes memory.
     pub(crate) fn new(alloc: Global, width: u32) -> Result<Window, AllocError>
-        requires { width ≤ 65535 }
-        ensures { IfOk result (λ w. w ≡ record { base = 0; width = width; places = [] }) }
+        requires some { 1 ≤ width }
+        requires most { width ≤ 65535 }
+        ensures base { IfOk result (λ w. w.base ≡ 0) }
+        ensures width { IfOk result (λ w. w.width ≡ width) }
+        ensures empty { IfOk result IsEmpty }
     {
-        let ring = HeapCircularBuffer::with_capacity(alloc, width as usize)?;
+        let slots = blank_slots(alloc, width as usize)?;
+        let marks = no_marks(alloc, width as usize / 64 + 1)?;
         Ok(Window {
             base_number: 0,
+            top_number: 0,
             held_items: 0,
-            ring,
+            first: 0,
+            slots,
+            marks,
         })
     }
 
@@ -104,28 +140,36 @@ impl Window {
         ensures value { result ≡ self.now.width }
         ensures most { result ≤ 65535 }
     {
-        self.ring.capacity() as u32
+        self.slots.len() as u32
     }
 
     /// How many places hold an item.
     pub(crate) fn count(&self) -> u32
-        ensures { result ≡ count_by is_some self.now.places }
+        ensures { result ≡ count_held self.now }
     {
         self.held_items
+    }
+
+    fn item_in(&self, place: usize) -> Option<Item>
+        requires { place < self.now.width }
+        ensures { result ≡ item_in self.now.width self.now.ring place }
+    {
+        let slot = slot_of(self.first, self.slots.len(), place);
+        if has_mark(self.marks.as_slice(), slot) {
+            Some(self.slots[slot])
+        } else {
+            None
+        }
     }
 
     /// The item that is held at the number.
     pub(crate) fn get(&self, number: u64) -> Option<Item>
         ensures { result ≡ held_at self.now number }
     {
-        if number <= self.base_number {
+        if number <= self.base_number || number - self.base_number > self.slots.len() as u64 {
             return None;
         }
-        let place = (number - self.base_number - 1) as usize;
-        match self.ring.get(place) {
-            Some(Some(item)) => Some(*item),
-            Some(None) | None => None,
-        }
+        self.item_in((number - self.base_number - 1) as usize)
     }
 
     /// The item that is held at the first place.
@@ -133,43 +177,58 @@ impl Window {
         ensures value { result ≡ held_at self.now (self.now.base + 1) }
         ensures small { IsSome result → self.now.base + 1 < 2 ^ 64 }
     {
-        match self.ring.front() {
-            Some(Some(item)) => Some(*item),
-            Some(None) | None => None,
-        }
+        let _base = self.base_number;
+        self.item_in(0)
     }
 
-    /// Whether an item is held at the number after this one.
-    pub(crate) fn holds_after(&self, number: u64) -> bool
-        ensures value { result ≡ is_some (held_at self.now (number + 1)) }
-        ensures small { IsTrue result → number + 1 < 2 ^ 64 }
+    /// Whether nothing is held.
+    pub(crate) fn is_empty(&self) -> bool
+        ensures { MatchBool result (IsEmpty self.now)
+            ((m : ℕ) × IsSome (held_at self.now m)) }
     {
-        if number < self.base_number {
-            return false;
-        }
-        let place = (number - self.base_number) as usize;
-        matches!(self.ring.get(place), Some(Some(_)))
+        self.top_number <= self.base_number
     }
 
     /// Whether an item is held at the number or above it.
     pub(crate) fn holds_from(&self, number: u64) -> bool
-        ensures { MatchBool result ((m : ℕ) × (number ≤ m) × IsSome (held_at self.now m)) ((m : ℕ) → IsSome (held_at self.now m) → m < number) }
+        ensures { MatchBool result ((m : ℕ) × (number ≤ m) × IsSome (held_at self.now m))
+            ((m : ℕ) → IsSome (held_at self.now m) → m < number) }
     {
-        !self.ring.is_empty() && number <= self.base_number + self.ring.len() as u64
+        self.base_number < self.top_number && number <= self.top_number
     }
 
-    /// Holds the item at a number that is free.
-    pub(crate) fn hold(&mut self, number: u64, item: Item)
-        requires past { self.old.base < number }
+    /// The slot of the number, where it is past the base and nothing is held at it.
+    pub(crate) fn free_slot(&self, number: u64) -> Option<usize>
+        requires { number ≤ self.now.base + self.now.width }
+        ensures free { IfSome result (IsFree self.now number) }
+        ensures other { IfNone result ((number ≤ self.now.base)
+            ⊎ IsSome (held_at self.now number)) }
+    {
+        if number <= self.base_number {
+            return None;
+        }
+        let place = (number - self.base_number - 1) as usize;
+        let slot = slot_of(self.first, self.slots.len(), place);
+        if has_mark(self.marks.as_slice(), slot) {
+            None
+        } else {
+            Some(slot)
+        }
+    }
+
+    /// Holds the item at a number that is free, in its slot.
+    pub(crate) fn hold(&mut self, number: u64, slot: usize, item: Item)
+        requires free { IsFree self.old number slot }
         requires within { number ≤ self.old.base + self.old.width }
-        requires free { held_at self.old number ≡ None }
-        ensures held { (m : ℕ) → held_at self.new m ≡ put_one self.old.base number item (held_at self.old m) m }
+        ensures held { (m : ℕ)
+            → held_at self.new m ≡ put_one self.old.base number item (held_at self.old m) m }
         ensures base { self.new.base ≡ self.old.base }
         ensures width { self.new.width ≡ self.old.width }
     {
-        let place = (number - self.base_number - 1) as usize;
-        put(&mut self.ring, place, item);
+        set(&mut self.slots, slot, item);
+        mark(&mut self.marks, slot);
         self.held_items += 1;
+        self.top_number = self.top_number.max(number);
     }
 
     /// Goes past the first place.
@@ -177,19 +236,62 @@ impl Window {
         requires { held_at self.old (self.old.base + 1) ≡ None → self.old.base + 1 < 2 ^ 64 }
         ensures base { self.new.base ≡ self.old.base + 1 }
         ensures width { self.new.width ≡ self.old.width }
-        ensures held { (m : ℕ) → held_at self.new m ≡ (if nat_eq m (self.old.base + 1) then None else held_at self.old m) }
+        ensures held { (m : ℕ)
+            → held_at self.new m
+            ≡ (if nat_eq m (self.old.base + 1) then None else held_at self.old m) }
     {
-        let first = self.ring.pop_front();
-        self.held_items -= u32::from(is_held(first));
+        let slot = self.first;
+        let next = slot_after(slot, self.slots.len());
+        let was_held = has_mark(self.marks.as_slice(), slot);
+        unmark(&mut self.marks, slot);
+        self.held_items -= u32::from(was_held);
+        self.first = next;
         self.base_number += 1;
     }
 
-    /// Empties the window, which begins again with number 1.
-    pub(crate) fn restart(&mut self)
-        ensures { self.new ≡ record { base = 0; width = self.old.width; places = [] } }
+    /// Places the empty window behind a number.
+    pub(crate) fn move_to(&mut self, number: u64)
+        requires { IsEmpty self.old }
+        ensures base { self.new.base ≡ number }
+        ensures width { self.new.width ≡ self.old.width }
+        ensures empty { IsEmpty self.new }
     {
-        self.ring.clear();
-        self.held_items = 0;
-        self.base_number = 0;
+        self.base_number = number;
+        self.top_number = number;
+    }
+
+    /// The last number of the run of held numbers that goes on past `front`.
+    pub(crate) fn run_end(&self, front: u64) -> u64
+        ensures from { front ≤ result }
+        ensures run { (m : ℕ) → front < m → m ≤ result → IsSome (held_at self.now m) }
+        ensures stop { held_at self.now (result + 1) ≡ None }
+    {
+        let width = self.slots.len();
+        if front < self.base_number || front - self.base_number >= width as u64 {
+            return front;
+        }
+        let from = (front - self.base_number) as usize;
+        let end = first_place(self.marks.as_slice(), self.first, width, false, from, width);
+        self.base_number + end as u64
+    }
+
+    /// How many numbers after `front` hold nothing, up to the limit, to the first that holds an
+    /// item, or to the end of the window. None are counted where `front` isn't in the window.
+    pub(crate) fn missing_after(&self, front: u64, limit: u64) -> u16
+        requires { front ≤ limit }
+        ensures free { (m : ℕ) → front < m → m ≤ front + result → held_at self.now m ≡ None }
+        ensures within { front + result ≤ limit }
+        ensures inside { (result ≡ 0) ⊎ (front + result ≤ self.now.base + self.now.width) }
+        ensures stop { (front < self.now.base) ⊎ (self.now.base + self.now.width ≤ front + result)
+            ⊎ (front + result ≡ limit) ⊎ IsSome (held_at self.now (front + result + 1)) }
+    {
+        let width = self.slots.len();
+        if front < self.base_number || front - self.base_number >= width as u64 {
+            return 0;
+        }
+        let from = (front - self.base_number) as usize;
+        let end = (limit - self.base_number).min(width as u64) as usize;
+        let place = first_place(self.marks.as_slice(), self.first, width, true, from, end);
+        (place - from) as u16
     }
 }

@@ -1,7 +1,7 @@
 //! Which line was first, in counts.
 
 ghost use Rattle.std.specs.Prelude.{◌≡◌};
-ghost use Rattle.line_arbiter.specs.States.{count_on};
+ghost use Rattle.line_arbiter.specs.Counts.{count_on};
 ghost use Rattle.line_arbiter.specs.Steps.{counted};
 
 use feed_types::LineId;
@@ -16,7 +16,7 @@ pub(crate) struct Wins {
 }
 
 impl Model for Wins {
-    ghost use Rattle.line_arbiter.specs.States.{Counts};
+    ghost use Rattle.line_arbiter.specs.Counts.{Counts};
 
     ghost Value = { Counts };
 

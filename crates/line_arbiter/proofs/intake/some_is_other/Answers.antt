@@ -15,13 +15,13 @@ loop-i-preserved c =
     let count : c.next.new.self.count ≡ n + 1 = omega (arith, c.in-Some.ensures.steps.1, c.in-Some.ensures.steps.2) in
     let place : c.in-Some.i ≡ n = omega (arith, c.in-Some.ensures.steps.1, c.in-Some.ensures.steps.2) in
     let item : item_of c.in-Some.message.now ≡ message_item p n = ap item_of (sym t.here) in
-    let P : ℕ → Type 0 = λ k. HoldsNoOther held (c.number-first.result + k) (message_item p k) in
-    let here : P n = rw (← item, ← place) (c.if-is_other.ensures) in
+    let Agrees : ℕ → Type 0 = λ k. HoldsNoOther held (c.number-first.result + k) (message_item p k) in
+    let here : Agrees n = rw (← item, ← place) (c.if-is_other.ensures) in
     record {
       can = (tt, tt, inl (let k = next.len in let f = numbers_fit p c.number-first.ensures.content in let o = c.number-first.ensures.content.from_one in omega arith));
       finite = tt;
       at = rw count next;
-      agrees = rw count (below_more P n c.loop-i.invariant.agrees here);
+      agrees = rw count (below_more Agrees n c.loop-i.invariant.agrees here);
     }
 
 pub returns : goal.returns

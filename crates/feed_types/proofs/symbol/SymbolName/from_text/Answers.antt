@@ -1,4 +1,4 @@
-use Rattle.std.proofs.Common.{rules, ◌≡◌, ◌-◌, List, ℕ, ◌++◌, ◌∷◌, [], length, drop, replicate, ap, ◌∙◌, sym, subst, true}
+use Rattle.std.proofs.Common.{rules, ◌≡◌, List, ℕ, ◌++◌, ◌∷◌, [], length, drop, replicate, ap, ◌∙◌, sym, subst, true}
 use Rattle.std.specs.Prelude.{IsTrue}
 use Rattle.std.proofs.lemmas.List.{drop-replicate}
 use Rattle.feed_types.specs.Symbols.{filled, is_symbol_name, is_symbol_field}

@@ -3,11 +3,15 @@ use Rattle.std.specs.Prelude.{slice_get}
 use Rattle.line_arbiter.specs.Streams.{stream_to}
 use Rattle.line_arbiter.proofs.Standing.{stands_of}
 use Rattle.line_arbiter.proofs.Nexts.{next_is}
+use Rattle.line_arbiter.proofs.Ending.{none_after_end}
 use Rattle.line_arbiter.proofs.Genuine.{next_allowed}
 use Rattle.line_arbiter.proofs.arbiter.Arbiter.next_ready.Goals as goal
 
 pub returns-clause-stream : goal.returns-clause-stream
-returns-clause-stream g c P fits = c.ready.ensures.value ∙ next_is _ P c.ready.ensures.sound (stands_of fits) ∙ ap (λ n. slice_get (stream_to P n) c.args.self.now.sent) fits.front
+returns-clause-stream g c packets fits = c.ready.ensures.value ∙ next_is _ packets c.ready.ensures.sound (stands_of fits) ∙ ap (λ n. slice_get (stream_to packets n) c.args.self.now.sent) fits.front
 
 pub returns-clause-genuine : goal.returns-clause-genuine
-returns-clause-genuine g c P fits all = rw c.ready.ensures.value (next_allowed g.G.Genuine.carries g.G.Genuine.ends _ _ _ P (stands_of fits) all)
+returns-clause-genuine g c packets fits all = rw c.ready.ensures.value (next_allowed g.G.Genuine.carries g.G.Genuine.ends _ _ _ packets (stands_of fits) all)
+
+pub returns-clause-over : goal.returns-clause-over
+returns-clause-over g c ended = c.ready.ensures.value ∙ none_after_end _ c.ready.ensures.sound ended

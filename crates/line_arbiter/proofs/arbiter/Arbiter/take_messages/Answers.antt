@@ -13,12 +13,12 @@ module _ (g : Over) (c : After-add g) where
   at : ℕ → ℕ → State
   at width base =
       let i = c.self.inside in
-      record { venue = i.venue_id; sessions = i.names.items; session = i.session_name; window = width; sent = base; front = c.run_end-self-inside.result; known = c.raised-self-inside-2.result; end = i.end_number; places = c.fill-new.new.window.places; wins = c.add.new.self; earlier = i.won_before }
+      record { venue = i.venue_id; sessions = i.names.items; session = i.session_name; window = width; sent = base; front = c.run_end-self-inside.result; known = c.raised-self-inside-2.result; end = i.end_number; ring = c.fill-new.new.window.ring; wins = c.add.new.self; earlier = i.won_before }
 
   old : State
   old =
       let i = c.self.inside in
-      record { venue = i.venue_id; sessions = i.names.items; session = i.session_name; window = i.held.width; sent = i.held.base; front = i.run_to; known = i.known_to; end = i.end_number; places = i.held.places; wins = i.won; earlier = i.won_before }
+      record { venue = i.venue_id; sessions = i.names.items; session = i.session_name; window = i.held.width; sent = i.held.base; front = i.run_to; known = i.known_to; end = i.end_number; ring = i.held.ring; wins = i.won; earlier = i.won_before }
 
   takes : TakesIn c.args.line c.fill-new.result old (at c.fill-new.new.window.width c.fill-new.new.window.base) c.args.packet.now
   unfolding at old

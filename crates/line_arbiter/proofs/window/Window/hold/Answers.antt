@@ -1,15 +1,30 @@
-use Rattle.std.proofs.Common.{ap, arith}
-use Rattle.line_arbiter.specs.Holding.{Held}
-use Rattle.line_arbiter.proofs.Windows.{IsHeld-put, hold_held, hold_free}
+use Rattle.std.proofs.Common.{length, refl, arith}
+use Rattle.line_arbiter.specs.Holding.{Ring}
+use Rattle.line_arbiter.proofs.Windows.{Holds, holds, count_most}
 use Rattle.line_arbiter.proofs.window.Window.hold.Goals as goal
+use Rattle.line_arbiter.proofs.window.Window.hold.Goals.{After-mark}
+
+module _ (c : After-mark) where
+  old : Ring
+  old = record { first = c.self.inside.first; slots = c.self.inside.slots.items; marks = c.self.inside.marks.items }
+
+  new : Ring
+  new = record { first = c.self.inside.first; slots = c.set.new.slots.items; marks = c.mark.new.marks.items }
+
+  done : Holds c.self.inside.top_number c.self.inside.held_items c.self.inside.base_number old new c.args.number c.args.item
+  unfolding old new
+  done =
+      let free = rw (← c.self.view_is) at c.requires.free in
+      let within = rw (← c.self.view_is) at c.requires.within in
+      holds _ _ _ old new _ _ _ c.ranges.number.fits c.self.invariant free within refl c.set.ensures c.mark.ensures.here c.mark.ensures.others c.mark.ensures.len
+
+pub overflow_add-self : goal.overflow_add-self
+overflow_add-self c = let most = c.self.invariant.most in let counted = c.self.invariant.counted in omega (arith, count_most (record { base = c.self.inside.base_number; width = length c.self.inside.slots.items; ring = record { first = c.self.inside.first; slots = c.self.inside.slots.items; marks = c.self.inside.marks.items } }))
 
 pub invariant_of-self : goal.invariant_of-self
-invariant_of-self c =
-    let e = ap (λ (held : Held). held.base) c.self.view_is in
-    let w = ap (λ (held : Held). held.width) c.self.view_is in
-    let past = c.requires.past in
-    let fits = c.requires.within in
-    rw (c.put.ensures.items, c.put.ensures.capacity) (IsHeld-put _ _ _ _ _ c.args.item c.self.invariant (omega arith) (omega arith) (hold_free _ _ _ _ c.self.view_is c.args.number c.requires.past c.requires.free))
+unfolding old new
+invariant_of-self c = rw c.max-self-inside.ensures (done (goal.at.invariant_of-self c).After-mark).kept
 
 pub returns-clause-held : goal.returns-clause-held
-returns-clause-held c m = rw c.put.ensures.items (hold_held c.self.inside.base_number c.put.new.ring.capacity c.self.inside.ring.items c.args.self.now (rw c.put.ensures.capacity c.self.view_is) c.args.number c.args.item c.requires.past c.requires.free m)
+unfolding old new
+returns-clause-held c m = rw (← c.self.view_is) ((done (goal.at.returns-clause-held c).After-mark).held m)

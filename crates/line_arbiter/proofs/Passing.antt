@@ -1,0 +1,222 @@
+-- A packet that goes on where nothing is held passes through: its items are the next of the stream.
+use Rattle.std.proofs.Common.{◌≡◌, ℕ, zero, suc, ◌+◌, ◌-◌, ◌<◌, ◌≤◌, Bool, true, List, [], ◌∷◌, ◌++◌, length, drop, map, Option, Some, None, Ok, refl, sym, ap, subst, ◌∙◌, arith, inl, inr, append_assoc, length-append}
+use Rattle.std.specs.Prelude.{◌↔◌, nat_le, IsSome, is_none, IfSome, slice_index_or, count_by, if◌then◌else◌}
+use Rattle.std.specs.List.{range_with_len}
+use Rattle.std.specs.Option.{option_or, unwrap_or}
+use Rattle.std.proofs.lemmas.Bool.{cases_lt, lt-leb, le-leb, lt-ltb, false≢true}
+use Rattle.std.proofs.lemmas.List.{map-append, drop_at}
+use Rattle.std.proofs.lemmas.List.FromFn.{length-map-range_with_len}
+use Rattle.feed_types.specs.declared.item.Item.{Item}
+use Rattle.feed_types.specs.declared.item.Item.TheVariants as items
+use Rattle.feed_types.specs.declared.item.Numbered.{Numbered}
+use Rattle.feed_types.specs.declared.line.LineId.{LineId}
+use Rattle.feed_types.specs.Sessions.{numbered_from}
+use Rattle.mold_packet.specs.declared.packet.Kind.{Kind}
+use Rattle.mold_packet.specs.declared.packet.Kind.TheVariants as kinds
+use Rattle.mold_packet.specs.Content.{Content, IsContent, KindFits}
+use Rattle.quote_payload.specs.Payload.{item_of}
+use Rattle.line_arbiter.specs.declared.outcome.Outcome.{Outcome}
+use Rattle.line_arbiter.specs.declared.outcome.Outcome.TheVariants.{Taken}
+use Rattle.line_arbiter.specs.Packets.{Arrival, arrival_of, carried, end_of, has_number, item_at, known_of, last_of, message_item}
+use Rattle.line_arbiter.specs.Streams.{end_at, front_of, item_numbered, stream_of, stream_to, wins_of}
+use Rattle.line_arbiter.specs.Outcomes.{Agrees, IsOutcome, ToKind, new_count}
+use Rattle.line_arbiter.specs.Through.{PassesThrough, SendsPacket}
+use Rattle.line_arbiter.specs.Counts.{count_on, shown}
+use Rattle.line_arbiter.specs.Holding.{IsEmpty, held_at}
+use Rattle.line_arbiter.specs.States.{State, held_of}
+use Rattle.line_arbiter.specs.Steps.{IsNext, GoesPast, ThroughStep, raised}
+use Rattle.line_arbiter.specs.Fits.{Fits}
+use Rattle.line_arbiter.proofs.Standing.{Stands, stands_of, fits_of}
+use Rattle.line_arbiter.proofs.Answering.{before_is}
+use Rattle.line_arbiter.proofs.Bringing.{carried_more, end_same, known-push}
+use Rattle.line_arbiter.proofs.Counting.{count_first, count_same}
+use Rattle.line_arbiter.proofs.Cursors.{cursor, held_is, length-stream}
+use Rattle.line_arbiter.proofs.Fronts.{not_in, not_none}
+use Rattle.line_arbiter.proofs.LineCounts.{wins_counted}
+use Rattle.line_arbiter.proofs.Options.{IsSome-or}
+
+count_all : (a n : ℕ) → count_by (λ (m : ℕ). true) (range_with_len a n) ≡ n
+count_all a zero = refl
+count_all a (suc n) = count_first (λ (m : ℕ). true) a (range_with_len (a + 1) n) ∙ (let i = count_all (a + 1) n in omega arith)
+
+messages_some : (kind : Kind) (ms : List (List ℕ)) → kind ≡ kinds.Messages → KindFits kind ms → 1 ≤ length ms
+messages_some kind ms e h = let both = subst (λ (k : Kind). KindFits k ms) e h in both.0
+
+inside : (p : Content) (m : ℕ) → p.number ≤ m → m < p.number + length p.messages → has_number p m ≡ true
+inside p m low high = rw (le-leb p.number m low, lt-ltb m (p.number + length p.messages) high) refl
+
+range_split : (a n k : ℕ) → range_with_len a (n + k) ≡ range_with_len a n ++ range_with_len (a + n) k
+range_split a zero k = let e : a + 0 ≡ a = omega arith in let f : 0 + k ≡ k = omega arith in rw (e, f) refl
+range_split a (suc n) k =
+    let e : suc n + k ≡ suc (n + k) = omega arith in
+    let f : a + 1 + n ≡ a + suc n = omega arith in
+    rw e (ap (λ (xs : List ℕ). a ∷ xs) (range_split (a + 1) n k ∙ ap (λ (b : ℕ). range_with_len (a + 1) n ++ range_with_len b k) f))
+
+-- numbers that stand for a packet's messages, one after the other
+numbered_is : (f : ℕ → Numbered) (a : ℕ) (ms : List (List ℕ)) → ((k : ℕ) → k < length ms → f (a + k) ≡ record { number = a + k; item = item_of (slice_index_or ms k []) }) → map f (range_with_len a (length ms)) ≡ numbered_from a (map item_of ms)
+numbered_is f a [] h = refl
+numbered_is f a (x ∷ xs) h =
+    let z : a + 0 ≡ a = omega arith in
+    let first = rw z at (h 0 (omega arith)) in
+    rw first (ap (λ (ys : List Numbered). record { number = a; item = item_of x } ∷ ys) (numbered_is f (a + 1) xs (λ k lt. let e : a + 1 + k ≡ a + suc k = omega arith in rw e (h (suc k) (omega arith)))))
+
+module _ (line : LineId) (old new : State) (p : Content) (packets : List Arrival) (content : IsContent p) (next : IsNext old p) (past : GoesPast line old new p) (name : p.session ≡ old.session) (kind : p.kind ≡ kinds.Messages) (fits : Stands old packets) where
+  abbrev a : Arrival
+  a = record { line = line; packet = p; answer = Ok (Taken (length p.messages) 0) }
+
+  some : 1 ≤ length p.messages
+  some = messages_some p.kind p.messages kind content.fits
+
+  last_is : last_of p ≡ old.sent + length p.messages
+  last_is = let f = next.first in let n = some in omega arith
+
+  none_held : (m : ℕ) → held_at (held_of old) m ≡ None
+  none_held m = next.empty m
+
+  fresh : (m : ℕ) → old.sent < m → carried packets m ≡ None
+  fresh m past = sym (held_is old packets fits m past) ∙ none_held m
+
+  is_fresh : length p.messages ≡ new_count packets p
+  is_fresh = sym (count_same (λ m. is_none (carried packets m)) (λ m. true) p.number (length p.messages) (λ m low high. let f = next.first in ap (λ (x : Option Item). is_none x) (fresh m (omega arith))) ∙ count_all p.number (length p.messages))
+
+  carried_in : (m : ℕ) → old.sent < m → m ≤ last_of p → carried (packets ++ a ∷ []) m ≡ Some (item_at p m)
+  carried_in m low high =
+      let f = next.first in let l = last_is in let n = some in
+      let there = inside p m (omega arith) (omega arith) in
+      carried_more packets a m refl
+      ∙ ap (λ (x : Option Item). option_or x (if has_number p m then Some (item_at p m) else None)) (fresh m low)
+      ∙ ap (λ (b : Bool). if b then Some (item_at p m) else None) there
+
+  carried_past : (m : ℕ) → last_of p < m → carried (packets ++ a ∷ []) m ≡ None
+  carried_past m high =
+      let l = last_is in
+      carried_more packets a m refl
+      ∙ ap (λ (x : Option Item). option_or x (if has_number p m then Some (item_at p m) else None)) (fresh m (omega arith))
+      ∙ ap (λ (b : Bool). if b then Some (item_at p m) else None) (not_in p m high)
+
+  at_sent : new.sent ≡ last_of p
+  at_sent = past.sent
+
+  at_front : new.front ≡ last_of p
+  at_front = ap (λ (x : State). x.front) past.after
+
+  gone : (m : ℕ) → (if nat_le m (last_of p) then None else carried (packets ++ a ∷ []) m) ≡ None
+  gone m = elim (cases_lt (last_of p) m) [
+    | inl lt ↦ ap (λ (b : Bool). if b then None else carried (packets ++ a ∷ []) m) (lt-leb m (last_of p) lt) ∙ carried_past m lt
+    | inr le ↦ ap (λ (b : Bool). if b then None else carried (packets ++ a ∷ []) m) (le-leb m (last_of p) le)
+  ]
+
+  stands_passed : Stands new (packets ++ a ∷ [])
+  stands_passed = record {
+    front = record {
+      all = λ m one most. elim (cases_lt old.sent m) [
+        | inl lt ↦ subst (λ (x : Option Item). IsSome x) (sym (carried_in m lt (let f = at_front in omega arith))) refl
+        | inr le ↦ rw (carried_more packets a m refl) (IsSome-or (carried packets m) _ (fits.front.all m one (let w = next.whole in omega arith)))
+      ];
+      next = rw at_front (carried_past (last_of p + 1) (omega arith));
+    };
+    known = ap (λ (x : State). x.known) past.after ∙ ap (λ (k : ℕ). raised k old.end (last_of p)) fits.known ∙ ap (λ (x : Option ℕ). raised (known_of packets) x (last_of p)) fits.end ∙ sym (known-push packets a refl);
+    end = ap (λ (x : State). x.end) past.after ∙ fits.end ∙ sym (end_same packets a refl);
+    sent = rw (at_front, at_sent) (let l = length-stream (packets ++ a ∷ []) (last_of p) in omega arith);
+    held = λ m. past.empty m ∙ sym (ap (λ (k : ℕ). if nat_le m k then None else carried (packets ++ a ∷ []) m) at_sent ∙ gone m);
+    wins = λ each. ap (λ (x : State). count_on each x.wins) past.after ∙ wins_counted packets a (length p.messages) old.wins old.earlier refl content.from_one is_fresh fits.wins each ∙ ap (λ (x : State). shown (count_on each x.earlier + wins_of (packets ++ a ∷ []) each)) (sym past.after);
+  }
+
+  pub passing_fits : Fits new (packets ++ a ∷ [])
+  passing_fits = fits_of stands_passed
+
+  agrees : Agrees packets old.sent p
+  agrees k item lt past is = let none = fresh (p.number + k) past in absurd cc
+
+  pub passing_answer : IsOutcome old.session old.window old.sent packets p (Ok (Taken (length p.messages) 0))
+  passing_answer =
+      let l = last_is in let w = next.within in
+      inr (
+        name,
+        subst (λ (k : Kind). ToKind k old.window old.sent packets p (Ok (Taken (length p.messages) 0))) (sym kind)
+            (before_is old packets (last_of p) fits next.before, omega arith, agrees, is_fresh, omega arith),
+      )
+
+  numbered_in : (k : ℕ) → k < length p.messages → item_numbered (packets ++ a ∷ []) (p.number + k) ≡ record { number = p.number + k; item = message_item p k }
+  numbered_in k lt =
+      let f = next.first in let l = last_is in
+      let e : p.number + k - p.number ≡ k = omega arith in
+      ap (λ (x : Option Item). record { number = p.number + k; item = unwrap_or x items.Other }) (carried_in (p.number + k) (omega arith) (omega arith))
+      ∙ ap (λ (j : ℕ). record { number = p.number + k; item = message_item p j }) e
+
+  -- what is sent with it, and what is ready behind it
+  pub passing_items : drop old.sent (stream_of (packets ++ a ∷ [])) ≡ numbered_from p.number (map item_of p.messages) ++ drop new.sent (stream_of (packets ++ a ∷ []))
+  passing_items =
+      let Q = packets ++ a ∷ [] in
+      let n = length p.messages in
+      let front : front_of Q ≡ last_of p = sym passing_fits.front ∙ at_front in
+      let sent : new.sent ≡ last_of p = at_sent in
+      let f = next.first in
+      let one : 1 + old.sent ≡ p.number = omega arith in
+      let E = end_at (end_of Q) (last_of p + 1) in
+      let before = map (item_numbered Q) (range_with_len 1 old.sent) in
+      let here = map (item_numbered Q) (range_with_len p.number n) in
+      let stream : stream_of Q ≡ before ++ (here ++ E) =
+      ap (λ (k : ℕ). stream_to Q k) front
+      ∙ ap (λ (k : ℕ). map (item_numbered Q) (range_with_len 1 k) ++ E) last_is
+      ∙ ap (λ (xs : List ℕ). map (item_numbered Q) xs ++ E) (range_split 1 old.sent n ∙ ap (λ (k : ℕ). range_with_len 1 old.sent ++ range_with_len k n) one)
+      ∙ ap (λ (xs : List Numbered). xs ++ E) (map-append (item_numbered Q) (range_with_len 1 old.sent) (range_with_len p.number n))
+      ∙ append_assoc before here E in
+      let long : length (before ++ here) ≡ last_of p = length-append before here ∙ (let x = length-map-range_with_len (item_numbered Q) 1 old.sent in let y = length-map-range_with_len (item_numbered Q) p.number n in let l = last_is in omega arith) in
+      let rest : drop new.sent (stream_of Q) ≡ E =
+      ap (λ (k : ℕ). drop k (stream_of Q)) sent ∙ ap (λ (xs : List Numbered). drop (last_of p) xs) (stream ∙ sym (append_assoc before here E)) ∙ drop_at (before ++ here) E (last_of p) long in
+      ap (λ (xs : List Numbered). drop old.sent xs) stream
+      ∙ drop_at before (here ++ E) old.sent (length-map-range_with_len (item_numbered Q) 1 old.sent)
+      ∙ ap (λ (xs : List Numbered). xs ++ E) (numbered_is (item_numbered Q) p.number p.messages numbered_in)
+      ∙ ap (λ (xs : List Numbered). numbered_from p.number (map item_of p.messages) ++ xs) (sym rest)
+
+-- the packet passes through exactly where it is the next one in the arbiter's state
+pub next_of_packets : (s : State) (packets : List Arrival) (p : Content) → Stands s packets → IsContent p → PassesThrough s.session s.window s.sent packets p → IsNext s p
+next_of_packets s packets p fits content by =
+    let some = messages_some p.kind p.messages by.kind content.fits in
+    let empty : IsEmpty (held_of s) = λ m. elim (cases_lt s.sent m) [
+      | inl past ↦ held_is s packets fits m past ∙ by.none_held m past
+      | inr sent ↦ fits.held m ∙ ap (λ (b : Bool). if b then None else carried packets m) (le-leb m s.sent sent)
+    ] in
+    let first = by.next in
+    record {
+      first = by.next;
+      whole = elim (cursor s packets fits) [
+        | inl within ↦ elim (cases_lt s.sent s.front) [
+          | inl lt ↦ absurd (not_none (carried packets s.front) (fits.front.all s.front (omega arith) (omega arith)) (by.none_held s.front lt))
+          | inr le ↦ omega arith
+        ]
+        | inr ended ↦ let before = by.before (s.front + 1) ended.1 in let e = ended.0 in absurd (omega arith)
+      ];
+      empty = empty;
+      before = λ e is. by.before e (sym fits.end ∙ is);
+      within = by.within;
+    }
+
+pub through_next : (s : State) (packets : List Arrival) (p : Content) → Stands s packets → p.session ≡ s.session → p.kind ≡ kinds.Messages → IsNext s p → PassesThrough s.session s.window s.sent packets p
+through_next s packets p fits name kind next = record {
+  name = name;
+  kind = kind;
+  next = next.first;
+  none_held = λ m past. sym (held_is s packets fits m past) ∙ next.empty m;
+  before = before_is s packets (last_of p) fits next.before;
+  within = next.within;
+}
+
+-- the clauses, by the answer
+module _ (line : LineId) (old new : State) (p : Content) (content : IsContent p) (name : p.session ≡ old.session) (kind : p.kind ≡ kinds.Messages) where
+  pub through_iff : (r : Option Outcome) → ThroughStep line old new p r → (packets : List Arrival) → Fits old packets → IsSome r ↔ PassesThrough old.session old.window old.sent packets p
+  through_iff None step packets fits = (λ some. absurd (false≢true some), λ by. absurd (step.1 (next_of_packets old packets p (stands_of fits) content by)))
+  through_iff (Some o) step packets fits = (λ some. through_next old packets p (stands_of fits) name kind step.0, λ by. refl)
+
+  pub outcome_some : (r : Option Outcome) → ThroughStep line old new p r → (packets : List Arrival) → Fits old packets → IfSome r (λ o. IsOutcome old.session old.window old.sent packets p (Ok o))
+  outcome_some None step packets fits = tt
+  outcome_some (Some o) step packets fits = rw step.2 (passing_answer line old new p packets content step.0 step.1 name kind (stands_of fits))
+
+  pub fits_some : (r : Option Outcome) → ThroughStep line old new p r → (packets : List Arrival) → Fits old packets → IfSome r (λ o. Fits new (packets ++ arrival_of line p (Ok o) ∷ []))
+  fits_some None step packets fits = tt
+  fits_some (Some o) step packets fits = rw step.2 (passing_fits line old new p packets content step.0 step.1 name kind (stands_of fits))
+
+  pub items_some : (r : Option Outcome) → ThroughStep line old new p r → (packets : List Arrival) → Fits old packets → IfSome r (λ o. SendsPacket old.sent new.sent p (packets ++ arrival_of line p (Ok o) ∷ []))
+  items_some None step packets fits = tt
+  items_some (Some o) step packets fits = rw step.2 (passing_items line old new p packets content step.0 step.1 name kind (stands_of fits))

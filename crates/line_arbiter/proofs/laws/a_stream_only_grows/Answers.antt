@@ -1,0 +1,5 @@
+use Rattle.line_arbiter.proofs.Below.{answered_grows}
+use Rattle.line_arbiter.proofs.laws.a_stream_only_grows.Goals as goal
+
+pub returns : goal.returns
+returns c = answered_grows

@@ -1,0 +1,5 @@
+use Rattle.line_arbiter.proofs.Below.{answered_more}
+use Rattle.line_arbiter.proofs.laws.answers_go_on.Goals as goal
+
+pub returns : goal.returns
+returns c = answered_more

@@ -1,0 +1,5 @@
+use Rattle.line_arbiter.proofs.OneOutcome.{one_renewal}
+use Rattle.line_arbiter.proofs.laws.one_renewal.Goals as goal
+
+pub returns : goal.returns
+returns c = one_renewal

@@ -1,0 +1,13 @@
+use Rattle.std.proofs.Common.{◌≡◌, ℕ, ◌-◌, ◌<◌, ◌≤◌}
+use Rattle.std.specs.Prelude.{not}
+use Rattle.line_arbiter.specs.Marks.{is_marked}
+use Rattle.line_arbiter.proofs.marks.first_slot.Given as goal
+
+abbrev pub invariant-loop-at : goal.invariant-loop-at
+invariant-loop-at l = record {
+  from : l.from ≤ l.at;
+  others : (i : ℕ) → l.from ≤ i → i < l.at → i < l.end → is_marked l.marks i ≡ not l.marked;
+}
+
+abbrev pub decreases-loop-at : goal.decreases-loop-at
+decreases-loop-at l = l.end - l.at

@@ -1,0 +1,8 @@
+use Rattle.line_arbiter.proofs.Marking.{mark_here, mark_others}
+use Rattle.line_arbiter.proofs.marks.mark.Goals as goal
+
+pub returns-clause-here : goal.returns-clause-here
+returns-clause-here c = mark_here c.args.marks.now.items c.args.slot c.index_mut.result.now c.requires c.index_mut.ensures.value
+
+pub returns-clause-others : goal.returns-clause-others
+returns-clause-others c = mark_others c.args.marks.now.items c.args.slot c.index_mut.result.now c.requires c.index_mut.ensures.value

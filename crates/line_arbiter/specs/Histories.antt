@@ -1,0 +1,49 @@
+-- What came to one venue: its sessions, those that are over and the present one.
+use Rattle.std.specs.Prelude.{ℕ, List, [], ◌∷◌, ◌++◌, map, flat_map}
+use Rattle.feed_types.specs.declared.item.Numbered.{Numbered}
+use Rattle.line_arbiter.specs.Packets.{Arrival}
+use Rattle.line_arbiter.specs.Streams.{stream_of}
+
+-- a session that a venue has begun: its name, and the packets that came, each with its line and its
+-- answer
+pub record Begun : Type 0 where
+  pub name : List ℕ
+  pub packets : List Arrival
+
+-- a venue's sessions: those that are over, and the present one
+pub record History : Type 0 where
+  pub earlier : List Begun
+  pub present : Begun
+
+-- nothing came yet of the session of this name
+abbrev pub new_session : List ℕ → Begun
+new_session name = record { name = name; packets = [] }
+
+-- a venue to which nothing came, with the name of its first session
+abbrev pub new_history : List ℕ → History
+new_history name = record { earlier = []; present = new_session name }
+
+-- all sessions of the venue, the present one last
+abbrev pub all_begun : History → List Begun
+all_begun h = h.earlier ++ h.present ∷ []
+
+-- the names of its sessions, the present one last
+abbrev pub names_of : History → List (List ℕ)
+names_of h = map (λ session. session.name) (all_begun h)
+
+-- the streams of these sessions, one after another
+abbrev pub items_of : List Begun → List Numbered
+items_of sessions = flat_map (λ session. stream_of session.packets) sessions
+
+-- the streams of all its sessions, one after another
+abbrev pub streams_of : History → List Numbered
+streams_of h = items_of (all_begun h)
+
+-- one more packet of the present session came
+abbrev pub after_arrival : History → Arrival → History
+after_arrival h a =
+    record h { present = record h.present { packets = h.present.packets ++ a ∷ [] } }
+
+-- the present session is over, and this one begins
+abbrev pub after_renewal : History → List ℕ → History
+after_renewal h name = record { earlier = all_begun h; present = new_session name }
