@@ -117,6 +117,7 @@ fn read_halt(message: &[u8]) -> Item
 /// Everything else is [`Item::Other`]: another first byte, another length, a symbol that isn't a
 /// name of 1 to 8 bytes and then spaces, another state. [`Item::End`] is announced by a packet and
 /// is no message.
+#[inline(always)]
 #[tactic(auto, unfolding(crate::specs::Payload::item_of))]
 pub fn read_item(message: &[u8]) -> Item
     ensures value { result ≡ item_of message.now }
