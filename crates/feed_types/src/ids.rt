@@ -7,7 +7,7 @@ use std::fmt;
 use std::marker::Model;
 
 /// One of up to 16 venues (exchanges), counted from 0 in the order of the configuration.
-#[derive(Clone, Copy, Debug, PartialEq, Eq, PartialOrd, Ord, Hash)]
+#[derive(Clone, Copy, Debug, Default, PartialEq, Eq, PartialOrd, Ord, Hash)]
 pub struct VenueId {
     place: u8,
 }

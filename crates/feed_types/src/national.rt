@@ -8,7 +8,7 @@ use std::fmt;
 
 /// The best quotation of one side: who shows it, the price in ten-thousandths of a dollar, and the
 /// size in shares.
-#[derive(Clone, Copy, Debug, PartialEq, Eq, Hash)]
+#[derive(Clone, Copy, Debug, Default, PartialEq, Eq, Hash)]
 pub struct Best {
     pub venue: VenueId,
     pub price: u32,

@@ -1,0 +1,3 @@
+pub mod Advising
+pub mod Boxed
+pub mod Copying

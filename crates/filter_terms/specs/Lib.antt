@@ -1,0 +1,9 @@
+pub mod Terms
+pub mod Copies
+pub mod Boxes
+pub mod Answerers
+pub mod Filters
+pub mod Allowed
+pub mod Advisers
+pub mod Strategies
+pub mod Text

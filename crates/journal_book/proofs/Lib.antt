@@ -1,0 +1,7 @@
+pub mod Growth
+pub mod Rising
+pub mod Prefixes
+pub mod CursorMoving
+pub mod Adding
+pub mod NextPlaces
+pub mod Offering

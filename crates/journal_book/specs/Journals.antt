@@ -1,0 +1,105 @@
+-- What contracts see of a journal.
+use Rattle.std.specs.Prelude.{◌≡◌, ℕ, ◌<◌, ◌≤◌, List, [], ◌∷◌, ◌++◌, Bool, true, length, map, filter, take, slice_get, slice_set, Option, MatchOption, option_and_then, Result, Ok, Err}
+use Rattle.std.specs.Option.{option_map}
+use Rattle.feed_types.specs.declared.journal.Entry.{Entry}
+use Rattle.feed_types.specs.declared.journal.Entry.TheVariants.{SelfHelp}
+use Rattle.feed_types.specs.declared.journal.Notice.{Notice}
+use Rattle.nbbo_book.specs.Eligible.{is_self_helped}
+use Rattle.filter_terms.specs.declared.terms.Terms.{Terms}
+use Rattle.filter_terms.specs.Terms.{meets}
+use Rattle.journal_book.specs.declared.cursor.Cursor.{Cursor}
+use Rattle.journal_book.specs.declared.fault.JournalFault.{JournalFault}
+use Rattle.journal_book.specs.declared.fault.JournalFault.TheVariants.{NoMemory, JournalFull, UnknownVenue, AlreadySo, TooManySubscribers}
+use Rattle.journal_book.specs.Changes.{changes_of}
+
+-- The configured symbols, the number of venues, how many entries the journal holds, the entries, a
+-- cursor for each subscriber, and whether there is room for one more entry and all its changes.
+pub record JournalState : Type 0 where
+  pub symbols : List (List ℕ)
+  pub venues : ℕ
+  pub journal : ℕ
+  pub entries : List Entry
+  pub cursors : List Cursor
+  pub ready : Bool
+
+-- the journal's numbered changes
+abbrev pub changes : JournalState → List Notice
+changes state = changes_of state.symbols state.entries
+
+-- a subscriber's terms, and how many notices were offered to it
+pub record Subscription : Type 0 where
+  pub terms : Terms
+  pub offered : ℕ
+
+-- the notices that a subscriber was offered: those that meet its terms, of those that were looked at
+abbrev pub offered_of : List Notice → Cursor → List Notice
+offered_of notices cursor = filter (meets cursor.terms) (take cursor.seen notices)
+
+abbrev pub subscription_of : List Notice → Cursor → Subscription
+subscription_of notices cursor =
+    record { terms = cursor.terms; offered = length (offered_of notices cursor) }
+
+-- the subscribers, in the order of their ids
+abbrev pub subscriptions_of : JournalState → List Subscription
+subscriptions_of state = map (subscription_of (changes state)) state.cursors
+
+-- the subscriber's terms
+abbrev pub terms_at : JournalState → ℕ → Option Terms
+terms_at state id = option_map (λ cursor. cursor.terms) (slice_get state.cursors id)
+
+-- how many of the changes were looked at for the subscriber
+abbrev pub seen_at : JournalState → ℕ → Option ℕ
+seen_at state id = option_map (λ cursor. cursor.seen) (slice_get state.cursors id)
+
+-- the first change that wasn't looked at for the subscriber
+abbrev pub unseen_at : JournalState → ℕ → Option Notice
+unseen_at state id = option_and_then (slice_get (changes state)) (seen_at state id)
+
+-- so many changes were looked at for the subscriber, and nothing else is another than before
+abbrev pub LooksTo : JournalState → ℕ → ℕ → JournalState → Type 0
+LooksTo old id place new = MatchOption (slice_get old.cursors id) ⊥
+    (λ cursor. new ≡ record old { cursors = slice_set old.cursors id (record cursor { seen = place }) })
+
+-- the answer to `subscribe`, by cases
+abbrev pub Subscribes : JournalState → Terms → Result ℕ (JournalFault × Terms) → JournalState → Type 0
+Subscribes old terms (Ok id) new =
+    (id ≡ length old.cursors) × (length old.cursors < 32)
+    × (new ≡ record old { cursors = old.cursors ++ record { terms = terms; seen = 0 } ∷ [] })
+Subscribes old terms (Err (TooManySubscribers, back)) new =
+    (32 ≤ length old.cursors) × (back ≡ terms) × (new ≡ old)
+Subscribes old terms (Err (NoMemory, back)) new =
+    (length old.cursors < 32) × (back ≡ terms) × (new ≡ old)
+Subscribes old terms (Err (JournalFull, back)) new = ⊥
+Subscribes old terms (Err (UnknownVenue, back)) new = ⊥
+Subscribes old terms (Err (AlreadySo, back)) new = ⊥
+
+-- one entry more, and nothing else, but for the room
+abbrev pub Journals : JournalState → Entry → JournalState → Type 0
+Journals old entry new =
+    new ≡ record old { entries = old.entries ++ entry ∷ []; ready = new.ready }
+
+-- the answer to `reserve_one`, by cases: each with when it comes and what the journal is then
+abbrev pub Reserves : JournalState → Result (Unit {0}) JournalFault → JournalState → Type 0
+Reserves old (Ok u) new = (length old.entries < old.journal) × (new ≡ record old { ready = true })
+Reserves old (Err JournalFull) new = (old.journal ≤ length old.entries) × (new ≡ old)
+Reserves old (Err NoMemory) new = (length old.entries < old.journal) × (new ≡ old)
+Reserves old (Err UnknownVenue) new = ⊥
+Reserves old (Err AlreadySo) new = ⊥
+Reserves old (Err TooManySubscribers) new = ⊥
+
+-- the venue's self-help is on, or isn't, as declared
+abbrev pub IsSo : JournalState → ℕ → Bool → Type 0
+IsSo state venue on = is_self_helped state.entries venue ≡ on
+
+-- the answer to `declare`, by cases in the order in which they are tried
+abbrev pub Declares : JournalState → ℕ → Bool → Result ℕ JournalFault → JournalState → Type 0
+Declares old venue on (Err UnknownVenue) new = (old.venues ≤ venue) × (new ≡ old)
+Declares old venue on (Err AlreadySo) new = (venue < old.venues) × IsSo old venue on × (new ≡ old)
+Declares old venue on (Err JournalFull) new =
+    (venue < old.venues) × (¬ IsSo old venue on) × (old.journal ≤ length old.entries) × (new ≡ old)
+Declares old venue on (Err NoMemory) new =
+    (venue < old.venues) × (¬ IsSo old venue on) × (length old.entries < old.journal) × (new ≡ old)
+Declares old venue on (Err TooManySubscribers) new = ⊥
+Declares old venue on (Ok position) new =
+    (venue < old.venues) × (¬ IsSo old venue on) × (length old.entries < old.journal)
+    × Journals old (SelfHelp venue on) new × (position ≡ length new.entries)

@@ -1,0 +1,29 @@
+-- Cited by private clauses alone: what a journal keeps of its parts.
+use Rattle.std.specs.Prelude.{◌≡◌, ℕ, ◌+◌, ◌≤◌, nat_lt, nat_le, Bool, ◌&&◌, List, length, slice_get, slice_set, MatchOption}
+use Rattle.std.specs.List.{AllByRecursion}
+use Rattle.feed_types.specs.declared.journal.Entry.{Entry}
+use Rattle.feed_types.specs.declared.journal.Notice.{Notice}
+use Rattle.nbbo_book.specs.Books.{BookState, Fits}
+use Rattle.journal_book.specs.declared.cursor.Cursor.{Cursor}
+use Rattle.journal_book.specs.Changes.{changes_of}
+
+-- the book and the notices are those of the entries, and no cursor is past the notices
+pub record Keeps (book : BookState) (venues limit scratch : ℕ) (entries : List Entry) (notices : List Notice) (cursors : List Cursor) : Type 0 where
+  pub fits : Fits book entries
+  pub last : book.last ≡ length entries
+  pub venues_same : book.venues ≡ venues
+  pub all : notices ≡ changes_of book.symbols entries
+  pub within : length entries ≤ limit
+  pub room : length book.symbols ≤ scratch
+  pub few : length cursors ≤ 32
+  pub seen : AllByRecursion (λ cursor. cursor.seen ≤ length notices) cursors
+
+-- there is room for one more entry, within the journal's limit, and for all its changes
+abbrev pub has_room : ℕ → ℕ → ℕ → ℕ → ℕ → ℕ → Bool
+has_room limit symbols entries entry_room notices notice_room =
+    nat_lt entries limit && (nat_lt entries entry_room && nat_le (notices + symbols) notice_room)
+
+-- the cursor at the index is at this place, and the others are where they were
+abbrev pub CursorMoves : List Cursor → ℕ → ℕ → List Cursor → Type 0
+CursorMoves old index place new = MatchOption (slice_get old index) ⊥
+    (λ cursor. new ≡ slice_set old index (record cursor { seen = place }))

@@ -1,0 +1,279 @@
+//! The journal of entries with the changes that they make, and a cursor for each subscriber.
+
+ghost use Rattle.std.specs.Prelude.{◌≡◌, ◌<◌, ◌≤◌, ◌↔◌, ◌∷◌, [], ◌++◌, ◌⊎◌, length, IsTrue, IsSome, IfSome, IfOk, OnOk, IsErrOf, All, Some};
+ghost use Rattle.std.specs.List.{IsDistinct};
+ghost use Rattle.std.specs.Str.{bytes_eq};
+ghost use Rattle.std.specs.Vec.{vec_len, vec_capacity};
+ghost use Rattle.journal_book.specs.Keeping.{Keeps, CursorMoves};
+
+use crate::cursor::Cursor;
+use crate::fault::JournalFault;
+use crate::notices::push_notices;
+use feed_types::{Entry, Item, National, Notice, Numbered, Quote, SubscriberId, SymbolName, VenueId};
+use filter_terms::Terms;
+use nbbo_book::{Book, BookFault, Change};
+use std::alloc::Global;
+use std::marker::Model;
+
+/// How many subscribers there are at most.
+const MAX_SUBSCRIBERS: usize = 32;
+
+/// The entries, in the order in which they were taken, the changes of the national best that they made,
+/// numbered from 1, and how far each subscriber has come in them. It holds no closure.
+///
+/// Take a [`Journal`] where the filters are kept beside it, as behind a lock whose contract names more
+/// than this crate does; take a [`Consolidator`](crate::Consolidator) where one value is to keep both.
+#[derive(Drop)]
+pub struct Journal {
+    book: Book,
+    venue_count: usize,
+    limit: u32,
+    entries: Vec<Entry>,
+    notices: Vec<Notice>,
+    made: Vec<Change>,
+    cursors: Vec<Cursor>,
+}
+
+impl Model for Journal {
+    ghost use Rattle.std.specs.Prelude.{◌+◌, ◌&&◌, nat_lt, nat_le, length};
+    ghost use Rattle.std.specs.Vec.{vec_len, vec_capacity};
+    ghost use Rattle.std.specs.Coded.{codes};
+    ghost use Rattle.filter_terms.specs.contracts.terms.Terms as terms_type;
+    ghost use Rattle.journal_book.specs.Journals.{JournalState};
+    ghost use Rattle.journal_book.specs.Keeping.{Keeps, has_room};
+
+    ghost Value = { JournalState };
+
+    ghost coded = { Prim.hlevel (codes, terms_type.the_row.coded) };
+
+    ghost view = { λ j. record {
+        symbols = j.book.symbols; venues = j.venue_count; journal = j.limit;
+        entries = j.entries.items; cursors = j.cursors.items;
+        ready = has_room j.limit (length j.book.symbols) (vec_len j.entries) (vec_capacity j.entries) (vec_len j.notices) (vec_capacity j.notices) } };
+
+    ghost invariant = { λ j. Keeps j.book j.venue_count j.limit (vec_capacity j.made) j.entries.items j.notices.items j.cursors.items };
+}
+
+/// Appends the entry, for which there is room.
+fn push_entry(entries: &mut Vec<Entry>, entry: Entry)
+    requires { vec_len entries.old < vec_capacity entries.old }
+    ensures { entries.new.items ≡ entries.old.items ++ entry ∷ [] }
+{
+    let _named: Option<(Numbered, Item, Quote)> = None;
+    entries.push_reserved(entry);
+}
+
+/// Moves the subscriber's cursor to this place.
+fn move_cursor(cursors: &mut Vec<Cursor>, index: usize, place: usize)
+    requires { index < vec_len cursors.old }
+    ensures { CursorMoves cursors.old.items index place cursors.new.items }
+{
+    cursors[index].seen = place;
+}
+
+impl Journal {
+    ghost use Rattle.std.specs.Prelude.{true, false, Ok, Err, None, slice_get};
+    ghost use Rattle.nbbo_book.specs.Books.{venue_of, is_configured};
+    ghost use Rattle.nbbo_book.specs.Nationals.{national_of};
+    ghost use Rattle.nbbo_book.specs.Eligible.{is_self_helped};
+    ghost use Rattle.journal_book.specs.Journals.{JournalState, changes, subscriptions_of, Journals, Reserves, Declares, Subscribes, LooksTo, terms_at, seen_at, unseen_at};
+
+    /// A journal of no entries and no subscribers, over so many venues, 1 to 16, and these symbols, at
+    /// most 4,096 and each once. It holds as many entries as `journal` says.
+    ///
+    /// The refusals are those of [`Book::new`], in its order.
+    pub fn new(
+        alloc: Global,
+        symbols: &[SymbolName],
+        venue_count: usize,
+        journal: u32,
+    ) -> Result<Journal, BookFault>
+        ensures new { IfOk result (λ made. made ≡ record { symbols = symbols.now; venues = venue_count; journal = journal; entries = []; cursors = []; ready = false }) }
+        ensures distinct { OnOk result (IsDistinct bytes_eq symbols.now) }
+        ensures bad_venue_count { IsErrOf result BookFault.BadVenueCount ↔ ((venue_count ≡ 0) ⊎ (16 < venue_count)) }
+        ensures too_many_symbols { IsErrOf result BookFault.TooManySymbols ↔ ((0 < venue_count) × (venue_count ≤ 16) × (4096 < length symbols.now)) }
+        ensures duplicate_symbol { IsErrOf result BookFault.DuplicateSymbol → (0 < venue_count) × (venue_count ≤ 16) × (length symbols.now ≤ 4096) × (¬ IsDistinct bytes_eq symbols.now) }
+    {
+        let book = Book::new(alloc, symbols, venue_count)?;
+        let Ok(made) = Vec::with_capacity(alloc, symbols.len()) else {
+            return Err(BookFault::NoMemory);
+        };
+        Ok(Journal {
+            book,
+            venue_count,
+            limit: journal,
+            entries: Vec::new(alloc),
+            notices: Vec::new(alloc),
+            made,
+            cursors: Vec::new(alloc),
+        })
+    }
+
+    /// Makes room for one entry and all changes that it can make: JournalFull where the journal has as
+    /// many entries as it holds, else NoMemory where room was missing and refused.
+    pub fn reserve_one(&mut self) -> Result<(), JournalFault>
+        ensures { Reserves self.old result self.new }
+    {
+        if self.entries.len() >= self.limit as usize {
+            return Err(JournalFault::JournalFull);
+        }
+        if self.entries.reserve(1).is_err() {
+            return Err(JournalFault::NoMemory);
+        }
+        if self.notices.reserve(self.book.symbol_count()).is_err() {
+            return Err(JournalFault::NoMemory);
+        }
+        Ok(())
+    }
+
+    /// Whether there is room for one more entry and all changes that it can make.
+    pub fn has_room(&self) -> bool
+        ensures { result ≡ self.now.ready }
+    {
+        self.entries.len() < self.limit as usize
+            && self.entries.len() < self.entries.capacity()
+            && self.notices.len() + self.book.symbol_count() <= self.notices.capacity()
+    }
+
+    /// Journals the entry and its changes, and gives its position.
+    fn add(&mut self, entry: Entry) -> u64
+        requires ready { IsTrue self.old.ready }
+        requires venue { venue_of entry < self.old.venues }
+        ensures journals { Journals self.old entry self.new }
+        ensures position { result ≡ length self.new.entries }
+        ensures offered { subscriptions_of self.new ≡ subscriptions_of self.old }
+    {
+        let position = self.entries.len() as u64 + 1;
+        self.made.clear();
+        self.book.apply(position, &entry, &mut self.made);
+        push_notices(&mut self.notices, self.made.as_slice());
+        push_entry(&mut self.entries, entry);
+        position
+    }
+
+    /// Journals the venue's item and its changes, and gives its position, which counts from 1. It takes no
+    /// memory: there is room, and the venue is below the count.
+    pub fn record(&mut self, venue: VenueId, numbered: Numbered) -> u64
+        requires ready { IsTrue self.old.ready }
+        requires venue { venue < self.old.venues }
+        ensures journals { Journals self.old (Entry.Consumed venue numbered) self.new }
+        ensures position { result ≡ length self.new.entries }
+        ensures offered { subscriptions_of self.new ≡ subscriptions_of self.old }
+    {
+        self.add(Entry::Consumed { venue, numbered })
+    }
+
+    /// Declares self-help on the venue, or withdraws it, and gives the entry's position. It is refused as
+    /// UnknownVenue, AlreadySo where the venue's self-help is in that state (off at first), JournalFull
+    /// or NoMemory: the first of these that fits.
+    pub fn declare(&mut self, venue: VenueId, on: bool) -> Result<u64, JournalFault>
+        ensures declares { Declares self.old venue on result self.new }
+        ensures offered { subscriptions_of self.new ≡ subscriptions_of self.old }
+    {
+        if venue.index() >= self.venue_count {
+            return Err(JournalFault::UnknownVenue);
+        }
+        if self.book.is_self_helped(venue) == on {
+            return Err(JournalFault::AlreadySo);
+        }
+        self.reserve_one()?;
+        Ok(self.add(Entry::SelfHelp { venue, on }))
+    }
+
+    /// Whether self-help stands on the venue.
+    pub fn is_self_helped(&self, venue: VenueId) -> bool
+        ensures { result ≡ is_self_helped self.now.entries venue }
+    {
+        self.book.is_self_helped(venue)
+    }
+
+    /// The entries, each at its position less one.
+    pub fn entries(&self) -> &[Entry]
+        ensures value { result.now ≡ self.now.entries }
+        ensures within { length result.now ≤ self.now.journal }
+    {
+        self.entries.as_slice()
+    }
+
+    /// The changes of the entries, numbered from 1.
+    pub fn changes(&self) -> &[Notice]
+        ensures { result.now ≡ changes self.now }
+    {
+        self.notices.as_slice()
+    }
+
+    /// The national best of the symbol after all entries, `None` exactly where it isn't configured.
+    pub fn national(&self, symbol: &SymbolName) -> Option<National>
+        ensures configured { IsSome result ↔ IsTrue (is_configured self.now.symbols symbol.now) }
+        ensures value { IfSome result (λ national. national ≡ national_of self.now.entries symbol.now) }
+    {
+        self.book.national(symbol)
+    }
+
+    /// Adds a subscriber of these terms, to which nothing was offered, and gives its id, the next one from
+    /// 0 on. It is refused, with the terms, as TooManySubscribers where there are 32, else as NoMemory.
+    pub fn subscribe(&mut self, terms: Terms) -> Result<SubscriberId, (JournalFault, Terms)>
+        ensures { Subscribes self.old terms result self.new }
+    {
+        let count = self.cursors.len();
+        let Some(id) = SubscriberId::new(count as u8) else {
+            return Err((JournalFault::TooManySubscribers, terms));
+        };
+        if self.cursors.reserve(1).is_err() {
+            return Err((JournalFault::NoMemory, terms));
+        }
+        self.cursors.push_reserved(Cursor { terms, seen: 0 });
+        Ok(id)
+    }
+
+    /// How many subscribers there are.
+    pub fn subscriber_count(&self) -> usize
+        ensures value { result ≡ length self.now.cursors }
+        ensures few { result ≤ 32 }
+    {
+        self.cursors.len()
+    }
+
+    /// Whether there is a subscriber of this id.
+    pub fn has(&self, id: SubscriberId) -> bool
+        ensures { IsTrue result ↔ (id < length self.now.cursors) }
+    {
+        id.index() < self.cursors.len()
+    }
+
+    /// The subscriber's terms.
+    pub fn terms(&self, id: SubscriberId) -> &Terms
+        requires { id < length self.now.cursors }
+        ensures { terms_at self.now id ≡ Some result.now }
+    {
+        &self.cursors[id.index()].terms
+    }
+
+    /// How many of the changes were looked at for the subscriber.
+    pub fn seen(&self, id: SubscriberId) -> usize
+        requires { id < length self.now.cursors }
+        ensures value { seen_at self.now id ≡ Some result }
+        ensures within { result ≤ length (changes self.now) }
+    {
+        self.cursors[id.index()].seen
+    }
+
+    /// The first change that wasn't looked at for the subscriber.
+    pub fn unseen(&self, id: SubscriberId) -> Option<Notice>
+        requires { id < length self.now.cursors }
+        ensures { result ≡ unseen_at self.now id }
+    {
+        let seen = self.seen(id);
+        self.changes().get(seen).copied()
+    }
+
+    /// From now on so many of the changes were looked at for the subscriber. Whoever keeps the filters
+    /// calls it once the filter was asked about each change before `place`.
+    pub fn look_to(&mut self, id: SubscriberId, place: usize)
+        requires known { id < length self.old.cursors }
+        requires within { place ≤ length (changes self.old) }
+        ensures { LooksTo self.old id place self.new }
+    {
+        move_cursor(&mut self.cursors, id.index(), place);
+    }
+}

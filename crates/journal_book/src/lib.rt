@@ -1,0 +1,24 @@
+//! The journal: its entries, the numbered changes of the national best that they make, and how far
+//! each subscriber has come in them.
+//!
+//! A [`Consolidator`] keeps a [`Journal`] and the subscribers' filters. The journal alone holds no
+//! closure: whoever keeps the filters elsewhere holds the two side by side.
+//!
+//! Contract: the entries are what was recorded and declared, the changes are `changes_of` the entries
+//! (`specs/Changes.antt`), a definition over the whole list, and a subscriber is offered the changes that
+//! meet its terms, in order, from the first one of the journal on. Begin at `journal.rt`.
+#![tactic(auto)]
+
+mod consolidator;
+mod cursor;
+mod fault;
+mod journal;
+mod laws;
+mod notices;
+mod places;
+
+pub use consolidator::Consolidator;
+pub use cursor::Cursor;
+pub use fault::JournalFault;
+pub use journal::Journal;
+pub use laws::{changes_grow_at_their_end, wanted_grow_at_their_end, wanted_numbers_rise};

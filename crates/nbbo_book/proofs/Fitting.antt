@@ -1,0 +1,134 @@
+-- What is kept of a symbol fits the entries, after one more.
+use Rattle.std.proofs.Common.{ℕ, zero, suc, ◌<◌, ◌≤◌, ◌≡◌, ◌+◌, List, [], ◌∷◌, ◌++◌, Bool, true, false, not, refl, ap, sym, ◌∙◌, subst, arith, length, nat_eq, cond, Option, Some, None, unwrap_or, set, get_or, rules}
+use Rattle.std.specs.Str.{bytes_eq}
+use Rattle.feed_types.specs.declared.journal.Entry.{Entry}
+use Rattle.feed_types.specs.declared.journal.Entry.TheVariants.{Consumed, SelfHelp}
+use Rattle.feed_types.specs.declared.item.Item.{Item}
+use Rattle.feed_types.specs.declared.item.Item.TheVariants as item
+use Rattle.feed_types.specs.declared.line.Side.{Side}
+use Rattle.feed_types.specs.declared.line.Side.TheVariants.{Bid, Offer}
+use Rattle.nbbo_book.specs.declared.shown.Shown.{Shown}
+use Rattle.nbbo_book.specs.declared.shown.Standing.{Standing}
+use Rattle.nbbo_book.specs.declared.book_side.BookSide.{BookSide}
+use Rattle.nbbo_book.specs.declared.row.Row.{Row}
+use Rattle.nbbo_book.specs.Sides.{shown_by, side_said, side_of, is_same_side, age_of}
+use Rattle.nbbo_book.specs.Eligible.{self_help_said, is_self_helped, halt_said, is_halted}
+use Rattle.nbbo_book.specs.Books.{standing_at, SideFits, RowFits, venue_of}
+use Rattle.nbbo_book.specs.Rows.{side_shown, side_set, side_gated, row_quoted, row_ended, row_halted, row_helped, row_after, row_after_item, helped_after}
+use Rattle.nbbo_book.specs.Tables.{IsSide, IsRow, may_at}
+use Rattle.nbbo_book.proofs.Ranking.{nat_same, nat_refl}
+use Rattle.nbbo_book.proofs.Said.{side_of-put, helped-put, halted-put, age-kept, age-new, same_side_sound}
+use Rattle.nbbo_book.proofs.Kept.{set_at, set_off, apart_from, standing_set, standing_off, nat_split}
+
+cond_same : {T : Type 0} (b : Bool) (x : T) → cond b x x ≡ x
+cond_same true x = refl
+cond_same false x = refl
+
+nat_other : (w v : ℕ) → nat_eq w v ≡ false → nat_eq v w ≡ false
+nat_other w v h = grind (arith, h)
+
+unsaid : (es : List Entry) (e : Entry) (w : ℕ) (s : List ℕ) (b : Side) → side_said w s b e ≡ None → side_of (es ++ e ∷ []) w s b ≡ side_of es w s b
+unsaid es e w s b h = side_of-put es e w s b ∙ ap (λ o. unwrap_or o (side_of es w s b)) h
+
+told : (es : List Entry) (e : Entry) (w : ℕ) (s : List ℕ) (b : Side) (o : Option Shown) → side_said w s b e ≡ Some o → side_of (es ++ e ∷ []) w s b ≡ o
+told es e w s b o h = side_of-put es e w s b ∙ ap (λ t. unwrap_or t (side_of es w s b)) h
+
+abbrev standing_of : List Entry → ℕ → List ℕ → Side → Standing
+standing_of es v s b = record { shown = side_of es v s b; age = age_of es v s b }
+
+stands_same : (es : List Entry) (e : Entry) (v : ℕ) (s : List ℕ) (b : Side) → side_of (es ++ e ∷ []) v s b ≡ side_of es v s b → standing_of (es ++ e ∷ []) v s b ≡ standing_of es v s b
+stands_same es e v s b h = ap (λ t. record { shown = t; age = age_of (es ++ e ∷ []) v s b }) h ∙ ap (λ t. record { shown = side_of es v s b; age = t }) (age-kept es e v s b h)
+
+-- where each side stays as it is
+pub fits_stay : (es : List Entry) (e : Entry) (s : List ℕ) (b : Side) (ss : List Standing) → ((w : ℕ) → w < 16 → side_of (es ++ e ∷ []) w s b ≡ side_of es w s b) → SideFits es s b ss → SideFits (es ++ e ∷ []) s b ss
+fits_stay es e s b ss same h = λ w l. h w l ∙ sym (stands_same es e w s b (same w l))
+
+-- where one venue's side is told
+fits_shown : (es : List Entry) (e : Entry) (v : ℕ) (o : Option Shown) (s : List ℕ) (b : Side) (k : BookSide) (n : ℕ) (here : Bool) → v < 16 → length k.standings ≡ 16 → n ≡ suc (length es) → ((w : ℕ) → side_said w s b e ≡ cond (nat_eq v w) (Some o) None) → SideFits es s b k.standings → SideFits (es ++ e ∷ []) s b (side_shown b v o n here k).standings
+fits_shown es e v o s b k n here below long young says h =
+    let away : (w : ℕ) → nat_eq w v ≡ false → side_of (es ++ e ∷ []) w s b ≡ side_of es w s b = λ w d. unsaid es e w s b (says w ∙ ap (λ t. cond t (Some o) None) (nat_other w v d)) in
+    let now : side_of (es ++ e ∷ []) v s b ≡ o = told es e v s b o (says v ∙ ap (λ t. cond t (Some o) None) (nat_refl v)) in
+    let was : (standing_at k.standings v).shown ≡ side_of es v s b = ap (λ (t : Standing). t.shown) (h v below) in
+    let st : Standing = record { shown = o; age = n } in
+    let R : Bool → Type 0 = λ t. is_same_side (standing_at k.standings v).shown o ≡ t → SideFits (es ++ e ∷ []) s b (cond t k (side_set b v st here k)).standings in
+    (elim (is_same_side (standing_at k.standings v).shown o) as R [
+      true ↦ λ q. fits_stay es e s b k.standings (λ w l. nat_split w v (side_of (es ++ e ∷ []) w s b ≡ side_of es w s b)
+        (λ same. ap (λ (u : ℕ). side_of (es ++ e ∷ []) u s b) same ∙ now ∙ sym (same_side_sound (standing_at k.standings v).shown o q) ∙ was ∙ ap (λ (u : ℕ). side_of es u s b) (sym same))
+        (away w)) h
+    | false ↦ λ q. λ w l. nat_split w v (standing_at (set k.standings v st) w ≡ standing_of (es ++ e ∷ []) w s b)
+        (λ same.
+          let differs : is_same_side (side_of es v s b) (side_of (es ++ e ∷ []) v s b) ≡ false = ap (λ t. is_same_side t (side_of (es ++ e ∷ []) v s b)) (sym was) ∙ ap (is_same_side (standing_at k.standings v).shown) now ∙ q in
+          let there : standing_at (set k.standings v st) v ≡ standing_of (es ++ e ∷ []) v s b =
+            standing_set k.standings v st (omega (arith, below, long))
+            ∙ ap (λ t. record { shown = t; age = n }) (sym now)
+            ∙ ap (λ t. record { shown = side_of (es ++ e ∷ []) v s b; age = t }) (young ∙ sym (age-new es e v s b differs)) in
+          subst (λ (u : ℕ). standing_at (set k.standings v st) u ≡ standing_of (es ++ e ∷ []) u s b) (sym same) there)
+        (λ d. standing_off k.standings v w st d ∙ h w l ∙ sym (stands_same es e w s b (away w d))) ]) refl
+
+-- the halts of a symbol are those of the entries
+abbrev HaltsFit : List Entry → List ℕ → List Bool → Type 0
+HaltsFit es s xs = (w : ℕ) → w < 16 → get_or xs w false ≡ is_halted es w s
+
+halts_stay : (es : List Entry) (e : Entry) (s : List ℕ) (xs : List Bool) → ((w : ℕ) → halt_said w s e ≡ None) → HaltsFit es s xs → HaltsFit (es ++ e ∷ []) s xs
+halts_stay es e s xs says h = λ w l. h w l ∙ sym (halted-put es e w s ∙ ap (λ o. unwrap_or o (is_halted es w s)) (says w))
+
+halts_set : (es : List Entry) (e : Entry) (v : ℕ) (x : Bool) (s : List ℕ) (xs : List Bool) → v < 16 → length xs ≡ 16 → ((w : ℕ) → halt_said w s e ≡ cond (nat_eq v w) (Some x) None) → HaltsFit es s xs → HaltsFit (es ++ e ∷ []) s (set xs v x)
+halts_set es e v x s xs below long says h = λ w l. nat_split w v (get_or (set xs v x) w false ≡ is_halted (es ++ e ∷ []) w s)
+    (λ same. subst (λ (u : ℕ). get_or (set xs v x) u false ≡ is_halted (es ++ e ∷ []) u s) (sym same)
+      (set_at xs v x false (omega (arith, below, long)) ∙ sym (halted-put es e v s ∙ ap (λ o. unwrap_or o (is_halted es v s)) (says v ∙ ap (λ t. cond t (Some x) None) (nat_refl v)))))
+    (λ d. set_off xs v w x false (apart_from v w d) ∙ h w l ∙ sym (halted-put es e w s ∙ ap (λ o. unwrap_or o (is_halted es w s)) (says w ∙ ap (λ t. cond t (Some x) None) (nat_other w v d))))
+
+row_waits : (es : List Entry) (e : Entry) (r : Row) → ((w : ℕ) (b : Side) → side_said w r.symbol b e ≡ None) → ((w : ℕ) → halt_said w r.symbol e ≡ None) → RowFits es r → RowFits (es ++ e ∷ []) r
+row_waits es e r sides halts h = record {
+  bids = fits_stay es e r.symbol Bid r.bids.standings (λ w l. unsaid es e w r.symbol Bid (sides w Bid)) h.bids;
+  offers = fits_stay es e r.symbol Offer r.offers.standings (λ w l. unsaid es e w r.symbol Offer (sides w Offer)) h.offers;
+  halted = halts_stay es e r.symbol r.halted halts h.halted;
+}
+
+item_fits : (es : List Entry) (v number n m : ℕ) (i : Item) (helped flags : List Bool) (r : Row) → v < 16 → n ≡ suc (length es) → IsRow flags m r → RowFits es r → RowFits (es ++ Consumed v (record { number = number; item = i }) ∷ []) (row_after_item helped n v i r)
+item_fits es v number n m (item.Quote q) helped flags r below young is h =
+    let e : Entry = Consumed v (record { number = number; item = item.Quote q }) in
+    let R : Bool → Type 0 = λ t. bytes_eq q.symbol r.symbol ≡ t → RowFits (es ++ e ∷ []) (cond t (row_quoted helped v q n r) r) in
+    (elim (bytes_eq q.symbol r.symbol) as R [
+      true ↦ λ k. record {
+        bids = fits_shown es e v (Some (shown_by q Bid)) r.symbol Bid r.bids n _ below is.bids.count young (λ w. ap (λ t. cond (nat_eq v w) (cond t (Some (Some (shown_by q Bid))) None) None) k) h.bids;
+        offers = fits_shown es e v (Some (shown_by q Offer)) r.symbol Offer r.offers n _ below is.offers.count young (λ w. ap (λ t. cond (nat_eq v w) (cond t (Some (Some (shown_by q Offer))) None) None) k) h.offers;
+        halted = halts_stay es e r.symbol r.halted (λ w. cond_same (nat_eq v w) None) h.halted;
+      }
+    | false ↦ λ k. row_waits es e r (λ w b. ap (λ t. cond (nat_eq v w) (cond t (Some (Some (shown_by q b))) None) None) k ∙ cond_same (nat_eq v w) None) (λ w. cond_same (nat_eq v w) None) h ]) refl
+item_fits es v number n m (item.Halt s x) helped flags r below young is h =
+    let e : Entry = Consumed v (record { number = number; item = item.Halt s x }) in
+    let R : Bool → Type 0 = λ t. bytes_eq s r.symbol ≡ t → RowFits (es ++ e ∷ []) (cond t (row_halted helped v x r) r) in
+    (elim (bytes_eq s r.symbol) as R [
+      true ↦ λ k. record {
+        bids = fits_stay es e r.symbol Bid r.bids.standings (λ w l. unsaid es e w r.symbol Bid (cond_same (nat_eq v w) None)) h.bids;
+        offers = fits_stay es e r.symbol Offer r.offers.standings (λ w l. unsaid es e w r.symbol Offer (cond_same (nat_eq v w) None)) h.offers;
+        halted = halts_set es e v x r.symbol r.halted below is.count (λ w. ap (λ t. cond (nat_eq v w) (cond t (Some x) None) None) k) h.halted;
+      }
+    | false ↦ λ k. row_waits es e r (λ w b. cond_same (nat_eq v w) None) (λ w. ap (λ t. cond (nat_eq v w) (cond t (Some x) None) None) k ∙ cond_same (nat_eq v w) None) h ]) refl
+item_fits es v number n m item.Other helped flags r below young is h =
+    row_waits es (Consumed v (record { number = number; item = item.Other })) r (λ w b. cond_same (nat_eq v w) None) (λ w. cond_same (nat_eq v w) None) h
+item_fits es v number n m item.End helped flags r below young is h =
+    let e : Entry = Consumed v (record { number = number; item = item.End }) in
+    record {
+      bids = fits_shown es e v None r.symbol Bid r.bids n false below is.bids.count young (λ w. refl) h.bids;
+      offers = fits_shown es e v None r.symbol Offer r.offers n false below is.offers.count young (λ w. refl) h.offers;
+      halted = halts_set es e v false r.symbol r.halted below is.count (λ w. refl) h.halted;
+    }
+
+-- a symbol, after one more entry
+pub row_fits : (es : List Entry) (e : Entry) (n m : ℕ) (helped flags : List Bool) (r : Row) → venue_of e < 16 → n ≡ suc (length es) → IsRow flags m r → RowFits es r → RowFits (es ++ e ∷ []) (row_after helped n e r)
+row_fits es (Consumed v x) n m helped flags r below young is h = item_fits es v x.number n m x.item helped flags r below young is h
+row_fits es (SelfHelp v on) n m helped flags r below young is h = record {
+  bids = fits_stay es (SelfHelp v on) r.symbol Bid r.bids.standings (λ w l. unsaid es (SelfHelp v on) w r.symbol Bid refl) h.bids;
+  offers = fits_stay es (SelfHelp v on) r.symbol Offer r.offers.standings (λ w l. unsaid es (SelfHelp v on) w r.symbol Offer refl) h.offers;
+  halted = halts_stay es (SelfHelp v on) r.symbol r.halted (λ w. refl) h.halted;
+}
+
+-- the venues' self-help, after one more entry
+pub helped_fits : (es : List Entry) (e : Entry) (helped : List Bool) → length helped ≡ 16 → venue_of e < 16 → ((w : ℕ) → w < 16 → get_or helped w false ≡ is_self_helped es w) → (w : ℕ) → w < 16 → get_or (helped_after e helped) w false ≡ is_self_helped (es ++ e ∷ []) w
+helped_fits es (Consumed v x) helped long below h w l = h w l ∙ sym (helped-put es (Consumed v x) w)
+helped_fits es (SelfHelp v on) helped long below h w l = nat_split w v (get_or (set helped v on) w false ≡ is_self_helped (es ++ SelfHelp v on ∷ []) w)
+    (λ same. subst (λ (u : ℕ). get_or (set helped v on) u false ≡ is_self_helped (es ++ SelfHelp v on ∷ []) u) (sym same)
+      (set_at helped v on false (omega (arith, below, long)) ∙ sym (helped-put es (SelfHelp v on) v ∙ ap (λ t. unwrap_or (cond t (Some on) None) (is_self_helped es v)) (nat_refl v))))
+    (λ d. set_off helped v w on false (apart_from v w d) ∙ h w l ∙ sym (helped-put es (SelfHelp v on) w ∙ ap (λ t. unwrap_or (cond t (Some on) None) (is_self_helped es w)) (nat_other w v d)))

@@ -1,0 +1,169 @@
+-- What a book keeps of a side, after a venue's standing was set or its leave to be ranked changed.
+use Rattle.std.proofs.Common.{ℕ, zero, suc, ◌<◌, ◌≤◌, ◌≡◌, ◌+◌, List, [], ◌∷◌, Bool, true, false, not, refl, ap, sym, ◌∙◌, subst, arith, length, cond, nat_eq, Option, Some, None, set, get_or, rules}
+use Rattle.std.specs.Prelude.{◌&&◌, IsSome, is_some, ◌≢◌}
+use Rattle.feed_types.specs.declared.line.Side.{Side}
+use Rattle.feed_types.specs.declared.national.Best.{Best}
+use Rattle.nbbo_book.specs.declared.shown.Shown.{Shown}
+use Rattle.nbbo_book.specs.declared.shown.Standing.{Standing}
+use Rattle.nbbo_book.specs.declared.book_side.BookSide.{BookSide}
+use Rattle.nbbo_book.specs.Sides.{is_same_side}
+use Rattle.nbbo_book.specs.Eligible.{ranked_by, is_protected}
+use Rattle.nbbo_book.specs.Books.{standing_at}
+use Rattle.nbbo_book.specs.Ranks.{InRank, IsIn, HasNone, without, placed}
+use Rattle.nbbo_book.specs.Rows.{age_at, side_set, side_shown, side_gated, IsRanked}
+use Rattle.nbbo_book.specs.Tables.{IsRankingOf, rank_at, IsSide}
+use Rattle.nbbo_book.proofs.Ranking.{nat_same, nat_refl, nat_apart, some_same, ranking_set, ranking_room, without_none, InRank-ages, InRank-without, in_all}
+
+pub set_at : {X : Type 0} (xs : List X) (i : ℕ) (x d : X) → i < length xs → get_or (set xs i x) i d ≡ x
+set_at [] i x d h = absurd (omega (arith, h))
+set_at (y ∷ xs) zero x d h = refl
+set_at (y ∷ xs) (suc i) x d h = set_at xs i x d (omega (arith, h))
+
+pub set_off : {X : Type 0} (xs : List X) (i j : ℕ) (x d : X) → (i ≡ j → ⊥) → get_or (set xs i x) j d ≡ get_or xs j d
+set_off [] i j x d h = refl
+set_off (y ∷ xs) zero zero x d h = absurd (h refl)
+set_off (y ∷ xs) zero (suc j) x d h = refl
+set_off (y ∷ xs) (suc i) zero x d h = refl
+set_off (y ∷ xs) (suc i) (suc j) x d h = set_off xs i j x d (λ e. h (ap suc e))
+
+pub apart_from : (i j : ℕ) → nat_eq j i ≡ false → i ≡ j → ⊥
+apart_from i j h e = grind (arith, h, e)
+
+pub long_set : {X : Type 0} (xs : List X) (i : ℕ) (x : X) → length (set xs i x) ≡ length xs
+long_set [] i x = refl
+long_set (y ∷ xs) zero x = refl
+long_set (y ∷ xs) (suc i) x = ap suc (long_set xs i x)
+
+-- a venue is ranked under its own number, and with what it shows
+pub ranked_own : (m : Bool) (v : ℕ) (o : Option Shown) (x : Best) → ranked_by m v o ≡ Some x → x.venue ≡ v
+ranked_own false v o x e = cc
+ranked_own true v None x e = cc
+ranked_own true v (Some shown) x e =
+    let R : Bool → Type 0 = λ t. cond t (Some (record { venue = v; price = shown.price; size = shown.size })) None ≡ Some x → x.venue ≡ v in
+    (elim (is_protected shown) as R [ true ↦ λ k. ap (λ (y : Best). y.venue) (sym (some_same k)) | false ↦ λ k. cc ]) e
+
+pub ranked_shown : (m : Bool) (v : ℕ) (o : Option Shown) (x : Best) → ranked_by m v o ≡ Some x → IsSome o
+ranked_shown false v o x e = cc
+ranked_shown true v None x e = cc
+ranked_shown true v (Some shown) x e = refl
+
+pub ranked_nothing : (m : Bool) (v : ℕ) → ranked_by m v None ≡ None
+ranked_nothing false v = refl
+ranked_nothing true v = refl
+
+-- ranks of venues that are ranked alike, by ages alike
+pub ranking_same : (b : Side) (e g : ℕ → Option Best) (f a : ℕ → ℕ) (xs : List Best) → ((w : ℕ) → w < 16 → e w ≡ g w) → ((w : ℕ) → w < 16 → f w ≡ a w) → IsRankingOf b e f xs → IsRankingOf b g a xs
+ranking_same b e g f a xs same ages h = record {
+  members = λ x. (λ i. (((h.members x).0 i).0, sym (same x.venue ((h.members x).0 i).0) ∙ ((h.members x).0 i).1), λ k. (h.members x).1 (k.0, same x.venue k.0 ∙ k.1));
+  order = InRank-ages b f a xs (λ x i. ages x.venue ((h.members x).0 i).0) h.order;
+}
+
+-- what code asks of a side
+pub side_is_ranked : (b : Side) (may : ℕ → Bool) (n : ℕ) (k : BookSide) → IsSide b may n k → IsRanked b k
+side_is_ranked b may n k h = record {
+  order = h.ranked.order;
+  once = λ v. without_none b (age_at k.standings) (rank_at may k.standings) v k.ranks.items (λ x i. ((h.ranked.members x).0 i).1) h.ranked.order;
+  room = λ v l. ranking_room b (rank_at may k.standings) (age_at k.standings) v k.ranks.items l h.ranked;
+}
+
+-- the others are in order, also by ages of which the venue's is another one
+pub others_in_order : (b : Side) (k : BookSide) (v : ℕ) → IsRanked b k → InRank b (age_at k.standings) (without v k.ranks.items)
+others_in_order b k v h = InRank-without b (age_at k.standings) v k.ranks.items h.order
+
+pub others_stay : (b : Side) (k : BookSide) (v : ℕ) (st : Standing) → IsRanked b k → InRank b (age_at (set k.standings v st)) (without v k.ranks.items)
+others_stay b k v st h = InRank-ages b (age_at k.standings) (age_at (set k.standings v st)) (without v k.ranks.items)
+    (λ x i. ap (λ (t : Standing). t.age) (sym (set_off k.standings v x.venue st _ (apart_from v x.venue (in_all (λ y. nat_eq y.venue v ≡ false) (without v k.ranks.items) (h.once v) x i)))))
+    (others_in_order b k v h)
+
+-- more entries, of which none concerns the side
+pub side_waits : (b : Side) (may more : ℕ → Bool) (n m : ℕ) (k : BookSide) → n ≤ m → ((w : ℕ) → w < 16 → rank_at may k.standings w ≡ rank_at more k.standings w) → IsSide b may n k → IsSide b more m k
+side_waits b may more n m k l same h = record {
+  count = h.count;
+  past = λ v u. (let p = h.past v u in omega (arith, p, l));
+  apart = h.apart;
+  ranked = ranking_same b (rank_at may k.standings) (rank_at more k.standings) (age_at k.standings) (age_at k.standings) k.ranks.items same (λ w u. refl) h.ranked;
+}
+
+-- the standing of a venue, after one was set
+pub standing_set : (xs : List Standing) (v : ℕ) (st : Standing) → v < length xs → standing_at (set xs v st) v ≡ st
+standing_set xs v st h = set_at xs v st _ h
+
+pub standing_off : (xs : List Standing) (v w : ℕ) (st : Standing) → nat_eq w v ≡ false → standing_at (set xs v st) w ≡ standing_at xs w
+standing_off xs v w st h = set_off xs v w st _ (apart_from v w h)
+
+pub nat_split : (w v : ℕ) (P : Type 0) → (w ≡ v → P) → (nat_eq w v ≡ false → P) → P
+nat_split w v P here there = (elim (nat_eq w v) as (λ t. nat_eq w v ≡ t → P) [ true ↦ λ e. here (nat_same w v e) | false ↦ there ]) refl
+
+-- a venue's standing is another one, of an age of its own
+pub side_set-is : (b : Side) (may more : ℕ → Bool) (n m : ℕ) (k : BookSide) (v : ℕ) (st : Standing) (here : Bool) → v < 16 → n ≤ m → st.age ≤ m → (IsSome st.shown → (w : ℕ) → w < 16 → nat_eq w v ≡ false → IsSome (standing_at k.standings w).shown → st.age ≡ age_at k.standings w → ⊥) → ((w : ℕ) → nat_eq w v ≡ false → more w ≡ may w) → ranked_by (more v) v st.shown ≡ ranked_by here v st.shown → IsSide b may n k → IsSide b more m (side_set b v st here k)
+side_set-is b may more n m k v st here below l young own_age same leave h =
+    let under : v < length k.standings = omega (arith, below, h.count) in
+    let ss = set k.standings v st in
+    let at : standing_at ss v ≡ st = standing_set k.standings v st under in
+    let off : (w : ℕ) → nat_eq w v ≡ false → standing_at ss w ≡ standing_at k.standings w = λ w e. standing_off k.standings v w st e in
+    let apart : (u w : ℕ) → u < 16 → w < 16 → u ≢ w → IsSome (standing_at ss u).shown → IsSome (standing_at ss w).shown → age_at ss u ≢ age_at ss w = λ u w a c differ there too same_age.
+      nat_split u v ⊥
+        (λ eu. nat_split w v ⊥ (λ ew. differ (eu ∙ sym ew))
+          (λ nw. own_age
+            (sym (ap (λ (t : Standing). is_some t.shown) (ap (standing_at ss) eu ∙ at)) ∙ there)
+            w c nw
+            (sym (ap (λ (t : Standing). is_some t.shown) (off w nw)) ∙ too)
+            (sym (ap (λ (t : Standing). t.age) (ap (standing_at ss) eu ∙ at)) ∙ same_age ∙ ap (λ (t : Standing). t.age) (off w nw))))
+        (λ nu. nat_split w v ⊥
+          (λ ew. own_age
+            (sym (ap (λ (t : Standing). is_some t.shown) (ap (standing_at ss) ew ∙ at)) ∙ too)
+            u a nu
+            (sym (ap (λ (t : Standing). is_some t.shown) (off u nu)) ∙ there)
+            (sym (ap (λ (t : Standing). t.age) (ap (standing_at ss) ew ∙ at)) ∙ sym same_age ∙ ap (λ (t : Standing). t.age) (off u nu)))
+          (λ nw. h.apart u w a c differ
+            (sym (ap (λ (t : Standing). is_some t.shown) (off u nu)) ∙ there)
+            (sym (ap (λ (t : Standing). is_some t.shown) (off w nw)) ∙ too)
+            (sym (ap (λ (t : Standing). t.age) (off u nu)) ∙ same_age ∙ ap (λ (t : Standing). t.age) (off w nw)))) in
+    let ranked : IsRankingOf b (rank_at more ss) (age_at ss) (placed b (age_at ss) (rank_at more ss v) (without v k.ranks.items)) =
+      ranking_set b (rank_at may k.standings) (rank_at more ss) (age_at k.standings) (age_at ss) v k.ranks.items below
+        (λ w x e. ranked_own (more w) w (standing_at ss w).shown x e)
+        (λ w e. ap (λ (t : Standing). ranked_by (more w) w t.shown) (off w e) ∙ ap (λ t. ranked_by t w (standing_at k.standings w).shown) (same w e))
+        (λ w e. ap (λ (t : Standing). t.age) (off w e))
+        (λ w x y c e gw gv same_age. apart v w below c (λ q. apart_from v w e q) (ranked_shown (more v) v (standing_at ss v).shown x gv) (ranked_shown (more w) w (standing_at ss w).shown y gw) same_age)
+        h.ranked in
+    let rank : rank_at more ss v ≡ ranked_by here v st.shown = ap (λ (t : Standing). ranked_by (more v) v t.shown) at ∙ leave in
+    record {
+      count = long_set k.standings v st ∙ h.count;
+      past = λ w c. nat_split w v (age_at ss w ≤ m)
+        (λ e. subst (λ (t : ℕ). t ≤ m) (sym (ap (λ (t : Standing). t.age) (ap (standing_at ss) e ∙ at))) young)
+        (λ e. (let p = h.past w c in subst (λ (t : ℕ). t ≤ m) (sym (ap (λ (t : Standing). t.age) (off w e))) (omega (arith, p, l))));
+      apart = apart;
+      ranked = subst (λ (o : Option Best). IsRankingOf b (rank_at more ss) (age_at ss) (placed b (age_at ss) o (without v k.ranks.items))) rank ranked;
+    }
+
+-- a venue may be ranked, or may not, from now on
+pub side_gated-is : (b : Side) (may more : ℕ → Bool) (n m : ℕ) (k : BookSide) (v : ℕ) (here : Bool) → v < 16 → n ≤ m → ((w : ℕ) → nat_eq w v ≡ false → more w ≡ may w) → more v ≡ here → IsSide b may n k → IsSide b more m (side_gated b v here k)
+side_gated-is b may more n m k v here below l same leave h =
+    let ss = k.standings in
+    let ranked : IsRankingOf b (rank_at more ss) (age_at ss) (placed b (age_at ss) (rank_at more ss v) (without v k.ranks.items)) =
+      ranking_set b (rank_at may ss) (rank_at more ss) (age_at ss) (age_at ss) v k.ranks.items below
+        (λ w x e. ranked_own (more w) w (standing_at ss w).shown x e)
+        (λ w e. ap (λ t. ranked_by t w (standing_at ss w).shown) (same w e))
+        (λ w e. refl)
+        (λ w x y c e gw gv same_age. h.apart v w below c (λ q. apart_from v w e q) (ranked_shown (more v) v (standing_at ss v).shown x gv) (ranked_shown (more w) w (standing_at ss w).shown y gw) same_age)
+        h.ranked in
+    record {
+      count = h.count;
+      past = λ v u. (let p = h.past v u in omega (arith, p, l));
+      apart = h.apart;
+      ranked = subst (λ t. IsRankingOf b (rank_at more ss) (age_at ss) (placed b (age_at ss) (ranked_by t v (standing_at ss v).shown) (without v k.ranks.items))) leave ranked;
+    }
+
+-- a venue shows this, or nothing, from now on; where that is new, its age is later than all
+pub side_shown-is : (b : Side) (may more : ℕ → Bool) (n : ℕ) (k : BookSide) (v : ℕ) (o : Option Shown) (here : Bool) → v < 16 → ((w : ℕ) → nat_eq w v ≡ false → more w ≡ may w) → ranked_by (more v) v o ≡ ranked_by here v o → ranked_by (may v) v o ≡ ranked_by (more v) v o → (is_same_side (standing_at k.standings v).shown o ≡ true → (standing_at k.standings v).shown ≡ o) → IsSide b may n k → IsSide b more (n + 1) (side_shown b v o (n + 1) here k)
+side_shown-is b may more n k v o here below same leave alike sound h =
+    let st : Standing = record { shown = o; age = n + 1 } in
+    let R : Bool → Type 0 = λ t. is_same_side (standing_at k.standings v).shown o ≡ t → IsSide b more (n + 1) (cond t k (side_set b v st here k)) in
+    (elim (is_same_side (standing_at k.standings v).shown o) as R [
+      true ↦ λ e. side_waits b may more n (n + 1) k (omega arith)
+        (λ w c. nat_split w v (rank_at may k.standings w ≡ rank_at more k.standings w)
+          (λ q. subst (λ (u : ℕ). rank_at may k.standings u ≡ rank_at more k.standings u) (sym q) (ap (ranked_by (may v) v) (sound e) ∙ alike ∙ ap (ranked_by (more v) v) (sym (sound e))))
+          (λ d. ap (λ t. ranked_by t w (standing_at k.standings w).shown) (sym (same w d)))) h
+    | false ↦ λ e. side_set-is b may more n (n + 1) k v st here below (omega arith) (omega arith)
+        (λ there w c d too same_age. (let p = h.past w c in omega (arith, p, same_age)))
+        same leave h ]) refl

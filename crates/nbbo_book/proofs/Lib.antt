@@ -1,0 +1,12 @@
+pub mod Beating
+pub mod Moving
+pub mod Ranking
+pub mod Said
+pub mod Kept
+pub mod Firsts
+pub mod Fitting
+pub mod Words
+pub mod Stepping
+pub mod Whole
+pub mod Eligibility
+pub mod Lawful

@@ -1,0 +1,107 @@
+-- A side that moves past its neighbours, one place at a time.
+use Rattle.std.proofs.Common.{ℕ, zero, suc, ◌<◌, ◌≤◌, ◌≡◌, ◌+◌, List, [], ◌∷◌, ◌++◌, Bool, true, false, refl, ap, sym, ◌∙◌, subst, arith, length, take, drop, set, get_or, cond, add-one, nat_eq}
+use Rattle.std.specs.List.{insert, remove, AllByRecursion}
+use Rattle.feed_types.specs.declared.line.Side.{Side}
+use Rattle.feed_types.specs.declared.national.Best.{Best}
+use Rattle.nbbo_book.specs.Nationals.{beats}
+use Rattle.nbbo_book.specs.Ranks.{InRank, without, with_rank}
+use Rattle.nbbo_book.proofs.Beating.{beats_chain}
+
+-- past the neighbour before it
+up_one : (ys : List Best) (k : ℕ) (x d : Best) → k < length ys → set (set (insert ys (suc k) x) (suc k) (get_or ys k d)) k x ≡ insert ys k x
+up_one [] k x d h = absurd (omega (arith, h))
+up_one (y ∷ ys) zero x d h = refl
+up_one (y ∷ ys) (suc k) x d h = ap (λ t. y ∷ t) (up_one ys k x d (omega (arith, h)))
+
+-- past the neighbour behind it
+down_one : (ys : List Best) (k : ℕ) (x d : Best) → k < length ys → set (set (insert ys k x) k (get_or ys k d)) (suc k) x ≡ insert ys (suc k) x
+down_one [] k x d h = absurd (omega (arith, h))
+down_one (y ∷ ys) zero x d h = refl
+down_one (y ∷ ys) (suc k) x d h = ap (λ t. y ∷ t) (down_one ys k x d (omega (arith, h)))
+
+before_it : (ys : List Best) (k : ℕ) (x d : Best) → k < length ys → get_or (insert ys (suc k) x) k d ≡ get_or ys k d
+before_it [] k x d h = absurd (omega (arith, h))
+before_it (y ∷ ys) zero x d h = refl
+before_it (y ∷ ys) (suc k) x d h = before_it ys k x d (omega (arith, h))
+
+behind_it : (ys : List Best) (k : ℕ) (x d : Best) → k < length ys → get_or (insert ys k x) (suc k) d ≡ get_or ys k d
+behind_it [] k x d h = absurd (omega (arith, h))
+behind_it (y ∷ ys) zero x d h = refl
+behind_it (y ∷ ys) (suc k) x d h = behind_it ys k x d (omega (arith, h))
+
+-- a side stands in its own place
+pub in_its_place : (xs : List Best) (i : ℕ) (x : Best) → i < length xs → get_or xs i x ≡ x → xs ≡ insert (remove xs i) i x
+in_its_place [] i x h e = absurd (omega (arith, h))
+in_its_place (y ∷ xs) zero x h e = ap (λ t. t ∷ xs) e
+in_its_place (y ∷ xs) (suc i) x h e = ap (λ t. y ∷ t) (in_its_place xs i x (omega (arith, h)) e)
+
+any_default : (xs : List Best) (i : ℕ) (c d : Best) → i < length xs → get_or xs i c ≡ get_or xs i d
+any_default [] i c d h = absurd (omega (arith, h))
+any_default (x ∷ xs) zero c d h = refl
+any_default (x ∷ xs) (suc i) c d h = any_default xs i c d (omega (arith, h))
+
+ahead_of_all : (b : Side) (f : ℕ → ℕ) (x y : Best) (ys : List Best) (k : ℕ) (d : Best) → k < length ys → AllByRecursion (λ z. beats b f y z ≡ true) ys → beats b f y (get_or ys k d) ≡ true
+ahead_of_all b f x y [] k d h a = absurd (omega (arith, h))
+ahead_of_all b f x y (z ∷ ys) zero d h a = a.0
+ahead_of_all b f x y (z ∷ ys) (suc k) d h a = ahead_of_all b f x y ys k d (omega (arith, h)) a.1
+
+-- x stands at its rank where it doesn't beat the side before it, and beats the one behind it
+pub ranked_here : (b : Side) (f : ℕ → ℕ) (x : Best) (ys : List Best) (k : ℕ) → k ≤ length ys → InRank b f ys → ((j : ℕ) → k ≡ suc j → beats b f x (get_or ys j x) ≡ false) → (k < length ys → beats b f x (get_or ys k x) ≡ true) → insert ys k x ≡ with_rank b f x ys
+ranked_here b f x [] zero h order before behind = refl
+ranked_here b f x [] (suc k) h order before behind = absurd (omega (arith, h))
+ranked_here b f x (y ∷ ys) zero h order before behind = ap (λ t. cond t (x ∷ y ∷ ys) (y ∷ with_rank b f x ys)) (sym (behind (omega arith)))
+ranked_here b f x (y ∷ ys) (suc zero) h order before behind =
+    ap (λ t. y ∷ t) (ranked_here b f x ys zero (omega arith) order.1 (λ j e. absurd (omega (arith, e))) (λ l. behind (omega (arith, l))))
+    ∙ ap (λ t. cond t (x ∷ y ∷ ys) (y ∷ with_rank b f x ys)) (sym (before zero refl))
+ranked_here b f x (y ∷ ys) (suc (suc k)) h order before behind =
+    let not_here : beats b f x y ≡ false =
+      (let R : Bool → Type 0 = λ t. beats b f x y ≡ t → t ≡ false in
+      (elim (beats b f x y) as R [
+        true ↦ λ e.
+          let on : beats b f x (get_or ys k x) ≡ true = beats_chain b f x y (get_or ys k x) e (ahead_of_all b f x y ys k x (omega (arith, h)) order.0) in
+          let no : true ≡ false = sym on ∙ before (suc k) refl in no
+      | false ↦ λ e. refl ]) refl) in
+    ap (λ t. y ∷ t) (ranked_here b f x ys (suc k) (omega (arith, h)) order.1 (λ j e. before (suc j) (ap suc e)) (λ l. behind (omega (arith, l))))
+    ∙ ap (λ t. cond t (x ∷ y ∷ ys) (y ∷ with_rank b f x ys)) (sym not_here)
+
+-- one step up: the neighbour before it takes its place
+pub moved_up : (ys ranks : List Best) (at k : ℕ) (x n : Best) → ranks ≡ insert ys at x → at ≡ suc k → k < length ys → n ≡ get_or ranks k n → (set (set ranks at n) k x ≡ insert ys k x) × (n ≡ get_or ys k x)
+moved_up ys ranks at k x n now is h read =
+    let here : n ≡ get_or ys k n = read ∙ ap (λ t. get_or t k n) now ∙ ap (λ t. get_or (insert ys t x) k n) is ∙ before_it ys k x n h in
+    (ap (λ t. set (set t at n) k x) now ∙ ap (λ t. set (set (insert ys t x) t n) k x) is ∙ ap (λ t. set (set (insert ys (suc k) x) (suc k) t) k x) here ∙ up_one ys k x n h
+    , here ∙ any_default ys k n x h)
+
+pub moved_down : (ys ranks : List Best) (k : ℕ) (x n : Best) → ranks ≡ insert ys k x → k < length ys → n ≡ get_or ranks (suc k) n → (set (set ranks k n) (suc k) x ≡ insert ys (suc k) x) × (n ≡ get_or ys k x)
+moved_down ys ranks k x n now h read =
+    let here : n ≡ get_or ys k n = read ∙ ap (λ t. get_or t (suc k) n) now ∙ behind_it ys k x n h in
+    (ap (λ t. set (set t k n) (suc k) x) now ∙ ap (λ t. set (set (insert ys k x) k t) (suc k) x) here ∙ down_one ys k x n h
+    , here ∙ any_default ys k n x h)
+
+pub remove_set : (xs : List Best) (i : ℕ) (x : Best) → remove (set xs i x) i ≡ remove xs i
+remove_set [] i x = refl
+remove_set (y ∷ xs) zero x = refl
+remove_set (y ∷ xs) (suc i) x = ap (λ t. y ∷ t) (remove_set xs i x)
+
+pub remove_insert : (ys : List Best) (k : ℕ) (x : Best) → k ≤ length ys → remove (insert ys k x) k ≡ ys
+remove_insert ys zero x h = refl
+remove_insert [] (suc k) x h = absurd (omega (arith, h))
+remove_insert (y ∷ ys) (suc k) x h = ap (λ t. y ∷ t) (remove_insert ys k x (omega (arith, h)))
+
+pub remove_last : (ys : List Best) (x : Best) → remove (ys ++ x ∷ []) (length ys) ≡ ys
+remove_last [] x = refl
+remove_last (y ∷ ys) x = ap (λ t. y ∷ t) (remove_last ys x)
+
+-- a search for a venue that has come to a place
+pub searched_on : (v : ℕ) (xs : List Best) (i : ℕ) (d : Best) → i < length xs → nat_eq (get_or xs i d).venue v ≡ false → take i xs ++ without v (drop i xs) ≡ take (suc i) xs ++ without v (drop (suc i) xs)
+searched_on v [] i d h e = absurd (omega (arith, h))
+searched_on v (x ∷ xs) zero d h e = ap (λ t. cond t xs (x ∷ without v xs)) e
+searched_on v (x ∷ xs) (suc i) d h e = ap (λ t. x ∷ t) (searched_on v xs i d (omega (arith, h)) e)
+
+pub searched_here : (v : ℕ) (xs : List Best) (i : ℕ) (d : Best) → i < length xs → nat_eq (get_or xs i d).venue v ≡ true → take i xs ++ without v (drop i xs) ≡ remove xs i
+searched_here v [] i d h e = absurd (omega (arith, h))
+searched_here v (x ∷ xs) zero d h e = ap (λ t. cond t xs (x ∷ without v xs)) e
+searched_here v (x ∷ xs) (suc i) d h e = ap (λ t. x ∷ t) (searched_here v xs i d (omega (arith, h)) e)
+
+pub searched_all : (v : ℕ) (xs : List Best) → take (length xs) xs ++ without v (drop (length xs) xs) ≡ xs
+searched_all v [] = refl
+searched_all v (x ∷ xs) = ap (λ t. x ∷ t) (searched_all v xs)

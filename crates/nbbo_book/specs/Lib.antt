@@ -1,0 +1,9 @@
+pub mod Sides
+pub mod Eligible
+pub mod Nationals
+pub mod Changes
+pub mod Books
+pub mod Codes
+pub mod Ranks
+pub mod Rows
+pub mod Tables

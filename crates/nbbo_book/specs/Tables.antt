@@ -1,0 +1,62 @@
+-- Cited by private clauses alone: the table of the symbols, and what every book keeps.
+use Rattle.std.specs.Prelude.{◌≡◌, ◌≢◌, ◌↔◌, ℕ, ◌<◌, ◌≤◌, nat_eq, List, [], ◌∷◌, Bool, false, not, ◌&&◌, Option, Some, None, IsSome, slice_index_or, length, map}
+use Rattle.std.specs.Int.{w64, to_be_bytes}
+use Rattle.std.specs.List.{AllByRecursion, IsDistinct}
+use Rattle.feed_types.specs.Symbols.{word_of}
+use Rattle.feed_types.specs.declared.line.Side.{Side}
+use Rattle.feed_types.specs.declared.line.Side.TheVariants.{Bid, Offer}
+use Rattle.feed_types.specs.declared.national.Best.{Best}
+use Rattle.nbbo_book.specs.declared.shown.Standing.{Standing}
+use Rattle.nbbo_book.specs.declared.book_side.BookSide.{BookSide}
+use Rattle.nbbo_book.specs.declared.row.Row.{Row}
+use Rattle.nbbo_book.specs.Eligible.{ranked_by}
+use Rattle.nbbo_book.specs.Books.{BookState, standing_at}
+use Rattle.nbbo_book.specs.Ranks.{InRank, IsIn}
+use Rattle.nbbo_book.specs.Rows.{age_at}
+
+abbrev pub symbols_of : List Row → List (List ℕ)
+symbols_of rows = map (λ (row : Row). row.symbol) rows
+
+-- the eight bytes can be told from their word
+pub record HasWord (symbol : List ℕ) : Type 0 where
+  pub told : to_be_bytes w64 (word_of symbol) ≡ symbol
+
+-- the keys are the words of the symbols, in order and each once
+pub record IsTable (symbols : List (List ℕ)) (keys : List ℕ) : Type 0 where
+  pub words : keys ≡ map word_of symbols
+  pub told : AllByRecursion HasWord symbols
+  pub distinct : IsDistinct nat_eq keys
+
+-- these are what the venues are ranked with, best first
+pub record IsRankingOf (side : Side) (rank : ℕ → Option Best) (age : ℕ → ℕ) (xs : List Best) : Type 0 where
+  pub members : (x : Best) → IsIn xs x ↔ ((x.venue < 16) × (rank x.venue ≡ Some x))
+  pub order : InRank side age xs
+
+abbrev pub may_at : List Bool → List Bool → ℕ → Bool
+may_at helped halted venue =
+    not (slice_index_or helped venue false) && not (slice_index_or halted venue false)
+
+abbrev pub rank_at : (ℕ → Bool) → List Standing → ℕ → Option Best
+rank_at may standings venue = ranked_by (may venue) venue (standing_at standings venue).shown
+
+-- A side's ages are no later than the entries, no two venues' sides have the same, and the ranks are
+-- those of the venues that may be ranked.
+pub record IsSide (side : Side) (may : ℕ → Bool) (applied : ℕ) (kept : BookSide) : Type 0 where
+  pub count : length kept.standings ≡ 16
+  pub past : (venue : ℕ) → venue < 16 → age_at kept.standings venue ≤ applied
+  pub apart : (v w : ℕ) → v < 16 → w < 16 → v ≢ w → IsSome (standing_at kept.standings v).shown → IsSome (standing_at kept.standings w).shown → age_at kept.standings v ≢ age_at kept.standings w
+  pub ranked : IsRankingOf side (rank_at may kept.standings) (age_at kept.standings) kept.ranks.items
+
+pub record IsRow (helped : List Bool) (applied : ℕ) (row : Row) : Type 0 where
+  pub bids : IsSide Bid (may_at helped row.halted) applied row.bids
+  pub offers : IsSide Offer (may_at helped row.halted) applied row.offers
+  pub count : length row.halted ≡ 16
+
+-- what every book keeps
+pub record IsBook (keys : List ℕ) (book : BookState) : Type 0 where
+  pub symbols : book.symbols ≡ symbols_of book.rows
+  pub table : IsTable book.symbols keys
+  pub venues : book.venues ≤ 16
+  pub applied : book.applied ≤ book.last
+  pub count : length book.helped ≡ 16
+  pub rows : AllByRecursion (IsRow book.helped book.applied) book.rows

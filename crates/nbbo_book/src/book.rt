@@ -1,0 +1,192 @@
+//! The book: the protected sides of all configured symbols.
+
+ghost use Rattle.std.specs.Prelude.{◌≡◌, ◌↔◌, ◌⊎◌, ◌<◌, ◌≤◌, ◌+◌, ◌++◌, ◌∷◌, [], List, ℕ, length, map, IfOk, OnOk, IsErrOf, IfSome, IsSome, IsTrue, Some, false};
+ghost use Rattle.std.specs.List.{IsDistinct};
+ghost use Rattle.std.specs.Str.{bytes_eq};
+ghost use Rattle.std.specs.Vec.{vec_len, vec_capacity};
+ghost use Rattle.feed_types.specs.declared.journal.Entry.{Entry};
+ghost use Rattle.nbbo_book.specs.Books.{Fits, venue_of, is_configured};
+ghost use Rattle.nbbo_book.specs.Eligible.{is_self_helped as self_helped};
+ghost use Rattle.nbbo_book.specs.Nationals.{national_of, IsRanking};
+ghost use Rattle.nbbo_book.specs.Changes.{changes_of};
+ghost use Rattle.nbbo_book.specs.Rows.{empty_side as no_side, empty_row};
+
+use crate::book_side::BookSide;
+use crate::change::Change;
+use crate::fault::BookFault;
+use crate::row::Row;
+use crate::shown::Standing;
+use crate::steps::{Step, apply_step, helped_after};
+use crate::table::{Table, find, symbol_table};
+use arrayvec::ArrayVec;
+use feed_types::{Best, Entry, National, Side, SymbolName, VenueId};
+use std::alloc::{AllocError, Global};
+use std::marker::Model;
+
+/// How many venues there are at most.
+const MAX_VENUES: usize = 16;
+
+/// The protected sides of the configured symbols, ranked.
+#[derive(Drop)]
+pub struct Book {
+    table: Table,
+    rows: Vec<Row>,
+    helped: [bool; 16],
+    venues: usize,
+    last: u64,
+    applied: u64,
+}
+
+impl Model for Book {
+    ghost use Rattle.nbbo_book.specs.Books.{BookState};
+    ghost use Rattle.nbbo_book.specs.Tables.{IsBook, symbols_of};
+
+    ghost Value = { BookState };
+
+    ghost view = { λ b. record { symbols = symbols_of b.rows.items; venues = b.venues; last = b.last; applied = b.applied; helped = b.helped; rows = b.rows.items } };
+
+    ghost invariant = { λ b. IsBook b.table.keys (record { symbols = symbols_of b.rows.items; venues = b.venues; last = b.last; applied = b.applied; helped = b.helped; rows = b.rows.items }) };
+}
+
+fn empty_side() -> BookSide
+    ensures { result ≡ no_side }
+{
+    BookSide {
+        standings: [Standing {
+            shown: None,
+            age: 0,
+        }; 16],
+        ranks: ArrayVec::new(),
+    }
+}
+
+fn empty_rows(alloc: Global, symbols: &[SymbolName]) -> Result<Vec<Row>, AllocError>
+    ensures { IfOk result (λ rows. rows.items ≡ map empty_row symbols.now) }
+{
+    let mut rows = Vec::with_capacity(alloc, symbols.len())?;
+    for symbol in symbols {
+        rows.push(Row {
+            symbol: *symbol,
+            bids: empty_side(),
+            offers: empty_side(),
+            halted: [false; 16],
+        })?;
+    }
+    Ok(rows)
+}
+
+impl Book {
+    /// A book of no entries, over so many venues, 1 to 16, and these symbols, at most 4,096 and each
+    /// once; their order is that of the changes. No symbols are allowed. It takes all its memory here.
+    ///
+    /// It is refused as BadVenueCount, TooManySymbols, NoMemory where there is none for the table,
+    /// DuplicateSymbol, or NoMemory where there is none for what is kept of the symbols: the first of
+    /// these that fits.
+    pub fn new(
+        alloc: Global,
+        symbols: &[SymbolName],
+        venue_count: usize,
+    ) -> Result<Book, BookFault>
+        ensures fits { IfOk result (λ book. Fits book []) }
+        ensures symbols { IfOk result (λ book. book.symbols ≡ symbols.now) }
+        ensures venues { IfOk result (λ book. book.venues ≡ venue_count) }
+        ensures last { IfOk result (λ book. book.last ≡ 0) }
+        ensures distinct { OnOk result (IsDistinct bytes_eq symbols.now) }
+        ensures bad_venue_count { IsErrOf result BookFault.BadVenueCount ↔ ((venue_count ≡ 0) ⊎ (16 < venue_count)) }
+        ensures too_many_symbols { IsErrOf result BookFault.TooManySymbols ↔ ((0 < venue_count) × (venue_count ≤ 16) × (4096 < length symbols.now)) }
+        ensures duplicate_symbol { IsErrOf result BookFault.DuplicateSymbol → (0 < venue_count) × (venue_count ≤ 16) × (length symbols.now ≤ 4096) × (¬ IsDistinct bytes_eq symbols.now) }
+    {
+        if venue_count == 0 || venue_count > MAX_VENUES {
+            return Err(BookFault::BadVenueCount);
+        }
+        let table = symbol_table(alloc, symbols)?;
+        let Ok(rows) = empty_rows(alloc, symbols) else {
+            return Err(BookFault::NoMemory);
+        };
+        Ok(Book {
+            table,
+            rows,
+            helped: [false; 16],
+            venues: venue_count,
+            last: 0,
+            applied: 0,
+        })
+    }
+
+    /// Applies the entry, and appends to `out` a change for each symbol whose national best is another
+    /// one after it, in configured order and with the position given.
+    ///
+    /// It takes no memory: `out` has room for as many changes as there are symbols. The entry's venue is
+    /// below the count, and positions rise.
+    pub fn apply(&mut self, position: u64, entry: &Entry, out: &mut Vec<Change>)
+        requires room { vec_len out.old + length self.old.symbols ≤ vec_capacity out.old }
+        requires venue { venue_of entry.now < self.old.venues }
+        requires rising { self.old.last < position }
+        ensures fits { (entries : List Entry) → Fits self.old entries → Fits self.new (entries ++ entry.now ∷ []) }
+        ensures changes { (entries : List Entry) → Fits self.old entries → out.new.items ≡ out.old.items ++ changes_of self.old.symbols entries position entry.now }
+        ensures count { vec_len out.new ≤ vec_len out.old + length self.old.symbols }
+        ensures capacity { vec_capacity out.new ≡ vec_capacity out.old }
+        ensures symbols { self.new.symbols ≡ self.old.symbols }
+        ensures venues { self.new.venues ≡ self.old.venues }
+        ensures last { self.new.last ≡ position }
+    {
+        let helped = helped_after(&self.helped, entry);
+        let step = Step {
+            entry: *entry,
+            age: self.applied + 1,
+            position,
+            helped,
+        };
+        apply_step(&self.table, self.rows.as_mut_slice(), &step, out);
+        self.helped = helped;
+        self.applied = step.age;
+        self.last = position;
+    }
+
+    /// The national best of the symbol, `None` exactly where it isn't configured.
+    pub fn national(&self, symbol: &SymbolName) -> Option<National>
+        ensures configured { IsSome result ↔ IsTrue (is_configured self.now.symbols symbol.now) }
+        ensures value { (entries : List Entry) → Fits self.now entries → IfSome result (λ national. national ≡ national_of entries symbol.now) }
+    {
+        let place = find(&self.table, *symbol)?;
+        Some(self.rows[place].national())
+    }
+
+    /// The eligible sides of the symbol, best first: each stands before those that it beats. `None`
+    /// exactly where the symbol isn't configured.
+    pub fn ranked(&self, symbol: &SymbolName, side: Side) -> Option<&[Best]>
+        ensures configured { IsSome result ↔ IsTrue (is_configured self.now.symbols symbol.now) }
+        ensures ranking { (entries : List Entry) → Fits self.now entries → IfSome result (λ ranks. IsRanking entries symbol.now side ranks.now) }
+    {
+        let place = find(&self.table, *symbol)?;
+        Some(self.rows[place].ranks(side))
+    }
+
+    /// Whether self-help stands on the venue.
+    pub fn is_self_helped(&self, venue: VenueId) -> bool
+        ensures { (entries : List Entry) → Fits self.now entries → result ≡ self_helped entries venue }
+    {
+        self.helped[venue.index()]
+    }
+
+    /// How many venues there are: `apply` takes entries of those below.
+    pub fn venue_count(&self) -> usize
+        ensures { result ≡ self.now.venues }
+    {
+        self.venues
+    }
+
+    /// The position of the last entry, 0 before any: that of the next one is greater.
+    pub fn last_position(&self) -> u64
+        ensures { result ≡ self.now.last }
+    {
+        self.last
+    }
+
+    /// How many symbols are configured: one entry makes at most so many changes.
+    pub fn symbol_count(&self) -> usize
+        ensures { result ≡ length self.now.symbols }
+    {
+        self.rows.len()
+    }
+}

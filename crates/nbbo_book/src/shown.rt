@@ -1,0 +1,77 @@
+//! What a venue shows on one side of a symbol.
+
+ghost use Rattle.std.specs.Prelude.{◌≡◌, Some};
+ghost use Rattle.feed_types.specs.declared.line.Side.TheVariants.{Bid, Offer as OfferSide};
+ghost use Rattle.nbbo_book.specs.Sides.{is_same_side, shown_by};
+ghost use Rattle.nbbo_book.specs.Eligible.{is_protected, ranked_by};
+
+use feed_types::{Best, Quote, VenueId};
+
+/// One side of a quotation: the price in ten-thousandths of a dollar, the size in shares, and whether
+/// it is automated.
+#[derive(Clone, Copy, Debug, PartialEq, Eq)]
+pub struct Shown {
+    pub size: u64,
+    pub price: u32,
+    pub automated: bool,
+}
+
+/// What a venue shows, if anything, and its age: how many entries there were when it took its present
+/// value.
+#[derive(Clone, Copy, Debug, PartialEq, Eq)]
+pub struct Standing {
+    pub shown: Option<Shown>,
+    pub age: u64,
+}
+
+pub(crate) fn bid_of(quote: &Quote) -> Shown
+    ensures { result ≡ shown_by quote.now Bid }
+{
+    Shown {
+        size: quote.bid_size,
+        price: quote.bid_price,
+        automated: quote.bid_auto,
+    }
+}
+
+pub(crate) fn offer_of(quote: &Quote) -> Shown
+    ensures { result ≡ shown_by quote.now OfferSide }
+{
+    Shown {
+        size: quote.offer_size,
+        price: quote.offer_price,
+        automated: quote.offer_auto,
+    }
+}
+
+pub(crate) fn is_same(x: Option<Shown>, y: Option<Shown>) -> bool
+    ensures { result ≡ is_same_side x y }
+{
+    match (x, y) {
+        (None, None) => true,
+        (Some(x), Some(y)) => {
+            x.price == y.price && x.size == y.size && x.automated == y.automated
+        }
+        (Some(_), None) | (None, Some(_)) => false,
+    }
+}
+
+fn counts(shown: &Shown) -> bool
+    ensures { result ≡ is_protected shown.now }
+{
+    shown.automated && 0 < shown.price && 0 < shown.size
+}
+
+/// What the venue is ranked with, where it may be ranked and its side counts.
+pub(crate) fn rank_of(may: bool, venue: VenueId, shown: Option<Shown>) -> Option<Best>
+    ensures { result ≡ ranked_by may venue shown }
+{
+    match shown {
+        Some(shown) if may && counts(&shown) => Some(Best {
+            venue,
+            price: shown.price,
+            size: shown.size,
+        }),
+        _ => None,
+    }
+}

@@ -1,0 +1,103 @@
+//! One more entry, applied to what is kept of the symbols.
+
+ghost use Rattle.std.specs.Prelude.{◌≡◌, ◌++◌, ◌∷◌, [], ◌+◌, ◌<◌, ◌≤◌, length, map};
+ghost use Rattle.std.specs.List.{AllByRecursion, filter_map};
+ghost use Rattle.std.specs.Vec.{vec_len, vec_capacity};
+ghost use Rattle.std.specs.Option.{option_to_list};
+ghost use Rattle.nbbo_book.specs.Rows.{IsRowRanked, row_after, row_change, helped_after as flags_after};
+ghost use Rattle.nbbo_book.specs.Tables.{IsTable, symbols_of};
+
+use crate::change::Change;
+use crate::row::Row;
+use crate::scope::{Scope, scope_of};
+use crate::table::{Table, find};
+use feed_types::{Best, Entry, National, SymbolName};
+
+/// One more entry: its place in the order of all, its position, and the venues that self-help stands on
+/// after it.
+#[derive(Clone, Copy)]
+pub struct Step {
+    pub entry: Entry,
+    pub age: u64,
+    pub position: u64,
+    pub helped: [bool; 16],
+}
+
+fn append(out: &mut Vec<Change>, position: u64, symbol: SymbolName, national: National)
+    requires { vec_len out.old < vec_capacity out.old }
+    ensures items { out.new.items ≡ out.old.items ++ record { position = position; symbol = symbol; national = national } ∷ [] }
+    ensures len { vec_len out.new ≡ vec_len out.old + 1 }
+    ensures capacity { vec_capacity out.new ≡ vec_capacity out.old }
+{
+    let bid: Option<Best> = national.bid;
+    let offer: Option<Best> = national.offer;
+    out.push_reserved(Change {
+        position,
+        symbol,
+        national: National { bid, offer },
+    });
+}
+
+fn step_row(row: &mut Row, step: &Step, out: &mut Vec<Change>)
+    requires ranked { IsRowRanked row.old }
+    requires room { vec_len out.old < vec_capacity out.old }
+    ensures row { row.new ≡ row_after step.now.helped step.now.age step.now.entry row.old }
+    ensures items { out.new.items ≡ out.old.items ++ option_to_list (row_change step.now.helped step.now.age step.now.position step.now.entry row.old) }
+    ensures len { vec_len out.new ≤ vec_len out.old + 1 }
+    ensures capacity { vec_capacity out.new ≡ vec_capacity out.old }
+{
+    if row.take_entry(&step.helped, &step.entry, step.age) {
+        append(out, step.position, row.symbol, row.national());
+    }
+}
+
+fn step_rows(rows: &mut [Row], step: &Step, out: &mut Vec<Change>)
+    requires ranked { AllByRecursion IsRowRanked rows.old }
+    requires room { vec_len out.old + length rows.old ≤ vec_capacity out.old }
+    ensures rows { rows.new ≡ map (row_after step.now.helped step.now.age step.now.entry) rows.old }
+    ensures items { out.new.items ≡ out.old.items ++ filter_map (row_change step.now.helped step.now.age step.now.position step.now.entry) rows.old }
+    ensures len { vec_len out.new ≤ vec_len out.old + length rows.old }
+    ensures capacity { vec_capacity out.new ≡ vec_capacity out.old }
+{
+    for i in 0..rows.len() {
+        step_row(&mut rows[i], step, out);
+    }
+}
+
+/// Applies the step to the symbols that its entry concerns, and appends their changes in order.
+pub fn apply_step(table: &Table, rows: &mut [Row], step: &Step, out: &mut Vec<Change>)
+    requires table { IsTable (symbols_of rows.old) table.now.keys }
+    requires ranked { AllByRecursion IsRowRanked rows.old }
+    requires room { vec_len out.old + length rows.old ≤ vec_capacity out.old }
+    ensures rows { rows.new ≡ map (row_after step.now.helped step.now.age step.now.entry) rows.old }
+    ensures items { out.new.items ≡ out.old.items ++ filter_map (row_change step.now.helped step.now.age step.now.position step.now.entry) rows.old }
+    ensures len { vec_len out.new ≤ vec_len out.old + length rows.old }
+    ensures capacity { vec_capacity out.new ≡ vec_capacity out.old }
+{
+    match scope_of(&step.entry) {
+        Scope::Nothing => {}
+        Scope::One(symbol) => {
+            if let Some(i) = find(table, symbol) {
+                step_row(&mut rows[i], step, out);
+            }
+        }
+        Scope::All => step_rows(rows, step, out),
+    }
+}
+
+/// The venues that self-help stands on, after one more entry.
+pub fn helped_after(helped: &[bool; 16], entry: &Entry) -> [bool; 16]
+    ensures { result ≡ flags_after entry.now helped.now }
+{
+    let mut after = *helped;
+    match entry {
+        Entry::Consumed {
+            venue: _,
+            numbered: _,
+        } => {}
+        Entry::SelfHelp { venue, on } => {
+            after[venue.index()] = *on;
+        }
+    }
+    after
+}
