@@ -6,5 +6,8 @@ pub mod Rest
 pub mod VenueSteps
 pub mod Growing
 pub mod Telling
-pub mod Replayed
 pub mod OneText
+pub mod Stopping
+pub mod Digits
+pub mod Places
+pub mod Passing

@@ -9,12 +9,13 @@ use Rattle.line_arbiter.specs.declared.outcome.Outcome.{Outcome}
 use Rattle.line_arbiter.specs.declared.outcome.LineFault.{LineFault}
 use Rattle.line_arbiter.specs.declared.faults.RenewFault.{RenewFault}
 use Rattle.line_arbiter.specs.declared.faults.RenewFault.TheVariants.{NotEnded, SessionUsed, TooManySessions}
-use Rattle.line_arbiter.specs.Packets.{Arrival}
+use Rattle.line_arbiter.specs.Packets.{Arrival, arrival_of}
 use Rattle.line_arbiter.specs.Outcomes.{IsOutcome}
 use Rattle.line_arbiter.specs.Renewals.{IsRenewal}
 use Rattle.feed_text.specs.Capture.{CaptureRecord, datagram_record, renewal_record, venue_of}
-use Rattle.feed_text.specs.Lines.{packet_head, refused_tail, outcome_tail, renew_line}
-use Rattle.feed_text.specs.Printed.{History, new_history, sent_of, gap_lines, ready_items, after_renewal, PrintsFault, PrintsPacket, PrintsAt, PrintsRecord, Prints, IsTextOf, last_lines}
+use Rattle.feed_text.specs.Lines.{packet_line, fault_line, renew_line}
+use Rattle.line_arbiter.specs.Histories.{History, new_history, names_of, after_arrival}
+use Rattle.feed_text.specs.Printed.{sent_of, gap_lines, ready_items, after_answer, PrintsFault, PrintsPacket, PrintsAt, PrintsRecord, Prints, IsTextOf, last_lines}
 
 -- the laws of packets and of their answers
 pub record Single : Type 0 where
@@ -25,18 +26,18 @@ pub record Single : Type 0 where
 
 one_fault : (window : ℕ) (gaps : Bool) (venue : ℕ) (line : LineId) (bytes : List ℕ) (old n1 n2 : History) (l1 l2 : List ℕ) → Single → PrintsFault window gaps venue line bytes old l1 n1 → PrintsFault window gaps venue line bytes old l2 n2 → (l1 ≡ l2) × (n1 ≡ n2)
 one_fault window gaps venue line bytes old n1 n2 l1 l2 one a b =
-    let F : PacketFault → History → List ℕ = λ f h. packet_head venue line ++ refused_tail (code_of f) ++ gap_lines window gaps venue h in
+    let F : PacketFault → History → List ℕ = λ f h. fault_line venue line (code_of f) ++ gap_lines window gaps venue h in
     let f = one.fault bytes a.fault b.fault a.has b.has in
     let n : n1 ≡ n2 = a.same ∙ sym b.same in
     (a.lines_are ∙ ap (λ (x : PacketFault). F x n1) f ∙ ap (λ (h : History). F b.fault h) n ∙ sym b.lines_are, n)
 
 one_packet : (window : ℕ) (gaps : Bool) (venue : ℕ) (line : LineId) (bytes : List ℕ) (old n1 n2 : History) (l1 l2 : List ℕ) → Single → PrintsPacket window gaps venue line bytes old l1 n1 → PrintsPacket window gaps venue line bytes old l2 n2 → (l1 ≡ l2) × (n1 ≡ n2)
 one_packet window gaps venue line bytes old n1 n2 l1 l2 one a b =
-    let G : Content → Result Outcome LineFault → History = λ p x. record old { packets = old.packets ++ record { line = line; packet = p; answer = x } ∷ [] } in
-    let F : Result Outcome LineFault → History → List ℕ = λ x h. packet_head venue line ++ outcome_tail x ++ ready_items venue old h.packets ++ gap_lines window gaps venue h in
+    let G : Content → Result Outcome LineFault → History = λ p x. after_arrival old (arrival_of line p x) in
+    let F : Result Outcome LineFault → History → List ℕ = λ x h. packet_line venue line x ++ ready_items venue old h.present.packets ++ gap_lines window gaps venue h in
     let p : a.packet ≡ b.packet = one.packet bytes a.packet b.packet a.rest b.rest a.spells b.spells in
-    let first : IsOutcome old.session window (sent_of old) old.packets b.packet a.answer = subst (λ (q : Content). IsOutcome old.session window (sent_of old) old.packets q a.answer) p a.outcome in
-    let x : a.answer ≡ b.answer = one.outcome old.session window (sent_of old) old.packets b.packet a.answer b.answer first b.outcome in
+    let first : IsOutcome old.present.name window (sent_of old) old.present.packets b.packet a.answer = subst (λ (q : Content). IsOutcome old.present.name window (sent_of old) old.present.packets q a.answer) p a.outcome in
+    let x : a.answer ≡ b.answer = one.outcome old.present.name window (sent_of old) old.present.packets b.packet a.answer b.answer first b.outcome in
     let n : n1 ≡ n2 = a.grown ∙ ap (λ (q : Content). G q a.answer) p ∙ ap (λ (y : Result Outcome LineFault). G b.packet y) x ∙ sym b.grown in
     (a.lines_are ∙ ap (λ (y : Result Outcome LineFault). F y n1) x ∙ ap (λ (h : History). F b.answer h) n ∙ sym b.lines_are, n)
 
@@ -64,8 +65,8 @@ one_at window gaps (datagram_record venue line bytes) old n1 n2 l1 l2 one (inl a
 one_at window gaps (datagram_record venue line bytes) old n1 n2 l1 l2 one (inr a) (inl b) = absurd (one.no_fault bytes a.packet a.rest b.fault a.spells b.has)
 one_at window gaps (datagram_record venue line bytes) old n1 n2 l1 l2 one (inr a) (inr b) = one_packet window gaps venue line bytes old n1 n2 l1 l2 one a b
 one_at window gaps (renewal_record venue name) old n1 n2 l1 l2 one a b =
-    let x = one_renewal old.sessions _ (sent_of old) name a.answer b.answer a.is b.is in
-    (a.lines_are ∙ ap (renew_line venue) x ∙ sym b.lines_are, a.after ∙ ap (after_renewal old name) x ∙ sym b.after)
+    let x = one_renewal (names_of old) _ (sent_of old) name a.answer b.answer a.is b.is in
+    (a.lines_are ∙ ap (renew_line venue) x ∙ sym b.lines_are, a.after ∙ ap (after_answer old name) x ∙ sym b.after)
 
 one_record : (window : ℕ) (gaps : Bool) (r : CaptureRecord) (old n1 n2 : List History) (l1 l2 : List ℕ) → Single → PrintsRecord window gaps r old l1 n1 → PrintsRecord window gaps r old l2 n2 → (l1 ≡ l2) × (n1 ≡ n2)
 one_record window gaps r old n1 n2 l1 l2 one a b =

@@ -6,7 +6,7 @@ use Rattle.std.proofs.lemmas.List.Elements.{All-tail}
 use Rattle.feed_types.specs.declared.line.LineId.{LineId}
 use Rattle.feed_types.specs.declared.line.LineId.TheVariants.{A, B, Recovery}
 use Rattle.feed_types.specs.Text.{line_letter}
-use Rattle.feed_text.specs.Capture.{CaptureRecord, datagram_record, renewal_record, venue_of, kind_of, bytes_of, spelling, stream_of, IsKind, IsRecord, IsHeader, NoRecord, len_at}
+use Rattle.feed_text.specs.Capture.{CaptureRecord, datagram_record, renewal_record, venue_of, kind_byte, bytes_of, spelling, capture_of, IsKind, IsRecord, IsHeader, NoRecord, len_at}
 
 letter_one : (k l : LineId) → line_letter k ≡ line_letter l → k ≡ l
 letter_one A A e = refl
@@ -25,7 +25,7 @@ no_line B e = omega arith
 no_line Recovery e = omega arith
 
 -- a record is its venue, its kind and its bytes
-record_one : (e f : CaptureRecord) → venue_of e ≡ venue_of f → kind_of e ≡ kind_of f → bytes_of e ≡ bytes_of f → e ≡ f
+record_one : (e f : CaptureRecord) → venue_of e ≡ venue_of f → kind_byte e ≡ kind_byte f → bytes_of e ≡ bytes_of f → e ≡ f
 record_one (datagram_record v k p) (datagram_record w l q) a b c = let d = letter_one k l b in cc
 record_one (datagram_record v k p) (renewal_record w q) a b c = absurd (no_line k b)
 record_one (renewal_record v p) (datagram_record w l q) a b c = absurd (no_line l (sym b))
@@ -40,7 +40,7 @@ same_parts p q a b n e =
 same_front : (e f : CaptureRecord) (a b : List ℕ) → spelling e ++ a ≡ spelling f ++ b → (e ≡ f) × (a ≡ b)
 same_front e f a b h =
     let venue : venue_of e ≡ venue_of f = cc in
-    let kind : kind_of e ≡ kind_of f = cc in
+    let kind : kind_byte e ≡ kind_byte f = cc in
     let high : length (bytes_of e) / 256 ≡ length (bytes_of f) / 256 = cc in
     let low : length (bytes_of e) % 256 ≡ length (bytes_of f) % 256 = cc in
     let rest : bytes_of e ++ a ≡ bytes_of f ++ b = cc in
@@ -52,7 +52,7 @@ same_front e f a b h =
 pub header_of : (venues : ℕ) (e : CaptureRecord) (a : List ℕ) → IsRecord venues e → IsHeader venues (spelling e ++ a) × (len_at (spelling e ++ a) ≡ length (bytes_of e))
 header_of venues e a i =
     let len : length (bytes_of e) / 256 * 256 + length (bytes_of e) % 256 ≡ length (bytes_of e) = omega arith in
-    (record { whole = omega arith; venue = i.venue; kind = subst (IsKind (kind_of e)) (sym len) i.kind }, len)
+    (record { whole = omega arith; venue = i.venue; kind = subst (IsKind (kind_byte e)) (sym len) i.kind }, len)
 
 no_front : (venues : ℕ) (e : CaptureRecord) (a : List ℕ) → IsRecord venues e → NoRecord venues (spelling e ++ a) → ⊥
 no_front venues e a i n =
@@ -67,15 +67,15 @@ no_front venues e a i n =
       ]
     ]
 
-front_of_stream : (e : CaptureRecord) (es : List CaptureRecord) (r : List ℕ) → stream_of (e ∷ es) r ≡ spelling e ++ stream_of es r
+front_of_stream : (e : CaptureRecord) (es : List CaptureRecord) (r : List ℕ) → capture_of (e ∷ es) r ≡ spelling e ++ capture_of es r
 front_of_stream e es r = append_assoc (spelling e) (flat_map spelling es) r
 
-pub readings : (venues : ℕ) (xs ys : List CaptureRecord) (r s : List ℕ) → All (IsRecord venues) xs → All (IsRecord venues) ys → NoRecord venues r → NoRecord venues s → stream_of xs r ≡ stream_of ys s → (xs ≡ ys) × (r ≡ s)
+pub readings : (venues : ℕ) (xs ys : List CaptureRecord) (r s : List ℕ) → All (IsRecord venues) xs → All (IsRecord venues) ys → NoRecord venues r → NoRecord venues s → capture_of xs r ≡ capture_of ys s → (xs ≡ ys) × (r ≡ s)
 readings venues [] [] r s i j n m e = (refl, e)
-readings venues [] (y ∷ ys) r s i j n m e = absurd (no_front venues y (stream_of ys s) (j 0 y (omega arith)) (subst (NoRecord venues) (e ∙ front_of_stream y ys s) n))
-readings venues (x ∷ xs) [] r s i j n m e = absurd (no_front venues x (stream_of xs r) (i 0 x (omega arith)) (subst (NoRecord venues) (sym e ∙ front_of_stream x xs r) m))
+readings venues [] (y ∷ ys) r s i j n m e = absurd (no_front venues y (capture_of ys s) (j 0 y (omega arith)) (subst (NoRecord venues) (e ∙ front_of_stream y ys s) n))
+readings venues (x ∷ xs) [] r s i j n m e = absurd (no_front venues x (capture_of xs r) (i 0 x (omega arith)) (subst (NoRecord venues) (sym e ∙ front_of_stream x xs r) m))
 readings venues (x ∷ xs) (y ∷ ys) r s i j n m e =
-    let f = same_front x y (stream_of xs r) (stream_of ys s) (sym (front_of_stream x xs r) ∙ (e ∙ front_of_stream y ys s)) in
+    let f = same_front x y (capture_of xs r) (capture_of ys s) (sym (front_of_stream x xs r) ∙ (e ∙ front_of_stream y ys s)) in
     let g = readings venues xs ys r s (All-tail (IsRecord venues) x xs i) (All-tail (IsRecord venues) y ys j) n m f.1 in
     let front = f.0 in
     let back = g.0 in

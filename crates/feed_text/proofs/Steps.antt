@@ -1,178 +1,242 @@
 -- Steps of a replay: how what is known so far grows, and what follows from it at the end.
-use Rattle.std.proofs.Common.{◌≡◌, inl, inr, ℕ, ◌+◌, ◌<◌, ◌≤◌, List, [], ◌∷◌, ◌++◌, length, take, drop, append_assoc, append-nil, refl, sym, ap, ◌∙◌, subst, arith, length-append}
-use Rattle.std.specs.Prelude.{flat_map, slice_index, Result, Ok, Err, OnErr}
+use Rattle.std.proofs.Common.{◌≡◌, inl, inr, ℕ, Bool, ◌+◌, ◌<◌, ◌≤◌, List, [], ◌∷◌, ◌++◌, length, map, take, drop, append_assoc, append-nil, refl, sym, ap, ◌∙◌, subst, arith, length-append}
+use Rattle.std.specs.Prelude.{flat_map, slice_index, Result, Ok, Err, OnErr, ◌⊎◌, ⊤}
 use Rattle.std.proofs.lemmas.Grind.{flat_map-append}
-use Rattle.std.proofs.lemmas.List.{places}
+use Rattle.std.proofs.lemmas.List.{places, length-map}
 use Rattle.std.proofs.lemmas.List.Elements.{All-nil, All-push}
 use Rattle.std.proofs.Math.Seq.{take-append_seam, take-append-add}
-use Rattle.feed_text.specs.Capture.{CaptureRecord, IsRecord, IsShort, IsWanted, IsHeader, len_at, spelling, stream_of}
-use Rattle.feed_text.specs.Devices.{Came, CameAll, Wrote, Moved}
-use Rattle.feed_text.specs.Progress.{Tells, Closed, ClosedPart, IsUnfinished, Stopped, ReplayedAll, ReplayedPart, SoFar}
+use Rattle.feed_text.specs.declared.replay.ReplayConfig.{ReplayConfig}
+use Rattle.feed_text.specs.Capture.{CaptureRecord, IsRecord, IsShort, IsUnfinished, IsWanted, IsHeader, len_at, spelling, capture_of}
+use Rattle.feed_text.specs.Devices.{Reading, Writing, Came, CameAll, Wrote, Moved}
+use Rattle.feed_text.specs.Following.{VenueList, FollowAll, TakesRecord, PrintsLast}
+use Rattle.line_arbiter.specs.Histories.{History, new_history}
+use Rattle.feed_text.specs.Printed.{Prints, PrintsRecord, last_lines}
+use Rattle.feed_text.specs.Replays.{venues_in, HasRead, IsLinesOf, ReplaysAll, ReplaysTo, ReplaysUntil, ReplaysFront}
 
--- the laws of a reader, a writer and a reporter, and what they hold of
-pub record Laws {R W P : Type 0} (gives : R → ℕ → List ℕ → R → Type 0) (adds : W → List ℕ → W → Type 0) (tells : P → List CaptureRecord → List ℕ → P → Type 0) : Type 0 where
-  pub gives_none : (s : R) → gives s 0 [] s
-  pub gives_more : (s t u : R) (m n : ℕ) (xs ys : List ℕ) → gives s m xs t → gives t n ys u → gives s (m + n) (xs ++ ys) u
-  pub adds_none : (s : W) → adds s [] s
-  pub adds_more : (s t u : W) (xs ys : List ℕ) → adds s xs t → adds t ys u → adds s (xs ++ ys) u
-  pub tells_none : (s : P) → tells s [] [] s
-  pub tells_more : (s t u : P) (rs qs : List CaptureRecord) (xs ys : List ℕ) → tells s rs xs t → tells t qs ys u → tells s (rs ++ qs) (xs ++ ys) u
+-- the laws of a reader and a writer
+pub record Laws {R W : Type 0} (reading : Reading R) (writing : Writing W) : Type 0 where
+  pub gives_none : (s : R) → reading.gives s 0 [] s
+  pub gives_more : (s t u : R) (m n : ℕ) (xs ys : List ℕ) → reading.gives s m xs t → reading.gives t n ys u
+      → reading.gives s (m + n) (xs ++ ys) u
+  pub adds_none : (s : W) → writing.adds s [] s
+  pub adds_more : (s t u : W) (xs ys : List ℕ) → writing.adds s xs t → writing.adds t ys u
+      → writing.adds s (xs ++ ys) u
 
-pub so_far_none : {R W P : Type 0} {gives : R → ℕ → List ℕ → R → Type 0} {adds : W → List ℕ → W → Type 0} {tells : P → List CaptureRecord → List ℕ → P → Type 0} → Laws gives adds tells → (venues : ℕ) (r : R) (w : W) (p : P) → SoFar gives adds tells venues r 0 r w w p p [] []
-so_far_none laws venues r w p = record {
+-- By so many calls records and then this rest were read, the venues follow the histories that the records
+-- lead to, and of their lines these were written and the text is what is left.
+pub record SoFar {R W : Type 0} (reading : Reading R) (writing : Writing W) (config : ReplayConfig)
+    (from : R) (calls : ℕ) (to : R) (before after : W) (venues : VenueList) (rest text : List ℕ)
+    : Type 0 where
+  pub records : List CaptureRecord
+  pub read : HasRead reading config from calls to records rest
+  pub lines : List ℕ
+  pub histories : List History
+  pub prints : Prints config.window config.gaps records (map new_history config.sessions.now) lines histories
+  pub follow : FollowAll config.window venues.items histories
+  pub gaps : venues.gaps ≡ config.gaps
+  pub count : length venues.items ≡ venues_in config
+  pub shown : List ℕ
+  pub wrote : writing.adds before shown after
+  pub all : shown ++ text ≡ lines
+
+-- the venues to which nothing came
+pub so_far_none : {R W : Type 0} {reading : Reading R} {writing : Writing W} {config : ReplayConfig} {venues : VenueList} {rest text : List ℕ}
+    → Laws reading writing → (from : R) (before : W) (calls : ℕ) → calls ≡ 0 → rest ≡ [] → text ≡ [] → FollowAll config.window venues.items (map new_history config.sessions.now) → venues.gaps ≡ config.gaps
+    → SoFar reading writing config from calls from before before venues rest text
+so_far_none {reading = reading} {writing = writing} {config = config} laws from before calls zero_calls no_rest no_text follow gaps = rw (zero_calls, no_rest, no_text) (record {
   records = [];
-  each = All-nil (IsRecord venues);
-  read = laws.gives_none r;
+  read = record { each = All-nil (IsRecord (venues_in config)); bytes = laws.gives_none from };
   lines = [];
-  told = laws.tells_none p;
+  histories = map new_history config.sessions.now;
+  prints = (refl, refl);
+  follow = follow;
+  gaps = gaps;
+  count = follow.count ∙ length-map config.sessions.now new_history;
   shown = [];
-  wrote = laws.adds_none w;
+  wrote = laws.adds_none before;
   all = refl;
-}
+})
 
 -- the next record's bytes go from the rest to the records
-stream_more : (records : List CaptureRecord) (e : CaptureRecord) (rest left : List ℕ) → rest ≡ spelling e ++ left → stream_of records rest ≡ stream_of (records ++ e ∷ []) left
-stream_more records e rest left s =
+capture_more : (records : List CaptureRecord) (e : CaptureRecord) (rest left : List ℕ) → rest ≡ spelling e ++ left → capture_of records rest ≡ capture_of (records ++ e ∷ []) left
+capture_more records e rest left s =
     let F : List ℕ = flat_map spelling records in
     let spelled : flat_map spelling (records ++ e ∷ []) ≡ F ++ spelling e = flat_map-append spelling records (e ∷ []) ∙ ap (λ (xs : List ℕ). F ++ xs) (append-nil (spelling e)) in
     ap (λ (xs : List ℕ). F ++ xs) s ∙ (sym (append_assoc F (spelling e) left) ∙ ap (λ (xs : List ℕ). xs ++ left) (sym spelled))
 
-pub so_far_record : {R W P : Type 0} {gives : R → ℕ → List ℕ → R → Type 0} {adds : W → List ℕ → W → Type 0} {tells : P → List CaptureRecord → List ℕ → P → Type 0} {venues calls : ℕ} {from to : R} {before after : W} {start now next : P} {rest text text' left : List ℕ} (e : CaptureRecord) → Laws gives adds tells → IsRecord venues e → rest ≡ spelling e ++ left → Tells tells now e text text' next → SoFar gives adds tells venues from calls to before after start now rest text → SoFar gives adds tells venues from calls to before after start next left text'
-so_far_record {gives = gives} {venues = venues} {calls = calls} {from = from} {to = to} {rest = rest} {text = text} {text' = text'} {left = left} e laws i s t x = record {
-  records = x.records ++ e ∷ [];
-  each = All-push (IsRecord venues) x.records e x.each i;
-  read = subst (λ (xs : List ℕ). gives from calls xs to) (stream_more x.records e rest left s) x.read;
-  lines = x.lines ++ t.lines;
-  told = laws.tells_more _ _ _ _ _ _ _ x.told t.told;
-  shown = x.shown;
-  wrote = x.wrote;
-  all = ap (λ (xs : List ℕ). x.shown ++ xs) t.behind ∙ (sym (append_assoc x.shown text t.lines) ∙ ap (λ (xs : List ℕ). xs ++ t.lines) x.all);
-}
+-- records after records
+prints_more : (window : ℕ) (gaps : Bool) (rs qs : List CaptureRecord) (old mid new : List History) (xs ys : List ℕ) → Prints window gaps rs old xs mid → Prints window gaps qs mid ys new → Prints window gaps (rs ++ qs) old (xs ++ ys) new
+prints_more window gaps [] qs old mid new xs ys a b =
+    subst (λ (hs : List History). Prints window gaps qs hs (xs ++ ys) new) a.1 (subst (λ (ls : List ℕ). Prints window gaps qs mid (ls ++ ys) new) (sym a.0) b)
+prints_more window gaps (r ∷ rs) qs old mid new xs ys (m, first, others, one, more, whole) b =
+    (m, first, others ++ ys, one, prints_more window gaps rs qs m mid new others ys more b, ap (λ (ls : List ℕ). ls ++ ys) whole ∙ append_assoc first others ys)
 
--- the record that stands at the front of the window is taken, and the window goes past it
-pub so_far_step : {R W P : Type 0} {gives : R → ℕ → List ℕ → R → Type 0} {adds : W → List ℕ → W → Type 0} {tells : P → List CaptureRecord → List ℕ → P → Type 0} {venues calls : ℕ} {from to : R} {before after : W} {start now next : P} {window text text' : List ℕ} (e : CaptureRecord) (len : ℕ) (seen left : List ℕ) → Laws gives adds tells → IsRecord venues e → seen ≡ window → seen ≡ spelling e ++ drop len seen → left ≡ drop len window → Tells tells now e text text' next → SoFar gives adds tells venues from calls to before after start now window text → SoFar gives adds tells venues from calls to before after start next left text'
-so_far_step e len seen left laws i same front gone t x = so_far_record e laws i (sym same ∙ (front ∙ ap (λ (xs : List ℕ). spelling e ++ xs) (ap (drop len) same ∙ sym gone))) t x
+-- one record more
+prints_one : (window : ℕ) (gaps : Bool) (rs : List CaptureRecord) (r : CaptureRecord) (old mid new : List History) (xs ys : List ℕ) → Prints window gaps rs old xs mid → PrintsRecord window gaps r mid ys new → Prints window gaps (rs ++ r ∷ []) old (xs ++ ys) new
+prints_one window gaps rs r old mid new xs ys a b = prints_more window gaps rs (r ∷ []) old mid new xs ys a (new, ys, [], b, (refl, refl), sym (append-nil ys))
 
-pub so_far_moved : {R W P : Type 0} {gives : R → ℕ → List ℕ → R → Type 0} {adds : W → List ℕ → W → Type 0} {tells : P → List CaptureRecord → List ℕ → P → Type 0} {venues calls : ℕ} {from to : R} {before mid after : W} {start now : P} {rest text left : List ℕ} → Laws gives adds tells → SoFar gives adds tells venues from calls to before mid start now rest text → Moved adds mid after text left → SoFar gives adds tells venues from calls to before after start now rest left
+-- the record that stands at the front of the unread bytes is taken, and they are what lies behind it
+pub so_far_step : {R W : Type 0} {reading : Reading R} {writing : Writing W} {config : ReplayConfig} {from to : R} {calls : ℕ} {before after : W} {venues next : VenueList} {unread text text' : List ℕ}
+    (e : CaptureRecord) (len : ℕ) (seen left : List ℕ) → IsRecord (venues_in config) e → seen ≡ unread → seen ≡ spelling e ++ drop len seen → left ≡ drop len unread → TakesRecord venues e text text' next
+    → SoFar reading writing config from calls to before after venues unread text → SoFar reading writing config from calls to before after next left text'
+so_far_step {reading = reading} {config = config} {from = from} {to = to} {calls = calls} {unread = unread} {text = text} e len seen left i same front gone t x =
+    let one = t.told config.window x.histories x.follow in
+    let cut : unread ≡ spelling e ++ left = sym same ∙ (front ∙ ap (λ (xs : List ℕ). spelling e ++ xs) (ap (drop len) same ∙ sym gone)) in
+    record {
+      records = x.records ++ e ∷ [];
+      read = record {
+        each = All-push (IsRecord (venues_in config)) x.records e x.read.each i;
+        bytes = subst (λ (xs : List ℕ). reading.gives from calls xs to) (capture_more x.records e unread left cut) x.read.bytes;
+      };
+      lines = x.lines ++ one.lines;
+      histories = one.after;
+      prints = prints_one config.window config.gaps x.records e _ x.histories one.after x.lines one.lines x.prints (subst (λ (g : Bool). PrintsRecord config.window g e x.histories one.lines one.after) x.gaps one.prints);
+      follow = one.follow;
+      gaps = t.gaps ∙ x.gaps;
+      count = t.count ∙ x.count;
+      shown = x.shown;
+      wrote = x.wrote;
+      all = ap (λ (xs : List ℕ). x.shown ++ xs) one.behind ∙ (sym (append_assoc x.shown text one.lines) ∙ ap (λ (xs : List ℕ). xs ++ one.lines) x.all);
+    }
+
+pub so_far_moved : {R W : Type 0} {reading : Reading R} {writing : Writing W} {config : ReplayConfig} {from to : R} {calls : ℕ} {before mid after : W} {venues : VenueList} {rest text left : List ℕ}
+    → Laws reading writing → SoFar reading writing config from calls to before mid venues rest text → Moved writing.adds mid after text left → SoFar reading writing config from calls to before after venues rest left
 so_far_moved {left = left} laws x m = record {
   records = x.records;
-  each = x.each;
   read = x.read;
   lines = x.lines;
-  told = x.told;
+  histories = x.histories;
+  prints = x.prints;
+  follow = x.follow;
+  gaps = x.gaps;
+  count = x.count;
   shown = x.shown ++ m.shown;
   wrote = laws.adds_more _ _ _ _ _ x.wrote m.taken;
   all = append_assoc x.shown m.shown left ∙ (ap (λ (xs : List ℕ). x.shown ++ xs) (sym m.left) ∙ x.all);
 }
 
-pub so_far_read : {R W P : Type 0} {gives : R → ℕ → List ℕ → R → Type 0} {adds : W → List ℕ → W → Type 0} {tells : P → List CaptureRecord → List ℕ → P → Type 0} {venues calls n : ℕ} {from mid to : R} {before after : W} {start now : P} {rest longer text : List ℕ} (all : ℕ) → calls + n ≡ all → Laws gives adds tells → SoFar gives adds tells venues from calls mid before after start now rest text → Came gives mid to rest longer n → SoFar gives adds tells venues from all to before after start now longer text
-so_far_read {gives = gives} {calls = calls} {n = n} {from = from} {to = to} {rest = rest} {longer = longer} all e laws x m =
-    let joined : stream_of x.records rest ++ m.bytes ≡ stream_of x.records longer = append_assoc (flat_map spelling x.records) rest m.bytes ∙ ap (λ (xs : List ℕ). flat_map spelling x.records ++ xs) (sym m.behind) in
+-- and all of the text was written
+pub so_far_flushed : {R W : Type 0} {reading : Reading R} {writing : Writing W} {config : ReplayConfig} {from to : R} {calls : ℕ} {before mid after : W} {venues : VenueList} {rest text left : List ℕ}
+    → Laws reading writing → SoFar reading writing config from calls to before mid venues rest text → Moved writing.adds mid after text left → left ≡ [] → SoFar reading writing config from calls to before after venues rest []
+so_far_flushed laws x m e = rw (← e) (so_far_moved laws x m)
+
+pub so_far_read : {R W : Type 0} {reading : Reading R} {writing : Writing W} {config : ReplayConfig} {from mid to : R} {calls n : ℕ} {before after : W} {venues : VenueList} {rest longer text : List ℕ}
+    (all : ℕ) → calls + n ≡ all → Laws reading writing → SoFar reading writing config from calls mid before after venues rest text → Came reading.gives mid to rest longer n → SoFar reading writing config from all to before after venues longer text
+so_far_read {reading = reading} {from = from} {to = to} {calls = calls} {n = n} {rest = rest} {longer = longer} all e laws x m =
+    let joined : capture_of x.records rest ++ m.bytes ≡ capture_of x.records longer = append_assoc (flat_map spelling x.records) rest m.bytes ∙ ap (λ (xs : List ℕ). flat_map spelling x.records ++ xs) (sym m.behind) in
     record {
       records = x.records;
-      each = x.each;
-      read = subst (λ (j : ℕ). gives from j (stream_of x.records longer) to) e (subst (λ (xs : List ℕ). gives from (calls + n) xs to) joined (laws.gives_more _ _ _ _ _ _ _ x.read m.given));
+      read = record {
+        each = x.read.each;
+        bytes = subst (λ (j : ℕ). reading.gives from j (capture_of x.records longer) to) e (subst (λ (xs : List ℕ). reading.gives from (calls + n) xs to) joined (laws.gives_more _ _ _ _ _ _ _ x.read.bytes m.given));
+      };
       lines = x.lines;
-      told = x.told;
+      histories = x.histories;
+      prints = x.prints;
+      follow = x.follow;
+      gaps = x.gaps;
+      count = x.count;
       shown = x.shown;
       wrote = x.wrote;
       all = x.all;
     }
 
-pub so_far_empty : {R W P : Type 0} {gives : R → ℕ → List ℕ → R → Type 0} {adds : W → List ℕ → W → Type 0} {tells : P → List CaptureRecord → List ℕ → P → Type 0} {venues calls : ℕ} {from to : R} {before after : W} {start now : P} {rest text : List ℕ} → text ≡ [] → SoFar gives adds tells venues from calls to before after start now rest text → SoFar gives adds tells venues from calls to before after start now rest []
-so_far_empty e x = rw (← e) x
+-- the lines of the records
+lines_of : {R W : Type 0} {reading : Reading R} {writing : Writing W} {config : ReplayConfig} {from to : R} {calls : ℕ} {before after : W} {venues : VenueList} {rest text : List ℕ} (x : SoFar reading writing config from calls to before after venues rest text) → IsLinesOf config x.records x.lines
+lines_of x = record { histories = x.histories; prints = x.prints }
 
--- what was written is a front of the lines
-pub part_of : {R W P : Type 0} {gives : R → ℕ → List ℕ → R → Type 0} {adds : W → List ℕ → W → Type 0} {tells : P → List CaptureRecord → List ℕ → P → Type 0} {closes : P → List ℕ → Type 0} {venues calls : ℕ} {from to : R} {before after : W} {start now : P} {rest text : List ℕ} → SoFar gives adds tells venues from calls to before after start now rest text → ReplayedPart gives adds tells closes venues from before after start
-part_of {adds = adds} {before = before} {after = after} {text = text} x =
-    let split : x.lines ++ [] ≡ x.shown ++ text = append-nil x.lines ∙ sym x.all in
-    let front : take (length x.shown) (x.lines ++ []) ≡ x.shown = rw split (take-append_seam x.shown _) in
-    record {
-      records = x.records;
-      each = x.each;
-      rest = _;
-      calls = _;
-      mid = _;
-      read = x.read;
-      lines = x.lines;
-      last = _;
-      told = x.told;
-      ending = [];
-      closed = inl refl;
-      wrote = record { count = length x.shown; taken = subst (λ (xs : List ℕ). adds before xs after) (sym front) x.wrote };
-    }
-
--- the writer failed within the text
-pub part_wrote : {R W P : Type 0} {gives : R → ℕ → List ℕ → R → Type 0} {adds : W → List ℕ → W → Type 0} {tells : P → List CaptureRecord → List ℕ → P → Type 0} {closes : P → List ℕ → Type 0} {venues calls : ℕ} {from to : R} {before mid after : W} {start now : P} {rest text : List ℕ} → Laws gives adds tells → SoFar gives adds tells venues from calls to before mid start now rest text → Wrote adds mid text after → ReplayedPart gives adds tells closes venues from before after start
-part_wrote {adds = adds} {before = before} {after = after} {text = text} laws x w =
-    let split : x.lines ++ [] ≡ x.shown ++ text = append-nil x.lines ∙ sym x.all in
-    let front : take (length x.shown + w.count) (x.lines ++ []) ≡ x.shown ++ take w.count text = rw split (take-append-add x.shown _ _) in
-    record {
-      records = x.records;
-      each = x.each;
-      rest = _;
-      calls = _;
-      mid = _;
-      read = x.read;
-      lines = x.lines;
-      last = _;
-      told = x.told;
-      ending = [];
-      closed = inl refl;
-      wrote = record { count = length x.shown + w.count; taken = subst (λ (xs : List ℕ). adds before xs after) (sym front) (laws.adds_more _ _ _ _ _ x.wrote w.taken) };
-    }
-
--- the replay ended within the last lines
-pub part_closed : {R W P : Type 0} {gives : R → ℕ → List ℕ → R → Type 0} {adds : W → List ℕ → W → Type 0} {tells : P → List CaptureRecord → List ℕ → P → Type 0} {closes : P → List ℕ → Type 0} {venues calls : ℕ} {from to : R} {before mid after : W} {start now : P} {rest : List ℕ} → Laws gives adds tells → SoFar gives adds tells venues from calls to before mid start now rest [] → ClosedPart adds closes now mid after → ReplayedPart gives adds tells closes venues from before after start
-part_closed {adds = adds} {before = before} {after = after} laws x e =
-    let shown : x.shown ≡ x.lines = sym (append-nil x.shown) ∙ x.all in
-    let front : take (length x.shown + e.wrote.count) (x.lines ++ e.lines) ≡ x.shown ++ take e.wrote.count e.lines = rw (← shown) (take-append-add x.shown _ _) in
-    record {
-      records = x.records;
-      each = x.each;
-      rest = _;
-      calls = _;
-      mid = _;
-      read = x.read;
-      lines = x.lines;
-      last = _;
-      told = x.told;
-      ending = e.lines;
-      closed = e.last;
-      wrote = record { count = length x.shown + e.wrote.count; taken = subst (λ (xs : List ℕ). adds before xs after) (sym front) (laws.adds_more _ _ _ _ _ x.wrote e.wrote.taken) };
-    }
-
--- all that was told is written
-pub stopped_of : {R W P : Type 0} {gives : R → ℕ → List ℕ → R → Type 0} {adds : W → List ℕ → W → Type 0} {tells : P → List CaptureRecord → List ℕ → P → Type 0} {venues calls : ℕ} {from to : R} {before after : W} {start now : P} {rest : List ℕ} {IsLeft : List ℕ → Type 0} → SoFar gives adds tells venues from calls to before after start now rest [] → IsLeft rest → Stopped gives adds tells venues IsLeft from calls to before after start now
-stopped_of {adds = adds} {before = before} {after = after} x h = record {
+-- all of the lines are written
+pub replays_to : {R W : Type 0} {reading : Reading R} {writing : Writing W} {config : ReplayConfig} {from to : R} {calls : ℕ} {before after : W} {venues : VenueList} {rest : List ℕ} {IsLeft : List ℕ → Type 0}
+    → SoFar reading writing config from calls to before after venues rest [] → IsLeft rest → ReplaysTo reading writing config IsLeft from calls to before after
+replays_to {writing = writing} {before = before} {after = after} x h = record {
   records = x.records;
-  each = x.each;
   rest = _;
   left = h;
   read = x.read;
   lines = x.lines;
-  told = x.told;
-  wrote = subst (λ (xs : List ℕ). adds before xs after) (sym (append-nil x.shown) ∙ x.all) x.wrote;
+  are = lines_of x;
+  wrote = subst (λ (xs : List ℕ). writing.adds before xs after) (sym (append-nil x.shown) ∙ x.all) x.wrote;
 }
 
-pub all_of : {R W P : Type 0} {gives : R → ℕ → List ℕ → R → Type 0} {ends : R → R → Type 0} {adds : W → List ℕ → W → Type 0} {tells : P → List CaptureRecord → List ℕ → P → Type 0} {closes : P → List ℕ → Type 0} {venues turns calls n : ℕ} {from mid to : R} {before written after : W} {start now : P} {rest longer : List ℕ} → calls + n + 1 ≤ turns → Laws gives adds tells → SoFar gives adds tells venues from calls mid before written start now rest [] → CameAll gives ends mid to rest longer n → longer ≡ [] → Closed adds closes now written after → ReplayedAll gives ends adds tells closes venues turns from to before after start now
-all_of {gives = gives} {adds = adds} {calls = calls} {n = n} {from = from} {before = before} {after = after} {longer = longer} h laws x all e c =
-    let y = so_far_read (calls + n) refl laws x all.came in
-    let shown : y.shown ≡ y.lines = sym (append-nil y.shown) ∙ y.all in
+pub replays_until : {R W : Type 0} {reading : Reading R} {writing : Writing W} {config : ReplayConfig} {from to : R} {calls : ℕ} {before after : W} {venues : VenueList} {rest : List ℕ} {IsLeft : List ℕ → Type 0} {Then : R → Type 0}
+    → SoFar reading writing config from calls to before after venues rest [] → IsLeft rest → Then to → ReplaysUntil reading writing config IsLeft Then from before after
+replays_until x h t = record { calls = _; mid = _; replays = replays_to x h; came_to = t }
+
+-- all of the text was written, and then memory was refused
+pub refused_of : {R W : Type 0} {reading : Reading R} {writing : Writing W} {config : ReplayConfig} {from to : R} {calls : ℕ} {before mid after : W} {venues : VenueList} {rest text : List ℕ}
+    → Laws reading writing → SoFar reading writing config from calls to before mid venues rest text → writing.adds mid text after
+    → ReplaysUntil reading writing config (λ rest. ⊤) (λ mid. (mid ≡ to) ⊎ reading.ends mid to) from before after
+refused_of laws x w = replays_until (so_far_moved laws x (record { shown = _; taken = w; left = sym (append-nil _) })) tt (inl refl)
+
+-- the writer failed within the text
+pub front_wrote : {R W : Type 0} {reading : Reading R} {writing : Writing W} {config : ReplayConfig} {from to : R} {calls : ℕ} {before mid after : W} {venues : VenueList} {rest text : List ℕ}
+    → Laws reading writing → SoFar reading writing config from calls to before mid venues rest text → Wrote writing.adds mid text after → ReplaysFront reading writing config from to before after
+front_wrote {writing = writing} {before = before} {after = after} {text = text} laws x w =
+    let front : take (length x.shown + w.count) x.lines ≡ x.shown ++ take w.count text = rw (← x.all) (take-append-add x.shown _ _) in
     record {
-      records = y.records;
-      each = y.each;
-      calls = calls + n;
-      within = h;
-      mid = all.mid;
-      read = subst (λ (xs : List ℕ). gives from (calls + n) (stream_of y.records xs) all.mid) e y.read;
-      end = all.end;
-      lines = y.lines;
-      told = y.told;
-      ending = c.lines;
-      closed = c.last;
-      wrote = subst (λ (xs : List ℕ). adds before (xs ++ c.lines) after) shown (laws.adds_more _ _ _ _ _ y.wrote c.wrote);
+      records = x.records;
+      rest = _;
+      calls = _;
+      mid = _;
+      read = x.read;
+      text = x.lines;
+      is = inl (lines_of x, refl);
+      wrote = record { count = length x.shown + w.count; taken = subst (λ (xs : List ℕ). writing.adds before xs after) (sym front) (laws.adds_more _ _ _ _ _ x.wrote w.taken) };
     }
+
+-- all that was read is records, and the last lines were written
+pub replays_all : {R W : Type 0} {reading : Reading R} {writing : Writing W} {config : ReplayConfig} {from mid to : R} {calls : ℕ} {before written after : W} {venues : VenueList} {rest lines : List ℕ}
+    → calls + 1 ≤ config.turns → Laws reading writing → SoFar reading writing config from calls mid before written venues rest [] → rest ≡ [] → reading.ends mid to → PrintsLast venues [] lines → writing.adds written lines after
+    → ReplaysAll reading writing config from to before after
+replays_all {reading = reading} {writing = writing} {config = config} {from = from} {mid = mid} {calls = calls} {before = before} {after = after} {lines = lines} within laws x e end last w =
+    let shown : x.shown ≡ x.lines = sym (append-nil x.shown) ∙ x.all in
+    record {
+      records = x.records;
+      calls = calls;
+      within = within;
+      mid = mid;
+      read = subst (λ (xs : List ℕ). HasRead reading config from calls mid x.records xs) e x.read;
+      end = end;
+      text = x.lines ++ lines;
+      is = record { lines = x.lines; histories = x.histories; prints = x.prints; whole = ap (λ (ls : List ℕ). x.lines ++ ls) (last config.window x.histories x.follow) };
+      wrote = subst (λ (xs : List ℕ). writing.adds before (xs ++ lines) after) shown (laws.adds_more _ _ _ _ _ x.wrote w);
+    }
+
+-- the writer failed within the last lines
+pub front_closed : {R W : Type 0} {reading : Reading R} {writing : Writing W} {config : ReplayConfig} {from mid to : R} {calls : ℕ} {before written after : W} {venues : VenueList} {rest lines : List ℕ}
+    → Laws reading writing → SoFar reading writing config from calls mid before written venues rest [] → rest ≡ [] → reading.ends mid to → PrintsLast venues [] lines → Wrote writing.adds written lines after
+    → ReplaysFront reading writing config from to before after
+front_closed {writing = writing} {config = config} {before = before} {after = after} {lines = lines} laws x e end last w =
+    let shown : x.shown ≡ x.lines = sym (append-nil x.shown) ∙ x.all in
+    let front : take (length x.shown + w.count) (x.lines ++ lines) ≡ x.shown ++ take w.count lines = rw (← shown) (take-append-add x.shown _ _) in
+    record {
+      records = x.records;
+      rest = _;
+      calls = _;
+      mid = _;
+      read = x.read;
+      text = x.lines ++ lines;
+      is = inr (record { lines = x.lines; histories = x.histories; prints = x.prints; whole = ap (λ (ls : List ℕ). x.lines ++ ls) (last config.window x.histories x.follow) }, e, end);
+      wrote = record { count = length x.shown + w.count; taken = subst (λ (xs : List ℕ). writing.adds before xs after) (sym front) (laws.adds_more _ _ _ _ _ x.wrote w.taken) };
+    }
+
+-- memory was refused before anything was read
+pub nothing_replayed : {R W : Type 0} {reading : Reading R} {writing : Writing W} → Laws reading writing → (config : ReplayConfig) (from : R) (before : W)
+    → ReplaysUntil reading writing config (λ rest. ⊤) (λ mid. (mid ≡ from) ⊎ reading.ends mid from) from before before
+nothing_replayed laws config from before = record {
+  calls = 0;
+  mid = from;
+  replays = record {
+    records = [];
+    rest = [];
+    left = tt;
+    read = record { each = All-nil (IsRecord (venues_in config)); bytes = laws.gives_none from };
+    lines = [];
+    are = record { histories = map new_history config.sessions.now; prints = (refl, refl) };
+    wrote = laws.adds_none before;
+  };
+  came_to = inl refl;
+}
 
 pub on_err : {T E : Type 0} (r : Result T E) {P : Type 0} → P → OnErr r P
 on_err (Ok x) p = tt

@@ -1,14 +1,14 @@
 -- One more record, and the venue that it is of goes on.
 use Rattle.std.proofs.Common.{◌≡◌, ◌≢◌, ℕ, zero, suc, ◌+◌, ◌<◌, ◌≤◌, List, [], ◌∷◌, ◌++◌, length, map, take, drop, get_or, length-append, Some, refl, sym, ap, subst, ◌∙◌, append_assoc, append-nil, arith, inl, inr}
-use Rattle.std.specs.Prelude.{◌⊎◌, slice_get, slice_set, Result, Ok, Err, OnOk}
+use Rattle.std.specs.Prelude.{◌⊎◌, slice_get, slice_set}
 use Rattle.std.proofs.Math.ListN.{length-set, drop_of_length-le}
-use Rattle.std.proofs.lemmas.List.{append_cancel_left, length-map, map-append, take_more}
+use Rattle.std.proofs.lemmas.List.{length-map, map-append, take_more}
 use Rattle.std.proofs.lemmas.Grind.{common_steps}
 use Rattle.std.proofs.lemmas.Option.{slice_get_within}
 use Rattle.feed_text.specs.Capture.{CaptureRecord, venue_of}
-use Rattle.feed_text.specs.Printed.{History, new_history, PrintsAt, last_line, last_lines}
-use Rattle.feed_text.specs.Following.{Venue, VenueList, Follows, FollowAll, Grows, PrintsOne, TellsLines}
-use Rattle.feed_text.specs.Progress.{Tells}
+use Rattle.line_arbiter.specs.Histories.{History, new_history}
+use Rattle.feed_text.specs.Printed.{last_line, last_lines}
+use Rattle.feed_text.specs.Following.{Venue, VenueList, Follows, FollowAll, PrintsOne, TakesRecord}
 use Rattle.feed_text.proofs.Rest.{rest_at}
 
 -- an element within a list
@@ -57,36 +57,22 @@ history_at window vs hs i v f at =
     (h.0, h.1, f.each i v h.0 at h.1)
 
 -- one record
-pub tell_one : (from to : VenueList) (r : CaptureRecord) (old new : List ℕ) (v w : Venue) → slice_get from.items (venue_of r) ≡ Some v → to.items ≡ slice_set from.items (venue_of r) w → to.gaps ≡ from.gaps → Grows old new
-    → ((width : ℕ) (h : History) → Follows width (venue_of r) v h → PrintsOne width from.gaps r h old new w) → Tells TellsLines from r old new to
-tell_one from to r old new v w at set gaps g step = record {
-  lines = g.more;
-  told = record {
-    gaps = gaps;
-    count = ap length set ∙ length-set from.items (venue_of r) w;
-    told = λ window hs f.
-        let h = history_at window from.items hs (venue_of r) v f at in
-        let one = step window h.0 h.2 in
-        let lines : one.lines ≡ g.more = append_cancel_left old one.lines g.more (sym one.behind ∙ g.behind) in
-        record {
-          after = slice_set hs (venue_of r) one.after;
-          prints = (
-            slice_set hs (venue_of r) one.after,
-            g.more,
-            [],
-            record { before = h.0; after = one.after; at = h.1; prints = subst (λ (ls : List ℕ). PrintsAt window from.gaps r h.0 ls one.after) lines one.prints; others = refl },
-            (refl, refl),
-            sym (append-nil g.more),
-          );
-          follow = rw set (follow_set window (venue_of r) from.items hs w one.after f one.follows);
-        };
-  };
-  behind = g.behind;
+pub takes_one : (from to : VenueList) (r : CaptureRecord) (old new : List ℕ) (v w : Venue) → slice_get from.items (venue_of r) ≡ Some v → to.items ≡ slice_set from.items (venue_of r) w → to.gaps ≡ from.gaps
+    → ((width : ℕ) (h : History) → Follows width (venue_of r) v h → PrintsOne width from.gaps r h old new w) → TakesRecord from r old new to
+takes_one from to r old new v w at set gaps step = record {
+  gaps = gaps;
+  count = ap length set ∙ length-set from.items (venue_of r) w;
+  told = λ window hs f.
+      let h = history_at window from.items hs (venue_of r) v f at in
+      let one = step window h.0 h.2 in
+      record {
+        lines = one.lines;
+        after = slice_set hs (venue_of r) one.after;
+        prints = record { before = h.0; after = one.after; at = h.1; prints = one.prints; others = refl };
+        follow = rw set (follow_set window (venue_of r) from.items hs w one.after f one.follows);
+        behind = one.behind;
+      };
 }
-
-pub on_ok_both : {T E : Type 0} (r : Result T E) {P Q S : Type 0} → (P → Q → S) → OnOk r P → OnOk r Q → OnOk r S
-on_ok_both (Ok x) f p q = f p q
-on_ok_both (Err e) f p q = tt
 
 slice_get_push : {X : Type 0} (xs : List X) (y : X) (i : ℕ) (x : X) → slice_get (xs ++ y ∷ []) i ≡ Some x → (slice_get xs i ≡ Some x) ⊎ ((i ≡ length xs) × (x ≡ y))
 slice_get_push [] y zero x e = inr (refl, cc)

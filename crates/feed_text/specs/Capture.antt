@@ -1,7 +1,9 @@
 -- The capture, this project's own format for what came on the lines.
 --
--- A capture is a list of records, one after the other. A record is the venue (1 byte), a kind (1 byte), a length (2 bytes, big-endian) and that many bytes.
--- Kinds 41 (A), 42 (B) and 52 (R) are a datagram of line A, line B or Recovery. Kind 4e (N) is a renewal: its 10 bytes are the name of the venue's next session.
+-- A capture is a list of records, one after the other. A record is the venue (1 byte), a kind
+-- (1 byte), a length (2 bytes, big-endian) and that many bytes. Kinds 41 (A), 42 (B) and 52 (R) are
+-- a datagram of line A, line B or Recovery. Kind 4e (N) is a renewal: its 10 bytes are the name of
+-- the venue's next session.
 use Rattle.std.specs.Prelude.{◌≡◌, ℕ, ◌+◌, ◌*◌, ◌/◌, ◌%◌, ◌<◌, ◌≤◌, ◌⊎◌, List, [], ◌∷◌, ◌++◌, length, drop, flat_map, slice_index}
 use Rattle.feed_types.specs.declared.line.LineId.{LineId}
 use Rattle.feed_types.specs.Text.{line_letter}
@@ -20,9 +22,9 @@ venue_of (datagram_record venue line bytes) = venue
 venue_of (renewal_record venue session) = venue
 
 -- the byte that tells what a record holds
-abbrev pub kind_of : CaptureRecord → ℕ
-kind_of (datagram_record venue line bytes) = line_letter line
-kind_of (renewal_record venue session) = 78
+abbrev pub kind_byte : CaptureRecord → ℕ
+kind_byte (datagram_record venue line bytes) = line_letter line
+kind_byte (renewal_record venue session) = 78
 
 -- the bytes that the length counts
 abbrev pub bytes_of : CaptureRecord → List ℕ
@@ -31,11 +33,13 @@ bytes_of (renewal_record venue session) = session
 
 -- the bytes of a record
 abbrev pub spelling : CaptureRecord → List ℕ
-spelling r = venue_of r ∷ kind_of r ∷ length (bytes_of r) / 256 ∷ length (bytes_of r) % 256 ∷ bytes_of r
+spelling r =
+    let len = length (bytes_of r) in
+    venue_of r ∷ kind_byte r ∷ len / 256 ∷ len % 256 ∷ bytes_of r
 
 -- these records, and then this rest
-abbrev pub stream_of : List CaptureRecord → List ℕ → List ℕ
-stream_of records rest = flat_map spelling records ++ rest
+abbrev pub capture_of : List CaptureRecord → List ℕ → List ℕ
+capture_of records rest = flat_map spelling records ++ rest
 
 -- a kind with a length that it may have: A, B and R with any, N with that of a session name
 abbrev pub IsKind : ℕ → ℕ → Type 0
@@ -44,7 +48,7 @@ IsKind kind len = (kind ≡ 65) ⊎ (kind ≡ 66) ⊎ (kind ≡ 82) ⊎ ((kind �
 -- a record that a capture of so many venues may hold
 pub record IsRecord (venues : ℕ) (r : CaptureRecord) : Type 0 where
   pub venue : venue_of r < venues
-  pub kind : IsKind (kind_of r) (length (bytes_of r))
+  pub kind : IsKind (kind_byte r) (length (bytes_of r))
   pub len : length (bytes_of r) < 65536
 
 -- the length that a record's first four bytes give
@@ -67,21 +71,32 @@ pub record IsShort (venues : ℕ) (rest : List ℕ) : Type 0 where
   pub some : 0 < length rest
   pub cut : (length rest < 4) ⊎ (IsHeader venues rest × (length rest < 4 + len_at rest))
 
+-- no record, and none that is wrong: nothing, or less than one
+abbrev pub IsUnfinished : ℕ → List ℕ → Type 0
+IsUnfinished venues rest = (rest ≡ []) ⊎ IsShort venues rest
+
 -- no record stands at the front: nothing is there, or what begins none, or less than one
 abbrev pub NoRecord : ℕ → List ℕ → Type 0
 NoRecord venues rest = (rest ≡ []) ⊎ (IsBad venues rest ⊎ IsShort venues rest)
 
--- how many bytes tell what stands at the front: the first four, and once they are there all that they count
+-- how many bytes tell what stands at the front: the first four, and once they are there all that
+-- they count
 abbrev pub IsWanted : ℕ → List ℕ → ℕ → Type 0
-IsWanted venues bytes n = ((length bytes < 4) × (n ≡ 4)) ⊎ (IsHeader venues bytes × (n ≡ 4 + len_at bytes) × (length bytes < n))
+IsWanted venues bytes n =
+    ((length bytes < 4) × (n ≡ 4))
+    ⊎ (IsHeader venues bytes × (n ≡ 4 + len_at bytes) × (length bytes < n))
 
 -- the record that a borrowing one is
 abbrev pub record_of : Record → CaptureRecord
 record_of (Datagram venue line bytes) = datagram_record venue line bytes.now
 record_of (Renewal venue session) = renewal_record venue session
 
--- what stands at the front of some bytes: a record and what is left behind it, no record, or less than one
+-- what stands at the front of some bytes: a record and what is left behind it, no record, or less
+-- than one
 abbrev pub StandsAtFront : ℕ → List ℕ → Front → Type 0
-StandsAtFront venues bytes (Whole r len) = IsRecord venues (record_of r) × (len ≡ length (spelling (record_of r))) × (bytes ≡ spelling (record_of r) ++ drop len bytes)
+StandsAtFront venues bytes (Whole r len) =
+    IsRecord venues (record_of r)
+    × (len ≡ length (spelling (record_of r)))
+    × (bytes ≡ spelling (record_of r) ++ drop len bytes)
 StandsAtFront venues bytes Bad = IsBad venues bytes
 StandsAtFront venues bytes (Wants n) = IsWanted venues bytes n × (n < 65540)

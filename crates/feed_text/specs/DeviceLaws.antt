@@ -6,7 +6,8 @@ use Rattle.feed_text.specs.Devices.{Held, GivesPieces}
 pub gives_none : (s : Held) → GivesPieces s 0 [] s
 gives_none s = record { front = refl; least = omega arith; most = omega arith; piece = refl }
 
-pub gives_more : (s t u : Held) (m n : ℕ) (xs ys : List ℕ) → GivesPieces s m xs t → GivesPieces t n ys u → GivesPieces s (m + n) (xs ++ ys) u
+pub gives_more : (s t u : Held) (m n : ℕ) (xs ys : List ℕ)
+    → GivesPieces s m xs t → GivesPieces t n ys u → GivesPieces s (m + n) (xs ++ ys) u
 gives_more s t u m n xs ys a b =
     let len : length (xs ++ ys) ≡ length xs + length ys = length-append xs ys in
     let all : (m + n) * s.piece ≡ m * s.piece + n * s.piece = add-mul m n s.piece in

@@ -28,31 +28,52 @@ pub record GivesEnd (before after : Held) : Type 0 where
   pub none : before.bytes ≡ []
   pub same : after ≡ before
 
--- By so many calls a reader came from one state to the other, and what it gave came behind the old bytes.
-pub record Came {R : Type 0} (gives : R → ℕ → List ℕ → R → Type 0) (from to : R) (old new : List ℕ) (calls : ℕ) : Type 0 where
+-- By so many calls a reader came from one state to the other, and what it gave came behind the old
+-- bytes.
+pub record Came {R : Type 0} (gives : R → ℕ → List ℕ → R → Type 0)
+    (from to : R) (old new : List ℕ) (calls : ℕ) : Type 0 where
   pub bytes : List ℕ
   pub given : gives from calls bytes to
   pub behind : new ≡ old ++ bytes
 
 -- The same, and then one more call showed the end.
-pub record CameAll {R : Type 0} (gives : R → ℕ → List ℕ → R → Type 0) (ends : R → R → Type 0) (from to : R) (old new : List ℕ) (calls : ℕ) : Type 0 where
+pub record CameAll {R : Type 0} (gives : R → ℕ → List ℕ → R → Type 0) (ends : R → R → Type 0)
+    (from to : R) (old new : List ℕ) (calls : ℕ) : Type 0 where
   pub mid : R
   pub came : Came gives from mid old new calls
   pub end : ends mid to
 
 -- The same after some calls, whatever came of the reader then.
-pub record CameSome {R : Type 0} (gives : R → ℕ → List ℕ → R → Type 0) (from : R) (old new : List ℕ) : Type 0 where
+pub record CameSome {R : Type 0} (gives : R → ℕ → List ℕ → R → Type 0)
+    (from : R) (old new : List ℕ) : Type 0 where
   pub calls : ℕ
   pub mid : R
   pub came : Came gives from mid old new calls
 
 -- A writer took a front of the text.
-pub record Wrote {W : Type 0} (adds : W → List ℕ → W → Type 0) (before : W) (text : List ℕ) (after : W) : Type 0 where
+pub record Wrote {W : Type 0} (adds : W → List ℕ → W → Type 0)
+    (before : W) (text : List ℕ) (after : W) : Type 0 where
   pub count : ℕ
   pub taken : adds before (take count text) after
 
 -- A writer took a front of the old text, and the new text is what is left.
-pub record Moved {W : Type 0} (adds : W → List ℕ → W → Type 0) (before after : W) (old new : List ℕ) : Type 0 where
+pub record Moved {W : Type 0} (adds : W → List ℕ → W → Type 0)
+    (before after : W) (old new : List ℕ) : Type 0 where
   pub shown : List ℕ
   pub taken : adds before shown after
   pub left : old ≡ shown ++ new
+
+-- ---- what the traits tell of their readers and writers
+
+-- How readers of a type go on: by so many calls these bytes came, one call showed the end, and how
+-- many calls failed. These are the members of the trait CaptureIn.
+pub record Reading (R : Type 0) : Type 1 where
+  pub gives : R → ℕ → List ℕ → R → Type 0
+  pub ends : R → R → Type 0
+  pub failures : R → ℕ
+
+-- How writers of a type go on: this text was taken, and how many calls failed. These are the
+-- members of the trait TextOut.
+pub record Writing (W : Type 0) : Type 1 where
+  pub adds : W → List ℕ → W → Type 0
+  pub failures : W → ℕ

@@ -2,9 +2,9 @@ pub mod Capture
 pub mod Devices
 pub mod Kind
 pub mod DeviceLaws
-pub mod Progress
 pub mod Lines
 pub mod Printed
 pub mod Following
-pub mod TellingLaws
 pub mod Replays
+pub mod Placing
+pub mod Pages

@@ -1,4 +1,5 @@
--- The printed lines, this project's own format: fields parted by one space, numbers in decimal, and a line feed at the end.
+-- The printed lines, this project's own format: fields parted by one space, numbers in decimal, and
+-- a line feed at the end.
 use Rattle.std.specs.Prelude.{ℕ, List, [], ◌∷◌, ◌++◌, codes, decimal, Option, Some, None, Result, Ok, Err, true, false}
 use Rattle.feed_types.specs.declared.item.Item.{Item}
 use Rattle.feed_types.specs.declared.item.Item.TheVariants as items
@@ -34,6 +35,13 @@ outcome_tail (Ok Ended) = codes " ended" ++ line_end
 outcome_tail (Ok Ahead) = codes " ahead" ++ line_end
 outcome_tail (Err fault) = refused_tail (line_fault_code fault)
 
+-- packet V L ..: the line of a datagram whose packet was answered, or that is no packet
+abbrev pub packet_line : ℕ → LineId → Result Outcome LineFault → List ℕ
+packet_line venue line answer = packet_head venue line ++ outcome_tail answer
+
+abbrev pub fault_line : ℕ → LineId → ℕ → List ℕ
+fault_line venue line code = packet_head venue line ++ refused_tail code
+
 abbrev pub item_word : Item → List ℕ
 item_word (items.Quote quote) = codes " quote"
 item_word (items.Halt symbol true) = codes " halt"
@@ -48,16 +56,20 @@ item_line venue n = codes "item" ++ field venue ++ field n.number ++ item_word n
 -- gap V NUMBER COUNT: the run of messages to ask for, where there is one
 abbrev pub gap_line : ℕ → Option Request → List ℕ
 gap_line venue None = []
-gap_line venue (Some request) = codes "gap" ++ field venue ++ field request.number ++ field request.count ++ line_end
+gap_line venue (Some request) =
+    codes "gap" ++ field venue ++ field request.number ++ field request.count ++ line_end
 
 -- renew V ORDINAL, or renew V refused N
 abbrev pub renew_line : ℕ → Result ℕ RenewFault → List ℕ
 renew_line venue (Ok ordinal) = codes "renew" ++ field venue ++ field ordinal ++ line_end
 renew_line venue (Err fault) = codes "renew" ++ field venue ++ refused_tail (renew_fault_code fault)
 
--- venue V sent SENT wins A B R: how many items were sent, and which lines brought how many numbers first
+-- venue V sent SENT wins A B R: how many items were sent, and which lines brought how many numbers
+-- first
 abbrev pub venue_line : ℕ → ℕ → (LineId → ℕ) → List ℕ
-venue_line venue sent wins = codes "venue" ++ field venue ++ codes " sent" ++ field sent ++ codes " wins" ++ field (wins A) ++ field (wins B) ++ field (wins Recovery) ++ line_end
+venue_line venue sent wins =
+    codes "venue" ++ field venue ++ codes " sent" ++ field sent
+    ++ codes " wins" ++ field (wins A) ++ field (wins B) ++ field (wins Recovery) ++ line_end
 
 -- counts by their lines
 abbrev pub wins_by : ℕ → ℕ → ℕ → LineId → ℕ

@@ -45,7 +45,7 @@ enum Kind {
 }
 
 /// The kind of a byte and a length, where there is one.
-fn kind_of(byte: u8, len: usize) -> Option<Kind>
+fn kind_from(byte: u8, len: usize) -> Option<Kind>
     ensures { MatchOption result (IsKind byte len → ⊥) (IsKindOf byte len) }
 {
     match byte {
@@ -58,7 +58,7 @@ fn kind_of(byte: u8, len: usize) -> Option<Kind>
 }
 
 /// The venue of a byte, where it is one of so many.
-fn venue_of(venues: usize, byte: u8) -> Option<VenueId>
+fn venue_from(venues: usize, byte: u8) -> Option<VenueId>
     requires { venues ≤ 16 }
     ensures { SomeIff result (byte < venues) byte }
 {
@@ -70,7 +70,7 @@ fn venue_of(venues: usize, byte: u8) -> Option<VenueId>
 }
 
 /// The ten bytes.
-fn session_of(bytes: &[u8]) -> [u8; 10]
+fn name_from(bytes: &[u8]) -> [u8; 10]
     requires { length bytes.now ≡ 10 }
     ensures { result ≡ bytes.now }
 {
@@ -88,10 +88,10 @@ pub fn front_of(venues: usize, bytes: &[u8]) -> Front<'_>
         return Front::Wants(HEADER);
     }
     let len = usize::from(bytes[2]) * 256 + usize::from(bytes[3]);
-    let Some(venue) = venue_of(venues, bytes[0]) else {
+    let Some(venue) = venue_from(venues, bytes[0]) else {
         return Front::Bad;
     };
-    let Some(kind) = kind_of(bytes[1], len) else {
+    let Some(kind) = kind_from(bytes[1], len) else {
         return Front::Bad;
     };
     if bytes.len() < HEADER + len {
@@ -106,7 +106,7 @@ pub fn front_of(venues: usize, bytes: &[u8]) -> Front<'_>
         },
         Kind::Renewal => Record::Renewal {
             venue,
-            session: session_of(held),
+            session: name_from(held),
         },
     };
     Front::Whole(record, HEADER + len)

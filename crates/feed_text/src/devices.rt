@@ -47,7 +47,8 @@ pub trait CaptureIn {
     ghost gives_none: { (s : Self) → gives s 0 [] s };
 
     /// Calls after calls give bytes after bytes.
-    ghost gives_more: { (s t u : Self) (m n : ℕ) (xs ys : List ℕ) → gives s m xs t → gives t n ys u → gives s (m + n) (xs ++ ys) u };
+    ghost gives_more: { (s t u : Self) (m n : ℕ) (xs ys : List ℕ)
+        → gives s m xs t → gives t n ys u → gives s (m + n) (xs ++ ys) u };
 }
 
 /// What lines are written to.
@@ -73,5 +74,6 @@ pub trait TextOut {
     ghost adds_none: { (s : Self) → adds s [] s };
 
     /// Calls after calls take text after text.
-    ghost adds_more: { (s t u : Self) (xs ys : List ℕ) → adds s xs t → adds t ys u → adds s (xs ++ ys) u };
+    ghost adds_more: { (s t u : Self) (xs ys : List ℕ)
+        → adds s xs t → adds t ys u → adds s (xs ++ ys) u };
 }

@@ -14,24 +14,24 @@
 //!
 //! `laws` says that a capture has one reading, and its records one text.
 //!
-//! Begin with `replay.rt`, then `specs/Printed.antt`; `engine.rt` has the loop, `venue.rt` a venue.
+//! Begin with `replay.rt`, then `specs/Printed.antt`; `venue.rt` has a venue, `lines.rt` its lines.
 #![tactic(auto)]
 
 pub mod capture;
 pub mod devices;
-mod engine;
 pub mod failures;
 pub mod fault;
+mod fields;
 mod input;
 pub mod laws;
 mod lines;
 pub mod memory;
-mod output;
+pub mod output;
+mod page;
 pub mod replay;
-mod reporter;
 pub mod system;
 #[cfg(test)]
 mod tests;
+mod unread;
 mod venue;
 mod venues;
-mod window;

@@ -1,183 +1,234 @@
-//! The printed lines of `specs/Lines.antt`, pushed behind a text piece by piece.
+//! The printed lines of `specs/Lines.antt`.
 //!
-//! Only the text takes memory: words are pushed whole, and numbers are printed on the stack. Where memory
-//! is refused, a front of the line may stand behind the text.
-ghost use Rattle.std.specs.Prelude.{◌≡◌, ◌++◌, codes, decimal, OnOk};
-ghost use Rattle.feed_text.specs.Lines.{field, line_end, packet_head, refused_tail, outcome_tail, item_word, item_line, gap_line, renew_line, venue_line, wins_by};
+//! Room for a whole line is made behind the text, its parts are placed there, and then the text
+//! ends behind them. So a line takes memory at most once, and where that is refused the text is as
+//! it was.
+ghost use Rattle.std.specs.Prelude.{◌≡◌, ◌+◌, ◌≤◌, ◌++◌, codes, decimal, length, take, vec_len, IfOk, OnOk, OnErr};
+ghost use Rattle.feed_text.specs.Lines.{line_end, packet_head, packet_line, fault_line, refused_tail, outcome_tail, item_word, item_line, gap_line, renew_line, venue_line, wins_by};
+ghost use Rattle.feed_text.specs.Placing.{Placed};
 
+use crate::fields::{place, place_field, place_short_field, place_word};
+use crate::page::Page;
 use feed_types::{Item, LineId, Numbered, VenueId};
-use itoa::{Buffer, write_digits};
 use line_arbiter::{LineFault, Outcome, RenewFault};
 use mold_packet::Request;
 use std::alloc::AllocError;
 
-/// A venue's number. Most have one digit, which is pushed as it is.
-#[tactic(auto, using(std::proofs::lemmas::Fmt::decimal_digit))]
-fn put_venue_number(text: &mut Vec<u8>, venue: VenueId) -> Result<(), AllocError>
-    ensures { OnOk result (text.new.items ≡ text.old.items ++ decimal venue) }
-{
-    let number = venue.index();
-    if number < 10 {
-        text.extend_from_slice(&[b'0' + number as u8])
-    } else {
-        let mut buffer = Buffer::new();
-        text.extend_from_slice(buffer.format(number).as_bytes())
-    }
-}
+/// Room for any line but a venue's last one.
+const LINE: usize = 64;
 
-/// How many bytes a space and the longest number have.
-const LONGEST_FIELD: usize = 21;
+/// Room for a venue's last line.
+const VENUE_LINE: usize = 128;
 
-/// A number after a space, both pushed at once.
-fn put_field(text: &mut Vec<u8>, number: u64) -> Result<(), AllocError>
-    ensures { OnOk result (text.new.items ≡ text.old.items ++ field number) }
+/// A venue's number after a space.
+#[inline(always)]
+fn place_venue(room: &mut [u8], at: usize, venue: VenueId) -> usize
+    requires { at + 9 ≤ length room.old }
+    ensures placed { Placed room.old room.new at (codes " " ++ decimal venue) result }
+    ensures short { result ≤ at + 9 }
 {
-    let mut buffer = [0; LONGEST_FIELD];
-    let start = write_digits(number, &mut buffer, LONGEST_FIELD) - 1;
-    buffer[start] = b' ';
-    text.extend_from_slice(&buffer[start..])
+    place_short_field(room, at, venue.index() as u16)
 }
 
 /// The head of a datagram's line: its venue and its line.
-pub(crate) fn put_packet_head(
-    text: &mut Vec<u8>,
-    venue: VenueId,
-    line: LineId,
-) -> Result<(), AllocError>
-    ensures { OnOk result (text.new.items ≡ text.old.items ++ packet_head venue line) }
+#[inline(always)]
+fn place_packet_head(room: &mut [u8], at: usize, venue: VenueId, line: LineId) -> usize
+    requires { at + 17 ≤ length room.old }
+    ensures placed { Placed room.old room.new at (packet_head venue line) result }
+    ensures short { result ≤ at + 17 }
 {
-    text.extend_from_slice(b"packet ")?;
-    put_venue_number(text, venue)?;
-    text.extend_from_slice(&[b' ', line.letter()])
+    let at = place_word(room, at, *b"packet  ", 6);
+    let at = place_venue(room, at, venue);
+    place(room, at, [b' ', line.letter()])
 }
 
 /// The tail of a line that tells of a refusal.
-pub(crate) fn put_refused(text: &mut Vec<u8>, code: u8) -> Result<(), AllocError>
-    ensures { OnOk result (text.new.items ≡ text.old.items ++ refused_tail code) }
+#[inline(always)]
+fn place_refused(room: &mut [u8], at: usize, code: u8) -> usize
+    requires { at + 18 ≤ length room.old }
+    ensures placed { Placed room.old room.new at (refused_tail code) result }
+    ensures short { result ≤ at + 18 }
 {
-    text.extend_from_slice(b" refused")?;
-    put_field(text, u64::from(code))?;
-    text.extend_from_slice(b"\n")
+    let at = place_word(room, at, *b" refused", 8);
+    let at = place_short_field(room, at, u16::from(code));
+    place(room, at, *b"\n")
+}
+
+/// The tail of a taken packet's line: how many messages are new, and how many came before.
+#[inline(always)]
+fn place_taken(room: &mut [u8], at: usize, new: u16, repeated: u16) -> usize
+    requires { at + 25 ≤ length room.old }
+    ensures placed { let tail = outcome_tail (Ok (Outcome.Taken new repeated)) in
+        Placed room.old room.new at tail result }
+    ensures short { result ≤ at + 25 }
+{
+    let at = place_word(room, at, *b" taken  ", 6);
+    let at = place_short_field(room, at, new);
+    let at = place_short_field(room, at, repeated);
+    place(room, at, *b"\n")
 }
 
 /// The tail of a datagram's line: what became of its packet.
-pub(crate) fn put_outcome(
-    text: &mut Vec<u8>,
-    outcome: &Result<Outcome, LineFault>,
-) -> Result<(), AllocError>
-    ensures { OnOk result (text.new.items ≡ text.old.items ++ outcome_tail outcome.now) }
+#[inline(always)]
+fn place_outcome(room: &mut [u8], at: usize, outcome: &Result<Outcome, LineFault>) -> usize
+    requires { at + 25 ≤ length room.old }
+    ensures placed { Placed room.old room.new at (outcome_tail outcome.now) result }
+    ensures short { result ≤ at + 25 }
 {
     match *outcome {
-        Ok(Outcome::Taken { new, repeated }) => {
-            text.extend_from_slice(b" taken")?;
-            put_field(text, u64::from(new))?;
-            put_field(text, u64::from(repeated))?;
-            text.extend_from_slice(b"\n")
-        }
-        Ok(Outcome::Heartbeat) => text.extend_from_slice(b" heartbeat\n"),
-        Ok(Outcome::Ended) => text.extend_from_slice(b" ended\n"),
-        Ok(Outcome::Ahead) => text.extend_from_slice(b" ahead\n"),
-        Err(fault) => put_refused(text, fault.code()),
+        Ok(Outcome::Taken { new, repeated }) => place_taken(room, at, new, repeated),
+        Ok(Outcome::Heartbeat) => place(room, at, *b" heartbeat\n"),
+        Ok(Outcome::Ended) => place(room, at, *b" ended\n"),
+        Ok(Outcome::Ahead) => place(room, at, *b" ahead\n"),
+        Err(fault) => place_refused(room, at, fault.code()),
     }
 }
 
+/// The line of a datagram whose packet was answered.
+pub(crate) fn put_packet(
+    text: &mut Page,
+    venue: VenueId,
+    line: LineId,
+    outcome: &Result<Outcome, LineFault>,
+) -> Result<(), AllocError>
+    ensures line { OnOk result
+        (text.new.items ≡ text.old.items ++ packet_line venue line outcome.now) }
+    ensures part { OnErr result (text.new.items ≡ text.old.items) }
+{
+    text.make_room(LINE)?;
+    let at = text.end;
+    let room = text.bytes.as_mut_slice();
+    let at = place_packet_head(room, at, venue, line);
+    let at = place_outcome(room, at, outcome);
+    text.end = at;
+    Ok(())
+}
+
+/// The line of a datagram that is no packet.
+pub(crate) fn put_fault(
+    text: &mut Page,
+    venue: VenueId,
+    line: LineId,
+    code: u8,
+) -> Result<(), AllocError>
+    ensures line { OnOk result (text.new.items ≡ text.old.items ++ fault_line venue line code) }
+    ensures part { OnErr result (text.new.items ≡ text.old.items) }
+{
+    text.make_room(LINE)?;
+    let at = text.end;
+    let room = text.bytes.as_mut_slice();
+    let at = place_packet_head(room, at, venue, line);
+    let at = place_refused(room, at, code);
+    text.end = at;
+    Ok(())
+}
+
 /// The tail of an item's line: what the item is.
-fn put_item_tail(text: &mut Vec<u8>, item: &Item) -> Result<(), AllocError>
-    ensures { OnOk result (text.new.items ≡ text.old.items ++ item_word item.now ++ line_end) }
+#[inline(always)]
+fn place_item_word(room: &mut [u8], at: usize, item: &Item) -> usize
+    requires { at + 9 ≤ length room.old }
+    ensures { Placed room.old room.new at (item_word item.now ++ line_end) result }
 {
     match item {
-        Item::Quote(_) => text.extend_from_slice(b" quote\n"),
-        Item::Halt { halted: true, .. } => text.extend_from_slice(b" halt\n"),
-        Item::Halt { halted: false, .. } => text.extend_from_slice(b" trading\n"),
-        Item::Other => text.extend_from_slice(b" other\n"),
-        Item::End => text.extend_from_slice(b" end\n"),
+        Item::Quote(_) => place_word(room, at, *b" quote\n ", 7),
+        Item::Halt { halted: true, .. } => place_word(room, at, *b" halt\n  ", 6),
+        Item::Halt { halted: false, .. } => place(room, at, *b" trading\n"),
+        Item::Other => place_word(room, at, *b" other\n ", 7),
+        Item::End => place_word(room, at, *b" end\n   ", 5),
     }
 }
 
 /// The line of an item that was ready.
-pub(crate) fn put_item(
-    text: &mut Vec<u8>,
-    venue: VenueId,
-    item: &Numbered,
-) -> Result<(), AllocError>
-    ensures { OnOk result (text.new.items ≡ text.old.items ++ item_line venue item.now) }
+pub(crate) fn put_item(text: &mut Page, venue: VenueId, item: &Numbered) -> Result<(), AllocError>
+    ensures line { OnOk result (text.new.items ≡ text.old.items ++ item_line venue item.now) }
+    ensures part { OnErr result (text.new.items ≡ text.old.items) }
 {
-    text.extend_from_slice(b"item ")?;
-    put_venue_number(text, venue)?;
-    put_field(text, item.number)?;
-    put_item_tail(text, &item.item)
+    text.make_room(LINE)?;
+    let at = text.end;
+    let room = text.bytes.as_mut_slice();
+    let at = place(room, at, *b"item");
+    let at = place_venue(room, at, venue);
+    let at = place_field(room, at, item.number);
+    let at = place_item_word(room, at, &item.item);
+    text.end = at;
+    Ok(())
 }
 
 /// The line of the run of messages to ask for, where there is one.
 pub(crate) fn put_gap(
-    text: &mut Vec<u8>,
+    text: &mut Page,
     venue: VenueId,
     gap: Option<Request>,
 ) -> Result<(), AllocError>
-    ensures { OnOk result (text.new.items ≡ text.old.items ++ gap_line venue gap) }
+    ensures line { OnOk result (text.new.items ≡ text.old.items ++ gap_line venue gap) }
+    ensures part { OnErr result (text.new.items ≡ text.old.items) }
 {
     let Some(request) = gap else {
         return Ok(());
     };
-    text.extend_from_slice(b"gap ")?;
-    put_venue_number(text, venue)?;
-    put_field(text, request.number)?;
-    put_field(text, u64::from(request.count))?;
-    text.extend_from_slice(b"\n")
+    text.make_room(LINE)?;
+    let at = text.end;
+    let room = text.bytes.as_mut_slice();
+    let at = place(room, at, *b"gap");
+    let at = place_venue(room, at, venue);
+    let at = place_field(room, at, request.number);
+    let at = place_short_field(room, at, request.count);
+    let at = place(room, at, *b"\n");
+    text.end = at;
+    Ok(())
 }
 
 /// The line of a renewal: the ordinal of the session that begins, or why none does.
 pub(crate) fn put_renewal(
-    text: &mut Vec<u8>,
+    text: &mut Page,
     venue: VenueId,
     renewal: &Result<u64, RenewFault>,
 ) -> Result<(), AllocError>
-    ensures { OnOk result (text.new.items ≡ text.old.items ++ renew_line venue renewal.now) }
+    ensures line { OnOk result (text.new.items ≡ text.old.items ++ renew_line venue renewal.now) }
+    ensures part { OnErr result (text.new.items ≡ text.old.items) }
 {
-    text.extend_from_slice(b"renew ")?;
-    put_venue_number(text, venue)?;
-    match *renewal {
+    text.make_room(LINE)?;
+    let at = text.end;
+    let room = text.bytes.as_mut_slice();
+    let at = place(room, at, *b"renew");
+    let at = place_venue(room, at, venue);
+    let at = match *renewal {
         Ok(ordinal) => {
-            put_field(text, ordinal)?;
-            text.extend_from_slice(b"\n")
+            let at = place_field(room, at, ordinal);
+            place(room, at, *b"\n")
         }
-        Err(fault) => put_refused(text, fault.code()),
-    }
+        Err(fault) => place_refused(room, at, fault.code()),
+    };
+    text.end = at;
+    Ok(())
 }
 
-/// The head of a venue's line: how many items were sent.
-fn put_sent(text: &mut Vec<u8>, venue: VenueId, sent: u64) -> Result<(), AllocError>
-    ensures { OnOk result (text.new.items ≡ text.old.items ++ codes "venue" ++ field venue ++ codes " sent" ++ field sent) }
-{
-    text.extend_from_slice(b"venue ")?;
-    put_venue_number(text, venue)?;
-    text.extend_from_slice(b" sent")?;
-    put_field(text, sent)
-}
-
-/// The tail of a venue's line: how many numbers came first on A, on B and by recovery.
-fn put_wins(text: &mut Vec<u8>, a: u64, b: u64, recovery: u64) -> Result<(), AllocError>
-    ensures { OnOk result (text.new.items ≡ text.old.items ++ codes " wins" ++ field a ++ field b ++ field recovery ++ line_end) }
-{
-    text.extend_from_slice(b" wins")?;
-    put_field(text, a)?;
-    put_field(text, b)?;
-    put_field(text, recovery)?;
-    text.extend_from_slice(b"\n")
-}
-
-/// The last line of a venue: how many items were sent, and how many numbers came first on A, on B and
-/// by recovery.
+/// The last line of a venue: how many items were sent, and how many numbers came first on A, on B
+/// and by recovery.
 pub(crate) fn put_venue(
-    text: &mut Vec<u8>,
+    text: &mut Page,
     venue: VenueId,
     sent: u64,
     a: u64,
     b: u64,
     recovery: u64,
 ) -> Result<(), AllocError>
-    ensures { OnOk result (text.new.items ≡ text.old.items ++ venue_line venue sent (wins_by a b recovery)) }
+    ensures line { OnOk result
+        (text.new.items ≡ text.old.items ++ venue_line venue sent (wins_by a b recovery)) }
+    ensures part { OnErr result (text.new.items ≡ text.old.items) }
 {
-    put_sent(text, venue, sent)?;
-    put_wins(text, a, b, recovery)
+    text.make_room(VENUE_LINE)?;
+    let at = text.end;
+    let room = text.bytes.as_mut_slice();
+    let at = place(room, at, *b"venue");
+    let at = place_venue(room, at, venue);
+    let at = place(room, at, *b" sent");
+    let at = place_field(room, at, sent);
+    let at = place(room, at, *b" wins");
+    let at = place_field(room, at, a);
+    let at = place_field(room, at, b);
+    let at = place_field(room, at, recovery);
+    let at = place(room, at, *b"\n");
+    text.end = at;
+    Ok(())
 }

@@ -1,12 +1,16 @@
 //! The replay of a capture.
-ghost use Rattle.std.specs.Prelude.{◌≡◌, ℕ, ◌+◌, ◌≤◌, OnOk, OnErr, IsErrOf, length};
-ghost use Rattle.feed_text.specs.Capture.{IsBad, IsShort};
-ghost use Rattle.feed_text.specs.Progress.{IsUnfinished};
-ghost use Rattle.feed_text.specs.Replays.{venues_in, ReplaysAll, ReplaysTo, ReplaysSome, ReplaysToEnd, ReplaysUntil, ReplaysFront};
+ghost use Rattle.std.specs.Prelude.{◌≡◌, ◌≤◌, [], length, take};
+ghost use Rattle.feed_text.specs.Devices.{Reading, Writing};
+ghost use Rattle.feed_text.specs.Following.{Closes, Stops};
+ghost use Rattle.feed_text.specs.Replays.{Replays};
 
+use crate::capture::{Front, front_of};
 use crate::devices::{CaptureIn, TextOut};
-use crate::engine::replay_with;
 use crate::fault::ReplayFault;
+use crate::input::fill;
+use crate::output::{flush, flush_full};
+use crate::page::Page;
+use crate::unread::Unread;
 use crate::venues::Venues;
 use std::alloc::Global;
 
@@ -24,11 +28,33 @@ pub struct ReplayConfig<'a> {
     pub turns: u64,
 }
 
+/// Writes the text of the records before, so many bytes, where memory was refused for the next one's lines, and
+/// says how that ended.
+fn refused<W: TextOut>(text: &mut Page, whole: usize, writer: &mut W) -> ReplayFault
+    ensures { Stops W.adds W.failures (take whole text.old.items) writer.old writer.new result }
+{
+    text.truncate(whole);
+    match flush(text, writer) {
+        Ok(()) => ReplayFault::NoMemory,
+        Err(fault) => fault,
+    }
+}
+
+/// Writes the last lines.
+fn close<W: TextOut>(venues: &Venues, mut text: Page, writer: &mut W) -> Result<(), ReplayFault>
+    requires { text.items ≡ [] }
+    ensures { Closes W.adds W.failures venues.now writer.old writer.new result }
+{
+    venues.put_last(&mut text)?;
+    flush(&mut text, writer)
+}
+
 /// Reads a capture to its end, and writes the lines of its records and then those of its venues.
 ///
-/// What is ready is written before the reader is called again, so that a pipe shows lines as they come.
-/// Every call of the reader is a turn, also one that was interrupted. Memory is taken for the venues'
-/// windows, for the bytes of a read and for a text of about a page, and none for a record.
+/// What is ready is written before the reader is called again, so that a pipe shows lines as they come, and
+/// before a fault of the input or of memory is answered. Every call of the reader is a turn, also one that
+/// was interrupted. Memory is taken for the venues' windows, for the bytes of a read and for a text of about
+/// a page, and none for a record.
 pub fn replay<R: CaptureIn, W: TextOut>(
     alloc: Global,
     config: &ReplayConfig<'_>,
@@ -39,21 +65,39 @@ pub fn replay<R: CaptureIn, W: TextOut>(
     requires few { length config.now.sessions.now ≤ 16 }
     requires least { 1 ≤ config.now.window }
     requires most { config.now.window ≤ 65535 }
-    ensures ok { OnOk result (ReplaysAll R.gives R.ends W.adds config.now reader.old reader.new writer.old writer.new) }
-    ensures bad { IsErrOf result ReplayFault.BadRecord → ReplaysSome R.gives W.adds config.now (IsBad (venues_in config.now)) reader.old reader.new writer.old writer.new }
-    ensures short { IsErrOf result ReplayFault.ShortRecord → ReplaysToEnd R.gives R.ends W.adds config.now (IsShort (venues_in config.now)) reader.old reader.new writer.old writer.new }
-    ensures turns { IsErrOf result ReplayFault.TooManyTurns → ReplaysTo R.gives W.adds config.now (IsUnfinished (venues_in config.now)) reader.old config.now.turns reader.new writer.old writer.new }
-    ensures read { IsErrOf result ReplayFault.ReadFailed → ReplaysUntil R.gives W.adds config.now (IsUnfinished (venues_in config.now)) reader.old writer.old writer.new × (R.failures reader.new ≡ R.failures reader.old + 1) }
-    ensures write { IsErrOf result ReplayFault.WriteFailed → W.failures writer.new ≡ W.failures writer.old + 1 }
-    ensures part { OnErr result (ReplaysFront R.gives W.adds config.now reader.old writer.old writer.new) }
+    ensures { Replays
+        (record { gives = R.gives; ends = R.ends; failures = R.failures })
+        (record { adds = W.adds; failures = W.failures })
+        config.now reader.old reader.new writer.old writer.new result }
 {
     let mut venues = Venues::new(alloc, config.sessions, config.window, config.gaps)?;
-    replay_with(
-        alloc,
-        config.sessions.len(),
-        config.turns,
-        &mut venues,
-        reader,
-        writer,
-    )
+    let mut unread = Unread::new(alloc)?;
+    let mut text = Page::new(alloc);
+    let mut turns = config.turns;
+    'records: loop {
+        match front_of(config.sessions.len(), unread.bytes()) {
+            Front::Whole(record, len) => {
+                let whole = text.len();
+                match venues.take(record, &mut text) {
+                    Ok(()) => unread.advance(len),
+                    Err(_) => return Err(refused(&mut text, whole, writer)),
+                }
+                flush_full(&mut text, writer)?;
+            }
+            Front::Bad => {
+                flush(&mut text, writer)?;
+                return Err(ReplayFault::BadRecord);
+            }
+            Front::Wants(wanted) => {
+                flush(&mut text, writer)?;
+                if fill(&mut unread, reader, wanted, &mut turns)? {
+                    continue;
+                }
+                if !unread.is_empty() {
+                    return Err(ReplayFault::ShortRecord);
+                }
+                return close(&venues, text, writer);
+            }
+        }
+    }
 }

@@ -39,13 +39,15 @@ impl<R: Read, L: Ledger> StreamIn<R, L> {
 impl<R: Read, L: Ledger> CaptureIn for StreamIn<R, L> {
     ghost gives = { λ s _ xs t. Consumes (R.remaining s.inner) (R.remaining t.inner) xs };
 
-    ghost ends = { λ s t. Consumes (R.remaining s.inner) (R.remaining t.inner) [] × IsAtEnd (R.remaining t.inner) };
+    ghost ends = { λ s t.
+        Consumes (R.remaining s.inner) (R.remaining t.inner) [] × IsAtEnd (R.remaining t.inner) };
 
     ghost failures = { λ s. s.failures };
 
     ghost gives_none = { λ s. Consumes-nil (R.remaining s.inner) };
 
-    ghost gives_more = { λ s t u _ _ xs ys a b. Consumes-trans (R.remaining s.inner) (R.remaining t.inner) (R.remaining u.inner) xs ys a b };
+    ghost gives_more = { λ s t u _ _ xs ys a b.
+        Consumes-trans (R.remaining s.inner) (R.remaining t.inner) (R.remaining u.inner) xs ys a b };
 
     fn read(&mut self, buf: &mut [u8]) -> Result<usize, ReadStop> {
         match self.reader.read(buf) {
@@ -92,7 +94,8 @@ impl<W: Write, L: Ledger> TextOut for StreamOut<W, L> {
 
     ghost adds_none = { λ s. Appends-nil (W.contents s.inner) };
 
-    ghost adds_more = { λ s t u xs ys a b. Appends-trans (W.contents s.inner) (W.contents t.inner) (W.contents u.inner) xs ys a b };
+    ghost adds_more = { λ s t u xs ys a b.
+        Appends-trans (W.contents s.inner) (W.contents t.inner) (W.contents u.inner) xs ys a b };
 
     fn write(&mut self, piece: &[u8]) -> Result<usize, WriteStop> {
         match self.writer.write(piece) {

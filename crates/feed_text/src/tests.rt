@@ -4,4 +4,5 @@ mod captures;
 mod devices;
 mod lines;
 mod replays;
-mod windows;
+mod sizes;
+mod unread;

@@ -1,11 +1,11 @@
 //! The venues of a replay.
-ghost use Rattle.std.specs.Prelude.{◌≡◌, ◌<◌, ◌≤◌, IfOk, length, map};
-ghost use Rattle.feed_text.specs.Printed.{new_history};
-ghost use Rattle.feed_text.specs.Following.{FollowAll, TellsLines, ClosesLines};
-ghost use Rattle.feed_text.specs.TellingLaws.{tells_none, tells_more};
+ghost use Rattle.std.specs.Prelude.{◌≡◌, ◌<◌, ◌≤◌, IfOk, OnOk, length, map};
+ghost use Rattle.feed_text.specs.Capture.{IsRecord, record_of};
+ghost use Rattle.line_arbiter.specs.Histories.{new_history};
+ghost use Rattle.feed_text.specs.Following.{FollowAll, Grows, PrintsLast, TakesRecord};
 
 use crate::capture::Record;
-use crate::reporter::Reporter;
+use crate::page::Page;
 use crate::venue::VenueReplay;
 use feed_types::VenueId;
 use std::alloc::{AllocError, Global};
@@ -31,15 +31,15 @@ fn venue_at(place: usize) -> VenueId
     requires { place < 16 }
     ensures { result ≡ place }
 {
-    match VenueId::new(place as u8) {
+    match VenueId::from_index(place) {
         Some(venue) => venue,
         None => unreachable!(),
     }
 }
 
 impl Venues {
-    /// As many venues as there are session names, 16 at most, to which nothing came. They take the memory
-    /// of their windows here, and none later.
+    /// As many venues as there are session names, 16 at most, to which nothing came. They take the
+    /// memory of their windows here, and none later.
     pub fn new(
         alloc: Global,
         sessions: &[[u8; 10]],
@@ -59,22 +59,15 @@ impl Venues {
         }
         Ok(Venues { venues, gaps })
     }
-}
 
-impl Reporter for Venues {
-    ghost venues = { λ s. length s.items };
-
-    ghost tells = { TellsLines };
-
-    ghost closes = { ClosesLines };
-
-    ghost tells_none = { tells_none };
-
-    ghost tells_more = { tells_more };
-
-    ghost venues_stay = { λ s t rs xs told. told.count };
-
-    fn take(&mut self, next: Record<'_>, text: &mut Vec<u8>) -> Result<(), AllocError> {
+    /// Takes a record, and prints its lines behind the text. Where memory for them is refused, a
+    /// front of them may stand there, and no other record can be taken.
+    pub fn take(&mut self, next: Record<'_>, text: &mut Page) -> Result<(), AllocError>
+        requires { IsRecord (length self.old.items) (record_of next) }
+        ensures takes { OnOk result (TakesRecord self.old (record_of next.entry)
+            text.old.items text.new.items self.new) }
+        ensures grows { Grows text.old.items text.new.items }
+    {
         match next {
             Record::Datagram { venue, line, bytes } => {
                 let venue = &mut self.venues[venue.index()];
@@ -87,7 +80,10 @@ impl Reporter for Venues {
         }
     }
 
-    fn close(&self, text: &mut Vec<u8>) -> Result<(), AllocError> {
+    /// Prints the last lines behind the text.
+    pub fn put_last(&self, text: &mut Page) -> Result<(), AllocError>
+        ensures { OnOk result (PrintsLast self.now text.old.items text.new.items) }
+    {
         for venue in &self.venues {
             venue.put_last(text)?;
         }

@@ -1,5 +1,5 @@
 -- What a pop leaves: of a lane with nothing inside, and of a settled one.
-use Rattle.std.proofs.Common.{◌≡◌, ℕ, true, List, [], ◌∷◌, ◌++◌, length, drop, Option, Some, None, MatchOption, sym, refl, ap, ◌∙◌, subst, append_assoc, append-nil}
+use Rattle.std.proofs.Common.{◌≡◌, ℕ, true, List, [], ◌∷◌, ◌++◌, length, drop, Option, Some, None, MatchOption, sym, refl, ap, ◌∙◌, append_assoc, append-nil}
 use Rattle.std.proofs.Math.Seq.{drop-append_seam, drop-length}
 use Rattle.crossbeam_queue.specs.Fifo.{Held}
 use Rattle.fifo_lane.specs.declared.known.Known.{Known}
@@ -14,20 +14,6 @@ module _ {T : Type 0} (may : ℕ → List T → Type 0) where
   -- what was sent is all received
   pub all_received : (tag capacity : ℕ) (sent received inside : List T) → length inside ≡ 0 → Keeps may tag capacity sent received inside → sent ≡ received
   all_received tag capacity sent received inside none k = k.whole ∙ ap (λ l. received ++ l) (none_in inside none) ∙ append-nil received
-
-  -- what a pop of the receiver tells
-  abbrev pub Popped : Option T → Known T → Known T → Type 0
-  Popped r v w =
-      MatchOption r ((w ≡ v) × Held 0 (λ inside. (sent : List T) × Keeps may v.tag v.capacity sent v.received inside))
-      (λ x. (w ≡ with_received v x) × may v.tag (v.received ++ x ∷ []))
-
-  -- so what was received obeys the rule
-  pub received_ruled : (r : Option T) (v w : Known T) → Popped r v w → may v.tag w.received
-  received_ruled None v w p =
-      let k = p.1.2.1 in
-      let same = all_received v.tag v.capacity p.1.2.0 v.received p.1.0 p.1.1 k in
-      subst (λ l. may v.tag l) (same ∙ sym (ap (λ (u : Known T). u.received) p.0)) k.ruled
-  received_ruled (Some x) v w p = subst (λ l. may v.tag l) (sym (ap (λ (u : Known T). u.received) p.0)) p.1
 
   -- what a pop of a settled lane tells
   abbrev pub Taken : Option T → Known T → Known T → Type 0

@@ -1,4 +1,4 @@
 pub mod Codes
 pub mod Lane
 pub mod Passes
-pub mod Prefixes
+pub mod Rising

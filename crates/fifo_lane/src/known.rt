@@ -6,8 +6,8 @@ use crossbeam_queue::{Pass, RuledArrayQueue};
 use std::collections::LinkedList;
 use std::marker::{Brand, PhantomData};
 
-// What a pass of the queue may do, of which lane it is, and what it has pushed and popped. It stands in
-// statements alone: no value of it is made.
+// What a pass of the queue may do, of which lane it is, and what it has pushed and popped. It is
+// for statements alone: no value of it is made.
 pub struct Known<T> {
     pub may_push: bool,
     pub may_pop: bool,

@@ -21,15 +21,18 @@ pub const MAX_CAPACITY: u32 = 65_536;
 /// The two ends of an empty lane with this tag, which has room for `capacity` items.
 ///
 /// `BadCapacity` where that isn't 1 to [`MAX_CAPACITY`], else `NoMemory` where the memory for its
-/// places was refused. No other call of a lane takes memory. For the venue rule the tag is the venue's
-/// number, for that of a subscriber its id.
+/// places was refused. No other call of a lane takes memory. Under [`crate::VenueItems`] the tag is
+/// the venue's number, under [`crate::RisingNotices`] the subscriber's id.
 pub fn lane<T: Drop, R: LaneRule<T>>(
     alloc: Global,
     tag: u8,
     capacity: u32,
 ) -> Result<(Sender<T, R>, Receiver<T, R>), LaneFault>
-    ensures sender { IfOk result (λ r. (r.0.tag ≡ tag) × (r.0.capacity ≡ capacity) × (r.0.items ≡ [])) }
-    ensures receiver { IfOk result (λ r. r.1 ≡ r.0) }
+    ensures new { IfOk result (λ r. (r.0.tag ≡ tag) × (r.0.capacity ≡ capacity)
+        × (r.0.items ≡ [])) }
+
+    // Both ends are of one lane, and show the same.
+    ensures same { IfOk result (λ r. r.1 ≡ r.0) }
     ensures ok { OnOk result ((1 ≤ capacity) × (capacity ≤ MAX_CAPACITY)) }
     ensures bad { (result ≡ Err BadCapacity) ↔ ((capacity < 1) ⊎ (MAX_CAPACITY < capacity)) }
 {

@@ -3,7 +3,7 @@
 ghost use Rattle.std.specs.Prelude.{◌≡◌, ◌++◌, ◌∷◌, [], true, MatchOption};
 ghost use Rattle.std.specs.Arc.{arc_value};
 ghost use Rattle.crossbeam_queue.specs.Passes.{view, IsPassOf, ruled_capacity};
-ghost use Rattle.fifo_lane.specs.Lane.{with_items, WasEmpty};
+ghost use Rattle.fifo_lane.specs.Lane.{lane_end, with_items, WasEmpty};
 ghost use Rattle.fifo_lane.specs.Passes.{receiving};
 
 use crate::known::{LanePass, Queue};
@@ -13,7 +13,7 @@ use std::alloc::Global;
 use std::marker::Model;
 use std::sync::{Arc, Wait};
 
-/// The receiving end of a lane. Contracts see it as a `LaneEnd` whose items are those received so far.
+/// The receiving end of a lane. Contracts see it as a `LaneEnd`, whose items are those received.
 #[derive(Drop)]
 pub struct Receiver<T, R: LaneRule<T>> {
     queue: Arc<Queue<T, R>, Global>,
@@ -22,7 +22,7 @@ pub struct Receiver<T, R: LaneRule<T>> {
 }
 
 impl<T, R: LaneRule<T>> Model for Receiver<T, R> {
-    ghost use Rattle.fifo_lane.specs.Lane.{LaneEnd, lane_end_code};
+    ghost use Rattle.fifo_lane.specs.Lane.{LaneEnd, lane_end, lane_end_code};
 
     ghost Value = { LaneEnd T };
 
@@ -32,9 +32,13 @@ impl<T, R: LaneRule<T>> Model for Receiver<T, R> {
     ghost use Rattle.std.specs.Arc.{arc_value};
     ghost use Rattle.crossbeam_queue.specs.Passes.{view as known, IsPassOf, ruled_capacity};
 
-    ghost view = { λ s. record { lane = s.pass.table_id; tag = s.tag; capacity = ruled_capacity (arc_value s.queue); items = (known s.pass).received } };
+    ghost view = { λ s. lane_end s.pass.table_id s.tag (ruled_capacity (arc_value s.queue))
+        (known s.pass).received };
 
-    ghost invariant = { λ s. IsPassOf (arc_value s.queue) s.pass × ((known s.pass).may_pop ≡ true) × ((known s.pass).tag ≡ s.tag) × ((known s.pass).capacity ≡ ruled_capacity (arc_value s.queue)) };
+    ghost invariant = { λ s. IsPassOf (arc_value s.queue) s.pass
+        × ((known s.pass).may_pop ≡ true)
+        × ((known s.pass).tag ≡ s.tag)
+        × ((known s.pass).capacity ≡ ruled_capacity (arc_value s.queue)) };
 }
 
 impl<T, R: LaneRule<T>> Receiver<T, R> {
@@ -45,14 +49,15 @@ impl<T, R: LaneRule<T>> Receiver<T, R> {
     ) -> Receiver<T, R>
         requires pass { IsPassOf (arc_value queue) pass }
         requires view { view pass ≡ receiving tag (ruled_capacity (arc_value queue)) [] }
-        ensures { result ≡ record { lane = pass.table_id; tag = tag; capacity = ruled_capacity (arc_value queue); items = [] } }
+        ensures { result ≡ lane_end pass.table_id tag (ruled_capacity (arc_value queue)) [] }
     {
         Receiver { queue, pass, tag }
     }
 
     pub(crate) fn into_parts(self) -> (Arc<Queue<T, R>, Global>, LanePass<T>)
         ensures pass { IsPassOf (arc_value result.0) result.1 × ((view result.1).may_pop ≡ true) }
-        ensures view { self ≡ record { lane = result.1.table_id; tag = (view result.1).tag; capacity = (view result.1).capacity; items = (view result.1).received } }
+        ensures view { self ≡ lane_end result.1.table_id (view result.1).tag
+            (view result.1).capacity (view result.1).received }
     {
         let Receiver {
             queue,
@@ -69,8 +74,8 @@ impl<T, R: LaneRule<T>> Receiver<T, R> {
         self.tag
     }
 
-    /// Receives the front item, or `None` where nothing is inside. What was received so far always obeys
-    /// the lane's rule.
+    /// Receives the front item, or `None` where nothing is inside. What was received so far always
+    /// obeys the lane's rule.
     pub fn pop<W: Wait>(&mut self, rt: &W) -> Option<T>
         ensures popped { MatchOption result
             ((self.new ≡ self.old) × WasEmpty R.may_send self.old)

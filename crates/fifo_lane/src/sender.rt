@@ -3,7 +3,7 @@
 ghost use Rattle.std.specs.Prelude.{◌≡◌, ◌≤◌, ◌++◌, ◌∷◌, [], true, MatchResult};
 ghost use Rattle.std.specs.Arc.{arc_value};
 ghost use Rattle.crossbeam_queue.specs.Passes.{view, IsPassOf, ruled_capacity};
-ghost use Rattle.fifo_lane.specs.Lane.{with_items, WasFull};
+ghost use Rattle.fifo_lane.specs.Lane.{lane_end, with_items, WasFull};
 ghost use Rattle.fifo_lane.specs.Passes.{sending};
 
 use crate::known::{LanePass, Queue};
@@ -13,7 +13,7 @@ use std::alloc::Global;
 use std::marker::Model;
 use std::sync::{Arc, Wait};
 
-/// The sending end of a lane. Contracts see it as a `LaneEnd` whose items are those sent so far.
+/// The sending end of a lane. Contracts see it as a `LaneEnd`, whose items are those sent.
 #[derive(Drop)]
 pub struct Sender<T, R: LaneRule<T>> {
     queue: Arc<Queue<T, R>, Global>,
@@ -22,7 +22,7 @@ pub struct Sender<T, R: LaneRule<T>> {
 }
 
 impl<T, R: LaneRule<T>> Model for Sender<T, R> {
-    ghost use Rattle.fifo_lane.specs.Lane.{LaneEnd, lane_end_code};
+    ghost use Rattle.fifo_lane.specs.Lane.{LaneEnd, lane_end, lane_end_code};
 
     ghost Value = { LaneEnd T };
 
@@ -32,24 +32,32 @@ impl<T, R: LaneRule<T>> Model for Sender<T, R> {
     ghost use Rattle.std.specs.Arc.{arc_value};
     ghost use Rattle.crossbeam_queue.specs.Passes.{view as known, IsPassOf, ruled_capacity};
 
-    ghost view = { λ s. record { lane = s.pass.table_id; tag = s.tag; capacity = ruled_capacity (arc_value s.queue); items = (known s.pass).sent } };
+    ghost view = { λ s. lane_end s.pass.table_id s.tag (ruled_capacity (arc_value s.queue))
+        (known s.pass).sent };
 
-    ghost invariant = { λ s. IsPassOf (arc_value s.queue) s.pass × ((known s.pass).may_push ≡ true) × ((known s.pass).tag ≡ s.tag) × ((known s.pass).capacity ≡ ruled_capacity (arc_value s.queue)) × (1 ≤ ruled_capacity (arc_value s.queue)) × (ruled_capacity (arc_value s.queue) ≤ 65536) };
+    ghost invariant = { λ s. IsPassOf (arc_value s.queue) s.pass
+        × ((known s.pass).may_push ≡ true)
+        × ((known s.pass).tag ≡ s.tag)
+        × ((known s.pass).capacity ≡ ruled_capacity (arc_value s.queue))
+        × (1 ≤ ruled_capacity (arc_value s.queue))
+        × (ruled_capacity (arc_value s.queue) ≤ 65536) };
 }
 
 impl<T, R: LaneRule<T>> Sender<T, R> {
     pub(crate) fn made(queue: Arc<Queue<T, R>, Global>, pass: LanePass<T>, tag: u8) -> Sender<T, R>
         requires pass { IsPassOf (arc_value queue) pass }
         requires view { view pass ≡ sending tag (ruled_capacity (arc_value queue)) [] }
-        requires capacity { (1 ≤ ruled_capacity (arc_value queue)) × (ruled_capacity (arc_value queue) ≤ 65536) }
-        ensures { result ≡ record { lane = pass.table_id; tag = tag; capacity = ruled_capacity (arc_value queue); items = [] } }
+        requires least { 1 ≤ ruled_capacity (arc_value queue) }
+        requires most { ruled_capacity (arc_value queue) ≤ 65536 }
+        ensures { result ≡ lane_end pass.table_id tag (ruled_capacity (arc_value queue)) [] }
     {
         Sender { queue, pass, tag }
     }
 
     pub(crate) fn into_parts(self) -> (Arc<Queue<T, R>, Global>, LanePass<T>)
         ensures pass { IsPassOf (arc_value result.0) result.1 × ((view result.1).may_push ≡ true) }
-        ensures view { self ≡ record { lane = result.1.table_id; tag = (view result.1).tag; capacity = (view result.1).capacity; items = (view result.1).sent } }
+        ensures view { self ≡ lane_end result.1.table_id (view result.1).tag
+            (view result.1).capacity (view result.1).sent }
     {
         let Sender {
             queue,
@@ -74,8 +82,8 @@ impl<T, R: LaneRule<T>> Sender<T, R> {
         self.queue.capacity()
     }
 
-    /// Sends an item, which the lane's rule has to allow after all that was sent. Where the lane is full
-    /// it is handed back, and nothing was sent.
+    /// Sends an item, which the lane's rule has to allow after all that was sent. Where the lane is
+    /// full it is handed back, and nothing was sent.
     pub fn push<W: Wait>(&mut self, rt: &W, item: T) -> Result<(), T>
         requires { R.may_send self.old.tag (self.old.items ++ item ∷ []) }
         ensures { MatchResult result

@@ -31,7 +31,10 @@ impl<T, R: LaneRule<T>> Model for Settled<T, R> {
 
     ghost view = { λ s. drop (length (known s.pass).received) (known s.pass).sent };
 
-    ghost invariant = { λ s. IsPassOf (arc_value s.queue) s.pass × ((known s.pass).may_push ≡ true) × ((known s.pass).may_pop ≡ true) × ((inside : List T) × ((known s.pass).sent ≡ (known s.pass).received ++ inside)) };
+    ghost invariant = { λ s. IsPassOf (arc_value s.queue) s.pass
+        × ((known s.pass).may_push ≡ true)
+        × ((known s.pass).may_pop ≡ true)
+        × ((inside : List T) × ((known s.pass).sent ≡ (known s.pass).received ++ inside)) };
 }
 
 /// Joins the two ends of one lane. What is inside can then be taken out, and nothing more comes in.
@@ -54,7 +57,9 @@ pub fn settle<T: Drop, R: LaneRule<T>>(
 impl<T, R: LaneRule<T>> Settled<T, R> {
     /// Takes out the next item that is still inside, in the order in which they were sent.
     pub fn next<W: Wait>(&mut self, rt: &W) -> Option<T>
-        ensures { MatchOption result ((self.old ≡ []) × (self.new ≡ [])) (λ item. self.old ≡ item ∷ self.new) }
+        ensures { MatchOption result
+            ((self.old ≡ []) × (self.new ≡ []))
+            (λ item. self.old ≡ item ∷ self.new) }
     {
         self.queue.pop_as::<Drained<R>, W>(rt, &mut self.pass)
     }

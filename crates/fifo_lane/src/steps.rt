@@ -3,13 +3,13 @@
 //! | Step | Pass | Change |
 //! |---|---|---|
 //! | the queue is made | the first | it may do all and has done nothing |
-//! | the first pass is parted ([`Parted`]) | the two ends' | tag and capacity are set; one may push, one pop |
-//! | a push ([`Pushed`]) | the sender's | the item joins what was sent, where the rule still allows it |
+//! | it is parted ([`Parted`]) | both ends' | they have tag and capacity; one may push, one pop |
+//! | a push ([`Pushed`]) | the sender's | the item joins what was sent, if the rule allows it |
 //! | a refused push | the sender's | none: the queue was full |
 //! | a pop ([`Popped`]) | the receiver's | the front item joins what was received |
 //! | an empty pop | the receiver's | none: nothing was inside |
 //! | the ends are joined ([`Joined`]) | the sender's | it has both lists |
-//! | a pop of a settled lane ([`Drained`]) | the joined one | as a pop; where nothing is inside, none |
+//! | a settled lane's pop ([`Drained`]) | the joined one | as a pop, or none: nothing is inside |
 
 use crate::known::{Known, Label};
 use crate::rule::LaneRule;
@@ -41,7 +41,8 @@ impl<T, R: LaneRule<T>> Lesson<T, Known<T>> for Pushed<R> {
     ghost use Rattle.std.specs.Prelude.{List};
     ghost use Rattle.fifo_lane.specs.Lane.{Keeps};
 
-    ghost fact = { λ v inside. (received : List T) × Keeps R.may_send v.tag v.capacity v.sent received inside };
+    ghost fact = { λ v inside. (received : List T)
+        × Keeps R.may_send v.tag v.capacity v.sent received inside };
 }
 
 // The receiver pops the front item, or learns that nothing was inside.
@@ -58,7 +59,8 @@ impl<T, R: LaneRule<T>> Lesson<T, Known<T>> for Popped<R> {
     ghost use Rattle.std.specs.Prelude.{List};
     ghost use Rattle.fifo_lane.specs.Lane.{Keeps};
 
-    ghost fact = { λ v inside. (sent : List T) × Keeps R.may_send v.tag v.capacity sent v.received inside };
+    ghost fact = { λ v inside. (sent : List T)
+        × Keeps R.may_send v.tag v.capacity sent v.received inside };
 }
 
 // The two ends of one lane are joined: the sender's pass takes in what the receiver's has got.
@@ -79,7 +81,8 @@ impl<T, R> Outcome<T, Known<T>> for Drained<R> {
     ghost use Rattle.std.specs.Prelude.{◌≡◌, ◌++◌, ◌∷◌, List};
     ghost use Rattle.fifo_lane.specs.Passes.{with_received};
 
-    ghost then = { λ v x w. (w ≡ with_received v x) × ((rest : List T) × (v.sent ≡ v.received ++ x ∷ rest)) };
+    ghost then = { λ v x w. (w ≡ with_received v x)
+        × ((rest : List T) × (v.sent ≡ v.received ++ x ∷ rest)) };
 }
 
 impl<T, R: LaneRule<T>> Lesson<T, Known<T>> for Drained<R> {

@@ -11,7 +11,8 @@ use Rattle.filter_terms.specs.Terms.{meets}
 use Rattle.filter_terms.specs.Filters.{terms_of}
 use Rattle.journal_book.specs.declared.cursor.Cursor.{Cursor}
 use Rattle.journal_book.specs.Journals.{JournalState, Subscription, changes, seen_at, LooksTo, subscription_of, subscriptions_of}
-use Rattle.journal_book.specs.Consolidators.{next_for, next_at, OffersOne}
+use Rattle.journal_book.specs.Consolidators.{next_for, next_at, OffersOne, StaysButCursors}
+use Rattle.journal_book.specs.Wanted.{wanted_of}
 use Rattle.journal_book.specs.Places.{IsNextPlace, IsNextOf, SameAnswers}
 
 some_is : {X : Type 0} (x y : X) → Some x ≡ Some y → x ≡ y
@@ -156,3 +157,16 @@ many_moved state new id place looks = by (slice_get state.cursors id) looks
     by : (o : Option Cursor) → MatchOption o ⊥ (λ c. new ≡ record state { cursors = slice_set state.cursors id (record c { seen = place }) }) → length state.cursors ≡ length new.cursors
     by None l = absurd l
     by (Some c) l = sym (length_set state.cursors id (record c { seen = place })) ∙ ap (λ (s : JournalState). length s.cursors) (sym l)
+
+-- nothing but the cursors moved
+pub stays_looking : (state new : JournalState) (id place : ℕ) → LooksTo state id place new → StaysButCursors state new
+stays_looking state new id place looks = by (slice_get state.cursors id) looks
+  where
+    by : (o : Option Cursor) → MatchOption o ⊥ (λ c. new ≡ record state { cursors = slice_set state.cursors id (record c { seen = place }) }) → StaysButCursors state new
+    by None l = absurd l
+    by (Some c) l = l ∙ ap (λ (s : JournalState). record state { cursors = s.cursors }) (sym l)
+
+-- and what is next is so still
+pub next_stays : (old new : JournalState) (id : ℕ) → StaysButCursors old new → subscriptions_of new ≡ subscriptions_of old → next_at new id ≡ next_at old id
+next_stays old new id stays same =
+    λ i. option_and_then (λ (s : Subscription). slice_get (wanted_of (stays i).symbols s.terms (stays i).entries) s.offered) (slice_get (same i) id)

@@ -151,6 +151,10 @@ impl Consolidator {
         ensures next { result ≡ next_at (journal_of self.old) id }
         ensures offered { subscriptions_of (journal_of self.new) ≡ subscriptions_of (journal_of self.old) }
         ensures stays { StaysButCursors (journal_of self.old) (journal_of self.new) }
+
+        // It is the next one still, until it is counted, and the subscribers are as many.
+        ensures still { result ≡ next_at (journal_of self.new) id }
+        ensures known { length (journal_of self.new).cursors ≡ length (journal_of self.old).cursors }
     {
         let place = self.next_place(id);
         let found = notice_at(self.journal.changes(), place);
@@ -164,6 +168,7 @@ impl Consolidator {
         requires next { IsSome (next_at (journal_of self.old) id) }
         ensures offered { OffersOne (subscriptions_of (journal_of self.old)) id (subscriptions_of (journal_of self.new)) }
         ensures stays { StaysButCursors (journal_of self.old) (journal_of self.new) }
+        ensures known { length (journal_of self.new).cursors ≡ length (journal_of self.old).cursors }
     {
         let place = self.next_place(id);
         self.journal.look_to(id, place + 1);

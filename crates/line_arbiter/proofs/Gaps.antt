@@ -50,22 +50,26 @@ missing_count-held s packets n fits none within stop =
           ap (λ (m : ℕ). is_none (carried packets m)) (sym next) ∙ ap (λ (o : Option Item). is_none o) (sym (held_is s packets (stands_of fits) (s.front + n + 1) (omega arith))) ∙ some_not_none (held_at (held_of s) (s.front + n + 1)) found
     ])
 
--- so many numbers past the front hold nothing, up to the window's width, the limit, or the first that holds an item
+-- so many numbers past the front hold nothing, up to the end of the window, the last that is known, or the first that
+-- holds an item
 pub record IsMissing (s : State) (n : ℕ) : Type 0 where
   pub free : (m : ℕ) → s.front < m → m ≤ s.front + n → held_at (held_of s) m ≡ None
-  pub within : s.front + n ≤ max s.front (min s.known (s.sent + s.window))
-  pub stop : (s.front < s.sent) ⊎ (s.sent + s.window ≤ s.front + n) ⊎ (s.front + n ≡ max s.front (min s.known (s.sent + s.window))) ⊎ IsSome (held_at (held_of s) (s.front + n + 1))
+  pub within : s.front + n ≤ max s.front s.known
+  pub inside : (n ≡ 0) ⊎ (s.front + n ≤ s.sent + s.window)
+  pub stop : (s.front < s.sent) ⊎ (s.sent + s.window ≤ s.front + n) ⊎ (s.front + n ≡ max s.front s.known) ⊎ IsSome (held_at (held_of s) (s.front + n + 1))
 
 missing_is : (s : State) (packets : List Arrival) (n : ℕ) → Fits s packets → IsMissing s n → missing_count s.window s.sent packets ≡ n
 missing_is s packets n fits missing =
     let within = missing.within in
-    missing_count-held s packets n fits missing.free within (elim missing.stop [
+    let most : s.front + n ≤ max s.front (min s.known (s.sent + s.window)) = elim missing.inside [ inl none ↦ omega arith | inr inside ↦ omega arith ] in
+    missing_count-held s packets n fits missing.free most (elim missing.stop [
       | inl past ↦ inl (elim (cursor s packets (stands_of fits)) [
         | inl before ↦ absurd (omega arith)
         | inr ended ↦ let known = known_at_end packets (s.front + 1) ended.1 in let same = fits.known in omega arith
       ])
       | inr (inl wide) ↦ inl (omega arith)
-      | inr (inr other) ↦ other
+      | inr (inr (inl all)) ↦ inl (elim missing.inside [ inl none ↦ omega arith | inr inside ↦ omega arith ])
+      | inr (inr (inr found)) ↦ inr found
     ])
 
 pub gap_of-none : (s : State) (packets : List Arrival) (n : ℕ) → Fits s packets → IsMissing s n → n ≡ 0 → None ≡ gap_of s.session s.window s.sent packets

@@ -344,6 +344,7 @@ run_is top count held front end h small low from to others found =
 pub record IsGap (held : Held) (front limit place : ℕ) : Type 0 where
   pub free : (m : ℕ) → front < m → m ≤ front + (place - (front - held.base)) → held_at held m ≡ None
   pub within : front + (place - (front - held.base)) ≤ limit
+  pub inside : front + (place - (front - held.base)) ≤ held.base + held.width
   pub stop : (front < held.base) ⊎ (held.base + held.width ≤ front + (place - (front - held.base))) ⊎ (front + (place - (front - held.base)) ≡ limit) ⊎ IsSome (held_at held (front + (place - (front - held.base)) + 1))
 
 pub gap_is : (held : Held) (front limit end place : ℕ) → held.base ≤ front → front ≤ limit → front - held.base < held.width → end ≡ min (limit - held.base) held.width → front - held.base ≤ place → place ≤ end
@@ -353,6 +354,7 @@ pub gap_is : (held : Held) (front limit end place : ℕ) → held.base ≤ front
 gap_is held front limit end place low order inside is from to others found = record {
   free = λ m past within. none_is (held_at held m) (marked_at held m (omega arith) (omega arith) ∙ others (m - held.base - 1) (omega arith) (omega arith));
   within = omega arith;
+  inside = omega arith;
   stop = elim (cases_lt place end) [
     | inl lt ↦
         let number : front + (place - (front - held.base)) + 1 - held.base - 1 ≡ place = omega arith in

@@ -5,7 +5,8 @@ use Rattle.line_arbiter.specs.Packets.{Arrival}
 use Rattle.line_arbiter.specs.Outcomes.{IsOutcome}
 
 -- the arrival is a packet, and was answered as it should be after those before it
-pub record IsAnswered (session : List ℕ) (window : ℕ) (before : List Arrival) (a : Arrival) : Type 0 where
+pub record IsAnswered (session : List ℕ) (window : ℕ) (before : List Arrival)
+    (a : Arrival) : Type 0 where
   pub content : IsContent a.packet
   pub sent : ℕ
   pub outcome : IsOutcome session window sent before a.packet a.answer

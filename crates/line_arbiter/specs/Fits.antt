@@ -8,8 +8,9 @@ use Rattle.line_arbiter.specs.Holding.{held_at}
 use Rattle.line_arbiter.specs.States.{State, held_of}
 use Rattle.line_arbiter.specs.declared.arbiter.ArbiterStatus.{ArbiterStatus}
 
--- The state is that after these packets: its cursors are theirs, it holds what was taken past the last
--- item sent, and each line has won what it brought first, beside what it had won in earlier sessions.
+-- The state is that after these packets: its cursors are theirs, it holds what was taken past the
+-- last item sent, and each line has won what it brought first, beside what it had won in earlier
+-- sessions.
 pub record Fits (s : State) (packets : List Arrival) : Type 0 where
   pub front : s.front ≡ front_of packets
   pub known : s.known ≡ known_of packets

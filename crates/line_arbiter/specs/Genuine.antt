@@ -12,7 +12,8 @@ use Rattle.mold_packet.specs.Content.{Content}
 
 -- each message of the packet may be carried at its number, and an end's number may be the end, in
 -- the venue's session of this ordinal
-pub record IsGenuineAt (carries : Carries) (ends : Ends) (venue ordinal : ℕ) (p : Content) : Type 0 where
+pub record IsGenuineAt (carries : Carries) (ends : Ends) (venue ordinal : ℕ)
+    (p : Content) : Type 0 where
   pub messages : (m : ℕ) → has_number p m ≡ true → carries venue ordinal m (item_at p m)
   pub end : p.kind ≡ kinds.End → ends venue ordinal p.number
 
@@ -22,7 +23,8 @@ IsGenuine sessions carries ends venue p =
     (ordinal : ℕ) → sessions venue ordinal p.session → IsGenuineAt carries ends venue ordinal p
 
 -- what was taken may be carried, and the end that was announced may be the end
-pub record IsGenuineArrival (carries : Carries) (ends : Ends) (venue ordinal : ℕ) (a : Arrival) : Type 0 where
+pub record IsGenuineArrival (carries : Carries) (ends : Ends) (venue ordinal : ℕ)
+    (a : Arrival) : Type 0 where
   pub taken : is_taken a.answer ≡ true → (m : ℕ) → has_number a.packet m ≡ true
       → carries venue ordinal m (item_at a.packet m)
   pub ended : is_ended a.answer ≡ true → ends venue ordinal a.packet.number
@@ -31,8 +33,8 @@ abbrev pub AreGenuine : Carries → Ends → ℕ → ℕ → List Arrival → Ty
 AreGenuine carries ends venue ordinal packets =
     AllByRecursion (IsGenuineArrival carries ends venue ordinal) packets
 
--- a venue's sessions from this ordinal on: the packets of each are genuine, and all but the last are
--- over
+-- a venue's sessions from this ordinal on: the packets of each are genuine, and all but the last
+-- are over
 abbrev pub AreGenuineFrom : Carries → Ends → ℕ → ℕ → List Begun → Type 0
 AreGenuineFrom carries ends venue ordinal [] = Unit {0}
 AreGenuineFrom carries ends venue ordinal (session ∷ []) =

@@ -4,7 +4,8 @@ use Rattle.feed_types.specs.declared.item.Numbered.{Numbered}
 use Rattle.line_arbiter.specs.Packets.{Arrival}
 use Rattle.line_arbiter.specs.Streams.{stream_of}
 
--- a session that a venue has begun: its name, and the packets that came, each with its line and its answer
+-- a session that a venue has begun: its name, and the packets that came, each with its line and its
+-- answer
 pub record Begun : Type 0 where
   pub name : List ℕ
   pub packets : List Arrival
@@ -40,7 +41,8 @@ streams_of h = items_of (all_begun h)
 
 -- one more packet of the present session came
 abbrev pub after_arrival : History → Arrival → History
-after_arrival h a = record h { present = record h.present { packets = h.present.packets ++ a ∷ [] } }
+after_arrival h a =
+    record h { present = record h.present { packets = h.present.packets ++ a ∷ [] } }
 
 -- the present session is over, and this one begins
 abbrev pub after_renewal : History → List ℕ → History

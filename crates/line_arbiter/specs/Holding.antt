@@ -1,5 +1,5 @@
--- What a window holds: messages past the last item sent. Of this file public clauses cite `held_at` alone,
--- through `Fits` and `next_of`.
+-- What a window holds: messages past the last item sent. Of this file public clauses cite `held_at`
+-- alone, through `Fits` and `next_of`.
 use Rattle.std.specs.Prelude.{◌≡◌, ◌≢◌, ℕ, ◌+◌, ◌-◌, ◌*◌, ◌^◌, ◌<◌, ◌≤◌, nat_eq, nat_le, nat_lt, ◌&&◌, List, Option, Some, None, IsSome, count_by, get_or, is_none, is_some, length, if◌then◌else◌}
 use Rattle.std.specs.List.{range_with_len}
 use Rattle.feed_types.specs.declared.item.Item.{Item}
@@ -38,7 +38,8 @@ held_at held m =
 
 -- how many items are held
 abbrev pub count_held : Held → ℕ
-count_held held = count_by (λ m. is_some (held_at held m)) (range_with_len (held.base + 1) held.width)
+count_held held =
+    count_by (λ m. is_some (held_at held m)) (range_with_len (held.base + 1) held.width)
 
 abbrev pub IsEmpty : Held → Type 0
 IsEmpty held = (m : ℕ) → held_at held m ≡ None
@@ -49,8 +50,8 @@ pub record IsFree (held : Held) (number slot : ℕ) : Type 0 where
   pub free : held_at held number ≡ None
   pub is : slot ≡ slot_of held.ring.first held.width (number - held.base - 1)
 
--- What a window keeps: a mark for each slot; as many items as it counts; and where anything is held, an
--- item at the top and none above it.
+-- What a window keeps: a mark for each slot; as many items as it counts; and where anything is
+-- held, an item at the top and none above it.
 pub record IsHeld (top count : ℕ) (held : Held) : Type 0 where
   pub slots : length held.ring.slots ≡ held.width
   pub small : top < 2 ^ 64
@@ -61,7 +62,8 @@ pub record IsHeld (top count : ℕ) (held : Held) : Type 0 where
   pub highest : held.base < top → IsSome (held_at held top)
   pub above : (m : ℕ) → IsSome (held_at held m) → m ≤ top
 
--- what is held at a number once an item was put in at k, where it is past the base and nothing is held there
+-- what is held at a number once an item was put in at k, where it is past the base and nothing is
+-- held there
 abbrev pub put_one : ℕ → ℕ → Item → Option Item → ℕ → Option Item
 put_one base k item (Some found) m = Some found
 put_one base k item None m = if nat_lt base k && nat_eq m k then Some item else None
@@ -70,7 +72,9 @@ put_one base k item None m = if nat_lt base k && nat_eq m k then Some item else 
 abbrev pub put_to : ℕ → ℕ → Content → Option Item → ℕ → Option Item
 put_to n base p (Some found) m = Some found
 put_to n base p None m =
-    if nat_lt base m && (nat_le p.number m && nat_lt m (p.number + n)) then Some (item_at p m) else None
+    if nat_lt base m && (nat_le p.number m && nat_lt m (p.number + n))
+    then Some (item_at p m)
+    else None
 
 abbrev pub put_all : ℕ → Content → Option Item → ℕ → Option Item
 put_all base p found m = put_to (length p.messages) base p found m

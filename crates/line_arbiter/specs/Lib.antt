@@ -15,6 +15,7 @@ pub mod Holding
 pub mod States
 pub mod Fits
 pub mod Steps
+pub mod Inside
 -- requests and printed numbers
 pub mod Pacing
 pub mod Codes

@@ -10,8 +10,8 @@ use Rattle.line_arbiter.specs.Genuine.{AreGenuine}
 use Rattle.mold_packet.specs.declared.packet.Kind.TheVariants as kinds
 use Rattle.mold_packet.specs.Content.{Content}
 
--- The packet is of the session: its messages are the session's at their numbers, a heartbeat's number
--- is at most the one after the last message's, and an end's number is that one.
+-- The packet is of the session: its messages are the session's at their numbers, a heartbeat's
+-- number is at most the one after the last message's, and an end's number is that one.
 pub record IsOfSession (session : Session) (p : Content) : Type 0 where
   pub name : p.session ≡ session.name
   pub messages : (k : ℕ) → k < length p.messages
@@ -31,9 +31,9 @@ session_stream session front end =
     numbered_from 1 (take front session.items)
     ++ (if is_some end && (front == length session.items) then end_item (front + 1) ∷ [] else [])
 
--- The packets give the session: its items from the first up to the first gap, each once, and then End
--- exactly where it was announced and nothing is missing. None of those that have its name was refused,
--- and where the session is over, all of it came.
+-- The packets give the session: its items from the first up to the first gap, each once, and then
+-- End exactly where it was announced and nothing is missing. None of those that have its name was
+-- refused, and where the session is over, all of it came.
 pub record GivesSession (session : Session) (packets : List Arrival) : Type 0 where
   pub front : front_of packets ≤ length session.items
   pub stream : stream_of packets ≡ session_stream session (front_of packets) (end_of packets)
@@ -41,9 +41,11 @@ pub record GivesSession (session : Session) (packets : List Arrival) : Type 0 wh
   pub whole : IsComplete packets
       → (front_of packets ≡ length session.items) × (stream_of packets ≡ whole_session session)
 
--- The lines carry exactly these sessions at the venue, this one has the ordinal, and what was taken of
--- the packets is genuine in it.
-pub record AreGenuineOf (names : SessionNames) (carries : Carries) (ends : Ends) (venue ordinal : ℕ) (all : List Session) (session : Session) (packets : List Arrival) : Type 0 where
+-- The lines carry exactly these sessions at the venue, this one has the ordinal, and what was taken
+-- of the packets is genuine in it.
+pub record AreGenuineOf (names : SessionNames) (carries : Carries) (ends : Ends)
+    (venue ordinal : ℕ) (all : List Session) (session : Session)
+    (packets : List Arrival) : Type 0 where
   pub lines : Names names carries ends venue all
   pub at : IsSessionAt all ordinal session
   pub genuine : AreGenuine carries ends venue ordinal packets

@@ -1,5 +1,5 @@
--- Which answer a packet gets, by cases on the answer: with the session, the window and the number of
--- the last item sent, after the packets that came before. No two answers fit one packet.
+-- Which answer a packet gets, by cases on the answer: with the session, the window and the number
+-- of the last item sent, after the packets that came before. No two answers fit one packet.
 use Rattle.std.specs.Prelude.{◌≡◌, ◌≢◌, ℕ, ◌+◌, ◌<◌, ◌≤◌, List, length, Option, Some, None, IsSome, is_none, Result, Ok, Err, count_by, ◌⊎◌}
 use Rattle.std.specs.List.{range_with_len}
 use Rattle.feed_types.specs.declared.item.Item.{Item}

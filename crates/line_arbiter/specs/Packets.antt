@@ -81,7 +81,8 @@ heard_by p (Err fault) = 0
 abbrev pub heard : Arrival → ℕ
 heard a = heard_by a.packet a.answer
 
--- how far the session is known to go: to before the announced end, else to the greatest number heard
--- of
+-- how far the session is known to go: to before the announced end, else to the greatest number
+-- heard of
 abbrev pub known_of : List Arrival → ℕ
-known_of packets = option_map_or (λ e. e - 1) (end_of packets) (fold (λ k a. max k (heard a)) 0 packets)
+known_of packets =
+    option_map_or (λ e. e - 1) (end_of packets) (fold (λ k a. max k (heard a)) 0 packets)

@@ -1,5 +1,5 @@
--- What an arbiter is: its venue and sessions, its cursors, and its wins. What it holds is seen through
--- `held_at` alone.
+-- What an arbiter is: its venue and sessions, its cursors, and its wins. What it holds is seen
+-- through `held_at` alone.
 use Rattle.std.specs.Prelude.{◌≡◌, ℕ, ◌+◌, ◌==◌, List, [], ◌∷◌, ◌++◌, length, Option, Some, None, if◌then◌else◌}
 use Rattle.feed_types.specs.declared.item.Item.{Item}
 use Rattle.feed_types.specs.declared.item.Item.TheVariants as items
@@ -8,8 +8,8 @@ use Rattle.line_arbiter.specs.declared.arbiter.ArbiterStatus.{ArbiterStatus}
 use Rattle.line_arbiter.specs.Counts.{Counts, no_counts}
 use Rattle.line_arbiter.specs.Holding.{Held, Ring, held_at}
 
--- sessions are the names of the venue's sessions so far, the present one last; earlier has the wins as
--- they stood when the present session began
+-- sessions are the names of the venue's sessions so far, the present one last; earlier has the wins
+-- as they stood when the present session began
 pub record State : Type 0 where
   pub venue : ℕ
   pub sessions : List (List ℕ)

@@ -1,4 +1,5 @@
--- What one packet changes in an arbiter, said of its state alone. Only private clauses cite this file.
+-- What one packet changes in an arbiter, said of its state alone. Only private clauses cite this
+-- file.
 use Rattle.std.specs.Prelude.{◌≡◌, ◌≢◌, ℕ, ◌+◌, ◌-◌, ◌^◌, ◌<◌, nat_eq, ◌⊎◌, Option, Some, None, IsSome, length, max, Result, Ok, Err, ◌≤◌, if◌then◌else◌}
 use Rattle.feed_types.specs.declared.item.Item.{Item}
 use Rattle.feed_types.specs.declared.line.LineId.{LineId}
@@ -19,13 +20,14 @@ use Rattle.line_arbiter.specs.States.{State, held_of}
 -- What every arbiter keeps: what is held, and the front, lie below the announced end.
 pub record IsSound (s : State) : Type 0 where
   pub end_small : (e : ℕ) → s.end ≡ Some e → e < 2 ^ 64
-  pub before_end : (e m : ℕ) (item : Item) → s.end ≡ Some e → held_at (held_of s) m ≡ Some item → m < e
+  pub before_end : (e m : ℕ) (item : Item)
+      → s.end ≡ Some e → held_at (held_of s) m ≡ Some item → m < e
   pub front_before_end : (e : ℕ) → s.end ≡ Some e → s.front < e
   pub named : 1 ≤ length s.sessions
   pub few : length s.sessions ≤ 64
 
--- the number up to which there are messages, after one more is heard of: nothing changes once the end
--- is announced
+-- the number up to which there are messages, after one more is heard of: nothing changes once the
+-- end is announced
 abbrev pub raised : ℕ → Option ℕ → ℕ → ℕ
 raised known None to = max known to
 raised known (Some e) to = known
@@ -36,11 +38,13 @@ counted A n counts = record counts { a = shown (counts.a + n) }
 counted B n counts = record counts { b = shown (counts.b + n) }
 counted Recovery n counts = record counts { recovery = shown (counts.recovery + n) }
 
--- the state after the next item was sent on: the cursor is one further, and that item is held no longer
+-- the state after the next item was sent on: the cursor is one further, and that item is held no
+-- longer
 pub record DropsNext (old new : State) : Type 0 where
   pub sent : new.sent ≡ old.sent + 1
   pub held : (m : ℕ)
-      → held_at (held_of new) m ≡ (if nat_eq m (old.sent + 1) then None else held_at (held_of old) m)
+      → held_at (held_of new) m
+      ≡ (if nat_eq m (old.sent + 1) then None else held_at (held_of old) m)
   pub others : new ≡ record old { sent = new.sent; ring = new.ring }
 
 -- the packet's messages past `sent` are held, and the front has moved over what is there
@@ -51,7 +55,12 @@ pub record TakesIn (line : LineId) (fresh : ℕ) (old new : State) (p : Content)
   pub stop : held_at (held_of new) (new.front + 1) ≡ None
   pub known : new.known ≡ raised old.known old.end (last_of p)
   pub wins : new.wins ≡ counted line fresh old.wins
-  pub others : new ≡ record old { front = new.front; known = new.known; ring = new.ring; wins = new.wins }
+  pub others : new ≡ record old {
+    front = new.front;
+    known = new.known;
+    ring = new.ring;
+    wins = new.wins;
+  }
 
 -- a packet of messages: the answer, and the state that it leaves
 abbrev pub MessagesStep : LineId → State → State → Content → Result Outcome LineFault → Type 0
@@ -66,7 +75,8 @@ MessagesStep line old new p (Ok (Taken fresh repeated)) =
     TakesIn line fresh old new p
     × IsBefore old.end (last_of p) × (last_of p ≤ old.sent + old.window)
     × HeldAgrees (held_of old) p
-    × (fresh ≡ fresh_to (length p.messages) old.sent (held_of old) p) × (fresh + repeated ≡ length p.messages)
+    × (fresh ≡ fresh_to (length p.messages) old.sent (held_of old) p)
+    × (fresh + repeated ≡ length p.messages)
 MessagesStep line old new p (Ok Heartbeat) = ⊥
 MessagesStep line old new p (Ok Ended) = ⊥
 MessagesStep line old new p (Err OtherSession) = ⊥

@@ -30,7 +30,8 @@ end_at (Some e) m = if e == m then end_item m ∷ [] else []
 
 -- messages 1 to n, and then End where it is the next number
 abbrev pub stream_to : List Arrival → ℕ → List Numbered
-stream_to packets n = map (item_numbered packets) (range_with_len 1 n) ++ end_at (end_of packets) (n + 1)
+stream_to packets n =
+    map (item_numbered packets) (range_with_len 1 n) ++ end_at (end_of packets) (n + 1)
 
 -- the items in sequence: the messages up to the first gap, and End where it follows
 abbrev pub stream_of : List Arrival → List Numbered
@@ -44,7 +45,8 @@ IsComplete packets = end_of packets ≡ Some (front_of packets + 1)
 abbrev pub missing_count : ℕ → ℕ → List Arrival → ℕ
 missing_count window sent packets =
     prefix_len (λ m. is_none (carried packets m))
-    (range_with_len (front_of packets + 1) (min (known_of packets) (sent + window) - front_of packets))
+    (range_with_len (front_of packets + 1)
+    (min (known_of packets) (sent + window) - front_of packets))
 
 -- the run of messages to ask for
 abbrev pub gap_of : List ℕ → ℕ → ℕ → List Arrival → Option Request

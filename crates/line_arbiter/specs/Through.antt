@@ -8,9 +8,10 @@ use Rattle.line_arbiter.specs.Packets.{Arrival, carried, end_of, last_of}
 use Rattle.line_arbiter.specs.Streams.{stream_of}
 use Rattle.line_arbiter.specs.Outcomes.{IsBefore}
 
--- A packet of messages of the session goes on where all that was taken was sent: its first number is the
--- next one, its last lies before the end, and it is no longer than the window.
-pub record PassesThrough (session : List ℕ) (window sent : ℕ) (packets : List Arrival) (p : Content) : Type 0 where
+-- A packet of messages of the session goes on where all that was taken was sent: its first number
+-- is the next one, its last lies before the end, and it is no longer than the window.
+pub record PassesThrough (session : List ℕ) (window sent : ℕ) (packets : List Arrival)
+    (p : Content) : Type 0 where
   pub name : p.session ≡ session
   pub kind : p.kind ≡ kinds.Messages
   pub next : p.number ≡ sent + 1

@@ -74,7 +74,8 @@ fn raised(known: u64, end: Option<u64>, to: u64) -> u64
 
 /// What was taken from a venue's lines and not yet sent on.
 ///
-/// `G` names what the lines may carry ([`Genuine`]); [`feed_types::Anything`] where nothing is known.
+/// `G` names what the lines may carry ([`Genuine`]); [`feed_types::Anything`] where nothing is
+/// known.
 #[derive(Drop)]
 pub struct Arbiter<G> {
     venue_id: VenueId,
@@ -95,16 +96,18 @@ impl<G> Model for Arbiter<G> {
 
     ghost Value = { State };
 
-    ghost view = { λ a. record { venue = a.venue_id; sessions = a.names.items; session = a.session_name; window = a.held.width; sent = a.held.base; front = a.run_to; known = a.known_to; end = a.end_number; ring = a.held.ring; wins = a.won; earlier = a.won_before } };
+    ghost use Rattle.line_arbiter.specs.Inside.{arbiter_inside};
 
-    ghost invariant = { λ a. IsSound (record { venue = a.venue_id; sessions = a.names.items; session = a.session_name; window = a.held.width; sent = a.held.base; front = a.run_to; known = a.known_to; end = a.end_number; ring = a.held.ring; wins = a.won; earlier = a.won_before }) };
+    ghost view = { λ a. arbiter_inside a };
+
+    ghost invariant = { λ a. IsSound (arbiter_inside a) };
 }
 
 impl<G: Genuine> Arbiter<G> {
     /// An arbiter of the venue's first session, whose name is ten bytes, filled on the right with
-    /// spaces. The window is how many messages past the last item sent are held, 1 to 65,535; another
-    /// one is refused as BadWindow. It takes its memory here and none later; where there is none, the
-    /// answer is NoMemory.
+    /// spaces. The window is how many messages past the last item sent are held, 1 to 65,535;
+    /// another one is refused as BadWindow. It takes its memory here and none later; where there is
+    /// none, the answer is NoMemory.
     pub fn new(
         alloc: Global,
         venue: VenueId,
@@ -211,7 +214,8 @@ impl<G: Genuine> Arbiter<G> {
         Ok(Outcome::Taken { new, repeated })
     }
 
-    /// Whether the packet's first message is the next one, nothing is held, and the window is as wide.
+    /// Whether the packet's first message is the next one, nothing is held, and the window is as
+    /// wide.
     fn is_next(&self, packet: &Packet<'_>, last: u64) -> bool
         requires { last ≡ last_of packet.now }
         ensures { MatchBool result (IsNext self.now packet.now) (IsNext self.now packet.now → ⊥) }
@@ -290,9 +294,9 @@ impl<G: Genuine> Arbiter<G> {
     }
 
     /// Takes a packet that came on a line, and answers what became of it. A refused packet changes
-    /// nothing. The refusals, in this order: another session's packet; messages at the announced end
-    /// or past it; a held message that reads otherwise; a heartbeat past the end; an end that differs
-    /// from the announced one, or lies at a message that was taken or before it.
+    /// nothing. The refusals, in this order: another session's packet; messages at the announced
+    /// end or past it; a held message that reads otherwise; a heartbeat past the end; an end that
+    /// differs from the announced one, or lies at a message that was taken or before it.
     pub fn take(&mut self, line: LineId, packet: &Packet<'_>) -> Result<Outcome, LineFault>
         ensures outcome { (packets : List Arrival) → Fits self.old packets
             → IsOutcome self.old.session self.old.window self.old.sent packets packet.now result }
@@ -307,9 +311,10 @@ impl<G: Genuine> Arbiter<G> {
         self.take_any(line, packet)
     }
 
-    /// Takes a packet of messages that goes on where nothing is held, and goes past all of them at once:
-    /// they are the next items of the stream, and the caller reads them from the packet. The answer is
-    /// that of `take`. `None` for any other packet, which changes nothing: then `take` it.
+    /// Takes a packet of messages that goes on where nothing is held, and goes past all of them at
+    /// once: they are the next items of the stream, and the caller reads them from the packet. The
+    /// answer is that of `take`. `None` for any other packet, which changes nothing: then `take`
+    /// it.
     pub fn take_through(&mut self, line: LineId, packet: &Packet<'_>) -> Option<Outcome>
         ensures through { (packets : List Arrival) → Fits self.old packets
             → (IsSome result ↔ PassesThrough self.old.session self.old.window self.old.sent packets
@@ -359,17 +364,13 @@ impl<G: Genuine> Arbiter<G> {
         self.drop_next();
     }
 
-    /// The run of messages to ask for: from the first that is missing, as many as are missing in a row,
-    /// as far as the window and what is known of the session go. `None` where none is.
+    /// The run of messages to ask for: from the first that is missing, as many as are missing in a
+    /// row, as far as the window and what is known of the session go. `None` where none is.
     pub fn gap(&self) -> Option<Request>
         ensures { (packets : List Arrival) → Fits self.now packets
             → result ≡ gap_of self.now.session self.now.window self.now.sent packets }
     {
-        let window_end = self
-            .held
-            .base()
-            .saturating_add(u64::from(self.held.width()));
-        let limit = self.run_to.max(self.known_to.min(window_end));
+        let limit = self.run_to.max(self.known_to);
         let count = self.held.missing_after(self.run_to, limit);
         if count == 0 {
             return None;

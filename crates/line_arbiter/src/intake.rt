@@ -8,10 +8,11 @@ use crate::window::Window;
 use mold_packet::Packet;
 use quote_payload::read_item;
 
-/// Whether another item is held at the number than the message reads as. A message is read only where
-/// an item is held.
+/// Whether another item is held at the number than the message reads as. A message is read only
+/// where an item is held.
 fn is_other(window: &Window, number: u64, message: &[u8]) -> bool
-    ensures { MatchBool result (HoldsOther window.now number (item_of message.now)) (HoldsNoOther window.now number (item_of message.now)) }
+    ensures { MatchBool result (HoldsOther window.now number (item_of message.now))
+        (HoldsNoOther window.now number (item_of message.now)) }
 {
     match window.get(number) {
         Some(found) => found != read_item(message),
@@ -20,7 +21,8 @@ fn is_other(window: &Window, number: u64, message: &[u8]) -> bool
 }
 
 fn some_is_other(window: &Window, packet: &Packet<'_>) -> bool
-    ensures { MatchBool result (HeldDisagrees window.now packet.now) (HeldAgrees window.now packet.now) }
+    ensures { MatchBool result (HeldDisagrees window.now packet.now)
+        (HeldAgrees window.now packet.now) }
 {
     let first = packet.number();
     for (i, message) in packet.messages().enumerate() {
@@ -31,10 +33,11 @@ fn some_is_other(window: &Window, packet: &Packet<'_>) -> bool
     false
 }
 
-/// Whether a held message reads otherwise in the packet. Where all that is held lies below the packet, as
-/// most often, its messages aren't walked.
+/// Whether a held message reads otherwise in the packet. Where all that is held lies below the
+/// packet, as most often, its messages aren't walked.
 pub(crate) fn disagrees(window: &Window, packet: &Packet<'_>) -> bool
-    ensures { MatchBool result (HeldDisagrees window.now packet.now) (HeldAgrees window.now packet.now) }
+    ensures { MatchBool result (HeldDisagrees window.now packet.now)
+        (HeldAgrees window.now packet.now) }
 {
     window.holds_from(packet.number()) && some_is_other(window, packet)
 }
@@ -57,9 +60,12 @@ fn put(window: &mut Window, number: u64, message: &[u8]) -> bool
 }
 
 fn fill_each(window: &mut Window, packet: &Packet<'_>) -> u16
-    requires { packet.now.number + length packet.now.messages ≤ window.old.base + window.old.width + 1 }
-    ensures after { (m : ℕ) → held_at window.new m ≡ put_all window.old.base packet.now (held_at window.old m) m }
-    ensures count { result ≡ fresh_to (length packet.now.messages) window.old.base window.old packet.now }
+    requires { packet.now.number + length packet.now.messages
+        ≤ window.old.base + window.old.width + 1 }
+    ensures after { (m : ℕ) → held_at window.new m
+        ≡ put_all window.old.base packet.now (held_at window.old m) m }
+    ensures count { result
+        ≡ fresh_to (length packet.now.messages) window.old.base window.old packet.now }
     ensures base { window.new.base ≡ window.old.base }
     ensures width { window.new.width ≡ window.old.width }
 {
@@ -72,12 +78,15 @@ fn fill_each(window: &mut Window, packet: &Packet<'_>) -> u16
     count
 }
 
-/// Holds the packet's messages past the base where nothing is held, and tells how many it held. Where all
-/// of them were sent, as on the line that comes second, its messages aren't walked.
+/// Holds the packet's messages past the base where nothing is held, and tells how many it held.
+/// Where all of them were sent, as on the line that comes second, its messages aren't walked.
 pub(crate) fn fill(window: &mut Window, packet: &Packet<'_>) -> u16
-    requires { packet.now.number + length packet.now.messages ≤ window.old.base + window.old.width + 1 }
-    ensures after { (m : ℕ) → held_at window.new m ≡ put_all window.old.base packet.now (held_at window.old m) m }
-    ensures count { result ≡ fresh_to (length packet.now.messages) window.old.base window.old packet.now }
+    requires { packet.now.number + length packet.now.messages
+        ≤ window.old.base + window.old.width + 1 }
+    ensures after { (m : ℕ) → held_at window.new m
+        ≡ put_all window.old.base packet.now (held_at window.old m) m }
+    ensures count { result
+        ≡ fresh_to (length packet.now.messages) window.old.base window.old packet.now }
     ensures base { window.new.base ≡ window.old.base }
     ensures width { window.new.width ≡ window.old.width }
 {

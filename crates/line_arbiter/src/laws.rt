@@ -34,7 +34,8 @@ pub fn one_renewal()
         → IsRenewal names end sent name a → IsRenewal names end sent name b → a ≡ b }
 {}
 
-/// The first gap: the front is the greatest number up to which all were taken, and the next one wasn't.
+/// The first gap: the front is the greatest number up to which all were taken, and the next one
+/// wasn't.
 pub fn the_front_is_the_first_gap()
     ensures taken { (packets : List Arrival) → AreTaken packets (front_of packets) }
     ensures greatest { (packets : List Arrival) (n : ℕ) → AreTaken packets n
@@ -67,17 +68,17 @@ pub fn a_renewal_comes_when_all_is_sent()
         → IsComplete packets × (sent ≡ length (stream_of packets)) }
 {}
 
-/// The session law: where each packet of the session's name is of the session, and was answered as it
-/// should be, the stream is the session's items up to the first gap, each once, and then End exactly
-/// where it was announced and nothing is missing; and none of those packets was refused.
+/// The session law: where each packet of the session's name is of the session, and was answered as
+/// it should be, the stream is the session's items up to the first gap, each once, and then End
+/// exactly where it was announced and nothing is missing; and none of those packets was refused.
 pub fn the_stream_is_the_session()
     ensures { (session : Session) (window : ℕ) (packets : List Arrival)
         → AreAnswered session.name window packets → AreOfSession session packets
         → GivesSession session packets }
 {}
 
-/// From sessions to genuine packets: where the lines carry exactly these sessions, a packet that is of
-/// one of them is genuine.
+/// From sessions to genuine packets: where the lines carry exactly these sessions, a packet that is
+/// of one of them is genuine.
 pub fn packets_of_sessions_are_genuine<G: Genuine>()
     ensures { (venue ordinal : ℕ) (all : List Session) (session : Session) (p : Content)
         → Names G.sessions G.carries G.ends venue all → IsSessionAt all ordinal session
@@ -117,8 +118,9 @@ pub fn what_is_taken_stays_genuine<G: Genuine>()
         → AreGenuine G.carries G.ends venue ordinal (packets ++ a ∷ []) }
 {}
 
-/// The sequence law: where what was taken in each of a venue's sessions is genuine, and all sessions
-/// but the present one are over, their streams one after another obey the rule of a venue's items.
+/// The sequence law: where what was taken in each of a venue's sessions is genuine, and all
+/// sessions but the present one are over, their streams one after another obey the rule of a
+/// venue's items.
 pub fn streams_are_in_sequence<G: Genuine>()
     ensures { (venue : ℕ) (h : History)
         → AreGenuineFrom G.carries G.ends venue 1 (all_begun h)

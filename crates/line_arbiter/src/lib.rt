@@ -1,13 +1,13 @@
 //! Puts the messages of one venue's redundant lines in sequence, each once.
 //!
-//! An [`Arbiter`] is given the packets of lines A, B and Recovery in the order in which they came. It
-//! holds what lies past the last item sent in a window of fixed size, and gives the items out in
-//! sequence: messages up to the first gap, and End where it follows. A [`Pacer`] says when to ask for
-//! what is missing.
+//! An [`Arbiter`] is given the packets of lines A, B and Recovery in the order in which they came.
+//! It holds what lies past the last item sent in a window of fixed size, and gives the items out in
+//! sequence: messages up to the first gap, and End where it follows. A [`Pacer`] says when to ask
+//! for what is missing.
 //!
-//! Contract: for every list of packets that the arbiter was given in the present session, its answers,
-//! cursors and items are those that `specs/Outcomes.antt` and `specs/Streams.antt` define over that
-//! list. Begin at `arbiter.rt`; `laws.rt` says what follows for a session's messages.
+//! Contract: for every list of packets that the arbiter was given in the present session, its
+//! answers, cursors and items are those that `specs/Outcomes.antt` and `specs/Streams.antt` define
+//! over that list. Begin at `arbiter.rt`; `laws.rt` says what follows for a session's messages.
 #![tactic(auto)]
 
 mod arbiter;

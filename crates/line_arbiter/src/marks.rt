@@ -56,8 +56,8 @@ fn first_in_word(word: u64, set: bool, from: u32) -> u32
     from + left.trailing_zeros()
 }
 
-/// The first slot from this one on, below the end, that is marked, or isn't, as asked; the end where
-/// there is none.
+/// The first slot from this one on, below the end, that is marked, or isn't, as asked; the end
+/// where there is none.
 pub(crate) fn first_slot(marks: &[u64], marked: bool, from: usize, end: usize) -> usize
     requires order { from ≤ end }
     requires within { end ≤ 64 * length marks.now }

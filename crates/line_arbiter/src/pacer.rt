@@ -72,12 +72,12 @@ impl Pacer {
         }
     }
 
-    /// The request to send now, if any. `gap` is the run of messages that is missing, and `now_ms` the
-    /// time in milliseconds since any fixed moment.
+    /// The request to send now, if any. `gap` is the run of messages that is missing, and `now_ms`
+    /// the time in milliseconds since any fixed moment.
     ///
     /// A gap goes out unless the last request began with the same number and went out less than an
-    /// interval ago. What goes out is remembered with its moment. Where there is no gap, nothing goes
-    /// out, and the last request is forgotten.
+    /// interval ago. What goes out is remembered with its moment. Where there is no gap, nothing
+    /// goes out, and the last request is forgotten.
     pub fn due(&mut self, gap: Option<Request>, now_ms: u64) -> Option<Request>
         ensures { IsPaced self.old gap now_ms result self.new }
     {

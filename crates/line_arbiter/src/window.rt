@@ -9,9 +9,9 @@ use feed_types::Item;
 use std::alloc::{AllocError, Global};
 use std::marker::Model;
 
-/// Places for the numbers from `base_number + 1` on, as many as there are slots. The first place is in
-/// slot `first`, and the slots go round. A marked slot holds the item of its number. Nothing is held
-/// above `top_number`.
+/// Places for the numbers from `base_number + 1` on, as many as there are slots. The first place is
+/// in slot `first`, and the slots go round. A marked slot holds the item of its number. Nothing is
+/// held above `top_number`.
 #[derive(Drop)]
 pub(crate) struct Window {
     base_number: u64,
@@ -23,14 +23,15 @@ pub(crate) struct Window {
 }
 
 impl Model for Window {
-    ghost use Rattle.std.specs.Prelude.{length};
     ghost use Rattle.line_arbiter.specs.Holding.{Held, IsHeld};
 
     ghost Value = { Held };
 
-    ghost view = { λ w. record { base = w.base_number; width = length w.slots.items; ring = record { first = w.first; slots = w.slots.items; marks = w.marks.items } } };
+    ghost use Rattle.line_arbiter.specs.Inside.{window_inside};
 
-    ghost invariant = { λ w. IsHeld w.top_number w.held_items (record { base = w.base_number; width = length w.slots.items; ring = record { first = w.first; slots = w.slots.items; marks = w.marks.items } }) };
+    ghost view = { window_inside };
+
+    ghost invariant = { λ w. IsHeld w.top_number w.held_items (window_inside w) };
 }
 
 fn blank_slots(alloc: Global, count: usize) -> Result<Vec<Item>, AllocError>
@@ -74,8 +75,9 @@ fn set(slots: &mut Vec<Item>, slot: usize, item: Item)
     slots[slot] = item;
 }
 
-/// The first place from this one on, below the end, that holds an item, or holds none, as asked; the
-/// end where there is none. The slots of the places lie in two rows: to the last slot, and from slot 0.
+/// The first place from this one on, below the end, that holds an item, or holds none, as asked;
+/// the end where there is none. The slots of the places lie in two rows: to the last slot, and from
+/// slot 0.
 fn first_place(
     marks: &[u64],
     first: usize,
@@ -199,7 +201,8 @@ impl Window {
     pub(crate) fn free_slot(&self, number: u64) -> Option<usize>
         requires { number ≤ self.now.base + self.now.width }
         ensures free { IfSome result (IsFree self.now number) }
-        ensures other { IfNone result ((number ≤ self.now.base) ⊎ IsSome (held_at self.now number)) }
+        ensures other { IfNone result ((number ≤ self.now.base)
+            ⊎ IsSome (held_at self.now number)) }
     {
         if number <= self.base_number {
             return None;
@@ -234,7 +237,8 @@ impl Window {
         ensures base { self.new.base ≡ self.old.base + 1 }
         ensures width { self.new.width ≡ self.old.width }
         ensures held { (m : ℕ)
-            → held_at self.new m ≡ (if nat_eq m (self.old.base + 1) then None else held_at self.old m) }
+            → held_at self.new m
+            ≡ (if nat_eq m (self.old.base + 1) then None else held_at self.old m) }
     {
         let slot = self.first;
         let next = slot_after(slot, self.slots.len());
@@ -271,12 +275,13 @@ impl Window {
         self.base_number + end as u64
     }
 
-    /// How many numbers after `front` hold nothing, up to the limit, to the first that holds an item, or
-    /// to the end of the window. None are counted where `front` isn't in the window.
+    /// How many numbers after `front` hold nothing, up to the limit, to the first that holds an
+    /// item, or to the end of the window. None are counted where `front` isn't in the window.
     pub(crate) fn missing_after(&self, front: u64, limit: u64) -> u16
         requires { front ≤ limit }
         ensures free { (m : ℕ) → front < m → m ≤ front + result → held_at self.now m ≡ None }
         ensures within { front + result ≤ limit }
+        ensures inside { (result ≡ 0) ⊎ (front + result ≤ self.now.base + self.now.width) }
         ensures stop { (front < self.now.base) ⊎ (self.now.base + self.now.width ≤ front + result)
             ⊎ (front + result ≡ limit) ⊎ IsSome (held_at self.now (front + result + 1)) }
     {

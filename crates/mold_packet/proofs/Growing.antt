@@ -4,11 +4,11 @@ use Rattle.std.specs.List.{flat_map, AllByRecursion}
 use Rattle.std.proofs.lemmas.List.{take_more, map-append, append-nil, take-append-drop}
 use Rattle.std.proofs.lemmas.List.Concat.{flat_map-append}
 use Rattle.mold_packet.specs.Block.{block, IsMessage}
-use Rattle.mold_packet.specs.Body.{bytes_of}
+use Rattle.mold_packet.specs.Body.{lent_bytes}
 
 -- the blocks of these slices
 abbrev pub blocks_to : List (Bor (List ℕ)) → List ℕ
-blocks_to messages = flat_map block (bytes_of messages)
+blocks_to messages = flat_map block (lent_bytes messages)
 
 abbrev pub nothing : Bor (List ℕ)
 nothing = record { ref_ptr = (0, 0); now = [] }
@@ -18,10 +18,10 @@ blocks_more messages i h =
     let last : Bor (List ℕ) = get_or messages i nothing in
     ap blocks_to (take_more messages i nothing h)
     ∙ ap (flat_map block) (map-append (λ (m : Bor (List ℕ)). m.now) (take i messages) (last ∷ []))
-    ∙ flat_map-append block (bytes_of (take i messages)) (last.now ∷ [])
+    ∙ flat_map-append block (lent_bytes (take i messages)) (last.now ∷ [])
     ∙ ap (λ (x : List ℕ). blocks_to (take i messages) ++ x) (append-nil (block last.now))
 
-pub message_at : (messages : List (Bor (List ℕ))) (i : ℕ) → AllByRecursion IsMessage (bytes_of messages) → i < length messages → IsMessage (get_or messages i nothing).now
+pub message_at : (messages : List (Bor (List ℕ))) (i : ℕ) → AllByRecursion IsMessage (lent_bytes messages) → i < length messages → IsMessage (get_or messages i nothing).now
 message_at [] i each h = omega arith
 message_at (m ∷ ms) zero each h = each.0
 message_at (m ∷ ms) (suc i) each h = message_at ms i each.1 (omega arith)
@@ -38,5 +38,5 @@ blocks_within messages i h =
     let all : blocks_to messages ≡ blocks_to front ++ blocks_to back =
     ap blocks_to (sym (take-append-drop (i + 1) messages))
     ∙ ap (flat_map block) (map-append (λ (m : Bor (List ℕ)). m.now) front back)
-    ∙ flat_map-append block (bytes_of front) (bytes_of back) in
+    ∙ flat_map-append block (lent_bytes front) (lent_bytes back) in
     omega (arith, length-blocks_more messages i h, ap (λ (x : List ℕ). length x) all, length-append (blocks_to front) (blocks_to back))

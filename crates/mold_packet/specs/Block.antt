@@ -12,7 +12,8 @@ abbrev pub block : List ℕ → List ℕ
 block message = to_be_bytes w16 (length message) ++ message
 
 -- the bytes are the blocks of these messages, n of them, and then the rest
-pub record HasBlocks (n : ℕ) (bytes : List ℕ) (messages : List (List ℕ)) (rest : List ℕ) : Type 0 where
+pub record HasBlocks
+    (n : ℕ) (bytes : List ℕ) (messages : List (List ℕ)) (rest : List ℕ) : Type 0 where
   pub count : length messages ≡ n
   pub each : AllByRecursion IsMessage messages
   pub spelled : bytes ≡ flat_map block messages ++ rest
@@ -40,7 +41,8 @@ block_len bytes = from_be_bytes w16 (take 2 bytes)
 abbrev pub blocks_at : ℕ → List ℕ → List (List ℕ)
 blocks_at zero bytes = []
 blocks_at (suc n) bytes =
-    let behind = drop 2 bytes in take (block_len bytes) behind ∷ blocks_at n (drop (block_len bytes) behind)
+    let behind = drop 2 bytes in
+    take (block_len bytes) behind ∷ blocks_at n (drop (block_len bytes) behind)
 
 -- n blocks and nothing else
 abbrev pub AreBlocks : ℕ → List ℕ → Type 0

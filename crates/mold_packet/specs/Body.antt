@@ -9,24 +9,24 @@ use Rattle.mold_packet.specs.declared.packet.Kind.TheVariants as kinds
 use Rattle.mold_packet.specs.Block.{IsMessage}
 use Rattle.mold_packet.specs.Content.{Content}
 
-abbrev pub bytes_of : List (Bor (List ℕ)) → List (List ℕ)
-bytes_of blocks = map (λ block. block.now) blocks
+abbrev pub lent_bytes : List (Bor (List ℕ)) → List (List ℕ)
+lent_bytes blocks = map (λ block. block.now) blocks
 
-abbrev pub kind_of : Body → Kind
-kind_of (Blocks blocks) = kinds.Messages
-kind_of Heartbeat = kinds.Heartbeat
-kind_of End = kinds.End
+abbrev pub body_kind : Body → Kind
+body_kind (Blocks blocks) = kinds.Messages
+body_kind Heartbeat = kinds.Heartbeat
+body_kind End = kinds.End
 
-abbrev pub messages_of : Body → List (List ℕ)
-messages_of (Blocks blocks) = bytes_of blocks.now
-messages_of Heartbeat = []
-messages_of End = []
+abbrev pub body_messages : Body → List (List ℕ)
+body_messages (Blocks blocks) = lent_bytes blocks.now
+body_messages Heartbeat = []
+body_messages End = []
 
 -- what a caller keeps: 1 to 65,534 blocks, the last one's number below 2^64, and each message short
 -- enough for its block's length field
 abbrev pub BodyFits : ℕ → Body → Type 0
 BodyFits number (Blocks blocks) = (1 ≤ length blocks.now) × (length blocks.now ≤ 65534)
-    × (number + length blocks.now ≤ 2 ^ 64) × AllByRecursion IsMessage (bytes_of blocks.now)
+    × (number + length blocks.now ≤ 2 ^ 64) × AllByRecursion IsMessage (lent_bytes blocks.now)
 BodyFits number Heartbeat = Unit {0}
 BodyFits number End = Unit {0}
 
@@ -35,7 +35,7 @@ abbrev pub packet_of : List ℕ → ℕ → Body → Content
 packet_of session number body = record {
   session = session;
   number = number;
-  kind = kind_of body;
-  messages = messages_of body;
+  kind = body_kind body;
+  messages = body_messages body;
   ignored = 0;
 }

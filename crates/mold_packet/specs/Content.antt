@@ -1,5 +1,5 @@
 -- What a downstream packet says, and how it is spelled: MoldUDP64 1.00, "Downstream Packet".
-use Rattle.std.specs.Prelude.{◌≡◌, ℕ, ◌+◌, ◌^◌, ◌<◌, ◌≤◌, List, [], ◌++◌, length}
+use Rattle.std.specs.Prelude.{◌≡◌, ℕ, ◌+◌, ◌-◌, ◌^◌, ◌<◌, ◌≤◌, List, [], ◌++◌, length}
 use Rattle.std.specs.List.{flat_map, AllByRecursion}
 use Rattle.mold_packet.specs.declared.packet.Kind.{Kind}
 use Rattle.mold_packet.specs.declared.packet.Kind.TheVariants.{Messages, Heartbeat, End}
@@ -34,6 +34,10 @@ pub record IsContent (packet : Content) : Type 0 where
   pub in_range : packet.number + length packet.messages ≤ 2 ^ 64
   pub fits : KindFits packet.kind packet.messages
   pub each : AllByRecursion IsMessage packet.messages
+
+-- the number of the last message; where there is none, the one before the packet's number
+abbrev pub last_number : Content → ℕ
+last_number packet = packet.number + length packet.messages - 1
 
 -- the packet's own bytes: the header, and the blocks one after the other
 abbrev pub spelling : Content → List ℕ

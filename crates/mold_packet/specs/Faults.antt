@@ -16,13 +16,15 @@ pub record IsWhole (bytes : List ℕ) : Type 0 where
   pub rest : List ℕ
   pub blocks : HasBlocks (blocks_wanted (count_at bytes)) (drop 20 bytes) messages rest
 
--- the fault is the first that fits, in this order: the header is cut, a block is cut, the number is 0,
--- the last message's number is past 2^64 - 1. Reading a packet has no other
+-- the fault is the first that fits, in this order: the header is cut, a block is cut, the number
+-- is 0, the last message's number is past 2^64 - 1. Reading a packet has no other
 abbrev pub HasFault : List ℕ → PacketFault → Type 0
 HasFault bytes ShortHeader = length bytes < 20
-HasFault bytes TruncatedBlock = (20 ≤ length bytes) × CutShort (blocks_wanted (count_at bytes)) (drop 20 bytes)
+HasFault bytes TruncatedBlock =
+    (20 ≤ length bytes) × CutShort (blocks_wanted (count_at bytes)) (drop 20 bytes)
 HasFault bytes ZeroSequence = IsWhole bytes × (number_at bytes ≡ 0)
-HasFault bytes SequenceOverflow = IsWhole bytes × (1 ≤ number_at bytes) × (1 ≤ blocks_wanted (count_at bytes))
+HasFault bytes SequenceOverflow =
+    IsWhole bytes × (1 ≤ number_at bytes) × (1 ≤ blocks_wanted (count_at bytes))
     × (2 ^ 64 < number_at bytes + blocks_wanted (count_at bytes))
 HasFault bytes BufferTooSmall = ⊥
 HasFault bytes BadRequestLength = ⊥

@@ -25,7 +25,8 @@ fn first_block(bytes: &[u8]) -> Option<(&[u8], &[u8])>
 
 /// The bytes of the first `count` blocks, and what follows them, or `None` where one is cut.
 pub(crate) fn split_blocks(count: u16, body: &[u8]) -> Option<(&[u8], &[u8])>
-    ensures found { IfSome result (λ r. HasBlocks count body.now (blocks_at count r.0.now) r.1.now) }
+    ensures found { IfSome result (λ r.
+        HasBlocks count body.now (blocks_at count r.0.now) r.1.now) }
     ensures blocks { IfSome result (λ r. AreBlocks count r.0.now) }
     ensures cut { IfNone result (CutShort count body.now) }
 {

@@ -1,5 +1,5 @@
 ghost use Rattle.std.specs.Prelude.{◌≡◌, ◌≤◌, length};
-ghost use Rattle.mold_packet.specs.Body.{bytes_of, kind_of, messages_of};
+ghost use Rattle.mold_packet.specs.Body.{lent_bytes, body_kind, body_messages};
 ghost use Rattle.mold_packet.specs.Content.{count_field};
 
 use crate::header::{END, HEARTBEAT};
@@ -17,7 +17,7 @@ pub enum Body<'a> {
 
 impl<'a> Body<'a> {
     pub(crate) fn messages(self) -> &'a [&'a [u8]]
-        ensures { bytes_of result.now ≡ messages_of self.entry }
+        ensures { lent_bytes result.now ≡ body_messages self.entry }
     {
         match self {
             Body::Blocks(messages) => messages,
@@ -26,8 +26,8 @@ impl<'a> Body<'a> {
     }
 
     pub(crate) fn count_field(self) -> u16
-        requires { length (messages_of self) ≤ 65534 }
-        ensures { result ≡ count_field (kind_of self.entry) (messages_of self.entry) }
+        requires { length (body_messages self) ≤ 65534 }
+        ensures { result ≡ count_field (body_kind self.entry) (body_messages self.entry) }
     {
         match self {
             Body::Blocks(messages) => messages.len() as u16,

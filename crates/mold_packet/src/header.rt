@@ -11,7 +11,7 @@ pub(crate) const HEARTBEAT: u16 = 0;
 pub(crate) const END: u16 = 0xffff;
 
 #[inline]
-pub(crate) fn session_of(bytes: &[u8]) -> [u8; 10]
+pub(crate) fn read_session(bytes: &[u8]) -> [u8; 10]
     requires { 20 ≤ length bytes.now }
     ensures { result ≡ session_at bytes.now }
 {
@@ -21,7 +21,7 @@ pub(crate) fn session_of(bytes: &[u8]) -> [u8; 10]
 }
 
 #[inline]
-pub(crate) fn number_of(bytes: &[u8]) -> u64
+pub(crate) fn read_number(bytes: &[u8]) -> u64
     requires { 20 ≤ length bytes.now }
     ensures { result ≡ number_at bytes.now }
 {
@@ -31,7 +31,7 @@ pub(crate) fn number_of(bytes: &[u8]) -> u64
 }
 
 #[inline]
-pub(crate) fn count_of(bytes: &[u8]) -> u16
+pub(crate) fn read_count(bytes: &[u8]) -> u16
     requires { 20 ≤ length bytes.now }
     ensures { result ≡ count_at bytes.now }
 {

@@ -1,5 +1,5 @@
 ghost use Rattle.std.specs.Prelude.{◌≡◌, length};
-ghost use Rattle.mold_packet.specs.Content.{IsContent};
+ghost use Rattle.mold_packet.specs.Content.{IsContent, last_number};
 
 use crate::blocks::Messages;
 use std::marker::Model;
@@ -76,6 +76,16 @@ impl<'a> Packet<'a> {
         ensures content { IsContent self.now }
     {
         self.count
+    }
+
+    /// The sequence number of the last message. Where there is none, it is the one before `number()`, and
+    /// may be 0.
+    #[inline]
+    pub fn last_number(&self) -> u64
+        ensures value { result ≡ last_number self.now }
+        ensures content { IsContent self.now }
+    {
+        self.number - 1 + u64::from(self.count)
     }
 
     /// How many bytes of the datagram stand behind the packet. They were not read.

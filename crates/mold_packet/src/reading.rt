@@ -4,7 +4,7 @@ ghost use Rattle.mold_packet.specs.Faults.{HasFault};
 
 use crate::blocks::split_blocks;
 use crate::fault::PacketFault;
-use crate::header::{END, HEADER, HEARTBEAT, count_of, number_of, session_of};
+use crate::header::{END, HEADER, HEARTBEAT, read_count, read_number, read_session};
 use crate::packet::{Kind, Packet};
 
 /// Reads a downstream packet from a datagram, or tells the first fault that fits: `ShortHeader`,
@@ -32,8 +32,8 @@ pub fn read_packet(bytes: &[u8]) -> Result<Packet<'_>, PacketFault>
     if bytes.len() < HEADER {
         return Err(PacketFault::ShortHeader);
     }
-    let number = number_of(bytes);
-    let (kind, count) = match count_of(bytes) {
+    let number = read_number(bytes);
+    let (kind, count) = match read_count(bytes) {
         HEARTBEAT => (Kind::Heartbeat, 0),
         END => (Kind::End, 0),
         count => (Kind::Messages, count),
@@ -48,7 +48,7 @@ pub fn read_packet(bytes: &[u8]) -> Result<Packet<'_>, PacketFault>
         return Err(PacketFault::SequenceOverflow);
     }
     Ok(Packet {
-        session: session_of(bytes),
+        session: read_session(bytes),
         number,
         kind,
         count,

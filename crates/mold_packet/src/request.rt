@@ -3,7 +3,7 @@ ghost use Rattle.mold_packet.specs.Request.{SpellsRequest, HasRequestFault};
 ghost use Rattle.mold_packet.specs.Writing.{WritesFirst, WritesNothing};
 
 use crate::fault::PacketFault;
-use crate::header::{HEADER, count_of, number_of, session_of, write_header};
+use crate::header::{HEADER, read_count, read_number, read_session, write_header};
 
 /// Asks a session's sender for messages again.
 ///
@@ -52,13 +52,13 @@ pub fn read_request(bytes: &[u8]) -> Result<Request, PacketFault>
     if bytes.len() != HEADER {
         return Err(PacketFault::BadRequestLength);
     }
-    let number = number_of(bytes);
+    let number = read_number(bytes);
     if number == 0 {
         return Err(PacketFault::ZeroSequence);
     }
     Ok(Request {
-        session: session_of(bytes),
+        session: read_session(bytes),
         number,
-        count: count_of(bytes),
+        count: read_count(bytes),
     })
 }

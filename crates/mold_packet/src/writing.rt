@@ -1,7 +1,7 @@
 ghost use Rattle.std.specs.Prelude.{◌≡◌, ◌+◌, ◌^◌, ◌<◌, ◌≤◌, ◌++◌, [], length, take, drop, IfOk, IfErr};
 ghost use Rattle.std.specs.List.{flat_map, AllByRecursion};
 ghost use Rattle.mold_packet.specs.Block.{block, IsMessage};
-ghost use Rattle.mold_packet.specs.Body.{BodyFits, bytes_of, packet_of};
+ghost use Rattle.mold_packet.specs.Body.{BodyFits, lent_bytes, packet_of};
 ghost use Rattle.mold_packet.specs.Content.{spelling, Spells};
 ghost use Rattle.mold_packet.specs.Writing.{WritesFirst, WritesNothing};
 
@@ -12,8 +12,8 @@ use crate::header::{HEADER, write_header};
 /// How many bytes the blocks of these messages take.
 fn blocks_len(messages: &[&[u8]]) -> usize
     requires few { length messages.now ≤ 65534 }
-    requires each { AllByRecursion IsMessage (bytes_of messages.now) }
-    ensures value { result ≡ length (flat_map block (bytes_of messages.now)) }
+    requires each { AllByRecursion IsMessage (lent_bytes messages.now) }
+    ensures value { result ≡ length (flat_map block (lent_bytes messages.now)) }
     ensures small { result < 2 ^ 33 }
 {
     let mut len = 0;
@@ -36,9 +36,9 @@ fn write_block(message: &[u8], out: &mut [u8])
 
 /// Writes the messages' blocks to the front of `out`, one after the other.
 fn write_blocks(messages: &[&[u8]], out: &mut [u8])
-    requires each { AllByRecursion IsMessage (bytes_of messages.now) }
-    requires room { length (flat_map block (bytes_of messages.now)) ≤ length out.old }
-    ensures { let blocks = flat_map block (bytes_of messages.now) in
+    requires each { AllByRecursion IsMessage (lent_bytes messages.now) }
+    requires room { length (flat_map block (lent_bytes messages.now)) ≤ length out.old }
+    ensures { let blocks = flat_map block (lent_bytes messages.now) in
         out.new ≡ blocks ++ drop (length blocks) out.old }
 {
     let mut end = 0;

@@ -24,17 +24,33 @@ offer_beats f x y p = grind (arith, p)
 
 bid_chain : (f : ℕ → ℕ) (x y z : Best) → Precedes (y.price < x.price) f x y → Precedes (z.price < y.price) f y z → Precedes (z.price < x.price) f x z
 bid_chain f x y z p q = elim p [
-    inl h ↦ elim q [ inl k ↦ inl (omega (arith, h, k)) | inr k ↦ inl (omega (arith, h, k)) ]
-  | inr h ↦ elim q [ inl k ↦ inl (omega (arith, h, k)) | inr k ↦ inr (omega (arith, h, k), elim h.1 [
-        inl m ↦ elim k.1 [ inl n ↦ inl (omega (arith, m, n)) | inr n ↦ inl (omega (arith, m, n)) ]
-      | inr m ↦ elim k.1 [ inl n ↦ inl (omega (arith, m, n)) | inr n ↦ inr (omega (arith, m, n), omega (arith, m, n)) ] ]) ] ]
+  | inl h ↦ elim q [ inl k ↦ inl (omega (arith, h, k)) | inr k ↦ inl (omega (arith, h, k)) ]
+  | inr h ↦ elim q [
+    | inl k ↦ inl (omega (arith, h, k))
+    | inr k ↦ inr (
+      omega (arith, h, k),
+      elim h.1 [
+        | inl m ↦ elim k.1 [ inl n ↦ inl (omega (arith, m, n)) | inr n ↦ inl (omega (arith, m, n)) ]
+        | inr m ↦ elim k.1 [ inl n ↦ inl (omega (arith, m, n)) | inr n ↦ inr (omega (arith, m, n), omega (arith, m, n)) ]
+      ],
+    )
+  ]
+]
 
 offer_chain : (f : ℕ → ℕ) (x y z : Best) → Precedes (x.price < y.price) f x y → Precedes (y.price < z.price) f y z → Precedes (x.price < z.price) f x z
 offer_chain f x y z p q = elim p [
-    inl h ↦ elim q [ inl k ↦ inl (omega (arith, h, k)) | inr k ↦ inl (omega (arith, h, k)) ]
-  | inr h ↦ elim q [ inl k ↦ inl (omega (arith, h, k)) | inr k ↦ inr (omega (arith, h, k), elim h.1 [
-        inl m ↦ elim k.1 [ inl n ↦ inl (omega (arith, m, n)) | inr n ↦ inl (omega (arith, m, n)) ]
-      | inr m ↦ elim k.1 [ inl n ↦ inl (omega (arith, m, n)) | inr n ↦ inr (omega (arith, m, n), omega (arith, m, n)) ] ]) ] ]
+  | inl h ↦ elim q [ inl k ↦ inl (omega (arith, h, k)) | inr k ↦ inl (omega (arith, h, k)) ]
+  | inr h ↦ elim q [
+    | inl k ↦ inl (omega (arith, h, k))
+    | inr k ↦ inr (
+      omega (arith, h, k),
+      elim h.1 [
+        | inl m ↦ elim k.1 [ inl n ↦ inl (omega (arith, m, n)) | inr n ↦ inl (omega (arith, m, n)) ]
+        | inr m ↦ elim k.1 [ inl n ↦ inl (omega (arith, m, n)) | inr n ↦ inr (omega (arith, m, n), omega (arith, m, n)) ]
+      ],
+    )
+  ]
+]
 
 pub beats_chain : (b : Side) (f : ℕ → ℕ) (x y z : Best) → beats b f x y ≡ true → beats b f y z ≡ true → beats b f x z ≡ true
 beats_chain Bid f x y z p q = bid_beats f x z (bid_chain f x y z (bid_precedes f x y p) (bid_precedes f y z q))

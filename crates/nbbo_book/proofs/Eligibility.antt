@@ -30,8 +30,9 @@ ranked_with true v None x e = cc
 ranked_with true v (Some shown) x e =
     let R : Bool → Type 0 = λ t. is_protected shown ≡ t → cond t (Some (record { venue = v; price = shown.price; size = shown.size })) None ≡ Some x → Ranked true (Some shown) x in
     (elim (is_protected shown) as R [
-      true ↦ λ p k. record { may = refl; shown = shown; is = refl; counts = p; price = ap (λ (y : Best). y.price) (some_same k); size = ap (λ (y : Best). y.size) (some_same k) }
-    | false ↦ λ p k. cc ]) refl e
+      | true ↦ λ p k. record { may = refl; shown = shown; is = refl; counts = p; price = ap (λ (y : Best). y.price) (some_same k); size = ap (λ (y : Best). y.size) (some_same k) }
+      | false ↦ λ p k. cc
+    ]) refl e
 
 lt_of : (a b : ℕ) → nat_lt a b ≡ true → a < b
 lt_of a b h = grind (arith, h)
@@ -77,8 +78,9 @@ contains_in (y ∷ ys) x (suc k) l e = inr (contains_in ys x k (omega (arith, l)
 in_contains : (xs : List Best) (x : Best) → IsIn xs x → Contains xs x
 in_contains [] x i = absurd i
 in_contains (y ∷ ys) x i = elim i [
-    inl e ↦ (zero, omega arith, e)
-  | inr k ↦ (let c = in_contains ys x k in (suc c.0, omega (arith, c.1), c.2)) ]
+  | inl e ↦ (zero, omega arith, e)
+  | inr k ↦ (let c = in_contains ys x k in (suc c.0, omega (arith, c.1), c.2))
+]
 
 best_at : (P : Best → Type 0) (xs : List Best) (k : ℕ) (d : Best) → k < length xs → AllByRecursion P xs → P (get_or xs k d)
 best_at P [] k d l h = absurd (omega (arith, l))
@@ -96,6 +98,7 @@ pub ranking_is : (es : List Entry) (s : List ℕ) (b : Side) (xs : List Best) �
 ranking_is es s b xs h = record {
   members = λ x. (
     (λ c. (let k = (h.members x).0 (contains_in xs x c.0 c.1 c.2) in eligible_told es s b x k.0 k.1)),
-    (λ e. in_contains xs x ((h.members x).1 (e.venue, eligible_is es s b x e))));
+    (λ e. in_contains xs x ((h.members x).1 (e.venue, eligible_is es s b x e))),
+  );
   order = λ i j d l m. in_pairs b (λ v. age_of es v s b) xs h.order i j d l m;
 }

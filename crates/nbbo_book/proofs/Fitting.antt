@@ -52,18 +52,19 @@ fits_shown es e v o s b k n here below long young says h =
     let st : Standing = record { shown = o; age = n } in
     let R : Bool → Type 0 = λ t. is_same_side (standing_at k.standings v).shown o ≡ t → SideFits (es ++ e ∷ []) s b (cond t k (side_set b v st here k)).standings in
     (elim (is_same_side (standing_at k.standings v).shown o) as R [
-      true ↦ λ q. fits_stay es e s b k.standings (λ w l. nat_split w v (side_of (es ++ e ∷ []) w s b ≡ side_of es w s b)
-        (λ same. ap (λ (u : ℕ). side_of (es ++ e ∷ []) u s b) same ∙ now ∙ sym (same_side_sound (standing_at k.standings v).shown o q) ∙ was ∙ ap (λ (u : ℕ). side_of es u s b) (sym same))
-        (away w)) h
-    | false ↦ λ q. λ w l. nat_split w v (standing_at (set k.standings v st) w ≡ standing_of (es ++ e ∷ []) w s b)
-        (λ same.
+      | true ↦ λ q. fits_stay es e s b k.standings (λ w l. nat_split w v (side_of (es ++ e ∷ []) w s b ≡ side_of es w s b)
+          (λ same. ap (λ (u : ℕ). side_of (es ++ e ∷ []) u s b) same ∙ now ∙ sym (same_side_sound (standing_at k.standings v).shown o q) ∙ was ∙ ap (λ (u : ℕ). side_of es u s b) (sym same))
+          (away w)) h
+      | false ↦ λ q. λ w l. nat_split w v (standing_at (set k.standings v st) w ≡ standing_of (es ++ e ∷ []) w s b)
+          (λ same.
           let differs : is_same_side (side_of es v s b) (side_of (es ++ e ∷ []) v s b) ≡ false = ap (λ t. is_same_side t (side_of (es ++ e ∷ []) v s b)) (sym was) ∙ ap (is_same_side (standing_at k.standings v).shown) now ∙ q in
           let there : standing_at (set k.standings v st) v ≡ standing_of (es ++ e ∷ []) v s b =
-            standing_set k.standings v st (omega (arith, below, long))
-            ∙ ap (λ t. record { shown = t; age = n }) (sym now)
-            ∙ ap (λ t. record { shown = side_of (es ++ e ∷ []) v s b; age = t }) (young ∙ sym (age-new es e v s b differs)) in
+          standing_set k.standings v st (omega (arith, below, long))
+          ∙ ap (λ t. record { shown = t; age = n }) (sym now)
+          ∙ ap (λ t. record { shown = side_of (es ++ e ∷ []) v s b; age = t }) (young ∙ sym (age-new es e v s b differs)) in
           subst (λ (u : ℕ). standing_at (set k.standings v st) u ≡ standing_of (es ++ e ∷ []) u s b) (sym same) there)
-        (λ d. standing_off k.standings v w st d ∙ h w l ∙ sym (stands_same es e w s b (away w d))) ]) refl
+          (λ d. standing_off k.standings v w st d ∙ h w l ∙ sym (stands_same es e w s b (away w d)))
+    ]) refl
 
 -- the halts of a symbol are those of the entries
 abbrev HaltsFit : List Entry → List ℕ → List Bool → Type 0
@@ -75,7 +76,7 @@ halts_stay es e s xs says h = λ w l. h w l ∙ sym (halted-put es e w s ∙ ap 
 halts_set : (es : List Entry) (e : Entry) (v : ℕ) (x : Bool) (s : List ℕ) (xs : List Bool) → v < 16 → length xs ≡ 16 → ((w : ℕ) → halt_said w s e ≡ cond (nat_eq v w) (Some x) None) → HaltsFit es s xs → HaltsFit (es ++ e ∷ []) s (set xs v x)
 halts_set es e v x s xs below long says h = λ w l. nat_split w v (get_or (set xs v x) w false ≡ is_halted (es ++ e ∷ []) w s)
     (λ same. subst (λ (u : ℕ). get_or (set xs v x) u false ≡ is_halted (es ++ e ∷ []) u s) (sym same)
-      (set_at xs v x false (omega (arith, below, long)) ∙ sym (halted-put es e v s ∙ ap (λ o. unwrap_or o (is_halted es v s)) (says v ∙ ap (λ t. cond t (Some x) None) (nat_refl v)))))
+    (set_at xs v x false (omega (arith, below, long)) ∙ sym (halted-put es e v s ∙ ap (λ o. unwrap_or o (is_halted es v s)) (says v ∙ ap (λ t. cond t (Some x) None) (nat_refl v)))))
     (λ d. set_off xs v w x false (apart_from v w d) ∙ h w l ∙ sym (halted-put es e w s ∙ ap (λ o. unwrap_or o (is_halted es w s)) (says w ∙ ap (λ t. cond t (Some x) None) (nat_other w v d))))
 
 row_waits : (es : List Entry) (e : Entry) (r : Row) → ((w : ℕ) (b : Side) → side_said w r.symbol b e ≡ None) → ((w : ℕ) → halt_said w r.symbol e ≡ None) → RowFits es r → RowFits (es ++ e ∷ []) r
@@ -90,22 +91,24 @@ item_fits es v number n m (item.Quote q) helped flags r below young is h =
     let e : Entry = Consumed v (record { number = number; item = item.Quote q }) in
     let R : Bool → Type 0 = λ t. bytes_eq q.symbol r.symbol ≡ t → RowFits (es ++ e ∷ []) (cond t (row_quoted helped v q n r) r) in
     (elim (bytes_eq q.symbol r.symbol) as R [
-      true ↦ λ k. record {
+      | true ↦ λ k. record {
         bids = fits_shown es e v (Some (shown_by q Bid)) r.symbol Bid r.bids n _ below is.bids.count young (λ w. ap (λ t. cond (nat_eq v w) (cond t (Some (Some (shown_by q Bid))) None) None) k) h.bids;
         offers = fits_shown es e v (Some (shown_by q Offer)) r.symbol Offer r.offers n _ below is.offers.count young (λ w. ap (λ t. cond (nat_eq v w) (cond t (Some (Some (shown_by q Offer))) None) None) k) h.offers;
         halted = halts_stay es e r.symbol r.halted (λ w. cond_same (nat_eq v w) None) h.halted;
       }
-    | false ↦ λ k. row_waits es e r (λ w b. ap (λ t. cond (nat_eq v w) (cond t (Some (Some (shown_by q b))) None) None) k ∙ cond_same (nat_eq v w) None) (λ w. cond_same (nat_eq v w) None) h ]) refl
+      | false ↦ λ k. row_waits es e r (λ w b. ap (λ t. cond (nat_eq v w) (cond t (Some (Some (shown_by q b))) None) None) k ∙ cond_same (nat_eq v w) None) (λ w. cond_same (nat_eq v w) None) h
+    ]) refl
 item_fits es v number n m (item.Halt s x) helped flags r below young is h =
     let e : Entry = Consumed v (record { number = number; item = item.Halt s x }) in
     let R : Bool → Type 0 = λ t. bytes_eq s r.symbol ≡ t → RowFits (es ++ e ∷ []) (cond t (row_halted helped v x r) r) in
     (elim (bytes_eq s r.symbol) as R [
-      true ↦ λ k. record {
+      | true ↦ λ k. record {
         bids = fits_stay es e r.symbol Bid r.bids.standings (λ w l. unsaid es e w r.symbol Bid (cond_same (nat_eq v w) None)) h.bids;
         offers = fits_stay es e r.symbol Offer r.offers.standings (λ w l. unsaid es e w r.symbol Offer (cond_same (nat_eq v w) None)) h.offers;
         halted = halts_set es e v x r.symbol r.halted below is.count (λ w. ap (λ t. cond (nat_eq v w) (cond t (Some x) None) None) k) h.halted;
       }
-    | false ↦ λ k. row_waits es e r (λ w b. cond_same (nat_eq v w) None) (λ w. ap (λ t. cond (nat_eq v w) (cond t (Some x) None) None) k ∙ cond_same (nat_eq v w) None) h ]) refl
+      | false ↦ λ k. row_waits es e r (λ w b. cond_same (nat_eq v w) None) (λ w. ap (λ t. cond (nat_eq v w) (cond t (Some x) None) None) k ∙ cond_same (nat_eq v w) None) h
+    ]) refl
 item_fits es v number n m item.Other helped flags r below young is h =
     row_waits es (Consumed v (record { number = number; item = item.Other })) r (λ w b. cond_same (nat_eq v w) None) (λ w. cond_same (nat_eq v w) None) h
 item_fits es v number n m item.End helped flags r below young is h =
@@ -130,5 +133,5 @@ pub helped_fits : (es : List Entry) (e : Entry) (helped : List Bool) → length 
 helped_fits es (Consumed v x) helped long below h w l = h w l ∙ sym (helped-put es (Consumed v x) w)
 helped_fits es (SelfHelp v on) helped long below h w l = nat_split w v (get_or (set helped v on) w false ≡ is_self_helped (es ++ SelfHelp v on ∷ []) w)
     (λ same. subst (λ (u : ℕ). get_or (set helped v on) u false ≡ is_self_helped (es ++ SelfHelp v on ∷ []) u) (sym same)
-      (set_at helped v on false (omega (arith, below, long)) ∙ sym (helped-put es (SelfHelp v on) v ∙ ap (λ t. unwrap_or (cond t (Some on) None) (is_self_helped es v)) (nat_refl v))))
+    (set_at helped v on false (omega (arith, below, long)) ∙ sym (helped-put es (SelfHelp v on) v ∙ ap (λ t. unwrap_or (cond t (Some on) None) (is_self_helped es v)) (nat_refl v))))
     (λ d. set_off helped v w on false (apart_from v w d) ∙ h w l ∙ sym (helped-put es (SelfHelp v on) w ∙ ap (λ t. unwrap_or (cond t (Some on) None) (is_self_helped es w)) (nat_other w v d)))

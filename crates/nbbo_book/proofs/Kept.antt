@@ -102,36 +102,36 @@ side_set-is b may more n m k v st here below l young own_age same leave h =
     let at : standing_at ss v ≡ st = standing_set k.standings v st under in
     let off : (w : ℕ) → nat_eq w v ≡ false → standing_at ss w ≡ standing_at k.standings w = λ w e. standing_off k.standings v w st e in
     let apart : (u w : ℕ) → u < 16 → w < 16 → u ≢ w → IsSome (standing_at ss u).shown → IsSome (standing_at ss w).shown → age_at ss u ≢ age_at ss w = λ u w a c differ there too same_age.
-      nat_split u v ⊥
-        (λ eu. nat_split w v ⊥ (λ ew. differ (eu ∙ sym ew))
-          (λ nw. own_age
-            (sym (ap (λ (t : Standing). is_some t.shown) (ap (standing_at ss) eu ∙ at)) ∙ there)
-            w c nw
-            (sym (ap (λ (t : Standing). is_some t.shown) (off w nw)) ∙ too)
-            (sym (ap (λ (t : Standing). t.age) (ap (standing_at ss) eu ∙ at)) ∙ same_age ∙ ap (λ (t : Standing). t.age) (off w nw))))
-        (λ nu. nat_split w v ⊥
-          (λ ew. own_age
-            (sym (ap (λ (t : Standing). is_some t.shown) (ap (standing_at ss) ew ∙ at)) ∙ too)
-            u a nu
-            (sym (ap (λ (t : Standing). is_some t.shown) (off u nu)) ∙ there)
-            (sym (ap (λ (t : Standing). t.age) (ap (standing_at ss) ew ∙ at)) ∙ sym same_age ∙ ap (λ (t : Standing). t.age) (off u nu)))
-          (λ nw. h.apart u w a c differ
-            (sym (ap (λ (t : Standing). is_some t.shown) (off u nu)) ∙ there)
-            (sym (ap (λ (t : Standing). is_some t.shown) (off w nw)) ∙ too)
-            (sym (ap (λ (t : Standing). t.age) (off u nu)) ∙ same_age ∙ ap (λ (t : Standing). t.age) (off w nw)))) in
+    nat_split u v ⊥
+    (λ eu. nat_split w v ⊥ (λ ew. differ (eu ∙ sym ew))
+    (λ nw. own_age
+    (sym (ap (λ (t : Standing). is_some t.shown) (ap (standing_at ss) eu ∙ at)) ∙ there)
+    w c nw
+    (sym (ap (λ (t : Standing). is_some t.shown) (off w nw)) ∙ too)
+    (sym (ap (λ (t : Standing). t.age) (ap (standing_at ss) eu ∙ at)) ∙ same_age ∙ ap (λ (t : Standing). t.age) (off w nw))))
+    (λ nu. nat_split w v ⊥
+    (λ ew. own_age
+    (sym (ap (λ (t : Standing). is_some t.shown) (ap (standing_at ss) ew ∙ at)) ∙ too)
+    u a nu
+    (sym (ap (λ (t : Standing). is_some t.shown) (off u nu)) ∙ there)
+    (sym (ap (λ (t : Standing). t.age) (ap (standing_at ss) ew ∙ at)) ∙ sym same_age ∙ ap (λ (t : Standing). t.age) (off u nu)))
+    (λ nw. h.apart u w a c differ
+    (sym (ap (λ (t : Standing). is_some t.shown) (off u nu)) ∙ there)
+    (sym (ap (λ (t : Standing). is_some t.shown) (off w nw)) ∙ too)
+    (sym (ap (λ (t : Standing). t.age) (off u nu)) ∙ same_age ∙ ap (λ (t : Standing). t.age) (off w nw)))) in
     let ranked : IsRankingOf b (rank_at more ss) (age_at ss) (placed b (age_at ss) (rank_at more ss v) (without v k.ranks.items)) =
-      ranking_set b (rank_at may k.standings) (rank_at more ss) (age_at k.standings) (age_at ss) v k.ranks.items below
-        (λ w x e. ranked_own (more w) w (standing_at ss w).shown x e)
-        (λ w e. ap (λ (t : Standing). ranked_by (more w) w t.shown) (off w e) ∙ ap (λ t. ranked_by t w (standing_at k.standings w).shown) (same w e))
-        (λ w e. ap (λ (t : Standing). t.age) (off w e))
-        (λ w x y c e gw gv same_age. apart v w below c (λ q. apart_from v w e q) (ranked_shown (more v) v (standing_at ss v).shown x gv) (ranked_shown (more w) w (standing_at ss w).shown y gw) same_age)
-        h.ranked in
+    ranking_set b (rank_at may k.standings) (rank_at more ss) (age_at k.standings) (age_at ss) v k.ranks.items below
+    (λ w x e. ranked_own (more w) w (standing_at ss w).shown x e)
+    (λ w e. ap (λ (t : Standing). ranked_by (more w) w t.shown) (off w e) ∙ ap (λ t. ranked_by t w (standing_at k.standings w).shown) (same w e))
+    (λ w e. ap (λ (t : Standing). t.age) (off w e))
+    (λ w x y c e gw gv same_age. apart v w below c (λ q. apart_from v w e q) (ranked_shown (more v) v (standing_at ss v).shown x gv) (ranked_shown (more w) w (standing_at ss w).shown y gw) same_age)
+    h.ranked in
     let rank : rank_at more ss v ≡ ranked_by here v st.shown = ap (λ (t : Standing). ranked_by (more v) v t.shown) at ∙ leave in
     record {
       count = long_set k.standings v st ∙ h.count;
       past = λ w c. nat_split w v (age_at ss w ≤ m)
-        (λ e. subst (λ (t : ℕ). t ≤ m) (sym (ap (λ (t : Standing). t.age) (ap (standing_at ss) e ∙ at))) young)
-        (λ e. (let p = h.past w c in subst (λ (t : ℕ). t ≤ m) (sym (ap (λ (t : Standing). t.age) (off w e))) (omega (arith, p, l))));
+          (λ e. subst (λ (t : ℕ). t ≤ m) (sym (ap (λ (t : Standing). t.age) (ap (standing_at ss) e ∙ at))) young)
+          (λ e. (let p = h.past w c in subst (λ (t : ℕ). t ≤ m) (sym (ap (λ (t : Standing). t.age) (off w e))) (omega (arith, p, l))));
       apart = apart;
       ranked = subst (λ (o : Option Best). IsRankingOf b (rank_at more ss) (age_at ss) (placed b (age_at ss) o (without v k.ranks.items))) rank ranked;
     }
@@ -141,12 +141,12 @@ pub side_gated-is : (b : Side) (may more : ℕ → Bool) (n m : ℕ) (k : BookSi
 side_gated-is b may more n m k v here below l same leave h =
     let ss = k.standings in
     let ranked : IsRankingOf b (rank_at more ss) (age_at ss) (placed b (age_at ss) (rank_at more ss v) (without v k.ranks.items)) =
-      ranking_set b (rank_at may ss) (rank_at more ss) (age_at ss) (age_at ss) v k.ranks.items below
-        (λ w x e. ranked_own (more w) w (standing_at ss w).shown x e)
-        (λ w e. ap (λ t. ranked_by t w (standing_at ss w).shown) (same w e))
-        (λ w e. refl)
-        (λ w x y c e gw gv same_age. h.apart v w below c (λ q. apart_from v w e q) (ranked_shown (more v) v (standing_at ss v).shown x gv) (ranked_shown (more w) w (standing_at ss w).shown y gw) same_age)
-        h.ranked in
+    ranking_set b (rank_at may ss) (rank_at more ss) (age_at ss) (age_at ss) v k.ranks.items below
+    (λ w x e. ranked_own (more w) w (standing_at ss w).shown x e)
+    (λ w e. ap (λ t. ranked_by t w (standing_at ss w).shown) (same w e))
+    (λ w e. refl)
+    (λ w x y c e gw gv same_age. h.apart v w below c (λ q. apart_from v w e q) (ranked_shown (more v) v (standing_at ss v).shown x gv) (ranked_shown (more w) w (standing_at ss w).shown y gw) same_age)
+    h.ranked in
     record {
       count = h.count;
       past = λ v u. (let p = h.past v u in omega (arith, p, l));
@@ -160,10 +160,11 @@ side_shown-is b may more n k v o here below same leave alike sound h =
     let st : Standing = record { shown = o; age = n + 1 } in
     let R : Bool → Type 0 = λ t. is_same_side (standing_at k.standings v).shown o ≡ t → IsSide b more (n + 1) (cond t k (side_set b v st here k)) in
     (elim (is_same_side (standing_at k.standings v).shown o) as R [
-      true ↦ λ e. side_waits b may more n (n + 1) k (omega arith)
-        (λ w c. nat_split w v (rank_at may k.standings w ≡ rank_at more k.standings w)
+      | true ↦ λ e. side_waits b may more n (n + 1) k (omega arith)
+          (λ w c. nat_split w v (rank_at may k.standings w ≡ rank_at more k.standings w)
           (λ q. subst (λ (u : ℕ). rank_at may k.standings u ≡ rank_at more k.standings u) (sym q) (ap (ranked_by (may v) v) (sound e) ∙ alike ∙ ap (ranked_by (more v) v) (sym (sound e))))
           (λ d. ap (λ t. ranked_by t w (standing_at k.standings w).shown) (sym (same w d)))) h
-    | false ↦ λ e. side_set-is b may more n (n + 1) k v st here below (omega arith) (omega arith)
-        (λ there w c d too same_age. (let p = h.past w c in omega (arith, p, same_age)))
-        same leave h ]) refl
+      | false ↦ λ e. side_set-is b may more n (n + 1) k v st here below (omega arith) (omega arith)
+          (λ there w c d too same_age. (let p = h.past w c in omega (arith, p, same_age)))
+          same leave h
+    ]) refl

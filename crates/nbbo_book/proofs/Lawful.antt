@@ -43,21 +43,26 @@ data Turn (es : List Entry) (e : Entry) (v : ℕ) (s : List ℕ) (b : Side) : Ty
 turn : (es : List Entry) (e : Entry) (v : ℕ) (s : List ℕ) (b : Side) → Turn es e v s b
 turn es e v s b =
     (elim (nat_eq (venue_of e) v) as (λ t. nat_eq (venue_of e) v ≡ t → Turn es e v s b) [
-      true ↦ λ own.
-        (elim (is_same_side (side_of es v s b) (side_of (es ++ e ∷ []) v s b)) as (λ t. is_same_side (side_of es v s b) (side_of (es ++ e ∷ []) v s b) ≡ t → Turn es e v s b) [
-          true ↦ λ q. Stays (sym (same_side_sound (side_of es v s b) (side_of (es ++ e ∷ []) v s b) q))
-        | false ↦ λ q. Turns own (age-new es e v s b q) ]) refl
-    | false ↦ λ other. Stays (side_of-put es e v s b ∙ ap (λ o. unwrap_or o (side_of es v s b)) (not_its_own e v s b other)) ]) refl
+      | true ↦ λ own.
+          (elim (is_same_side (side_of es v s b) (side_of (es ++ e ∷ []) v s b)) as (λ t. is_same_side (side_of es v s b) (side_of (es ++ e ∷ []) v s b) ≡ t → Turn es e v s b) [
+            | true ↦ λ q. Stays (sym (same_side_sound (side_of es v s b) (side_of (es ++ e ∷ []) v s b) q))
+            | false ↦ λ q. Turns own (age-new es e v s b q)
+          ]) refl
+      | false ↦ λ other. Stays (side_of-put es e v s b ∙ ap (λ o. unwrap_or o (side_of es v s b)) (not_its_own e v s b other))
+    ]) refl
 
 apart_put : (es : List Entry) (e : Entry) → Apart es → Apart (es ++ e ∷ [])
 apart_put es e h s b v w differ there too same =
     elim (turn es e v s b) [
-      Stays p ↦ elim (turn es e w s b) [
-          Stays q ↦ h s b v w differ (sym (ap is_some p) ∙ there) (sym (ap is_some q) ∙ too) (sym (age-kept es e v s b p) ∙ same ∙ age-kept es e w s b q)
-        | Turns own age ↦ (let k = age-kept es e v s b p in let m = age-≤ es v s b in omega (arith, k, m, age, same)) ]
-    | Turns own age ↦ elim (turn es e w s b) [
-          Stays q ↦ (let k = age-kept es e w s b q in let m = age-≤ es w s b in omega (arith, k, m, age, same))
-        | Turns own' age' ↦ differ (sym (nat_same (venue_of e) v own) ∙ nat_same (venue_of e) w own') ] ]
+      | Stays p ↦ elim (turn es e w s b) [
+        | Stays q ↦ h s b v w differ (sym (ap is_some p) ∙ there) (sym (ap is_some q) ∙ too) (sym (age-kept es e v s b p) ∙ same ∙ age-kept es e w s b q)
+        | Turns own age ↦ (let k = age-kept es e v s b p in let m = age-≤ es v s b in omega (arith, k, m, age, same))
+      ]
+      | Turns own age ↦ elim (turn es e w s b) [
+        | Stays q ↦ (let k = age-kept es e w s b q in let m = age-≤ es w s b in omega (arith, k, m, age, same))
+        | Turns own' age' ↦ differ (sym (nat_same (venue_of e) v own) ∙ nat_same (venue_of e) w own')
+      ]
+    ]
 
 apart_more : (es more : List Entry) → Apart es → Apart (es ++ more)
 apart_more es [] h = subst (λ (t : List Entry). Apart t) (sym (no_more es)) h
@@ -71,8 +76,9 @@ pub either_beats : (es : List Entry) (s : List ℕ) (b : Side) (x y : Best) → 
 either_beats es s b x y h k differ =
     let age : ℕ → ℕ = λ v. age_of es v s b in
     (elim (beats b age x y) as (λ t. beats b age x y ≡ t → (beats b age x y ≡ true) ⊎ (beats b age y x ≡ true)) [
-      true ↦ λ e. inl e
-    | false ↦ λ e. inr (beats_either b age x y (λ same. apart_all es s b x.venue y.venue (λ q. differ (sym q)) (ap is_some h.automated) (ap is_some k.automated) same) e) ]) refl
+      | true ↦ λ e. inl e
+      | false ↦ λ e. inr (beats_either b age x y (λ same. apart_all es s b x.venue y.venue (λ q. differ (sym q)) (ap is_some h.automated) (ap is_some k.automated) same) e)
+    ]) refl
 
 -- the first of some venues' sides, or none
 data Top (g : ℕ → Option Best) (b : Side) (f : ℕ → ℕ) (vs : List ℕ) : Type 0 where
@@ -84,29 +90,36 @@ top_of g b f [] own either = Nobody (λ w i. absurd i)
 top_of g b f (v ∷ vs) own either =
     let rest : Top g b f vs = top_of g b f vs own (λ x y i j. either x y (inr i) (inr j)) in
     (elim (g v) as (λ o. g v ≡ o → Top g b f (v ∷ vs)) [
-      None ↦ λ none. elim rest [
-          Nobody nobody ↦ Nobody (λ w i. elim i [ inl e ↦ ap g (sym e) ∙ none | inr k ↦ nobody w k ])
-        | First x i is wins ↦ First x (inr i) is (λ w y j e. elim j [ inl q ↦ (let no : None ≡ Some y = sym none ∙ ap g q ∙ e in cc) | inr k ↦ wins w y k e ]) ]
-    | Some c ↦ λ here.
-        let at : c.venue ≡ v = own v c here in
-        let inside : IsNumber c.venue (v ∷ vs) = inl (sym at) in
-        let told : g c.venue ≡ Some c = ap g at ∙ here in
-        let alone : (w : ℕ) (y : Best) → v ≡ w → g w ≡ Some y → y ≡ c = λ w y q e. some_same (sym e ∙ ap g (sym q) ∙ here) in
-        elim rest [
-          Nobody nobody ↦ First c inside told (λ w y j e. elim j [ inl q ↦ inl (alone w y q e) | inr k ↦ (let none : None ≡ Some y = sym (nobody w k) ∙ e in cc) ])
-        | First x i is wins ↦ nat_split x.venue c.venue (Top g b f (v ∷ vs))
-            (λ same.
-              let one : x ≡ c = some_same (sym is ∙ ap g same ∙ told) in
-              First c inside told (λ w y j e. elim j [
-                  inl q ↦ inl (alone w y q e)
-                | inr k ↦ elim (wins w y k e) [ inl q ↦ inl (q ∙ one) | inr m ↦ inr (subst (λ (t : Best). beats b f t y ≡ true) one m) ] ]))
-            (λ differ. elim (either c x inside (inr i) told is (λ q. (let no : true ≡ false = sym (ap (λ t. nat_eq t c.venue) q ∙ nat_refl c.venue) ∙ differ in cc))) [
-                inl wins_c ↦ First c inside told (λ w y j e. elim j [
-                    inl q ↦ inl (alone w y q e)
-                  | inr k ↦ elim (wins w y k e) [ inl q ↦ inr (subst (λ (t : Best). beats b f c t ≡ true) (sym q) wins_c) | inr m ↦ inr (beats_chain b f c x y wins_c m) ] ])
-              | inr wins_x ↦ First x (inr i) is (λ w y j e. elim j [
-                    inl q ↦ inr (subst (λ (t : Best). beats b f x t ≡ true) (sym (alone w y q e)) wins_x)
-                  | inr k ↦ wins w y k e ]) ]) ] ]) refl
+      | None ↦ λ none. elim rest [
+        | Nobody nobody ↦ Nobody (λ w i. elim i [ inl e ↦ ap g (sym e) ∙ none | inr k ↦ nobody w k ])
+        | First x i is wins ↦ First x (inr i) is (λ w y j e. elim j [ inl q ↦ (let no : None ≡ Some y = sym none ∙ ap g q ∙ e in cc) | inr k ↦ wins w y k e ])
+      ]
+      | Some c ↦ λ here.
+          let at : c.venue ≡ v = own v c here in
+          let inside : IsNumber c.venue (v ∷ vs) = inl (sym at) in
+          let told : g c.venue ≡ Some c = ap g at ∙ here in
+          let alone : (w : ℕ) (y : Best) → v ≡ w → g w ≡ Some y → y ≡ c = λ w y q e. some_same (sym e ∙ ap g (sym q) ∙ here) in
+          elim rest [
+            | Nobody nobody ↦ First c inside told (λ w y j e. elim j [ inl q ↦ inl (alone w y q e) | inr k ↦ (let none : None ≡ Some y = sym (nobody w k) ∙ e in cc) ])
+            | First x i is wins ↦ nat_split x.venue c.venue (Top g b f (v ∷ vs))
+                (λ same.
+                let one : x ≡ c = some_same (sym is ∙ ap g same ∙ told) in
+                First c inside told (λ w y j e. elim j [
+                  | inl q ↦ inl (alone w y q e)
+                  | inr k ↦ elim (wins w y k e) [ inl q ↦ inl (q ∙ one) | inr m ↦ inr (subst (λ (t : Best). beats b f t y ≡ true) one m) ]
+                ]))
+                (λ differ. elim (either c x inside (inr i) told is (λ q. (let no : true ≡ false = sym (ap (λ t. nat_eq t c.venue) q ∙ nat_refl c.venue) ∙ differ in cc))) [
+                  | inl wins_c ↦ First c inside told (λ w y j e. elim j [
+                    | inl q ↦ inl (alone w y q e)
+                    | inr k ↦ elim (wins w y k e) [ inl q ↦ inr (subst (λ (t : Best). beats b f c t ≡ true) (sym q) wins_c) | inr m ↦ inr (beats_chain b f c x y wins_c m) ]
+                  ])
+                  | inr wins_x ↦ First x (inr i) is (λ w y j e. elim j [
+                    | inl q ↦ inr (subst (λ (t : Best). beats b f x t ≡ true) (sym (alone w y q e)) wins_x)
+                    | inr k ↦ wins w y k e
+                  ])
+                ])
+          ]
+    ]) refl
 
 eligible_here : (es : List Entry) (s : List ℕ) (b : Side) (w : ℕ) (x : Best) → IsNumber w all_venues → eligible_of es s b w ≡ Some x → IsEligible es s b x
 eligible_here es s b w x i e =
@@ -127,45 +140,50 @@ best_found es s b x h =
     let told : g x.venue ≡ Some x = eligible_is es s b x h.eligible in
     let ahead : (y : Best) → IsEligible es s b y → nat_eq y.venue x.venue ≡ false → beats b age x y ≡ true = λ y k n. h.first y k (λ q. (let no : true ≡ false = sym (ap (λ t. nat_eq t x.venue) q ∙ nat_refl x.venue) ∙ n in cc)) in
     find_here (beats_others b age (eligible_sides es s b)) g all_venues x.venue x inside told
-      (all_here (λ y. nat_eq y.venue x.venue || beats b age x y) g all_venues (λ w d i e.
-        (elim (nat_eq d.venue x.venue) as (λ t. nat_eq d.venue x.venue ≡ t → (t || beats b age x d) ≡ true) [
-          true ↦ λ n. refl
-        | false ↦ λ n. ahead d (eligible_here es s b w d i e) n ]) refl))
-      (λ w d i e n.
-        let own : d.venue ≡ w = ranked_own (may_rank es w s) w (side_of es w s b) d e in
-        nat_split d.venue x.venue (d ≡ x)
-          (λ same. some_same (sym (ap g own ∙ e) ∙ ap g same ∙ told))
-          (λ differ.
-            let met : (nat_eq x.venue d.venue || beats b age d x) ≡ true = all_at (λ y. nat_eq y.venue d.venue || beats b age d y) g all_venues n x.venue x inside told in
-            nat_split x.venue d.venue (d ≡ x)
-              (λ same. some_same (sym (ap g own ∙ e) ∙ ap g (sym same) ∙ told))
-              (λ other. absurd (beats_one_way b age x d (ahead d (eligible_here es s b w d i e) differ) (ap (λ t. t || beats b age d x) (sym other) ∙ met)))))
+    (all_here (λ y. nat_eq y.venue x.venue || beats b age x y) g all_venues (λ w d i e.
+    (elim (nat_eq d.venue x.venue) as (λ t. nat_eq d.venue x.venue ≡ t → (t || beats b age x d) ≡ true) [
+      | true ↦ λ n. refl
+      | false ↦ λ n. ahead d (eligible_here es s b w d i e) n
+    ]) refl))
+    (λ w d i e n.
+    let own : d.venue ≡ w = ranked_own (may_rank es w s) w (side_of es w s b) d e in
+    nat_split d.venue x.venue (d ≡ x)
+    (λ same. some_same (sym (ap g own ∙ e) ∙ ap g same ∙ told))
+    (λ differ.
+    let met : (nat_eq x.venue d.venue || beats b age d x) ≡ true = all_at (λ y. nat_eq y.venue d.venue || beats b age d y) g all_venues n x.venue x inside told in
+    nat_split x.venue d.venue (d ≡ x)
+    (λ same. some_same (sym (ap g own ∙ e) ∙ ap g (sym same) ∙ told))
+    (λ other. absurd (beats_one_way b age x d (ahead d (eligible_here es s b w d i e) differ) (ap (λ t. t || beats b age d x) (sym other) ∙ met)))))
 
 -- what the walk over the venues comes to
 pub best_cases : (es : List Entry) (s : List ℕ) (b : Side) → ((best_of es s b ≡ None) × ((x : Best) → IsEligible es s b x → ⊥)) ⊎ ((x : Best) × (best_of es s b ≡ Some x) × IsBest es s b x)
 best_cases es s b = elim (top es s b) [
-    Nobody nobody ↦ inl (
-      none_here (beats_others b (λ v. age_of es v s b) (eligible_sides es s b)) (eligible_of es s b) all_venues nobody
-      , λ x h. (let none : None ≡ Some x = sym (nobody x.venue (in_all_venues x.venue h.venue)) ∙ eligible_is es s b x h in cc))
+  | Nobody nobody ↦ inl (
+    none_here (beats_others b (λ v. age_of es v s b) (eligible_sides es s b)) (eligible_of es s b) all_venues nobody,
+    λ x h. (let none : None ≡ Some x = sym (nobody x.venue (in_all_venues x.venue h.venue)) ∙ eligible_is es s b x h in cc),
+  )
   | First x i is wins ↦
       let best : IsBest es s b x = record {
         eligible = eligible_here es s b x.venue x i is;
         first = λ y k differ. elim (wins y.venue y (in_all_venues y.venue k.venue) (eligible_is es s b y k)) [ inl q ↦ absurd (differ (ap (λ (t : Best). t.venue) q)) | inr m ↦ m ];
       } in
-      inr (x, best_found es s b x best, best) ]
+      inr (x, best_found es s b x best, best)
+]
 
 pub best_is : (es : List Entry) (s : List ℕ) (b : Side) (x : Best) → best_of es s b ≡ Some x → IsBest es s b x
 best_is es s b x e = elim (best_cases es s b) [
-    inl k ↦ (let no : None ≡ Some x = sym k.0 ∙ e in cc)
-  | inr k ↦ subst (λ (t : Best). IsBest es s b t) (some_same (sym k.1 ∙ e)) k.2 ]
+  | inl k ↦ (let no : None ≡ Some x = sym k.0 ∙ e in cc)
+  | inr k ↦ subst (λ (t : Best). IsBest es s b t) (some_same (sym k.1 ∙ e)) k.2
+]
 
 pub best_of_is : (es : List Entry) (s : List ℕ) (b : Side) (x : Best) → IsBest es s b x → best_of es s b ≡ Some x
 best_of_is = best_found
 
 pub nobody_is : (es : List Entry) (s : List ℕ) (b : Side) → best_of es s b ≡ None → (x : Best) → IsEligible es s b x → ⊥
 nobody_is es s b e = elim (best_cases es s b) [
-    inl k ↦ k.1
-  | inr k ↦ λ x h. (let no : Some k.0 ≡ None = sym k.1 ∙ e in cc) ]
+  | inl k ↦ k.1
+  | inr k ↦ λ x h. (let no : Some k.0 ≡ None = sym k.1 ∙ e in cc)
+]
 
 pub is_nobody : (es : List Entry) (s : List ℕ) (b : Side) → ((x : Best) → IsEligible es s b x → ⊥) → best_of es s b ≡ None
 is_nobody es s b h = elim (best_cases es s b) [ inl k ↦ k.0 | inr k ↦ absurd (h k.0 k.2.eligible) ]
@@ -175,21 +193,23 @@ since_holds : (f : ℕ → Option Shown) (x : Option Shown) (n k : ℕ) → sinc
 since_holds f x zero k low high = absurd (omega (arith, high))
 since_holds f x (suc n) k low high =
     (elim (is_same_side (f n) x) as (λ t. is_same_side (f n) x ≡ t → cond t (since f x n) (suc n) ≤ k → f k ≡ x) [
-      true ↦ λ e l. nat_split k n (f k ≡ x)
-        (λ same. ap f same ∙ same_side_sound (f n) x e)
-        (λ differ. since_holds f x n k l (grind (arith, high, differ)))
-    | false ↦ λ e l. absurd (omega (arith, l, high)) ]) refl low
+      | true ↦ λ e l. nat_split k n (f k ≡ x)
+          (λ same. ap f same ∙ same_side_sound (f n) x e)
+          (λ differ. since_holds f x n k l (grind (arith, high, differ)))
+      | false ↦ λ e l. absurd (omega (arith, l, high))
+    ]) refl low
 
 since_least : (f : ℕ → Option Shown) (x : Option Shown) (n p : ℕ) → ((k : ℕ) → p ≤ k → k < n → f k ≡ x) → p ≤ n → since f x n ≤ p
 since_least f x zero p h l = omega arith
 since_least f x (suc n) p h l =
     (elim (is_same_side (f n) x) as (λ t. is_same_side (f n) x ≡ t → cond t (since f x n) (suc n) ≤ p) [
-      true ↦ λ e. nat_split p (suc n) (since f x n ≤ p)
-        (λ same. (let m = since-≤ f x n in omega (arith, m, same)))
-        (λ differ. since_least f x n p (λ k a c. h k a (omega (arith, c))) (grind (arith, l, differ)))
-    | false ↦ λ e. nat_split p (suc n) (suc n ≤ p)
-        (λ same. omega (arith, same))
-        (λ differ. (let no : true ≡ false = sym (ap (λ t. is_same_side t x) (h n (grind (arith, l, differ)) (omega arith)) ∙ same_side_refl x) ∙ e in cc)) ]) refl
+      | true ↦ λ e. nat_split p (suc n) (since f x n ≤ p)
+          (λ same. (let m = since-≤ f x n in omega (arith, m, same)))
+          (λ differ. since_least f x n p (λ k a c. h k a (omega (arith, c))) (grind (arith, l, differ)))
+      | false ↦ λ e. nat_split p (suc n) (suc n ≤ p)
+          (λ same. omega (arith, same))
+          (λ differ. (let no : true ≡ false = sym (ap (λ t. is_same_side t x) (h n (grind (arith, l, differ)) (omega arith)) ∙ same_side_refl x) ∙ e in cc))
+    ]) refl
 
 pub age_holds : (es : List Entry) (v : ℕ) (s : List ℕ) (b : Side) (n : ℕ) → age_of es v s b ≤ n → n ≤ length es → side_of (take n es) v s b ≡ side_of es v s b
 age_holds es v s b n low high = nat_split n (length es) (side_of (take n es) v s b ≡ side_of es v s b)

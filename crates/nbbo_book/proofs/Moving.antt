@@ -55,27 +55,30 @@ ranked_here b f x (y ∷ ys) (suc zero) h order before behind =
     ∙ ap (λ t. cond t (x ∷ y ∷ ys) (y ∷ with_rank b f x ys)) (sym (before zero refl))
 ranked_here b f x (y ∷ ys) (suc (suc k)) h order before behind =
     let not_here : beats b f x y ≡ false =
-      (let R : Bool → Type 0 = λ t. beats b f x y ≡ t → t ≡ false in
-      (elim (beats b f x y) as R [
-        true ↦ λ e.
+    (let R : Bool → Type 0 = λ t. beats b f x y ≡ t → t ≡ false in
+    (elim (beats b f x y) as R [
+      | true ↦ λ e.
           let on : beats b f x (get_or ys k x) ≡ true = beats_chain b f x y (get_or ys k x) e (ahead_of_all b f x y ys k x (omega (arith, h)) order.0) in
           let no : true ≡ false = sym on ∙ before (suc k) refl in no
-      | false ↦ λ e. refl ]) refl) in
+      | false ↦ λ e. refl
+    ]) refl) in
     ap (λ t. y ∷ t) (ranked_here b f x ys (suc k) (omega (arith, h)) order.1 (λ j e. before (suc j) (ap suc e)) (λ l. behind (omega (arith, l))))
     ∙ ap (λ t. cond t (x ∷ y ∷ ys) (y ∷ with_rank b f x ys)) (sym not_here)
 
 -- one step up: the neighbour before it takes its place
 pub moved_up : (ys ranks : List Best) (at k : ℕ) (x n : Best) → ranks ≡ insert ys at x → at ≡ suc k → k < length ys → n ≡ get_or ranks k n → (set (set ranks at n) k x ≡ insert ys k x) × (n ≡ get_or ys k x)
 moved_up ys ranks at k x n now is h read =
-    let here : n ≡ get_or ys k n = read ∙ ap (λ t. get_or t k n) now ∙ ap (λ t. get_or (insert ys t x) k n) is ∙ before_it ys k x n h in
-    (ap (λ t. set (set t at n) k x) now ∙ ap (λ t. set (set (insert ys t x) t n) k x) is ∙ ap (λ t. set (set (insert ys (suc k) x) (suc k) t) k x) here ∙ up_one ys k x n h
-    , here ∙ any_default ys k n x h)
+    let here : n ≡ get_or ys k n = read ∙ ap (λ t. get_or t k n) now ∙ ap (λ t. get_or (insert ys t x) k n) is ∙ before_it ys k x n h in (
+      ap (λ t. set (set t at n) k x) now ∙ ap (λ t. set (set (insert ys t x) t n) k x) is ∙ ap (λ t. set (set (insert ys (suc k) x) (suc k) t) k x) here ∙ up_one ys k x n h,
+      here ∙ any_default ys k n x h,
+    )
 
 pub moved_down : (ys ranks : List Best) (k : ℕ) (x n : Best) → ranks ≡ insert ys k x → k < length ys → n ≡ get_or ranks (suc k) n → (set (set ranks k n) (suc k) x ≡ insert ys (suc k) x) × (n ≡ get_or ys k x)
 moved_down ys ranks k x n now h read =
-    let here : n ≡ get_or ys k n = read ∙ ap (λ t. get_or t (suc k) n) now ∙ behind_it ys k x n h in
-    (ap (λ t. set (set t k n) (suc k) x) now ∙ ap (λ t. set (set (insert ys k x) k t) (suc k) x) here ∙ down_one ys k x n h
-    , here ∙ any_default ys k n x h)
+    let here : n ≡ get_or ys k n = read ∙ ap (λ t. get_or t (suc k) n) now ∙ behind_it ys k x n h in (
+      ap (λ t. set (set t k n) (suc k) x) now ∙ ap (λ t. set (set (insert ys k x) k t) (suc k) x) here ∙ down_one ys k x n h,
+      here ∙ any_default ys k n x h,
+    )
 
 pub remove_set : (xs : List Best) (i : ℕ) (x : Best) → remove (set xs i x) i ≡ remove xs i
 remove_set [] i x = refl

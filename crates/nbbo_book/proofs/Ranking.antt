@@ -38,26 +38,29 @@ without_kept v [] z i n = i
 without_kept v (x ∷ xs) z i n =
     let R : Bool → Type 0 = λ t. nat_eq x.venue v ≡ t → IsIn (cond t xs (x ∷ without v xs)) z in
     (elim (nat_eq x.venue v) as R [
-      true ↦ λ e. elim i [ inl s ↦ (let no : true ≡ false = sym e ∙ ap (λ (y : Best). nat_eq y.venue v) s ∙ n in cc) | inr k ↦ k ]
-    | false ↦ λ e. elim i [ inl s ↦ inl s | inr k ↦ inr (without_kept v xs z k n) ] ]) refl
+      | true ↦ λ e. elim i [ inl s ↦ (let no : true ≡ false = sym e ∙ ap (λ (y : Best). nat_eq y.venue v) s ∙ n in cc) | inr k ↦ k ]
+      | false ↦ λ e. elim i [ inl s ↦ inl s | inr k ↦ inr (without_kept v xs z k n) ]
+    ]) refl
 
 -- of two ranks, each what its venue is ranked with, only one is the venue's
 other_venue : (b : Side) (f : ℕ → ℕ) (e : ℕ → Option Best) (v : ℕ) (x y : Best) → nat_eq x.venue v ≡ true → e x.venue ≡ Some x → e y.venue ≡ Some y → beats b f x y ≡ true → nat_eq y.venue v ≡ false
 other_venue b f e v x y h p q k =
     let R : Bool → Type 0 = λ t. nat_eq y.venue v ≡ t → t ≡ false in
     (elim (nat_eq y.venue v) as R [
-      true ↦ λ m.
-        let same : x ≡ y = some_same (sym p ∙ ap e (nat_same x.venue v h ∙ sym (nat_same y.venue v m)) ∙ q) in
-        absurd (beats_one_way b f x y k (ap (λ (t : Best). beats b f t x) (sym same) ∙ ap (λ (t : Best). beats b f x t) same ∙ k))
-    | false ↦ λ m. refl ]) refl
+      | true ↦ λ m.
+          let same : x ≡ y = some_same (sym p ∙ ap e (nat_same x.venue v h ∙ sym (nat_same y.venue v m)) ∙ q) in
+          absurd (beats_one_way b f x y k (ap (λ (t : Best). beats b f t x) (sym same) ∙ ap (λ (t : Best). beats b f x t) same ∙ k))
+      | false ↦ λ m. refl
+    ]) refl
 
 pub without_none : (b : Side) (f : ℕ → ℕ) (e : ℕ → Option Best) (v : ℕ) (xs : List Best) → ((x : Best) → IsIn xs x → e x.venue ≡ Some x) → InRank b f xs → HasNone v (without v xs)
 without_none b f e v [] each order = tt
 without_none b f e v (x ∷ xs) each order =
     let R : Bool → Type 0 = λ t. nat_eq x.venue v ≡ t → HasNone v (cond t xs (x ∷ without v xs)) in
     (elim (nat_eq x.venue v) as R [
-      true ↦ λ h. all_from_in (λ y. nat_eq y.venue v ≡ false) xs (λ y i. other_venue b f e v x y h (each x (inl refl)) (each y (inr i)) (in_all (λ z. beats b f x z ≡ true) xs order.0 y i))
-    | false ↦ λ h. (h, without_none b f e v xs (λ y i. each y (inr i)) order.1) ]) refl
+      | true ↦ λ h. all_from_in (λ y. nat_eq y.venue v ≡ false) xs (λ y i. other_venue b f e v x y h (each x (inl refl)) (each y (inr i)) (in_all (λ z. beats b f x z ≡ true) xs order.0 y i))
+      | false ↦ λ h. (h, without_none b f e v xs (λ y i. each y (inr i)) order.1)
+    ]) refl
 
 all_without : (P : Best → Type 0) (v : ℕ) (xs : List Best) → AllByRecursion P xs → AllByRecursion P (without v xs)
 all_without P v [] h = tt
@@ -75,14 +78,16 @@ InRank-ages b f g (x ∷ xs) same h = (all_from_in (λ y. beats b g x y ≡ true
 in_with : (b : Side) (f : ℕ → ℕ) (x : Best) (xs : List Best) (z : Best) → IsIn (with_rank b f x xs) z → (x ≡ z) ⊎ IsIn xs z
 in_with b f x [] z i = i
 in_with b f x (y ∷ ys) z i = (elim (beats b f x y) as (λ t. IsIn (cond t (x ∷ y ∷ ys) (y ∷ with_rank b f x ys)) z → (x ≡ z) ⊎ IsIn (y ∷ ys) z) [
-      true ↦ λ k. k
-    | false ↦ λ k. elim k [ inl e ↦ inr (inl e) | inr m ↦ elim (in_with b f x ys z m) [ inl e ↦ inl e | inr n ↦ inr (inr n) ] ] ]) i
+  | true ↦ λ k. k
+  | false ↦ λ k. elim k [ inl e ↦ inr (inl e) | inr m ↦ elim (in_with b f x ys z m) [ inl e ↦ inl e | inr n ↦ inr (inr n) ] ]
+]) i
 
 with_in : (b : Side) (f : ℕ → ℕ) (x : Best) (xs : List Best) (z : Best) → (x ≡ z) ⊎ IsIn xs z → IsIn (with_rank b f x xs) z
 with_in b f x [] z i = i
 with_in b f x (y ∷ ys) z i = (elim (beats b f x y) as (λ t. (x ≡ z) ⊎ IsIn (y ∷ ys) z → IsIn (cond t (x ∷ y ∷ ys) (y ∷ with_rank b f x ys)) z) [
-      true ↦ λ k. k
-    | false ↦ λ k. elim k [ inl e ↦ inr (with_in b f x ys z (inl e)) | inr m ↦ elim m [ inl e ↦ inl e | inr n ↦ inr (with_in b f x ys z (inr n)) ] ] ]) i
+  | true ↦ λ k. k
+  | false ↦ λ k. elim k [ inl e ↦ inr (with_in b f x ys z (inl e)) | inr m ↦ elim m [ inl e ↦ inl e | inr n ↦ inr (with_in b f x ys z (inr n)) ] ]
+]) i
 
 -- a side put at its rank keeps the order
 InRank-with : (b : Side) (f : ℕ → ℕ) (x : Best) (xs : List Best) → ((y : Best) → IsIn xs y → beats b f x y ≡ false → beats b f y x ≡ true) → InRank b f xs → InRank b f (with_rank b f x xs)
@@ -90,12 +95,15 @@ InRank-with b f x [] either h = (tt, tt)
 InRank-with b f x (y ∷ ys) either h =
     let R : Bool → Type 0 = λ t. beats b f x y ≡ t → InRank b f (cond t (x ∷ y ∷ ys) (y ∷ with_rank b f x ys)) in
     (elim (beats b f x y) as R [
-      true ↦ λ e. ((e, all_from_in (λ z. beats b f x z ≡ true) ys (λ z i. beats_chain b f x y z e (in_all (λ t. beats b f y t ≡ true) ys h.0 z i))), h)
-    | false ↦ λ e.
-        (all_from_in (λ z. beats b f y z ≡ true) (with_rank b f x ys) (λ z i. elim (in_with b f x ys z i) [
-            inl s ↦ subst (λ (t : Best). beats b f y t ≡ true) s (either y (inl refl) e)
-          | inr k ↦ in_all (λ t. beats b f y t ≡ true) ys h.0 z k ])
-        , InRank-with b f x ys (λ z i. either z (inr i)) h.1) ]) refl
+      | true ↦ λ e. ((e, all_from_in (λ z. beats b f x z ≡ true) ys (λ z i. beats_chain b f x y z e (in_all (λ t. beats b f y t ≡ true) ys h.0 z i))), h)
+      | false ↦ λ e. (
+        all_from_in (λ z. beats b f y z ≡ true) (with_rank b f x ys) (λ z i. elim (in_with b f x ys z i) [
+          | inl s ↦ subst (λ (t : Best). beats b f y t ≡ true) s (either y (inl refl) e)
+          | inr k ↦ in_all (λ t. beats b f y t ≡ true) ys h.0 z k
+        ]),
+        InRank-with b f x ys (λ z i. either z (inr i)) h.1,
+      )
+    ]) refl
 
 -- One venue is ranked with another side than before, or not ranked any more: the ranks are as before without it, and with it
 -- at its rank.
@@ -109,26 +117,34 @@ ranking_set b e g f a v xs below own same same_age apart h =
     let kept : (x : Best) → x.venue < 16 → g x.venue ≡ Some x → nat_eq x.venue v ≡ false → IsIn (without v xs) x = λ x l k n. without_kept v xs x ((h.members x).1 (l, sym (same x.venue n) ∙ k)) n in
     let R : Option Best → Type 0 = λ o. g v ≡ o → IsRankingOf b g a (placed b a o (without v xs)) in
     (elim (g v) as R [
-      None ↦ λ none_now. record {
-        members = λ x. (stays x, λ k.
-          let Q : Bool → Type 0 = λ t. nat_eq x.venue v ≡ t → IsIn (without v xs) x in
-          (elim (nat_eq x.venue v) as Q [
-            true ↦ λ n. (let no : None ≡ Some x = sym none_now ∙ ap g (sym (nat_same x.venue v n)) ∙ k.1 in cc)
-          | false ↦ λ n. kept x k.0 k.1 n ]) refl);
+      | None ↦ λ none_now. record {
+        members = λ x. (
+          stays x,
+          λ k.
+              let Q : Bool → Type 0 = λ t. nat_eq x.venue v ≡ t → IsIn (without v xs) x in
+              (elim (nat_eq x.venue v) as Q [
+                | true ↦ λ n. (let no : None ≡ Some x = sym none_now ∙ ap g (sym (nat_same x.venue v n)) ∙ k.1 in cc)
+                | false ↦ λ n. kept x k.0 k.1 n
+              ]) refl,
+        );
         order = order;
       }
-    | Some c ↦ λ here. record {
+      | Some c ↦ λ here. record {
         members = λ x. (
           λ i. elim (in_with b a c (without v xs) x i) [
-              inl s ↦ (let at : c.venue ≡ v = own v c here in (subst (λ (t : Best). t.venue < 16) s (subst (λ (n : ℕ). n < 16) (sym at) below), ap g (ap (λ (t : Best). t.venue) (sym s) ∙ at) ∙ here ∙ ap Some s))
-            | inr k ↦ stays x k ]
-        , λ k.
-          let Q : Bool → Type 0 = λ t. nat_eq x.venue v ≡ t → IsIn (with_rank b a c (without v xs)) x in
-          (elim (nat_eq x.venue v) as Q [
-            true ↦ λ n. with_in b a c (without v xs) x (inl (some_same (sym here ∙ ap g (sym (nat_same x.venue v n)) ∙ k.1)))
-          | false ↦ λ n. with_in b a c (without v xs) x (inr (kept x k.0 k.1 n)) ]) refl);
+            | inl s ↦ (let at : c.venue ≡ v = own v c here in (subst (λ (t : Best). t.venue < 16) s (subst (λ (n : ℕ). n < 16) (sym at) below), ap g (ap (λ (t : Best). t.venue) (sym s) ∙ at) ∙ here ∙ ap Some s))
+            | inr k ↦ stays x k
+          ],
+          λ k.
+              let Q : Bool → Type 0 = λ t. nat_eq x.venue v ≡ t → IsIn (with_rank b a c (without v xs)) x in
+              (elim (nat_eq x.venue v) as Q [
+                | true ↦ λ n. with_in b a c (without v xs) x (inl (some_same (sym here ∙ ap g (sym (nat_same x.venue v n)) ∙ k.1)))
+                | false ↦ λ n. with_in b a c (without v xs) x (inr (kept x k.0 k.1 n))
+              ]) refl,
+        );
         order = InRank-with b a c (without v xs) (λ y i. beats_either b a c y (λ same_ages. apart y.venue c y ((stays y i).0) (away y i) ((stays y i).1) here (sym (ap a (own v c here)) ∙ same_ages))) order;
-      } ]) refl
+      }
+    ]) refl
 
 map_all : (P : ℕ → Type 0) (xs : List Best) → AllByRecursion (λ (x : Best). P x.venue) xs → AllByRecursion P (map (λ (x : Best). x.venue) xs)
 map_all P [] h = tt
@@ -137,9 +153,10 @@ map_all P (x ∷ xs) h = (h.0, map_all P xs h.1)
 apart_venues : (b : Side) (f : ℕ → ℕ) (e : ℕ → Option Best) (xs : List Best) → ((x : Best) → IsIn xs x → e x.venue ≡ Some x) → InRank b f xs → IsDistinct nat_eq (map (λ (x : Best). x.venue) xs)
 unfolding IsDistinct
 apart_venues b f e [] each h = tt
-apart_venues b f e (x ∷ xs) each h =
-    (map_all (λ n. nat_eq x.venue n ≡ false) xs (all_from_in (λ y. nat_eq x.venue y.venue ≡ false) xs (λ y i. nat_apart y.venue x.venue (other_venue b f e x.venue x y (nat_refl x.venue) (each x (inl refl)) (each y (inr i)) (in_all (λ z. beats b f x z ≡ true) xs h.0 y i))))
-    , apart_venues b f e xs (λ y i. each y (inr i)) h.1)
+apart_venues b f e (x ∷ xs) each h = (
+  map_all (λ n. nat_eq x.venue n ≡ false) xs (all_from_in (λ y. nat_eq x.venue y.venue ≡ false) xs (λ y i. nat_apart y.venue x.venue (other_venue b f e x.venue x y (nat_refl x.venue) (each x (inl refl)) (each y (inr i)) (in_all (λ z. beats b f x z ≡ true) xs h.0 y i)))),
+  apart_venues b f e xs (λ y i. each y (inr i)) h.1,
+)
 
 venues_below : (xs : List Best) → ((x : Best) → IsIn xs x → x.venue < 16) → (q : ℕ) → list_any (nat_eq q) (map (λ (x : Best). x.venue) xs) ≡ true → q < 16
 venues_below [] h q e = grind (arith, e)
@@ -162,11 +179,11 @@ ranking_room b e f v xs below h =
     let none : HasNone v (without v xs) = without_none b f e v xs each h.order in
     let ns = map (λ (x : Best). x.venue) (without v xs) in
     let distinct : IsDistinct nat_eq (v ∷ ns) = cons_distinct v ns
-      (map_all (λ n. nat_eq v n ≡ false) (without v xs) (all_from_in (λ y. nat_eq v y.venue ≡ false) (without v xs) (λ y i. nat_apart y.venue v (in_all (λ x. nat_eq x.venue v ≡ false) (without v xs) none y i))))
-      (apart_venues b f e (without v xs) (λ x i. each x (without_in v xs x i)) (InRank-without b f v xs h.order)) in
+    (map_all (λ n. nat_eq v n ≡ false) (without v xs) (all_from_in (λ y. nat_eq v y.venue ≡ false) (without v xs) (λ y i. nat_apart y.venue v (in_all (λ x. nat_eq x.venue v ≡ false) (without v xs) none y i))))
+    (apart_venues b f e (without v xs) (λ x i. each x (without_in v xs x i)) (InRank-without b f v xs h.order)) in
     let under : (q : ℕ) → list_any (nat_eq q) (v ∷ ns) ≡ true → q < 16 = λ q m.
-      (let R : Bool → Type 0 = λ t. nat_eq q v ≡ t → (t || list_any (nat_eq q) ns) ≡ true → q < 16 in
-      (elim (nat_eq q v) as R [ true ↦ λ k n. subst (λ (n : ℕ). n < 16) (sym (nat_same q v k)) below | false ↦ λ k n. venues_below (without v xs) (λ y i. ((h.members y).0 (without_in v xs y i)).0) q n ]) refl m) in
+    (let R : Bool → Type 0 = λ t. nat_eq q v ≡ t → (t || list_any (nat_eq q) ns) ≡ true → q < 16 in
+    (elim (nat_eq q v) as R [ true ↦ λ k n. subst (λ (n : ℕ). n < 16) (sym (nat_same q v k)) below | false ↦ λ k n. venues_below (without v xs) (λ y i. ((h.members y).0 (without_in v xs y i)).0) q n ]) refl m) in
     let most : length (v ∷ ns) ≤ 16 = length-le_from_distinct_below (v ∷ ns) 16 distinct under in
     let long : length ns ≡ length (without v xs) = long_map (without v xs) in
     omega (arith, most, long)

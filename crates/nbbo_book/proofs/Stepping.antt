@@ -47,12 +47,13 @@ item_is helped n v (item.Quote q) r below h =
     let may = may_at helped r.halted in
     let R : Bool → Type 0 = λ t. IsRow helped (n + 1) (cond t (row_quoted helped v q (n + 1) r) r) in
     elim (bytes_eq q.symbol r.symbol) as R [
-      true ↦ record {
+      | true ↦ record {
         bids = side_shown-is Bid may may n r.bids v (Some (shown_by q Bid)) (may v) below (λ w e. refl) refl refl (same_side_sound (standing_at r.bids.standings v).shown (Some (shown_by q Bid))) h.bids;
         offers = side_shown-is Offer may may n r.offers v (Some (shown_by q Offer)) (may v) below (λ w e. refl) refl refl (same_side_sound (standing_at r.offers.standings v).shown (Some (shown_by q Offer))) h.offers;
         count = h.count;
       }
-    | false ↦ row_waits helped n r h ]
+      | false ↦ row_waits helped n r h
+    ]
 item_is helped n v (item.Halt s x) r below h =
     let may = may_at helped r.halted in
     let more = may_at helped (set r.halted v x) in
@@ -60,12 +61,13 @@ item_is helped n v (item.Halt s x) r below h =
     let here : more v ≡ (not (slice_index_or helped v false) && not x) = ap (λ t. not (slice_index_or helped v false) && not t) (set_at r.halted v x false (omega (arith, below, h.count))) in
     let R : Bool → Type 0 = λ t. IsRow helped (n + 1) (cond t (row_halted helped v x r) r) in
     elim (bytes_eq s r.symbol) as R [
-      true ↦ record {
+      | true ↦ record {
         bids = side_gated-is Bid may more n (n + 1) r.bids v (not (slice_index_or helped v false) && not x) below (omega arith) others here h.bids;
         offers = side_gated-is Offer may more n (n + 1) r.offers v (not (slice_index_or helped v false) && not x) below (omega arith) others here h.offers;
         count = long_set r.halted v x ∙ h.count;
       }
-    | false ↦ row_waits helped n r h ]
+      | false ↦ row_waits helped n r h
+    ]
 item_is helped n v item.Other r below h = row_waits helped n r h
 item_is helped n v item.End r below h =
     let may = may_at helped r.halted in
@@ -116,9 +118,9 @@ rows_keep_symbols helped n e (r ∷ rs) = ap (λ s. s ∷ symbols_of (map (row_a
 pub side_ranking : (es : List Entry) (s : List ℕ) (b : Side) (helped halted : List Bool) (n : ℕ) (k : BookSide) → ((w : ℕ) → w < 16 → may_at helped halted w ≡ may_rank es w s) → ((w : ℕ) → w < 16 → standing_at k.standings w ≡ record { shown = side_of es w s b; age = age_of es w s b }) → IsSide b (may_at helped halted) n k → IsRankingOf b (eligible_of es s b) (λ w. age_of es w s b) k.ranks.items
 side_ranking es s b helped halted n k may fits h =
     ranking_same b (rank_at (may_at helped halted) k.standings) (eligible_of es s b) (age_at k.standings) (λ w. age_of es w s b) k.ranks.items
-      (λ w l. ap (λ t. ranked_by t w (standing_at k.standings w).shown) (may w l) ∙ ap (λ (t : Standing). ranked_by (may_rank es w s) w t.shown) (fits w l))
-      (λ w l. ap (λ (t : Standing). t.age) (fits w l))
-      h.ranked
+    (λ w l. ap (λ t. ranked_by t w (standing_at k.standings w).shown) (may w l) ∙ ap (λ (t : Standing). ranked_by (may_rank es w s) w t.shown) (fits w l))
+    (λ w l. ap (λ (t : Standing). t.age) (fits w l))
+    h.ranked
 
 pub may_is : (es : List Entry) (helped : List Bool) (r : Row) → ((w : ℕ) → w < 16 → slice_index_or helped w false ≡ is_self_helped es w) → RowFits es r → (w : ℕ) → w < 16 → may_at helped r.halted w ≡ may_rank es w r.symbol
 may_is es helped r flags fits w l = ap (λ t. not t && not (slice_index_or r.halted w false)) (flags w l) ∙ ap (λ t. not (is_self_helped es w) && not t) (fits.halted w l)
@@ -145,8 +147,8 @@ changes_are es e p helped n (r ∷ rs) below long count flags h fits =
     let young : n + 1 ≡ suc (length es) = omega (arith, count) in
     let rest : List Change = filter_map (row_change (helped_after e helped) (n + 1) p e) rs in
     let new : national_at next ≡ national_of (es ++ e ∷ []) r.symbol =
-      national_is (es ++ e ∷ []) (helped_after e helped) (n + 1) next (helped_fits es e helped long below flags) (row_is helped n e r below long h.0) (row_fits es e (n + 1) n (helped_after e helped) helped r below young h.0 fits.0)
-      ∙ ap (national_of (es ++ e ∷ [])) (row_keeps_symbol (helped_after e helped) (n + 1) e r) in
+    national_is (es ++ e ∷ []) (helped_after e helped) (n + 1) next (helped_fits es e helped long below flags) (row_is helped n e r below long h.0) (row_fits es e (n + 1) n (helped_after e helped) helped r below young h.0 fits.0)
+    ∙ ap (national_of (es ++ e ∷ [])) (row_keeps_symbol (helped_after e helped) (n + 1) e r) in
     ap (λ t. cons_option (change_of p r.symbol t (national_at next)) rest) (national_is es helped n r flags h.0 fits.0)
     ∙ ap (λ t. cons_option (change_of p r.symbol (national_of es r.symbol) t) rest) new
     ∙ ap (cons_option (change_of p r.symbol (national_of es r.symbol) (national_of (es ++ e ∷ []) r.symbol))) (changes_are es e p helped n rs below long count flags h.1 fits.1)
@@ -190,9 +192,10 @@ no_row helped n (SelfHelp v on) r c = cc
 still : (helped : List Bool) (n p : ℕ) (e : Entry) (rs : List Row) → AllByRecursion (λ r. row_after helped n e r ≡ r) rs → (map (row_after helped n e) rs ≡ rs) × (filter_map (row_change helped n p e) rs ≡ [])
 still helped n p e [] h = (refl, refl)
 still helped n p e (r ∷ rs) h =
-    let k = still helped n p e rs h.1 in
-    (ap (λ t. t ∷ map (row_after helped n e) rs) h.0 ∙ ap (λ t. r ∷ t) k.0
-    , ap (λ o. cons_option o (filter_map (row_change helped n p e) rs)) (quiet helped n p e r h.0) ∙ k.1)
+    let k = still helped n p e rs h.1 in (
+      ap (λ t. t ∷ map (row_after helped n e) rs) h.0 ∙ ap (λ t. r ∷ t) k.0,
+      ap (λ o. cons_option o (filter_map (row_change helped n p e) rs)) (quiet helped n p e r h.0) ∙ k.1,
+    )
 
 no_rows : (helped : List Bool) (n : ℕ) (e : Entry) (rs : List Row) → scope_of e ≡ Nothing → AllByRecursion (λ r. row_after helped n e r ≡ r) rs
 no_rows helped n e [] c = tt
@@ -224,14 +227,16 @@ alone (x ∷ xs) = ap (λ t. x ∷ t) (alone xs)
 one_moves : (helped : List Bool) (n p : ℕ) (e : Entry) (rs : List Row) (i : ℕ) (d : Row) → i < length rs → ((j : ℕ) → j < length rs → (i ≡ j → ⊥) → row_after helped n e (get_or rs j d) ≡ get_or rs j d) → (map (row_after helped n e) rs ≡ set rs i (row_after helped n e (get_or rs i d))) × (filter_map (row_change helped n p e) rs ≡ option_to_list (row_change helped n p e (get_or rs i d)))
 one_moves helped n p e [] i d l h = absurd (omega (arith, l))
 one_moves helped n p e (r ∷ rs) zero d l h =
-    let k = still helped n p e rs (rest_still helped n e rs d (λ j m. h (suc j) (omega (arith, m)) (λ q. (let no : 0 ≡ suc j = q in omega (arith, no))))) in
-    (ap (λ t. row_after helped n e r ∷ t) k.0
-    , ap (cons_option (row_change helped n p e r)) k.1 ∙ option_list (row_change helped n p e r) [] ∙ alone (option_to_list (row_change helped n p e r)))
+    let k = still helped n p e rs (rest_still helped n e rs d (λ j m. h (suc j) (omega (arith, m)) (λ q. (let no : 0 ≡ suc j = q in omega (arith, no))))) in (
+      ap (λ t. row_after helped n e r ∷ t) k.0,
+      ap (cons_option (row_change helped n p e r)) k.1 ∙ option_list (row_change helped n p e r) [] ∙ alone (option_to_list (row_change helped n p e r)),
+    )
 one_moves helped n p e (r ∷ rs) (suc i) d l h =
     let k = one_moves helped n p e rs i d (omega (arith, l)) (λ j m q. h (suc j) (omega (arith, m)) (λ u. q (omega (arith, u)))) in
-    let here : row_after helped n e r ≡ r = h zero (omega arith) (λ q. (let no : suc i ≡ 0 = q in omega (arith, no))) in
-    (ap (λ t. t ∷ map (row_after helped n e) rs) here ∙ ap (λ t. r ∷ t) k.0
-    , ap (λ o. cons_option o (filter_map (row_change helped n p e) rs)) (quiet helped n p e r here) ∙ k.1)
+    let here : row_after helped n e r ≡ r = h zero (omega arith) (λ q. (let no : suc i ≡ 0 = q in omega (arith, no))) in (
+      ap (λ t. t ∷ map (row_after helped n e) rs) here ∙ ap (λ t. r ∷ t) k.0,
+      ap (λ o. cons_option o (filter_map (row_change helped n p e) rs)) (quiet helped n p e r here) ∙ k.1,
+    )
 
 symbol_at : (rs : List Row) (i : ℕ) (d : Row) → get_or (symbols_of rs) i d.symbol ≡ (get_or rs i d).symbol
 symbol_at [] i d = refl
@@ -252,9 +257,9 @@ pub found_steps : (helped : List Bool) (n p : ℕ) (e : Entry) (s : List ℕ) (r
 found_steps helped n p e s rs i d c distinct at =
     let found = found_symbol rs s i d at in
     one_moves helped n p e rs i d found.0 (λ j l q. other_row helped n e s (get_or rs j d) c
-      (ap (λ t. bytes_eq t (get_or rs j d).symbol) (sym found.1 ∙ sym (symbol_at rs i d))
-      ∙ ap (bytes_eq (get_or (symbols_of rs) i d.symbol)) (sym (symbol_at rs j d))
-      ∙ apart_at (symbols_of rs) i j d.symbol distinct (omega (arith, found.0, long_symbols rs)) (omega (arith, l, long_symbols rs)) q))
+    (ap (λ t. bytes_eq t (get_or rs j d).symbol) (sym found.1 ∙ sym (symbol_at rs i d))
+    ∙ ap (bytes_eq (get_or (symbols_of rs) i d.symbol)) (sym (symbol_at rs j d))
+    ∙ apart_at (symbols_of rs) i j d.symbol distinct (omega (arith, found.0, long_symbols rs)) (omega (arith, l, long_symbols rs)) q))
 
 -- a walk over all rows that has come to a place
 pub walk_read : (f : Row → Row) (rs : List Row) (i : ℕ) (d : Row) → i < length rs → get_or (map f (take i rs) ++ drop i rs) i d ≡ get_or rs i d

@@ -77,7 +77,7 @@ bids_found keys b es s i d h fits at =
     let is : IsRow b.helped b.applied r = all_rows_at (IsRow b.helped b.applied) b.rows i d found.0 h.rows in
     let fit : RowFits es r = all_rows_at (RowFits es) b.rows i d found.0 fits.rows in
     subst (λ (t : List ℕ). IsRankingOf Bid (eligible_of es t Bid) (λ w. age_of es w t Bid) r.bids.ranks.items) found.1
-      (side_ranking es r.symbol Bid b.helped r.halted b.applied r.bids (may_is es b.helped r fits.helped fit) fit.bids is.bids)
+    (side_ranking es r.symbol Bid b.helped r.halted b.applied r.bids (may_is es b.helped r fits.helped fit) fit.bids is.bids)
 
 offers_found : (keys : List ℕ) (b : BookState) (es : List Entry) (s : List ℕ) (i : ℕ) (d : Row) → IsBook keys b → Fits b es → position (bytes_eq s) (symbols_of b.rows) ≡ Some i → IsRankingOf Offer (eligible_of es s Offer) (λ w. age_of es w s Offer) (get_or b.rows i d).offers.ranks.items
 offers_found keys b es s i d h fits at =
@@ -86,7 +86,7 @@ offers_found keys b es s i d h fits at =
     let is : IsRow b.helped b.applied r = all_rows_at (IsRow b.helped b.applied) b.rows i d found.0 h.rows in
     let fit : RowFits es r = all_rows_at (RowFits es) b.rows i d found.0 fits.rows in
     subst (λ (t : List ℕ). IsRankingOf Offer (eligible_of es t Offer) (λ w. age_of es w t Offer) r.offers.ranks.items) found.1
-      (side_ranking es r.symbol Offer b.helped r.halted b.applied r.offers (may_is es b.helped r fits.helped fit) fit.offers is.offers)
+    (side_ranking es r.symbol Offer b.helped r.halted b.applied r.offers (may_is es b.helped r fits.helped fit) fit.offers is.offers)
 
 pub ranking_found : (keys : List ℕ) (b : BookState) (es : List Entry) (s : List ℕ) (side : Side) (i : ℕ) (d : Row) → IsBook keys b → Fits b es → position (bytes_eq s) (symbols_of b.rows) ≡ Some i → IsRanking es s side (ranks_at side (get_or b.rows i d))
 ranking_found keys b es s Bid i d h fits at = ranking_is es s Bid (get_or b.rows i d).bids.ranks.items (bids_found keys b es s i d h fits at)

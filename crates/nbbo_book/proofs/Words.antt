@@ -19,12 +19,14 @@ pub word_tells : (s t : List ℕ) → HasWord s → HasWord t → nat_eq (word_o
 word_tells s t h k =
     let R : Bool → Type 0 = λ b. bytes_eq s t ≡ b → nat_eq (word_of s) (word_of t) ≡ b in
     (elim (bytes_eq s t) as R [
-      true ↦ λ e. ap (λ u. nat_eq (word_of s) (word_of u)) (sym ((bytes_decides s t).0 e)) ∙ nat_refl (word_of s)
-    | false ↦ λ e.
-        let Q : Bool → Type 0 = λ b. nat_eq (word_of s) (word_of t) ≡ b → b ≡ false in
-        (elim (nat_eq (word_of s) (word_of t)) as Q [
-          true ↦ λ m. (let no : true ≡ false = sym ((bytes_decides s t).1 (one_word s t h k (nat_same (word_of s) (word_of t) m))) ∙ e in no)
-        | false ↦ λ m. refl ]) refl ]) refl
+      | true ↦ λ e. ap (λ u. nat_eq (word_of s) (word_of u)) (sym ((bytes_decides s t).0 e)) ∙ nat_refl (word_of s)
+      | false ↦ λ e.
+          let Q : Bool → Type 0 = λ b. nat_eq (word_of s) (word_of t) ≡ b → b ≡ false in
+          (elim (nat_eq (word_of s) (word_of t)) as Q [
+            | true ↦ λ m. (let no : true ≡ false = sym ((bytes_decides s t).1 (one_word s t h k (nat_same (word_of s) (word_of t) m))) ∙ e in no)
+            | false ↦ λ m. refl
+          ]) refl
+    ]) refl
 
 long_words : (ss : List (List ℕ)) → length (map word_of ss) ≡ length ss
 long_words [] = refl
@@ -92,10 +94,11 @@ pub missed_configured : (s : List ℕ) (ss : List (List ℕ)) → position (byte
 missed_configured s ss e =
     let R : Bool → Type 0 = λ b. list_any (bytes_eq s) ss ≡ b → b ≡ false in
     (elim (list_any (bytes_eq s) ss) as R [
-      true ↦ λ m.
-        let n = prefix_len (λ t. not (bytes_eq s t)) ss in
-        let no : Some n ≡ None = ap (λ b. cond b (Some n) None) (sym (lt_true n (length ss) (first_within (bytes_eq s) ss m))) ∙ e in cc
-    | false ↦ λ m. refl ]) refl
+      | true ↦ λ m.
+          let n = prefix_len (λ t. not (bytes_eq s t)) ss in
+          let no : Some n ≡ None = ap (λ b. cond b (Some n) None) (sym (lt_true n (length ss) (first_within (bytes_eq s) ss m))) ∙ e in cc
+      | false ↦ λ m. refl
+    ]) refl
 
 none_same : (s : List ℕ) (ss : List (List ℕ)) → list_any (bytes_eq s) ss ≡ false → AllByRecursion (λ t. bytes_eq s t ≡ false) ss
 none_same s [] e = tt
@@ -122,7 +125,6 @@ never_twice (x ∷ xs) (suc i) d l t h =
     let m : i < length xs = omega (arith, l) in
     let apart : bytes_eq (get_or xs i d) x ≡ false = nat_list_eq_equiv.symm (get_or xs i d) x ∙ all_get (λ y. bytes_eq x y ≡ false) xs i d m h.0 in
     never_twice xs i d m (sym (ap (λ b. b || list_any (bytes_eq (get_or xs i d)) (take i xs)) apart) ∙ t) h.1
-
 
 -- one symbol is there twice, where its word is among those before
 pub twice_here : (ss : List (List ℕ)) (i : ℕ) (s : List ℕ) (keys : List ℕ) (added : Bool) → i < length ss → s ≡ get_or ss i s → HasWord s → AllByRecursion HasWord (take i ss) → keys ≡ map word_of (take i ss) → added ≡ not (list_any (nat_eq (word_of s)) keys) → added ≡ false → IsDistinct bytes_eq ss → ⊥

@@ -28,18 +28,24 @@ standing_at standings venue = slice_index_or standings venue (record { shown = N
 abbrev pub SideFits : List Entry → List ℕ → Side → List Standing → Type 0
 SideFits entries symbol side standings =
     (venue : ℕ) → venue < 16
-    → standing_at standings venue ≡ record { shown = side_of entries venue symbol side; age = age_of entries venue symbol side }
+    → standing_at standings venue
+    ≡ record {
+      shown = side_of entries venue symbol side;
+      age = age_of entries venue symbol side;
+    }
 
 -- a symbol's sides and halts are those of the entries
 pub record RowFits (entries : List Entry) (row : Row) : Type 0 where
   pub bids : SideFits entries row.symbol Bid row.bids.standings
   pub offers : SideFits entries row.symbol Offer row.offers.standings
-  pub halted : (venue : ℕ) → venue < 16 → slice_index_or row.halted venue false ≡ is_halted entries venue row.symbol
+  pub halted : (venue : ℕ) → venue < 16
+      → slice_index_or row.halted venue false ≡ is_halted entries venue row.symbol
 
 -- The book's sides, their ages, its halts and its self-help are those of the entries.
 pub record Fits (book : BookState) (entries : List Entry) : Type 0 where
   pub applied : book.applied ≡ length entries
-  pub helped : (venue : ℕ) → venue < 16 → slice_index_or book.helped venue false ≡ is_self_helped entries venue
+  pub helped : (venue : ℕ) → venue < 16
+      → slice_index_or book.helped venue false ≡ is_self_helped entries venue
   pub rows : AllByRecursion (RowFits entries) book.rows
 
 -- the venue that an entry is of

@@ -29,5 +29,6 @@ change_of position symbol before after =
 abbrev pub changes_of : List (List ℕ) → List Entry → ℕ → Entry → List Change
 changes_of symbols entries position entry =
     filter_map
-      (λ symbol. change_of position symbol (national_of entries symbol) (national_of (entries ++ entry ∷ []) symbol))
-      symbols
+    (λ symbol. change_of position symbol
+    (national_of entries symbol) (national_of (entries ++ entry ∷ []) symbol))
+    symbols

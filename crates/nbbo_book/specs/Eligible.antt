@@ -45,9 +45,11 @@ abbrev pub IsHalted : List Entry → ℕ → List ℕ → Type 0
 IsHalted entries venue symbol = IsTrue (is_halted entries venue symbol)
 
 -- x is the venue's side in the symbol, and it counts
-pub record IsEligible (entries : List Entry) (symbol : List ℕ) (side : Side) (x : Best) : Type 0 where
+pub record IsEligible
+    (entries : List Entry) (symbol : List ℕ) (side : Side) (x : Best) : Type 0 where
   pub venue : x.venue < 16
-  pub automated : side_of entries x.venue symbol side ≡ Some (record { price = x.price; size = x.size; automated = true })
+  pub automated : side_of entries x.venue symbol side
+      ≡ Some (record { price = x.price; size = x.size; automated = true })
   pub priced : 0 < x.price
   pub sized : 0 < x.size
   pub no_self_help : ¬ IsSelfHelped entries x.venue
@@ -67,9 +69,10 @@ ranked_by true venue (Some shown) =
 
 -- neither self-help nor a halt stands in the way
 abbrev pub may_rank : List Entry → ℕ → List ℕ → Bool
-may_rank entries venue symbol = not (is_self_helped entries venue) && not (is_halted entries venue symbol)
+may_rank entries venue symbol =
+    not (is_self_helped entries venue) && not (is_halted entries venue symbol)
 
--- the venue's side in the symbol where it is eligible: the x of `IsEligible` with this venue, if any
+-- the venue's side where it is eligible: the x of `IsEligible` with this venue, if any
 abbrev pub eligible_of : List Entry → List ℕ → Side → ℕ → Option Best
 eligible_of entries symbol side venue =
     ranked_by (may_rank entries venue symbol) venue (side_of entries venue symbol side)

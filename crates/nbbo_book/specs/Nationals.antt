@@ -1,5 +1,5 @@
--- Who shows the best bid and the best offer (17 CFR 242.600(b): identical bids or offers rank first by
--- size, the largest highest, and then by time, the first received highest).
+-- Who shows the best bid and the best offer (17 CFR 242.600(b): identical bids or offers rank first
+-- by size, the largest highest, and then by time, the first received highest).
 use Rattle.std.specs.Prelude.{◌≡◌, ◌≢◌, ◌↔◌, ℕ, ◌<◌, nat_lt, ◌==◌, Bool, ◌&&◌, ◌||◌, IsTrue, List, Option, Some, None, find}
 use Rattle.std.specs.List.{filter_map, list_all, range_with_len, AllPairs, Contains}
 use Rattle.feed_types.specs.declared.journal.Entry.{Entry}
@@ -20,7 +20,7 @@ abbrev pub beats : Side → (ℕ → ℕ) → Best → Best → Bool
 beats side age x y =
     is_better_price side x.price y.price
     || ((x.price == y.price)
-        && (nat_lt y.size x.size || ((x.size == y.size) && nat_lt (age x.venue) (age y.venue))))
+    && (nat_lt y.size x.size || ((x.size == y.size) && nat_lt (age x.venue) (age y.venue))))
 
 -- x ranks before y
 abbrev pub Beats : List Entry → List ℕ → Side → Best → Best → Type 0
@@ -30,10 +30,12 @@ Beats entries symbol side x y =
 -- x is the eligible side that beats every other one
 pub record IsBest (entries : List Entry) (symbol : List ℕ) (side : Side) (x : Best) : Type 0 where
   pub eligible : IsEligible entries symbol side x
-  pub first : (y : Best) → IsEligible entries symbol side y → y.venue ≢ x.venue → Beats entries symbol side x y
+  pub first : (y : Best) → IsEligible entries symbol side y → y.venue ≢ x.venue
+      → Beats entries symbol side x y
 
 -- these are the eligible sides, each before those that it beats
-pub record IsRanking (entries : List Entry) (symbol : List ℕ) (side : Side) (ranks : List Best) : Type 0 where
+pub record IsRanking
+    (entries : List Entry) (symbol : List ℕ) (side : Side) (ranks : List Best) : Type 0 where
   pub members : (x : Best) → Contains ranks x ↔ IsEligible entries symbol side x
   pub order : AllPairs (Beats entries symbol side) ranks
 
@@ -51,8 +53,9 @@ beats_others side age all x = list_all (λ y. (y.venue == x.venue) || beats side
 abbrev pub best_of : List Entry → List ℕ → Side → Option Best
 best_of entries symbol side =
     find
-      (beats_others side (λ venue. age_of entries venue symbol side) (eligible_sides entries symbol side))
-      (eligible_sides entries symbol side)
+    (beats_others side (λ venue. age_of entries venue symbol side)
+    (eligible_sides entries symbol side))
+    (eligible_sides entries symbol side)
 
 -- the national best bid and offer of a symbol
 abbrev pub national_of : List Entry → List ℕ → National

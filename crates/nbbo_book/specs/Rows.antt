@@ -31,7 +31,10 @@ abbrev pub side_set : Side → ℕ → Standing → Bool → BookSide → BookSi
 side_set side venue standing may kept =
     record {
       standings = slice_set kept.standings venue standing;
-      ranks = record { items = placed side (age_at (slice_set kept.standings venue standing)) (ranked_by may venue standing.shown) (without venue kept.ranks.items) };
+      ranks = record {
+        items = placed side (age_at (slice_set kept.standings venue standing))
+            (ranked_by may venue standing.shown) (without venue kept.ranks.items);
+      };
     }
 
 -- a venue shows this, or nothing, from now on; where it did already nothing changes
@@ -45,15 +48,23 @@ abbrev pub side_gated : Side → ℕ → Bool → BookSide → BookSide
 side_gated side venue may kept =
     record {
       standings = kept.standings;
-      ranks = record { items = placed side (age_at kept.standings) (ranked_by may venue (standing_at kept.standings venue).shown) (without venue kept.ranks.items) };
+      ranks = record {
+        items = placed side (age_at kept.standings)
+            (ranked_by may venue (standing_at kept.standings venue).shown)
+            (without venue kept.ranks.items);
+      };
     }
 
 abbrev pub row_quoted : List Bool → ℕ → Quote → ℕ → Row → Row
 row_quoted helped venue quote age row =
     record {
       symbol = row.symbol;
-      bids = side_shown Bid venue (Some (shown_by quote Bid)) age (not (slice_index_or helped venue false) && not (slice_index_or row.halted venue false)) row.bids;
-      offers = side_shown Offer venue (Some (shown_by quote Offer)) age (not (slice_index_or helped venue false) && not (slice_index_or row.halted venue false)) row.offers;
+      bids = side_shown Bid venue (Some (shown_by quote Bid)) age
+          (not (slice_index_or helped venue false) && not (slice_index_or row.halted venue false))
+          row.bids;
+      offers = side_shown Offer venue (Some (shown_by quote Offer)) age
+          (not (slice_index_or helped venue false) && not (slice_index_or row.halted venue false))
+          row.offers;
       halted = row.halted;
     }
 
@@ -71,7 +82,8 @@ row_halted helped venue halted row =
     record {
       symbol = row.symbol;
       bids = side_gated Bid venue (not (slice_index_or helped venue false) && not halted) row.bids;
-      offers = side_gated Offer venue (not (slice_index_or helped venue false) && not halted) row.offers;
+      offers = side_gated Offer venue (not (slice_index_or helped venue false) && not halted)
+          row.offers;
       halted = slice_set row.halted venue halted;
     }
 
@@ -80,7 +92,8 @@ row_helped venue on row =
     record {
       symbol = row.symbol;
       bids = side_gated Bid venue (not on && not (slice_index_or row.halted venue false)) row.bids;
-      offers = side_gated Offer venue (not on && not (slice_index_or row.halted venue false)) row.offers;
+      offers = side_gated Offer venue (not on && not (slice_index_or row.halted venue false))
+          row.offers;
       halted = row.halted;
     }
 
@@ -94,7 +107,8 @@ row_after_item helped age venue item.End row = row_ended venue age row
 
 -- a symbol after one more entry, of this age, with these flags of self-help after it
 abbrev pub row_after : List Bool → ℕ → Entry → Row → Row
-row_after helped age (Consumed venue numbered) row = row_after_item helped age venue numbered.item row
+row_after helped age (Consumed venue numbered) row =
+    row_after_item helped age venue numbered.item row
 row_after helped age (SelfHelp venue on) row = row_helped venue on row
 
 abbrev pub helped_after : Entry → List Bool → List Bool
@@ -111,7 +125,8 @@ ranks_at Offer row = row.offers.ranks.items
 
 abbrev pub row_change : List Bool → ℕ → ℕ → Entry → Row → Option Change
 row_change helped age position entry row =
-    change_of position row.symbol (national_at row) (national_at (row_after helped age entry row))
+    change_of position row.symbol
+    (national_at row) (national_at (row_after helped age entry row))
 
 -- What code asks of a side: its ranks are in order, a venue has at most one, and there is room for
 -- each venue's.
@@ -138,7 +153,10 @@ scope_of (SelfHelp venue on) = All
 -- nothing is known of the symbol yet
 abbrev pub empty_side : BookSide
 empty_side =
-    record { standings = replicate 16 (record { shown = None; age = 0 }); ranks = record { items = [] } }
+    record {
+      standings = replicate 16 (record { shown = None; age = 0 });
+      ranks = record { items = [] };
+    }
 
 abbrev pub empty_row : List ℕ → Row
 empty_row symbol =

@@ -1,5 +1,5 @@
--- A venue's side in a symbol after a list of entries, and since when it is what it is. Each is worked
--- out from the whole list. Entries count from 1; a venue is its number.
+-- A venue's side in a symbol after a list of entries, and since when it is what it is. Each is
+-- worked out from the whole list. Entries count from 1; a venue is its number.
 use Rattle.std.specs.Prelude.{◌≡◌, ℕ, zero, suc, Bool, true, false, ◌&&◌, ◌==◌, List, [], ◌∷◌, length, take, Option, Some, None, unwrap_or, if◌then◌else◌}
 use Rattle.std.specs.Str.{bytes_eq}
 use Rattle.feed_types.specs.declared.journal.Entry.{Entry}
@@ -43,10 +43,11 @@ side_said venue symbol side (Consumed of numbered) =
     if of == venue then side_said_by symbol side numbered.item else None
 side_said venue symbol side (SelfHelp of on) = None
 
--- The venue's side in the symbol: what the last of its quotations in that symbol says, or none where
--- there is no such quotation or an end of its session came after it.
+-- The venue's side in the symbol: what the last of its quotations in that symbol says, or none
+-- where there is no such quotation or an end of its session came after it.
 abbrev pub side_of : List Entry → ℕ → List ℕ → Side → Option Shown
-side_of entries venue symbol side = unwrap_or (last_said (side_said venue symbol side) entries) None
+side_of entries venue symbol side =
+    unwrap_or (last_said (side_said venue symbol side) entries) None
 
 abbrev pub is_same_flag : Bool → Bool → Bool
 is_same_flag true flag = flag
@@ -70,4 +71,5 @@ since side_at x (suc n) = if is_same_side (side_at n) x then since side_at x n e
 -- same side (this project's profile: the position at which the side took its price, size and flag).
 abbrev pub age_of : List Entry → ℕ → List ℕ → Side → ℕ
 age_of entries venue symbol side =
-    since (λ n. side_of (take n entries) venue symbol side) (side_of entries venue symbol side) (length entries)
+    since (λ n. side_of (take n entries) venue symbol side)
+    (side_of entries venue symbol side) (length entries)

@@ -28,7 +28,8 @@ pub record IsTable (symbols : List (List ℕ)) (keys : List ℕ) : Type 0 where
   pub distinct : IsDistinct nat_eq keys
 
 -- these are what the venues are ranked with, best first
-pub record IsRankingOf (side : Side) (rank : ℕ → Option Best) (age : ℕ → ℕ) (xs : List Best) : Type 0 where
+pub record IsRankingOf
+    (side : Side) (rank : ℕ → Option Best) (age : ℕ → ℕ) (xs : List Best) : Type 0 where
   pub members : (x : Best) → IsIn xs x ↔ ((x.venue < 16) × (rank x.venue ≡ Some x))
   pub order : InRank side age xs
 
@@ -39,13 +40,16 @@ may_at helped halted venue =
 abbrev pub rank_at : (ℕ → Bool) → List Standing → ℕ → Option Best
 rank_at may standings venue = ranked_by (may venue) venue (standing_at standings venue).shown
 
--- A side's ages are no later than the entries, no two venues' sides have the same, and the ranks are
--- those of the venues that may be ranked.
+-- A side's ages are no later than the entries, no two venues' sides have the same, and the ranks
+-- are those of the venues that may be ranked.
 pub record IsSide (side : Side) (may : ℕ → Bool) (applied : ℕ) (kept : BookSide) : Type 0 where
   pub count : length kept.standings ≡ 16
   pub past : (venue : ℕ) → venue < 16 → age_at kept.standings venue ≤ applied
-  pub apart : (v w : ℕ) → v < 16 → w < 16 → v ≢ w → IsSome (standing_at kept.standings v).shown → IsSome (standing_at kept.standings w).shown → age_at kept.standings v ≢ age_at kept.standings w
-  pub ranked : IsRankingOf side (rank_at may kept.standings) (age_at kept.standings) kept.ranks.items
+  pub apart : (v w : ℕ) → v < 16 → w < 16 → v ≢ w
+      → IsSome (standing_at kept.standings v).shown → IsSome (standing_at kept.standings w).shown
+      → age_at kept.standings v ≢ age_at kept.standings w
+  pub ranked :
+      IsRankingOf side (rank_at may kept.standings) (age_at kept.standings) kept.ranks.items
 
 pub record IsRow (helped : List Bool) (applied : ℕ) (row : Row) : Type 0 where
   pub bids : IsSide Bid (may_at helped row.halted) applied row.bids
@@ -60,3 +64,15 @@ pub record IsBook (keys : List ℕ) (book : BookState) : Type 0 where
   pub applied : book.applied ≤ book.last
   pub count : length book.helped ≡ 16
   pub rows : AllByRecursion (IsRow book.helped book.applied) book.rows
+
+-- what contracts see of a book of these parts
+abbrev pub state_of : List Row → ℕ → ℕ → ℕ → List Bool → BookState
+state_of rows venues last applied helped =
+    record {
+      symbols = symbols_of rows;
+      venues = venues;
+      last = last;
+      applied = applied;
+      helped = helped;
+      rows = rows;
+    }

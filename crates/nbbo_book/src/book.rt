@@ -39,13 +39,14 @@ pub struct Book {
 
 impl Model for Book {
     ghost use Rattle.nbbo_book.specs.Books.{BookState};
-    ghost use Rattle.nbbo_book.specs.Tables.{IsBook, symbols_of};
+    ghost use Rattle.nbbo_book.specs.Tables.{IsBook, state_of};
 
     ghost Value = { BookState };
 
-    ghost view = { λ b. record { symbols = symbols_of b.rows.items; venues = b.venues; last = b.last; applied = b.applied; helped = b.helped; rows = b.rows.items } };
+    ghost view = { λ b. state_of b.rows.items b.venues b.last b.applied b.helped };
 
-    ghost invariant = { λ b. IsBook b.table.keys (record { symbols = symbols_of b.rows.items; venues = b.venues; last = b.last; applied = b.applied; helped = b.helped; rows = b.rows.items }) };
+    ghost invariant = { λ b. IsBook b.table.keys
+        (state_of b.rows.items b.venues b.last b.applied b.helped) };
 }
 
 fn empty_side() -> BookSide
@@ -76,25 +77,26 @@ fn empty_rows(alloc: Global, symbols: &[SymbolName]) -> Result<Vec<Row>, AllocEr
 }
 
 impl Book {
-    /// A book of no entries, over so many venues, 1 to 16, and these symbols, at most 4,096 and each
-    /// once; their order is that of the changes. No symbols are allowed. It takes all its memory here.
+    /// A book of no entries, over so many venues, 1 to 16, and these symbols, at most 4,096 and
+    /// each once; their order is that of the changes. No symbols are allowed. It takes all its
+    /// memory here.
     ///
     /// It is refused as BadVenueCount, TooManySymbols, NoMemory where there is none for the table,
-    /// DuplicateSymbol, or NoMemory where there is none for what is kept of the symbols: the first of
-    /// these that fits.
-    pub fn new(
-        alloc: Global,
-        symbols: &[SymbolName],
-        venue_count: usize,
-    ) -> Result<Book, BookFault>
+    /// DuplicateSymbol, or NoMemory where there is none for what is kept of the symbols: the first
+    /// of these that fits.
+    pub fn new(alloc: Global, symbols: &[SymbolName], venue_count: usize) -> Result<Book, BookFault>
         ensures fits { IfOk result (λ book. Fits book []) }
         ensures symbols { IfOk result (λ book. book.symbols ≡ symbols.now) }
         ensures venues { IfOk result (λ book. book.venues ≡ venue_count) }
         ensures last { IfOk result (λ book. book.last ≡ 0) }
         ensures distinct { OnOk result (IsDistinct bytes_eq symbols.now) }
-        ensures bad_venue_count { IsErrOf result BookFault.BadVenueCount ↔ ((venue_count ≡ 0) ⊎ (16 < venue_count)) }
-        ensures too_many_symbols { IsErrOf result BookFault.TooManySymbols ↔ ((0 < venue_count) × (venue_count ≤ 16) × (4096 < length symbols.now)) }
-        ensures duplicate_symbol { IsErrOf result BookFault.DuplicateSymbol → (0 < venue_count) × (venue_count ≤ 16) × (length symbols.now ≤ 4096) × (¬ IsDistinct bytes_eq symbols.now) }
+        ensures bad_venue_count { IsErrOf result BookFault.BadVenueCount
+            ↔ ((venue_count ≡ 0) ⊎ (16 < venue_count)) }
+        ensures too_many_symbols { IsErrOf result BookFault.TooManySymbols
+            ↔ ((0 < venue_count) × (venue_count ≤ 16) × (4096 < length symbols.now)) }
+        ensures duplicate_symbol { IsErrOf result BookFault.DuplicateSymbol
+            → (0 < venue_count) × (venue_count ≤ 16) × (length symbols.now ≤ 4096)
+            × (¬ IsDistinct bytes_eq symbols.now) }
     {
         if venue_count == 0 || venue_count > MAX_VENUES {
             return Err(BookFault::BadVenueCount);
@@ -113,17 +115,20 @@ impl Book {
         })
     }
 
-    /// Applies the entry, and appends to `out` a change for each symbol whose national best is another
-    /// one after it, in configured order and with the position given.
+    /// Applies the entry, and appends to `out` a change for each symbol whose national best is
+    /// another one after it, in configured order and with the position given.
     ///
-    /// It takes no memory: `out` has room for as many changes as there are symbols. The entry's venue is
-    /// below the count, and positions rise.
+    /// It takes no memory: `out` has room for as many changes as there are symbols. The entry's
+    /// venue is below the count, and positions rise.
     pub fn apply(&mut self, position: u64, entry: &Entry, out: &mut Vec<Change>)
         requires room { vec_len out.old + length self.old.symbols ≤ vec_capacity out.old }
         requires venue { venue_of entry.now < self.old.venues }
         requires rising { self.old.last < position }
-        ensures fits { (entries : List Entry) → Fits self.old entries → Fits self.new (entries ++ entry.now ∷ []) }
-        ensures changes { (entries : List Entry) → Fits self.old entries → out.new.items ≡ out.old.items ++ changes_of self.old.symbols entries position entry.now }
+        ensures fits { (entries : List Entry) → Fits self.old entries
+            → Fits self.new (entries ++ entry.now ∷ []) }
+        ensures changes { (entries : List Entry) → Fits self.old entries
+            → out.new.items
+            ≡ out.old.items ++ changes_of self.old.symbols entries position entry.now }
         ensures count { vec_len out.new ≤ vec_len out.old + length self.old.symbols }
         ensures capacity { vec_capacity out.new ≡ vec_capacity out.old }
         ensures symbols { self.new.symbols ≡ self.old.symbols }
@@ -146,7 +151,8 @@ impl Book {
     /// The national best of the symbol, `None` exactly where it isn't configured.
     pub fn national(&self, symbol: &SymbolName) -> Option<National>
         ensures configured { IsSome result ↔ IsTrue (is_configured self.now.symbols symbol.now) }
-        ensures value { (entries : List Entry) → Fits self.now entries → IfSome result (λ national. national ≡ national_of entries symbol.now) }
+        ensures value { (entries : List Entry) → Fits self.now entries
+            → IfSome result (λ national. national ≡ national_of entries symbol.now) }
     {
         let place = find(&self.table, *symbol)?;
         Some(self.rows[place].national())
@@ -156,7 +162,8 @@ impl Book {
     /// exactly where the symbol isn't configured.
     pub fn ranked(&self, symbol: &SymbolName, side: Side) -> Option<&[Best]>
         ensures configured { IsSome result ↔ IsTrue (is_configured self.now.symbols symbol.now) }
-        ensures ranking { (entries : List Entry) → Fits self.now entries → IfSome result (λ ranks. IsRanking entries symbol.now side ranks.now) }
+        ensures ranking { (entries : List Entry) → Fits self.now entries
+            → IfSome result (λ ranks. IsRanking entries symbol.now side ranks.now) }
     {
         let place = find(&self.table, *symbol)?;
         Some(self.rows[place].ranks(side))
@@ -164,7 +171,8 @@ impl Book {
 
     /// Whether self-help stands on the venue.
     pub fn is_self_helped(&self, venue: VenueId) -> bool
-        ensures { (entries : List Entry) → Fits self.now entries → result ≡ self_helped entries venue }
+        ensures { (entries : List Entry) → Fits self.now entries
+            → result ≡ self_helped entries venue }
     {
         self.helped[venue.index()]
     }

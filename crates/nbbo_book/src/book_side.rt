@@ -19,11 +19,14 @@ pub struct BookSide {
 }
 
 impl BookSide {
-    /// The venue's side and its age are these from now on. Whether the best side is another one then.
+    /// The venue's side and its age are these from now on. Whether the best side is another one
+    /// then.
     fn set(&mut self, side: Side, venue: VenueId, standing: Standing, may: bool) -> bool
         requires { IsRanked side self.old }
         ensures side { self.new ≡ side_set side venue standing may self.old }
-        ensures moved { result ≡ not (is_same_best (front_of self.old.ranks.items) (front_of self.new.ranks.items)) }
+        ensures moved { result
+            ≡ not (is_same_best
+            (front_of self.old.ranks.items) (front_of self.new.ranks.items)) }
     {
         let before = front(&self.ranks);
         self.standings[venue.index()] = standing;
@@ -32,8 +35,8 @@ impl BookSide {
         differs(before, front(&self.ranks))
     }
 
-    /// The venue shows this, or nothing, from now on; `may` is whether it may be ranked. Whether the
-    /// best side is another one then.
+    /// The venue shows this, or nothing, from now on; `may` is whether it may be ranked. Whether
+    /// the best side is another one then.
     pub fn show(
         &mut self,
         side: Side,
@@ -44,7 +47,9 @@ impl BookSide {
     ) -> bool
         requires { IsRanked side self.old }
         ensures side { self.new ≡ side_shown side venue shown age may self.old }
-        ensures moved { result ≡ not (is_same_best (front_of self.old.ranks.items) (front_of self.new.ranks.items)) }
+        ensures moved { result
+            ≡ not (is_same_best
+            (front_of self.old.ranks.items) (front_of self.new.ranks.items)) }
     {
         if is_same(self.standings[venue.index()].shown, shown) {
             return false;
@@ -56,7 +61,9 @@ impl BookSide {
     pub fn gate(&mut self, side: Side, venue: VenueId, may: bool) -> bool
         requires { IsRanked side self.old }
         ensures side { self.new ≡ side_gated side venue may self.old }
-        ensures moved { result ≡ not (is_same_best (front_of self.old.ranks.items) (front_of self.new.ranks.items)) }
+        ensures moved { result
+            ≡ not (is_same_best
+            (front_of self.old.ranks.items) (front_of self.new.ranks.items)) }
     {
         let before = front(&self.ranks);
         let rank = rank_of(may, venue, self.standings[venue.index()].shown);

@@ -1,12 +1,12 @@
 //! The national best bid and offer of each configured symbol, over up to 16 venues.
 //!
-//! A [`Book`] is given the journal's entries one by one. It keeps each venue's protected sides, ranks
-//! those that are eligible by price, size and time, and says which symbols' national best an entry
-//! changed.
+//! A [`Book`] is given the journal's entries one by one. It keeps each venue's protected sides,
+//! ranks those that are eligible by price, size and time, and says which symbols' national best an
+//! entry changed.
 //!
 //! Contract: for every list of entries that the book fits, the changes that `apply` appends, the
-//! national best and the ranks are those that `specs/Changes.antt` and `specs/Nationals.antt` work out
-//! from the whole list. Begin at `book.rt`; `laws.rt` says what the definitions mean.
+//! national best and the ranks are those that `specs/Changes.antt` and `specs/Nationals.antt` work
+//! out from the whole list. Begin at `book.rt`; `laws.rt` says what the definitions mean.
 #![tactic(auto)]
 
 mod book;

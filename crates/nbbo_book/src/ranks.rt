@@ -24,24 +24,19 @@ fn is_ahead(side: Side, standings: &[Standing; 16], x: &Best, y: &Best) -> bool
         };
     }
     x.size > y.size
-        || x.size == y.size
-            && standings[x.venue.index()].age < standings[y.venue.index()].age
+        || x.size == y.size && standings[x.venue.index()].age < standings[y.venue.index()].age
 }
 
 /// Moves x, which stands at `from`, before its neighbours that it beats. Gives its place.
-fn rise(
-    side: Side,
-    standings: &[Standing; 16],
-    ranks: &mut [Best],
-    from: usize,
-    x: &Best,
-) -> usize
+fn rise(side: Side, standings: &[Standing; 16], ranks: &mut [Best], from: usize, x: &Best) -> usize
     requires below { from < length ranks.old }
     requires here { slice_index_or ranks.old from x.now ≡ x.now }
     ensures moved { ranks.new ≡ insert (remove ranks.old from) result x.now }
     ensures up { result ≤ from }
-    ensures passed { result < from → beats side (age_at standings.now) x.now (slice_index_or (remove ranks.old from) result x.now) ≡ true }
-    ensures stopped { (k : ℕ) → result ≡ k + 1 → beats side (age_at standings.now) x.now (slice_index_or (remove ranks.old from) k x.now) ≡ false }
+    ensures passed { result < from → beats side (age_at standings.now) x.now
+        (slice_index_or (remove ranks.old from) result x.now) ≡ true }
+    ensures stopped { (k : ℕ) → result ≡ k + 1 → beats side (age_at standings.now) x.now
+        (slice_index_or (remove ranks.old from) k x.now) ≡ false }
 {
     let mut at = from;
     while at > 0 {
@@ -60,7 +55,8 @@ fn rise(
 fn fall(side: Side, standings: &[Standing; 16], ranks: &mut [Best], from: usize, x: &Best)
     requires below { from < length ranks.old }
     requires here { slice_index_or ranks.old from x.now ≡ x.now }
-    requires stopped { (k : ℕ) → from ≡ k + 1 → beats side (age_at standings.now) x.now (slice_index_or (remove ranks.old from) k x.now) ≡ false }
+    requires stopped { (k : ℕ) → from ≡ k + 1 → beats side (age_at standings.now) x.now
+        (slice_index_or (remove ranks.old from) k x.now) ≡ false }
     requires order { InRank side (age_at standings.now) (remove ranks.old from) }
     ensures { ranks.new ≡ with_rank side (age_at standings.now) x.now (remove ranks.old from) }
 {
@@ -112,7 +108,8 @@ pub fn rerank(
 )
     requires order { InRank side (age_at standings.now) (without venue ranks.old.items) }
     requires room { length (without venue ranks.old.items) < 16 }
-    ensures { ranks.new.items ≡ placed side (age_at standings.now) rank (without venue ranks.old.items) }
+    ensures { ranks.new.items
+        ≡ placed side (age_at standings.now) rank (without venue ranks.old.items) }
 {
     match (place_of(ranks.as_slice(), venue), rank) {
         (Some(at), Some(best)) => settle(side, standings, ranks.as_mut_slice(), at, &best),

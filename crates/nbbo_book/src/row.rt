@@ -23,7 +23,8 @@ impl Row {
     fn quote(&mut self, helped: &[bool; 16], venue: VenueId, quote: &Quote, age: u64) -> bool
         requires { IsRowRanked self.old }
         ensures row { self.new ≡ row_quoted helped.now venue quote.now age self.old }
-        ensures changed { result ≡ not (is_same_national (national_at self.old) (national_at self.new)) }
+        ensures changed { result
+            ≡ not (is_same_national (national_at self.old) (national_at self.new)) }
     {
         let may = !helped[venue.index()] && !self.halted[venue.index()];
         let bid = self
@@ -38,7 +39,8 @@ impl Row {
     fn end(&mut self, venue: VenueId, age: u64) -> bool
         requires { IsRowRanked self.old }
         ensures row { self.new ≡ row_ended venue age self.old }
-        ensures changed { result ≡ not (is_same_national (national_at self.old) (national_at self.new)) }
+        ensures changed { result
+            ≡ not (is_same_national (national_at self.old) (national_at self.new)) }
     {
         self.halted[venue.index()] = false;
         let bid = self.bids.show(Side::Bid, venue, None, age, false);
@@ -52,7 +54,8 @@ impl Row {
         ensures bids { self.new.bids ≡ side_gated Bid venue may self.old.bids }
         ensures offers { self.new.offers ≡ side_gated Offer venue may self.old.offers }
         ensures halted { self.new.halted ≡ self.old.halted }
-        ensures changed { result ≡ not (is_same_national (national_at self.old) (national_at self.new)) }
+        ensures changed { result
+            ≡ not (is_same_national (national_at self.old) (national_at self.new)) }
     {
         let bid = self.bids.gate(Side::Bid, venue, may);
         let offer = self.offers.gate(Side::Offer, venue, may);
@@ -62,7 +65,8 @@ impl Row {
     fn halt(&mut self, helped: &[bool; 16], venue: VenueId, halted: bool) -> bool
         requires { IsRowRanked self.old }
         ensures row { self.new ≡ row_halted helped.now venue halted self.old }
-        ensures changed { result ≡ not (is_same_national (national_at self.old) (national_at self.new)) }
+        ensures changed { result
+            ≡ not (is_same_national (national_at self.old) (national_at self.new)) }
     {
         self.halted[venue.index()] = halted;
         self.gate(venue, !helped[venue.index()] && !halted)
@@ -71,7 +75,8 @@ impl Row {
     fn take_item(&mut self, helped: &[bool; 16], venue: VenueId, item: &Item, age: u64) -> bool
         requires { IsRowRanked self.old }
         ensures row { self.new ≡ row_after_item helped.now age venue item.now self.old }
-        ensures changed { result ≡ not (is_same_national (national_at self.old) (national_at self.new)) }
+        ensures changed { result
+            ≡ not (is_same_national (national_at self.old) (national_at self.new)) }
     {
         match item {
             Item::Quote(quote) => {
@@ -85,12 +90,13 @@ impl Row {
         }
     }
 
-    /// Takes one more entry, of this age; `helped` are the venues that self-help stands on after it.
-    /// Whether the national best is another one then.
+    /// Takes one more entry, of this age; `helped` are the venues that self-help stands on after
+    /// it. Whether the national best is another one then.
     pub fn take_entry(&mut self, helped: &[bool; 16], entry: &Entry, age: u64) -> bool
         requires { IsRowRanked self.old }
         ensures row { self.new ≡ row_after helped.now age entry.now self.old }
-        ensures changed { result ≡ not (is_same_national (national_at self.old) (national_at self.new)) }
+        ensures changed { result
+            ≡ not (is_same_national (national_at self.old) (national_at self.new)) }
     {
         match entry {
             Entry::Consumed { venue, numbered } => {

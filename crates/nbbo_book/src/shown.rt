@@ -7,8 +7,8 @@ ghost use Rattle.nbbo_book.specs.Eligible.{is_protected, ranked_by};
 
 use feed_types::{Best, Quote, VenueId};
 
-/// One side of a quotation: the price in ten-thousandths of a dollar, the size in shares, and whether
-/// it is automated.
+/// One side of a quotation: the price in ten-thousandths of a dollar, the size in shares, and
+/// whether it is automated.
 #[derive(Clone, Copy, Debug, PartialEq, Eq)]
 pub struct Shown {
     pub size: u64,
@@ -16,8 +16,8 @@ pub struct Shown {
     pub automated: bool,
 }
 
-/// What a venue shows, if anything, and its age: how many entries there were when it took its present
-/// value.
+/// What a venue shows, if anything, and its age: how many entries there were when it took its
+/// present value.
 #[derive(Clone, Copy, Debug, PartialEq, Eq)]
 pub struct Standing {
     pub shown: Option<Shown>,

@@ -13,8 +13,8 @@ use crate::scope::{Scope, scope_of};
 use crate::table::{Table, find};
 use feed_types::{Best, Entry, National, SymbolName};
 
-/// One more entry: its place in the order of all, its position, and the venues that self-help stands on
-/// after it.
+/// One more entry: its place in the order of all, its position, and the venues that self-help
+/// stands on after it.
 #[derive(Clone, Copy)]
 pub struct Step {
     pub entry: Entry,
@@ -25,7 +25,9 @@ pub struct Step {
 
 fn append(out: &mut Vec<Change>, position: u64, symbol: SymbolName, national: National)
     requires { vec_len out.old < vec_capacity out.old }
-    ensures items { out.new.items ≡ out.old.items ++ record { position = position; symbol = symbol; national = national } ∷ [] }
+    ensures items { out.new.items
+        ≡ out.old.items
+        ++ record { position = position; symbol = symbol; national = national } ∷ [] }
     ensures len { vec_len out.new ≡ vec_len out.old + 1 }
     ensures capacity { vec_capacity out.new ≡ vec_capacity out.old }
 {
@@ -42,7 +44,9 @@ fn step_row(row: &mut Row, step: &Step, out: &mut Vec<Change>)
     requires ranked { IsRowRanked row.old }
     requires room { vec_len out.old < vec_capacity out.old }
     ensures row { row.new ≡ row_after step.now.helped step.now.age step.now.entry row.old }
-    ensures items { out.new.items ≡ out.old.items ++ option_to_list (row_change step.now.helped step.now.age step.now.position step.now.entry row.old) }
+    ensures items { out.new.items
+        ≡ out.old.items ++ option_to_list (row_change
+        step.now.helped step.now.age step.now.position step.now.entry row.old) }
     ensures len { vec_len out.new ≤ vec_len out.old + 1 }
     ensures capacity { vec_capacity out.new ≡ vec_capacity out.old }
 {
@@ -55,7 +59,9 @@ fn step_rows(rows: &mut [Row], step: &Step, out: &mut Vec<Change>)
     requires ranked { AllByRecursion IsRowRanked rows.old }
     requires room { vec_len out.old + length rows.old ≤ vec_capacity out.old }
     ensures rows { rows.new ≡ map (row_after step.now.helped step.now.age step.now.entry) rows.old }
-    ensures items { out.new.items ≡ out.old.items ++ filter_map (row_change step.now.helped step.now.age step.now.position step.now.entry) rows.old }
+    ensures items { out.new.items
+        ≡ out.old.items ++ filter_map (row_change
+        step.now.helped step.now.age step.now.position step.now.entry) rows.old }
     ensures len { vec_len out.new ≤ vec_len out.old + length rows.old }
     ensures capacity { vec_capacity out.new ≡ vec_capacity out.old }
 {
@@ -70,7 +76,9 @@ pub fn apply_step(table: &Table, rows: &mut [Row], step: &Step, out: &mut Vec<Ch
     requires ranked { AllByRecursion IsRowRanked rows.old }
     requires room { vec_len out.old + length rows.old ≤ vec_capacity out.old }
     ensures rows { rows.new ≡ map (row_after step.now.helped step.now.age step.now.entry) rows.old }
-    ensures items { out.new.items ≡ out.old.items ++ filter_map (row_change step.now.helped step.now.age step.now.position step.now.entry) rows.old }
+    ensures items { out.new.items
+        ≡ out.old.items ++ filter_map (row_change
+        step.now.helped step.now.age step.now.position step.now.entry) rows.old }
     ensures len { vec_len out.new ≤ vec_len out.old + length rows.old }
     ensures capacity { vec_capacity out.new ≡ vec_capacity out.old }
 {

@@ -44,7 +44,8 @@ pub fn symbol_table(alloc: Global, symbols: &[SymbolName]) -> Result<Table, Book
 
 /// Where the symbol stands in the table.
 pub fn find(table: &Table, symbol: SymbolName) -> Option<usize>
-    ensures { (symbols : List (List ℕ)) → IsTable symbols table.now.keys → result ≡ position (bytes_eq symbol) symbols }
+    ensures { (symbols : List (List ℕ)) → IsTable symbols table.now.keys
+        → result ≡ position (bytes_eq symbol) symbols }
 {
     table.get_index_of(&symbol.word())
 }

@@ -61,13 +61,7 @@ fn best(place: u8, level: Level) -> Result<Option<Best>, Fail> {
 }
 
 /// Applies the entry, and leaves its changes in `out`.
-fn apply(
-    rt: &impl Abort,
-    book: &mut Book,
-    position: u64,
-    entry: Entry,
-    out: &mut Vec<Change>,
-) {
+fn apply(rt: &impl Abort, book: &mut Book, position: u64, entry: Entry, out: &mut Vec<Change>) {
     out.clear();
     assert!(rt; book.symbol_count() <= out.capacity());
     assert!(rt; venue_of(&entry).index() < book.venue_count());

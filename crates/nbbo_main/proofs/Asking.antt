@@ -6,13 +6,13 @@ use Rattle.clap.specs.Kinds.{IsAmong}
 use Rattle.clap.specs.Walk.{Row, Text}
 use Rattle.clap.specs.Faults.{fault_of}
 use Rattle.clap.specs.declared.error.kind.ErrorKind.{ErrorKind}
-use Rattle.clap.specs.declared.error.kind.ErrorKind.TheVariants.{DisplayHelp, OutOfMemory}
+use Rattle.clap.specs.declared.error.kind.ErrorKind.TheVariants.{DisplayHelp, DisplayVersion, OutOfMemory}
 use Rattle.nbbo_main.specs.CommandLine.{GivesNone, IsRefused, IsWindow, RefusesBy, list_in, nbbo_app, refusal_by}
-use Rattle.nbbo_main.specs.Sessions.{sessions_of}
+use Rattle.nbbo_main.specs.Sessions.{sessions_in}
 use Rattle.nbbo_main.specs.declared.sessions.SessionsFault.{SessionsFault}
 use Rattle.nbbo_main.specs.declared.sessions.SessionsFault.TheVariants as sessions
 use Rattle.nbbo_main.specs.declared.command_line.Refusal.{Refusal}
-use Rattle.nbbo_main.specs.declared.command_line.Refusal.TheVariants.{Help, Usage, BadSession, TooManySessions, NoMemory}
+use Rattle.nbbo_main.specs.declared.command_line.Refusal.TheVariants.{Shown, Usage, NotText, BadSession, TooManySessions, NoMemory}
 
 not_some : {A : Type 0} (x : A) → Some x ≡ None → ⊥
 not_some x e = let bad : true ≡ false = ap is_some e in absurd (cc)
@@ -39,15 +39,19 @@ IsWindow-none None unread = refl
 IsWindow-none (Some t) unread = λ numeral some few. absurd (unread t refl (numeral, omega arith))
 
 -- a fault of the list is the refusal
-pub GivesNone-fault : (rows : List Row) (list : Text) (fault : SessionsFault) → list ≡ list_in rows → (fault ≢ sessions.NoMemory → sessions_of list ≡ Err fault) → GivesNone rows (refusal_by fault)
-GivesNone-fault rows list sessions.BadSession e told = ap sessions_of (sym e) ∙ told (search rules)
-GivesNone-fault rows list sessions.TooManySessions e told = ap sessions_of (sym e) ∙ told (search rules)
+pub GivesNone-fault : (rows : List Row) (list : Text) (fault : SessionsFault) → list ≡ list_in rows → (fault ≢ sessions.NoMemory → sessions_in list ≡ Err fault) → GivesNone rows (refusal_by fault)
+GivesNone-fault rows list sessions.BadSession e told = ap sessions_in (sym e) ∙ told (search rules)
+GivesNone-fault rows list sessions.TooManySessions e told = ap sessions_in (sym e) ∙ told (search rules)
 GivesNone-fault rows list sessions.NoMemory e told = tt
 
 -- an error of clap by one of its kinds is the refusal
 pub IsRefused-by : (words : List Text) (kind : ErrorKind) (refusal : Refusal) → RefusesBy kind refusal → (kind ≡ OutOfMemory) ⊎ IsAmong kind (fault_of nbbo_app words) → IsRefused words refusal
-IsRefused-by words kind (Help text) is (inl memory) = let bad : DisplayHelp ≡ OutOfMemory = sym is ∙ memory in absurd (cc)
-IsRefused-by words kind (Help text) is (inr among) = subst (λ (k : ErrorKind). IsAmong k (fault_of nbbo_app words)) is among
+IsRefused-by words kind (Shown text) is (inl memory) = elim is [
+  | inl help ↦ let bad : DisplayHelp ≡ OutOfMemory = sym help ∙ memory in absurd (cc)
+  | inr version ↦ let bad : DisplayVersion ≡ OutOfMemory = sym version ∙ memory in absurd (cc)
+]
+IsRefused-by words kind (Shown text) is (inr among) = (kind, is, among)
+IsRefused-by words kind NotText is among = absurd is
 IsRefused-by words kind (Usage text) is (inl memory) = absurd (is.1 memory)
 IsRefused-by words kind (Usage text) is (inr among) = (kind, is.0, among)
 IsRefused-by words kind NoMemory is among = tt

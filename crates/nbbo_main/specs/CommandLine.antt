@@ -2,7 +2,7 @@
 --
 -- How words become the values of options is told by the crate clap: of the command below and some words, subcommand_of
 -- gives the subcommand with the values of its options, and fault_of what is wrong with the words.
-use Rattle.std.specs.Prelude.{◌≡◌, ◌≢◌, ◌≤◌, ◌∷◌, [], ℕ, List, Bool, true, false, Option, Some, None, Ok, Err, codes, if◌then◌else◌, pos, unwrap_or, string_bytes}
+use Rattle.std.specs.Prelude.{◌≡◌, ◌≢◌, ◌≤◌, ◌⊎◌, ◌∷◌, [], ℕ, List, Bool, true, false, Option, Some, None, Ok, Err, codes, if◌then◌else◌, pos, unwrap_or, string_bytes}
 use Rattle.std.specs.Str.{bytes_eq}
 use Rattle.std.specs.Str.Parse.{IsNumeral, digits_value, without_leading_plus}
 use Rattle.clap.specs.Walk.{Row, Rule, Text, first_of, one_of}
@@ -12,13 +12,13 @@ use Rattle.clap.specs.Kinds.{IsAmong}
 use Rattle.clap.specs.declared.builder.action.ArgAction.TheVariants.{SetTrue}
 use Rattle.clap.specs.declared.builder.value_parser.ValueParser.TheVariants.{Signed}
 use Rattle.clap.specs.declared.error.kind.ErrorKind.{ErrorKind}
-use Rattle.clap.specs.declared.error.kind.ErrorKind.TheVariants.{DisplayHelp, OutOfMemory}
-use Rattle.nbbo_main.specs.Sessions.{sessions_of}
+use Rattle.clap.specs.declared.error.kind.ErrorKind.TheVariants.{DisplayHelp, DisplayVersion, OutOfMemory}
+use Rattle.nbbo_main.specs.Sessions.{sessions_in}
 use Rattle.nbbo_main.specs.declared.sessions.SessionsFault.{SessionsFault}
 use Rattle.nbbo_main.specs.declared.sessions.SessionsFault.TheVariants as sessions
 use Rattle.nbbo_main.specs.declared.replay_settings.ReplaySettings.{ReplaySettings}
 use Rattle.nbbo_main.specs.declared.command_line.Refusal.{Refusal}
-use Rattle.nbbo_main.specs.declared.command_line.Refusal.TheVariants.{Help, Usage, BadSession, TooManySessions, NoMemory}
+use Rattle.nbbo_main.specs.declared.command_line.Refusal.TheVariants.{Shown, Usage, NotText, BadSession, TooManySessions, NoMemory}
 
 -- ---- the options
 
@@ -39,7 +39,7 @@ replay_app = with_rule (with_rule (with_rule (new_app (codes "replay")) sessions
 
 -- the program, which does nothing without a subcommand
 abbrev pub nbbo_app : App
-nbbo_app = with_subcommand (on_top (λ top. record top { subcommand_required = true; arg_required_else_help = true }) (new_app (codes "nbbo"))) replay_app.top
+nbbo_app = with_subcommand (on_top (λ top. record top { subcommand_required = true; arg_required_else_help = true; has_version = true }) (new_app (codes "nbbo"))) replay_app.top
 
 -- ---- the values that they have
 
@@ -67,27 +67,33 @@ pub record IsFlag (text : Option Text) (flag : Bool) : Type 0 where
 
 -- The values of the options give these settings.
 pub record Gives (rows : List Row) (settings : ReplaySettings) : Type 0 where
-  pub sessions : sessions_of (list_in rows) ≡ Ok settings.sessions.items
+  pub sessions : sessions_in (list_in rows) ≡ Ok settings.sessions.items
   pub window : IsWindow (one_of (codes "window") rows) settings.window
   pub gaps : IsFlag (one_of (codes "gaps") rows) settings.gaps
 
 -- The values of the options give no settings, since the list of sessions is wrong, or memory was refused.
 abbrev pub GivesNone : List Row → Refusal → Type 0
-GivesNone rows BadSession = sessions_of (list_in rows) ≡ Err sessions.BadSession
-GivesNone rows TooManySessions = sessions_of (list_in rows) ≡ Err sessions.TooManySessions
+GivesNone rows BadSession = sessions_in (list_in rows) ≡ Err sessions.BadSession
+GivesNone rows TooManySessions = sessions_in (list_in rows) ≡ Err sessions.TooManySessions
 GivesNone rows NoMemory = Unit {0}
-GivesNone rows (Help text) = ⊥
+GivesNone rows (Shown text) = ⊥
 GivesNone rows (Usage text) = ⊥
+GivesNone rows NotText = ⊥
 
 abbrev pub refusal_by : SessionsFault → Refusal
 refusal_by sessions.BadSession = BadSession
 refusal_by sessions.TooManySessions = TooManySessions
 refusal_by sessions.NoMemory = NoMemory
 
+-- a text that was asked for: help, or the version
+abbrev pub IsAsked : ErrorKind → Type 0
+IsAsked kind = (kind ≡ DisplayHelp) ⊎ (kind ≡ DisplayVersion)
+
 -- clap answers no values, by an error of this kind
 abbrev pub RefusesBy : ErrorKind → Refusal → Type 0
-RefusesBy kind (Help text) = kind ≡ DisplayHelp
-RefusesBy kind (Usage text) = (kind ≢ DisplayHelp) × (kind ≢ OutOfMemory)
+RefusesBy kind (Shown text) = IsAsked kind
+RefusesBy kind (Usage text) = (IsAsked kind → ⊥) × (kind ≢ OutOfMemory)
+RefusesBy kind NotText = ⊥
 RefusesBy kind NoMemory = Unit {0}
 RefusesBy kind BadSession = ⊥
 RefusesBy kind TooManySessions = ⊥
@@ -106,28 +112,34 @@ pub record Asks (words : List Text) (settings : ReplaySettings) : Type 0 where
   pub taken : IsTaken words
   pub given : Gives (values_of words) settings
 
--- Why the words give no settings. To ask for help is one of the faults that clap finds; memory may be refused at any time.
+-- Why the words give no settings. To ask for help or for the version
+-- is one of the faults that clap finds; memory may be refused at any time.
 abbrev pub IsRefused : List Text → Refusal → Type 0
-IsRefused words (Help text) = IsAmong DisplayHelp (fault_of nbbo_app words)
-IsRefused words (Usage text) = (kind : ErrorKind) × (kind ≢ DisplayHelp) × IsAmong kind (fault_of nbbo_app words)
+IsRefused words (Shown text) =
+    (kind : ErrorKind) × IsAsked kind × IsAmong kind (fault_of nbbo_app words)
+IsRefused words (Usage text) =
+    (kind : ErrorKind) × (IsAsked kind → ⊥) × IsAmong kind (fault_of nbbo_app words)
+IsRefused words NotText = ⊥
 IsRefused words BadSession = IsTaken words × GivesNone (values_of words) BadSession
 IsRefused words TooManySessions = IsTaken words × GivesNone (values_of words) TooManySessions
 IsRefused words NoMemory = Unit {0}
 
 -- ---- how a refusal ends the program
 
--- 0 after help, 1 where memory was refused, else 2
+-- 0 after help or the version, 1 where memory was refused, else 2
 abbrev pub refusal_status : Refusal → ℕ
-refusal_status (Help text) = 0
+refusal_status (Shown text) = 0
 refusal_status (Usage text) = 2
+refusal_status NotText = 2
 refusal_status BadSession = 2
 refusal_status TooManySessions = 2
 refusal_status NoMemory = 1
 
 -- what is printed: clap's text, or a line of the program's own
 abbrev pub refusal_text : Refusal → List ℕ
-refusal_text (Help text) = string_bytes text
+refusal_text (Shown text) = string_bytes text
 refusal_text (Usage text) = string_bytes text
+refusal_text NotText = codes "nbbo: the command line is not UTF-8\n"
 refusal_text BadSession = codes "nbbo: bad session\n"
 refusal_text TooManySessions = codes "nbbo: too many sessions\n"
 refusal_text NoMemory = codes "nbbo: no memory\n"

@@ -1,22 +1,22 @@
--- How the program ends after a replay: its status, and the line on standard error. This project's own texts.
+-- How the program ends after a replay: its status, and what standard error has then. This project's own texts.
 use Rattle.std.specs.Prelude.{ℕ, List, [], codes, Result, Ok, Err}
 use Rattle.feed_text.specs.declared.fault.ReplayFault.{ReplayFault}
 use Rattle.feed_text.specs.declared.fault.ReplayFault.TheVariants.{ReadFailed, WriteFailed, BadRecord, ShortRecord, TooManyTurns, NoMemory}
 
 -- 0 after a replay that came to its end, 1 after one that didn't
-abbrev pub status_of : Result (Unit {0}) ReplayFault → ℕ
-status_of (Ok done) = 0
-status_of (Err fault) = 1
+abbrev pub ending_status : Result (Unit {0}) ReplayFault → ℕ
+ending_status (Ok done) = 0
+ending_status (Err fault) = 1
 
-abbrev pub fault_line : ReplayFault → List ℕ
-fault_line ReadFailed = codes "nbbo: read failed"
-fault_line WriteFailed = codes "nbbo: write failed"
-fault_line BadRecord = codes "nbbo: bad record"
-fault_line ShortRecord = codes "nbbo: short record"
-fault_line TooManyTurns = codes "nbbo: too many turns"
-fault_line NoMemory = codes "nbbo: no memory"
+abbrev pub fault_text : ReplayFault → List ℕ
+fault_text ReadFailed = codes "nbbo: read failed\n"
+fault_text WriteFailed = codes "nbbo: write failed\n"
+fault_text BadRecord = codes "nbbo: bad record\n"
+fault_text ShortRecord = codes "nbbo: short record\n"
+fault_text TooManyTurns = codes "nbbo: too many turns\n"
+fault_text NoMemory = codes "nbbo: no memory\n"
 
--- the line, without its end; none after a replay that came to its end
-abbrev pub line_of : Result (Unit {0}) ReplayFault → List ℕ
-line_of (Ok done) = []
-line_of (Err fault) = fault_line fault
+-- one line; none after a replay that came to its end
+abbrev pub ending_text : Result (Unit {0}) ReplayFault → List ℕ
+ending_text (Ok done) = []
+ending_text (Err fault) = fault_text fault

@@ -6,8 +6,8 @@ use Rattle.nbbo_main.specs.declared.sessions.SessionsFault.{SessionsFault}
 use Rattle.nbbo_main.specs.declared.sessions.SessionsFault.TheVariants.{BadSession, TooManySessions}
 
 -- what stands before, between and behind the commas
-abbrev pub names_of : List ℕ → List (List ℕ)
-names_of list = slice_split (λ byte. byte == 44) list
+abbrev pub names_in : List ℕ → List (List ℕ)
+names_in list = slice_split (λ byte. byte == 44) list
 
 -- printable ASCII, the space among it
 abbrev pub is_name_byte : ℕ → Bool
@@ -17,12 +17,12 @@ abbrev pub is_session_name : List ℕ → Bool
 is_session_name name = nat_le 1 (length name) && (nat_le (length name) 10 && list_all is_name_byte name)
 
 -- the session of a name, as packets carry it: filled on the right with spaces to ten bytes
-abbrev pub session_of : List ℕ → List ℕ
-session_of name = name ++ replicate (10 - length name) 32
+abbrev pub filled_name : List ℕ → List ℕ
+filled_name name = name ++ replicate (10 - length name) 32
 
 -- the sessions of a list; a name that is none is told before that there are more than 16
-abbrev pub sessions_of : List ℕ → Result (List (List ℕ)) SessionsFault
-sessions_of list =
-    if list_all is_session_name (names_of list)
-    then (if nat_le (length (names_of list)) 16 then Ok (map session_of (names_of list)) else Err TooManySessions)
+abbrev pub sessions_in : List ℕ → Result (List (List ℕ)) SessionsFault
+sessions_in list =
+    if list_all is_session_name (names_in list)
+    then (if nat_le (length (names_in list)) 16 then Ok (map filled_name (names_in list)) else Err TooManySessions)
     else Err BadSession

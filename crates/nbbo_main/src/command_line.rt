@@ -1,7 +1,7 @@
 //! What the words of the command line ask for.
 ghost use Rattle.std.specs.Prelude.{◌≡◌, ◌≤◌, IfOk, IfErr, OnOk, false, codes, map, string_bytes};
 ghost use Rattle.clap.specs.Matches.{found_of};
-ghost use Rattle.clap.specs.Simple.{app_of, subcommand_of, subcommand_rows_of};
+ghost use Rattle.clap.specs.Simple.{app_of, new_app, subcommand_of, subcommand_rows_of};
 ghost use Rattle.clap.specs.Values.{kind_of};
 ghost use Rattle.clap.specs.Walk.{one_of, rows_of, rule_of};
 ghost use Rattle.clap.specs.declared.builder.command.Command.TheViews.{out-Command as fields_of};
@@ -10,7 +10,7 @@ ghost use Rattle.nbbo_main.specs.declared.command_line.Refusal.TheVariants.{NoMe
 
 use crate::help_texts::{
     ABOUT, EXAMPLE, GAPS_HELP, REPLAY_ABOUT, REPLAY_EXAMPLE, REPLAY_LINES, REPLAY_LONG_ABOUT,
-    SESSIONS_HELP, WINDOW_HELP,
+    REPLAY_USAGE, SESSIONS_HELP, VERSION, WINDOW_HELP,
 };
 use crate::replay_settings::ReplaySettings;
 use crate::sessions::{SessionsFault, read_sessions};
@@ -27,10 +27,12 @@ const DEFAULT_WINDOW: u32 = 4_096;
 /// Why there are no settings.
 #[derive(Debug, Drop)]
 pub enum Refusal {
-    /// Help was asked for, and this is its text.
-    Help(String),
+    /// Help or the version was asked for, and this is its text.
+    Shown(String),
     /// The words are no command line of the program. The text says what is wrong with them.
     Usage(String),
+    /// A word isn't UTF-8.
+    NotText,
     /// A session name is empty, has more than ten bytes, or has a byte outside of `20` to `7e`.
     BadSession,
     /// More than 16 sessions are named.
@@ -40,14 +42,15 @@ pub enum Refusal {
 }
 
 impl Refusal {
-    /// The status of the program: 0 after help, 1 where memory was refused, else 2.
+    /// The status of the program: 0 after help or the version, 1 where memory was refused, else 2.
     pub fn status(&self) -> u8
         ensures { result ≡ refusal_status self.now }
     {
         match self {
-            Refusal::Help(_) => 0,
+            Refusal::Shown(_) => 0,
             Refusal::NoMemory => 1,
-            Refusal::Usage(_) | Refusal::BadSession | Refusal::TooManySessions => 2,
+            Refusal::Usage(_) | Refusal::NotText | Refusal::BadSession | Refusal::TooManySessions =>
+                2,
         }
     }
 
@@ -56,7 +59,8 @@ impl Refusal {
         ensures { result.now ≡ refusal_text self.now }
     {
         match self {
-            Refusal::Help(text) | Refusal::Usage(text) => text.as_str(),
+            Refusal::Shown(text) | Refusal::Usage(text) => text.as_str(),
+            Refusal::NotText => "nbbo: the command line is not UTF-8\n",
             Refusal::BadSession => "nbbo: bad session\n",
             Refusal::TooManySessions => "nbbo: too many sessions\n",
             Refusal::NoMemory => "nbbo: no memory\n",
@@ -120,15 +124,24 @@ fn gaps_flag<'a>(alloc: Global) -> Arg<'a>
         .long_help(GAPS_HELP)
 }
 
-fn replay_command<'a>(alloc: Global) -> Result<Command<'a>, AllocError>
-    ensures app { IfOk result (λ c. app_of c ≡ replay_app) }
-    ensures local { IfOk result (λ c. (fields_of c).has_globals ≡ false) }
+/// The texts of `replay`, without its options.
+fn replay_texts<'a>(alloc: Global) -> Command<'a>
+    ensures app { app_of result ≡ new_app (codes "replay") }
+    ensures local { (fields_of result).has_globals ≡ false }
 {
     Command::new(alloc, "replay")
         .about(REPLAY_ABOUT)
         .long_about(REPLAY_LONG_ABOUT)
+        .override_usage(REPLAY_USAGE)
         .after_help(REPLAY_EXAMPLE)
         .after_long_help(REPLAY_LINES)
+}
+
+fn replay_command<'a>(alloc: Global) -> Result<Command<'a>, AllocError>
+    ensures app { IfOk result (λ c. app_of c ≡ replay_app) }
+    ensures local { IfOk result (λ c. (fields_of c).has_globals ≡ false) }
+{
+    replay_texts(alloc)
         .arg(sessions_option(alloc))?
         .arg(window_option(alloc))?
         .arg(gaps_flag(alloc))
@@ -140,6 +153,7 @@ fn nbbo_command<'a>(alloc: Global) -> Result<Command<'a>, AllocError>
 {
     Command::new(alloc, "nbbo")
         .bin_name("nbbo")?
+        .version(VERSION)
         .about(ABOUT)
         .after_help(EXAMPLE)
         .subcommand_required(true)
@@ -156,7 +170,9 @@ fn refusal_of(alloc: Global, error: &Error) -> Refusal
         return Refusal::NoMemory;
     }
     match error.to_string(alloc) {
-        Ok(text) if kind == ErrorKind::DisplayHelp => Refusal::Help(text),
+        Ok(text) if kind == ErrorKind::DisplayHelp || kind == ErrorKind::DisplayVersion => {
+            Refusal::Shown(text)
+        }
         Ok(text) => Refusal::Usage(text),
         Err(_) => Refusal::NoMemory,
     }

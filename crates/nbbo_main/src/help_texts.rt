@@ -4,6 +4,12 @@
 pub const ABOUT: &str =
     "Brings the redundant lines of each venue's MoldUDP64 feed into one sequence";
 
+/// The program's version, and the kit that it is proved with.
+pub const VERSION: &str = "0.1.0\nproved with rattle-kit-13b logic dac8208d650f15bf";
+
+/// How `replay` is called.
+pub const REPLAY_USAGE: &str = "nbbo replay [OPTIONS] --sessions <LIST> < CAPTURE";
+
 pub const EXAMPLE: &str = "\
 Example:
   nbbo replay --sessions 0000000001 < capture
@@ -47,21 +53,42 @@ Printed lines, V a venue from 0, L a line (A, B or R for recovery):
   packet V L heartbeat           it has none
   packet V L ended               it announces the end of the session
   packet V L ahead               it goes beyond the window
-  packet V L refused N           it is malformed (N is 1 to 4) or contradicts what came before
-                                 (N is 7 to 11)
+  packet V L refused N           it is malformed or contradicts what came before: see below
   item V NUMBER KIND             the next message in sequence: quote, halt, trading or other; or
                                  end, after the last
   gap V NUMBER COUNT             with --gaps: COUNT messages from NUMBER on are to be asked for
   renew V ORDINAL                the venue's next session has begun, the second as 2
-  renew V refused N              it can't begin: the last one isn't over (N is 35), the name was
-                                 used (36), or there were 64 (37)
+  renew V refused N              it can't begin: see below
   venue V sent SENT wins A B R   after the last record, for each venue: how many items were sent,
                                  and how many messages each line brought first
 
 Example:
   nbbo replay --sessions 0000000001 --gaps < capture
 
+Refusals:
+   1  fewer than the 20 bytes of a packet's header
+   2  a message block is cut
+   3  the number is 0
+   4  a message would have a number past 2^64 - 1
+   7  the packet is of another session than the venue's present one
+   8  it goes past the announced end of the session
+   9  it announces another end than the one before
+  10  it announces an end before a message that came already
+  11  a message differs from the one that is held at its number
+  35  the present session isn't over: its end wasn't sent
+  36  the venue has used the name
+  37  the venue has had 64 sessions
+
 Status:
-  0  the capture was replayed to its end
-  1  the input or the run was refused, for which standard error has one line
-  2  the command line was refused";
+  0  the capture was replayed to its end, or help or the version was shown
+  1  the input or the run was refused; the lines of the records before were printed, and no venue
+     lines. Standard error says why:
+       bad record      a record's venue isn't below the number of sessions, its kind isn't A, B, R
+                       or N, or a record N hasn't ten bytes
+       short record    the capture ends within a record
+       read failed     standard input can't be read
+       write failed    standard output can't be written, as where it is a pipe that 'head' has left
+       too many turns  input was read 1,000,000,000 times and hasn't ended
+       no memory       memory was refused
+  2  the command line was refused; standard error says why. 'bad session': a name is empty, has
+     more than ten characters or one that isn't printable ASCII; 'too many sessions': more than 16";

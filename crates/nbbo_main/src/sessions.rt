@@ -1,7 +1,7 @@
 //! The list of sessions on the command line.
 ghost use Rattle.std.specs.Prelude.{◌≡◌, ◌≢◌, ◌≤◌, All, IfOk, IfErr, length, map, vec_len};
 ghost use Rattle.std.specs.List.{list_all};
-ghost use Rattle.nbbo_main.specs.Sessions.{is_name_byte, is_session_name, session_of, sessions_of};
+ghost use Rattle.nbbo_main.specs.Sessions.{is_name_byte, is_session_name, filled_name, sessions_in};
 ghost use Rattle.nbbo_main.specs.declared.sessions.SessionsFault.TheVariants.{NoMemory};
 
 use std::alloc::{AllocError, Global};
@@ -53,7 +53,7 @@ fn are_names(names: &[&str]) -> bool
 /// The name as packets carry it, filled on the right with spaces.
 fn filled(name: &[u8]) -> [u8; 10]
     requires { length name.now ≤ 10 }
-    ensures { result ≡ session_of name.now }
+    ensures { result ≡ filled_name name.now }
 {
     let mut session = [b' '; NAME_LEN];
     session[..name.len()].copy_from_slice(name);
@@ -62,7 +62,7 @@ fn filled(name: &[u8]) -> [u8; 10]
 
 fn filled_all(alloc: Global, names: &[&str]) -> Result<Vec<[u8; 10]>, AllocError>
     requires { All (λ name. length name.now ≤ 10) names.now }
-    ensures { IfOk result (λ sessions. sessions.items ≡ map (λ name. session_of name.now) names.now) }
+    ensures { IfOk result (λ sessions. sessions.items ≡ map (λ name. filled_name name.now) names.now) }
 {
     let mut sessions = Vec::with_capacity(alloc, names.len())?;
     for name in names {
@@ -75,8 +75,8 @@ fn filled_all(alloc: Global, names: &[&str]) -> Result<Vec<[u8; 10]>, AllocError
 ///
 /// Names may be equal, all spaces, or differ in the spaces at their ends alone.
 pub fn read_sessions(alloc: Global, list: &str) -> Result<Vec<[u8; 10]>, SessionsFault>
-    ensures ok { IfOk result (λ sessions. sessions_of list.now ≡ Ok sessions.items) }
-    ensures err { IfErr result (λ fault. fault ≢ NoMemory → sessions_of list.now ≡ Err fault) }
+    ensures ok { IfOk result (λ sessions. sessions_in list.now ≡ Ok sessions.items) }
+    ensures err { IfErr result (λ fault. fault ≢ NoMemory → sessions_in list.now ≡ Err fault) }
     ensures count { IfOk result (λ sessions. (1 ≤ vec_len sessions) × (vec_len sessions ≤ 16)) }
 {
     let names: Vec<&str> = list.split(',').collect(alloc)?;

@@ -1,5 +1,6 @@
--- What a venue's message says (this project's quotation payload): a table of three forms, each of one type byte and one
--- length, with its fields at fixed offsets. All numbers are unsigned, high byte first.
+-- What a venue's message says (this project's quotation payload): a table of three forms, each of
+-- one type byte and one length, with its fields at fixed offsets. All numbers are unsigned, high
+-- byte first.
 use Rattle.std.specs.Prelude.{ℕ, Bool, not, ◌&&◌, ◌==◌, nat_le, if◌then◌else◌, List, length, take, drop, slice_index, bit_and}
 use Rattle.std.specs.Int.{w32, w64, from_be_bytes}
 use Rattle.feed_types.specs.Symbols.{is_symbol_field}
@@ -25,7 +26,9 @@ is_flag_at offset mask message = not (bit_and (slice_index message offset) mask 
 
 -- a message of this type and length, whose symbol is one
 abbrev pub has_form : ℕ → ℕ → List ℕ → Bool
-has_form kind size message = (type_at message == kind) && ((length message == size) && is_symbol_field (symbol_at message))
+has_form kind size message =
+    (type_at message == kind)
+    && ((length message == size) && is_symbol_field (symbol_at message))
 
 -- a quotation in version 1, with sizes of 32 bits
 abbrev pub is_version1 : List ℕ → Bool

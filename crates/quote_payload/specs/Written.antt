@@ -14,11 +14,17 @@ flags_of quote = bit_or (if quote.bid_auto then 1 else 0) (if quote.offer_auto t
 
 abbrev pub version1_bytes : Quote → List ℕ
 version1_bytes quote =
-    (0x51 ∷ []) ++ quote.symbol ++ to_be_bytes w32 quote.bid_price ++ to_be_bytes w32 quote.bid_size ++ to_be_bytes w32 quote.offer_price ++ to_be_bytes w32 quote.offer_size ++ (flags_of quote ∷ [])
+    (0x51 ∷ []) ++ quote.symbol
+    ++ to_be_bytes w32 quote.bid_price ++ to_be_bytes w32 quote.bid_size
+    ++ to_be_bytes w32 quote.offer_price ++ to_be_bytes w32 quote.offer_size
+    ++ (flags_of quote ∷ [])
 
 abbrev pub version2_bytes : Quote → List ℕ
 version2_bytes quote =
-    (0x71 ∷ []) ++ quote.symbol ++ to_be_bytes w32 quote.bid_price ++ to_be_bytes w64 quote.bid_size ++ to_be_bytes w32 quote.offer_price ++ to_be_bytes w64 quote.offer_size ++ (flags_of quote ∷ [])
+    (0x71 ∷ []) ++ quote.symbol
+    ++ to_be_bytes w32 quote.bid_price ++ to_be_bytes w64 quote.bid_size
+    ++ to_be_bytes w32 quote.offer_price ++ to_be_bytes w64 quote.offer_size
+    ++ (flags_of quote ∷ [])
 
 abbrev pub halt_bytes : List ℕ → Bool → List ℕ
 halt_bytes symbol halted = (0x48 ∷ []) ++ symbol ++ ((if halted then 1 else 0) ∷ [])

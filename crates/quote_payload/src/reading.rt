@@ -1,4 +1,5 @@
-//! Reading a message. Its fields are read where they stand, and only the eight bytes of the symbol are copied.
+//! Reading a message. Its fields are read where they stand, and only the eight bytes of the symbol
+//! are copied.
 
 ghost use Rattle.std.specs.Prelude.{◌≡◌, ◌≢◌, ◌+◌, ◌≤◌, IsTrue, SomeIff, length, if◌then◌else◌, ◌&&◌, ◌==◌, nat_le};
 ghost use Rattle.feed_types.specs.Symbols.{is_symbol_field};
@@ -10,9 +11,11 @@ use crate::form::{
 };
 use feed_types::{Item, Quote, SymbolName};
 
+#[inline(always)]
 fn read_symbol(message: &[u8]) -> Option<SymbolName>
     requires { 9 ≤ length message.now }
-    ensures { SomeIff result (IsTrue (is_symbol_field (symbol_at message.now))) (symbol_at message.now) }
+    ensures { let field = symbol_at message.now in
+        SomeIff result (IsTrue (is_symbol_field field)) field }
 {
     let field = message[1..].first_chunk::<8>()?;
     SymbolName::from_field(field)
@@ -38,7 +41,8 @@ fn read_u64(message: &[u8], offset: usize) -> u64
 
 fn read_version1(message: &[u8]) -> Item
     requires { length message.now ≡ 26 }
-    ensures { result ≡ (if is_symbol_field (symbol_at message.now) then Item.Quote (version1_of message.now) else Item.Other) }
+    ensures { result ≡ (if is_symbol_field (symbol_at message.now)
+        then Item.Quote (version1_of message.now) else Item.Other) }
 {
     let Some(symbol) = read_symbol(message) else {
         return Item::Other;
@@ -57,7 +61,8 @@ fn read_version1(message: &[u8]) -> Item
 
 fn read_version2(message: &[u8]) -> Item
     requires { length message.now ≡ 34 }
-    ensures { result ≡ (if is_symbol_field (symbol_at message.now) then Item.Quote (version2_of message.now) else Item.Other) }
+    ensures { result ≡ (if is_symbol_field (symbol_at message.now)
+        then Item.Quote (version2_of message.now) else Item.Other) }
 {
     let Some(symbol) = read_symbol(message) else {
         return Item::Other;
@@ -76,7 +81,9 @@ fn read_version2(message: &[u8]) -> Item
 
 fn read_halt(message: &[u8]) -> Item
     requires { length message.now ≡ 10 }
-    ensures { result ≡ (if is_symbol_field (symbol_at message.now) && nat_le (state_at message.now) 1 then Item.Halt (symbol_at message.now) (state_at message.now == 1) else Item.Other) }
+    ensures { let symbol = symbol_at message.now in let state = state_at message.now in
+        result ≡ (if is_symbol_field symbol && nat_le state 1
+        then Item.Halt symbol (state == 1) else Item.Other) }
 {
     match (read_symbol(message), message[9]) {
         (Some(symbol), TRADING) => Item::Halt {
@@ -91,7 +98,8 @@ fn read_halt(message: &[u8]) -> Item
     }
 }
 
-/// The item that a message is. The forms are this project's quotation payload, and numbers have their high byte first.
+/// The item that a message is. The forms are this project's quotation payload, and numbers have
+/// their high byte first.
 ///
 /// | Offset | Quotation, version 1, 26 bytes | Quotation, version 2, 34 bytes | Halt, 10 bytes |
 /// |---|---|---|---|
@@ -103,11 +111,12 @@ fn read_halt(message: &[u8]) -> Item
 /// | 21, 25 | offer size (4) | offer size (8) | |
 /// | 25, 33 | flags (1) | flags (1) | |
 ///
-/// Prices are in ten-thousandths of a dollar, sizes in shares. Bit 0 of the flags is set for an automated bid, bit 1 for
-/// an automated offer; the other bits are ignored.
+/// Prices are in ten-thousandths of a dollar, sizes in shares. Bit 0 of the flags is set for an
+/// automated bid, bit 1 for an automated offer; the other bits are ignored.
 ///
-/// Everything else is [`Item::Other`]: another first byte, another length, a symbol that isn't a name of 1 to 8 bytes
-/// and then spaces, another state. [`Item::End`] is announced by a packet and is no message.
+/// Everything else is [`Item::Other`]: another first byte, another length, a symbol that isn't a
+/// name of 1 to 8 bytes and then spaces, another state. [`Item::End`] is announced by a packet and
+/// is no message.
 #[tactic(auto, unfolding(crate::specs::Payload::item_of))]
 pub fn read_item(message: &[u8]) -> Item
     ensures value { result ≡ item_of message.now }

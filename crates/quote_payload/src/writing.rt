@@ -33,7 +33,8 @@ pub fn fits_v1(quote: &Quote) -> bool
     quote.bid_size <= u32::MAX.into() && quote.offer_size <= u32::MAX.into()
 }
 
-/// A quotation as a message of version 1, whose sizes have 32 bits: [`fits_v1`] tells whether it can be one.
+/// A quotation as a message of version 1, whose sizes have 32 bits: [`fits_v1`] tells whether it
+/// can be one.
 ///
 /// The form is that of [`read_item`](crate::read_item), with all other bits of the flags 0.
 pub fn write_quote(quote: &Quote) -> [u8; 26]
@@ -60,7 +61,8 @@ pub fn write_quote(quote: &Quote) -> [u8; 26]
     message
 }
 
-/// A quotation as a message of version 2, whose sizes have 64 bits, so that it can carry every quotation.
+/// A quotation as a message of version 2, whose sizes have 64 bits, so that it can carry every
+/// quotation.
 ///
 /// The form is that of [`read_item`](crate::read_item), with all other bits of the flags 0.
 pub fn write_quote2(quote: &Quote) -> [u8; 34]

@@ -1,8 +1,7 @@
 //! Worked lines.
 
-use crate::lines::{
-    put_gap, put_item, put_outcome, put_packet_head, put_refused, put_renewal, put_venue,
-};
+use crate::lines::{put_fault, put_gap, put_item, put_packet, put_renewal, put_venue};
+use crate::page::Page;
 use feed_types::{Item, LineId, Numbered, Quote, SymbolName, VenueId};
 use line_arbiter::{LineFault, Outcome, RenewFault};
 use mold_packet::{PacketFault, Request};
@@ -69,9 +68,8 @@ fn packets(rt: HostRuntime) -> Result<(), Fail> {
         ),
     ];
     for (venue, line, outcome, wanted) in table {
-        let mut text = Vec::new(rt.alloc());
-        put_packet_head(&mut text, venue, line)?;
-        put_outcome(&mut text, &outcome)?;
+        let mut text = Page::new(rt.alloc());
+        put_packet(&mut text, venue, line, &outcome)?;
         assert_eq!(rt; text.as_slice(), wanted);
     }
     Ok(())
@@ -79,15 +77,17 @@ fn packets(rt: HostRuntime) -> Result<(), Fail> {
 
 #[test]
 fn refusals(rt: HostRuntime) -> Result<(), Fail> {
-    let table: [(u8, &[u8]); 4] = [
-        (PacketFault::ShortHeader.code(), b" refused 1\n"),
-        (0, b" refused 0\n"),
-        (37, b" refused 37\n"),
-        (255, b" refused 255\n"),
+    let (first, last) = venues()?;
+    let short = PacketFault::ShortHeader.code();
+    let table: [(VenueId, LineId, u8, &[u8]); 4] = [
+        (first, LineId::A, short, b"packet 0 A refused 1\n"),
+        (last, LineId::Recovery, 0, b"packet 15 R refused 0\n"),
+        (first, LineId::B, 37, b"packet 0 B refused 37\n"),
+        (last, LineId::A, 255, b"packet 15 A refused 255\n"),
     ];
-    for (code, wanted) in table {
-        let mut text = Vec::new(rt.alloc());
-        put_refused(&mut text, code)?;
+    for (venue, line, code, wanted) in table {
+        let mut text = Page::new(rt.alloc());
+        put_fault(&mut text, venue, line, code)?;
         assert_eq!(rt; text.as_slice(), wanted);
     }
     Ok(())
@@ -128,10 +128,67 @@ fn items(rt: HostRuntime) -> Result<(), Fail> {
         ),
     ];
     for (venue, number, item, wanted) in table {
-        let mut text = Vec::new(rt.alloc());
+        let mut text = Page::new(rt.alloc());
         put_item(&mut text, venue, &Numbered { number, item })?;
         assert_eq!(rt; text.as_slice(), wanted);
     }
+    Ok(())
+}
+
+/// Numbers with each count of digits, at both ends.
+#[test]
+fn numbers(rt: HostRuntime) -> Result<(), Fail> {
+    let (first, _) = venues()?;
+    let table: [(u64, &[u8]); 20] = [
+        (0, b"item 0 0 other\n"),
+        (9, b"item 0 9 other\n"),
+        (10, b"item 0 10 other\n"),
+        (99, b"item 0 99 other\n"),
+        (100, b"item 0 100 other\n"),
+        (999, b"item 0 999 other\n"),
+        (1_000, b"item 0 1000 other\n"),
+        (9_999, b"item 0 9999 other\n"),
+        (10_000, b"item 0 10000 other\n"),
+        (99_999, b"item 0 99999 other\n"),
+        (100_000, b"item 0 100000 other\n"),
+        (999_999, b"item 0 999999 other\n"),
+        (1_000_000, b"item 0 1000000 other\n"),
+        (9_999_999, b"item 0 9999999 other\n"),
+        (10_000_000, b"item 0 10000000 other\n"),
+        (90_807_060, b"item 0 90807060 other\n"),
+        (99_999_999, b"item 0 99999999 other\n"),
+        (100_000_000, b"item 0 100000000 other\n"),
+        (4_294_967_296, b"item 0 4294967296 other\n"),
+        (
+            10_000_000_000_000_000_000,
+            b"item 0 10000000000000000000 other\n",
+        ),
+    ];
+    for (number, wanted) in table {
+        let mut text = Page::new(rt.alloc());
+        let item = Item::Other;
+        put_item(&mut text, first, &Numbered { number, item })?;
+        assert_eq!(rt; text.as_slice(), wanted);
+    }
+    Ok(())
+}
+
+/// A page grows behind what it has, and is empty once it was cleared.
+#[test]
+fn pages(rt: HostRuntime) -> Result<(), Fail> {
+    let (first, _) = venues()?;
+    let item = Item::Other;
+    let mut text = Page::new(rt.alloc());
+    for number in 1..=10_000 {
+        put_item(&mut text, first, &Numbered { number, item })?;
+    }
+    let begin = b"item 0 1 other\nitem 0 2 other\n".as_slice();
+    let end = b"item 0 9999 other\nitem 0 10000 other\n".as_slice();
+    assert_eq!(rt; text.len(), 178_894);
+    assert!(rt; text.as_slice().starts_with(begin));
+    assert!(rt; text.as_slice().ends_with(end));
+    text.clear();
+    assert_eq!(rt; text.as_slice(), b"".as_slice());
     Ok(())
 }
 
@@ -155,7 +212,7 @@ fn gaps(rt: HostRuntime) -> Result<(), Fail> {
         (first, None, b""),
     ];
     for (venue, gap, wanted) in table {
-        let mut text = Vec::new(rt.alloc());
+        let mut text = Page::new(rt.alloc());
         put_gap(&mut text, venue, gap)?;
         assert_eq!(rt; text.as_slice(), wanted);
     }
@@ -177,7 +234,7 @@ fn renewals(rt: HostRuntime) -> Result<(), Fail> {
         ),
     ];
     for (venue, renewal, wanted) in table {
-        let mut text = Vec::new(rt.alloc());
+        let mut text = Page::new(rt.alloc());
         put_renewal(&mut text, venue, &renewal)?;
         assert_eq!(rt; text.as_slice(), wanted);
     }
@@ -188,7 +245,7 @@ fn renewals(rt: HostRuntime) -> Result<(), Fail> {
 #[test]
 fn last_lines(rt: HostRuntime) -> Result<(), Fail> {
     let (first, last) = venues()?;
-    let mut text = Vec::new(rt.alloc());
+    let mut text = Page::new(rt.alloc());
     put_venue(&mut text, first, 4, 3, 1, 0)?;
     put_venue(&mut text, last, u64::MAX, 0, 0, 20)?;
     let wanted =

@@ -420,3 +420,28 @@ fn writers_that_fail(rt: HostRuntime) {
         }
     }
 }
+
+/// What is ready is written before the reader is called again: after the first record's 28 bytes a reader that would
+/// fail isn't asked, since the writer has failed.
+#[test]
+fn lines_before_the_next_call(rt: HostRuntime) {
+    for (good, fault) in [(0, ReplayFault::WriteFailed), (1, ReplayFault::ReadFailed)] {
+        let mut text = Vec::new(rt.alloc());
+        let kind = ErrorKind::BrokenPipe;
+        let reader = FailingIn {
+            left: WORKED,
+            good: 28,
+            kind,
+        };
+        let writer = FailingOut {
+            text: &mut text,
+            piece: 4_096,
+            good,
+            kind,
+        };
+        assert!(rt;
+            run_failing(rt.alloc(), reader, writer) == Err(fault),
+            "after {good}"
+        );
+    }
+}

@@ -1,6 +1,6 @@
-//! 2,000 generated entries over 16 venues and 8 symbols. The changes and the ranks at each have to be
-//! those that are worked out here from all entries so far, in the plainest way: for the symbols that
-//! the entry may concern, and at each hundredth entry for all.
+//! 2,000 generated entries over 16 venues and 8 symbols. The changes and the ranks at each have to
+//! be those that are worked out here from all entries so far, in the plainest way: for the symbols
+//! that the entry may concern, and at each hundredth entry for all.
 
 use super::{apply, consumed, quote, symbol, venue};
 use crate::{Book, Change};
@@ -74,8 +74,7 @@ type Candidate = (Best, usize);
 fn candidates(alloc: Global, walked: &[Walked; 16]) -> Result<Vec<Candidate>, AllocError> {
     let mut eligible = Vec::new(alloc);
     for (place, seen) in walked.iter().enumerate() {
-        let (Some((price, size, automated)), Some(venue)) =
-            (seen.shown, VenueId::from_index(place))
+        let (Some((price, size, automated)), Some(venue)) = (seen.shown, VenueId::from_index(place))
         else {
             continue;
         };
@@ -174,11 +173,27 @@ fn check_symbol(
     entries: &[Entry],
     symbol: SymbolName,
 ) -> Result<National, Fail> {
-    let bids = ranks(alloc, candidates(alloc, &walk(entries, symbol, Side::Bid))?, Side::Bid)?;
-    let offers = ranks(alloc, candidates(alloc, &walk(entries, symbol, Side::Offer))?, Side::Offer)?;
+    let bids = ranks(
+        alloc,
+        candidates(alloc, &walk(entries, symbol, Side::Bid))?,
+        Side::Bid,
+    )?;
+    let offers = ranks(
+        alloc,
+        candidates(alloc, &walk(entries, symbol, Side::Offer))?,
+        Side::Offer,
+    )?;
     let position = entries.len();
-    assert_eq!(rt; book.ranked(&symbol, Side::Bid), Some(bids.as_slice()), "at {position}");
-    assert_eq!(rt; book.ranked(&symbol, Side::Offer), Some(offers.as_slice()), "at {position}");
+    assert_eq!(rt;
+        book.ranked(&symbol, Side::Bid),
+        Some(bids.as_slice()),
+        "at {position}"
+    );
+    assert_eq!(rt;
+        book.ranked(&symbol, Side::Offer),
+        Some(offers.as_slice()),
+        "at {position}"
+    );
     let national = National {
         bid: bids.first().copied(),
         offer: offers.first().copied(),

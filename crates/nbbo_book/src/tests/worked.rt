@@ -43,7 +43,11 @@ fn follow(rt: &impl Abort, alloc: Global, venues: usize, steps: &[Step]) -> Resu
                     symbol: acme,
                     national: last,
                 };
-                assert_eq!(rt; out.as_slice(), [change].as_slice(), "at position {position}");
+                assert_eq!(rt;
+                    out.as_slice(),
+                    [change].as_slice(),
+                    "at position {position}"
+                );
             }
             None => assert_eq!(rt; out.len(), 0, "at position {position}"),
         }
@@ -69,9 +73,15 @@ fn size_ranks_before_time(rt: HostRuntime) -> Result<(), Fail> {
         rt.alloc(),
         2,
         &[
-            (consumed(first, quote(acme, BID, NOTHING, 3)), Some((bid, None))),
+            (
+                consumed(first, quote(acme, BID, NOTHING, 3)),
+                Some((bid, None)),
+            ),
             (consumed(second, quote(acme, BID, NOTHING, 3)), None),
-            (consumed(first, quote(acme, BID, OFFER, 3)), Some((bid, offer))),
+            (
+                consumed(first, quote(acme, BID, OFFER, 3)),
+                Some((bid, offer)),
+            ),
             (
                 consumed(first, quote(acme, (101_500, 200), OFFER, 3)),
                 Some((Some((1, BID)), offer)),
@@ -156,7 +166,13 @@ fn self_help_keeps_the_time(rt: HostRuntime) -> Result<(), Fail> {
 fn a_halt_keeps_the_time(rt: HostRuntime) -> Result<(), Fail> {
     let acme = symbol("ACME")?;
     let (first, second) = (venue(0)?, venue(1)?);
-    let halt = |halted| consumed(first, Item::Halt { symbol: acme, halted });
+    let halt = |halted| consumed(
+        first,
+        Item::Halt {
+            symbol: acme,
+            halted,
+        },
+    );
     let book = follow(
         &rt,
         rt.alloc(),
@@ -178,7 +194,13 @@ fn a_halt_keeps_the_time(rt: HostRuntime) -> Result<(), Fail> {
 fn a_halt_ends_with_the_session(rt: HostRuntime) -> Result<(), Fail> {
     let (acme, other) = (symbol("ACME")?, symbol("OTHER")?);
     let first = venue(0)?;
-    let halt = |symbol| consumed(first, Item::Halt { symbol, halted: true });
+    let halt = |symbol| consumed(
+        first,
+        Item::Halt {
+            symbol,
+            halted: true,
+        },
+    );
     let shown = Some((Some((0, BID)), Some((0, OFFER))));
     follow(
         &rt,

@@ -140,19 +140,19 @@ fn help(rt: HostRuntime) -> Result<(), Fail> {
         ("nbbo help", "Usage: nbbo <COMMAND>\n"),
         (
             "nbbo replay --help",
-            "Usage: nbbo replay [OPTIONS] --sessions <LIST>\n",
+            "Usage: nbbo replay [OPTIONS] --sessions <LIST> < CAPTURE\n",
         ),
         (
             "nbbo replay -h",
-            "Usage: nbbo replay [OPTIONS] --sessions <LIST>\n",
+            "Usage: nbbo replay [OPTIONS] --sessions <LIST> < CAPTURE\n",
         ),
         (
             "nbbo help replay",
-            "Usage: nbbo replay [OPTIONS] --sessions <LIST>\n",
+            "Usage: nbbo replay [OPTIONS] --sessions <LIST> < CAPTURE\n",
         ),
         (
             "nbbo replay --sessions , --window 1 --help",
-            "Usage: nbbo replay [OPTIONS] --sessions <LIST>\n",
+            "Usage: nbbo replay [OPTIONS] --sessions <LIST> < CAPTURE\n",
         ),
     ] {
         let refusal = refusal_at(rt.alloc(), line)?.ok_or("no refusal")?;

@@ -1,39 +1,115 @@
-use Rattle.std.proofs.lemmas.Result.{on_ok_weaker, on_err_weaker}
-use Rattle.feed_text.proofs.Steps.{on_err}
-use Rattle.feed_text.proofs.Replayed.{IsStart, all_replayed, stopped_replay, some_replayed, replayed_to_end, replayed_until, front_replayed, nothing_replayed}
+use Rattle.std.proofs.Common.{rules, arith, refl, ◌≡◌, ℕ, ◌∙◌, ◌-◌, length-drop, Ok, Err, ap, true, false, take, length}
+use Rattle.feed_text.specs.declared.fault.ReplayFault.TheVariants.{WriteFailed}
+use Rattle.feed_text.specs.Capture.{record_of}
+use Rattle.std.proofs.lemmas.Result.{err_from_is_err_and}
+use Rattle.feed_text.proofs.Steps.{Laws, so_far_none, so_far_step, so_far_moved, so_far_flushed, so_far_read, replays_until, nothing_replayed, unfinished_from, short_of}
+use Rattle.feed_text.proofs.Stopping.{cut_back, only_fault, stopped_by, unfilled_by, closed_by}
+use Rattle.feed_text.proofs.replay.replay.Given.{Over}
 use Rattle.feed_text.proofs.replay.replay.Goals as goal
 
-pub returns-in_err-venues-clause-part : goal.returns-in_err-venues-clause-part
-returns-in_err-venues-clause-part g c =
-    on_err c.from_residual.result (nothing_replayed c.args.config.now c.args.reader.now c.args.writer.now (g.met.R.CaptureIn.gives_none c.args.reader.now) (g.met.W.TextOut.adds_none c.args.writer.now))
+laws_of : (g : Over) → Laws (record { gives = g.R.CaptureIn.gives; ends = g.R.CaptureIn.ends; failures = g.R.CaptureIn.failures }) (record { adds = g.W.TextOut.adds; failures = g.W.TextOut.failures })
+laws_of g = record {
+  gives_none = g.met.R.CaptureIn.gives_none;
+  gives_more = g.met.R.CaptureIn.gives_more;
+  adds_none = g.met.W.TextOut.adds_none;
+  adds_more = g.met.W.TextOut.adds_more;
+}
 
-pub returns-clause-ok : goal.returns-clause-ok
-returns-clause-ok g c =
-    let s : IsStart c.args.config.now c.in_ok-venues.venues = record { follow = c.in_ok-venues.ensures.follow; gaps = c.in_ok-venues.ensures.gaps } in
-    on_ok_weaker c.replay_with.result (λ x. all_replayed s x) c.replay_with.ensures.ok
+pub records-init : goal.records-init
+records-init g c = record {
+  so_far = so_far_none (laws_of g) _ _ _ (omega arith) c.in_ok-unread.ensures c.new-text.ensures.items c.in_ok-venues.ensures.follow c.in_ok-venues.ensures.gaps;
+  turns = omega arith;
+  room = search rules;
+  reads = refl;
+  writes = refl;
+}
 
-pub returns-clause-bad : goal.returns-clause-bad
-returns-clause-bad g c e =
-    let s : IsStart c.args.config.now c.in_ok-venues.venues = record { follow = c.in_ok-venues.ensures.follow; gaps = c.in_ok-venues.ensures.gaps } in
-    some_replayed s (c.replay_with.ensures.bad e)
+pub returns-in_err-venues : goal.returns-in_err-venues
+returns-in_err-venues g c =
+    let p = err_from_is_err_and c.from_residual.result c.from_residual.ensures.1 in
+    rw (p.1, p.2) (nothing_replayed (laws_of g) c.args.config.now c.args.reader.now c.args.writer.now)
 
-pub returns-clause-short : goal.returns-clause-short
-returns-clause-short g c e =
-    let s : IsStart c.args.config.now c.in_ok-venues.venues = record { follow = c.in_ok-venues.ensures.follow; gaps = c.in_ok-venues.ensures.gaps } in
-    replayed_to_end s (c.replay_with.ensures.short e)
+pub returns-in_err-unread : goal.returns-in_err-unread
+returns-in_err-unread g c =
+    let p = err_from_is_err_and c.from_residual-in_err-unread.result c.from_residual-in_err-unread.ensures.1 in
+    rw (p.1, p.2) (nothing_replayed (laws_of g) c.args.config.now c.args.reader.now c.args.writer.now)
 
-pub returns-clause-turns : goal.returns-clause-turns
-returns-clause-turns g c e =
-    let s : IsStart c.args.config.now c.in_ok-venues.venues = record { follow = c.in_ok-venues.ensures.follow; gaps = c.in_ok-venues.ensures.gaps } in
-    stopped_replay s (c.replay_with.ensures.turns e)
+pub take-requires : goal.take-requires
+take-requires g c = rw c.records.invariant.so_far.count c.in-Whole.ensures.0
 
-pub returns-clause-read : goal.returns-clause-read
-returns-clause-read g c e =
-    let s : IsStart c.args.config.now c.in_ok-venues.venues = record { follow = c.in_ok-venues.ensures.follow; gaps = c.in_ok-venues.ensures.gaps } in
-    let x = c.replay_with.ensures.read e in
-    (replayed_until s x.0, x.1)
+pub returns-in-Err : goal.returns-in-Err
+returns-in-Err g c =
+    let whole : take c.len-whole.result c.take.new.text.items ≡ c.records.text.items = let len : c.len-whole.result ≡ length c.records.text.items = search rules in rw len (cut_back c.take.ensures.grows) in
+    stopped_by c.refused.result _ (laws_of g) c.records.invariant.so_far c.records.invariant.writes (rw (← whole) c.refused.ensures)
 
-pub returns-clause-part : goal.returns-clause-part
-returns-clause-part g c =
-    let s : IsStart c.args.config.now c.in_ok-venues.venues = record { follow = c.in_ok-venues.ensures.follow; gaps = c.in_ok-venues.ensures.gaps } in
-    on_err_weaker c.replay_with.result (λ x. front_replayed s x) c.replay_with.ensures.part
+pub records-preserved : goal.records-preserved
+records-preserved g c = record {
+  so_far = so_far_moved (laws_of g) (so_far_step (record_of c.in-Whole.record) c.in-Whole.len c.bytes.result.now c.advance.new.self c.in-Whole.ensures.0 c.bytes.ensures c.in-Whole.ensures.2 c.advance.ensures c.in-Ok.ensures.takes c.records.invariant.so_far) c.in_ok-flush_full-in-Whole.ensures.ok;
+  turns = c.records.invariant.turns;
+  room = rw c.advance.ensures (omega (arith, c.records.invariant.room, length-drop {A = ℕ}));
+  reads = c.records.invariant.reads;
+  writes = search rules;
+}
+
+pub returns-in_err-flush_full-in-Whole : goal.returns-in_err-flush_full-in-Whole
+returns-in_err-flush_full-in-Whole g c =
+    let p = err_from_is_err_and c.from_residual-in_err-flush_full-in-Whole.result c.from_residual-in_err-flush_full-in-Whole.ensures.1 in
+    let fault = only_fault c.in_err-flush_full-in-Whole.field-0.0 c.in_err-flush_full-in-Whole.ensures.only in
+    let x = so_far_step (record_of c.in-Whole.record) c.in-Whole.len c.bytes.result.now c.advance.new.self c.in-Whole.ensures.0 c.bytes.ensures c.in-Whole.ensures.2 c.advance.ensures c.in-Ok.ensures.takes c.records.invariant.so_far in
+    rw (p.1, p.2, fault) (stopped_by WriteFailed _ (laws_of g) x c.records.invariant.writes (c.in_err-flush_full-in-Whole.ensures.part, c.in_err-flush_full-in-Whole.ensures.failed))
+
+pub returns-in_err-flush-in-Bad : goal.returns-in_err-flush-in-Bad
+returns-in_err-flush-in-Bad g c =
+    let p = err_from_is_err_and c.from_residual-in_err-flush-in-Bad.result c.from_residual-in_err-flush-in-Bad.ensures.1 in
+    let fault = only_fault c.in_err-flush-in-Bad.field-0.0 c.in_err-flush-in-Bad.ensures.only in
+    rw (p.1, p.2, fault) (stopped_by WriteFailed _ (laws_of g) c.records.invariant.so_far c.records.invariant.writes (c.in_err-flush-in-Bad.ensures.part, c.in_err-flush-in-Bad.ensures.failed))
+
+pub returns-in-Bad : goal.returns-in-Bad
+returns-in-Bad g c = replays_until (so_far_flushed (laws_of g) c.records.invariant.so_far c.in_ok-flush-in-Bad.ensures.ok.0 c.in_ok-flush-in-Bad.ensures.ok.1) (rw (← c.bytes.ensures) c.in-Bad.ensures) refl
+
+pub returns-in_err-flush-in-Wants : goal.returns-in_err-flush-in-Wants
+returns-in_err-flush-in-Wants g c =
+    let p = err_from_is_err_and c.from_residual-in_err-flush-in-Wants.result c.from_residual-in_err-flush-in-Wants.ensures.1 in
+    let fault = only_fault c.in_err-flush-in-Wants.field-0.0 c.in_err-flush-in-Wants.ensures.only in
+    rw (p.1, p.2, fault) (stopped_by WriteFailed _ (laws_of g) c.records.invariant.so_far c.records.invariant.writes (c.in_err-flush-in-Wants.ensures.part, c.in_err-flush-in-Wants.ensures.failed))
+
+pub returns-in_err-fill-in-Wants : goal.returns-in_err-fill-in-Wants
+returns-in_err-fill-in-Wants g c =
+    let p = err_from_is_err_and c.from_residual-in_err-fill-in-Wants.result c.from_residual-in_err-fill-in-Wants.ensures.1 in
+    let was : c.fill.result ≡ Err c.in_err-fill-in-Wants.field-0.0 = c.in_err-fill-in-Wants.was in
+    let x = so_far_flushed (laws_of g) c.records.invariant.so_far c.in_ok-flush-in-Wants.ensures.ok.0 c.in_ok-flush-in-Wants.ensures.ok.1 in
+    rw (p.1, p.2) (unfilled_by c.in_err-fill-in-Wants.field-0.0 (laws_of g) x (omega (arith, c.records.invariant.turns)) c.records.invariant.reads
+    (λ e. c.fill.ensures.failed (was ∙ ap Err e))
+    (λ e. c.fill.ensures.stopped (was ∙ ap Err e))
+    (λ n. c.fill.ensures.faults _ was n)
+    (λ came e. unfinished_from c.records.unread c.bytes.result.now c.fill.new.unread came c.bytes.ensures e c.in-Wants.ensures.0 (c.fill.ensures.lacking (λ r. cc))))
+
+pub records-preserved-then-branch : goal.records-preserved-then-branch
+records-preserved-then-branch g c =
+    let was : c.fill.result ≡ Ok true = search rules in
+    let went = c.fill.ensures.more was in
+    let x = so_far_flushed (laws_of g) c.records.invariant.so_far c.in_ok-flush-in-Wants.ensures.ok.0 c.in_ok-flush-in-Wants.ensures.ok.1 in
+    record {
+      so_far = rw c.in_ok-flush-in-Wants.ensures.ok.1 (so_far_read (c.args.config.now.turns - c.fill.new.turns) (omega (arith, c.fill.ensures.turns, c.records.invariant.turns)) (laws_of g) x went.0);
+      turns = omega (arith, c.fill.ensures.turns, c.records.invariant.turns);
+      room = search rules;
+      reads = search rules;
+      writes = search rules;
+    }
+
+pub returns-then-not-is_empty : goal.returns-then-not-is_empty
+returns-then-not-is_empty g c =
+    let was : c.fill.result ≡ Ok false = search rules in
+    let all = c.fill.ensures.end was in
+    let x = so_far_flushed (laws_of g) c.records.invariant.so_far c.in_ok-flush-in-Wants.ensures.ok.0 c.in_ok-flush-in-Wants.ensures.ok.1 in
+    let y = so_far_read _ refl (laws_of g) x all.0.came in
+    let left = unfinished_from c.records.unread c.bytes.result.now c.fill.new.unread all.0.came.bytes c.bytes.ensures all.0.came.behind c.in-Wants.ensures.0 (c.fill.ensures.lacking (λ r. cc)) in
+    replays_until y (short_of c.fill.new.unread left (search rules)) all.0.end
+
+pub returns-in-Wants : goal.returns-in-Wants
+returns-in-Wants g c =
+    let was : c.fill.result ≡ Ok false = search rules in
+    let all = c.fill.ensures.end was in
+    let x = so_far_flushed (laws_of g) c.records.invariant.so_far c.in_ok-flush-in-Wants.ensures.ok.0 c.in_ok-flush-in-Wants.ensures.ok.1 in
+    let y = so_far_read _ refl (laws_of g) x all.0.came in
+    closed_by c.close.result _ (omega (arith, all.1, c.records.invariant.turns)) (laws_of g) y (search rules) all.0.end (c.in_ok-flush-in-Wants.ensures.kept ∙ c.records.invariant.writes) c.close.ensures

@@ -3,19 +3,19 @@ use Rattle.line_arbiter.specs.Streams.{stream_of}
 use Rattle.feed_text.specs.Lines.{item_line}
 use Rattle.feed_text.proofs.Rest.{text_more, text_done, no_more}
 use Rattle.feed_text.proofs.Growing.{grows_more}
-use Rattle.feed_text.proofs.VenueSteps.{others_more}
+use Rattle.feed_text.proofs.VenueSteps.{kept_more}
 use Rattle.feed_text.proofs.venue.put_ready.Goals as goal
 
 pub loop-next-preserved : goal.loop-next-preserved
 loop-next-preserved c = record {
-  grows = grows_more (item_line c.venue-venue.result c.in-Some.next) c.loop-next.invariant.grows c.in_ok-put_item.ensures;
+  grows = grows_more (item_line c.venue-venue.result c.in-Some.next) c.loop-next.invariant.grows c.in_ok-put_item.ensures.line;
   fits = λ P f. c.advance.ensures.fits P (c.loop-next.invariant.fits P f);
-  others = others_more c.args.arbiter.now c.loop-next.arbiter c.advance.new.self c.advance.ensures.after.others c.loop-next.invariant.others;
+  kept = kept_more c.args.arbiter.now c.loop-next.arbiter c.advance.new.self c.loop-next.invariant.kept c.advance.ensures.after.kept;
   items = λ P f.
       rw c.advance.ensures.after.sent
       (text_more (item_line c.venue-venue.result) (stream_of P) c.loop-next.arbiter.sent c.in-Some.next c.loop-next.text.items c.put_item.new.text.items _
       (c.in-Some.ensures.stream P (c.loop-next.invariant.fits P f))
-      c.in_ok-put_item.ensures
+      c.in_ok-put_item.ensures.line
       (c.loop-next.invariant.items P f));
 }
 

@@ -5,8 +5,8 @@ use Rattle.mold_packet.proofs.request.read_request.Goals as goal
 
 pub returns-clause-spelled : goal.returns-clause-spelled
 returns-clause-spelled c = record {
-  session = rw c.session_of.ensures (omega (arith, length-take 10 c.args.bytes.now));
+  session = rw c.read_session.ensures (omega (arith, length-take 10 c.args.bytes.now));
   small = omega arith;
   few = omega arith;
-  spelled = whole_header _ _ _ _ (omega arith) (λ i. omega (arith, c.type_inv.bytes i)) c.session_of.ensures c.number_of-number.ensures c.count_of.ensures;
+  spelled = whole_header _ _ _ _ (omega arith) (λ i. omega (arith, c.type_inv.bytes i)) c.read_session.ensures c.read_number-number.ensures c.read_count.ensures;
 }

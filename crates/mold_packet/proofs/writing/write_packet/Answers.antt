@@ -1,5 +1,5 @@
 use Rattle.std.proofs.Common.{arith}
-use Rattle.mold_packet.specs.Body.{bytes_of}
+use Rattle.mold_packet.specs.Body.{lent_bytes}
 use Rattle.mold_packet.proofs.Packets.{Steps, IsContent-packet_of, Spells-written, WritesFirst-written}
 use Rattle.mold_packet.proofs.writing.write_packet.Goals as goal
 use Rattle.mold_packet.proofs.writing.write_packet.Goals.{After-write_blocks}
@@ -7,7 +7,7 @@ use Rattle.mold_packet.proofs.writing.write_packet.Goals.{After-write_blocks}
 steps : (c : After-write_blocks) → Steps c.args.session.now c.args.number c.args.body c.args.out.now c.write_header.new.out c.write_blocks.new.out c.blocks_len-len.result
 steps c = record {
   count = c.count_field.result;
-  messages = bytes_of c.messages-messages.result.now;
+  messages = lent_bytes c.messages-messages.result.now;
   ten = omega arith;
   count_is = c.count_field.ensures;
   messages_are = c.messages-messages.ensures;

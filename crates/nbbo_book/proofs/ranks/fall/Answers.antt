@@ -23,8 +23,8 @@ returns-then-is_ahead c =
     let ahead : beats c.args.side (age_at c.args.standings.now) c.args.x.now c.index-ranks-at.result ≡ true = first_of (cc, grind arith) in
     c.loop-at.invariant.moved
     ∙ ranked_here c.args.side (age_at c.args.standings.now) c.args.x.now ys c.loop-at.at c.loop-at.invariant.within c.requires.order
-        (λ j e. c.loop-at.invariant.stopped j (e ∙ sym (add-one j)))
-        (λ l. ap (λ (t : Best). beats c.args.side (age_at c.args.standings.now) c.args.x.now t) (sym m.1) ∙ ahead)
+    (λ j e. c.loop-at.invariant.stopped j (e ∙ sym (add-one j)))
+    (λ l. ap (λ (t : Best). beats c.args.side (age_at c.args.standings.now) c.args.x.now t) (sym m.1) ∙ ahead)
 
 pub loop-at-preserved : goal.loop-at-preserved
 loop-at-preserved c =
@@ -37,9 +37,9 @@ loop-at-preserved c =
       within = omega (arith, h);
       moved = rw (add-one c.loop-at.at) m.0;
       stopped = λ k e.
-        let same : c.loop-at.at ≡ k = omega (arith, e) in
-        ap (λ (n : ℕ). beats c.args.side (age_at c.args.standings.now) c.args.x.now (get_or ys n c.args.x.now)) (sym same)
-        ∙ ap (λ (t : Best). beats c.args.side (age_at c.args.standings.now) c.args.x.now t) (sym m.1) ∙ behind;
+          let same : c.loop-at.at ≡ k = omega (arith, e) in
+          ap (λ (n : ℕ). beats c.args.side (age_at c.args.standings.now) c.args.x.now (get_or ys n c.args.x.now)) (sym same)
+          ∙ ap (λ (t : Best). beats c.args.side (age_at c.args.standings.now) c.args.x.now t) (sym m.1) ∙ behind;
     }
 
 pub returns : goal.returns
@@ -48,5 +48,5 @@ returns c =
     let long : length c.loop-at.ranks ≡ length ys + 1 = ap length c.loop-at.invariant.moved ∙ length-insert ys c.loop-at.at c.args.x.now c.loop-at.invariant.within in
     c.loop-at.invariant.moved
     ∙ ranked_here c.args.side (age_at c.args.standings.now) c.args.x.now ys c.loop-at.at c.loop-at.invariant.within c.requires.order
-        (λ j e. c.loop-at.invariant.stopped j (e ∙ sym (add-one j)))
-        (λ l. absurd (omega (arith, long, l)))
+    (λ j e. c.loop-at.invariant.stopped j (e ∙ sym (add-one j)))
+    (λ l. absurd (omega (arith, long, l)))

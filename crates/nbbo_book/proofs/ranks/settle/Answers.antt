@@ -13,9 +13,9 @@ fall-requires-clause-order c =
     let ys = remove c.args.ranks.now c.args.from in
     let within : c.args.from ≤ length ys = omega (arith, length-remove c.args.ranks.now c.args.from c.requires.below) in
     let there : c.rise.new.ranks ≡ insert ys c.args.from c.args.x.now =
-      c.rise.ensures.moved
-      ∙ ap (λ (t : List Best). insert t c.rise.result c.args.x.now) (remove_set c.args.ranks.now c.args.from c.args.x.now)
-      ∙ ap (λ (n : ℕ). insert ys n c.args.x.now) c.if-rise-from.true in
+    c.rise.ensures.moved
+    ∙ ap (λ (t : List Best). insert t c.rise.result c.args.x.now) (remove_set c.args.ranks.now c.args.from c.args.x.now)
+    ∙ ap (λ (n : ℕ). insert ys n c.args.x.now) c.if-rise-from.true in
     let rest : remove c.rise.new.ranks c.args.from ≡ ys = ap (λ (t : List Best). remove t c.args.from) there ∙ remove_insert ys c.args.from c.args.x.now within in
     subst (λ (t : List Best). InRank c.args.side (age_at c.args.standings.now) t) (sym rest) c.requires.order
 
@@ -24,9 +24,9 @@ returns-then-rise-from c =
     let ys = remove c.args.ranks.now c.args.from in
     let within : c.args.from ≤ length ys = omega (arith, length-remove c.args.ranks.now c.args.from c.requires.below) in
     let there : c.rise.new.ranks ≡ insert ys c.args.from c.args.x.now =
-      c.rise.ensures.moved
-      ∙ ap (λ (t : List Best). insert t c.rise.result c.args.x.now) (remove_set c.args.ranks.now c.args.from c.args.x.now)
-      ∙ ap (λ (n : ℕ). insert ys n c.args.x.now) c.if-rise-from.true in
+    c.rise.ensures.moved
+    ∙ ap (λ (t : List Best). insert t c.rise.result c.args.x.now) (remove_set c.args.ranks.now c.args.from c.args.x.now)
+    ∙ ap (λ (n : ℕ). insert ys n c.args.x.now) c.if-rise-from.true in
     let rest : remove c.rise.new.ranks c.args.from ≡ ys = ap (λ (t : List Best). remove t c.args.from) there ∙ remove_insert ys c.args.from c.args.x.now within in
     c.fall.ensures ∙ ap (λ (t : List Best). with_rank c.args.side (age_at c.args.standings.now) c.args.x.now t) rest
 
@@ -39,5 +39,5 @@ returns-else-rise-from c =
     c.rise.ensures.moved
     ∙ ap (λ (t : List Best). insert t c.rise.result c.args.x.now) same
     ∙ ranked_here c.args.side (age_at c.args.standings.now) c.args.x.now ys c.rise.result within c.requires.order
-        (λ j e. ap (λ (t : List Best). beats c.args.side (age_at c.args.standings.now) c.args.x.now (get_or t j c.args.x.now)) (sym same) ∙ c.rise.ensures.stopped j (e ∙ sym (add-one j)))
-        (λ l. ap (λ (t : List Best). beats c.args.side (age_at c.args.standings.now) c.args.x.now (get_or t c.rise.result c.args.x.now)) (sym same) ∙ c.rise.ensures.passed less)
+    (λ j e. ap (λ (t : List Best). beats c.args.side (age_at c.args.standings.now) c.args.x.now (get_or t j c.args.x.now)) (sym same) ∙ c.rise.ensures.stopped j (e ∙ sym (add-one j)))
+    (λ l. ap (λ (t : List Best). beats c.args.side (age_at c.args.standings.now) c.args.x.now (get_or t c.rise.result c.args.x.now)) (sym same) ∙ c.rise.ensures.passed less)

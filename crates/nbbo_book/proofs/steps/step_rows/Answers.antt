@@ -17,17 +17,17 @@ loop-i-preserved c =
     let read : get_or c.loop-i.rows i row ≡ get_or rows i row = ap (λ (t : List Row). get_or t i row) c.loop-i.invariant.rows ∙ walk_read f rows i row c.loop-i-test.true in
     record {
       rows =
-        ap (λ (t : Row). set c.loop-i.rows i t) (c.step_row.ensures.row ∙ ap f read)
-        ∙ ap (λ (t : List Row). set t i (f (get_or rows i row))) c.loop-i.invariant.rows
-        ∙ walk_on f rows i row c.loop-i-test.true
-        ∙ ap (λ (n : ℕ). map f (take n rows) ++ drop n rows) (sym (add-one i));
+          ap (λ (t : Row). set c.loop-i.rows i t) (c.step_row.ensures.row ∙ ap f read)
+          ∙ ap (λ (t : List Row). set t i (f (get_or rows i row))) c.loop-i.invariant.rows
+          ∙ walk_on f rows i row c.loop-i-test.true
+          ∙ ap (λ (n : ℕ). map f (take n rows) ++ drop n rows) (sym (add-one i));
       items =
-        c.step_row.ensures.items
-        ∙ ap (λ (t : List Change). t ++ option_to_list (g (get_or c.loop-i.rows i row))) c.loop-i.invariant.items
-        ∙ ap (λ (t : Row). (c.args.out.now.items ++ filter_map g (take i rows)) ++ option_to_list (g t)) read
-        ∙ append_assoc c.args.out.now.items (filter_map g (take i rows)) (option_to_list (g (get_or rows i row)))
-        ∙ ap (λ (t : List Change). c.args.out.now.items ++ t) (sym (walk_gives g rows i row c.loop-i-test.true))
-        ∙ ap (λ (n : ℕ). c.args.out.now.items ++ filter_map g (take n rows)) (sym (add-one i));
+          c.step_row.ensures.items
+          ∙ ap (λ (t : List Change). t ++ option_to_list (g (get_or c.loop-i.rows i row))) c.loop-i.invariant.items
+          ∙ ap (λ (t : Row). (c.args.out.now.items ++ filter_map g (take i rows)) ++ option_to_list (g t)) read
+          ∙ append_assoc c.args.out.now.items (filter_map g (take i rows)) (option_to_list (g (get_or rows i row)))
+          ∙ ap (λ (t : List Change). c.args.out.now.items ++ t) (sym (walk_gives g rows i row c.loop-i-test.true))
+          ∙ ap (λ (n : ℕ). c.args.out.now.items ++ filter_map g (take n rows)) (sym (add-one i));
       len = omega (arith, c.loop-i.invariant.len, c.step_row.ensures.len);
       capacity = c.step_row.ensures.capacity ∙ c.loop-i.invariant.capacity;
     }

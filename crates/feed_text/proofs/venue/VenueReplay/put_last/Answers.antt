@@ -15,7 +15,7 @@ returns-clause-last c =
     (last_is h place c.venue.result c.sent.result c.wins.result c.wins-2.result c.wins-3.result
     (c.venue.ensures ∙ ap (λ (v : Venue). v.arbiter.venue) c.self.view_is ∙ f.number)
     (c.sent.ensures width place h f)
-    (won_all h g A c.wins.result (c.wins.ensures.session h.packets g.fits))
-    (won_all h g B c.wins-2.result (c.wins-2.ensures.session h.packets g.fits))
-    (won_all h g Recovery c.wins-3.result (c.wins-3.ensures.session h.packets g.fits))))
-    c.put_venue.ensures
+    (won_all h g A c.wins.result (c.wins.ensures.session h.present.packets g.fits))
+    (won_all h g B c.wins-2.result (c.wins-2.ensures.session h.present.packets g.fits))
+    (won_all h g Recovery c.wins-3.result (c.wins-3.ensures.session h.present.packets g.fits))))
+    c.put_venue.ensures.line

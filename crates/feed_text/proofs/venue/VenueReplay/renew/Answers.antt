@@ -11,4 +11,4 @@ returns-clause-prints c =
     (c.venue.ensures ∙ ap (λ (v : Venue). v.arbiter.venue) c.self.view_is)
     (c.next_session-answer.ensures width place h f)
     put)
-    c.put_renewal.ensures
+    c.put_renewal.ensures.line

@@ -15,6 +15,6 @@ returns-clause-prints c = λ width place h f. elim c.if-gaps.branch [
       (c.in_ok-put_datagram.ensures.prints width place h f)
       (w.venue.ensures ∙ ap (λ (v : Venue). v.arbiter.venue) c.self.view_is)
       (subst (λ (v : Venue). (P : List Arrival) → Fits v.arbiter P → w.gap.result ≡ gap_of v.arbiter.session v.arbiter.window v.arbiter.sent P) c.self.view_is w.gap.ensures)
-      w.in_ok-put_gap.ensures)
+      w.in_ok-put_gap.ensures.line)
   | else-gaps w ↦ rw (w.if-gaps.false, w.text-is) (c.in_ok-put_datagram.ensures.prints width place h f)
 ]

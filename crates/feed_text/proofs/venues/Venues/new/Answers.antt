@@ -1,5 +1,5 @@
 use Rattle.std.proofs.Common.{ℕ, [], get_or, subst}
-use Rattle.feed_text.specs.Printed.{new_history}
+use Rattle.line_arbiter.specs.Histories.{new_history}
 use Rattle.feed_text.specs.Following.{Follows}
 use Rattle.feed_text.proofs.Telling.{follow_next}
 use Rattle.feed_text.proofs.venues.Venues.new.Goals as goal

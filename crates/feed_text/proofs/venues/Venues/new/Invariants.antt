@@ -1,6 +1,6 @@
 use Rattle.std.proofs.Common.{map}
 use Rattle.std.specs.Prelude.{take}
-use Rattle.feed_text.specs.Printed.{new_history}
+use Rattle.line_arbiter.specs.Histories.{new_history}
 use Rattle.feed_text.specs.Following.{FollowAll}
 use Rattle.feed_text.proofs.venues.Venues.new.Given as goal
 

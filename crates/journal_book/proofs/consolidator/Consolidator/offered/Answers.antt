@@ -1,4 +1,4 @@
-use Rattle.std.proofs.Common.{◌∙◌, ◌+◌, ◌<◌, length, arith}
+use Rattle.std.proofs.Common.{◌∙◌, sym, ◌+◌, ◌<◌, length, arith}
 use Rattle.journal_book.specs.Journals.{changes}
 use Rattle.journal_book.proofs.Offering.{next_below, one_offered, tied_moved, many_moved}
 use Rattle.journal_book.proofs.consolidator.Consolidator.offered.Goals as goal
@@ -19,3 +19,6 @@ returns-clause-offered g c =
     let state = c.args.self.now.journal in
     let below = next_below state c.look_to.new.self c.args.id c.next_place-place.result c.next_place-place.ensures.next c.requires.next in
     one_offered state c.look_to.new.self c.args.id c.next_place-place.result c.next_place-place.ensures.next below c.look_to.ensures
+
+pub returns-clause-known : goal.returns-clause-known
+returns-clause-known g c = sym (many_moved _ _ c.args.id (c.next_place-place.result + 1) c.look_to.ensures)

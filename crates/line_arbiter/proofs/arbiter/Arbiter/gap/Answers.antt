@@ -1,4 +1,4 @@
-use Rattle.std.proofs.Common.{◌≡◌, ◌+◌, max, min, ap, arith, subst}
+use Rattle.std.proofs.Common.{ap, subst}
 use Rattle.line_arbiter.specs.States.{State}
 use Rattle.line_arbiter.proofs.Gaps.{IsMissing, gap_of-none, gap_of-some}
 use Rattle.line_arbiter.proofs.arbiter.Arbiter.gap.Given.{Over}
@@ -7,11 +7,11 @@ use Rattle.line_arbiter.proofs.arbiter.Arbiter.gap.Goals.{After-missing_after-co
 
 missing : (g : Over) (c : After-missing_after-count g) → IsMissing c.args.self.now c.missing_after-count.result
 missing g c =
-    let i = c.self.inside in
-    let limit : c.max-limit.result ≡ max i.run_to (min i.known_to (i.held.base + i.held.width)) = let base = c.base.ensures in let width = c.width.ensures.value in let wide = c.from.ensures in omega arith in
+    let limit = c.max-limit.ensures in
     subst (λ (s : State). IsMissing s c.missing_after-count.result) c.self.view_is (record {
       free = c.missing_after-count.ensures.free;
       within = rw (← limit) c.missing_after-count.ensures.within;
+      inside = c.missing_after-count.ensures.inside;
       stop = rw (← limit) c.missing_after-count.ensures.stop;
     })
 

@@ -1,4 +1,4 @@
-use Rattle.std.proofs.Common.{◌≡◌, length, rules}
+use Rattle.std.proofs.Common.{◌≡◌, length, rules, inr}
 use Rattle.line_arbiter.specs.Holding.{Held}
 use Rattle.line_arbiter.proofs.Windows.{IsGap, gap_is}
 use Rattle.line_arbiter.proofs.window.Window.missing_after.Goals as goal
@@ -21,3 +21,7 @@ returns-clause-free c = rw (← c.self.view_is) (gap (goal.at.returns-clause-fre
 pub returns-clause-stop : goal.returns-clause-stop
 unfolding held
 returns-clause-stop c = rw (← c.self.view_is) (gap (goal.at.returns-clause-stop c).After-first_place-place).stop
+
+pub returns-clause-inside : goal.returns-clause-inside
+unfolding held
+returns-clause-inside c = rw (← c.self.view_is) (inr (gap (goal.at.returns-clause-inside c).After-first_place-place).inside)

@@ -12,16 +12,16 @@ pub returns-in_err-place-clause-configured : goal.returns-in_err-place-clause-co
 returns-in_err-place-clause-configured c =
     let was : c.find.result ≡ None = c.in_err-place.was in
     let missed : is_configured c.args.self.now.symbols c.args.symbol.now ≡ false =
-      sym (ap (λ (b : BookState). is_configured b.symbols c.args.symbol.now) c.self.view_is)
-      ∙ missed_configured c.args.symbol.now (symbols_of c.self.inside.rows.items) (sym (c.find.ensures (symbols_of c.self.inside.rows.items) c.self.invariant.table) ∙ was) in
+    sym (ap (λ (b : BookState). is_configured b.symbols c.args.symbol.now) c.self.view_is)
+    ∙ missed_configured c.args.symbol.now (symbols_of c.self.inside.rows.items) (sym (c.find.ensures (symbols_of c.self.inside.rows.items) c.self.invariant.table) ∙ was) in
     ((λ h. (let no : false ≡ true = sym (ap is_some c.from_residual.ensures) ∙ h in cc)), (λ h. (let no : true ≡ false = sym h ∙ missed in cc)))
 
 pub returns-clause-configured : goal.returns-clause-configured
 returns-clause-configured c =
     let was : c.find.result ≡ Some c.in_ok-place.place = c.in_ok-place.was in
     let found : is_configured c.args.self.now.symbols c.args.symbol.now ≡ true =
-      sym (ap (λ (b : BookState). is_configured b.symbols c.args.symbol.now) c.self.view_is)
-      ∙ found_configured c.args.symbol.now (symbols_of c.self.inside.rows.items) c.in_ok-place.place (sym (c.find.ensures (symbols_of c.self.inside.rows.items) c.self.invariant.table) ∙ was) in
+    sym (ap (λ (b : BookState). is_configured b.symbols c.args.symbol.now) c.self.view_is)
+    ∙ found_configured c.args.symbol.now (symbols_of c.self.inside.rows.items) c.in_ok-place.place (sym (c.find.ensures (symbols_of c.self.inside.rows.items) c.self.invariant.table) ∙ was) in
     ((λ h. found), (λ h. refl))
 
 pub returns-clause-value : goal.returns-clause-value

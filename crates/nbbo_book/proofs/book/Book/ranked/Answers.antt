@@ -14,16 +14,16 @@ pub returns-in_err-place-clause-configured : goal.returns-in_err-place-clause-co
 returns-in_err-place-clause-configured c =
     let was : c.find.result ≡ None = c.in_err-place.was in
     let missed : is_configured c.args.self.now.symbols c.args.symbol.now ≡ false =
-      sym (ap (λ (b : BookState). is_configured b.symbols c.args.symbol.now) c.self.view_is)
-      ∙ missed_configured c.args.symbol.now (symbols_of c.self.inside.rows.items) (sym (c.find.ensures (symbols_of c.self.inside.rows.items) c.self.invariant.table) ∙ was) in
+    sym (ap (λ (b : BookState). is_configured b.symbols c.args.symbol.now) c.self.view_is)
+    ∙ missed_configured c.args.symbol.now (symbols_of c.self.inside.rows.items) (sym (c.find.ensures (symbols_of c.self.inside.rows.items) c.self.invariant.table) ∙ was) in
     ((λ h. (let no : false ≡ true = sym (ap is_some c.from_residual.ensures) ∙ h in cc)), (λ h. (let no : true ≡ false = sym h ∙ missed in cc)))
 
 pub returns-clause-configured : goal.returns-clause-configured
 returns-clause-configured c =
     let was : c.find.result ≡ Some c.in_ok-place.place = c.in_ok-place.was in
     let found : is_configured c.args.self.now.symbols c.args.symbol.now ≡ true =
-      sym (ap (λ (b : BookState). is_configured b.symbols c.args.symbol.now) c.self.view_is)
-      ∙ found_configured c.args.symbol.now (symbols_of c.self.inside.rows.items) c.in_ok-place.place (sym (c.find.ensures (symbols_of c.self.inside.rows.items) c.self.invariant.table) ∙ was) in
+    sym (ap (λ (b : BookState). is_configured b.symbols c.args.symbol.now) c.self.view_is)
+    ∙ found_configured c.args.symbol.now (symbols_of c.self.inside.rows.items) c.in_ok-place.place (sym (c.find.ensures (symbols_of c.self.inside.rows.items) c.self.invariant.table) ∙ was) in
     ((λ h. found), (λ h. refl))
 
 pub returns-clause-ranking : goal.returns-clause-ranking
@@ -33,4 +33,4 @@ returns-clause-ranking c = λ entries fits.
     let here : Fits b entries = subst (λ (t : BookState). Fits t entries) (sym c.self.view_is) fits in
     let at : position (bytes_eq c.args.symbol.now) (symbols_of c.self.inside.rows.items) ≡ Some c.in_ok-place.place = sym (c.find.ensures (symbols_of c.self.inside.rows.items) c.self.invariant.table) ∙ was in
     subst (λ (t : List Best). IsRanking entries c.args.symbol.now c.args.side t) (sym (c.ranks.ensures ∙ ap (ranks_at c.args.side) c.index.ensures))
-      (ranking_found c.self.inside.table.keys b entries c.args.symbol.now c.args.side c.in_ok-place.place c.index.result.now c.self.invariant here at)
+    (ranking_found c.self.inside.table.keys b entries c.args.symbol.now c.args.side c.in_ok-place.place c.index.result.now c.self.invariant here at)

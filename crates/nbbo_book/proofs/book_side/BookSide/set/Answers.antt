@@ -7,4 +7,4 @@ use Rattle.nbbo_book.proofs.book_side.BookSide.set.Goals as goal
 pub rerank-requires-clause-order : goal.rerank-requires-clause-order
 rerank-requires-clause-order c =
     subst (λ (n : ℕ). InRank c.args.side (age_at (set c.args.self.now.standings n c.args.standing)) (without c.args.venue c.args.self.now.ranks.items)) (sym c.index.ensures.value)
-      (others_stay c.args.side c.args.self.now c.args.venue c.args.standing c.requires)
+    (others_stay c.args.side c.args.self.now c.args.venue c.args.standing c.requires)

@@ -1,0 +1,80 @@
+-- How a replay stops, by the answer of what it called.
+use Rattle.std.proofs.Common.{◌≡◌, inl, inr, ℕ, ◌+◌, ◌≤◌, List, [], ◌∷◌, ◌++◌, length, take, append-nil, refl, sym, ap, ◌∙◌, subst}
+use Rattle.std.specs.Prelude.{◌≢◌, Result, Ok, Err, OnOk, OnErr, IsErrOf}
+use Rattle.std.proofs.Math.Seq.{take-append_seam}
+use Rattle.feed_text.specs.declared.fault.ReplayFault.{ReplayFault}
+use Rattle.feed_text.specs.declared.fault.ReplayFault.TheVariants.{ReadFailed, WriteFailed, BadRecord, ShortRecord, TooManyTurns, NoMemory}
+use Rattle.feed_text.specs.declared.replay.ReplayConfig.{ReplayConfig}
+use Rattle.feed_text.specs.Capture.{IsUnfinished}
+use Rattle.feed_text.specs.Devices.{Reading, Writing, Came, CameSome, Wrote, Moved}
+use Rattle.feed_text.specs.Following.{Grows, VenueList, PrintsLast, Closes, Stops}
+use Rattle.feed_text.specs.Replays.{Replays, venues_in}
+use Rattle.feed_text.proofs.Steps.{Laws, SoFar, so_far_read, replays_to, replays_until, refused_of, front_wrote, replays_all, front_closed}
+
+-- a text that has only grown, cut where it ended
+pub cut_back : {old new : List ℕ} → Grows old new → take (length old) new ≡ old
+cut_back {old} g = rw g.behind (take-append_seam old g.more)
+
+-- all of the text was taken
+pub taken_whole : {W : Type 0} {adds : W → List ℕ → W → Type 0} {before after : W} {text left : List ℕ} → Moved adds before after text left → left ≡ [] → adds before text after
+taken_whole {adds = adds} {before = before} {after = after} m e = subst (λ (xs : List ℕ). adds before xs after) (sym (m.left ∙ (ap (λ (xs : List ℕ). m.shown ++ xs) e ∙ append-nil m.shown))) m.taken
+
+pub only_fault : (fault : ReplayFault) → IsErrOf {T = Unit {0}} (Err fault) WriteFailed → fault ≡ WriteFailed
+only_fault fault e = cc
+
+-- the last lines, behind no text
+pub last_of : (at : VenueList) (none lines : List ℕ) → none ≡ [] → PrintsLast at none lines → PrintsLast at [] lines
+last_of at none lines e p = subst (λ (t : List ℕ). PrintsLast at t lines) e p
+
+pub closes_by : {W : Type 0} (adds : W → List ℕ → W → Type 0) (failures : W → ℕ) (at : VenueList) (before after : W) (text left : List ℕ) (r : Result (Unit {0}) ReplayFault)
+    → PrintsLast at [] text → OnOk r (Moved adds before after text left × (left ≡ [])) → OnErr r (IsErrOf r WriteFailed) → OnErr r (failures after ≡ failures before + 1) → OnErr r (Wrote adds before text after)
+    → Closes adds failures at before after r
+closes_by adds failures at before after text left (Ok done) last ok only failed part = record { lines = _; are = last; taken = taken_whole ok.0 ok.1 }
+closes_by adds failures at before after text left (Err WriteFailed) last ok only failed part = (record { lines = _; are = last; taken = part }, failed)
+closes_by adds failures at before after text left (Err NoMemory) last ok only failed part = absurd (cc)
+closes_by adds failures at before after text left (Err ReadFailed) last ok only failed part = absurd (cc)
+closes_by adds failures at before after text left (Err BadRecord) last ok only failed part = absurd (cc)
+closes_by adds failures at before after text left (Err ShortRecord) last ok only failed part = absurd (cc)
+closes_by adds failures at before after text left (Err TooManyTurns) last ok only failed part = absurd (cc)
+
+-- memory was refused for the lines of a record
+pub stopped_by : {R W : Type 0} {reading : Reading R} {writing : Writing W} {config : ReplayConfig} {from to : R} {calls : ℕ} {before written : W} {venues : VenueList} {rest text : List ℕ}
+    (fault : ReplayFault) (after : W) → Laws reading writing → SoFar reading writing config from calls to before written venues rest text → writing.failures written ≡ writing.failures before
+    → Stops writing.adds writing.failures text written after fault → Replays reading writing config from to before after (Err fault)
+stopped_by NoMemory after laws x kept s = refused_of laws x s
+stopped_by WriteFailed after laws x kept s = (front_wrote laws x s.0, s.1 ∙ ap (λ (n : ℕ). n + 1) kept)
+stopped_by ReadFailed after laws x kept s = absurd s
+stopped_by BadRecord after laws x kept s = absurd s
+stopped_by ShortRecord after laws x kept s = absurd s
+stopped_by TooManyTurns after laws x kept s = absurd s
+
+-- the reader failed, or no turn was left
+pub unfilled_by : {R W : Type 0} {reading : Reading R} {writing : Writing W} {config : ReplayConfig} {from mid to : R} {calls left : ℕ} {before after : W} {venues : VenueList} {rest longer : List ℕ}
+    (fault : ReplayFault) → Laws reading writing → SoFar reading writing config from calls mid before after venues rest [] → calls + left ≡ config.turns → reading.failures mid ≡ reading.failures from
+    → (fault ≡ ReadFailed → CameSome reading.gives mid rest longer × (reading.failures to ≡ reading.failures mid + 1))
+    → (fault ≡ TooManyTurns → Came reading.gives mid to rest longer left)
+    → (fault ≢ ReadFailed → fault ≡ TooManyTurns)
+    → ((came : List ℕ) → longer ≡ rest ++ came → IsUnfinished (venues_in config) longer)
+    → Replays reading writing config from to before after (Err fault)
+unfilled_by ReadFailed laws x all kept failed stopped only unfinished =
+    let f = failed refl in
+    (replays_until (so_far_read _ refl laws x f.0.came) (unfinished f.0.came.bytes f.0.came.behind) tt, f.1 ∙ ap (λ (n : ℕ). n + 1) kept)
+unfilled_by TooManyTurns laws x all kept failed stopped only unfinished =
+    let s = stopped refl in
+    replays_to (so_far_read _ all laws x s) (unfinished s.bytes s.behind)
+unfilled_by WriteFailed laws x all kept failed stopped only unfinished = let e = only (λ e. cc) in absurd (cc)
+unfilled_by BadRecord laws x all kept failed stopped only unfinished = let e = only (λ e. cc) in absurd (cc)
+unfilled_by ShortRecord laws x all kept failed stopped only unfinished = let e = only (λ e. cc) in absurd (cc)
+unfilled_by NoMemory laws x all kept failed stopped only unfinished = let e = only (λ e. cc) in absurd (cc)
+
+-- the input has ended, and the last lines were written or not
+pub closed_by : {R W : Type 0} {reading : Reading R} {writing : Writing W} {config : ReplayConfig} {from mid to : R} {calls : ℕ} {before written : W} {venues : VenueList} {rest : List ℕ}
+    (r : Result (Unit {0}) ReplayFault) (after : W) → calls + 1 ≤ config.turns → Laws reading writing → SoFar reading writing config from calls mid before written venues rest [] → rest ≡ [] → reading.ends mid to → writing.failures written ≡ writing.failures before
+    → Closes writing.adds writing.failures venues written after r → Replays reading writing config from to before after r
+closed_by (Ok done) after within laws x e end kept c = replays_all within laws x e end c.are c.taken
+closed_by (Err NoMemory) after within laws x e end kept c = rw c (replays_until x tt (inr end))
+closed_by (Err WriteFailed) after within laws x e end kept c = (front_closed laws x e end c.0.are c.0.taken, c.1 ∙ ap (λ (n : ℕ). n + 1) kept)
+closed_by (Err ReadFailed) after within laws x e end kept c = absurd c
+closed_by (Err BadRecord) after within laws x e end kept c = absurd c
+closed_by (Err ShortRecord) after within laws x e end kept c = absurd c
+closed_by (Err TooManyTurns) after within laws x e end kept c = absurd c

@@ -1,0 +1,153 @@
+//! Parts of a printed line, placed in room that was made for the whole line.
+//!
+//! Each call writes behind the first `at` bytes of the room, and tells where what it wrote ends.
+//! What stands behind that end may have changed.
+ghost use Rattle.std.specs.Prelude.{◌≡◌, ◌+◌, ◌/◌, ◌%◌, ◌<◌, ◌≤◌, [], ◌∷◌, length, take, decimal};
+ghost use Rattle.feed_text.specs.Lines.{field};
+ghost use Rattle.feed_text.specs.Placing.{Placed};
+
+use itoa::write_digits;
+
+/// The two digits of each number below 100, one number after the other.
+static PAIRS: [u8; 200] =
+    *b"00010203040506070809101112131415161718192021222324252627282930313233343536373839404142434445464748495051525354555657585960616263646566676869707172737475767778798081828384858687888990919293949596979899";
+
+/// How many bytes the longest number has.
+const LONGEST_NUMBER: usize = 20;
+
+/// From here on a number has more than eight digits.
+const NINE_DIGITS: u64 = 100_000_000;
+
+/// Any bytes.
+#[inline(always)]
+fn place_slice(room: &mut [u8], at: usize, bytes: &[u8]) -> usize
+    requires { at + length bytes.now ≤ length room.old }
+    ensures { Placed room.old room.new at bytes.now result }
+{
+    let end = at + bytes.len();
+    room[at..end].copy_from_slice(bytes);
+    end
+}
+
+/// A few bytes. They come by value, so that they are stored without a look at where they stood.
+#[inline(always)]
+pub(crate) fn place<const N: usize>(room: &mut [u8], at: usize, bytes: [u8; N]) -> usize
+    requires few { N ≤ 64 }
+    requires fits { at + N ≤ length room.old }
+    ensures { Placed room.old room.new at bytes.entry result }
+{
+    place_slice(room, at, &bytes)
+}
+
+/// The first `len` of these bytes, which are stored as one word.
+#[inline(always)]
+pub(crate) fn place_word(room: &mut [u8], at: usize, word: [u8; 8], len: usize) -> usize
+    requires part { len ≤ 8 }
+    requires fits { at + 8 ≤ length room.old }
+    ensures { Placed room.old room.new at (take len word) result }
+{
+    place(room, at, word);
+    at + len
+}
+
+/// Two digits, of which the first may be 0.
+#[inline(always)]
+#[tactic(auto, using(crate::proofs::Digits::pairs_at))]
+fn place_pair(room: &mut [u8], at: usize, number: u32) -> usize
+    requires small { number < 100 }
+    requires fits { at + 2 ≤ length room.old }
+    ensures { let pair = (48 + number / 10) ∷ (48 + number % 10) ∷ [] in
+        Placed room.old room.new at pair result }
+{
+    let from = number as usize * 2;
+    place(room, at, [PAIRS[from], PAIRS[from + 1]])
+}
+
+/// A number of one or two digits.
+#[inline(always)]
+fn place_two(room: &mut [u8], at: usize, number: u32) -> usize
+    requires small { number < 100 }
+    requires fits { at + 2 ≤ length room.old }
+    ensures placed { Placed room.old room.new at (decimal number) result }
+    ensures short { result ≤ at + 2 }
+{
+    if number < 10 {
+        return place(room, at, [b'0' + number as u8]);
+    }
+    place_pair(room, at, number)
+}
+
+/// A number of one to four digits.
+#[inline(always)]
+fn place_four(room: &mut [u8], at: usize, number: u32) -> usize
+    requires small { number < 10000 }
+    requires fits { at + 4 ≤ length room.old }
+    ensures placed { Placed room.old room.new at (decimal number) result }
+    ensures short { result ≤ at + 4 }
+{
+    if number < 100 {
+        return place_two(room, at, number);
+    }
+    let at = place_two(room, at, number / 100);
+    place_pair(room, at, number % 100)
+}
+
+/// A number of one to eight digits.
+#[inline(always)]
+fn place_eight(room: &mut [u8], at: usize, number: u32) -> usize
+    requires small { number < 100000000 }
+    requires fits { at + 8 ≤ length room.old }
+    ensures placed { Placed room.old room.new at (decimal number) result }
+    ensures short { result ≤ at + 8 }
+{
+    if number < 10_000 {
+        return place_four(room, at, number);
+    }
+    let at = place_four(room, at, number / 10_000);
+    let four = number % 10_000;
+    let at = place_pair(room, at, four / 100);
+    place_pair(room, at, four % 100)
+}
+
+/// A number of any length.
+#[cold]
+#[inline(never)]
+fn place_long(room: &mut [u8], at: usize, number: u64) -> usize
+    requires { at + 20 ≤ length room.old }
+    ensures placed { Placed room.old room.new at (decimal number) result }
+    ensures short { result ≤ at + 20 }
+{
+    let mut digits = [0; LONGEST_NUMBER];
+    let start = write_digits(number, &mut digits, LONGEST_NUMBER);
+    place_slice(room, at, &digits[start..])
+}
+
+/// A number after a space.
+#[inline(always)]
+pub(crate) fn place_field(room: &mut [u8], at: usize, number: u64) -> usize
+    requires { at + 21 ≤ length room.old }
+    ensures placed { Placed room.old room.new at (field number) result }
+    ensures short { result ≤ at + 21 }
+{
+    let at = place(room, at, [b' ']);
+    if number < NINE_DIGITS {
+        place_eight(room, at, number as u32)
+    } else {
+        place_long(room, at, number)
+    }
+}
+
+/// A number of one to five digits after a space. Most have one.
+#[inline(always)]
+#[tactic(auto, using(std::proofs::lemmas::Fmt::decimal_digit))]
+pub(crate) fn place_short_field(room: &mut [u8], at: usize, number: u16) -> usize
+    requires { at + 9 ≤ length room.old }
+    ensures placed { Placed room.old room.new at (field number) result }
+    ensures short { result ≤ at + 9 }
+{
+    if number < 10 {
+        return place(room, at, [b' ', b'0' + number as u8]);
+    }
+    let at = place(room, at, [b' ']);
+    place_eight(room, at, u32::from(number))
+}

@@ -1,0 +1,98 @@
+//! Text that waits to be written, and room for a line behind it.
+ghost use Rattle.std.specs.Prelude.{◌≡◌, ◌≤◌, [], length, take, OnOk};
+
+use std::alloc::{AllocError, Global};
+use std::marker::Model;
+
+/// How many bytes more a page has each time that it grows.
+const STEP: usize = 65_536;
+
+/// A text that grows by lines. A line's room is made before it is placed, so that its parts need no
+/// test.
+#[derive(Drop)]
+pub struct Page {
+    /// The text, and then room whose bytes say nothing.
+    pub(crate) bytes: Vec<u8>,
+    /// Where the text ends.
+    pub(crate) end: usize,
+}
+
+impl Model for Page {
+    ghost use Rattle.std.specs.Prelude.{◌-◌, ◌≤◌, length, take};
+    ghost use Rattle.feed_text.specs.Pages.{Written, written_code};
+
+    ghost Value = { Written };
+
+    ghost coded = { written_code };
+
+    ghost view = { λ p. record {
+      items = take p.end p.bytes.items;
+      room = length p.bytes.items - p.end;
+    } };
+
+    ghost invariant = { λ p. p.end ≤ length p.bytes.items };
+}
+
+impl Page {
+    /// No text. It takes no memory before there is some.
+    pub fn new(alloc: Global) -> Page
+        ensures items { result.items ≡ [] }
+    {
+        Page {
+            bytes: Vec::new(alloc),
+            end: 0,
+        }
+    }
+
+    /// How many bytes the text has.
+    pub fn len(&self) -> usize
+        ensures value { result ≡ length self.now.items }
+    {
+        self.end
+    }
+
+    /// The text.
+    pub fn as_slice(&self) -> &[u8]
+        ensures value { result.now ≡ self.now.items }
+    {
+        &self.bytes[..self.end]
+    }
+
+    /// Cuts the text to its first bytes, so many.
+    pub fn truncate(&mut self, len: usize)
+        ensures items { self.new.items ≡ take len self.old.items }
+    {
+        if len < self.end {
+            self.end = len;
+        }
+    }
+
+    /// Takes the text away. Its memory stays.
+    pub fn clear(&mut self)
+        ensures items { self.new.items ≡ [] }
+    {
+        self.end = 0;
+    }
+
+    /// Sees to it that a line of so many bytes has room.
+    #[inline(always)]
+    pub(crate) fn make_room(&mut self, bytes: usize) -> Result<(), AllocError>
+        requires { bytes ≤ 1024 }
+        ensures kept { self.new.items ≡ self.old.items }
+        ensures room { OnOk result (bytes ≤ self.new.room) }
+    {
+        if self.bytes.len() - self.end < bytes {
+            return self.grow();
+        }
+        Ok(())
+    }
+
+    #[cold]
+    #[inline(never)]
+    fn grow(&mut self) -> Result<(), AllocError>
+        ensures kept { self.new.items ≡ self.old.items }
+        ensures room { OnOk result (1024 ≤ self.new.room) }
+    {
+        self.bytes.resize(self.end.saturating_add(STEP), 0)
+    }
+}

@@ -1,0 +1,148 @@
+//! The bytes that were read and not yet used.
+ghost use Rattle.std.specs.Prelude.{◌≡◌, ℕ, ◌+◌, ◌-◌, ◌++◌, [], ◌<◌, ◌≤◌, List, IfOk, Ok, Err, take, drop, length, slice_range, IsTrue, ◌↔◌};
+ghost use Rattle.feed_text.specs.Devices.{Came};
+
+use crate::devices::{CaptureIn, ReadStop};
+use std::alloc::{AllocError, Global};
+use std::marker::Model;
+
+/// How many bytes are held at most: a longest record, which has 65,539, and about as much again.
+pub const ROOM: usize = 131_072;
+
+/// The bytes are moved to the front once there is less room than this behind them.
+const LEAST_ROOM: usize = 65_536;
+
+/// What one call of the reader came to.
+#[derive(Clone, Copy, Debug, PartialEq, Eq)]
+pub enum Turn {
+    /// Bytes came, or the call was interrupted and none did.
+    Went,
+    /// The input is at its end.
+    Ended,
+    /// The reader failed.
+    Failed,
+}
+
+/// The bytes that were read and not yet used, in order. Contracts see their list.
+#[derive(Drop)]
+pub struct Unread {
+    bytes: Vec<u8>,
+    start: usize,
+    end: usize,
+}
+
+impl Model for Unread {
+    ghost use Rattle.std.specs.Prelude.{◌≡◌, ℕ, ◌≤◌, List, length, slice_range};
+
+    ghost Value = { List ℕ };
+
+    ghost view = { λ w. slice_range w.bytes.items w.start w.end };
+
+    ghost invariant = { λ w.
+        (w.start ≤ w.end) × (w.end ≤ length w.bytes.items) × (length w.bytes.items ≡ 131072) };
+}
+
+/// Moves the bytes from `start` to `end` to the front where that costs nothing or where there is little
+/// room behind them, and says where they lie.
+fn make_room(bytes: &mut Vec<u8>, start: usize, end: usize) -> (usize, usize)
+    requires order { start ≤ end }
+    requires within { end ≤ length bytes.old.items }
+    requires not_full { end - start < length bytes.old.items }
+    ensures order { result.0 ≤ result.1 }
+    ensures room { result.1 < length bytes.new.items }
+    ensures same { slice_range bytes.new.items result.0 result.1 ≡ slice_range bytes.old.items start end }
+    ensures len { length bytes.new.items ≡ length bytes.old.items }
+{
+    if start < end && bytes.len() - end >= LEAST_ROOM {
+        return (start, end);
+    }
+    bytes.as_mut_slice().copy_within(start..end, 0);
+    (0, end - start)
+}
+
+/// One call of the reader, into the bytes from `end` on.
+fn read_behind<R: CaptureIn>(
+    reader: &mut R,
+    bytes: &mut Vec<u8>,
+    end: usize,
+) -> Result<usize, ReadStop>
+    requires room { end < length bytes.old.items }
+    ensures front { take end bytes.new.items ≡ take end bytes.old.items }
+    ensures len { length bytes.new.items ≡ length bytes.old.items }
+    ensures count { IfOk result (λ n. end + n ≤ length bytes.new.items) }
+    ensures some { IfOk result (λ n.
+        0 < n → R.gives reader.old 1 (slice_range bytes.new.items end (end + n)) reader.new) }
+    ensures end { result ≡ Ok 0 → R.ends reader.old reader.new }
+    ensures interrupted { result ≡ Err ReadStop.Interrupted → R.gives reader.old 1 [] reader.new }
+    ensures failed { result ≡ Err ReadStop.Failed → R.failures reader.new ≡ R.failures reader.old + 1 }
+    ensures kept { (result ≡ Err ReadStop.Failed → ⊥) → R.failures reader.new ≡ R.failures reader.old }
+{
+    reader.read(&mut bytes.as_mut_slice()[end..])
+}
+
+impl Unread {
+    /// No byte yet. Its memory is asked for here and never again.
+    pub fn new(alloc: Global) -> Result<Unread, AllocError>
+        ensures { IfOk result (λ w. w ≡ []) }
+    {
+        let bytes = vec![in alloc; 0u8; ROOM]?;
+        Ok(Unread {
+            bytes,
+            start: 0,
+            end: 0,
+        })
+    }
+
+    /// The bytes.
+    pub fn bytes(&self) -> &[u8]
+        ensures { result.now ≡ self.now }
+    {
+        &self.bytes[self.start..self.end]
+    }
+
+    /// How many there are.
+    pub fn len(&self) -> usize
+        ensures value { result ≡ length self.now }
+        ensures bound { result ≤ 131072 }
+    {
+        self.end - self.start
+    }
+
+    /// Whether all are used.
+    pub fn is_empty(&self) -> bool
+        ensures { IsTrue result ↔ (self.now ≡ []) }
+    {
+        self.start == self.end
+    }
+
+    /// Uses so many bytes at the front.
+    pub fn advance(&mut self, count: usize)
+        requires { count ≤ length self.old }
+        ensures { self.new ≡ drop count self.old }
+    {
+        self.start += count;
+    }
+
+    /// One call of the reader, which adds what it gives at the end.
+    pub fn read_from<R: CaptureIn>(&mut self, reader: &mut R) -> Turn
+        requires room { length self.old < 131072 }
+        ensures went { result ≡ Turn.Went → Came R.gives reader.old reader.new self.old self.new 1 }
+        ensures ended { result ≡ Turn.Ended → R.ends reader.old reader.new × (self.new ≡ self.old) }
+        ensures failed { result ≡ Turn.Failed
+            → (R.failures reader.new ≡ R.failures reader.old + 1) × (self.new ≡ self.old) }
+        ensures kept { (result ≡ Turn.Failed → ⊥) → R.failures reader.new ≡ R.failures reader.old }
+    {
+        let (start, end) = make_room(&mut self.bytes, self.start, self.end);
+        self.start = start;
+        self.end = end;
+        match read_behind(reader, &mut self.bytes, end) {
+            Ok(0) => Turn::Ended,
+            Ok(count) => {
+                self.end = end + count;
+                Turn::Went
+            }
+            Err(ReadStop::Interrupted) => Turn::Went,
+            Err(ReadStop::Failed) => Turn::Failed,
+        }
+    }
+}

@@ -1,0 +1,114 @@
+//! A run of the program over any input, output and standard error.
+ghost use Rattle.std.specs.Prelude.{◌≡◌, map, string_bytes};
+ghost use Rattle.feed_text.specs.Devices.{Reading, Writing};
+ghost use Rattle.nbbo_main.specs.Runs.{IsConfigOf, Runs, RunsReplay, Says, TellsRefusal, hint_text};
+
+use crate::command_line::{Refusal, settings};
+use crate::ending::ending;
+use crate::replay_settings::ReplaySettings;
+use feed_text::devices::{CaptureIn, TextOut};
+use feed_text::fault::ReplayFault;
+use feed_text::output::write_all;
+use feed_text::replay::{ReplayConfig, replay};
+use std::alloc::Global;
+
+/// How many calls of the reader a replay makes at most.
+const MAX_TURNS: u64 = 1_000_000_000;
+
+/// What a terminal is told before it is read.
+const HINT: &str =
+    "nbbo: reading a capture from the terminal; \"nbbo replay --help\" tells how to give a file\n";
+
+/// What is asked of the replay.
+fn config_of(settings: &ReplaySettings) -> ReplayConfig<'_>
+    ensures { IsConfigOf settings.now result }
+{
+    ReplayConfig {
+        sessions: settings.sessions.as_slice(),
+        window: settings.window,
+        gaps: settings.gaps,
+        turns: MAX_TURNS,
+    }
+}
+
+/// Writes a text on standard error. Where it can't be written nothing can be told.
+fn say<E: TextOut>(text: &str, errors: &mut E)
+    ensures { Says (record { adds = E.adds; failures = E.failures }) text.now errors.old errors.new }
+{
+    if !text.is_empty() {
+        let _ = write_all(text.as_bytes(), errors);
+    }
+}
+
+fn hint(at_terminal: bool) -> &'static str
+    ensures { result.now ≡ hint_text at_terminal }
+{
+    if at_terminal { HINT } else { "" }
+}
+
+/// Replays the input onto the output, and gives the status of the program.
+fn run_replay<R: CaptureIn, W: TextOut, E: TextOut>(
+    alloc: Global,
+    settings: &ReplaySettings,
+    at_terminal: bool,
+    input: &mut R,
+    output: &mut W,
+    errors: &mut E,
+) -> u8
+    ensures { RunsReplay
+        (record { gives = R.gives; ends = R.ends; failures = R.failures })
+        (record { adds = W.adds; failures = W.failures }) (record { adds = E.adds; failures = E.failures })
+        settings.now at_terminal input.old input.new output.old output.new errors.old errors.new result }
+{
+    say(hint(at_terminal), errors);
+    let outcome = replay(alloc, &config_of(settings), input, output);
+    let (status, line) = ending(&outcome);
+    say(line, errors);
+    status
+}
+
+/// Prints why nothing is replayed: help and the version on the output, all else on standard error. A text that was
+/// asked for and can't be written is a fault of writing. Gives the status of the program.
+pub fn refuse<W: TextOut, E: TextOut>(refusal: &Refusal, output: &mut W, errors: &mut E) -> u8
+    ensures { TellsRefusal
+        (record { adds = W.adds; failures = W.failures }) (record { adds = E.adds; failures = E.failures })
+        refusal.now output.old output.new errors.old errors.new result }
+{
+    let status = refusal.status();
+    if status != 0 {
+        say(refusal.text(), errors);
+        return status;
+    }
+    match write_all(refusal.text().as_bytes(), output) {
+        Ok(()) => status,
+        Err(_) => {
+            let (status, text) = ending(&Err(ReplayFault::WriteFailed));
+            say(text, errors);
+            status
+        }
+    }
+}
+
+/// Does what the words ask for, of which the first is the program's name, and gives the status of the program.
+///
+/// The input is read only for a replay, and its lines are all that a replay writes on the output. A terminal is told
+/// on standard error that it is read.
+pub fn run<R: CaptureIn, W: TextOut, E: TextOut>(
+    alloc: Global,
+    words: &[String],
+    at_terminal: bool,
+    input: &mut R,
+    output: &mut W,
+    errors: &mut E,
+) -> u8
+    ensures { Runs
+        (record { gives = R.gives; ends = R.ends; failures = R.failures })
+        (record { adds = W.adds; failures = W.failures }) (record { adds = E.adds; failures = E.failures })
+        (map (λ word. string_bytes word) words.now) at_terminal
+        input.old input.new output.old output.new errors.old errors.new result }
+{
+    match settings(alloc, words) {
+        Ok(settings) => run_replay(alloc, &settings, at_terminal, input, output, errors),
+        Err(refusal) => refuse(&refusal, output, errors),
+    }
+}
