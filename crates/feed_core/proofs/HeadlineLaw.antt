@@ -12,4 +12,4 @@ pub headline : (s : Setting) (events : List Event) (ds : List Done) (w : World) 
 headline s events ds w run = record { venues = venue_half s events ds w run; subscribers = subscriber_half s events ds w run }
 
 pub shows_headline : (s : Setting) (events : List Event) (shown : Shown) → IsRunOf s events shown → ShowsHeadline s events shown
-shows_headline s events shown r = record { world = r.world; run = r.run; shows = r.shows; headline = headline s events shown.outcomes r.world r.run }
+shows_headline s events shown r = record { of = r; headline = headline s events shown.outcomes r.world r.run }

@@ -11,7 +11,8 @@ use Rattle.line_arbiter.specs.declared.outcome.LineFault.{LineFault}
 use Rattle.line_arbiter.specs.declared.faults.RenewFault.{RenewFault}
 use Rattle.line_arbiter.specs.Histories.{History, streams_of}
 use Rattle.filter_terms.specs.declared.terms.Terms.{Terms}
-use Rattle.feed_core.specs.StandIn.{wanted_of, is_self_helped}
+use Rattle.journal_book.specs.Wanted.{wanted_of}
+use Rattle.nbbo_book.specs.Eligible.{is_self_helped}
 use Rattle.feed_core.specs.declared.event.Event.{Event}
 use Rattle.feed_core.specs.declared.event.Event.TheVariants.{Packet, Push, Consume, Declare, Renew, Subscribe, Offer, Dequeue}
 use Rattle.feed_core.specs.declared.event.Done.{Done}

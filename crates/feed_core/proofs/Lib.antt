@@ -2,7 +2,6 @@ pub mod Lists
 pub mod Lanes
 pub mod KeptVenues
 pub mod VenueHalfLaw
-pub mod StandInLaws
 pub mod KeptSubscribers
 pub mod SubscriberHalfLaw
 pub mod HeadlineLaw

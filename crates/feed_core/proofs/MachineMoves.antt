@@ -10,11 +10,14 @@ use Rattle.feed_types.specs.declared.journal.Entry.{Entry}
 use Rattle.feed_types.specs.declared.journal.Entry.TheVariants as entry
 use Rattle.feed_types.specs.declared.journal.Notice.{Notice}
 use Rattle.feed_types.specs.declared.line.LineId.{LineId}
-use Rattle.line_arbiter.specs.Streams.{Begins}
+use Rattle.feed_types.specs.Prefix.{IsPrefix}
 use Rattle.line_arbiter.specs.Histories.{streams_of}
 use Rattle.filter_terms.specs.declared.terms.Terms.{Terms}
 use Rattle.filter_terms.specs.Terms.{meets}
-use Rattle.feed_core.specs.StandIn.{changes_of, wanted_of, JournalState, is_self_helped}
+use Rattle.journal_book.specs.Changes.{changes_of}
+use Rattle.journal_book.specs.Wanted.{wanted_of}
+use Rattle.journal_book.specs.Journals.{JournalState}
+use Rattle.nbbo_book.specs.Eligible.{is_self_helped}
 use Rattle.feed_core.specs.declared.event.Event.{Event}
 use Rattle.feed_core.specs.declared.event.Event.TheVariants as events
 use Rattle.feed_core.specs.declared.event.Done.{Done}
@@ -22,7 +25,7 @@ use Rattle.feed_core.specs.declared.event.Done.TheVariants as done
 use Rattle.feed_core.specs.Worlds.{Lane, empty_lane, is_full, Venue, Subscriber, World, Setting, new_world}
 use Rattle.feed_core.specs.Steps.{Came, stays, goes, journal_full, already_so, is_same, next_in, next_out, pushed, Intake, journaled, consumed, declared, offered, dequeued, put_venue, put_subscriber, Stays, Comes, ComesTo, with_sent, with_intake, with_offered, with_dequeued, AtVenue, AtSubscriber, unknown_venue, unknown_subscriber, too_many_subscribers, IsSubscribed, IsStep, IsRun}
 use Rattle.feed_core.specs.Fitting.{VenueView, FitsVenue, LeftFaulty, LeftAnswered, LeftRenewed, LeftPushed, SubscriberView, FitsSubscriber, LeftOffered, intake_of, KeepsJournal, MachineView, FitVenues, FitSubscribers, FitsWorld, Stepped, Reached}
-use Rattle.feed_core.proofs.StandInLaws.{changes_grow}
+use Rattle.journal_book.proofs.Growth.{changes_begin}
 use Rattle.feed_core.proofs.Lists.{get_set, get_push, get_within}
 
 -- ---- places
@@ -102,6 +105,7 @@ fits_put s m w place new v f now = record {
   symbols = f.symbols;
   journal = f.journal;
   counted = f.counted ∙ sym (length-set w.venues place v);
+  placed = length-set w.venues place v ∙ f.placed;
   capacity = f.capacity;
   subscribers = f.subscribers;
   used = f.used;
@@ -170,11 +174,11 @@ take_begin (x ∷ xs) ys (suc n) h = ap (λ (zs : List _). x ∷ zs) (take_begin
 
 fits_more : (symbols : List (List ℕ)) (E : List Entry) (e : Entry) (c : SubscriberView) (x : Subscriber) → FitsSubscriber symbols E c x → FitsSubscriber symbols (E ++ e ∷ []) c x
 fits_more symbols E e c x f =
-    let g = changes_grow symbols E e in
+    let g = changes_begin symbols E (e ∷ []) in
     let h = f.seen in
     record {
-      seen = (let n = ap (λ (l : List Notice). length l) g.is in let k = length-append (changes_of symbols E) g.more in omega arith);
-      sent = f.sent ∙ ap (filter (meets x.terms)) (sym (ap (take c.seen) g.is ∙ take_begin (changes_of symbols E) g.more c.seen h));
+      seen = (let n = ap (λ (l : List Notice). length l) g.is in let k = length-append (changes_of symbols E) g.rest in omega arith);
+      sent = f.sent ∙ ap (filter (meets x.terms)) (sym (ap (take c.seen) g.is ∙ take_begin (changes_of symbols E) g.rest c.seen h));
       lane = f.lane;
     }
 
@@ -250,6 +254,7 @@ module _ (s : Setting) (m : MachineView) (w : World) (place n : ℕ) (c new : Ve
           symbols = kept.symbols ∙ f.symbols;
           journal = kept.journal ∙ f.journal;
           counted = kept.venues ∙ changed.counted;
+          placed = changed.placed;
           capacity = f.capacity;
           subscribers = fit_grown s w.entries journal.entries m.subscribers w.subscribers (grown_of place (next_out lane) old next what) f.subscribers;
           used = f.used;
@@ -275,6 +280,7 @@ module _ (s : Setting) (m : MachineView) (w : World) (place : ℕ) (on : Bool) (
           symbols = kept.symbols ∙ f.symbols;
           journal = kept.journal ∙ f.journal;
           counted = kept.venues ∙ f.counted;
+          placed = f.placed;
           capacity = f.capacity;
           subscribers = fit_grown s w.entries journal.entries m.subscribers w.subscribers grown f.subscribers;
           used = f.used;
@@ -306,6 +312,7 @@ put_subscriber_fits s m w id new x y f at same now = record {
   symbols = f.symbols;
   journal = f.journal;
   counted = f.counted;
+  placed = f.placed;
   capacity = f.capacity;
   subscribers = record {
     count = length-set m.subscribers id new ∙ f.subscribers.count ∙ sym (length-set w.subscribers id y);
@@ -393,6 +400,7 @@ module _ (s : Setting) (m : MachineView) (w : World) (terms : Terms) (f : FitsWo
       symbols = f.symbols;
       journal = f.journal;
       counted = f.counted;
+      placed = f.placed;
       capacity = f.capacity;
       subscribers = f.subscribers;
       used = ap (λ (k : ℕ). k + 1) f.used;
@@ -420,6 +428,7 @@ module _ (s : Setting) (m : MachineView) (w : World) (terms : Terms) (f : FitsWo
           symbols = f.symbols;
           journal = f.journal;
           counted = f.counted;
+          placed = f.placed;
           capacity = f.capacity;
           subscribers = subst (λ (l : List SubscriberView). FitSubscribers s w.entries l (w.subscribers ++ fresh ∷ [])) (sym grown) (record {
             count = length-append m.subscribers (record { seen = 0; lane = empty_lane } ∷ []) ∙ ap (λ (k : ℕ). k + 1) n ∙ sym (length-append w.subscribers (fresh ∷ []));

@@ -6,7 +6,8 @@ use Rattle.feed_types.specs.declared.journal.Entry.{Entry}
 use Rattle.feed_types.specs.declared.journal.Notice.{Notice}
 use Rattle.filter_terms.specs.declared.terms.Terms.{Terms}
 use Rattle.filter_terms.specs.Terms.{meets}
-use Rattle.feed_core.specs.StandIn.{changes_of, wanted_of}
+use Rattle.journal_book.specs.Changes.{changes_of}
+use Rattle.journal_book.specs.Wanted.{wanted_of}
 use Rattle.feed_core.specs.declared.event.Done.TheVariants as done
 use Rattle.feed_core.specs.Worlds.{Lane, is_full, Subscriber}
 use Rattle.feed_core.specs.Steps.{next_in, offered, ComesTo}

@@ -5,17 +5,18 @@ use Rattle.std.specs.List.{AllByRecursion}
 use Rattle.std.proofs.lemmas.Grind.{flat_map-append}
 use Rattle.feed_types.specs.declared.item.Numbered.{Numbered}
 use Rattle.feed_types.specs.declared.line.LineId.{LineId}
-use Rattle.feed_types.specs.Sessions.{Session}
+use Rattle.feed_types.specs.Sessions.{Session, whole_session, whole_sessions}
 use Rattle.mold_packet.specs.Content.{Content, Spells}
 use Rattle.line_arbiter.specs.declared.outcome.Outcome.{Outcome}
 use Rattle.line_arbiter.specs.declared.outcome.LineFault.{LineFault}
 use Rattle.line_arbiter.specs.declared.faults.RenewFault.{RenewFault}
 use Rattle.line_arbiter.specs.Packets.{Arrival, arrival_of, end_of}
-use Rattle.line_arbiter.specs.Streams.{Begins, IsComplete, front_of, stream_of}
+use Rattle.feed_types.specs.Prefix.{IsPrefix}
+use Rattle.line_arbiter.specs.Streams.{IsComplete, front_of, stream_of}
 use Rattle.line_arbiter.specs.Answered.{IsAnswered, AreAnswered}
 use Rattle.line_arbiter.specs.Renewals.{HasEnded}
 use Rattle.line_arbiter.specs.Histories.{Begun, History, new_session, all_begun, names_of, items_of, streams_of}
-use Rattle.line_arbiter.specs.OfSession.{IsOfSession, AreOfSession, GivesSession, session_stream, whole_stream as whole_session}
+use Rattle.line_arbiter.specs.OfSession.{IsOfSession, AreOfSession, GivesSession, session_stream}
 use Rattle.line_arbiter.proofs.Below.{answered_more, answered_grows, all_sent}
 use Rattle.line_arbiter.proofs.Giving.{gives_session}
 use Rattle.feed_core.specs.declared.event.Event.{Event}
@@ -36,17 +37,17 @@ pub record IsOver (window : ℕ) (b : Begun) : Type 0 where
 -- answered as it should be.
 pub record IsKept (window : ℕ) (v : Venue) : Type 0 where
   pub serves : Serves v.lane (streams_of v.history)
-  pub begun : Begins (items_of v.history.earlier) v.lane.sent
+  pub begun : IsPrefix (items_of v.history.earlier) v.lane.sent
   pub over : AllByRecursion (IsOver window) v.history.earlier
   pub answered : AreAnswered v.history.present.name window v.history.present.packets
 
 pub items_push : (earlier : List Begun) (b : Begun) → items_of (earlier ++ b ∷ []) ≡ items_of earlier ++ stream_of b.packets
 items_push earlier b = flat_map-append (λ (b : Begun). stream_of b.packets) earlier (b ∷ []) ∙ ap (λ (xs : List Numbered). items_of earlier ++ xs) (append-nil (stream_of b.packets))
 
-grown : (earlier : List Begun) (b c : Begun) → Begins (stream_of b.packets) (stream_of c.packets) → Begins (items_of (earlier ++ b ∷ [])) (items_of (earlier ++ c ∷ []))
+grown : (earlier : List Begun) (b c : Begun) → IsPrefix (stream_of b.packets) (stream_of c.packets) → IsPrefix (items_of (earlier ++ b ∷ [])) (items_of (earlier ++ c ∷ []))
 grown earlier b c g = record {
-  more = g.more;
-  is = items_push earlier c ∙ ap (λ (xs : List Numbered). items_of earlier ++ xs) g.is ∙ sym (append_assoc (items_of earlier) (stream_of b.packets) g.more) ∙ ap (λ (xs : List Numbered). xs ++ g.more) (sym (items_push earlier b));
+  rest = g.rest;
+  is = items_push earlier c ∙ ap (λ (xs : List Numbered). items_of earlier ++ xs) g.is ∙ sym (append_assoc (items_of earlier) (stream_of b.packets) g.rest) ∙ ap (λ (xs : List Numbered). xs ++ g.rest) (sym (items_push earlier b));
 }
 
 -- the present session has ended: all of it came, and all was sent
@@ -67,8 +68,8 @@ renewed window v name (Ok ordinal) h r k =
     let e = ended window v k r.right.0 in
     let next : History = record { earlier = all_begun v.history; present = new_session name } in
     subst (λ (x : History). IsKept window (record v { history = x })) (sym r.is) (record {
-      serves = serve_more v.lane (streams_of v.history) (streams_of next) (record { more = []; is = items_push (all_begun v.history) (new_session name) }) k.serves;
-      begun = record { more = []; is = e.1 ∙ sym (append-nil (streams_of v.history)) };
+      serves = serve_more v.lane (streams_of v.history) (streams_of next) (record { rest = []; is = items_push (all_begun v.history) (new_session name) }) k.serves;
+      begun = record { rest = []; is = e.1 ∙ sym (append-nil (streams_of v.history)) };
       over = all_push (IsOver window) v.history.earlier v.history.present k.over (record { answered = k.answered; complete = e.0 });
       answered = tt;
     })
@@ -89,12 +90,12 @@ pub moves : (s : Setting) → MoveKept s (λ e. Unit {0}) (λ place v. IsKept s.
 moves s = record {
   packet = λ place v line bytes p rest answer h may spells taken k. arrived s.window v line bytes.now p rest answer h spells taken k;
   renew = λ place v name answer h r k. renewed s.window v name answer h r k;
-  push = λ place v x e k. record { serves = serve_in v.lane (streams_of v.history) x k.serves e; begun = begins_then k.begun (record { more = x ∷ []; is = refl }); over = k.over; answered = k.answered };
+  push = λ place v x e k. record { serves = serve_in v.lane (streams_of v.history) x k.serves e; begun = begins_then k.begun (record { rest = x ∷ []; is = refl }); over = k.over; answered = k.answered };
   consume = λ place v x e k. record { serves = serve_out v.lane (streams_of v.history) x k.serves e; begun = k.begun; over = k.over; answered = k.answered };
 }
 
 pub new_kept : (window : ℕ) (session : List ℕ) → IsKept window (new_venue session)
-new_kept window session = record { serves = record { sent = record { more = []; is = refl }; received = begins_self [] }; begun = begins_self []; over = tt; answered = tt }
+new_kept window session = record { serves = record { sent = record { rest = []; is = refl }; received = begins_self [] }; begun = begins_self []; over = tt; answered = tt }
 
 pub new_at : (Q : ℕ → Venue → Type 0) (sessions : List (List ℕ)) → ((i : ℕ) (name : List ℕ) → Q i (new_venue name)) → (i : ℕ) (v : Venue) → slice_get (map new_venue sessions) i ≡ Some v → Q i v
 new_at Q [] f i v e = absurd cc
@@ -171,7 +172,7 @@ Known s bs b = AllByRecursion (λ c. c.name ≡ s.name → stream_of c.packets �
 
 by_session : (Brought : Session → Type 0) (bs : List Begun) (b : Begun) (ss : List Session) (t : Session) → ((s : Session) → Brought s → Known s bs b)
     → map (λ (s : Session). s.name) (ss ++ t ∷ []) ≡ map (λ (x : Begun). x.name) (bs ++ b ∷ []) → AllByRecursion Brought (ss ++ t ∷ [])
-    → items_of (bs ++ b ∷ []) ≡ flat_map whole_session ss ++ session_stream t (front_of b.packets) (end_of b.packets)
+    → items_of (bs ++ b ∷ []) ≡ whole_sessions ss ++ session_stream t (front_of b.packets) (end_of b.packets)
 unfolding Known
 by_session Brought [] b [] t known e all = append-nil (stream_of b.packets) ∙ (known t all.0).1 (sym (head_is t.name b.name [] [] e))
 by_session Brought [] b (s ∷ ss) t known e all = absurd (not_none (λ (s : Session). s.name) ss t (tail_is s.name b.name _ [] e))
@@ -179,7 +180,7 @@ by_session Brought (c ∷ bs) b [] t known e all = absurd (not_none_begun bs b (
 by_session Brought (c ∷ bs) b (s ∷ ss) t known e all =
     ap (λ (xs : List Numbered). xs ++ items_of (bs ++ b ∷ [])) ((known s all.0).0.0 (sym (head_is s.name c.name _ _ e)))
     ∙ ap (λ (xs : List Numbered). whole_session s ++ xs) (by_session Brought bs b ss t (λ u h. let k = known u h in (k.0.1, k.1)) (tail_is s.name c.name _ _ e) all.1)
-    ∙ sym (append_assoc (whole_session s) (flat_map whole_session ss) _)
+    ∙ sym (append_assoc (whole_session s) (whole_sessions ss) _)
 
 known_of : (s : Session) (h : History) → AreSession s h → Known s h.earlier h.present
 unfolding Known

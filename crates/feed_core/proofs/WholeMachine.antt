@@ -10,7 +10,8 @@ use Rattle.feed_types.specs.declared.item.Numbered.{Numbered}
 use Rattle.feed_types.specs.declared.journal.Notice.{Notice}
 use Rattle.feed_types.specs.declared.config.FeedConfig.{FeedConfig}
 use Rattle.filter_terms.specs.declared.terms.Terms.{Terms}
-use Rattle.feed_core.specs.StandIn.{changes_of, JournalState}
+use Rattle.journal_book.specs.Changes.{changes_of}
+use Rattle.journal_book.specs.Journals.{JournalState}
 use Rattle.feed_core.specs.declared.event.Event.{Event}
 use Rattle.feed_core.specs.declared.event.Done.{Done}
 use Rattle.feed_core.specs.Worlds.{Lane, inside, Venue, Subscriber, World, Setting, setting_of, new_venue, new_world}
@@ -54,6 +55,7 @@ new_fits config filters cs journal f empty = record {
   symbols = empty.symbols;
   journal = empty.journal_is;
   counted = empty.venues ∙ sym (length-map config.sessions.now new_venue);
+  placed = length-map config.sessions.now new_venue;
   capacity = refl;
   subscribers = record { count = refl; each = λ i c x a b. absurd cc; terms = λ i x a. absurd cc };
   used = refl;
@@ -115,4 +117,5 @@ finished s es ds m cs r shows =
       world = r.world;
       run = r.run;
       shows = λ i. record { outcomes = ds; venues = venues i; entries = f.entries i; changes = changes i; subscribers = subscribers i };
+      placed = length-map cs venue_shown ∙ (shows s.window r.world.venues f.venues).count ∙ f.placed;
     }

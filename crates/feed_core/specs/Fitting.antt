@@ -25,7 +25,9 @@ use Rattle.feed_types.specs.declared.config.FeedConfig.{FeedConfig}
 use Rattle.feed_types.specs.declared.journal.Entry.{Entry}
 use Rattle.feed_types.specs.declared.journal.Notice.{Notice}
 use Rattle.filter_terms.specs.Terms.{meets}
-use Rattle.feed_core.specs.StandIn.{changes_of, wanted_of, JournalState}
+use Rattle.journal_book.specs.Changes.{changes_of}
+use Rattle.journal_book.specs.Wanted.{wanted_of}
+use Rattle.journal_book.specs.Journals.{JournalState}
 use Rattle.feed_core.specs.Steps.{next_in, IsTaken, IsRenewed, answered, renewal, pushed, offered, ComesTo, Intake, IsStep, IsRun}
 
 -- a venue's arbiter, and its lane
@@ -136,6 +138,7 @@ pub record FitsWorld (s : Setting) (m : MachineView) (w : World) : Type 0 where
   pub symbols : m.journal.symbols ≡ s.symbols
   pub journal : m.journal.journal ≡ s.journal
   pub counted : m.journal.venues ≡ length w.venues
+  pub placed : length w.venues ≡ length s.sessions
   pub capacity : m.capacity ≡ s.lane
   pub subscribers : FitSubscribers s w.entries m.subscribers w.subscribers
   pub used : m.used ≡ w.used

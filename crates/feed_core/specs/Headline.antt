@@ -1,9 +1,9 @@
 -- The headline, and what a run shows.
-use Rattle.std.specs.Prelude.{◌≡◌, ℕ, List, map, Some, slice_get}
+use Rattle.std.specs.Prelude.{◌≡◌, ℕ, List, length, map, Some, slice_get}
 use Rattle.feed_types.specs.declared.item.Numbered.{Numbered}
 use Rattle.feed_types.specs.declared.journal.Entry.{Entry}
 use Rattle.feed_types.specs.declared.journal.Notice.{Notice}
-use Rattle.feed_core.specs.StandIn.{changes_of}
+use Rattle.journal_book.specs.Changes.{changes_of}
 use Rattle.feed_core.specs.declared.event.Event.{Event}
 use Rattle.feed_core.specs.declared.event.Done.{Done}
 use Rattle.feed_core.specs.Worlds.{inside, Venue, Subscriber, World, Setting, new_world}
@@ -51,15 +51,14 @@ shown_of s outcomes w = record {
   subscribers = map shown_subscriber w.subscribers;
 }
 
--- The events lead from the empty world to one of which this is shown.
+-- The events lead from the empty world to one of which this is shown; there is a venue for each first session.
 pub record IsRunOf (s : Setting) (events : List Event) (shown : Shown) : Type 0 where
   pub world : World
   pub run : IsRun s (new_world s) events shown.outcomes world
   pub shows : shown ≡ shown_of s shown.outcomes world
+  pub placed : length shown.venues ≡ length s.sessions
 
--- They do, and the headline holds of it.
+-- They do, and the headline holds of that world.
 pub record ShowsHeadline (s : Setting) (events : List Event) (shown : Shown) : Type 0 where
-  pub world : World
-  pub run : IsRun s (new_world s) events shown.outcomes world
-  pub shows : shown ≡ shown_of s shown.outcomes world
-  pub headline : Headline s events world
+  pub of : IsRunOf s events shown
+  pub headline : Headline s events of.world

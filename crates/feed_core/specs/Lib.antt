@@ -1,4 +1,3 @@
-pub mod StandIn
 pub mod Worlds
 pub mod Steps
 pub mod VenueHalf

@@ -3,11 +3,11 @@
 use Rattle.std.specs.Prelude.{◌≡◌, ℕ, List, [], ◌∷◌, ◌++◌, length, drop, map, flat_map}
 use Rattle.std.specs.List.{AllByRecursion}
 use Rattle.feed_types.specs.declared.item.Numbered.{Numbered}
-use Rattle.feed_types.specs.Sessions.{Session}
+use Rattle.feed_types.specs.Sessions.{Session, whole_session, whole_sessions}
 use Rattle.mold_packet.specs.Content.{Content, Spells}
 use Rattle.line_arbiter.specs.Packets.{end_of}
 use Rattle.line_arbiter.specs.Streams.{front_of, stream_of}
-use Rattle.line_arbiter.specs.OfSession.{IsOfSession, GivesSession, session_stream, whole_stream as whole_session}
+use Rattle.line_arbiter.specs.OfSession.{IsOfSession, GivesSession, session_stream}
 use Rattle.line_arbiter.specs.Histories.{History, names_of, streams_of}
 use Rattle.feed_core.specs.declared.event.Event.{Event}
 use Rattle.feed_core.specs.declared.event.Event.TheVariants.{Packet, Push, Consume, Declare, Renew, Subscribe, Offer, Dequeue}
@@ -49,5 +49,5 @@ pub record VenueHalf (events : List Event) (place : ℕ) (v : Venue) : Type 0 wh
       → map (λ s. s.name) (earlier ++ present ∷ []) ≡ names_of v.history
       → AllByRecursion (BringOnly place events) (earlier ++ present ∷ [])
       → v.lane.received ++ waiting v
-        ≡ flat_map whole_session earlier
+        ≡ whole_sessions earlier
           ++ session_stream present (front_of v.history.present.packets) (end_of v.history.present.packets)

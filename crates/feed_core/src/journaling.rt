@@ -5,7 +5,7 @@ ghost use Rattle.feed_core.specs.Steps.{consumed, declared, next_out, ComesTo};
 ghost use Rattle.feed_core.specs.Fitting.{intake_of, KeepsJournal};
 
 use crate::event::Done;
-use crate::stand_in::{Journal, JournalFault};
+use journal_book::{Journal, JournalFault};
 use crate::venue::VenueState;
 use feed_types::VenueId;
 use std::alloc::AllocError;

@@ -9,7 +9,7 @@ ghost use Rattle.feed_core.specs.Headline.{IsRunOf};
 
 use crate::event::{Done, Event};
 use crate::journaling;
-use crate::stand_in::Journal;
+use journal_book::Journal;
 use crate::subscriber::SubscriberState;
 use crate::venue::VenueState;
 use crate::world::World;
@@ -33,9 +33,13 @@ pub(crate) struct Machine {
 
 impl Model for Machine {
     ghost use Rattle.std.specs.Prelude.{◌≤◌, length};
+    ghost use Rattle.std.specs.Coded.{codes};
+    ghost use Rattle.filter_terms.specs.contracts.terms.Terms as terms_type;
     ghost use Rattle.feed_core.specs.Fitting.{MachineView};
 
     ghost Value = { MachineView };
+
+    ghost coded = { Prim.hlevel (codes, terms_type.the_row.coded) };
 
     ghost view = { λ m. record { venues = m.venue_states.items; journal = m.kept; subscribers = m.subscriber_states.items; capacity = m.lane_capacity; used = m.filters_used } };
 

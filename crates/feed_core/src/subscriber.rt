@@ -4,7 +4,7 @@ ghost use Rattle.std.specs.Prelude.{◌≡◌, ℕ, ◌≤◌, ◌++◌, ◌∷�
 ghost use Rattle.feed_types.specs.declared.journal.Entry.{Entry};
 ghost use Rattle.filter_terms.specs.Terms.{meets};
 ghost use Rattle.filter_terms.specs.Filters.{terms_of};
-ghost use Rattle.feed_core.specs.StandIn.{changes_of};
+ghost use Rattle.journal_book.specs.Changes.{changes_of};
 ghost use Rattle.feed_core.specs.Worlds.{inside, empty_lane, Subscriber};
 ghost use Rattle.feed_core.specs.Steps.{dequeued, next_out, ComesTo};
 ghost use Rattle.feed_core.specs.Fitting.{FitsSubscriber, LeftOffered};

@@ -4,7 +4,7 @@ ghost use Rattle.std.specs.Prelude.{◌≡◌, ◌<◌, length, IfSome, slice_ge
 ghost use Rattle.feed_core.specs.Fitting.{shown_by};
 
 use crate::event::Done;
-use crate::stand_in::Journal;
+use journal_book::Journal;
 use crate::subscriber::SubscriberState;
 use crate::venue::VenueState;
 use feed_types::{Entry, Notice, Numbered, SubscriberId, VenueId};
@@ -50,6 +50,20 @@ impl World {
         ensures { result.now ≡ self.now.outcomes }
     {
         self.done.as_slice()
+    }
+
+    /// How many venues there are.
+    pub fn venue_count(&self) -> usize
+        ensures { result ≡ length self.now.venues }
+    {
+        self.venue_states.len()
+    }
+
+    /// How many subscribers there are.
+    pub fn subscriber_count(&self) -> usize
+        ensures { result ≡ length self.now.subscribers }
+    {
+        self.subscriber_states.len()
     }
 
     /// The venue's items that were consumed. The venue is below the number of venues.
