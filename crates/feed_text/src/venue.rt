@@ -40,7 +40,6 @@ impl Model for VenueReplay {
 }
 
 /// Prints each item that is ready, and goes past it.
-#[inline(never)]
 fn put_ready(arbiter: &mut Arbiter<Anything>, text: &mut Page) -> Result<(), AllocError>
     ensures items { OnOk result ((P : List Arrival) → Fits arbiter.old P
         → let ready = drop arbiter.old.sent (stream_of P) in

@@ -39,6 +39,7 @@ fn read_u64(message: &[u8], offset: usize) -> u64
     ])
 }
 
+#[inline(always)]
 fn read_version1(message: &[u8]) -> Item
     requires { length message.now ≡ 26 }
     ensures { result ≡ (if is_symbol_field (symbol_at message.now)
@@ -59,6 +60,7 @@ fn read_version1(message: &[u8]) -> Item
     })
 }
 
+#[inline(always)]
 fn read_version2(message: &[u8]) -> Item
     requires { length message.now ≡ 34 }
     ensures { result ≡ (if is_symbol_field (symbol_at message.now)
