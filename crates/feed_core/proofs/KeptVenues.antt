@@ -61,7 +61,6 @@ module _ (s : Setting) (May : Event → Type 0) (Q : ℕ → Venue → Type 0) (
   consume_case old place v false None d new e each here h = moved new old h.1 each
   consume_case old place v false (Some x) d new e each here h = moved new _ h.1 (put old place _ each (kept.consume place v x e here))
 
-
   -- an event that changes no venue
   other_case : {X : Type 0} (old after : World) (put : X → World) (came : Came X) (d : Done) (new : World) → ((x : X) → (put x).venues ≡ after.venues) → EachVenue Q after → Comes put came after d new → EachVenue Q new
   other_case old after put (stays e) d new same each h = moved new after h.1 each

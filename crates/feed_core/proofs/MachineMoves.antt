@@ -120,15 +120,15 @@ module _ (s : Setting) (m : MachineView) (w : World) (place n : ℕ) (c new : Ve
       let v = there s m w place c f at in
       elim (left s.window place v.venue v.fits) [
         | inl faulty ↦ record {
-            after = put_venue w place v.venue;
-            fits = fits_put s m w place new v.venue f (subst (λ (h : VenueView). FitsVenue s.window place h v.venue) (sym faulty.same) v.fits);
-            step = known_at (slice_get w.venues place) v.venue _ _ v.at (inl (record { fault = faulty.fault; has = faulty.has; is = (faulty.outcome_is, put_same w place v.venue v.at) }));
-          }
+          after = put_venue w place v.venue;
+          fits = fits_put s m w place new v.venue f (subst (λ (h : VenueView). FitsVenue s.window place h v.venue) (sym faulty.same) v.fits);
+          step = known_at (slice_get w.venues place) v.venue _ _ v.at (inl (record { fault = faulty.fault; has = faulty.has; is = (faulty.outcome_is, put_same w place v.venue v.at) }));
+        }
         | inr answered ↦ record {
-            after = put_venue w place (record v.venue { history = answered.history });
-            fits = fits_put s m w place new _ f answered.fits;
-            step = known_at (slice_get w.venues place) v.venue _ _ v.at (inr (record { packet = answered.packet; rest = answered.rest; spells = answered.spells; answer = answered.answer; history = answered.history; taken = answered.taken; outcome_is = answered.outcome_is; new_is = refl }));
-          }
+          after = put_venue w place (record v.venue { history = answered.history });
+          fits = fits_put s m w place new _ f answered.fits;
+          step = known_at (slice_get w.venues place) v.venue _ _ v.at (inr (record { packet = answered.packet; rest = answered.rest; spells = answered.spells; answer = answered.answer; history = answered.history; taken = answered.taken; outcome_is = answered.outcome_is; new_is = refl }));
+        }
       ])
 
   pub renew_step : (name : List ℕ) (d : Done) → ((window p : ℕ) (v : Venue) → FitsVenue window p c v → LeftRenewed window p v name d new)

@@ -105,7 +105,7 @@ module _ (symbols : List (List ℕ)) (entries : List Entry) (capacity : ℕ) (x 
       let meets_it : meets terms n ≡ true = (of_some (slice_get notices place) n (λ m. IsTrue (meets terms m)) (sym e) wanted) in
       let lt = within notices place n (sym e) in
       let taken : filter (meets terms) (take (suc place) notices) ≡ lane.sent =
-          take_wanted (meets terms) notices place n (sym e) meets_it ∙ ap (λ (l : List Notice). l ++ n ∷ []) (passed ∙ sym sent_to) ∙ sym sent in
+      take_wanted (meets terms) notices place n (sym e) meets_it ∙ ap (λ (l : List Notice). l ++ n ∷ []) (passed ∙ sym sent_to) ∙ sym sent in
       record {
         comes = subst (λ (o : Option Notice). ComesTo (offered (is_full capacity x.lane) o x.lane.sent) x.lane.sent (done.Offered n.number) lane.sent) (e ∙ sym next_is)
             (subst (λ (b : Bool). ComesTo (offered b (Some n) x.lane.sent) x.lane.sent (done.Offered n.number) lane.sent) (sym (ap (is_full capacity) (sym f.lane) ∙ room)) (refl, sent));

@@ -1,5 +1,6 @@
--- Which configuration is refused, and why: the first that fits, in this order. Refused memory is the last refusal, but that for
--- the table of symbols, which is asked for before it is seen that one comes twice.
+-- Which configuration is refused, and why: the first that fits, in this order. Refused memory is
+-- the last refusal, but that for the table of symbols, which is asked for before it is seen that
+-- one comes twice.
 use Rattle.std.specs.Prelude.{ℕ, ◌≤◌, List, length}
 use Rattle.std.specs.List.{IsDistinct}
 use Rattle.std.specs.Str.{bytes_eq}
@@ -23,7 +24,8 @@ HasLanes config = IsWithin 1 65536 config.lane
 
 -- all but that no symbol comes twice
 abbrev pub IsSized : FeedConfig → Type 0
-IsSized config = HasVenues config × HasWindow config × HasLanes config × (length config.symbols.now ≤ 4096)
+IsSized config =
+    HasVenues config × HasWindow config × HasLanes config × (length config.symbols.now ≤ 4096)
 
 abbrev pub IsGood : FeedConfig → Type 0
 IsGood config = IsSized config × IsDistinct bytes_eq config.symbols.now
@@ -32,7 +34,8 @@ abbrev pub IsBad : FeedConfig → ConfigFault → Type 0
 IsBad config BadVenueCount = ¬ HasVenues config
 IsBad config BadWindow = HasVenues config × (¬ HasWindow config)
 IsBad config BadCapacity = HasVenues config × HasWindow config × (¬ HasLanes config)
-IsBad config TooManySymbols = HasVenues config × HasWindow config × HasLanes config × (4097 ≤ length config.symbols.now)
+IsBad config TooManySymbols =
+    HasVenues config × HasWindow config × HasLanes config × (4097 ≤ length config.symbols.now)
 IsBad config DuplicateSymbol = IsSized config × (¬ IsDistinct bytes_eq config.symbols.now)
 
 -- why there is no world

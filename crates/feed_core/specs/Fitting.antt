@@ -54,8 +54,8 @@ pub record LeftFaulty (bytes : List ℕ) (outcome : Done) (old new : VenueView) 
   pub outcome_is : outcome ≡ done.Refused (code_of fault)
   pub same : new ≡ old
 
-pub record LeftAnswered (window place : ℕ) (v : Venue) (line : LineId) (bytes : List ℕ) (outcome : Done)
-    (new : VenueView) : Type 0 where
+pub record LeftAnswered (window place : ℕ) (v : Venue) (line : LineId) (bytes : List ℕ)
+    (outcome : Done) (new : VenueView) : Type 0 where
   pub packet : Content
   pub rest : List ℕ
   pub spells : Spells bytes packet rest
@@ -66,7 +66,8 @@ pub record LeftAnswered (window place : ℕ) (v : Venue) (line : LineId) (bytes 
   pub fits : FitsVenue window place new (record v { history = history })
 
 -- what Renew left
-pub record LeftRenewed (window place : ℕ) (v : Venue) (name : List ℕ) (outcome : Done) (new : VenueView) : Type 0 where
+pub record LeftRenewed (window place : ℕ) (v : Venue) (name : List ℕ) (outcome : Done)
+    (new : VenueView) : Type 0 where
   pub answer : Result ℕ RenewFault
   pub history : History
   pub renewed : IsRenewed (sent_of v) name v.history answer history
@@ -74,8 +75,10 @@ pub record LeftRenewed (window place : ℕ) (v : Venue) (name : List ℕ) (outco
   pub fits : FitsVenue window place new (record v { history = history })
 
 -- what Push left
-pub record LeftPushed (window place capacity : ℕ) (v : Venue) (outcome : Done) (new : VenueView) : Type 0 where
-  pub comes : ComesTo (pushed (is_full capacity v.lane) (next_in (streams_of v.history) v.lane) v.lane.sent)
+pub record LeftPushed (window place capacity : ℕ) (v : Venue) (outcome : Done)
+    (new : VenueView) : Type 0 where
+  pub comes : ComesTo
+      (pushed (is_full capacity v.lane) (next_in (streams_of v.history) v.lane) v.lane.sent)
       v.lane.sent outcome new.lane.sent
   pub fits : FitsVenue window place new (record v { lane = record v.lane { sent = new.lane.sent } })
 
@@ -90,17 +93,21 @@ pub record SubscriberView : Type 0 where
   pub lane : Lane Notice
 
 -- they are the subscriber's
-pub record FitsSubscriber (symbols : List (List ℕ)) (entries : List Entry) (c : SubscriberView) (x : Subscriber) : Type 0 where
+pub record FitsSubscriber (symbols : List (List ℕ)) (entries : List Entry) (c : SubscriberView)
+    (x : Subscriber) : Type 0 where
   pub seen : c.seen ≤ length (changes_of symbols entries)
   pub sent : x.lane.sent ≡ filter (meets x.terms) (take c.seen (changes_of symbols entries))
   pub lane : c.lane ≡ x.lane
 
 -- what Offer left
-pub record LeftOffered (symbols : List (List ℕ)) (entries : List Entry) (capacity : ℕ) (x : Subscriber) (outcome : Done)
-    (new : SubscriberView) : Type 0 where
-  pub comes : ComesTo (offered (is_full capacity x.lane) (next_in (wanted_of symbols x.terms entries) x.lane) x.lane.sent)
+pub record LeftOffered (symbols : List (List ℕ)) (entries : List Entry) (capacity : ℕ)
+    (x : Subscriber) (outcome : Done) (new : SubscriberView) : Type 0 where
+  pub comes : ComesTo
+      (offered (is_full capacity x.lane) (next_in (wanted_of symbols x.terms entries) x.lane)
+      x.lane.sent)
       x.lane.sent outcome new.lane.sent
-  pub fits : FitsSubscriber symbols entries new (record x { lane = record x.lane { sent = new.lane.sent } })
+  pub fits : FitsSubscriber symbols entries new
+      (record x { lane = record x.lane { sent = new.lane.sent } })
 
 -- what Consume looks at
 abbrev pub intake_of : Lane Numbered → JournalState → Intake
@@ -112,7 +119,8 @@ pub record KeepsJournal (old new : JournalState) : Type 0 where
   pub venues : new.venues ≡ old.venues
   pub journal : new.journal ≡ old.journal
 
--- the machine: its venues, the journal, its subscribers, how much a lane holds, and how many filters were used up
+-- the machine: its venues, the journal, its subscribers, how much a lane holds, and how many
+-- filters were used up
 pub record MachineView : Type 0 where
   pub venues : List VenueView
   pub journal : JournalState
@@ -126,11 +134,14 @@ pub record FitVenues (window : ℕ) (cs : List VenueView) (vs : List Venue) : Ty
       → FitsVenue window i c v
 
 -- a subscriber's terms are those of the filter at its place
-pub record FitSubscribers (s : Setting) (entries : List Entry) (cs : List SubscriberView) (xs : List Subscriber) : Type 0 where
+pub record FitSubscribers (s : Setting) (entries : List Entry) (cs : List SubscriberView)
+    (xs : List Subscriber) : Type 0 where
   pub count : length cs ≡ length xs
-  pub each : (i : ℕ) (c : SubscriberView) (x : Subscriber) → slice_get cs i ≡ Some c → slice_get xs i ≡ Some x
+  pub each : (i : ℕ) (c : SubscriberView) (x : Subscriber)
+      → slice_get cs i ≡ Some c → slice_get xs i ≡ Some x
       → FitsSubscriber s.symbols entries c x
-  pub terms : (i : ℕ) (x : Subscriber) → slice_get xs i ≡ Some x → slice_get s.filters i ≡ Some x.terms
+  pub terms : (i : ℕ) (x : Subscriber) → slice_get xs i ≡ Some x
+      → slice_get s.filters i ≡ Some x.terms
 
 pub record FitsWorld (s : Setting) (m : MachineView) (w : World) : Type 0 where
   pub venues : FitVenues s.window m.venues w.venues
@@ -145,13 +156,15 @@ pub record FitsWorld (s : Setting) (m : MachineView) (w : World) : Type 0 where
   pub in_turn : length w.subscribers < 32 → w.used ≡ length w.subscribers
 
 -- the event came with this outcome, and the machine stands for the world after it
-pub record Stepped (s : Setting) (old : World) (e : Event) (outcome : Done) (m : MachineView) : Type 0 where
+pub record Stepped (s : Setting) (old : World) (e : Event) (outcome : Done)
+    (m : MachineView) : Type 0 where
   pub after : World
   pub fits : FitsWorld s m after
   pub step : IsStep s old e outcome after
 
 -- the events came with these outcomes, and the machine stands for the world after them
-pub record Reached (s : Setting) (events : List Event) (outcomes : List Done) (m : MachineView) : Type 0 where
+pub record Reached (s : Setting) (events : List Event) (outcomes : List Done)
+    (m : MachineView) : Type 0 where
   pub world : World
   pub fits : FitsWorld s m world
   pub run : IsRun s (new_world s) events outcomes world
@@ -170,13 +183,16 @@ subscriber_shown c = record { dequeued = c.lane.received; queued = inside c.lane
 -- the first n venues are shown, and the others fit
 pub record ShownTo (window n : ℕ) (cs : List VenueView) (vs : List Venue) : Type 0 where
   pub count : length cs ≡ length vs
-  pub early : (i : ℕ) (c : VenueView) (v : Venue) → i < n → slice_get cs i ≡ Some c → slice_get vs i ≡ Some v → ShowsVenue c.lane v
-  pub late : (i : ℕ) (c : VenueView) (v : Venue) → n ≤ i → slice_get cs i ≡ Some c → slice_get vs i ≡ Some v → FitsVenue window i c v
+  pub early : (i : ℕ) (c : VenueView) (v : Venue) → i < n
+      → slice_get cs i ≡ Some c → slice_get vs i ≡ Some v → ShowsVenue c.lane v
+  pub late : (i : ℕ) (c : VenueView) (v : Venue) → n ≤ i
+      → slice_get cs i ≡ Some c → slice_get vs i ≡ Some v → FitsVenue window i c v
 
 -- all are shown
 pub record ShowVenues (cs : List VenueView) (vs : List Venue) : Type 0 where
   pub count : length cs ≡ length vs
-  pub each : (i : ℕ) (c : VenueView) (v : Venue) → slice_get cs i ≡ Some c → slice_get vs i ≡ Some v → ShowsVenue c.lane v
+  pub each : (i : ℕ) (c : VenueView) (v : Venue)
+      → slice_get cs i ≡ Some c → slice_get vs i ≡ Some v → ShowsVenue c.lane v
 
 -- what a finished machine shows
 abbrev pub shown_by : List Done → List VenueView → JournalState → List SubscriberView → Shown

@@ -11,15 +11,16 @@ use Rattle.feed_core.specs.Steps.{IsRun}
 use Rattle.feed_core.specs.VenueHalf.{waiting, VenueHalf}
 use Rattle.feed_core.specs.SubscriberHalf.{SubscriberHalf}
 
--- The headline, of a world to which these events led: the venue half for each venue, and the subscriber half for each
--- subscriber.
+-- The headline, of a world to which these events led: the venue half for each venue, and the
+-- subscriber half for each subscriber.
 pub record Headline (s : Setting) (events : List Event) (w : World) : Type 0 where
-  pub venues : (place : ℕ) (v : Venue) → slice_get w.venues place ≡ Some v → VenueHalf events place v
+  pub venues : (place : ℕ) (v : Venue) → slice_get w.venues place ≡ Some v
+      → VenueHalf events place v
   pub subscribers : (id : ℕ) (x : Subscriber) → slice_get w.subscribers id ≡ Some x
       → SubscriberHalf s.symbols w.entries x
 
--- what a run shows: the outcomes of the events, the items of each venue, the journal with its changes, and the notices of
--- each subscriber
+-- what a run shows: the outcomes of the events, the items of each venue, the journal with its
+-- changes, and the notices of each subscriber
 pub record ShownVenue : Type 0 where
   pub consumed : List Numbered
   pub waiting : List Numbered
@@ -51,7 +52,8 @@ shown_of s outcomes w = record {
   subscribers = map shown_subscriber w.subscribers;
 }
 
--- The events lead from the empty world to one of which this is shown; there is a venue for each first session.
+-- The events lead from the empty world to one of which this is shown; there is a venue for each
+-- first session.
 pub record IsRunOf (s : Setting) (events : List Event) (shown : Shown) : Type 0 where
   pub world : World
   pub run : IsRun s (new_world s) events shown.outcomes world

@@ -1,6 +1,6 @@
--- What one event makes of the world. Each event is said of the part of the world that it looks at, which in a running feed
--- one lock or one end of a lane sees; the step then puts that part back in its place. The refusals stand in the order in
--- which they are looked for.
+-- What one event makes of the world. Each event is said of the part of the world that it looks at,
+-- which in a running feed one lock or one end of a lane sees; the step then puts that part back in
+-- its place. The refusals stand in the order in which they are looked for.
 use Rattle.std.specs.Prelude.{◌≡◌, ◌⊎◌, ℕ, ◌+◌, Bool, true, false, nat_le, List, [], ◌∷◌, ◌++◌, length, Option, Some, None, MatchOption, Result, Ok, Err, slice_get, slice_set, if◌then◌else◌}
 use Rattle.feed_types.specs.declared.item.Numbered.{Numbered}
 use Rattle.feed_types.specs.declared.line.LineId.{LineId}
@@ -43,7 +43,8 @@ too_many_subscribers = done.Refused 20
 abbrev pub unknown_subscriber : Done
 unknown_subscriber = done.Refused 21
 
--- What an event comes to on its part of the world: an outcome that leaves it as it is, or an outcome and what it is then.
+-- What an event comes to on its part of the world: an outcome that leaves it as it is, or an
+-- outcome and what it is then.
 pub data Came (X : Type 0) : Type 0 where
   stays : Done → Came X
   goes : Done → X → Came X
@@ -60,13 +61,15 @@ next_out lane = slice_get lane.sent (length lane.received)
 
 -- ---- each event on its part
 
--- Packet, on what came to a venue: a packet that was read stands among the others with its answer, a refused one too.
+-- Packet, on what came to a venue: a packet that was read stands among the others with its answer,
+-- a refused one too.
 pub record IsTaken (window sent : ℕ) (line : LineId) (packet : Content) (old : History)
     (answer : Result Outcome LineFault) (new : History) : Type 0 where
   pub right : IsOutcome old.present.name window sent old.present.packets packet answer
   pub is : new ≡ after_arrival old (record { line = line; packet = packet; answer = answer })
 
--- Renew, on what came to a venue: the present session is over, and the next one begins, or nothing changes.
+-- Renew, on what came to a venue: the present session is over, and the next one begins, or nothing
+-- changes.
 abbrev pub history_after : History → List ℕ → Result ℕ RenewFault → History
 history_after old name (Ok ordinal) = after_renewal old name
 history_after old name (Err fault) = old
@@ -79,9 +82,11 @@ pub record IsRenewed (sent : ℕ) (name : List ℕ) (old : History) (answer : Re
 -- Push, on what was sent of a venue: its next item, unless the lane is full.
 abbrev pub pushed : Bool → Option Numbered → List Numbered → Came (List Numbered)
 pushed full None sent = stays done.NothingReady
-pushed full (Some x) sent = if full then stays done.LaneFull else goes (done.Pushed x.number) (sent ++ x ∷ [])
+pushed full (Some x) sent =
+    if full then stays done.LaneFull else goes (done.Pushed x.number) (sent ++ x ∷ [])
 
--- Consume, on what was received from a venue and on the journal: the next item of the lane, unless the journal is full.
+-- Consume, on what was received from a venue and on the journal: the next item of the lane, unless
+-- the journal is full.
 pub record Intake : Type 0 where
   pub received : List Numbered
   pub entries : List Entry
@@ -94,7 +99,8 @@ journaled venue (Some x) old = goes (done.Consumed (length old.entries + 1)) (re
 })
 
 abbrev pub consumed : ℕ → ℕ → Option Numbered → Intake → Came Intake
-consumed journal venue next old = if nat_le journal (length old.entries) then stays journal_full else journaled venue next old
+consumed journal venue next old =
+    if nat_le journal (length old.entries) then stays journal_full else journaled venue next old
 
 -- Declare, on the journal: unless it is so already, or the journal is full.
 abbrev pub is_same : Bool → Bool → Bool
@@ -112,12 +118,14 @@ declared journal venue on entries =
 abbrev pub subscribed : Terms → List Subscriber → Came (List Subscriber)
 subscribed terms subscribers =
     if nat_le 32 (length subscribers) then stays too_many_subscribers else
-    goes (done.Subscribed (length subscribers)) (subscribers ++ record { terms = terms; lane = empty_lane } ∷ [])
+    goes (done.Subscribed (length subscribers))
+    (subscribers ++ record { terms = terms; lane = empty_lane } ∷ [])
 
 -- Offer, on what was sent to a subscriber: the next notice that it wants, unless the lane is full.
 abbrev pub offered : Bool → Option Notice → List Notice → Came (List Notice)
 offered full None sent = stays done.NothingWanted
-offered full (Some n) sent = if full then stays done.LaneFull else goes (done.Offered n.number) (sent ++ n ∷ [])
+offered full (Some n) sent =
+    if full then stays done.LaneFull else goes (done.Offered n.number) (sent ++ n ∷ [])
 
 -- Dequeue, on what a subscriber received: the next notice of its lane.
 abbrev pub dequeued : Option Notice → List Notice → Came (List Notice)
@@ -150,13 +158,17 @@ with_sent w place v sent = put_venue w place (record v { lane = record v.lane { 
 
 abbrev pub with_intake : World → ℕ → Venue → Intake → World
 with_intake w place v x =
-    record (put_venue w place (record v { lane = record v.lane { received = x.received } })) { entries = x.entries }
+    record (put_venue w place (record v { lane = record v.lane { received = x.received } })) {
+      entries = x.entries;
+    }
 
 abbrev pub with_offered : World → ℕ → Subscriber → List Notice → World
-with_offered w id x sent = put_subscriber w id (record x { lane = record x.lane { sent = sent } })
+with_offered w id x sent =
+    put_subscriber w id (record x { lane = record x.lane { sent = sent } })
 
 abbrev pub with_dequeued : World → ℕ → Subscriber → List Notice → World
-with_dequeued w id x received = put_subscriber w id (record x { lane = record x.lane { received = received } })
+with_dequeued w id x received =
+    put_subscriber w id (record x { lane = record x.lane { received = received } })
 
 -- ---- the step
 
@@ -186,7 +198,8 @@ abbrev pub renewal : Result ℕ RenewFault → Done
 renewal (Ok ordinal) = done.Renewed ordinal
 renewal (Err fault) = done.Refused (renew_fault_code fault)
 
-pub record IsNext (place : ℕ) (v : Venue) (name : List ℕ) (old : World) (outcome : Done) (new : World) : Type 0 where
+pub record IsNext (place : ℕ) (v : Venue) (name : List ℕ) (old : World) (outcome : Done)
+    (new : World) : Type 0 where
   pub answer : Result ℕ RenewFault
   pub history : History
   pub renewed : IsRenewed (sent_of v) name v.history answer history
@@ -198,11 +211,13 @@ abbrev pub IsSubscribed : Option Terms → World → Done → World → Type 0
 IsSubscribed None old outcome new = Stays done.NoFilter old outcome new
 IsSubscribed (Some terms) old outcome new =
     let after : World = record old { used = old.used + 1 } in
-    Comes (λ xs. record after { subscribers = xs }) (subscribed terms old.subscribers) after outcome new
+    Comes (λ xs. record after { subscribers = xs })
+    (subscribed terms old.subscribers) after outcome new
 
 -- first of all a venue that isn't there, or a subscriber
 abbrev pub AtVenue : World → ℕ → Done → World → (Venue → Type 0) → Type 0
-AtVenue old place outcome new Known = MatchOption (slice_get old.venues place) (Stays unknown_venue old outcome new) Known
+AtVenue old place outcome new Known =
+    MatchOption (slice_get old.venues place) (Stays unknown_venue old outcome new) Known
 
 abbrev pub AtSubscriber : World → ℕ → Done → World → (Subscriber → Type 0) → Type 0
 AtSubscriber old id outcome new Known =
@@ -211,25 +226,31 @@ AtSubscriber old id outcome new Known =
 -- one event, from the old world to the new one, with its outcome
 abbrev pub IsStep : Setting → World → Event → Done → World → Type 0
 IsStep s old (Packet venue line bytes) outcome new = AtVenue old venue outcome new
-    (λ v. IsFaulty bytes.now old outcome new ⊎ IsAnswered s.window venue v line bytes.now old outcome new)
+    (λ v. IsFaulty bytes.now old outcome new
+    ⊎ IsAnswered s.window venue v line bytes.now old outcome new)
 IsStep s old (Renew venue name) outcome new = AtVenue old venue outcome new
     (λ v. IsNext venue v name old outcome new)
 IsStep s old (Push venue) outcome new = AtVenue old venue outcome new
     (λ v. Comes (with_sent old venue v)
-        (pushed (is_full s.lane v.lane) (next_in (streams_of v.history) v.lane) v.lane.sent) old outcome new)
+    (pushed (is_full s.lane v.lane) (next_in (streams_of v.history) v.lane) v.lane.sent)
+    old outcome new)
 IsStep s old (Consume venue) outcome new = AtVenue old venue outcome new
     (λ v. Comes (with_intake old venue v)
-        (consumed s.journal venue (next_out v.lane) (record { received = v.lane.received; entries = old.entries }))
-        old outcome new)
+    (consumed s.journal venue (next_out v.lane)
+    (record { received = v.lane.received; entries = old.entries }))
+    old outcome new)
 IsStep s old (Declare venue on) outcome new = AtVenue old venue outcome new
-    (λ v. Comes (λ entries. record old { entries = entries }) (declared s.journal venue on old.entries) old outcome new)
+    (λ v. Comes (λ entries. record old { entries = entries })
+    (declared s.journal venue on old.entries) old outcome new)
 IsStep s old Subscribe outcome new = IsSubscribed (slice_get s.filters old.used) old outcome new
 IsStep s old (Offer id) outcome new = AtSubscriber old id outcome new
     (λ x. Comes (with_offered old id x)
-        (offered (is_full s.lane x.lane) (next_in (wanted_of s.symbols x.terms old.entries) x.lane) x.lane.sent)
-        old outcome new)
+    (offered (is_full s.lane x.lane)
+    (next_in (wanted_of s.symbols x.terms old.entries) x.lane) x.lane.sent)
+    old outcome new)
 IsStep s old (Dequeue id) outcome new = AtSubscriber old id outcome new
-    (λ x. Comes (with_dequeued old id x) (dequeued (next_out x.lane) x.lane.received) old outcome new)
+    (λ x. Comes (with_dequeued old id x)
+    (dequeued (next_out x.lane) x.lane.received) old outcome new)
 
 -- a run: the events are taken one after another, each with its outcome
 abbrev pub IsRun : Setting → World → List Event → List Done → World → Type 0

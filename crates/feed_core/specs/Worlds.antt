@@ -44,8 +44,9 @@ pub record World : Type 0 where
   pub subscribers : List Subscriber
   pub used : ℕ
 
--- What a feed is set up with: the name of each venue's first session, the symbols, how many messages a window holds and how
--- many items a lane and the journal hold, and the terms of the filters that were handed in.
+-- What a feed is set up with: the name of each venue's first session, the symbols, how many
+-- messages a window holds and how many items a lane and the journal hold, and the terms of the
+-- filters that were handed in.
 pub record Setting : Type 0 where
   pub sessions : List (List ℕ)
   pub symbols : List (List ℕ)

@@ -5,9 +5,9 @@ ghost use Rattle.feed_core.specs.Steps.{consumed, declared, next_out, ComesTo};
 ghost use Rattle.feed_core.specs.Fitting.{intake_of, KeepsJournal};
 
 use crate::event::Done;
-use journal_book::{Journal, JournalFault};
 use crate::venue::VenueState;
 use feed_types::VenueId;
+use journal_book::{Journal, JournalFault};
 use std::alloc::AllocError;
 
 /// Consume: the next item of the venue's lane goes into the journal.
@@ -17,9 +17,12 @@ pub(crate) fn consume(
     state: &mut VenueState,
 ) -> Result<Done, AllocError>
     requires { venue < journal.old.venues }
-    ensures comes { IfOk result (λ d. ComesTo (consumed journal.old.journal venue (next_out state.old.lane) (intake_of state.old.lane journal.old))
+    ensures comes { IfOk result (λ d. ComesTo
+        (consumed journal.old.journal venue (next_out state.old.lane)
+        (intake_of state.old.lane journal.old))
         (intake_of state.old.lane journal.old) d (intake_of state.new.lane journal.new)) }
-    ensures state { OnOk result (state.new ≡ record state.old { lane = record state.old.lane { received = state.new.lane.received } }) }
+    ensures state { OnOk result (state.new
+        ≡ record state.old { lane = record state.old.lane { received = state.new.lane.received } }) }
     ensures kept { KeepsJournal journal.old journal.new }
 {
     match journal.reserve_one() {
@@ -35,13 +38,11 @@ pub(crate) fn consume(
 }
 
 /// Declare: self-help on the venue is on from here, or off.
-pub(crate) fn declare(
-    journal: &mut Journal,
-    venue: VenueId,
-    on: bool,
-) -> Result<Done, AllocError>
+pub(crate) fn declare(journal: &mut Journal, venue: VenueId, on: bool) -> Result<Done, AllocError>
     requires { venue < journal.old.venues }
-    ensures comes { IfOk result (λ d. ComesTo (declared journal.old.journal venue on journal.old.entries) journal.old.entries d journal.new.entries) }
+    ensures comes { IfOk result (λ d. ComesTo
+        (declared journal.old.journal venue on journal.old.entries)
+        journal.old.entries d journal.new.entries) }
     ensures kept { KeepsJournal journal.old journal.new }
 {
     match journal.declare(venue, on) {

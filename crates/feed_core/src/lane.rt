@@ -47,7 +47,8 @@ impl<T: Drop> Lane<T> {
 
     /// Puts an item in, behind the others.
     pub(crate) fn put(&mut self, item: T) -> Result<(), AllocError>
-        ensures ok { OnOk result (self.new ≡ record self.old { sent = self.old.sent ++ item ∷ [] }) }
+        ensures ok { OnOk result (self.new
+            ≡ record self.old { sent = self.old.sent ++ item ∷ [] }) }
         ensures err { OnErr result (self.new ≡ self.old) }
     {
         match self.items.push(item) {
@@ -75,7 +76,8 @@ impl<T: Copy + Drop> Lane<T> {
     /// The next item, which is taken out.
     pub(crate) fn next(&mut self) -> Option<T>
         ensures next { result ≡ next_out self.old }
-        ensures some { IfSome result (λ x. self.new ≡ record self.old { received = self.old.received ++ x ∷ [] }) }
+        ensures some { IfSome result (λ x. self.new
+            ≡ record self.old { received = self.old.received ++ x ∷ [] }) }
         ensures none { result ≡ None → self.new ≡ self.old }
     {
         let next = self.items.get(self.taken).copied()?;

@@ -10,9 +10,9 @@ ghost use Rattle.feed_core.specs.SubscriberHalf.{SubscriberHalf};
 ghost use Rattle.feed_core.specs.Headline.{Headline};
 
 /// The headline. After every list of events, each venue's items, consumed and then waiting, are its
-/// sessions' messages, session by session up to the first gap, each once, in sequence and none after their
-/// session's end; and each subscriber's dequeued notices are, in order and without doubles, a prefix of the
-/// journal's changes of the national best that meet its filter.
+/// sessions' messages, session by session up to the first gap, each once, in sequence and none
+/// after their session's end; and each subscriber's dequeued notices are, in order and without
+/// doubles, a prefix of the journal's changes of the national best that meet its filter.
 pub fn headline()
     ensures { (s : Setting) (events : List Event) (outcomes : List Done) (w : World)
         → IsRun s (new_world s) events outcomes w → Headline s events w }
@@ -35,8 +35,10 @@ pub fn subscriber_half()
 
 /// A list of events has one list of outcomes and leads to one world.
 pub fn one_run()
-    ensures outcomes { (s : Setting) (old : World) (events : List Event) (a b : List Done) (v w : World)
+    ensures outcomes { (s : Setting) (old : World) (events : List Event)
+        (a b : List Done) (v w : World)
         → IsRun s old events a v → IsRun s old events b w → a ≡ b }
-    ensures world { (s : Setting) (old : World) (events : List Event) (a b : List Done) (v w : World)
+    ensures world { (s : Setting) (old : World) (events : List Event)
+        (a b : List Done) (v w : World)
         → IsRun s old events a v → IsRun s old events b w → v ≡ w }
 {}

@@ -9,12 +9,12 @@ ghost use Rattle.feed_core.specs.Headline.{IsRunOf};
 
 use crate::event::{Done, Event};
 use crate::journaling;
-use journal_book::Journal;
 use crate::subscriber::SubscriberState;
 use crate::venue::VenueState;
 use crate::world::World;
 use feed_types::{FeedConfig, LineId, SubscriberId, VenueId};
 use filter_terms::Filter;
+use journal_book::Journal;
 use std::alloc::{AllocError, Global};
 use std::marker::Model;
 
@@ -41,9 +41,16 @@ impl Model for Machine {
 
     ghost coded = { Prim.hlevel (codes, terms_type.the_row.coded) };
 
-    ghost view = { λ m. record { venues = m.venue_states.items; journal = m.kept; subscribers = m.subscriber_states.items; capacity = m.lane_capacity; used = m.filters_used } };
+    ghost view = { λ m. record {
+      venues = m.venue_states.items;
+      journal = m.kept;
+      subscribers = m.subscriber_states.items;
+      capacity = m.lane_capacity;
+      used = m.filters_used;
+    } };
 
-    ghost invariant = { λ m. (length m.subscriber_states.items ≤ m.filters_used) × (length m.venue_states.items ≤ m.kept.venues) };
+    ghost invariant = { λ m. (length m.subscriber_states.items ≤ m.filters_used)
+        × (length m.venue_states.items ≤ m.kept.venues) };
 }
 
 /// The venue of this number.
@@ -95,7 +102,8 @@ impl Machine {
         requires few { length config.now.sessions.now ≤ 16 }
         requires counted { journal.venues ≡ length config.now.sessions.now }
         ensures fits { IfOk result (λ m. IsEmptyOf config.now journal → (filters : List Terms)
-            → FitsWorld (setting_of config.now filters) m (new_world (setting_of config.now filters))) }
+            → FitsWorld (setting_of config.now filters) m
+            (new_world (setting_of config.now filters))) }
         ensures used { IfOk result (λ m. m.used ≡ 0) }
     {
         let venue_states = new_venues(alloc, config.sessions, config.window)?;
@@ -121,16 +129,12 @@ impl Machine {
             filters_used: _,
         } = self;
         finish_all(&mut venue_states)?;
-        Ok(World::new(
-            outcomes,
-            venue_states,
-            kept,
-            subscriber_states,
-        ))
+        Ok(World::new(outcomes, venue_states, kept, subscriber_states))
     }
 
     fn packet(&mut self, venue: VenueId, line: LineId, bytes: &[u8]) -> Done
-        ensures step { (s : Setting) (w : WorldView) → FitsWorld s self.old w → Stepped s w (Event.Packet venue line bytes.entry) result self.new }
+        ensures step { (s : Setting) (w : WorldView) → FitsWorld s self.old w
+            → Stepped s w (Event.Packet venue line bytes.entry) result self.new }
         ensures used { self.new.used ≡ self.old.used }
     {
         let place = venue.index();
@@ -142,7 +146,9 @@ impl Machine {
     }
 
     fn push(&mut self, venue: VenueId) -> Result<Done, AllocError>
-        ensures step { IfOk result (λ d. (s : Setting) (w : WorldView) → FitsWorld s self.old w → Stepped s w (Event.Push venue) d self.new) }
+        ensures step { IfOk result (λ d. (s : Setting) (w : WorldView)
+            → FitsWorld s self.old w
+            → Stepped s w (Event.Push venue) d self.new) }
         ensures used { self.new.used ≡ self.old.used }
     {
         let place = venue.index();
@@ -154,7 +160,8 @@ impl Machine {
     }
 
     fn renew(&mut self, venue: VenueId, session: [u8; 10]) -> Done
-        ensures step { (s : Setting) (w : WorldView) → FitsWorld s self.old w → Stepped s w (Event.Renew venue session) result self.new }
+        ensures step { (s : Setting) (w : WorldView) → FitsWorld s self.old w
+            → Stepped s w (Event.Renew venue session) result self.new }
         ensures used { self.new.used ≡ self.old.used }
     {
         let place = venue.index();
@@ -166,7 +173,9 @@ impl Machine {
     }
 
     fn consume(&mut self, venue: VenueId) -> Result<Done, AllocError>
-        ensures step { IfOk result (λ d. (s : Setting) (w : WorldView) → FitsWorld s self.old w → Stepped s w (Event.Consume venue) d self.new) }
+        ensures step { IfOk result (λ d. (s : Setting) (w : WorldView)
+            → FitsWorld s self.old w
+            → Stepped s w (Event.Consume venue) d self.new) }
         ensures used { self.new.used ≡ self.old.used }
     {
         let place = venue.index();
@@ -178,7 +187,9 @@ impl Machine {
     }
 
     fn declare(&mut self, venue: VenueId, on: bool) -> Result<Done, AllocError>
-        ensures step { IfOk result (λ d. (s : Setting) (w : WorldView) → FitsWorld s self.old w → Stepped s w (Event.Declare venue on) d self.new) }
+        ensures step { IfOk result (λ d. (s : Setting) (w : WorldView)
+            → FitsWorld s self.old w
+            → Stepped s w (Event.Declare venue on) d self.new) }
         ensures used { self.new.used ≡ self.old.used }
     {
         if venue.index() >= self.venue_states.len() {
@@ -189,7 +200,9 @@ impl Machine {
 
     fn offer(&mut self, id: SubscriberId, filters: &[Filter]) -> Result<Done, AllocError>
         requires { self.old.used ≤ length filters.now }
-        ensures step { IfOk result (λ d. (s : Setting) (w : WorldView) → s.filters ≡ all_terms filters.now → FitsWorld s self.old w → Stepped s w (Event.Offer id) d self.new) }
+        ensures step { IfOk result (λ d. (s : Setting) (w : WorldView)
+            → s.filters ≡ all_terms filters.now → FitsWorld s self.old w
+            → Stepped s w (Event.Offer id) d self.new) }
         ensures used { self.new.used ≡ self.old.used }
     {
         let place = id.index();
@@ -201,7 +214,8 @@ impl Machine {
     }
 
     fn dequeue(&mut self, id: SubscriberId) -> Done
-        ensures step { (s : Setting) (w : WorldView) → FitsWorld s self.old w → Stepped s w (Event.Dequeue id) result self.new }
+        ensures step { (s : Setting) (w : WorldView) → FitsWorld s self.old w
+            → Stepped s w (Event.Dequeue id) result self.new }
         ensures used { self.new.used ≡ self.old.used }
     {
         let place = id.index();
@@ -215,7 +229,8 @@ impl Machine {
     /// The next filter is used up, also where there is no place for its subscriber.
     fn subscribe(&mut self, alloc: Global, filters: &[Filter]) -> Result<Done, AllocError>
         requires { self.old.used ≤ length filters.now }
-        ensures step { IfOk result (λ d. (s : Setting) (w : WorldView) → s.filters ≡ all_terms filters.now
+        ensures step { IfOk result (λ d. (s : Setting) (w : WorldView)
+            → s.filters ≡ all_terms filters.now
             → FitsWorld s self.old w → Stepped s w Event.Subscribe d self.new) }
         ensures used { self.new.used ≤ length filters.now }
     {
@@ -239,7 +254,8 @@ impl Machine {
         filters: &[Filter],
     ) -> Result<Done, AllocError>
         requires { self.old.used ≤ length filters.now }
-        ensures step { IfOk result (λ d. (s : Setting) (w : WorldView) → s.filters ≡ all_terms filters.now
+        ensures step { IfOk result (λ d. (s : Setting) (w : WorldView)
+            → s.filters ≡ all_terms filters.now
             → FitsWorld s self.old w → Stepped s w event.now d self.new) }
         ensures used { self.new.used ≤ length filters.now }
     {

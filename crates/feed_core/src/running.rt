@@ -11,11 +11,11 @@ ghost use Rattle.feed_core.specs.Fitting.{all_terms, IsEmptyOf};
 use crate::config::{ConfigFault, CoreFault};
 use crate::event::Event;
 use crate::machine::Machine;
-use journal_book::Journal;
-use nbbo_book::BookFault;
 use crate::world::World;
 use feed_types::FeedConfig;
 use filter_terms::Filter;
+use journal_book::Journal;
+use nbbo_book::BookFault;
 use std::alloc::{AllocError, Global};
 
 /// The first fault of the configuration's sizes.
@@ -44,12 +44,7 @@ fn new_journal(alloc: Global, config: &FeedConfig<'_>) -> Result<Journal, CoreFa
     ensures distinct { OnOk result (IsDistinct bytes_eq config.now.symbols.now) }
     ensures fault { IfErr result (Explains config.now) }
 {
-    match Journal::new(
-        alloc,
-        config.symbols,
-        config.sessions.len(),
-        config.journal,
-    ) {
+    match Journal::new(alloc, config.symbols, config.sessions.len(), config.journal) {
         Ok(journal) => Ok(journal),
         Err(BookFault::DuplicateSymbol) => Err(CoreFault::BadConfig(ConfigFault::DuplicateSymbol)),
         Err(_) => Err(CoreFault::NoMemory),
@@ -73,22 +68,24 @@ fn run_over(
     machine.into_world(outcomes)
 }
 
-/// Takes the events one after another, and shows what they came to. `filters` are handed in for Subscribe, in
-/// this order.
+/// Takes the events one after another, and shows what they came to. `filters` are handed in for
+/// Subscribe, in this order.
 ///
-/// The events may be any, in any order: one that can't be is refused by its number, and changes nothing. A
-/// packet that the lines refuse stands among the packets that came, and a Subscribe that is refused for want of
-/// a place uses up its filter. The configuration's `log` isn't used. BadConfig carries the first fault that
-/// fits, in the order of [`ConfigFault`]; NoMemory comes where memory was refused, and then nothing is shown.
-/// The filters are dropped in each case.
+/// The events may be any, in any order: one that can't be is refused by its number, and changes
+/// nothing. A packet that the lines refuse stands among the packets that came, and a Subscribe that
+/// is refused for want of a place uses up its filter. The configuration's `log` isn't used.
+/// BadConfig carries the first fault that fits, in the order of [`ConfigFault`]; NoMemory comes
+/// where memory was refused, and then nothing is shown. The filters are dropped in each case.
 pub fn run(
     alloc: Global,
     config: &FeedConfig<'_>,
     events: &[Event<'_>],
     filters: Vec<Filter>,
 ) -> Result<World, CoreFault>
-    ensures run { IfOk result (IsRunOf (setting_of config.now (all_terms filters.items)) events.now) }
-    ensures headline { IfOk result (ShowsHeadline (setting_of config.now (all_terms filters.items)) events.now) }
+    ensures run { IfOk result
+        (IsRunOf (setting_of config.now (all_terms filters.items)) events.now) }
+    ensures headline { IfOk result
+        (ShowsHeadline (setting_of config.now (all_terms filters.items)) events.now) }
     ensures good { OnOk result (IsGood config.now) }
     ensures fault { IfErr result (Explains config.now) }
 {

@@ -34,9 +34,13 @@ impl Model for SubscriberState {
 /// The place of the next notice that the filter answers for, from one on; or the end.
 fn next_wanted(asked: &Filter, notices: &[Notice], from: usize) -> usize
     ensures within { result ≤ length notices.now }
-    ensures passed { filter (meets (terms_of asked.now)) (take result notices.now) ≡ filter (meets (terms_of asked.now)) (take from notices.now) }
-    ensures next { slice_get notices.now result ≡ slice_get (filter (meets (terms_of asked.now)) notices.now) (length (filter (meets (terms_of asked.now)) (take from notices.now))) }
-    ensures wanted { IfSome (slice_get notices.now result) (λ n. IsTrue (meets (terms_of asked.now) n)) }
+    ensures passed { filter (meets (terms_of asked.now)) (take result notices.now)
+        ≡ filter (meets (terms_of asked.now)) (take from notices.now) }
+    ensures next { slice_get notices.now result
+        ≡ slice_get (filter (meets (terms_of asked.now)) notices.now)
+        (length (filter (meets (terms_of asked.now)) (take from notices.now))) }
+    ensures wanted { IfSome (slice_get notices.now result)
+        (λ n. IsTrue (meets (terms_of asked.now) n)) }
 {
     for i in from..notices.len() {
         if asked.answer(&notices[i]) {
@@ -70,7 +74,8 @@ impl SubscriberState {
         notices: &[Notice],
         capacity: u32,
     ) -> Result<Done, AllocError>
-        ensures { IfOk result (λ d. (symbols : List (List ℕ)) (entries : List Entry) (x : Subscriber)
+        ensures { IfOk result (λ d. (symbols : List (List ℕ)) (entries : List Entry)
+            (x : Subscriber)
             → x.terms ≡ terms_of asked.now → notices.now ≡ changes_of symbols entries
             → FitsSubscriber symbols entries self.old x
             → LeftOffered symbols entries capacity x d self.new) }
@@ -90,8 +95,10 @@ impl SubscriberState {
 
     /// Dequeue: the next notice of the lane is taken out of it.
     pub(crate) fn dequeue(&mut self) -> Done
-        ensures comes { ComesTo (dequeued (next_out self.old.lane) self.old.lane.received) self.old.lane.received result self.new.lane.received }
-        ensures others { self.new ≡ record self.old { lane = record self.old.lane { received = self.new.lane.received } } }
+        ensures comes { ComesTo (dequeued (next_out self.old.lane) self.old.lane.received)
+            self.old.lane.received result self.new.lane.received }
+        ensures others { self.new
+            ≡ record self.old { lane = record self.old.lane { received = self.new.lane.received } } }
     {
         match self.notices.next() {
             Some(notice) => Done::Dequeued(notice.number),

@@ -33,7 +33,8 @@ impl Model for VenueState {
 }
 
 fn put(lane: &mut Lane<Numbered>, number: u64, item: Item) -> Result<(), AllocError>
-    ensures ok { OnOk result (lane.new ≡ record lane.old { sent = lane.old.sent ++ record { number = number; item = item } ∷ [] }) }
+    ensures ok { OnOk result (lane.new
+        ≡ record lane.old { sent = lane.old.sent ++ record { number = number; item = item } ∷ [] }) }
     ensures err { OnErr result (lane.new ≡ lane.old) }
 {
     lane.put(Numbered { number, item })
@@ -94,7 +95,8 @@ impl VenueState {
 
     /// Push, into a lane that holds so many items.
     pub(crate) fn push(&mut self, capacity: u32) -> Result<Done, AllocError>
-        ensures { IfOk result (λ d. (window place : ℕ) (v : Venue) → FitsVenue window place self.old v
+        ensures { IfOk result (λ d. (window place : ℕ) (v : Venue)
+            → FitsVenue window place self.old v
             → LeftPushed window place capacity v d self.new) }
     {
         let Some(next) = self.lines.next_ready() else {
@@ -112,7 +114,9 @@ impl VenueState {
     /// The next item of the lane, which is taken out of it.
     pub(crate) fn next(&mut self) -> Option<Numbered>
         ensures next { result ≡ next_out self.old.lane }
-        ensures some { IfSome result (λ x. self.new ≡ record self.old { lane = record self.old.lane { received = self.old.lane.received ++ x ∷ [] } }) }
+        ensures some { IfSome result (λ x. self.new ≡ record self.old {
+          lane = record self.old.lane { received = self.old.lane.received ++ x ∷ [] };
+        }) }
         ensures none { result ≡ None → self.new ≡ self.old }
     {
         self.items.next()
@@ -143,7 +147,8 @@ impl VenueState {
 
 fn drain(lines: &mut Arbiter<Anything>, lane: &mut Lane<Numbered>) -> Result<(), AllocError>
     ensures { OnOk result ((packets : List Arrival) → Fits lines.old packets
-        → lane.new ≡ record lane.old { sent = lane.old.sent ++ drop lines.old.sent (stream_of packets) }) }
+        → lane.new
+        ≡ record lane.old { sent = lane.old.sent ++ drop lines.old.sent (stream_of packets) }) }
 {
     while let Some(next) = lines.next_ready() {
         let Numbered { number, item } = next;

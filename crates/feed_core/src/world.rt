@@ -4,10 +4,10 @@ ghost use Rattle.std.specs.Prelude.{◌≡◌, ◌<◌, length, IfSome, slice_ge
 ghost use Rattle.feed_core.specs.Fitting.{shown_by};
 
 use crate::event::Done;
-use journal_book::Journal;
 use crate::subscriber::SubscriberState;
 use crate::venue::VenueState;
 use feed_types::{Entry, Notice, Numbered, SubscriberId, VenueId};
+use journal_book::Journal;
 use std::marker::Model;
 
 /// A finished run: what came of each event, and what the feed had come to after the last one.
@@ -25,7 +25,8 @@ impl Model for World {
 
     ghost Value = { Shown };
 
-    ghost view = { λ w. shown_by w.done.items w.venue_states.items w.kept w.subscriber_states.items };
+    ghost view = { λ w.
+        shown_by w.done.items w.venue_states.items w.kept w.subscriber_states.items };
 }
 
 impl World {
@@ -74,8 +75,8 @@ impl World {
         self.venue_states[venue.index()].consumed()
     }
 
-    /// The venue's items that wait: those in its lane, and then those in sequence that were not pushed yet.
-    /// The venue is below the number of venues.
+    /// The venue's items that wait: those in its lane, and then those in sequence that were not
+    /// pushed yet. The venue is below the number of venues.
     pub fn waiting(&self, venue: VenueId) -> &[Numbered]
         requires { venue < length self.now.venues }
         ensures { IfSome (slice_get self.now.venues venue) (λ v. result.now ≡ v.waiting) }
@@ -97,7 +98,8 @@ impl World {
         self.kept.changes()
     }
 
-    /// The notices that the subscriber took out of its lane. The id is below the number of subscribers.
+    /// The notices that the subscriber took out of its lane. The id is below the number of
+    /// subscribers.
     pub fn dequeued(&self, id: SubscriberId) -> &[Notice]
         requires { id < length self.now.subscribers }
         ensures { IfSome (slice_get self.now.subscribers id) (λ x. result.now ≡ x.dequeued) }
