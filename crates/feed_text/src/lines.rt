@@ -85,6 +85,7 @@ fn place_outcome(room: &mut [u8], at: usize, outcome: &Result<Outcome, LineFault
 }
 
 /// The line of a datagram whose packet was answered.
+#[inline(always)]
 pub(crate) fn put_packet(
     text: &mut Page,
     venue: VenueId,
@@ -139,6 +140,7 @@ fn place_item_word(room: &mut [u8], at: usize, item: &Item) -> usize
 }
 
 /// The line of an item that was ready.
+#[inline(always)]
 pub(crate) fn put_item(text: &mut Page, venue: VenueId, item: &Numbered) -> Result<(), AllocError>
     ensures line { OnOk result (text.new.items ≡ text.old.items ++ item_line venue item.now) }
     ensures part { OnErr result (text.new.items ≡ text.old.items) }

@@ -80,6 +80,7 @@ fn put_items(venue: VenueId, packet: &Packet<'_>, text: &mut Page) -> Result<(),
 }
 
 /// Prints the line of a packet that passed through, its items, and what is ready behind them.
+#[inline(always)]
 fn put_passed(
     arbiter: &mut Arbiter<Anything>,
     line: LineId,
@@ -131,7 +132,29 @@ impl VenueReplay {
         self.sent_before.saturating_add(self.arbiter.status().sent)
     }
 
-    /// Takes a packet, and prints what became of it and each item that is ready then.
+    /// Takes a packet through the window, and prints what became of it and each item that is ready
+    /// then.
+    #[inline(never)]
+    fn take_held(
+        &mut self,
+        line: LineId,
+        packet: &Packet<'_>,
+        text: &mut Page,
+    ) -> Result<(), AllocError>
+        ensures prints { OnOk result
+            ((width place : ℕ) (h : History) → Follows width place self.old h
+            → PrintsOutcome width place line packet.now h
+            text.old.items text.new.items self.new) }
+        ensures grows { Grows text.old.items text.new.items }
+    {
+        let answer = self.arbiter.take(line, packet);
+        put_packet(text, self.arbiter.venue(), line, &answer)?;
+        put_ready(&mut self.arbiter, text)
+    }
+
+    /// Takes a packet, past the window where it may, and prints what became of it and each item that
+    /// is ready then.
+    #[inline(always)]
     fn take_packet(
         &mut self,
         line: LineId,
@@ -147,9 +170,7 @@ impl VenueReplay {
         if let Some(outcome) = self.arbiter.take_through(line, packet) {
             return put_passed(&mut self.arbiter, line, packet, outcome, text);
         }
-        let answer = self.arbiter.take(line, packet);
-        put_packet(text, self.arbiter.venue(), line, &answer)?;
-        put_ready(&mut self.arbiter, text)
+        self.take_held(line, packet, text)
     }
 
     /// Prints the line of a datagram, and each item that is ready then.
@@ -173,6 +194,7 @@ impl VenueReplay {
 
     /// Takes a datagram of a line and prints its lines: what became of it, each item that is ready
     /// then, and where they are asked for the gap.
+    #[inline(never)]
     pub fn take(
         &mut self,
         line: LineId,

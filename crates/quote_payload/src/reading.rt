@@ -39,6 +39,7 @@ fn read_u64(message: &[u8], offset: usize) -> u64
     ])
 }
 
+#[inline(always)]
 fn read_version1(message: &[u8]) -> Item
     requires { length message.now ≡ 26 }
     ensures { result ≡ (if is_symbol_field (symbol_at message.now)
@@ -59,6 +60,7 @@ fn read_version1(message: &[u8]) -> Item
     })
 }
 
+#[inline(always)]
 fn read_version2(message: &[u8]) -> Item
     requires { length message.now ≡ 34 }
     ensures { result ≡ (if is_symbol_field (symbol_at message.now)
@@ -117,6 +119,7 @@ fn read_halt(message: &[u8]) -> Item
 /// Everything else is [`Item::Other`]: another first byte, another length, a symbol that isn't a
 /// name of 1 to 8 bytes and then spaces, another state. [`Item::End`] is announced by a packet and
 /// is no message.
+#[inline(always)]
 #[tactic(auto, unfolding(crate::specs::Payload::item_of))]
 pub fn read_item(message: &[u8]) -> Item
     ensures value { result ≡ item_of message.now }

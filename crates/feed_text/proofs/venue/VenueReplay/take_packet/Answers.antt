@@ -3,7 +3,6 @@ use Rattle.std.proofs.lemmas.Result.{on_ok_weaker}
 use Rattle.std.specs.Prelude.{Result, Ok, Err, OnOk}
 use Rattle.line_arbiter.specs.States.{State}
 use Rattle.feed_text.specs.Following.{Venue, Follows}
-use Rattle.feed_text.proofs.VenueSteps.{taken_prints}
 use Rattle.feed_text.proofs.Passing.{passed_prints}
 use Rattle.feed_text.proofs.venue.VenueReplay.take_packet.Goals as goal
 
@@ -13,17 +12,11 @@ three (Err e) f a b c = tt
 
 pub returns-clause-prints : goal.returns-clause-prints
 returns-clause-prints c =
-    three c.put_ready.result (λ items fits kept width place h f.
-    taken_prints width place c.venue.result h
-    (record { arbiter = c.take_through.new.self; sent_before = c.self.inside.sent_before })
-    c.take-answer.new.self c.put_ready.new.arbiter c.args.line c.args.packet.now c.take-answer.result
-    c.args.text.now.items c.put_packet.new.text.items c.put_ready.new.text.items
+    on_ok_weaker c.take_held.result (λ prints width place h f.
+    prints width place h
     (subst (λ (a : State). Follows width place (record { arbiter = a; sent_before = c.self.inside.sent_before }) h) (sym c.in_default.ensures.none)
-    (subst (λ (v : Venue). Follows width place v h) (sym c.self.view_is) f))
-    c.take-answer.ensures.outcome c.take-answer.ensures.fits c.take-answer.ensures.kept
-    c.venue.ensures c.in_ok-put_packet.ensures.line
-    items fits kept)
-    c.put_ready.ensures.items c.put_ready.ensures.fits c.put_ready.ensures.kept
+    (subst (λ (v : Venue). Follows width place v h) (sym c.self.view_is) f)))
+    c.take_held.ensures.prints
 
 pub returns-in-Some-clause-prints : goal.returns-in-Some-clause-prints
 returns-in-Some-clause-prints c =
