@@ -1,6 +1,6 @@
 //! Worked entries: which changes they make, and which of them which subscriber is offered.
 
-ghost use Rattle.std.specs.Prelude.{◌≡◌, IfOk, OnOk};
+ghost use Rattle.std.specs.Prelude.{◌≡◌, IfOk};
 ghost use Rattle.journal_book.specs.Consolidators.{journal_of};
 
 use super::*;
@@ -50,41 +50,6 @@ fn taken(made: &mut Consolidator, first: bool, number: u64, item: Item) -> Resul
     Ok(made.record(venue, Numbered { number, item }))
 }
 
-/// Two venues bid alike; the first one offers, is smaller for a while, and is back.
-fn five_entries(made: &mut Consolidator) -> Result<(), Fail>
-    requires { (journal_of made.old).venues ≡ 2 }
-    ensures { OnOk result ((journal_of made.new).venues ≡ 2) }
-{
-    let bid_alone = quoted((101_500, 300), (0, 0))?;
-    let smaller = quoted((101_500, 200), (101_600, 400))?;
-    let whole = quoted((101_500, 300), (101_600, 400))?;
-    let _first = taken(made, true, 1, bid_alone)?;
-    let _second = taken(made, false, 1, bid_alone)?;
-    let _third = taken(made, true, 2, whole)?;
-    let _fourth = taken(made, true, 3, smaller)?;
-    let _fifth = taken(made, true, 4, whole)?;
-    Ok(())
-}
-
-/// The numbers of the notices that a new subscriber of these terms is offered, 0 where there is
-/// none.
-fn offers(made: &mut Consolidator, terms: Terms) -> Result<[u64; 4], Fail> {
-    let mut numbers = [0; 4];
-    let Ok(id) = made.subscribe(Filter::of(terms)) else {
-        return Ok(numbers);
-    };
-    for place in 0..4 {
-        if !made.has(id) {
-            return Ok(numbers);
-        }
-        if let Some(notice) = made.next_offer(id) {
-            numbers[place] = notice.number;
-            made.offered(id);
-        }
-    }
-    Ok(numbers)
-}
-
 /// Where the bid stands: its venue and size, or 99 and 0 where there is none.
 fn bid_of(notice: &Notice) -> (usize, u64) {
     match notice.national.bid {
@@ -96,27 +61,6 @@ fn bid_of(notice: &Notice) -> (usize, u64) {
 /// The notice's number, position and state.
 fn shown(notice: &Notice) -> (u64, u64, NationalState) {
     (notice.number, notice.position, notice.national.state())
-}
-
-#[test]
-fn numbers_what_changes(rt: HostRuntime) -> Result<(), Fail> {
-    let mut made = of_two_venues(rt.alloc(), 8)?;
-    five_entries(&mut made)?;
-    assert_eq!(rt; made.entries().len(), 5);
-    let [first, second, third] = made.changes() else {
-        return Err(Fail::from("three changes"));
-    };
-    assert_eq!(rt; shown(first), (1, 1, NationalState::OneSided));
-    assert_eq!(rt; bid_of(first), (0, 300));
-    assert_eq!(rt; shown(second), (2, 3, NationalState::Normal));
-    assert_eq!(rt; bid_of(second), (0, 300));
-    assert_eq!(rt; shown(third), (3, 4, NationalState::Normal));
-    assert_eq!(rt; bid_of(third), (1, 300));
-    let now = made.national(&acme()?).ok_or("it is configured")?;
-    assert_eq!(rt; now.state(), NationalState::Normal);
-    let other = SymbolName::from_text(b"IBM").ok_or("a name")?;
-    assert!(rt; made.national(&other).is_none());
-    Ok(())
 }
 
 #[test]
@@ -135,54 +79,6 @@ fn ends_with_the_venue(rt: HostRuntime) -> Result<(), Fail> {
     assert_eq!(rt; shown(third), (3, 3, NationalState::Crossed));
     assert_eq!(rt; shown(fourth), (4, 4, NationalState::OneSided));
     assert_eq!(rt; bid_of(fourth), (99, 0));
-    Ok(())
-}
-
-#[test]
-fn offers_what_is_wanted(rt: HostRuntime) -> Result<(), Fail> {
-    let alloc = rt.alloc();
-    let mut made = of_two_venues(alloc, 8)?;
-    five_entries(&mut made)?;
-    assert_eq!(rt; offers(&mut made, Terms::All)?, [1, 2, 3, 0]);
-    assert_eq!(rt; offers(&mut made, Terms::AnyOf(Vec::new(alloc)))?, [0; 4]);
-    let symbol = Box::new(alloc, Terms::Symbol(acme()?))?;
-    let state = Box::new(alloc, Terms::StateIs(NationalState::OneSided))?;
-    assert_eq!(rt;
-        offers(&mut made, Terms::Both(symbol, state))?,
-        [1, 0, 0, 0]
-    );
-    let normal = Terms::StateIs(NationalState::Normal);
-    assert_eq!(rt; offers(&mut made, normal)?, [2, 3, 0, 0]);
-    assert_eq!(rt; offers(&mut made, Terms::MinSize(300))?, [2, 3, 0, 0]);
-    assert_eq!(rt; offers(&mut made, Terms::MinSize(301))?, [0; 4]);
-    Ok(())
-}
-
-#[test]
-fn goes_on_where_it_was(rt: HostRuntime) -> Result<(), Fail> {
-    let mut made = of_two_venues(rt.alloc(), 8)?;
-    let (Ok(id), Ok(other)) = (
-        made.subscribe(Filter::of(Terms::All)),
-        made.subscribe(Filter::of(Terms::All)),
-    ) else {
-        return Err(Fail::from("two subscribers"));
-    };
-    five_entries(&mut made)?;
-    for number in 1..4 {
-        if !made.has(id) || !made.has(other) {
-            return Err(Fail::from("both are there"));
-        }
-        let again = made.next_offer(id).map(|notice| notice.number);
-        assert_eq!(rt; again, Some(number));
-        if let Some(notice) = made.next_offer(id) {
-            assert_eq!(rt; notice.number, number);
-            made.offered(id);
-        }
-        if made.has(other) {
-            let first = made.next_offer(other).map(|notice| notice.number);
-            assert_eq!(rt; first, Some(1));
-        }
-    }
     Ok(())
 }
 
