@@ -5,4 +5,5 @@ mod devices;
 mod lines;
 mod replays;
 mod sizes;
+mod texts;
 mod unread;

@@ -28,7 +28,8 @@ MayAdvise {g} {F} {m} old notice advice new =
 -- these facts have one proof at most, as a fact that a struct keeps must
 module _ {F : Type 0} (members : Mut F (Bor Notice × Unit {0}) Advice) (limits : Limits) where
   ReturnsEach-prop : (closure : F) (calls : List (Bor Notice × Unit {0}))
-      → IsProp (ReturnsEach members (λ asked advice. IsAllowed limits asked.0.now advice) closure calls)
+      → IsProp (ReturnsEach members
+      (λ asked advice. IsAllowed limits asked.0.now advice) closure calls)
   ReturnsEach-prop closure [] = Unit-prop
   ReturnsEach-prop closure (asked ∷ calls) = Π_prop (λ advice. Π_prop (λ next. →_prop
       (×_prop (IsAllowed-prop limits asked.0.now advice) (ReturnsEach-prop next calls))))

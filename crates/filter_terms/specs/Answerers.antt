@@ -16,4 +16,4 @@ MayAnswer {g} {F} {m} answerer notice answer =
 abbrev pub AnswersFor : {g F m : _} → Terms → Answerer g F m → Type 0
 AnswersFor terms answerer =
     (notice : Bor Notice) (answer : Bool) → MayAnswer answerer notice answer
-        → answer ≡ meets terms notice.now
+    → answer ≡ meets terms notice.now

@@ -13,7 +13,8 @@ abbrev pub adviser_of : {g F m : _} → Strategy g F m → Option (Adviser g F m
 adviser_of strategy = strategy.adviser
 
 -- the closure was asked and answered so, and is this one then; with none, the answer is to hold
-abbrev pub AskedOf : {g F m : _} → Option (Adviser g F m) → Bor Notice → Advice → Option (Adviser g F m) → Type 0
+abbrev pub AskedOf : {g F m : _} → Option (Adviser g F m) → Bor Notice → Advice
+    → Option (Adviser g F m) → Type 0
 AskedOf (Some old) notice advice (Some new) = MayAdvise old notice advice new
 AskedOf None notice advice None = advice ≡ Hold
 AskedOf (Some old) notice advice None = ⊥

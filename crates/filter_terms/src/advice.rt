@@ -15,7 +15,15 @@ pub enum Advice {
     /// Do nothing.
     Hold,
     /// Buy from the offer of the venue.
-    Buy { venue: VenueId, price: u32, size: u64 },
+    Buy {
+        venue: VenueId,
+        price: u32,
+        size: u64,
+    },
     /// Sell to the bid of the venue.
-    Sell { venue: VenueId, price: u32, size: u64 },
+    Sell {
+        venue: VenueId,
+        price: u32,
+        size: u64,
+    },
 }

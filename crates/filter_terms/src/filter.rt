@@ -22,8 +22,8 @@ pub struct Filter {
 impl Filter {
     ghost use Rattle.filter_terms.specs.Filters.{terms_of};
 
-    /// A filter that asks the closure. The closure may be called on every notice, and answers whether
-    /// the notice meets the terms.
+    /// A filter that asks the closure. The closure may be called on every notice, and answers
+    /// whether the notice meets the terms.
     pub fn new(terms: Terms, answers: Answers) -> Filter
         requires callable { Answers.IsAlwaysCallable answers }
         requires right { (notice : Bor Notice) (answer : Bool) → Answers.post answers notice answer

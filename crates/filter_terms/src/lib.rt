@@ -1,9 +1,9 @@
 //! What a subscriber asks for, and what its strategy may answer.
 //!
-//! [`Terms`] say which notices are wanted. A [`Filter`] is terms with a closure that answers them, a
-//! [`Strategy`] is limits with a closure that gives advice within them: callers box the closures, and
-//! prove once, where they hand one over, that it keeps its word. Nothing here takes memory but a copy
-//! of terms.
+//! [`Terms`] say which notices are wanted. A [`Filter`] is terms with a closure that answers them,
+//! a [`Strategy`] is limits with a closure that gives advice within them: callers box the
+//! closures, and prove once, where they hand one over, that it keeps its word. Nothing here takes
+//! memory but a copy of terms.
 //!
 //! Contract: an answer of a filter is what its terms say, for every notice; an advice is what the
 //! strategy's closure gave, and is allowed by its limits, after any number of calls. Begin at

@@ -9,8 +9,8 @@ use crate::advice::{Advice, Limits};
 use crate::adviser::{Advise, Adviser};
 use feed_types::Notice;
 
-/// Limits, and who gives advice within them: the caller's closure, or nobody, and then the advice is
-/// to hold.
+/// Limits, and who gives advice within them: the caller's closure, or nobody, and then the advice
+/// is to hold.
 #[derive(Drop)]
 pub struct Strategy {
     pub limits: Limits,
@@ -21,8 +21,8 @@ pub struct Strategy {
 impl Strategy {
     ghost use Rattle.filter_terms.specs.Strategies.{adviser_of, Advises};
 
-    /// A strategy that asks the closure. The closure may be called on every notice, again after each
-    /// call, and each advice that it gives is allowed by the limits.
+    /// A strategy that asks the closure. The closure may be called on every notice, again after
+    /// each call, and each advice that it gives is allowed by the limits.
     pub fn new(limits: Limits, advise: Advise) -> Strategy
         requires callable { Advise.IsAlwaysCallable advise }
         requires right { AlwaysAllowed Advise.FnMut limits advise }

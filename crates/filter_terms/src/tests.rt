@@ -1,5 +1,5 @@
-//! Worked values: each case of terms on the five states, filters and strategies that keep state, and
-//! what is printed.
+//! Worked values: each case of terms on the five states, filters and strategies that keep state,
+//! and what is printed.
 
 ghost use Rattle.std.specs.Prelude.{◌≡◌};
 ghost use Rattle.filter_terms.specs.Allowed.{IsAllowed};
@@ -150,32 +150,48 @@ fn bought(notice: &Notice, max_size: u64) -> Advice
 
 #[test]
 fn buys_up_to_the_limit(rt: HostRuntime) -> Result<(), Fail> {
-    let advise: Advise = Box::new(rt.alloc(), |notice: &Notice| -> Advice
-        ensures { IsAllowed (record { max_size = 250 }) notice.now result }
-    { bought(notice, 250) })?;
+    let advise: Advise = Box::new(
+        rt.alloc(),
+        |notice: &Notice| -> Advice
+            ensures { IsAllowed (record { max_size = 250 }) notice.now result }
+        { bought(notice, 250) },
+    )?;
     let mut strategy = Strategy::new(Limits { max_size: 250 }, advise);
     assert_eq!(rt; strategy.limits(), Limits { max_size: 250 });
     let [_, one_sided, normal, _, _] = five_states()?;
     assert_eq!(rt; strategy.advise(&one_sided), Advice::Hold);
     let advice = strategy.advise(&normal);
     let venue = VenueId::new(0).ok_or("a venue")?;
-    assert_eq!(rt; advice, Advice::Buy { venue, price: 101_600, size: 250 });
-    assert_eq!(rt; format!(in rt.alloc(); "{advice}")?.as_str(), "buy 0:10.1600x250");
+    assert_eq!(rt;
+        advice,
+        Advice::Buy {
+            venue,
+            price: 101_600,
+            size: 250
+        }
+    );
+    assert_eq!(rt;
+        format!(in rt.alloc(); "{advice}")?.as_str(),
+        "buy 0:10.1600x250"
+    );
     Ok(())
 }
 
 #[test]
 fn keeps_state_over_calls(rt: HostRuntime) -> Result<(), Fail> {
     let mut asked = 0u64;
-    let advise: Advise = Box::new(rt.alloc(), move |notice: &Notice| -> Advice
-        ensures { IsAllowed (record { max_size = 250 }) notice.now result }
-    {
-        asked = asked.wrapping_add(1);
-        if asked % 2 == 0 {
-            return Advice::Hold;
-        }
-        bought(notice, 250)
-    })?;
+    let advise: Advise = Box::new(
+        rt.alloc(),
+        move |notice: &Notice| -> Advice
+            ensures { IsAllowed (record { max_size = 250 }) notice.now result }
+        {
+            asked = asked.wrapping_add(1);
+            if asked % 2 == 0 {
+                return Advice::Hold;
+            }
+            bought(notice, 250)
+        },
+    )?;
     let mut strategy = Strategy::new(Limits { max_size: 250 }, advise);
     let [_, _, normal, _, _] = five_states()?;
     for round in 0..4 {
@@ -199,7 +215,11 @@ fn always_holds(rt: HostRuntime) -> Result<(), Fail> {
 fn printed(rt: HostRuntime) -> Result<(), Fail> {
     let alloc = rt.alloc();
     let venue = VenueId::new(3).ok_or("a venue")?;
-    let sell = Advice::Sell { venue, price: 1, size: u64::MAX };
+    let sell = Advice::Sell {
+        venue,
+        price: 1,
+        size: u64::MAX,
+    };
     assert_eq!(rt;
         format!(in alloc; "{sell}")?.as_str(),
         "sell 3:0.0001x18446744073709551615"
@@ -212,7 +232,10 @@ fn printed(rt: HostRuntime) -> Result<(), Fail> {
         (Terms::All, "all"),
         (Terms::AnyOf(Vec::new(alloc)), "any-of()"),
         (Terms::StateIs(NationalState::OneSided), "state one-sided"),
-        (Terms::Both(first, second), "both(symbol ACME, min-size 100)"),
+        (
+            Terms::Both(first, second),
+            "both(symbol ACME, min-size 100)",
+        ),
     ] {
         assert_eq!(rt; format!(in alloc; "{terms}")?.as_str(), text);
     }

@@ -51,7 +51,7 @@ module _ (symbols : List (List ℕ)) (es : List Entry) (e : Entry) where
       let count : length (es ++ e ∷ []) ≡ suc n = omega (arith, length-append es (e ∷ [])) in
       let place : 1 + n ≡ n + 1 = omega arith in
       let tail : flat_map f ((1 + n) ∷ []) ≡ changes_by symbols es (n + 1) e =
-            append-nil (f (1 + n)) ∙ ap f place ∙ changes_at-now (n + 1) refl in
+      append-nil (f (1 + n)) ∙ ap f place ∙ changes_at-now (n + 1) refl in
       ap (λ k. flat_map f (range_with_len 1 k)) count
       ∙ ap (flat_map f) (range_more 1 n)
       ∙ flat_map-append f (range_with_len 1 n) ((1 + n) ∷ [])

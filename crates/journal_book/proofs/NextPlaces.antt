@@ -17,8 +17,8 @@ counted_at p (x ∷ xs) zero d h t = ap (λ b. length (cond b (x ∷ []) [])) t
 counted_at p (x ∷ xs) (suc i) d h t =
     let rest : length (filter p (take (suc i) xs)) ≡ length (filter p (take i xs)) + 1 = counted_at p xs i d (omega (arith, h)) t in
     elim (p x) as (λ b. length (cond b (x ∷ filter p (take (suc i) xs)) (filter p (take (suc i) xs))) ≡ length (cond b (x ∷ filter p (take i xs)) (filter p (take i xs))) + 1) [
-      true ↦ omega (arith, rest)
-    | false ↦ rest
+      | true ↦ omega (arith, rest)
+      | false ↦ rest
     ]
 
 pub past_end : {X : Type 0} (xs : List X) (i : ℕ) → length xs ≤ i → slice_get xs i ≡ None
@@ -47,6 +47,6 @@ module _ (wants : Notice → Bool) (notices : List Notice) (from : ℕ) where
         passed = ap (filter wants) (take_all (length notices) notices (omega arith)) ∙ whole;
         next = past_end notices (length notices) (omega arith)
             ∙ sym (past_end (filter wants notices) (length (filter wants (take from notices)))
-                (let n : length (filter wants notices) ≡ length (filter wants (take from notices)) = ap length whole in omega (arith, n)));
+            (let n : length (filter wants notices) ≡ length (filter wants (take from notices)) = ap length whole in omega (arith, n)));
         counted = λ below. absurd (omega (arith, below));
       }

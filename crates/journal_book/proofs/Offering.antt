@@ -121,11 +121,11 @@ module _ (state new : JournalState) (id place : ℕ) where
       by None e h l = absurd h
       by (Some c) e h l =
           let here : subscription_of (changes state) (record c { seen = place + 1 }) ≡ record (subscription_of (changes state) c) { offered = (subscription_of (changes state) c).offered + 1 }
-                = ap (λ k. record { terms = c.terms; offered = k }) (h.counted below) in
+          = ap (λ k. record { terms = c.terms; offered = k }) (h.counted below) in
           let at : slice_get (map (subscription_of (changes state)) state.cursors) id ≡ Some (subscription_of (changes state) c) = get_map (subscription_of (changes state)) state.cursors id ∙ ap (option_map (subscription_of (changes state))) e in
           rw at (ap subscriptions_of l
-            ∙ map_set (subscription_of (changes state)) state.cursors id (record c { seen = place + 1 })
-            ∙ ap (slice_set (map (subscription_of (changes state)) state.cursors) id) here)
+          ∙ map_set (subscription_of (changes state)) state.cursors id (record c { seen = place + 1 })
+          ∙ ap (slice_set (map (subscription_of (changes state)) state.cursors) id) here)
 
 set_terms : (cursors : List Cursor) (i j place : ℕ) (c : Cursor) (notice : Notice) → slice_get cursors i ≡ Some c
     → option_map (λ x. meets x.terms notice) (slice_get cursors j) ≡ option_map (λ x. meets x.terms notice) (slice_get (slice_set cursors i (record c { seen = place })) j)

@@ -23,8 +23,8 @@ filter_rises p n (x ∷ xs) h =
     let rest : RisesPast x.number (filter p xs) = filter_rises p x.number xs h.1 in
     let above : n < x.number = h.0 in
     elim (p x) as (λ b. RisesPast n (cond b (x ∷ filter p xs) (filter p xs))) [
-      true ↦ (above, rest)
-    | false ↦ weaker n x.number (filter p xs) (omega arith) rest
+      | true ↦ (above, rest)
+      | false ↦ weaker n x.number (filter p xs) (omega arith) rest
     ]
 
 pub changes_rise : (symbols : List (List ℕ)) (es : List Entry) → RisesPast 0 (changes_of symbols es)

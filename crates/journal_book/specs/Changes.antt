@@ -7,14 +7,15 @@ use Rattle.nbbo_book.specs.declared.change.Change.{Change}
 use Rattle.nbbo_book.specs.Changes.{change_of}
 use Rattle.nbbo_book.specs.Nationals.{national_of}
 
--- The changes at a position, which counts from 1: one for each symbol, in order, whose national best
--- after so many entries is another one than before the last of them.
+-- The changes at a position, which counts from 1: one for each symbol, in order, whose national
+-- best after so many entries is another one than before the last of them.
 abbrev pub changes_at : List (List ℕ) → List Entry → ℕ → List Change
 changes_at symbols entries position =
     filter_map
-      (λ symbol. change_of position symbol
-        (national_of (take (position - 1) entries) symbol) (national_of (take position entries) symbol))
-      symbols
+    (λ symbol. change_of position symbol
+    (national_of (take (position - 1) entries) symbol)
+    (national_of (take position entries) symbol))
+    symbols
 
 -- those of each position in turn
 abbrev pub all_changes : List (List ℕ) → List Entry → List Change
@@ -24,7 +25,12 @@ all_changes symbols entries =
 -- a change with its number
 abbrev pub notice_of : ℕ → Change → Notice
 notice_of number change =
-    record { number = number; position = change.position; symbol = change.symbol; national = change.national }
+    record {
+      number = number;
+      position = change.position;
+      symbol = change.symbol;
+      national = change.national;
+    }
 
 -- the changes, numbered from this number on
 abbrev pub numbered_from : ℕ → List Change → List Notice

@@ -30,11 +30,13 @@ StaysButCursors old new = new ≡ record old { cursors = new.cursors }
 -- one more notice was offered to this subscriber, and none to the others
 abbrev pub OffersOne : List Subscription → ℕ → List Subscription → Type 0
 OffersOne old id new = MatchOption (slice_get old id) ⊥
-    (λ subscription. new ≡ slice_set old id (record subscription { offered = subscription.offered + 1 }))
+    (λ subscription.
+    new ≡ slice_set old id (record subscription { offered = subscription.offered + 1 }))
 
 -- The answer to `subscribe`, by cases: what is kept is a copy of the filter's terms, and a refused
 -- filter comes back.
-abbrev pub SubscribesFilter : {g F m : _} → JournalState → Filter g F m → Result ℕ (JournalFault × Filter g F m) → JournalState → Type 0
+abbrev pub SubscribesFilter : {g F m : _} → JournalState → Filter g F m
+    → Result ℕ (JournalFault × Filter g F m) → JournalState → Type 0
 SubscribesFilter old filter (Ok id) new =
     (copy : Terms) × IsCopy (terms_of filter) copy × Subscribes old copy (Ok id) new
 SubscribesFilter old filter (Err (TooManySubscribers, back)) new =

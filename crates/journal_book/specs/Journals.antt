@@ -1,5 +1,5 @@
 -- What contracts see of a journal.
-use Rattle.std.specs.Prelude.{◌≡◌, ℕ, ◌<◌, ◌≤◌, List, [], ◌∷◌, ◌++◌, Bool, true, length, map, filter, take, slice_get, slice_set, Option, MatchOption, option_and_then, Result, Ok, Err}
+use Rattle.std.specs.Prelude.{◌≡◌, ℕ, ◌<◌, ◌≤◌, List, [], ◌∷◌, ◌++◌, Bool, true, false, length, map, filter, take, slice_get, slice_set, Option, MatchOption, option_and_then, Result, Ok, Err}
 use Rattle.std.specs.Option.{option_map}
 use Rattle.feed_types.specs.declared.journal.Entry.{Entry}
 use Rattle.feed_types.specs.declared.journal.Entry.TheVariants.{SelfHelp}
@@ -22,6 +22,17 @@ pub record JournalState : Type 0 where
   pub cursors : List Cursor
   pub ready : Bool
 
+-- the journal of no entries and no subscribers, for which no room is made yet
+abbrev pub new_journal : List (List ℕ) → ℕ → ℕ → JournalState
+new_journal symbols venues journal = record {
+  symbols = symbols;
+  venues = venues;
+  journal = journal;
+  entries = [];
+  cursors = [];
+  ready = false;
+}
+
 -- the journal's numbered changes
 abbrev pub changes : JournalState → List Notice
 changes state = changes_of state.symbols state.entries
@@ -31,7 +42,7 @@ pub record Subscription : Type 0 where
   pub terms : Terms
   pub offered : ℕ
 
--- the notices that a subscriber was offered: those that meet its terms, of those that were looked at
+-- the notices that a subscriber was offered: those that meet its terms, of those looked at
 abbrev pub offered_of : List Notice → Cursor → List Notice
 offered_of notices cursor = filter (meets cursor.terms) (take cursor.seen notices)
 
@@ -58,10 +69,12 @@ unseen_at state id = option_and_then (slice_get (changes state)) (seen_at state 
 -- so many changes were looked at for the subscriber, and nothing else is another than before
 abbrev pub LooksTo : JournalState → ℕ → ℕ → JournalState → Type 0
 LooksTo old id place new = MatchOption (slice_get old.cursors id) ⊥
-    (λ cursor. new ≡ record old { cursors = slice_set old.cursors id (record cursor { seen = place }) })
+    (λ cursor.
+    new ≡ record old { cursors = slice_set old.cursors id (record cursor { seen = place }) })
 
 -- the answer to `subscribe`, by cases
-abbrev pub Subscribes : JournalState → Terms → Result ℕ (JournalFault × Terms) → JournalState → Type 0
+abbrev pub Subscribes : JournalState → Terms → Result ℕ (JournalFault × Terms) → JournalState
+    → Type 0
 Subscribes old terms (Ok id) new =
     (id ≡ length old.cursors) × (length old.cursors < 32)
     × (new ≡ record old { cursors = old.cursors ++ record { terms = terms; seen = 0 } ∷ [] })

@@ -8,7 +8,8 @@ use Rattle.journal_book.specs.declared.cursor.Cursor.{Cursor}
 use Rattle.journal_book.specs.Changes.{changes_of}
 
 -- the book and the notices are those of the entries, and no cursor is past the notices
-pub record Keeps (book : BookState) (venues limit scratch : ℕ) (entries : List Entry) (notices : List Notice) (cursors : List Cursor) : Type 0 where
+pub record Keeps (book : BookState) (venues limit scratch : ℕ)
+    (entries : List Entry) (notices : List Notice) (cursors : List Cursor) : Type 0 where
   pub fits : Fits book entries
   pub last : book.last ≡ length entries
   pub venues_same : book.venues ≡ venues

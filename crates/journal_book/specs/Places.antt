@@ -1,4 +1,5 @@
--- Cited by private clauses alone: where the next wanted notice stands, and that filters and cursors agree.
+-- Cited by private clauses alone: where the next wanted notice stands, and that filters and
+-- cursors agree.
 use Rattle.std.specs.Prelude.{◌≡◌, ℕ, ◌+◌, ◌<◌, ◌≤◌, Bool, List, Option, MatchOption, filter, length, take, slice_get}
 use Rattle.std.specs.Option.{option_map}
 use Rattle.std.specs.Coded.{Coded-set, coded_option, coded_bool, Π_prop}
@@ -10,11 +11,15 @@ use Rattle.journal_book.specs.declared.cursor.Cursor.{Cursor}
 use Rattle.journal_book.specs.Journals.{JournalState, changes}
 
 -- the place of the first wanted notice from this place on, or the end
-pub record IsNextPlace (wants : Notice → Bool) (notices : List Notice) (from place : ℕ) : Type 0 where
+pub record IsNextPlace (wants : Notice → Bool) (notices : List Notice) (from place : ℕ)
+    : Type 0 where
   pub within : place ≤ length notices
   pub passed : filter wants (take place notices) ≡ filter wants (take from notices)
-  pub next : slice_get notices place ≡ slice_get (filter wants notices) (length (filter wants (take from notices)))
-  pub counted : place < length notices → length (filter wants (take (place + 1) notices)) ≡ length (filter wants (take from notices)) + 1
+  pub next : slice_get notices place
+      ≡ slice_get (filter wants notices) (length (filter wants (take from notices)))
+  pub counted : place < length notices
+      → length (filter wants (take (place + 1) notices))
+      ≡ length (filter wants (take from notices)) + 1
 
 -- so it is of the subscriber's cursor
 abbrev pub IsNextOf : JournalState → ℕ → ℕ → Type 0
@@ -26,7 +31,9 @@ abbrev pub SameAnswers : {g F m : _} → List (Filter g F m) → List Cursor →
 SameAnswers filters cursors =
     (id : ℕ) (notice : Notice)
     → option_map (λ filter. meets (terms_of filter) notice) (slice_get filters id)
-      ≡ option_map (λ cursor. meets cursor.terms notice) (slice_get cursors id)
+    ≡ option_map (λ cursor. meets cursor.terms notice) (slice_get cursors id)
 
-pub SameAnswers-prop : {g F m : _} (filters : List (Filter g F m)) (cursors : List Cursor) → IsProp (SameAnswers filters cursors)
-SameAnswers-prop filters cursors = Π_prop (λ id. Π_prop (λ notice. Coded-set (coded_option coded_bool) _ _))
+pub SameAnswers-prop : {g F m : _} (filters : List (Filter g F m)) (cursors : List Cursor)
+    → IsProp (SameAnswers filters cursors)
+SameAnswers-prop filters cursors =
+    Π_prop (λ id. Π_prop (λ notice. Coded-set (coded_option coded_bool) _ _))

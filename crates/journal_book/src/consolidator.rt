@@ -3,7 +3,7 @@
 ghost use Rattle.std.specs.Prelude.{◌≡◌, ◌<◌, ◌≤◌, ◌^◌, ◌↔◌, ◌⊎◌, [], length, IsTrue, IsSome, IfSome, IfOk, OnOk, IsErrOf, Some, false};
 ghost use Rattle.std.specs.List.{IsDistinct};
 ghost use Rattle.std.specs.Str.{bytes_eq};
-ghost use Rattle.journal_book.specs.Journals.{changes, subscriptions_of, Journals, Reserves, Declares, terms_at};
+ghost use Rattle.journal_book.specs.Journals.{new_journal, changes, subscriptions_of, Journals, Reserves, Declares, terms_at};
 ghost use Rattle.journal_book.specs.Places.{IsNextOf, SameAnswers, SameAnswers-prop};
 
 use crate::fault::JournalFault;
@@ -14,8 +14,8 @@ use filter_terms::{Filter, Terms};
 use nbbo_book::BookFault;
 use std::alloc::Global;
 
-/// A [`Journal`] with its subscribers' filters: it journals, and offers each subscriber what its filter
-/// lets through.
+/// A [`Journal`] with its subscribers' filters: it journals, and offers each subscriber what its
+/// filter lets through.
 #[derive(Drop)]
 pub struct Consolidator {
     journal: Journal,
@@ -37,11 +37,16 @@ impl Consolidator {
         venue_count: usize,
         journal: u32,
     ) -> Result<Consolidator, BookFault>
-        ensures new { IfOk result (λ made. journal_of made ≡ record { symbols = symbols.now; venues = venue_count; journal = journal; entries = []; cursors = []; ready = false }) }
+        ensures new { IfOk result
+            (λ made. journal_of made ≡ new_journal symbols.now venue_count journal) }
         ensures distinct { OnOk result (IsDistinct bytes_eq symbols.now) }
-        ensures bad_venue_count { IsErrOf result BookFault.BadVenueCount ↔ ((venue_count ≡ 0) ⊎ (16 < venue_count)) }
-        ensures too_many_symbols { IsErrOf result BookFault.TooManySymbols ↔ ((0 < venue_count) × (venue_count ≤ 16) × (4096 < length symbols.now)) }
-        ensures duplicate_symbol { IsErrOf result BookFault.DuplicateSymbol → (0 < venue_count) × (venue_count ≤ 16) × (length symbols.now ≤ 4096) × (¬ IsDistinct bytes_eq symbols.now) }
+        ensures bad_venue_count { IsErrOf result BookFault.BadVenueCount
+            ↔ ((venue_count ≡ 0) ⊎ (16 < venue_count)) }
+        ensures too_many_symbols { IsErrOf result BookFault.TooManySymbols
+            ↔ ((0 < venue_count) × (venue_count ≤ 16) × (4096 < length symbols.now)) }
+        ensures duplicate_symbol { IsErrOf result BookFault.DuplicateSymbol
+            → (0 < venue_count) × (venue_count ≤ 16) × (length symbols.now ≤ 4096)
+            × (¬ IsDistinct bytes_eq symbols.now) }
     {
         match Journal::new(alloc, symbols, venue_count, journal) {
             Ok(journal) => Ok(Consolidator {
@@ -52,8 +57,8 @@ impl Consolidator {
         }
     }
 
-    /// Makes room for one entry and all changes that it can make: JournalFull where the journal has as
-    /// many entries as it holds, else NoMemory where room was missing and refused.
+    /// Makes room for one entry and all changes that it can make: JournalFull where the journal
+    /// has as many entries as it holds, else NoMemory where room was missing and refused.
     pub fn reserve_one(&mut self) -> Result<(), JournalFault>
         ensures { Reserves (journal_of self.old) result (journal_of self.new) }
     {
@@ -67,24 +72,27 @@ impl Consolidator {
         self.journal.has_room()
     }
 
-    /// Journals the venue's item and its changes, and gives its position, which counts from 1. It takes no
-    /// memory: there is room, and the venue is below the count.
+    /// Journals the venue's item and its changes, and gives its position, which counts from 1. It
+    /// takes no memory: there is room, and the venue is below the count.
     pub fn record(&mut self, venue: VenueId, numbered: Numbered) -> u64
         requires ready { IsTrue (journal_of self.old).ready }
         requires venue { venue < (journal_of self.old).venues }
-        ensures journals { Journals (journal_of self.old) (Entry.Consumed venue numbered) (journal_of self.new) }
+        ensures journals { Journals (journal_of self.old) (Entry.Consumed venue numbered)
+            (journal_of self.new) }
         ensures position { result ≡ length (journal_of self.new).entries }
-        ensures offered { subscriptions_of (journal_of self.new) ≡ subscriptions_of (journal_of self.old) }
+        ensures offered { subscriptions_of (journal_of self.new)
+            ≡ subscriptions_of (journal_of self.old) }
     {
         self.journal.record(venue, numbered)
     }
 
-    /// Declares self-help on the venue, or withdraws it, and gives the entry's position. It is refused as
-    /// UnknownVenue, AlreadySo where the venue's self-help is in that state (off at first), JournalFull
-    /// or NoMemory: the first of these that fits.
+    /// Declares self-help on the venue, or withdraws it, and gives the entry's position. It is
+    /// refused as UnknownVenue, AlreadySo where the venue's self-help is in that state (off at
+    /// first), JournalFull or NoMemory: the first of these that fits.
     pub fn declare(&mut self, venue: VenueId, on: bool) -> Result<u64, JournalFault>
         ensures declares { Declares (journal_of self.old) venue on result (journal_of self.new) }
-        ensures offered { subscriptions_of (journal_of self.new) ≡ subscriptions_of (journal_of self.old) }
+        ensures offered { subscriptions_of (journal_of self.new)
+            ≡ subscriptions_of (journal_of self.old) }
     {
         self.journal.declare(venue, on)
     }
@@ -96,9 +104,9 @@ impl Consolidator {
         self.journal.is_self_helped(venue)
     }
 
-    /// Adds a subscriber, to which nothing was offered, and gives its id, the next one from 0 on. Its
-    /// notices begin with the first change of the journal, whenever it subscribes. It is refused, with the
-    /// filter, as TooManySubscribers where there are 32, else as NoMemory.
+    /// Adds a subscriber, to which nothing was offered, and gives its id, the next one from 0 on.
+    /// Its notices begin with the first change of the journal, whenever it subscribes. It is
+    /// refused, with the filter, as TooManySubscribers where there are 32, else as NoMemory.
     pub fn subscribe(&mut self, filter: Filter) -> Result<SubscriberId, (JournalFault, Filter)>
         ensures { SubscribesFilter (journal_of self.old) filter result (journal_of self.new) }
     {
@@ -149,12 +157,14 @@ impl Consolidator {
     pub fn next_offer(&mut self, id: SubscriberId) -> Option<Notice>
         requires { id < length (journal_of self.old).cursors }
         ensures next { result ≡ next_at (journal_of self.old) id }
-        ensures offered { subscriptions_of (journal_of self.new) ≡ subscriptions_of (journal_of self.old) }
+        ensures offered { subscriptions_of (journal_of self.new)
+            ≡ subscriptions_of (journal_of self.old) }
         ensures stays { StaysButCursors (journal_of self.old) (journal_of self.new) }
 
         // It is the next one still, until it is counted, and the subscribers are as many.
         ensures still { result ≡ next_at (journal_of self.new) id }
-        ensures known { length (journal_of self.new).cursors ≡ length (journal_of self.old).cursors }
+        ensures known { length (journal_of self.new).cursors
+            ≡ length (journal_of self.old).cursors }
     {
         let place = self.next_place(id);
         let found = notice_at(self.journal.changes(), place);
@@ -166,9 +176,11 @@ impl Consolidator {
     pub fn offered(&mut self, id: SubscriberId)
         requires known { id < length (journal_of self.old).cursors }
         requires next { IsSome (next_at (journal_of self.old) id) }
-        ensures offered { OffersOne (subscriptions_of (journal_of self.old)) id (subscriptions_of (journal_of self.new)) }
+        ensures offered { OffersOne (subscriptions_of (journal_of self.old)) id
+            (subscriptions_of (journal_of self.new)) }
         ensures stays { StaysButCursors (journal_of self.old) (journal_of self.new) }
-        ensures known { length (journal_of self.new).cursors ≡ length (journal_of self.old).cursors }
+        ensures known { length (journal_of self.new).cursors
+            ≡ length (journal_of self.old).cursors }
     {
         let place = self.next_place(id);
         self.journal.look_to(id, place + 1);
@@ -191,8 +203,10 @@ impl Consolidator {
 
     /// The national best of the symbol after all entries, `None` exactly where it isn't configured.
     pub fn national(&self, symbol: &SymbolName) -> Option<National>
-        ensures configured { IsSome result ↔ IsTrue (is_configured (journal_of self.now).symbols symbol.now) }
-        ensures value { IfSome result (λ national. national ≡ national_of (journal_of self.now).entries symbol.now) }
+        ensures configured { IsSome result
+            ↔ IsTrue (is_configured (journal_of self.now).symbols symbol.now) }
+        ensures value { IfSome result
+            (λ national. national ≡ national_of (journal_of self.now).entries symbol.now) }
     {
         self.journal.national(symbol)
     }

@@ -9,7 +9,9 @@ ghost use Rattle.journal_book.specs.Keeping.{Keeps, CursorMoves};
 use crate::cursor::Cursor;
 use crate::fault::JournalFault;
 use crate::notices::push_notices;
-use feed_types::{Entry, Item, National, Notice, Numbered, Quote, SubscriberId, SymbolName, VenueId};
+use feed_types::{
+    Entry, Item, National, Notice, Numbered, Quote, SubscriberId, SymbolName, VenueId,
+};
 use filter_terms::Terms;
 use nbbo_book::{Book, BookFault, Change};
 use std::alloc::Global;
@@ -18,11 +20,12 @@ use std::marker::Model;
 /// How many subscribers there are at most.
 const MAX_SUBSCRIBERS: usize = 32;
 
-/// The entries, in the order in which they were taken, the changes of the national best that they made,
-/// numbered from 1, and how far each subscriber has come in them. It holds no closure.
+/// The entries, in the order in which they were taken, the changes of the national best that they
+/// made, numbered from 1, and how far each subscriber has come in them. It holds no closure.
 ///
-/// Take a [`Journal`] where the filters are kept beside it, as behind a lock whose contract names more
-/// than this crate does; take a [`Consolidator`](crate::Consolidator) where one value is to keep both.
+/// Take a [`Journal`] where the filters are kept beside it, as behind a lock whose contract names
+/// more than this crate does; take a [`Consolidator`](crate::Consolidator) where one value is to
+/// keep both.
 #[derive(Drop)]
 pub struct Journal {
     book: Book,
@@ -47,11 +50,17 @@ impl Model for Journal {
     ghost coded = { Prim.hlevel (codes, terms_type.the_row.coded) };
 
     ghost view = { λ j. record {
-        symbols = j.book.symbols; venues = j.venue_count; journal = j.limit;
-        entries = j.entries.items; cursors = j.cursors.items;
-        ready = has_room j.limit (length j.book.symbols) (vec_len j.entries) (vec_capacity j.entries) (vec_len j.notices) (vec_capacity j.notices) } };
+      symbols = j.book.symbols;
+      venues = j.venue_count;
+      journal = j.limit;
+      entries = j.entries.items;
+      cursors = j.cursors.items;
+      ready = has_room j.limit (length j.book.symbols) (vec_len j.entries) (vec_capacity j.entries)
+          (vec_len j.notices) (vec_capacity j.notices);
+    } };
 
-    ghost invariant = { λ j. Keeps j.book j.venue_count j.limit (vec_capacity j.made) j.entries.items j.notices.items j.cursors.items };
+    ghost invariant = { λ j. Keeps j.book j.venue_count j.limit (vec_capacity j.made)
+        j.entries.items j.notices.items j.cursors.items };
 }
 
 /// Appends the entry, for which there is room.
@@ -76,10 +85,10 @@ impl Journal {
     ghost use Rattle.nbbo_book.specs.Books.{venue_of, is_configured};
     ghost use Rattle.nbbo_book.specs.Nationals.{national_of};
     ghost use Rattle.nbbo_book.specs.Eligible.{is_self_helped};
-    ghost use Rattle.journal_book.specs.Journals.{JournalState, changes, subscriptions_of, Journals, Reserves, Declares, Subscribes, LooksTo, terms_at, seen_at, unseen_at};
+    ghost use Rattle.journal_book.specs.Journals.{JournalState, new_journal, changes, subscriptions_of, Journals, Reserves, Declares, Subscribes, LooksTo, terms_at, seen_at, unseen_at};
 
-    /// A journal of no entries and no subscribers, over so many venues, 1 to 16, and these symbols, at
-    /// most 4,096 and each once. It holds as many entries as `journal` says.
+    /// A journal of no entries and no subscribers, over so many venues, 1 to 16, and these
+    /// symbols, at most 4,096 and each once. It holds as many entries as `journal` says.
     ///
     /// The refusals are those of [`Book::new`], in its order.
     pub fn new(
@@ -88,11 +97,15 @@ impl Journal {
         venue_count: usize,
         journal: u32,
     ) -> Result<Journal, BookFault>
-        ensures new { IfOk result (λ made. made ≡ record { symbols = symbols.now; venues = venue_count; journal = journal; entries = []; cursors = []; ready = false }) }
+        ensures new { IfOk result (λ made. made ≡ new_journal symbols.now venue_count journal) }
         ensures distinct { OnOk result (IsDistinct bytes_eq symbols.now) }
-        ensures bad_venue_count { IsErrOf result BookFault.BadVenueCount ↔ ((venue_count ≡ 0) ⊎ (16 < venue_count)) }
-        ensures too_many_symbols { IsErrOf result BookFault.TooManySymbols ↔ ((0 < venue_count) × (venue_count ≤ 16) × (4096 < length symbols.now)) }
-        ensures duplicate_symbol { IsErrOf result BookFault.DuplicateSymbol → (0 < venue_count) × (venue_count ≤ 16) × (length symbols.now ≤ 4096) × (¬ IsDistinct bytes_eq symbols.now) }
+        ensures bad_venue_count { IsErrOf result BookFault.BadVenueCount
+            ↔ ((venue_count ≡ 0) ⊎ (16 < venue_count)) }
+        ensures too_many_symbols { IsErrOf result BookFault.TooManySymbols
+            ↔ ((0 < venue_count) × (venue_count ≤ 16) × (4096 < length symbols.now)) }
+        ensures duplicate_symbol { IsErrOf result BookFault.DuplicateSymbol
+            → (0 < venue_count) × (venue_count ≤ 16) × (length symbols.now ≤ 4096)
+            × (¬ IsDistinct bytes_eq symbols.now) }
     {
         let book = Book::new(alloc, symbols, venue_count)?;
         let Ok(made) = Vec::with_capacity(alloc, symbols.len()) else {
@@ -109,8 +122,8 @@ impl Journal {
         })
     }
 
-    /// Makes room for one entry and all changes that it can make: JournalFull where the journal has as
-    /// many entries as it holds, else NoMemory where room was missing and refused.
+    /// Makes room for one entry and all changes that it can make: JournalFull where the journal
+    /// has as many entries as it holds, else NoMemory where room was missing and refused.
     pub fn reserve_one(&mut self) -> Result<(), JournalFault>
         ensures { Reserves self.old result self.new }
     {
@@ -151,8 +164,8 @@ impl Journal {
         position
     }
 
-    /// Journals the venue's item and its changes, and gives its position, which counts from 1. It takes no
-    /// memory: there is room, and the venue is below the count.
+    /// Journals the venue's item and its changes, and gives its position, which counts from 1. It
+    /// takes no memory: there is room, and the venue is below the count.
     pub fn record(&mut self, venue: VenueId, numbered: Numbered) -> u64
         requires ready { IsTrue self.old.ready }
         requires venue { venue < self.old.venues }
@@ -163,9 +176,9 @@ impl Journal {
         self.add(Entry::Consumed { venue, numbered })
     }
 
-    /// Declares self-help on the venue, or withdraws it, and gives the entry's position. It is refused as
-    /// UnknownVenue, AlreadySo where the venue's self-help is in that state (off at first), JournalFull
-    /// or NoMemory: the first of these that fits.
+    /// Declares self-help on the venue, or withdraws it, and gives the entry's position. It is
+    /// refused as UnknownVenue, AlreadySo where the venue's self-help is in that state (off at
+    /// first), JournalFull or NoMemory: the first of these that fits.
     pub fn declare(&mut self, venue: VenueId, on: bool) -> Result<u64, JournalFault>
         ensures declares { Declares self.old venue on result self.new }
         ensures offered { subscriptions_of self.new ≡ subscriptions_of self.old }
@@ -205,13 +218,15 @@ impl Journal {
     /// The national best of the symbol after all entries, `None` exactly where it isn't configured.
     pub fn national(&self, symbol: &SymbolName) -> Option<National>
         ensures configured { IsSome result ↔ IsTrue (is_configured self.now.symbols symbol.now) }
-        ensures value { IfSome result (λ national. national ≡ national_of self.now.entries symbol.now) }
+        ensures value { IfSome result
+            (λ national. national ≡ national_of self.now.entries symbol.now) }
     {
         self.book.national(symbol)
     }
 
-    /// Adds a subscriber of these terms, to which nothing was offered, and gives its id, the next one from
-    /// 0 on. It is refused, with the terms, as TooManySubscribers where there are 32, else as NoMemory.
+    /// Adds a subscriber of these terms, to which nothing was offered, and gives its id, the next
+    /// one from 0 on. It is refused, with the terms, as TooManySubscribers where there are 32,
+    /// else as NoMemory.
     pub fn subscribe(&mut self, terms: Terms) -> Result<SubscriberId, (JournalFault, Terms)>
         ensures { Subscribes self.old terms result self.new }
     {
@@ -267,8 +282,8 @@ impl Journal {
         self.changes().get(seen).copied()
     }
 
-    /// From now on so many of the changes were looked at for the subscriber. Whoever keeps the filters
-    /// calls it once the filter was asked about each change before `place`.
+    /// From now on so many of the changes were looked at for the subscriber. Whoever keeps the
+    /// filters calls it once the filter was asked about each change before `place`.
     pub fn look_to(&mut self, id: SubscriberId, place: usize)
         requires known { id < length self.old.cursors }
         requires within { place ≤ length (changes self.old) }

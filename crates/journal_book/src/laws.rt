@@ -10,17 +10,22 @@ ghost use Rattle.journal_book.specs.Wanted.{wanted_of};
 
 /// More entries add changes at the end: those that stood keep their numbers and places.
 pub fn changes_grow_at_their_end()
-    ensures { (symbols : List (List ℕ)) (entries more : List Entry) → IsPrefix (changes_of symbols entries) (changes_of symbols (entries ++ more)) }
+    ensures { (symbols : List (List ℕ)) (entries more : List Entry)
+        → IsPrefix (changes_of symbols entries) (changes_of symbols (entries ++ more)) }
 {}
 
 /// So do those that a subscriber asked for: what was offered of them stays a prefix.
 pub fn wanted_grow_at_their_end()
-    ensures { (symbols : List (List ℕ)) (terms : Terms) (entries more : List Entry) (offered : List Notice)
-        → IsPrefix offered (wanted_of symbols terms entries) → IsPrefix offered (wanted_of symbols terms (entries ++ more)) }
+    ensures { (symbols : List (List ℕ)) (terms : Terms) (entries more : List Entry)
+        (offered : List Notice)
+        → IsPrefix offered (wanted_of symbols terms entries)
+        → IsPrefix offered (wanted_of symbols terms (entries ++ more)) }
 {}
 
 /// The numbers of what a subscriber asked for rise strictly, from 1 on at least.
 pub fn wanted_numbers_rise()
-    ensures past { (symbols : List (List ℕ)) (terms : Terms) (entries : List Entry) → RisesPast 0 (wanted_of symbols terms entries) }
-    ensures pairs { (symbols : List (List ℕ)) (terms : Terms) (entries : List Entry) → AllPairs (λ x y. x.number < y.number) (wanted_of symbols terms entries) }
+    ensures past { (symbols : List (List ℕ)) (terms : Terms) (entries : List Entry)
+        → RisesPast 0 (wanted_of symbols terms entries) }
+    ensures pairs { (symbols : List (List ℕ)) (terms : Terms) (entries : List Entry)
+        → AllPairs (λ x y. x.number < y.number) (wanted_of symbols terms entries) }
 {}

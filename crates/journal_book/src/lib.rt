@@ -4,9 +4,10 @@
 //! A [`Consolidator`] keeps a [`Journal`] and the subscribers' filters. The journal alone holds no
 //! closure: whoever keeps the filters elsewhere holds the two side by side.
 //!
-//! Contract: the entries are what was recorded and declared, the changes are `changes_of` the entries
-//! (`specs/Changes.antt`), a definition over the whole list, and a subscriber is offered the changes that
-//! meet its terms, in order, from the first one of the journal on. Begin at `journal.rt`.
+//! Contract: the entries are what was recorded and declared, the changes are `changes_of` the
+//! entries (`specs/Changes.antt`), a definition over the whole list, and a subscriber is offered
+//! the changes that meet its terms, in order, from the first one of the journal on. Begin at
+//! `journal.rt`.
 #![tactic(auto)]
 
 mod consolidator;

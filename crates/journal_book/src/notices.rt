@@ -10,7 +10,8 @@ use nbbo_book::Change;
 /// Appends the change under the next number.
 fn push_notice(notices: &mut Vec<Notice>, change: &Change)
     requires { vec_len notices.old < vec_capacity notices.old }
-    ensures items { notices.new.items ≡ notices.old.items ++ notice_of (vec_len notices.old + 1) change.now ∷ [] }
+    ensures items { notices.new.items
+        ≡ notices.old.items ++ notice_of (vec_len notices.old + 1) change.now ∷ [] }
     ensures len { vec_len notices.new ≡ vec_len notices.old + 1 }
     ensures capacity { vec_capacity notices.new ≡ vec_capacity notices.old }
 {
@@ -28,7 +29,8 @@ fn push_notice(notices: &mut Vec<Notice>, change: &Change)
 /// Appends the changes under the next numbers. There is room for them.
 pub(crate) fn push_notices(notices: &mut Vec<Notice>, made: &[Change])
     requires { vec_len notices.old + length made.now ≤ vec_capacity notices.old }
-    ensures items { notices.new.items ≡ notices.old.items ++ numbered_from (vec_len notices.old + 1) made.now }
+    ensures items { notices.new.items
+        ≡ notices.old.items ++ numbered_from (vec_len notices.old + 1) made.now }
     ensures capacity { vec_capacity notices.new ≡ vec_capacity notices.old }
 {
     for change in made {

@@ -4,7 +4,9 @@ ghost use Rattle.std.specs.Prelude.{◌≡◌, IfOk, OnOk};
 ghost use Rattle.journal_book.specs.Consolidators.{journal_of};
 
 use super::*;
-use feed_types::{Best, Item, NationalState, Notice, Numbered, Quote, SubscriberId, SymbolName, VenueId};
+use feed_types::{
+    Best, Item, NationalState, Notice, Numbered, Quote, SubscriberId, SymbolName, VenueId,
+};
 use filter_terms::{Filter, Terms};
 use nbbo_book::BookFault;
 use std::alloc::Global;
@@ -64,7 +66,8 @@ fn five_entries(made: &mut Consolidator) -> Result<(), Fail>
     Ok(())
 }
 
-/// The numbers of the notices that a new subscriber of these terms is offered, 0 where there is none.
+/// The numbers of the notices that a new subscriber of these terms is offered, 0 where there is
+/// none.
 fn offers(made: &mut Consolidator, terms: Terms) -> Result<[u64; 4], Fail> {
     let mut numbers = [0; 4];
     let Ok(id) = made.subscribe(Filter::of(terms)) else {
@@ -144,7 +147,10 @@ fn offers_what_is_wanted(rt: HostRuntime) -> Result<(), Fail> {
     assert_eq!(rt; offers(&mut made, Terms::AnyOf(Vec::new(alloc)))?, [0; 4]);
     let symbol = Box::new(alloc, Terms::Symbol(acme()?))?;
     let state = Box::new(alloc, Terms::StateIs(NationalState::OneSided))?;
-    assert_eq!(rt; offers(&mut made, Terms::Both(symbol, state))?, [1, 0, 0, 0]);
+    assert_eq!(rt;
+        offers(&mut made, Terms::Both(symbol, state))?,
+        [1, 0, 0, 0]
+    );
     let normal = Terms::StateIs(NationalState::Normal);
     assert_eq!(rt; offers(&mut made, normal)?, [2, 3, 0, 0]);
     assert_eq!(rt; offers(&mut made, Terms::MinSize(300))?, [2, 3, 0, 0]);
@@ -202,7 +208,10 @@ fn declares_in_this_order(rt: HostRuntime) -> Result<(), Fail> {
     assert!(rt; made.is_self_helped(venue));
     assert_eq!(rt; made.declare(venue, true), Err(JournalFault::AlreadySo));
     assert_eq!(rt; made.declare(venue, false), Err(JournalFault::JournalFull));
-    assert_eq!(rt; made.declare(unknown, true), Err(JournalFault::UnknownVenue));
+    assert_eq!(rt;
+        made.declare(unknown, true),
+        Err(JournalFault::UnknownVenue)
+    );
     assert_eq!(rt; made.entries().len(), 1);
     Ok(())
 }
@@ -254,10 +263,22 @@ fn refuses_what_is_no_feed(rt: HostRuntime) -> Result<(), Fail> {
     let twice = [acme()?, acme()?];
     let many = vec![in alloc; acme()?; 4_097]?;
     for (made, fault) in [
-        (Consolidator::new(alloc, &twice, 2, 8), BookFault::DuplicateSymbol),
-        (Consolidator::new(alloc, &[], 0, 8), BookFault::BadVenueCount),
-        (Consolidator::new(alloc, &[], 17, 8), BookFault::BadVenueCount),
-        (Consolidator::new(alloc, many.as_slice(), 2, 8), BookFault::TooManySymbols),
+        (
+            Consolidator::new(alloc, &twice, 2, 8),
+            BookFault::DuplicateSymbol,
+        ),
+        (
+            Consolidator::new(alloc, &[], 0, 8),
+            BookFault::BadVenueCount,
+        ),
+        (
+            Consolidator::new(alloc, &[], 17, 8),
+            BookFault::BadVenueCount,
+        ),
+        (
+            Consolidator::new(alloc, many.as_slice(), 2, 8),
+            BookFault::TooManySymbols,
+        ),
     ] {
         assert_eq!(rt; made.err(), Some(fault));
     }

@@ -24,22 +24,41 @@ use Rattle.nbbo_main.specs.declared.command_line.Refusal.TheVariants.{Shown, Usa
 
 -- --sessions LIST, without which there is no replay
 abbrev pub sessions_rule : Rule
-sessions_rule = record (new_rule (codes "sessions")) { long = Some (codes "sessions"); value_names = 1; required = true }
+sessions_rule = record (new_rule (codes "sessions")) {
+  long = Some (codes "sessions");
+  value_names = 1;
+  required = true;
+}
 
 -- --window N, a number from 1 to 65535, by default 4096
 abbrev pub window_rule : Rule
-window_rule = record (new_rule (codes "window")) { long = Some (codes "window"); value_names = 1; parser = Some (Signed (pos 1) (pos 65535)); defaults = codes "4096" ∷ [] }
+window_rule = record (new_rule (codes "window")) {
+  long = Some (codes "window");
+  value_names = 1;
+  parser = Some (Signed (pos 1) (pos 65535));
+  defaults = codes "4096" ∷ [];
+}
 
 -- --gaps
 abbrev pub gaps_rule : Rule
 gaps_rule = record (new_rule (codes "gaps")) { long = Some (codes "gaps"); action = Some SetTrue }
 
 abbrev pub replay_app : App
-replay_app = with_rule (with_rule (with_rule (new_app (codes "replay")) sessions_rule) window_rule) gaps_rule
+replay_app =
+    with_rule (with_rule (with_rule (new_app (codes "replay")) sessions_rule) window_rule) gaps_rule
 
 -- the program, which does nothing without a subcommand
 abbrev pub nbbo_app : App
-nbbo_app = with_subcommand (on_top (λ top. record top { subcommand_required = true; arg_required_else_help = true; has_version = true }) (new_app (codes "nbbo"))) replay_app.top
+nbbo_app =
+    with_subcommand
+    (on_top
+    (λ top. record top {
+      subcommand_required = true;
+      arg_required_else_help = true;
+      has_version = true;
+    })
+    (new_app (codes "nbbo")))
+    replay_app.top
 
 -- ---- the values that they have
 

@@ -1,6 +1,8 @@
--- A run of the program: from the words of the command line to what is read, what is written where, and the status.
+-- A run of the program: from the words of the command line to what is read, what is written where,
+-- and the status.
 --
--- Standard input, output and error are seen by the members of the traits CaptureIn and TextOut (Reading, Writing).
+-- Standard input, output and error are seen by the members of the traits CaptureIn and TextOut
+-- (Reading, Writing).
 use Rattle.std.specs.Prelude.{◌≡◌, ◌≢◌, ◌⊎◌, ℕ, ◌+◌, List, [], Bool, codes, if◌then◌else◌, Result, Ok, Err}
 use Rattle.clap.specs.Walk.{Text}
 use Rattle.feed_text.specs.declared.fault.ReplayFault.{ReplayFault}
@@ -24,7 +26,7 @@ pub record Says {S : Type 0} (writing : Writing S) (text : List ℕ) (before aft
 abbrev pub hint_text : Bool → List ℕ
 hint_text at_terminal =
     if at_terminal
-    then codes "nbbo: reading a capture from the terminal; \"nbbo replay --help\" tells how to give a file\n"
+    then codes "nbbo: reading a capture from the terminal ('nbbo replay --help' tells more)\n"
     else []
 
 -- the settings as a replay takes them; it makes at most 1,000,000,000 calls of the reader
@@ -34,9 +36,10 @@ pub record IsConfigOf (settings : ReplaySettings) (config : ReplayConfig) : Type
   pub gaps : config.gaps ≡ settings.gaps
   pub turns : config.turns ≡ 1000000000
 
--- Input was replayed onto output, as the settings say. Standard error has the hint, and then the line of how the replay
--- ended; the status is that of how it ended.
-pub record RunsReplay {R W E : Type 0} (reading : Reading R) (writing : Writing W) (telling : Writing E)
+-- Input was replayed onto output, as the settings say. Standard error has the hint, and then the
+-- line of how the replay ended; the status is that of how it ended.
+pub record RunsReplay {R W E : Type 0}
+    (reading : Reading R) (writing : Writing W) (telling : Writing E)
     (settings : ReplaySettings) (at_terminal : Bool)
     (from to : R) (before after : W) (silent told : E) (status : ℕ) : Type 0 where
   pub config : ReplayConfig
@@ -48,8 +51,8 @@ pub record RunsReplay {R W E : Type 0} (reading : Reading R) (writing : Writing 
   pub line : Says telling (ending_text outcome) hinted told
   pub ends : status ≡ ending_status outcome
 
--- A text that was asked for is on output, and nothing on standard error, with status 0. Where it couldn't be written whole,
--- that is the run's fault.
+-- A text that was asked for is on output, and nothing on standard error, with status 0. Where it
+-- couldn't be written whole, that is the run's fault.
 abbrev pub Shows : {W E : Type 0} (writing : Writing W) (telling : Writing E) (text : List ℕ)
     (before after : W) (silent told : E) (status : ℕ) → Type 0
 Shows writing telling text before after silent told status =
@@ -65,20 +68,23 @@ pub record Complains {W E : Type 0} (telling : Writing E) (text : List ℕ) (due
   pub ends : status ≡ due
 
 -- A refusal is told: help and the version on output, all else on standard error.
-pub record TellsRefusal {W E : Type 0} (writing : Writing W) (telling : Writing E) (refusal : Refusal)
-    (before after : W) (silent told : E) (status : ℕ) : Type 0 where
+pub record TellsRefusal {W E : Type 0} (writing : Writing W) (telling : Writing E)
+    (refusal : Refusal) (before after : W) (silent told : E) (status : ℕ) : Type 0 where
   pub asked : refusal_status refusal ≡ 0
       → Shows writing telling (refusal_text refusal) before after silent told status
   pub refused : refusal_status refusal ≢ 0
-      → Complains telling (refusal_text refusal) (refusal_status refusal) before after silent told status
+      → Complains telling (refusal_text refusal) (refusal_status refusal)
+      before after silent told status
 
 -- The words ask for a replay, and it was run.
-pub record Replayed {R W E : Type 0} (reading : Reading R) (writing : Writing W) (telling : Writing E)
+pub record Replayed {R W E : Type 0}
+    (reading : Reading R) (writing : Writing W) (telling : Writing E)
     (words : List Text) (at_terminal : Bool)
     (from to : R) (before after : W) (silent told : E) (status : ℕ) : Type 0 where
   pub settings : ReplaySettings
   pub asked : Asks words settings
-  pub runs : RunsReplay reading writing telling settings at_terminal from to before after silent told status
+  pub runs : RunsReplay reading writing telling settings at_terminal
+      from to before after silent told status
 
 -- The words ask for no replay, and nothing was read.
 pub record Refused {R W E : Type 0} (writing : Writing W) (telling : Writing E) (words : List Text)

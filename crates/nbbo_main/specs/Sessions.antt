@@ -14,7 +14,8 @@ abbrev pub is_name_byte : ℕ → Bool
 is_name_byte byte = nat_le 32 byte && nat_le byte 126
 
 abbrev pub is_session_name : List ℕ → Bool
-is_session_name name = nat_le 1 (length name) && (nat_le (length name) 10 && list_all is_name_byte name)
+is_session_name name =
+    nat_le 1 (length name) && (nat_le (length name) 10 && list_all is_name_byte name)
 
 -- the session of a name, as packets carry it: filled on the right with spaces to ten bytes
 abbrev pub filled_name : List ℕ → List ℕ
@@ -24,5 +25,7 @@ filled_name name = name ++ replicate (10 - length name) 32
 abbrev pub sessions_in : List ℕ → Result (List (List ℕ)) SessionsFault
 sessions_in list =
     if list_all is_session_name (names_in list)
-    then (if nat_le (length (names_in list)) 16 then Ok (map filled_name (names_in list)) else Err TooManySessions)
+    then (if nat_le (length (names_in list)) 16
+    then Ok (map filled_name (names_in list))
+    else Err TooManySessions)
     else Err BadSession

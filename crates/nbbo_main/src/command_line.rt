@@ -181,7 +181,9 @@ fn refusal_of(alloc: Global, error: &Error) -> Refusal
 /// What the words give to the commands and their options.
 fn parsed<'a>(alloc: Global, words: &'a [String]) -> Result<ArgMatches<'a>, Refusal>
     ensures taken { OnOk result (IsTaken (map (λ word. string_bytes word) words.entry.now)) }
-    ensures values { IfOk result (λ m. subcommand_rows_of m ≡ subcommand_of nbbo_app (map (λ word. string_bytes word) words.entry.now)) }
+    ensures values { IfOk result (λ m.
+        subcommand_rows_of m
+        ≡ subcommand_of nbbo_app (map (λ word. string_bytes word) words.entry.now)) }
     ensures refused { IfErr result (IsRefused (map (λ word. string_bytes word) words.entry.now)) }
 {
     match nbbo_command(alloc)?.try_get_matches_from(words) {

@@ -73,7 +73,7 @@ Refusals:
    7  the packet is of another session than the venue's present one
    8  it goes past the announced end of the session
    9  it announces another end than the one before
-  10  it announces an end before a message that came already
+  10  it announces an end, and a message at that number or past it came before
   11  a message differs from the one that is held at its number
   35  the present session isn't over: its end wasn't sent
   36  the venue has used the name

@@ -16,8 +16,7 @@ use std::alloc::Global;
 const MAX_TURNS: u64 = 1_000_000_000;
 
 /// What a terminal is told before it is read.
-const HINT: &str =
-    "nbbo: reading a capture from the terminal; \"nbbo replay --help\" tells how to give a file\n";
+const HINT: &str = "nbbo: reading a capture from the terminal ('nbbo replay --help' tells more)\n";
 
 /// What is asked of the replay.
 fn config_of(settings: &ReplaySettings) -> ReplayConfig<'_>
@@ -33,7 +32,8 @@ fn config_of(settings: &ReplaySettings) -> ReplayConfig<'_>
 
 /// Writes a text on standard error. Where it can't be written nothing can be told.
 fn say<E: TextOut>(text: &str, errors: &mut E)
-    ensures { Says (record { adds = E.adds; failures = E.failures }) text.now errors.old errors.new }
+    ensures { Says (record { adds = E.adds; failures = E.failures })
+        text.now errors.old errors.new }
 {
     if !text.is_empty() {
         let _ = write_all(text.as_bytes(), errors);
@@ -57,8 +57,10 @@ fn run_replay<R: CaptureIn, W: TextOut, E: TextOut>(
 ) -> u8
     ensures { RunsReplay
         (record { gives = R.gives; ends = R.ends; failures = R.failures })
-        (record { adds = W.adds; failures = W.failures }) (record { adds = E.adds; failures = E.failures })
-        settings.now at_terminal input.old input.new output.old output.new errors.old errors.new result }
+        (record { adds = W.adds; failures = W.failures })
+        (record { adds = E.adds; failures = E.failures })
+        settings.now at_terminal
+        input.old input.new output.old output.new errors.old errors.new result }
 {
     say(hint(at_terminal), errors);
     let outcome = replay(alloc, &config_of(settings), input, output);
@@ -71,7 +73,8 @@ fn run_replay<R: CaptureIn, W: TextOut, E: TextOut>(
 /// asked for and can't be written is a fault of writing. Gives the status of the program.
 pub fn refuse<W: TextOut, E: TextOut>(refusal: &Refusal, output: &mut W, errors: &mut E) -> u8
     ensures { TellsRefusal
-        (record { adds = W.adds; failures = W.failures }) (record { adds = E.adds; failures = E.failures })
+        (record { adds = W.adds; failures = W.failures })
+        (record { adds = E.adds; failures = E.failures })
         refusal.now output.old output.new errors.old errors.new result }
 {
     let status = refusal.status();
@@ -103,7 +106,8 @@ pub fn run<R: CaptureIn, W: TextOut, E: TextOut>(
 ) -> u8
     ensures { Runs
         (record { gives = R.gives; ends = R.ends; failures = R.failures })
-        (record { adds = W.adds; failures = W.failures }) (record { adds = E.adds; failures = E.failures })
+        (record { adds = W.adds; failures = W.failures })
+        (record { adds = E.adds; failures = E.failures })
         (map (λ word. string_bytes word) words.now) at_terminal
         input.old input.new output.old output.new errors.old errors.new result }
 {

@@ -62,7 +62,8 @@ fn filled(name: &[u8]) -> [u8; 10]
 
 fn filled_all(alloc: Global, names: &[&str]) -> Result<Vec<[u8; 10]>, AllocError>
     requires { All (λ name. length name.now ≤ 10) names.now }
-    ensures { IfOk result (λ sessions. sessions.items ≡ map (λ name. filled_name name.now) names.now) }
+    ensures { IfOk result (λ sessions.
+        sessions.items ≡ map (λ name. filled_name name.now) names.now) }
 {
     let mut sessions = Vec::with_capacity(alloc, names.len())?;
     for name in names {

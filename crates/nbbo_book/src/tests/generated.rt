@@ -2,6 +2,8 @@
 //! be those that are worked out here from all entries so far, in the plainest way: for the symbols
 //! that the entry may concern, and at each hundredth entry for all.
 
+ghost use Rattle.std.specs.Prelude.{◌<◌};
+
 use super::{apply, consumed, quote, symbol, venue};
 use crate::{Book, Change};
 use feed_types::{Best, Entry, Item, National, Quote, Side, SymbolName, VenueId};

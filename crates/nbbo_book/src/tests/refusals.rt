@@ -16,34 +16,34 @@ fn symbols(alloc: Global, count: usize) -> Result<Vec<SymbolName>, Fail> {
     Ok(symbols)
 }
 
+fn fault(alloc: Global, symbols: &[SymbolName], venues: usize) -> Option<BookFault> {
+    Book::new(alloc, symbols, venues).err()
+}
+
 #[test]
 fn refused_in_order(rt: HostRuntime) -> Result<(), Fail> {
     let alloc = rt.alloc();
-    let acme = symbol("ACME")?;
+    let none = symbols(alloc, 0)?;
+    assert_eq!(rt; fault(alloc, &none, 0), Some(BookFault::BadVenueCount));
+    assert_eq!(rt; fault(alloc, &none, 17), Some(BookFault::BadVenueCount));
+    assert_eq!(rt; fault(alloc, &none, 1), None);
+    let most = symbols(alloc, 4096)?;
+    assert_eq!(rt; fault(alloc, &most, 16), None);
     let many = symbols(alloc, 4097)?;
-    let twice = [acme, symbol("OTHER")?, acme];
-    for (list, venues, fault) in [
-        ([].as_slice(), 0, Some(BookFault::BadVenueCount)),
-        (&[], 17, Some(BookFault::BadVenueCount)),
-        (many.as_slice(), 17, Some(BookFault::BadVenueCount)),
-        (many.as_slice(), 16, Some(BookFault::TooManySymbols)),
-        (&many[..4096], 16, None),
-        (&twice, 0, Some(BookFault::BadVenueCount)),
-        (&twice, 1, Some(BookFault::DuplicateSymbol)),
-        (&twice[..2], 1, None),
-        (&[], 1, None),
-    ] {
-        assert_eq!(rt; Book::new(alloc, list, venues).err(), fault);
-    }
+    assert_eq!(rt; fault(alloc, &many, 17), Some(BookFault::BadVenueCount));
+    assert_eq!(rt; fault(alloc, &many, 16), Some(BookFault::TooManySymbols));
     Ok(())
 }
 
 #[test]
-fn many_twice(rt: HostRuntime) -> Result<(), Fail> {
+fn refused_twice(rt: HostRuntime) -> Result<(), Fail> {
     let alloc = rt.alloc();
+    let mut twice = symbols(alloc, 3)?;
+    twice.push(symbol("S1")?)?;
+    assert_eq!(rt; fault(alloc, &twice, 0), Some(BookFault::BadVenueCount));
+    assert_eq!(rt; fault(alloc, &twice, 1), Some(BookFault::DuplicateSymbol));
     let same = vec![in alloc; symbol("ACME")?; 4097]?;
-    let fault = Book::new(alloc, &same, 1).err();
-    assert_eq!(rt; fault, Some(BookFault::TooManySymbols));
+    assert_eq!(rt; fault(alloc, &same, 1), Some(BookFault::TooManySymbols));
     Ok(())
 }
 
@@ -65,7 +65,8 @@ fn symbols_that_are_not_there(rt: HostRuntime) -> Result<(), Fail> {
     let book = Book::new(rt.alloc(), &[acme], 3)?;
     assert_eq!(rt; book.national(&other), None);
     assert_eq!(rt; book.ranked(&other, Side::Bid), None);
-    assert_eq!(rt; book.ranked(&acme, Side::Offer), Some([].as_slice()));
+    let offers = book.ranked(&acme, Side::Offer).ok_or("ACME is configured")?;
+    assert_eq!(rt; offers.len(), 0);
     assert_eq!(rt; book.symbol_count(), 1);
     assert_eq!(rt; book.venue_count(), 3);
     assert_eq!(rt; book.last_position(), 0);

@@ -2,59 +2,10 @@
 
 use super::{Level, apply, best, consumed, quote, symbol, venue};
 use crate::{Book, Change};
-use feed_types::{Entry, Item, National, NationalState, Side};
+use feed_types::{Best, Entry, Item, National, NationalState, Side, SymbolName, VenueId};
 use std::alloc::Global;
 use std::process::Abort;
 use std::test::Fail;
-
-/// Who shows a side, and at what.
-type Shown = Option<(u8, Level)>;
-
-/// An entry, and the national best where it changes.
-type Step = (Entry, Option<(Shown, Shown)>);
-
-fn side(shown: Shown) -> Result<Option<feed_types::Best>, Fail> {
-    match shown {
-        Some((place, level)) => best(place, level),
-        None => Ok(None),
-    }
-}
-
-/// Follows the steps with a new book of ACME, from position 1 on.
-fn follow(rt: &impl Abort, alloc: Global, venues: usize, steps: &[Step]) -> Result<Book, Fail> {
-    let acme = symbol("ACME")?;
-    let mut book = Book::new(alloc, &[acme], venues)?;
-    let mut out = Vec::with_capacity(alloc, 1)?;
-    let mut last = National {
-        bid: None,
-        offer: None,
-    };
-    for (place, (entry, change)) in steps.iter().enumerate() {
-        let position = place as u64 + 1;
-        apply(rt, &mut book, position, *entry, &mut out);
-        match change {
-            Some((bid, offer)) => {
-                last = National {
-                    bid: side(*bid)?,
-                    offer: side(*offer)?,
-                };
-                let change = Change {
-                    position,
-                    symbol: acme,
-                    national: last,
-                };
-                assert_eq!(rt;
-                    out.as_slice(),
-                    [change].as_slice(),
-                    "at position {position}"
-                );
-            }
-            None => assert_eq!(rt; out.len(), 0, "at position {position}"),
-        }
-        assert_eq!(rt; book.national(&acme), Some(last), "at position {position}");
-    }
-    Ok(book)
-}
 
 const BID: Level = (101_500, 300);
 
@@ -62,210 +13,187 @@ const OFFER: Level = (101_600, 400);
 
 const NOTHING: Level = (0, 0);
 
+/// A book of ACME, to which entries are applied from position 1 on.
+#[derive(Drop)]
+struct Worked {
+    book: Book,
+    acme: SymbolName,
+    out: Vec<Change>,
+    position: u64,
+    national: National,
+}
+
+impl Worked {
+    fn new(alloc: Global, venues: usize) -> Result<Worked, Fail> {
+        let acme = symbol("ACME")?;
+        Ok(Worked {
+            book: Book::new(alloc, &[acme], venues)?,
+            acme,
+            out: Vec::with_capacity(alloc, 1)?,
+            position: 0,
+            national: National {
+                bid: None,
+                offer: None,
+            },
+        })
+    }
+
+    fn apply(&mut self, rt: &impl Abort, entry: Entry) {
+        self.position = self.position.wrapping_add(1);
+        apply(rt, &mut self.book, self.position, entry, &mut self.out);
+    }
+
+    /// The entry changes nothing.
+    fn keeps(&mut self, rt: &impl Abort, entry: Entry) {
+        self.apply(rt, entry);
+        assert_eq!(rt; self.out.len(), 0);
+        assert_eq!(rt; self.book.national(&self.acme), Some(self.national));
+    }
+
+    /// After the entry the national best is this one, which it wasn't before.
+    fn changes(&mut self, rt: &impl Abort, entry: Entry, bid: Option<Best>, offer: Option<Best>) {
+        self.apply(rt, entry);
+        self.national = National { bid, offer };
+        assert_eq!(rt; self.out.len(), 1);
+        if let Some(change) = self.out.first() {
+            assert_eq!(rt; change.position, self.position);
+            assert_eq!(rt; change.symbol, self.acme);
+            assert_eq!(rt; change.national, self.national);
+        }
+        assert_eq!(rt; self.book.national(&self.acme), Some(self.national));
+    }
+
+    fn state(&self, rt: &impl Abort, state: NationalState) {
+        assert_eq!(rt; self.national.state(), state);
+    }
+
+    /// The venues of the bids, best first.
+    fn bidders(&self, rt: &impl Abort, venues: &[VenueId]) -> Result<(), Fail> {
+        let ranks = self
+            .book
+            .ranked(&self.acme, Side::Bid)
+            .ok_or("ACME is configured")?;
+        assert_eq!(rt; ranks.len(), venues.len());
+        for (rank, venue) in ranks.iter().zip(venues) {
+            assert_eq!(rt; rank.venue, *venue);
+        }
+        Ok(())
+    }
+}
+
+/// A venue's quotation of ACME, both flags set.
+fn quoted(place: u8, bid: Level, offer: Level) -> Result<Entry, Fail> {
+    Ok(consumed(venue(place)?, quote(symbol("ACME")?, bid, offer, 3)))
+}
+
+fn halt(place: u8, name: &str, halted: bool) -> Result<Entry, Fail> {
+    let symbol = symbol(name)?;
+    Ok(consumed(venue(place)?, Item::Halt { symbol, halted }))
+}
+
+fn self_help(place: u8, on: bool) -> Result<Entry, Fail> {
+    let venue = venue(place)?;
+    Ok(Entry::SelfHelp { venue, on })
+}
+
 #[test]
 fn size_ranks_before_time(rt: HostRuntime) -> Result<(), Fail> {
-    let acme = symbol("ACME")?;
-    let (first, second) = (venue(0)?, venue(1)?);
-    let bid = Some((0, BID));
-    let offer = Some((0, OFFER));
-    follow(
-        &rt,
-        rt.alloc(),
-        2,
-        &[
-            (
-                consumed(first, quote(acme, BID, NOTHING, 3)),
-                Some((bid, None)),
-            ),
-            (consumed(second, quote(acme, BID, NOTHING, 3)), None),
-            (
-                consumed(first, quote(acme, BID, OFFER, 3)),
-                Some((bid, offer)),
-            ),
-            (
-                consumed(first, quote(acme, (101_500, 200), OFFER, 3)),
-                Some((Some((1, BID)), offer)),
-            ),
-            (consumed(first, quote(acme, BID, OFFER, 3)), None),
-        ],
-    )?;
+    let mut worked = Worked::new(rt.alloc(), 2)?;
+    let offer = best(0, OFFER)?;
+    worked.changes(&rt, quoted(0, BID, NOTHING)?, best(0, BID)?, None);
+    worked.keeps(&rt, quoted(1, BID, NOTHING)?);
+    worked.changes(&rt, quoted(0, BID, OFFER)?, best(0, BID)?, offer);
+    worked.changes(&rt, quoted(0, (101_500, 200), OFFER)?, best(1, BID)?, offer);
+    worked.keeps(&rt, quoted(0, BID, OFFER)?);
     Ok(())
 }
 
 #[test]
 fn locked_crossed_and_ended(rt: HostRuntime) -> Result<(), Fail> {
-    let acme = symbol("ACME")?;
-    let (first, second) = (venue(0)?, venue(1)?);
-    let bid = Some((0, (101_500, 100)));
-    let steps: [Step; 4] = [
-        (
-            consumed(first, quote(acme, (101_500, 100), NOTHING, 3)),
-            Some((bid, None)),
-        ),
-        (
-            consumed(second, quote(acme, NOTHING, (101_500, 100), 3)),
-            Some((bid, Some((1, (101_500, 100))))),
-        ),
-        (
-            consumed(second, quote(acme, NOTHING, (101_400, 100), 3)),
-            Some((bid, Some((1, (101_400, 100))))),
-        ),
-        (
-            consumed(first, Item::End),
-            Some((None, Some((1, (101_400, 100))))),
-        ),
-    ];
-    let states = [
-        NationalState::OneSided,
-        NationalState::Locked,
-        NationalState::Crossed,
-        NationalState::OneSided,
-    ];
-    for (count, state) in states.iter().enumerate() {
-        let book = follow(&rt, rt.alloc(), 2, &steps[..count + 1])?;
-        let national = book.national(&acme).ok_or("ACME is configured")?;
-        assert_eq!(rt; national.state(), *state);
-    }
-    Ok(())
-}
-
-/// The venues of ACME's bids, best first.
-fn bidders(rt: &impl Abort, book: &Book, places: &[usize]) -> Result<(), Fail> {
-    let ranks = book
-        .ranked(&symbol("ACME")?, Side::Bid)
-        .ok_or("ACME is configured")?;
-    assert_eq!(rt; ranks.len(), places.len());
-    for (rank, place) in ranks.iter().zip(places) {
-        assert_eq!(rt; rank.venue.index(), *place);
-    }
+    let mut worked = Worked::new(rt.alloc(), 2)?;
+    let bid = best(0, (101_500, 100))?;
+    worked.changes(&rt, quoted(0, (101_500, 100), NOTHING)?, bid, None);
+    worked.state(&rt, NationalState::OneSided);
+    let offer = best(1, (101_500, 100))?;
+    worked.changes(&rt, quoted(1, NOTHING, (101_500, 100))?, bid, offer);
+    worked.state(&rt, NationalState::Locked);
+    let offer = best(1, (101_400, 100))?;
+    worked.changes(&rt, quoted(1, NOTHING, (101_400, 100))?, bid, offer);
+    worked.state(&rt, NationalState::Crossed);
+    worked.changes(&rt, consumed(venue(0)?, Item::End), None, offer);
+    worked.state(&rt, NationalState::OneSided);
     Ok(())
 }
 
 #[test]
 fn self_help_keeps_the_time(rt: HostRuntime) -> Result<(), Fail> {
-    let acme = symbol("ACME")?;
+    let mut worked = Worked::new(rt.alloc(), 2)?;
     let (first, second) = (venue(0)?, venue(1)?);
-    let help = |on| Entry::SelfHelp { venue: first, on };
-    let steps: [Step; 4] = [
-        (
-            consumed(first, quote(acme, BID, NOTHING, 3)),
-            Some((Some((0, BID)), None)),
-        ),
-        (consumed(second, quote(acme, BID, NOTHING, 3)), None),
-        (help(true), Some((Some((1, BID)), None))),
-        (help(false), Some((Some((0, BID)), None))),
-    ];
-    for (count, places) in [(2, [0, 1].as_slice()), (3, &[1]), (4, &[0, 1])] {
-        let book = follow(&rt, rt.alloc(), 2, &steps[..count])?;
-        bidders(&rt, &book, places)?;
-    }
+    worked.changes(&rt, quoted(0, BID, NOTHING)?, best(0, BID)?, None);
+    worked.keeps(&rt, quoted(1, BID, NOTHING)?);
+    worked.bidders(&rt, &[first, second])?;
+    worked.changes(&rt, self_help(0, true)?, best(1, BID)?, None);
+    worked.bidders(&rt, &[second])?;
+    assert_eq!(rt; worked.book.is_self_helped(first), true);
+    worked.changes(&rt, self_help(0, false)?, best(0, BID)?, None);
+    worked.bidders(&rt, &[first, second])
+}
+
+#[test]
+fn self_help_outlives_a_quotation(rt: HostRuntime) -> Result<(), Fail> {
+    let mut worked = Worked::new(rt.alloc(), 1)?;
+    worked.keeps(&rt, self_help(0, true)?);
+    worked.keeps(&rt, quoted(0, BID, OFFER)?);
+    worked.keeps(&rt, consumed(venue(0)?, Item::End));
+    worked.keeps(&rt, quoted(0, BID, OFFER)?);
+    worked.changes(&rt, self_help(0, false)?, best(0, BID)?, best(0, OFFER)?);
     Ok(())
 }
 
 #[test]
 fn a_halt_keeps_the_time(rt: HostRuntime) -> Result<(), Fail> {
-    let acme = symbol("ACME")?;
-    let (first, second) = (venue(0)?, venue(1)?);
-    let halt = |halted| consumed(
-        first,
-        Item::Halt {
-            symbol: acme,
-            halted,
-        },
-    );
-    let book = follow(
-        &rt,
-        rt.alloc(),
-        2,
-        &[
-            (
-                consumed(first, quote(acme, BID, NOTHING, 3)),
-                Some((Some((0, BID)), None)),
-            ),
-            (consumed(second, quote(acme, BID, NOTHING, 3)), None),
-            (halt(true), Some((Some((1, BID)), None))),
-            (halt(false), Some((Some((0, BID)), None))),
-        ],
-    )?;
-    bidders(&rt, &book, &[0, 1])
+    let mut worked = Worked::new(rt.alloc(), 2)?;
+    worked.changes(&rt, quoted(0, BID, NOTHING)?, best(0, BID)?, None);
+    worked.keeps(&rt, quoted(1, BID, NOTHING)?);
+    worked.changes(&rt, halt(0, "ACME", true)?, best(1, BID)?, None);
+    worked.changes(&rt, halt(0, "ACME", false)?, best(0, BID)?, None);
+    worked.bidders(&rt, &[venue(0)?, venue(1)?])
 }
 
 #[test]
 fn a_halt_ends_with_the_session(rt: HostRuntime) -> Result<(), Fail> {
-    let (acme, other) = (symbol("ACME")?, symbol("OTHER")?);
-    let first = venue(0)?;
-    let halt = |symbol| consumed(
-        first,
-        Item::Halt {
-            symbol,
-            halted: true,
-        },
-    );
-    let shown = Some((Some((0, BID)), Some((0, OFFER))));
-    follow(
-        &rt,
-        rt.alloc(),
-        1,
-        &[
-            (consumed(first, quote(acme, BID, OFFER, 3)), shown),
-            (halt(other), None),
-            (consumed(first, quote(other, BID, OFFER, 3)), None),
-            (halt(acme), Some((None, None))),
-            (consumed(first, quote(acme, OFFER, BID, 3)), None),
-            (consumed(first, Item::Other), None),
-            (consumed(first, Item::End), None),
-            (consumed(first, quote(acme, BID, OFFER, 3)), shown),
-            (consumed(first, Item::End), Some((None, None))),
-        ],
-    )?;
+    let mut worked = Worked::new(rt.alloc(), 1)?;
+    let (bid, offer) = (best(0, BID)?, best(0, OFFER)?);
+    let end = consumed(venue(0)?, Item::End);
+    worked.changes(&rt, quoted(0, BID, OFFER)?, bid, offer);
+    worked.keeps(&rt, halt(0, "OTHER", true)?);
+    worked.changes(&rt, halt(0, "ACME", true)?, None, None);
+    worked.keeps(&rt, quoted(0, OFFER, BID)?);
+    worked.keeps(&rt, consumed(venue(0)?, Item::Other));
+    worked.keeps(&rt, end);
+    worked.changes(&rt, quoted(0, BID, OFFER)?, bid, offer);
+    worked.changes(&rt, end, None, None);
     Ok(())
 }
 
 #[test]
 fn sides_that_do_not_count(rt: HostRuntime) -> Result<(), Fail> {
-    let acme = symbol("ACME")?;
-    let first = venue(0)?;
-    follow(
-        &rt,
-        rt.alloc(),
-        1,
-        &[
-            (
-                consumed(first, quote(acme, BID, OFFER, 1)),
-                Some((Some((0, BID)), None)),
-            ),
-            (
-                consumed(first, quote(acme, BID, OFFER, 2)),
-                Some((None, Some((0, OFFER)))),
-            ),
-            (
-                consumed(first, quote(acme, (0, 300), (101_600, 0), 3)),
-                Some((None, None)),
-            ),
-            (consumed(first, quote(acme, BID, OFFER, 0)), None),
-        ],
-    )?;
+    let mut worked = Worked::new(rt.alloc(), 1)?;
+    let (acme, first) = (worked.acme, venue(0)?);
+    let bid_alone = consumed(first, quote(acme, BID, OFFER, 1));
+    worked.changes(&rt, bid_alone, best(0, BID)?, None);
+    let offer_alone = consumed(first, quote(acme, BID, OFFER, 2));
+    worked.changes(&rt, offer_alone, None, best(0, OFFER)?);
+    worked.changes(&rt, quoted(0, (0, 300), (101_600, 0))?, None, None);
+    worked.keeps(&rt, consumed(first, quote(acme, BID, OFFER, 0)));
     Ok(())
 }
 
 #[test]
 fn sizes_of_64_bits(rt: HostRuntime) -> Result<(), Fail> {
-    let acme = symbol("ACME")?;
+    let mut worked = Worked::new(rt.alloc(), 2)?;
     let (large, larger) = ((101_500, u64::MAX - 1), (101_500, u64::MAX));
-    follow(
-        &rt,
-        rt.alloc(),
-        2,
-        &[
-            (
-                consumed(venue(0)?, quote(acme, large, NOTHING, 3)),
-                Some((Some((0, large)), None)),
-            ),
-            (
-                consumed(venue(1)?, quote(acme, larger, NOTHING, 3)),
-                Some((Some((1, larger)), None)),
-            ),
-        ],
-    )?;
+    worked.changes(&rt, quoted(0, large, NOTHING)?, best(0, large)?, None);
+    worked.changes(&rt, quoted(1, larger, NOTHING)?, best(1, larger)?, None);
     Ok(())
 }

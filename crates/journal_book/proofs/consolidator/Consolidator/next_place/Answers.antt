@@ -14,4 +14,4 @@ returns-clause-next g c =
     let at = at_index c.args.self.now.filters.items c.index.result c.args.id c.index-2.result.now c.index.ensures.value below c.index-2.ensures in
     let found = subst (λ (xs : List Notice). IsNextPlace (meets (terms_of c.index-2.result.now)) xs c.seen-from.result c.next_place.result) c.changes.ensures c.next_place.ensures.next in
     next_of c.args.self.now.journal c.args.self.now.filters.items c.args.id c.seen-from.result c.next_place.result c.index-2.result.now
-      c.args.self.now.tied at c.seen-from.ensures.value found
+    c.args.self.now.tied at c.seen-from.ensures.value found

@@ -37,6 +37,6 @@ returns-clause-offered c =
     let place : c.len.result + 1 ≡ length old.entries.items + 1 = omega (arith, c.len.ensures, old.entries.ok.0) in
     let all = notices-put old.book.symbols old.entries.items c.args.entry old.notices.items c.apply.new.out.items (vec_len old.notices) (c.len.result + 1) keeps.all old.notices.ok.0 place made in
     rw (c.push_entry.ensures, c.apply.ensures.symbols, ← c.self.view_is)
-      (ap (λ l. map (subscription_of l) old.cursors.items) (sym all)
-      ∙ same_offered old.cursors.items old.notices.items (numbered_from (vec_len old.notices + 1) c.apply.new.out.items) keeps.seen
-      ∙ ap (λ l. map (subscription_of l) old.cursors.items) keeps.all)
+    (ap (λ l. map (subscription_of l) old.cursors.items) (sym all)
+    ∙ same_offered old.cursors.items old.notices.items (numbered_from (vec_len old.notices + 1) c.apply.new.out.items) keeps.seen
+    ∙ ap (λ l. map (subscription_of l) old.cursors.items) keeps.all)

@@ -1,0 +1,12 @@
+pub mod Lists
+pub mod Lanes
+pub mod KeptVenues
+pub mod VenueHalfLaw
+pub mod KeptSubscribers
+pub mod SubscriberHalfLaw
+pub mod HeadlineLaw
+pub mod OneRunLaw
+pub mod VenueMoves
+pub mod Offering
+pub mod MachineMoves
+pub mod WholeMachine

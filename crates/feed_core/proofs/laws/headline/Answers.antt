@@ -1,0 +1,5 @@
+use Rattle.feed_core.proofs.HeadlineLaw.{headline}
+use Rattle.feed_core.proofs.laws.headline.Goals as goal
+
+pub returns : goal.returns
+returns c = headline

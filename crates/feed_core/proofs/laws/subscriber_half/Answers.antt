@@ -1,0 +1,5 @@
+use Rattle.feed_core.proofs.SubscriberHalfLaw.{subscriber_half}
+use Rattle.feed_core.proofs.laws.subscriber_half.Goals as goal
+
+pub returns : goal.returns
+returns c = subscriber_half

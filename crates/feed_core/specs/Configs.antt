@@ -1,0 +1,56 @@
+-- Which configuration is refused, and why: the first that fits, in this order. Refused memory is
+-- the last refusal, but that for the table of symbols, which is asked for before it is seen that
+-- one comes twice.
+use Rattle.std.specs.Prelude.{ℕ, ◌≤◌, List, length}
+use Rattle.std.specs.List.{IsDistinct}
+use Rattle.std.specs.Str.{bytes_eq}
+use Rattle.feed_types.specs.declared.config.FeedConfig.{FeedConfig}
+use Rattle.feed_core.specs.declared.config.ConfigFault.{ConfigFault}
+use Rattle.feed_core.specs.declared.config.ConfigFault.TheVariants.{BadVenueCount, BadWindow, BadCapacity, TooManySymbols, DuplicateSymbol}
+use Rattle.feed_core.specs.declared.config.CoreFault.{CoreFault}
+use Rattle.feed_core.specs.declared.config.CoreFault.TheVariants.{BadConfig, NoMemory}
+
+abbrev pub IsWithin : ℕ → ℕ → ℕ → Type 0
+IsWithin least most n = (least ≤ n) × (n ≤ most)
+
+abbrev pub HasVenues : FeedConfig → Type 0
+HasVenues config = IsWithin 1 16 (length config.sessions.now)
+
+abbrev pub HasWindow : FeedConfig → Type 0
+HasWindow config = IsWithin 1 65535 config.window
+
+abbrev pub HasLanes : FeedConfig → Type 0
+HasLanes config = IsWithin 1 65536 config.lane
+
+-- all but that no symbol comes twice
+abbrev pub IsSized : FeedConfig → Type 0
+IsSized config =
+    HasVenues config × HasWindow config × HasLanes config × (length config.symbols.now ≤ 4096)
+
+abbrev pub IsGood : FeedConfig → Type 0
+IsGood config = IsSized config × IsDistinct bytes_eq config.symbols.now
+
+abbrev pub IsBad : FeedConfig → ConfigFault → Type 0
+IsBad config BadVenueCount = ¬ HasVenues config
+IsBad config BadWindow = HasVenues config × (¬ HasWindow config)
+IsBad config BadCapacity = HasVenues config × HasWindow config × (¬ HasLanes config)
+IsBad config TooManySymbols =
+    HasVenues config × HasWindow config × HasLanes config × (4097 ≤ length config.symbols.now)
+IsBad config DuplicateSymbol = IsSized config × (¬ IsDistinct bytes_eq config.symbols.now)
+
+-- why there is no world
+abbrev pub Explains : FeedConfig → CoreFault → Type 0
+Explains config (BadConfig fault) = IsBad config fault
+Explains config NoMemory = IsSized config
+
+-- the numbers that stand for the faults (this project's format)
+abbrev pub config_fault_code : ConfigFault → ℕ
+config_fault_code BadWindow = 13
+config_fault_code BadVenueCount = 14
+config_fault_code DuplicateSymbol = 15
+config_fault_code TooManySymbols = 16
+config_fault_code BadCapacity = 22
+
+abbrev pub core_fault_code : CoreFault → ℕ
+core_fault_code NoMemory = 12
+core_fault_code (BadConfig fault) = config_fault_code fault

@@ -1,0 +1,212 @@
+-- What the machine keeps, and that it stands for a world: private clauses alone cite this.
+use Rattle.std.specs.Prelude.{◌≡◌, ℕ, ◌≤◌, ◌<◌, List, [], length, filter, take, map, slice_get, Some}
+use Rattle.feed_types.specs.declared.item.Numbered.{Numbered}
+use Rattle.feed_types.specs.declared.line.LineId.{LineId}
+use Rattle.mold_packet.specs.declared.fault.PacketFault.{PacketFault}
+use Rattle.mold_packet.specs.Content.{Content, Spells}
+use Rattle.mold_packet.specs.Faults.{HasFault, code_of}
+use Rattle.line_arbiter.specs.declared.outcome.Outcome.{Outcome}
+use Rattle.line_arbiter.specs.declared.outcome.LineFault.{LineFault}
+use Rattle.line_arbiter.specs.declared.faults.RenewFault.{RenewFault}
+use Rattle.std.specs.Prelude.{Result}
+use Rattle.line_arbiter.specs.States.{State}
+use Rattle.line_arbiter.specs.Fits.{Fits}
+use Rattle.line_arbiter.specs.Histories.{History, names_of, items_of, streams_of}
+use Rattle.feed_core.specs.declared.event.Done.{Done}
+use Rattle.feed_core.specs.declared.event.Done.TheVariants as done
+use Rattle.feed_core.specs.Worlds.{Lane, inside, is_full, Venue, sent_of, Subscriber, World, Setting, new_world}
+use Rattle.filter_terms.specs.declared.terms.Terms.{Terms}
+use Rattle.filter_terms.specs.declared.filter.Filter.{Filter}
+use Rattle.filter_terms.specs.Filters.{terms_of}
+use Rattle.feed_core.specs.declared.event.Event.{Event}
+use Rattle.feed_core.specs.VenueHalf.{waiting}
+use Rattle.feed_core.specs.Headline.{ShownVenue, ShownSubscriber, Shown}
+use Rattle.feed_types.specs.declared.config.FeedConfig.{FeedConfig}
+use Rattle.feed_types.specs.declared.journal.Entry.{Entry}
+use Rattle.feed_types.specs.declared.journal.Notice.{Notice}
+use Rattle.filter_terms.specs.Terms.{meets}
+use Rattle.journal_book.specs.Changes.{changes_of}
+use Rattle.journal_book.specs.Wanted.{wanted_of}
+use Rattle.journal_book.specs.Journals.{JournalState}
+use Rattle.feed_core.specs.Steps.{next_in, IsTaken, IsRenewed, answered, renewal, pushed, offered, ComesTo, Intake, IsStep, IsRun}
+
+-- a venue's arbiter, and its lane
+pub record VenueView : Type 0 where
+  pub arbiter : State
+  pub lane : Lane Numbered
+
+-- they are the venue's at this place
+pub record FitsVenue (window place : ℕ) (c : VenueView) (v : Venue) : Type 0 where
+  pub fits : Fits c.arbiter v.history.present.packets
+  pub number : c.arbiter.venue ≡ place
+  pub width : c.arbiter.window ≡ window
+  pub names : c.arbiter.sessions ≡ names_of v.history
+  pub session : c.arbiter.session ≡ v.history.present.name
+  pub sent : c.arbiter.sent ≡ sent_of v
+  pub begun : length (items_of v.history.earlier) ≤ length v.lane.sent
+  pub lane : c.lane ≡ v.lane
+  pub within : length v.lane.received ≤ length v.lane.sent
+
+-- what Packet left of a venue: nothing changed where the bytes are no packet
+pub record LeftFaulty (bytes : List ℕ) (outcome : Done) (old new : VenueView) : Type 0 where
+  pub fault : PacketFault
+  pub has : HasFault bytes fault
+  pub outcome_is : outcome ≡ done.Refused (code_of fault)
+  pub same : new ≡ old
+
+pub record LeftAnswered (window place : ℕ) (v : Venue) (line : LineId) (bytes : List ℕ)
+    (outcome : Done) (new : VenueView) : Type 0 where
+  pub packet : Content
+  pub rest : List ℕ
+  pub spells : Spells bytes packet rest
+  pub answer : Result Outcome LineFault
+  pub history : History
+  pub taken : IsTaken window (sent_of v) line packet v.history answer history
+  pub outcome_is : outcome ≡ answered answer
+  pub fits : FitsVenue window place new (record v { history = history })
+
+-- what Renew left
+pub record LeftRenewed (window place : ℕ) (v : Venue) (name : List ℕ) (outcome : Done)
+    (new : VenueView) : Type 0 where
+  pub answer : Result ℕ RenewFault
+  pub history : History
+  pub renewed : IsRenewed (sent_of v) name v.history answer history
+  pub outcome_is : outcome ≡ renewal answer
+  pub fits : FitsVenue window place new (record v { history = history })
+
+-- what Push left
+pub record LeftPushed (window place capacity : ℕ) (v : Venue) (outcome : Done)
+    (new : VenueView) : Type 0 where
+  pub comes : ComesTo
+      (pushed (is_full capacity v.lane) (next_in (streams_of v.history) v.lane) v.lane.sent)
+      v.lane.sent outcome new.lane.sent
+  pub fits : FitsVenue window place new (record v { lane = record v.lane { sent = new.lane.sent } })
+
+-- the venue is shown so: what waits is in its lane
+pub record ShowsVenue (lane : Lane Numbered) (v : Venue) : Type 0 where
+  pub consumed : lane.received ≡ v.lane.received
+  pub waiting : inside lane ≡ waiting v
+
+-- how many changes of the journal were looked at for a subscriber, and its lane
+pub record SubscriberView : Type 0 where
+  pub seen : ℕ
+  pub lane : Lane Notice
+
+-- they are the subscriber's
+pub record FitsSubscriber (symbols : List (List ℕ)) (entries : List Entry) (c : SubscriberView)
+    (x : Subscriber) : Type 0 where
+  pub seen : c.seen ≤ length (changes_of symbols entries)
+  pub sent : x.lane.sent ≡ filter (meets x.terms) (take c.seen (changes_of symbols entries))
+  pub lane : c.lane ≡ x.lane
+
+-- what Offer left
+pub record LeftOffered (symbols : List (List ℕ)) (entries : List Entry) (capacity : ℕ)
+    (x : Subscriber) (outcome : Done) (new : SubscriberView) : Type 0 where
+  pub comes : ComesTo
+      (offered (is_full capacity x.lane) (next_in (wanted_of symbols x.terms entries) x.lane)
+      x.lane.sent)
+      x.lane.sent outcome new.lane.sent
+  pub fits : FitsSubscriber symbols entries new
+      (record x { lane = record x.lane { sent = new.lane.sent } })
+
+-- what Consume looks at
+abbrev pub intake_of : Lane Numbered → JournalState → Intake
+intake_of lane journal = record { received = lane.received; entries = journal.entries }
+
+-- all of a journal but its entries stays
+pub record KeepsJournal (old new : JournalState) : Type 0 where
+  pub symbols : new.symbols ≡ old.symbols
+  pub venues : new.venues ≡ old.venues
+  pub journal : new.journal ≡ old.journal
+
+-- the machine: its venues, the journal, its subscribers, how much a lane holds, and how many
+-- filters were used up
+pub record MachineView : Type 0 where
+  pub venues : List VenueView
+  pub journal : JournalState
+  pub subscribers : List SubscriberView
+  pub capacity : ℕ
+  pub used : ℕ
+
+pub record FitVenues (window : ℕ) (cs : List VenueView) (vs : List Venue) : Type 0 where
+  pub count : length cs ≡ length vs
+  pub each : (i : ℕ) (c : VenueView) (v : Venue) → slice_get cs i ≡ Some c → slice_get vs i ≡ Some v
+      → FitsVenue window i c v
+
+-- a subscriber's terms are those of the filter at its place
+pub record FitSubscribers (s : Setting) (entries : List Entry) (cs : List SubscriberView)
+    (xs : List Subscriber) : Type 0 where
+  pub count : length cs ≡ length xs
+  pub each : (i : ℕ) (c : SubscriberView) (x : Subscriber)
+      → slice_get cs i ≡ Some c → slice_get xs i ≡ Some x
+      → FitsSubscriber s.symbols entries c x
+  pub terms : (i : ℕ) (x : Subscriber) → slice_get xs i ≡ Some x
+      → slice_get s.filters i ≡ Some x.terms
+
+pub record FitsWorld (s : Setting) (m : MachineView) (w : World) : Type 0 where
+  pub venues : FitVenues s.window m.venues w.venues
+  pub entries : m.journal.entries ≡ w.entries
+  pub symbols : m.journal.symbols ≡ s.symbols
+  pub journal : m.journal.journal ≡ s.journal
+  pub counted : m.journal.venues ≡ length w.venues
+  pub placed : length w.venues ≡ length s.sessions
+  pub capacity : m.capacity ≡ s.lane
+  pub subscribers : FitSubscribers s w.entries m.subscribers w.subscribers
+  pub used : m.used ≡ w.used
+  pub in_turn : length w.subscribers < 32 → w.used ≡ length w.subscribers
+
+-- the event came with this outcome, and the machine stands for the world after it
+pub record Stepped (s : Setting) (old : World) (e : Event) (outcome : Done)
+    (m : MachineView) : Type 0 where
+  pub after : World
+  pub fits : FitsWorld s m after
+  pub step : IsStep s old e outcome after
+
+-- the events came with these outcomes, and the machine stands for the world after them
+pub record Reached (s : Setting) (events : List Event) (outcomes : List Done)
+    (m : MachineView) : Type 0 where
+  pub world : World
+  pub fits : FitsWorld s m world
+  pub run : IsRun s (new_world s) events outcomes world
+
+-- the terms of filters
+abbrev pub all_terms : {g F m : _} → List (Filter g F m) → List Terms
+all_terms filters = map (λ f. terms_of f) filters
+
+-- how the parts of a machine are shown
+abbrev pub venue_shown : VenueView → ShownVenue
+venue_shown c = record { consumed = c.lane.received; waiting = inside c.lane }
+
+abbrev pub subscriber_shown : SubscriberView → ShownSubscriber
+subscriber_shown c = record { dequeued = c.lane.received; queued = inside c.lane }
+
+-- the first n venues are shown, and the others fit
+pub record ShownTo (window n : ℕ) (cs : List VenueView) (vs : List Venue) : Type 0 where
+  pub count : length cs ≡ length vs
+  pub early : (i : ℕ) (c : VenueView) (v : Venue) → i < n
+      → slice_get cs i ≡ Some c → slice_get vs i ≡ Some v → ShowsVenue c.lane v
+  pub late : (i : ℕ) (c : VenueView) (v : Venue) → n ≤ i
+      → slice_get cs i ≡ Some c → slice_get vs i ≡ Some v → FitsVenue window i c v
+
+-- all are shown
+pub record ShowVenues (cs : List VenueView) (vs : List Venue) : Type 0 where
+  pub count : length cs ≡ length vs
+  pub each : (i : ℕ) (c : VenueView) (v : Venue)
+      → slice_get cs i ≡ Some c → slice_get vs i ≡ Some v → ShowsVenue c.lane v
+
+-- what a finished machine shows
+abbrev pub shown_by : List Done → List VenueView → JournalState → List SubscriberView → Shown
+shown_by outcomes venues journal subscribers = record {
+  outcomes = outcomes;
+  venues = map venue_shown venues;
+  entries = journal.entries;
+  changes = changes_of journal.symbols journal.entries;
+  subscribers = map subscriber_shown subscribers;
+}
+
+-- a journal of this configuration, without an entry
+pub record IsEmptyOf (config : FeedConfig) (journal : JournalState) : Type 0 where
+  pub symbols : journal.symbols ≡ config.symbols.now
+  pub venues : journal.venues ≡ length config.sessions.now
+  pub journal_is : journal.journal ≡ config.journal
+  pub entries : journal.entries ≡ []

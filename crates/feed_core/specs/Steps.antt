@@ -1,0 +1,260 @@
+-- What one event makes of the world. Each event is said of the part of the world that it looks at,
+-- which in a running feed one lock or one end of a lane sees; the step then puts that part back in
+-- its place. The refusals stand in the order in which they are looked for.
+use Rattle.std.specs.Prelude.{◌≡◌, ◌⊎◌, ℕ, ◌+◌, Bool, true, false, nat_le, List, [], ◌∷◌, ◌++◌, length, Option, Some, None, MatchOption, Result, Ok, Err, slice_get, slice_set, if◌then◌else◌}
+use Rattle.feed_types.specs.declared.item.Numbered.{Numbered}
+use Rattle.feed_types.specs.declared.line.LineId.{LineId}
+use Rattle.feed_types.specs.declared.journal.Entry.{Entry}
+use Rattle.feed_types.specs.declared.journal.Entry.TheVariants as entry
+use Rattle.feed_types.specs.declared.journal.Notice.{Notice}
+use Rattle.mold_packet.specs.declared.fault.PacketFault.{PacketFault}
+use Rattle.mold_packet.specs.Content.{Content, Spells}
+use Rattle.mold_packet.specs.Faults.{HasFault, code_of}
+use Rattle.line_arbiter.specs.declared.outcome.Outcome.{Outcome}
+use Rattle.line_arbiter.specs.declared.outcome.LineFault.{LineFault}
+use Rattle.line_arbiter.specs.declared.faults.RenewFault.{RenewFault}
+use Rattle.line_arbiter.specs.Codes.{line_fault_code, renew_fault_code}
+use Rattle.line_arbiter.specs.Packets.{end_of}
+use Rattle.line_arbiter.specs.Outcomes.{IsOutcome}
+use Rattle.line_arbiter.specs.Renewals.{IsRenewal}
+use Rattle.line_arbiter.specs.Histories.{History, names_of, streams_of, after_arrival, after_renewal}
+use Rattle.filter_terms.specs.declared.terms.Terms.{Terms}
+use Rattle.journal_book.specs.Wanted.{wanted_of}
+use Rattle.nbbo_book.specs.Eligible.{is_self_helped}
+use Rattle.feed_core.specs.declared.event.Event.{Event}
+use Rattle.feed_core.specs.declared.event.Event.TheVariants.{Packet, Push, Consume, Declare, Renew, Subscribe, Offer, Dequeue}
+use Rattle.feed_core.specs.declared.event.Done.{Done}
+use Rattle.feed_core.specs.declared.event.Done.TheVariants as done
+use Rattle.feed_core.specs.Worlds.{Lane, empty_lane, is_full, Venue, sent_of, Subscriber, World, Setting}
+
+-- the refusals that are the machine's own, by their numbers
+abbrev pub journal_full : Done
+journal_full = done.Refused 17
+
+abbrev pub unknown_venue : Done
+unknown_venue = done.Refused 18
+
+abbrev pub already_so : Done
+already_so = done.Refused 19
+
+abbrev pub too_many_subscribers : Done
+too_many_subscribers = done.Refused 20
+
+abbrev pub unknown_subscriber : Done
+unknown_subscriber = done.Refused 21
+
+-- What an event comes to on its part of the world: an outcome that leaves it as it is, or an
+-- outcome and what it is then.
+pub data Came (X : Type 0) : Type 0 where
+  stays : Done → Came X
+  goes : Done → X → Came X
+
+-- ---- what goes into a lane next, and what comes out
+
+-- the first of all these that was not put in yet
+abbrev pub next_in : {X : Type 0} → List X → Lane X → Option X
+next_in all lane = slice_get all (length lane.sent)
+
+-- the first that was put in and not taken out
+abbrev pub next_out : {X : Type 0} → Lane X → Option X
+next_out lane = slice_get lane.sent (length lane.received)
+
+-- ---- each event on its part
+
+-- Packet, on what came to a venue: a packet that was read stands among the others with its answer,
+-- a refused one too.
+pub record IsTaken (window sent : ℕ) (line : LineId) (packet : Content) (old : History)
+    (answer : Result Outcome LineFault) (new : History) : Type 0 where
+  pub right : IsOutcome old.present.name window sent old.present.packets packet answer
+  pub is : new ≡ after_arrival old (record { line = line; packet = packet; answer = answer })
+
+-- Renew, on what came to a venue: the present session is over, and the next one begins, or nothing
+-- changes.
+abbrev pub history_after : History → List ℕ → Result ℕ RenewFault → History
+history_after old name (Ok ordinal) = after_renewal old name
+history_after old name (Err fault) = old
+
+pub record IsRenewed (sent : ℕ) (name : List ℕ) (old : History) (answer : Result ℕ RenewFault)
+    (new : History) : Type 0 where
+  pub right : IsRenewal (names_of old) (end_of old.present.packets) sent name answer
+  pub is : new ≡ history_after old name answer
+
+-- Push, on what was sent of a venue: its next item, unless the lane is full.
+abbrev pub pushed : Bool → Option Numbered → List Numbered → Came (List Numbered)
+pushed full None sent = stays done.NothingReady
+pushed full (Some x) sent =
+    if full then stays done.LaneFull else goes (done.Pushed x.number) (sent ++ x ∷ [])
+
+-- Consume, on what was received from a venue and on the journal: the next item of the lane, unless
+-- the journal is full.
+pub record Intake : Type 0 where
+  pub received : List Numbered
+  pub entries : List Entry
+
+abbrev pub journaled : ℕ → Option Numbered → Intake → Came Intake
+journaled venue None old = stays done.LaneEmpty
+journaled venue (Some x) old = goes (done.Consumed (length old.entries + 1)) (record {
+  received = old.received ++ x ∷ [];
+  entries = old.entries ++ entry.Consumed venue x ∷ [];
+})
+
+abbrev pub consumed : ℕ → ℕ → Option Numbered → Intake → Came Intake
+consumed journal venue next old =
+    if nat_le journal (length old.entries) then stays journal_full else journaled venue next old
+
+-- Declare, on the journal: unless it is so already, or the journal is full.
+abbrev pub is_same : Bool → Bool → Bool
+is_same true b = b
+is_same false true = false
+is_same false false = true
+
+abbrev pub declared : ℕ → ℕ → Bool → List Entry → Came (List Entry)
+declared journal venue on entries =
+    if is_same (is_self_helped entries venue) on then stays already_so else
+    (if nat_le journal (length entries) then stays journal_full else
+    goes (done.Declared (length entries + 1)) (entries ++ entry.SelfHelp venue on ∷ []))
+
+-- Subscribe, on the subscribers: one more with these terms, to whom nothing was offered, up to 32.
+abbrev pub subscribed : Terms → List Subscriber → Came (List Subscriber)
+subscribed terms subscribers =
+    if nat_le 32 (length subscribers) then stays too_many_subscribers else
+    goes (done.Subscribed (length subscribers))
+    (subscribers ++ record { terms = terms; lane = empty_lane } ∷ [])
+
+-- Offer, on what was sent to a subscriber: the next notice that it wants, unless the lane is full.
+abbrev pub offered : Bool → Option Notice → List Notice → Came (List Notice)
+offered full None sent = stays done.NothingWanted
+offered full (Some n) sent =
+    if full then stays done.LaneFull else goes (done.Offered n.number) (sent ++ n ∷ [])
+
+-- Dequeue, on what a subscriber received: the next notice of its lane.
+abbrev pub dequeued : Option Notice → List Notice → Came (List Notice)
+dequeued None received = stays done.LaneEmpty
+dequeued (Some n) received = goes (done.Dequeued n.number) (received ++ n ∷ [])
+
+-- ---- the part in its place
+
+-- the world, or a part of it, is as it was
+abbrev pub Stays : {W : Type 0} → Done → W → Done → W → Type 0
+Stays refusal old outcome new = (outcome ≡ refusal) × (new ≡ old)
+
+-- so it is, or it is the old one with its part changed
+abbrev pub Comes : {X W : Type 0} → (X → W) → Came X → W → Done → W → Type 0
+Comes put (stays d) old outcome new = Stays d old outcome new
+Comes put (goes d x) old outcome new = (outcome ≡ d) × (new ≡ put x)
+
+-- of the part alone
+abbrev pub ComesTo : {X : Type 0} → Came X → X → Done → X → Type 0
+ComesTo came old outcome new = Comes (λ x. x) came old outcome new
+
+abbrev pub put_venue : World → ℕ → Venue → World
+put_venue w place v = record w { venues = slice_set w.venues place v }
+
+abbrev pub put_subscriber : World → ℕ → Subscriber → World
+put_subscriber w id x = record w { subscribers = slice_set w.subscribers id x }
+
+abbrev pub with_sent : World → ℕ → Venue → List Numbered → World
+with_sent w place v sent = put_venue w place (record v { lane = record v.lane { sent = sent } })
+
+abbrev pub with_intake : World → ℕ → Venue → Intake → World
+with_intake w place v x =
+    record (put_venue w place (record v { lane = record v.lane { received = x.received } })) {
+      entries = x.entries;
+    }
+
+abbrev pub with_offered : World → ℕ → Subscriber → List Notice → World
+with_offered w id x sent =
+    put_subscriber w id (record x { lane = record x.lane { sent = sent } })
+
+abbrev pub with_dequeued : World → ℕ → Subscriber → List Notice → World
+with_dequeued w id x received =
+    put_subscriber w id (record x { lane = record x.lane { received = received } })
+
+-- ---- the step
+
+-- the datagram is no packet, and nothing changes
+pub record IsFaulty (bytes : List ℕ) (old : World) (outcome : Done) (new : World) : Type 0 where
+  pub fault : PacketFault
+  pub has : HasFault bytes fault
+  pub is : Stays (done.Refused (code_of fault)) old outcome new
+
+abbrev pub answered : Result Outcome LineFault → Done
+answered (Ok outcome) = done.Packet outcome
+answered (Err fault) = done.Refused (line_fault_code fault)
+
+-- it is a packet, and the venue's lines answer it
+pub record IsAnswered (window place : ℕ) (v : Venue) (line : LineId) (bytes : List ℕ) (old : World)
+    (outcome : Done) (new : World) : Type 0 where
+  pub packet : Content
+  pub rest : List ℕ
+  pub spells : Spells bytes packet rest
+  pub answer : Result Outcome LineFault
+  pub history : History
+  pub taken : IsTaken window (sent_of v) line packet v.history answer history
+  pub outcome_is : outcome ≡ answered answer
+  pub new_is : new ≡ put_venue old place (record v { history = history })
+
+abbrev pub renewal : Result ℕ RenewFault → Done
+renewal (Ok ordinal) = done.Renewed ordinal
+renewal (Err fault) = done.Refused (renew_fault_code fault)
+
+pub record IsNext (place : ℕ) (v : Venue) (name : List ℕ) (old : World) (outcome : Done)
+    (new : World) : Type 0 where
+  pub answer : Result ℕ RenewFault
+  pub history : History
+  pub renewed : IsRenewed (sent_of v) name v.history answer history
+  pub outcome_is : outcome ≡ renewal answer
+  pub new_is : new ≡ put_venue old place (record v { history = history })
+
+-- the next filter is used up, also where there is no place for its subscriber
+abbrev pub IsSubscribed : Option Terms → World → Done → World → Type 0
+IsSubscribed None old outcome new = Stays done.NoFilter old outcome new
+IsSubscribed (Some terms) old outcome new =
+    let after : World = record old { used = old.used + 1 } in
+    Comes (λ xs. record after { subscribers = xs })
+    (subscribed terms old.subscribers) after outcome new
+
+-- first of all a venue that isn't there, or a subscriber
+abbrev pub AtVenue : World → ℕ → Done → World → (Venue → Type 0) → Type 0
+AtVenue old place outcome new Known =
+    MatchOption (slice_get old.venues place) (Stays unknown_venue old outcome new) Known
+
+abbrev pub AtSubscriber : World → ℕ → Done → World → (Subscriber → Type 0) → Type 0
+AtSubscriber old id outcome new Known =
+    MatchOption (slice_get old.subscribers id) (Stays unknown_subscriber old outcome new) Known
+
+-- one event, from the old world to the new one, with its outcome
+abbrev pub IsStep : Setting → World → Event → Done → World → Type 0
+IsStep s old (Packet venue line bytes) outcome new = AtVenue old venue outcome new
+    (λ v. IsFaulty bytes.now old outcome new
+    ⊎ IsAnswered s.window venue v line bytes.now old outcome new)
+IsStep s old (Renew venue name) outcome new = AtVenue old venue outcome new
+    (λ v. IsNext venue v name old outcome new)
+IsStep s old (Push venue) outcome new = AtVenue old venue outcome new
+    (λ v. Comes (with_sent old venue v)
+    (pushed (is_full s.lane v.lane) (next_in (streams_of v.history) v.lane) v.lane.sent)
+    old outcome new)
+IsStep s old (Consume venue) outcome new = AtVenue old venue outcome new
+    (λ v. Comes (with_intake old venue v)
+    (consumed s.journal venue (next_out v.lane)
+    (record { received = v.lane.received; entries = old.entries }))
+    old outcome new)
+IsStep s old (Declare venue on) outcome new = AtVenue old venue outcome new
+    (λ v. Comes (λ entries. record old { entries = entries })
+    (declared s.journal venue on old.entries) old outcome new)
+IsStep s old Subscribe outcome new = IsSubscribed (slice_get s.filters old.used) old outcome new
+IsStep s old (Offer id) outcome new = AtSubscriber old id outcome new
+    (λ x. Comes (with_offered old id x)
+    (offered (is_full s.lane x.lane)
+    (next_in (wanted_of s.symbols x.terms old.entries) x.lane) x.lane.sent)
+    old outcome new)
+IsStep s old (Dequeue id) outcome new = AtSubscriber old id outcome new
+    (λ x. Comes (with_dequeued old id x)
+    (dequeued (next_out x.lane) x.lane.received) old outcome new)
+
+-- a run: the events are taken one after another, each with its outcome
+abbrev pub IsRun : Setting → World → List Event → List Done → World → Type 0
+IsRun s old [] [] new = new ≡ old
+IsRun s old (e ∷ es) (d ∷ ds) new = (mid : World) × IsStep s old e d mid × IsRun s mid es ds new
+IsRun s old [] (d ∷ ds) new = ⊥
+IsRun s old (e ∷ es) [] new = ⊥

@@ -1,0 +1,78 @@
+//! What may happen to a feed, and what comes of it.
+
+use feed_types::{LineId, SubscriberId, VenueId};
+use line_arbiter::Outcome;
+
+/// One thing that happens to a feed. A running feed does each in one section under one lock, or as
+/// one step of a queue.
+#[derive(Clone, Copy, Debug)]
+pub enum Event<'a> {
+    /// A datagram comes on a line of the venue.
+    Packet {
+        venue: VenueId,
+        line: LineId,
+        bytes: &'a [u8],
+    },
+    /// The venue's next item goes into its lane.
+    Push {
+        venue: VenueId,
+    },
+    /// The next item of the venue's lane goes into the journal.
+    Consume {
+        venue: VenueId,
+    },
+    /// Self-help on the venue is declared, or withdrawn.
+    Declare {
+        venue: VenueId,
+        on: bool,
+    },
+    /// The venue's next session begins, under a name of ten bytes.
+    Renew {
+        venue: VenueId,
+        session: [u8; 10],
+    },
+    /// The next of the filters that were handed in becomes a subscriber.
+    Subscribe,
+    /// The next notice that the subscriber wants goes into its lane.
+    Offer {
+        id: SubscriberId,
+    },
+    /// The next notice of the subscriber's lane is taken out.
+    Dequeue {
+        id: SubscriberId,
+    },
+}
+
+/// What came of an event.
+#[derive(Clone, Copy, Debug, PartialEq, Eq, Hash)]
+pub enum Done {
+    /// It was refused, by the number of the refusal: 1 to 4 a datagram that is no packet, 7 to 11 a
+    /// packet that the venue's lines refuse, 17 a full journal, 18 no such venue, 19 a declaration
+    /// that changes nothing, 20 one subscriber too many, 21 no such subscriber, 35 to 37 a session
+    /// that can't begin.
+    Refused(u8),
+    Packet(Outcome),
+    /// The item of this number was pushed.
+    Pushed(u64),
+    /// The item was journaled at this position, from 1.
+    Consumed(u64),
+    /// The declaration was journaled at this position.
+    Declared(u64),
+    /// The session of this ordinal has begun, from 2.
+    Renewed(u64),
+    Subscribed(SubscriberId),
+    /// The notice of this number was put into the subscriber's lane.
+    Offered(u64),
+    /// The notice of this number was taken out.
+    Dequeued(u64),
+    /// The venue has no next item in sequence.
+    NothingReady,
+    /// As many items are in the lane as it holds.
+    LaneFull,
+    /// Nothing is in the lane.
+    LaneEmpty,
+    /// No further notice meets the subscriber's terms.
+    NothingWanted,
+    /// All filters that were handed in are used up.
+    NoFilter,
+}

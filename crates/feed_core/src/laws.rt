@@ -1,0 +1,44 @@
+//! What the definitions mean. Each function has an empty body, and its contract is a law.
+
+ghost use Rattle.std.specs.Prelude.{◌≡◌, ℕ, List, Some, slice_get};
+ghost use Rattle.feed_core.specs.declared.event.Event.{Event};
+ghost use Rattle.feed_core.specs.declared.event.Done.{Done};
+ghost use Rattle.feed_core.specs.Worlds.{Venue, Subscriber, World, Setting, new_world};
+ghost use Rattle.feed_core.specs.Steps.{IsRun};
+ghost use Rattle.feed_core.specs.VenueHalf.{VenueHalf};
+ghost use Rattle.feed_core.specs.SubscriberHalf.{SubscriberHalf};
+ghost use Rattle.feed_core.specs.Headline.{Headline};
+
+/// The headline. After every list of events, each venue's items, consumed and then waiting, are its
+/// sessions' messages, session by session up to the first gap, each once, in sequence and none
+/// after their session's end; and each subscriber's dequeued notices are, in order and without
+/// doubles, a prefix of the journal's changes of the national best that meet its filter.
+pub fn headline()
+    ensures { (s : Setting) (events : List Event) (outcomes : List Done) (w : World)
+        → IsRun s (new_world s) events outcomes w → Headline s events w }
+{}
+
+/// Its venue half alone.
+pub fn venue_half()
+    ensures { (s : Setting) (events : List Event) (outcomes : List Done) (w : World)
+        → IsRun s (new_world s) events outcomes w
+        → (place : ℕ) (v : Venue) → slice_get w.venues place ≡ Some v → VenueHalf events place v }
+{}
+
+/// Its subscriber half alone.
+pub fn subscriber_half()
+    ensures { (s : Setting) (events : List Event) (outcomes : List Done) (w : World)
+        → IsRun s (new_world s) events outcomes w
+        → (id : ℕ) (x : Subscriber) → slice_get w.subscribers id ≡ Some x
+        → SubscriberHalf s.symbols w.entries x }
+{}
+
+/// A list of events has one list of outcomes and leads to one world.
+pub fn one_run()
+    ensures outcomes { (s : Setting) (old : World) (events : List Event)
+        (a b : List Done) (v w : World)
+        → IsRun s old events a v → IsRun s old events b w → a ≡ b }
+    ensures world { (s : Setting) (old : World) (events : List Event)
+        (a b : List Done) (v w : World)
+        → IsRun s old events a v → IsRun s old events b w → v ≡ w }
+{}

@@ -1,0 +1,28 @@
+//! The machine over events, and the headline: what a whole feed does, as one list of events.
+//!
+//! [`run`] takes a list of events (packets that come on lines, items that are pushed and consumed,
+//! notices that are offered and dequeued, ..) and shows what they came to as a [`World`]. It has no
+//! threads: a running feed does the same events, each in one section under one lock or as one step
+//! of a queue.
+//!
+//! Contract: what is shown is that of the one run over the events (`specs/Steps.antt`), and the
+//! headline holds of it (`specs/Headline.antt`, law [`headline`]). Begin at `specs/Worlds.antt` and
+//! `specs/Steps.antt` for what an event does, and at `running.rt` for the code.
+#![tactic(auto)]
+
+mod config;
+mod event;
+mod journaling;
+mod lane;
+mod laws;
+mod machine;
+mod running;
+mod subscriber;
+mod venue;
+mod world;
+
+pub use config::{ConfigFault, CoreFault};
+pub use event::{Done, Event};
+pub use laws::{headline, one_run, subscriber_half, venue_half};
+pub use running::run;
+pub use world::World;
