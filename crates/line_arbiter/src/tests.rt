@@ -7,6 +7,7 @@ mod packets;
 mod ring;
 mod sessions;
 mod texts;
+mod through;
 
 use crate::{Arbiter, ArbiterFault, ArbiterStatus, LineFault, Outcome, RenewFault};
 use feed_types::{Anything, Item, LineId, Numbered, Quote, VenueId};
@@ -90,6 +91,8 @@ fn taken(new: u16, repeated: u16) -> Result<Outcome, LineFault> {
 enum Step {
     /// The packet comes on the line.
     Packet(LineId, Sent, Result<Outcome, LineFault>),
+    /// So many messages of the packet pass through; with none it doesn't.
+    Through(LineId, Sent, Option<u16>),
     /// The item is ready, and is advanced past.
     Next(u64, Item),
     NothingReady,
@@ -147,6 +150,18 @@ fn write(rt: &impl Abort, sent: Sent, out: &mut [u8; 64]) -> Result<usize, Fail>
     Ok(written?)
 }
 
+fn give_through(
+    rt: &impl Abort,
+    arbiter: &mut Arbiter<Anything>,
+    line: LineId,
+    sent: Sent,
+) -> Result<Option<Outcome>, Fail> {
+    let mut bytes = [0; 64];
+    let len = write(rt, sent, &mut bytes)?;
+    let packet = read_packet(&bytes[..len])?;
+    Ok(arbiter.take_through(line, &packet))
+}
+
 fn give(
     rt: &impl Abort,
     arbiter: &mut Arbiter<Anything>,
@@ -182,6 +197,17 @@ fn follow(
         Step::Packet(line, sent, answer) => {
             assert_eq!(rt; give(rt, arbiter, line, sent)?, answer, "at step {place}");
         }
+        Step::Through(line, sent, count) => {
+            let answer = match count {
+                Some(new) => Some(Outcome::Taken { new, repeated: 0 }),
+                None => None,
+            };
+            assert_eq!(rt;
+                give_through(rt, arbiter, line, sent)?,
+                answer,
+                "at step {place}"
+            );
+        }
         Step::Next(number, item) => pass(rt, arbiter, number, item)?,
         Step::NothingReady => assert_eq!(rt; arbiter.next_ready(), None, "at step {place}"),
         Step::Gap(number, count) => {
@@ -211,11 +237,19 @@ fn follow(
     Ok(())
 }
 
+fn follow_steps(
+    rt: &impl Abort,
+    arbiter: &mut Arbiter<Anything>,
+    steps: &[Step],
+) -> Result<(), Fail> {
+    for (place, step) in steps.iter().enumerate() {
+        follow(rt, arbiter, *step, place)?;
+    }
+    Ok(())
+}
+
 /// Follows the steps with a new arbiter of this window.
 fn follow_all(rt: &impl Abort, alloc: Global, window: u32, steps: &[Step]) -> Result<(), Fail> {
     let mut arbiter = arbiter(alloc, window)?;
-    for (place, step) in steps.iter().enumerate() {
-        follow(rt, &mut arbiter, *step, place)?;
-    }
-    Ok(())
+    follow_steps(rt, &mut arbiter, steps)
 }
