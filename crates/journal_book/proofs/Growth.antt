@@ -10,7 +10,7 @@ use Rattle.feed_types.specs.Prefix.{IsPrefix}
 use Rattle.nbbo_book.specs.declared.change.Change.{Change}
 use Rattle.nbbo_book.specs.Changes.{change_of, changes_of as changes_by}
 use Rattle.nbbo_book.specs.Nationals.{national_of}
-use Rattle.journal_book.specs.Changes.{changes_at, all_changes, notice_of, numbered_from, changes_of}
+use Rattle.journal_book.specs.Changes.{changes_at, all_changes, notice_of, notices_from, changes_of}
 
 -- one number more, at the end
 range_more : (a n : ℕ) → range_with_len a (suc n) ≡ range_with_len a n ++ (a + n) ∷ []
@@ -58,37 +58,37 @@ module _ (symbols : List (List ℕ)) (es : List Entry) (e : Entry) where
       ∙ ap (λ l. l ++ flat_map f ((1 + n) ∷ [])) (flat_map_same f (changes_at symbols es) 1 n (λ p low high. changes_at-before p (omega arith)))
       ∙ ap (λ l. all_changes symbols es ++ l) tail
 
-numbered-append : (n : ℕ) (xs ys : List Change) → numbered_from n (xs ++ ys) ≡ numbered_from n xs ++ numbered_from (length xs + n) ys
-numbered-append n [] ys = ap (λ k. numbered_from k ys) (omega arith)
+numbered-append : (n : ℕ) (xs ys : List Change) → notices_from n (xs ++ ys) ≡ notices_from n xs ++ notices_from (length xs + n) ys
+numbered-append n [] ys = ap (λ k. notices_from k ys) (omega arith)
 numbered-append n (x ∷ xs) ys =
     let here : length xs + (n + 1) ≡ suc (length xs) + n = omega arith in
-    ap (λ t. notice_of n x ∷ t) (numbered-append (n + 1) xs ys ∙ ap (λ k. numbered_from (n + 1) xs ++ numbered_from k ys) here)
+    ap (λ t. notice_of n x ∷ t) (numbered-append (n + 1) xs ys ∙ ap (λ k. notices_from (n + 1) xs ++ notices_from k ys) here)
 
-length-numbered : (n : ℕ) (xs : List Change) → length (numbered_from n xs) ≡ length xs
+length-numbered : (n : ℕ) (xs : List Change) → length (notices_from n xs) ≡ length xs
 length-numbered n [] = refl
 length-numbered n (x ∷ xs) = ap suc (length-numbered (n + 1) xs)
 
 -- the changes of one more entry, behind those that stood
 pub changes-put : (symbols : List (List ℕ)) (es : List Entry) (e : Entry)
-    → changes_of symbols (es ++ e ∷ []) ≡ changes_of symbols es ++ numbered_from (length (changes_of symbols es) + 1) (changes_by symbols es (length es + 1) e)
+    → changes_of symbols (es ++ e ∷ []) ≡ changes_of symbols es ++ notices_from (length (changes_of symbols es) + 1) (changes_by symbols es (length es + 1) e)
 changes-put symbols es e =
-    ap (numbered_from 1) (all_changes-put symbols es e)
+    ap (notices_from 1) (all_changes-put symbols es e)
     ∙ numbered-append 1 (all_changes symbols es) (changes_by symbols es (length es + 1) e)
-    ∙ ap (λ k. changes_of symbols es ++ numbered_from (k + 1) (changes_by symbols es (length es + 1) e)) (sym (length-numbered 1 (all_changes symbols es)))
+    ∙ ap (λ k. changes_of symbols es ++ notices_from (k + 1) (changes_by symbols es (length es + 1) e)) (sym (length-numbered 1 (all_changes symbols es)))
 
 -- the notices of one more entry, as they are pushed
 pub notices-put : (symbols : List (List ℕ)) (es : List Entry) (e : Entry) (notices : List Notice) (made : List Change) (n p : ℕ)
     → notices ≡ changes_of symbols es → n ≡ length notices → p ≡ length es + 1 → made ≡ changes_by symbols es p e
-    → notices ++ numbered_from (n + 1) made ≡ changes_of symbols (es ++ e ∷ [])
+    → notices ++ notices_from (n + 1) made ≡ changes_of symbols (es ++ e ∷ [])
 notices-put symbols es e notices made n p all long place h =
     let count : n + 1 ≡ length (changes_of symbols es) + 1 = ap (λ k. k + 1) (long ∙ ap length all) in
-    (λ i. all i ++ numbered_from (count i) ((h ∙ ap (λ k. changes_by symbols es k e) place) i)) ∙ sym (changes-put symbols es e)
+    (λ i. all i ++ notices_from (count i) ((h ∙ ap (λ k. changes_by symbols es k e) place) i)) ∙ sym (changes-put symbols es e)
 
 -- a longer journal's changes begin with a shorter one's
 pub changes_begin : (symbols : List (List ℕ)) (es fs : List Entry) → IsPrefix (changes_of symbols es) (changes_of symbols (es ++ fs))
 changes_begin symbols es [] = record { rest = []; is = ap (changes_of symbols) (append-nil es) ∙ sym (append-nil (changes_of symbols es)) }
 changes_begin symbols es (f ∷ fs) =
-    let more = numbered_from (length (changes_of symbols es) + 1) (changes_by symbols es (length es + 1) f) in
+    let more = notices_from (length (changes_of symbols es) + 1) (changes_by symbols es (length es + 1) f) in
     let later : IsPrefix (changes_of symbols (es ++ f ∷ [])) (changes_of symbols ((es ++ f ∷ []) ++ fs)) = changes_begin symbols (es ++ f ∷ []) fs in
     record {
       rest = more ++ later.rest;

@@ -6,10 +6,10 @@ use Rattle.feed_types.specs.declared.journal.Notice.{Notice}
 use Rattle.nbbo_book.specs.declared.change.Change.{Change}
 use Rattle.filter_terms.specs.declared.terms.Terms.{Terms}
 use Rattle.filter_terms.specs.Terms.{meets}
-use Rattle.journal_book.specs.Changes.{numbered_from, all_changes, changes_of, RisesPast}
+use Rattle.journal_book.specs.Changes.{notices_from, all_changes, changes_of, RisesPast}
 use Rattle.journal_book.specs.Wanted.{wanted_of}
 
-numbered_rise : (n m : ℕ) (xs : List Change) → n < m → RisesPast n (numbered_from m xs)
+numbered_rise : (n m : ℕ) (xs : List Change) → n < m → RisesPast n (notices_from m xs)
 numbered_rise n m [] low = tt
 numbered_rise n m (x ∷ xs) low = (low, numbered_rise m (m + 1) xs (omega arith))
 

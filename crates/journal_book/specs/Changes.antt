@@ -33,14 +33,15 @@ notice_of number change =
     }
 
 -- the changes, numbered from this number on
-abbrev pub numbered_from : ℕ → List Change → List Notice
-numbered_from number [] = []
-numbered_from number (change ∷ changes) =
-    notice_of number change ∷ numbered_from (number + 1) changes
+abbrev pub notices_from : ℕ → List Change → List Notice
+notices_from number [] = []
+notices_from number (change ∷ changes) =
+    notice_of number change ∷ notices_from (number + 1) changes
 
--- The changes of the national best over a journal of these entries, numbered from 1.
+-- The changes of the national best over a journal of these entries, numbered from 1. (The
+-- `changes_of` of nbbo_book are those of one entry.)
 abbrev pub changes_of : List (List ℕ) → List Entry → List Notice
-changes_of symbols entries = numbered_from 1 (all_changes symbols entries)
+changes_of symbols entries = notices_from 1 (all_changes symbols entries)
 
 -- the numbers of the notices rise strictly, from past this one
 abbrev pub RisesPast : ℕ → List Notice → Type 0

@@ -2,7 +2,7 @@
 
 ghost use Rattle.std.specs.Prelude.{◌≡◌, ◌<◌, ◌≤◌, ◌+◌, ◌++◌, ◌∷◌, [], length};
 ghost use Rattle.std.specs.Vec.{vec_len, vec_capacity};
-ghost use Rattle.journal_book.specs.Changes.{notice_of, numbered_from};
+ghost use Rattle.journal_book.specs.Changes.{notice_of, notices_from};
 
 use feed_types::{Best, National, Notice};
 use nbbo_book::Change;
@@ -30,7 +30,7 @@ fn push_notice(notices: &mut Vec<Notice>, change: &Change)
 pub(crate) fn push_notices(notices: &mut Vec<Notice>, made: &[Change])
     requires { vec_len notices.old + length made.now ≤ vec_capacity notices.old }
     ensures items { notices.new.items
-        ≡ notices.old.items ++ numbered_from (vec_len notices.old + 1) made.now }
+        ≡ notices.old.items ++ notices_from (vec_len notices.old + 1) made.now }
     ensures capacity { vec_capacity notices.new ≡ vec_capacity notices.old }
 {
     for change in made {

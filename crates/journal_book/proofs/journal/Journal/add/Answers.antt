@@ -1,7 +1,7 @@
 use Rattle.std.proofs.Common.{arith, ap, ◌∙◌, sym, ◌≡◌, ◌≤◌, ◌<◌, ◌++◌, ◌∷◌, [], length, ◌+◌, map, vec_len}
 use Rattle.std.proofs.lemmas.List.{length-append}
 use Rattle.nbbo_book.specs.Changes.{changes_of as changes_by}
-use Rattle.journal_book.specs.Changes.{changes_of, numbered_from}
+use Rattle.journal_book.specs.Changes.{changes_of, notices_from}
 use Rattle.journal_book.specs.Journals.{subscription_of}
 use Rattle.journal_book.proofs.Growth.{notices-put}
 use Rattle.journal_book.proofs.CursorMoving.{still_seen, same_offered}
@@ -38,5 +38,5 @@ returns-clause-offered c =
     let all = notices-put old.book.symbols old.entries.items c.args.entry old.notices.items c.apply.new.out.items (vec_len old.notices) (c.len.result + 1) keeps.all old.notices.ok.0 place made in
     rw (c.push_entry.ensures, c.apply.ensures.symbols, ← c.self.view_is)
     (ap (λ l. map (subscription_of l) old.cursors.items) (sym all)
-    ∙ same_offered old.cursors.items old.notices.items (numbered_from (vec_len old.notices + 1) c.apply.new.out.items) keeps.seen
+    ∙ same_offered old.cursors.items old.notices.items (notices_from (vec_len old.notices + 1) c.apply.new.out.items) keeps.seen
     ∙ ap (λ l. map (subscription_of l) old.cursors.items) keeps.all)
