@@ -177,9 +177,9 @@ fn numbers(rt: HostRuntime) -> Result<(), Fail> {
 #[test]
 fn pages(rt: HostRuntime) -> Result<(), Fail> {
     let (first, _) = venues()?;
-    let item = Item::Other;
     let mut text = Page::new(rt.alloc());
     for number in 1..=10_000 {
+        let item = Item::Other;
         put_item(&mut text, first, &Numbered { number, item })?;
     }
     let begin = b"item 0 1 other\nitem 0 2 other\n".as_slice();
