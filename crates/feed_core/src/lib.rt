@@ -26,3 +26,6 @@ pub use event::{Done, Event};
 pub use laws::{headline, one_run, subscriber_half, venue_half};
 pub use running::run;
 pub use world::World;
+
+#[cfg(test)]
+mod tests;
