@@ -1,12 +1,11 @@
-//! Worked entries: which changes they make, and which of them which subscriber is offered.
+//! Refusals in their order. Worked entries, changes and offers stand in tests/unproved/journal_book, since
+//! their own proofs take long.
 
 ghost use Rattle.std.specs.Prelude.{◌≡◌, IfOk};
 ghost use Rattle.journal_book.specs.Consolidators.{journal_of};
 
 use super::*;
-use feed_types::{
-    Best, Item, NationalState, Notice, Numbered, Quote, SubscriberId, SymbolName, VenueId,
-};
+use feed_types::{SubscriberId, SymbolName, VenueId};
 use filter_terms::{Filter, Terms};
 use nbbo_book::BookFault;
 use std::alloc::Global;
@@ -16,81 +15,12 @@ fn acme() -> Result<SymbolName, Fail> {
     Ok(SymbolName::from_text(b"ACME").ok_or("a name")?)
 }
 
-/// A quotation of ACME, both sides automated.
-fn quoted(bid: (u32, u64), offer: (u32, u64)) -> Result<Item, Fail> {
-    Ok(Item::Quote(Quote {
-        bid_size: bid.1,
-        offer_size: offer.1,
-        bid_price: bid.0,
-        offer_price: offer.0,
-        symbol: acme()?,
-        bid_auto: true,
-        offer_auto: true,
-    }))
-}
-
 /// A consolidator of two venues for ACME.
 fn of_two_venues(alloc: Global, journal: u32) -> Result<Consolidator, Fail>
     ensures { IfOk result (λ made. (journal_of made).venues ≡ 2) }
 {
     let symbols = [acme()?];
     Ok(Consolidator::new(alloc, &symbols, 2, journal)?)
-}
-
-/// Reserves, and records an item of venue 0 or 1.
-fn taken(made: &mut Consolidator, first: bool, number: u64, item: Item) -> Result<u64, Fail>
-    requires { (journal_of made.old).venues ≡ 2 }
-    ensures { (journal_of made.new).venues ≡ 2 }
-{
-    let venue = VenueId::new(if first { 0 } else { 1 }).ok_or("a venue")?;
-    made.reserve_one()?;
-    if venue.index() > 1 {
-        return Ok(0);
-    }
-    Ok(made.record(venue, Numbered { number, item }))
-}
-
-/// Where the bid stands: its venue and size, or 99 and 0 where there is none.
-fn bid_of(notice: &Notice) -> (usize, u64) {
-    match notice.national.bid {
-        Some(Best { venue, size, .. }) => (venue.index(), size),
-        None => (99, 0),
-    }
-}
-
-/// The notice's number, position and state.
-fn shown(notice: &Notice) -> (u64, u64, NationalState) {
-    (notice.number, notice.position, notice.national.state())
-}
-
-#[test]
-fn ends_with_the_venue(rt: HostRuntime) -> Result<(), Fail> {
-    let mut made = of_two_venues(rt.alloc(), 8)?;
-    let _bid = taken(&mut made, true, 1, quoted((101_500, 100), (0, 0))?)?;
-    let _locked = taken(&mut made, false, 1, quoted((0, 0), (101_500, 100))?)?;
-    let _crossed = taken(&mut made, false, 2, quoted((0, 0), (101_400, 100))?)?;
-    let position = taken(&mut made, true, 2, Item::End)?;
-    assert_eq!(rt; position, 4);
-    let [first, second, third, fourth] = made.changes() else {
-        return Err(Fail::from("four changes"));
-    };
-    assert_eq!(rt; shown(first), (1, 1, NationalState::OneSided));
-    assert_eq!(rt; shown(second), (2, 2, NationalState::Locked));
-    assert_eq!(rt; shown(third), (3, 3, NationalState::Crossed));
-    assert_eq!(rt; shown(fourth), (4, 4, NationalState::OneSided));
-    assert_eq!(rt; bid_of(fourth), (99, 0));
-    Ok(())
-}
-
-#[test]
-fn has_as_many_as_it_holds(rt: HostRuntime) -> Result<(), Fail> {
-    let mut made = of_two_venues(rt.alloc(), 1)?;
-    assert!(rt; !made.has_room());
-    assert_eq!(rt; taken(&mut made, true, 1, Item::Other)?, 1);
-    assert_eq!(rt; made.reserve_one(), Err(JournalFault::JournalFull));
-    assert_eq!(rt; JournalFault::JournalFull.code(), 17);
-    assert_eq!(rt; made.entries().len(), 1);
-    Ok(())
 }
 
 #[test]
@@ -109,21 +39,6 @@ fn declares_in_this_order(rt: HostRuntime) -> Result<(), Fail> {
         Err(JournalFault::UnknownVenue)
     );
     assert_eq!(rt; made.entries().len(), 1);
-    Ok(())
-}
-
-#[test]
-fn takes_self_help_out_and_in(rt: HostRuntime) -> Result<(), Fail> {
-    let mut made = of_two_venues(rt.alloc(), 8)?;
-    let _bid = taken(&mut made, true, 1, quoted((101_500, 300), (0, 0))?)?;
-    let venue = VenueId::new(0).ok_or("a venue")?;
-    assert_eq!(rt; made.declare(venue, true)?, 2);
-    assert_eq!(rt; made.declare(venue, false)?, 3);
-    let [_, off, back] = made.changes() else {
-        return Err(Fail::from("three changes"));
-    };
-    assert_eq!(rt; shown(off), (2, 2, NationalState::Empty));
-    assert_eq!(rt; shown(back), (3, 3, NationalState::OneSided));
     Ok(())
 }
 
