@@ -29,6 +29,7 @@ pub mod memory;
 pub mod output;
 mod page;
 pub mod replay;
+mod report;
 pub mod system;
 #[cfg(test)]
 mod tests;
