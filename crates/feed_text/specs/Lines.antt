@@ -8,6 +8,7 @@ use Rattle.feed_types.specs.declared.line.LineId.{LineId}
 use Rattle.feed_types.specs.declared.line.LineId.TheVariants.{A, B, Recovery}
 use Rattle.feed_types.specs.declared.journal.Notice.{Notice}
 use Rattle.feed_types.specs.declared.national.Best.{Best}
+use Rattle.feed_types.specs.declared.national.NationalState.{NationalState}
 use Rattle.feed_types.specs.Nationals.{state_of}
 use Rattle.feed_types.specs.Symbols.{name_of}
 use Rattle.feed_types.specs.Text.{line_letter, side_text, state_text}
@@ -61,12 +62,14 @@ item_line venue n = codes "item" ++ field venue ++ field n.number ++ item_word n
 abbrev pub side_field : Option Best → List ℕ
 side_field side = codes " " ++ side_text side
 
+abbrev pub state_tail : NationalState → List ℕ
+state_tail state = codes " " ++ state_text state ++ line_end
+
 -- best NOTICE POSITION SYMBOL BID OFFER STATE: a change of the national best of a symbol
 abbrev pub best_line : Notice → List ℕ
 best_line n =
     codes "best" ++ field n.number ++ field n.position ++ codes " " ++ name_of n.symbol
-    ++ side_field n.national.bid ++ side_field n.national.offer
-    ++ codes " " ++ state_text (state_of n.national) ++ line_end
+    ++ side_field n.national.bid ++ side_field n.national.offer ++ state_tail (state_of n.national)
 
 -- gap V NUMBER COUNT: the run of messages to ask for
 abbrev pub gap_line : ℕ → Request → List ℕ

@@ -4,8 +4,8 @@
 //! ends behind them. So a line takes memory at most once, and where that is refused the text is as
 //! it was.
 ghost use Rattle.std.specs.Prelude.{◌≡◌, ◌+◌, ◌≤◌, ◌++◌, codes, decimal, length, take, vec_len, IfOk, OnOk, OnErr};
-ghost use Rattle.feed_text.specs.Lines.{line_end, packet_head, packet_line, fault_line, refused_tail, outcome_tail, item_word, item_line, side_field, best_line, gap_line, renew_line, on_word, position_tail, declare_line, venue_line, wins_by};
-ghost use Rattle.feed_types.specs.Text.{best_text, state_text};
+ghost use Rattle.feed_text.specs.Lines.{line_end, packet_head, packet_line, fault_line, refused_tail, outcome_tail, item_word, item_line, side_field, state_tail, best_line, gap_line, renew_line, on_word, position_tail, declare_line, venue_line, wins_by};
+ghost use Rattle.feed_types.specs.Text.{best_text};
 ghost use Rattle.feed_text.specs.Placing.{Placed};
 
 use crate::fields::{
@@ -193,7 +193,7 @@ fn place_side(room: &mut [u8], at: usize, side: &Option<Best>) -> usize
 #[inline(always)]
 fn place_state(room: &mut [u8], at: usize, state: NationalState) -> usize
     requires { at + 11 ≤ length room.old }
-    ensures { Placed room.old room.new at (codes " " ++ state_text state ++ line_end) result }
+    ensures { Placed room.old room.new at (state_tail state) result }
 {
     match state {
         NationalState::Empty => place_word(room, at, *b" empty\n ", 7),

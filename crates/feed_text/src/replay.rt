@@ -4,7 +4,7 @@ ghost use Rattle.std.specs.List.{IsDistinct};
 ghost use Rattle.std.specs.Str.{bytes_eq};
 ghost use Rattle.journal_book.specs.Journals.{new_journal};
 ghost use Rattle.feed_text.specs.Devices.{Reading, Writing};
-ghost use Rattle.feed_text.specs.Following.{Closes, Stops};
+ghost use Rattle.feed_text.specs.Following.{Closes, Stops, fault_by, left_by};
 ghost use Rattle.feed_text.specs.Replays.{Replays};
 
 use crate::capture::{Front, front_of};
@@ -39,8 +39,22 @@ pub struct ReplayConfig<'a> {
     pub turns: u64,
 }
 
-/// Writes what was told before the telling stopped, and says how that ended: all of the text where the
-/// journal is full, and where memory was refused that of the records before, so many bytes.
+/// What is still to be written where the telling stopped: all of the text where the journal is full, and
+/// where memory was refused that of the records before, so many bytes.
+fn keep_told(stop: Stop, text: &mut Page, whole: usize) -> ReplayFault
+    ensures fault { result ≡ fault_by stop }
+    ensures left { text.new.items ≡ left_by stop whole text.old.items }
+{
+    match stop {
+        Stop::JournalFull => ReplayFault::JournalFull,
+        Stop::NoMemory => {
+            text.truncate(whole);
+            ReplayFault::NoMemory
+        }
+    }
+}
+
+/// Writes what was told before the telling stopped, and says how that ended.
 fn stopped<W: TextOut>(
     stop: Stop,
     text: &mut Page,
@@ -49,13 +63,7 @@ fn stopped<W: TextOut>(
 ) -> ReplayFault
     ensures { Stops W.adds W.failures stop whole text.old.items writer.old writer.new result }
 {
-    let fault = match stop {
-        Stop::JournalFull => ReplayFault::JournalFull,
-        Stop::NoMemory => {
-            text.truncate(whole);
-            ReplayFault::NoMemory
-        }
-    };
+    let fault = keep_told(stop, text, whole);
     match flush(text, writer) {
         Ok(()) => fault,
         Err(failed) => failed,

@@ -2,8 +2,6 @@
 
 mod captures;
 mod devices;
-mod lines;
 mod replays;
-mod sizes;
 mod texts;
 mod unread;

@@ -68,7 +68,7 @@ fn take_ready(
 #[inline(always)]
 fn take_messages(venue: VenueId, packet: &Packet<'_>, report: &mut Report) -> Result<(), Stop>
     requires { venue < report.old.journal.venues }
-    ensures tells { TellsBy (tale_of report.old)
+    ensures { TellsBy (tale_of report.old)
         (map (item_taken venue)
         (numbered_from packet.now.number (map item_of packet.now.messages)))
         (tale_of report.new) result }
@@ -153,7 +153,7 @@ impl VenueReplay {
         report: &mut Report,
     ) -> Result<(), Stop>
         requires { venue < report.old.journal.venues }
-        ensures tells { (width : ℕ) (h : History) → Follows width venue self.old h
+        ensures { (width : ℕ) (h : History) → Follows width venue self.old h
             → TellsOutcome width venue line packet.now h
             (tale_of report.old) (tale_of report.new) self.new result }
     {
@@ -173,7 +173,7 @@ impl VenueReplay {
         report: &mut Report,
     ) -> Result<(), Stop>
         requires { venue < report.old.journal.venues }
-        ensures tells { (width : ℕ) (h : History) → Follows width venue self.old h
+        ensures { (width : ℕ) (h : History) → Follows width venue self.old h
             → TellsOutcome width venue line packet.now h
             (tale_of report.old) (tale_of report.new) self.new result }
     {
@@ -192,7 +192,7 @@ impl VenueReplay {
         report: &mut Report,
     ) -> Result<(), Stop>
         requires { venue < report.old.journal.venues }
-        ensures tells { (width : ℕ) (h : History) → Follows width venue self.old h
+        ensures { (width : ℕ) (h : History) → Follows width venue self.old h
             → TellsOne width false (datagram_record venue line bytes.now) h
             (tale_of report.old) (tale_of report.new) self.new result }
     {
@@ -207,16 +207,19 @@ impl VenueReplay {
 
     /// Tells the gap, if one is left.
     fn tell_gap(&self, venue: VenueId, report: &mut Report) -> Result<(), Stop>
-        ensures tells { (P : List Arrival) → Fits self.now.arbiter P
+        ensures { (P : List Arrival) → Fits self.now.arbiter P
             → TellsBy (tale_of report.old)
             (gap_happening venue
             (gap_of self.now.arbiter.session self.now.arbiter.window self.now.arbiter.sent P))
             (tale_of report.new) result }
     {
-        if let Some(request) = self.arbiter.gap() {
-            put_gap(&mut report.text, venue, &request)?;
+        match self.arbiter.gap() {
+            Some(request) => {
+                put_gap(&mut report.text, venue, &request)?;
+                Ok(())
+            }
+            None => Ok(()),
         }
-        Ok(())
     }
 
     /// Takes a datagram of a line and tells of it: what became of it, each item that is ready then,
@@ -231,13 +234,13 @@ impl VenueReplay {
         report: &mut Report,
     ) -> Result<(), Stop>
         requires { venue < report.old.journal.venues }
-        ensures tells { (width : ℕ) (h : History) → Follows width venue self.old h
+        ensures { (width : ℕ) (h : History) → Follows width venue self.old h
             → TellsOne width gaps (datagram_record venue line bytes.now) h
             (tale_of report.old) (tale_of report.new) self.new result }
     {
         self.take_datagram(venue, line, bytes, report)?;
         if gaps {
-            self.tell_gap(venue, report)?;
+            return self.tell_gap(venue, report);
         }
         Ok(())
     }
@@ -260,7 +263,7 @@ impl VenueReplay {
         session: [u8; 10],
         report: &mut Report,
     ) -> Result<(), Stop>
-        ensures tells { (width : ℕ) (gaps : Bool) (h : History) → Follows width venue self.old h
+        ensures { (width : ℕ) (gaps : Bool) (h : History) → Follows width venue self.old h
             → TellsOne width gaps (renewal_record venue session) h
             (tale_of report.old) (tale_of report.new) self.new result }
     {
@@ -271,10 +274,9 @@ impl VenueReplay {
 
     /// Prints the last line.
     pub fn put_last(&self, text: &mut Page) -> Result<(), AllocError>
-        ensures last { OnOk result
+        ensures { OnOk result
             ((width place : ℕ) (h : History) → Follows width place self.now h
             → text.new.items ≡ text.old.items ++ last_line place h) }
-        ensures grows { Grows text.old.items text.new.items }
     {
         put_venue(
             text,

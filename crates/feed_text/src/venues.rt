@@ -67,7 +67,7 @@ impl Venues {
     pub fn take(&mut self, next: Record<'_>, report: &mut Report) -> Result<(), Stop>
         requires kind { IsRecord (length self.old.items) (record_of next) }
         requires venues { report.old.journal.venues ≡ length self.old.items }
-        ensures takes { TakesRecord self.old (record_of next.entry)
+        ensures { TakesRecord self.old (record_of next.entry)
             (tale_of report.old) (tale_of report.new) self.new result }
     {
         match next {

@@ -36,12 +36,13 @@ fn is_bad(bytes: &[u8]) -> bool {
 
 #[test]
 fn no_record(rt: HostRuntime) {
-    let table: [&[u8]; 7] = [
+    let table: [&[u8]; 8] = [
         b"\x02A\0\0",
         b"\xffN\0\x0a",
         b"\x01C\0\0",
-        b"\x01H\0\0",
-        b"\x01W\0\0",
+        b"\x01H\0\x01",
+        b"\x01W\x01\0",
+        b"\x02H\0\0",
         b"\x01N\0\x09",
         b"\x01N\x01\x0a0123456789",
     ];
@@ -56,7 +57,7 @@ fn is_datagram(record: &Record<'_>, of: LineId, held: &[u8]) -> bool {
         Record::Datagram { venue, line, bytes } => {
             venue.index() == 1 && *line == of && *bytes == held
         }
-        Record::Renewal { .. } => false,
+        Record::Renewal { .. } | Record::SelfHelp { .. } => false,
     }
 }
 
@@ -64,7 +65,7 @@ fn is_datagram(record: &Record<'_>, of: LineId, held: &[u8]) -> bool {
 fn is_renewal(record: &Record<'_>, name: [u8; 10]) -> bool {
     match record {
         Record::Renewal { venue, session } => venue.index() == 1 && *session == name,
-        Record::Datagram { .. } => false,
+        Record::Datagram { .. } | Record::SelfHelp { .. } => false,
     }
 }
 
@@ -84,10 +85,20 @@ fn renewal_at(at: &[u8], name: [u8; 10]) -> bool {
     }
 }
 
+/// Whether a declaration for venue 1 stands there.
+fn declaration_at(at: &[u8], wanted: bool) -> bool {
+    match front_of(2, at) {
+        Front::Whole(Record::SelfHelp { venue, on }, 4) => venue.index() == 1 && on == wanted,
+        Front::Whole(..) | Front::Bad | Front::Wants(_) => false,
+    }
+}
+
 #[test]
 fn whole_records(rt: HostRuntime) {
     assert!(rt; datagram_at(b"\x01A\0\x02\x07\x09", LineId::A, &[7, 9]));
     assert!(rt; datagram_at(b"\x01B\0\x02\x07\x09\0", LineId::B, &[7, 9]));
     assert!(rt; datagram_at(b"\x01R\0\0N", LineId::Recovery, &[]));
+    assert!(rt; declaration_at(b"\x01H\0\0\x01W", true));
+    assert!(rt; declaration_at(b"\x01W\0\0", false));
     assert!(rt; renewal_at(b"\x01N\0\x0a0000000002\x01", *b"0000000002"));
 }

@@ -1,0 +1,15 @@
+use Rattle.std.proofs.Common.{sym, subst, ◌∷◌, []}
+use Rattle.journal_book.specs.Journals.{JournalState}
+use Rattle.feed_text.specs.Happenings.{self_help_declared}
+use Rattle.feed_text.specs.Tales.{GoesToFull, tale_of}
+use Rattle.feed_text.proofs.Tales.{tale_from, declared_full, declared_goes, already_goes, grows_as, grows_on}
+use Rattle.feed_text.proofs.report.Report.declare.Goals as goal
+
+pub returns-in-Err-JournalFull : goal.returns-in-Err-JournalFull
+returns-in-Err-JournalFull c =
+    let e = rw c.in-Err-JournalFull.field-0-is at c.in-Err-JournalFull.ensures.declares in
+    subst (λ (j : JournalState). GoesToFull (tale_of c.args.self.now) (self_help_declared c.args.venue c.args.on ∷ []) (tale_from j c.args.self.now.text.items)) (sym e.3)
+    (declared_full c.args.self.now.journal c.args.venue c.args.on c.args.self.now.text.items e.1 e.2)
+
+pub returns : goal.returns
+returns c = ?
