@@ -115,8 +115,8 @@ told_more {config = config} {shown = shown} {t = t} {u = u} told more x g =
     }
 
 -- a front of the text was written
-told_moved : {config : ReplayConfig} {told : List Happening} {shown out left : List ℕ} {t : Tale} → Told config told shown t → t.text ≡ out ++ left → Told config told (shown ++ out) (tale_with t t.entries left)
-told_moved {shown = shown} {out = out} {left = left} x e = record {
+told_moved : {config : ReplayConfig} {told : List Happening} {shown : List ℕ} {t : Tale} (out left : List ℕ) → Told config told shown t → t.text ≡ out ++ left → Told config told (shown ++ out) (tale_with t t.entries left)
+told_moved {shown = shown} out left x e = record {
   symbols = x.symbols;
   venues = x.venues;
   journal = x.journal;
@@ -155,7 +155,7 @@ so_far_step {reading = reading} {config = config} {from = from} {to = to} {calls
 
 pub so_far_moved : {R W : Type 0} {reading : Reading R} {writing : Writing W} {config : ReplayConfig} {from to : R} {calls : ℕ} {before mid after : W} {venues : VenueList} {rest left : List ℕ} {t : Tale}
     → Laws reading writing → SoFar reading writing config from calls to before mid venues rest t → Moved writing.adds mid after t.text left → SoFar reading writing config from calls to before after venues rest (tale_with t t.entries left)
-so_far_moved laws x m = record {
+so_far_moved {left = left} laws x m = record {
   records = x.records;
   read = x.read;
   told = x.told;
@@ -166,7 +166,7 @@ so_far_moved laws x m = record {
   count = x.count;
   shown = x.shown ++ m.shown;
   wrote = laws.adds_more _ _ _ _ _ x.wrote m.taken;
-  tale_is = told_moved x.tale_is m.left;
+  tale_is = told_moved m.shown left x.tale_is m.left;
 }
 
 -- and all of the text was written

@@ -1,5 +1,4 @@
-//! A capture that was worked by hand, and what is printed of it. More captures stand in
-//! tests/unproved/feed_text, since their own proofs take long.
+//! A capture that was worked by hand, and what is printed of it.
 ghost use Rattle.std.specs.Prelude.{◌≡◌, ◌<◌};
 
 use crate::failures::Failures;

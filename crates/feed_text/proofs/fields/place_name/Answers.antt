@@ -10,5 +10,4 @@ front_of_front (suc n) (x ∷ xs) = ap (λ (ys : List ℕ). x ∷ ys) (front_of_
 
 pub returns-clause-placed : goal.returns-clause-placed
 returns-clause-placed c =
-    let n : c.len-len.result ≡ length (name_of c.args.symbol) = search rules in
-    placed_as _ _ _ _ _ _ c.place_word.ensures (rw (n, c.field.ensures.value) (front_of_front _ c.args.symbol))
+    placed_as _ _ _ _ _ _ c.place_word.ensures (rw (c.name-len.ensures.value, c.field.ensures.value) (front_of_front _ c.args.symbol))

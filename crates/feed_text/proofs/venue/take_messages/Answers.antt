@@ -1,10 +1,11 @@
 use Rattle.std.proofs.Common.{◌≡◌, ◌+◌, List, length, sym, ap, refl, subst, ◌∙◌, arith, rules}
-use Rattle.std.specs.Prelude.{ℕ, map}
+use Rattle.std.specs.Prelude.{ℕ, ◌∷◌, [], map, Err}
+use Rattle.feed_types.specs.declared.item.Item.{Item}
 use Rattle.std.proofs.lemmas.Result.{err_from_is_err_and}
 use Rattle.feed_types.specs.Sessions.{numbered_from}
 use Rattle.quote_payload.specs.Payload.{item_of}
 use Rattle.feed_text.specs.Happenings.{item_taken}
-use Rattle.feed_text.specs.Tales.{tale_of}
+use Rattle.feed_text.specs.Tales.{TellsBy, tale_of}
 use Rattle.feed_text.proofs.Tales.{took_none, took_one, took_all, took_stop, same_venues}
 use Rattle.feed_text.proofs.Passing.{one_more}
 use Rattle.feed_text.proofs.venue.take_messages.Goals as goal
@@ -53,4 +54,4 @@ returns-in_err-take_item c =
     rw (p.1, p.2)
     (took_stop (tale_of c.take_item.new.self) _ _ c.in_err-take_item.field-0.0
     (one_more c.args.venue (c.number-first.result + c.loop-message.place) (c.number-first.result + (c.loop-message.place + 1)) c.in-Some.message.now c.loop-message.messages c.next.new.self (omega arith) c.in-Some.ensures.steps)
-    c.loop-message.invariant.told (rw c.read_item.ensures.value at c.in_err-take_item.ensures))
+    c.loop-message.invariant.told (subst (λ (i : Item). TellsBy (tale_of c.loop-message.report) (item_taken c.args.venue (record { number = c.number-first.result + c.loop-message.place; item = i }) ∷ []) (tale_of c.take_item.new.self) (Err c.in_err-take_item.field-0.0)) c.read_item.ensures.value c.in_err-take_item.ensures))
