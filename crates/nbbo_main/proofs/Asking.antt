@@ -1,18 +1,21 @@
 -- What the values of the options come to, and what an error of clap comes to.
-use Rattle.std.proofs.Common.{rules, ◌≡◌, ◌^◌, ◌<◌, ◌⊎◌, inl, inr, ℕ, ◌∙◌, sym, ap, subst, List, Option, Some, None, Err, true, false, refl, arith}
-use Rattle.std.specs.Prelude.{◌≢◌, is_some}
+use Rattle.std.proofs.Common.{rules, ◌≡◌, ◌^◌, ◌<◌, ◌⊎◌, inl, inr, ℕ, ◌∙◌, sym, ap, subst, List, Option, Some, None, Ok, Err, [], true, false, refl, arith}
+use Rattle.std.specs.Prelude.{◌≢◌, is_some, unwrap_or}
 use Rattle.std.specs.Str.Parse.{IsNumeral, digits_value, without_leading_plus}
 use Rattle.clap.specs.Kinds.{IsAmong}
 use Rattle.clap.specs.Walk.{Row, Text}
 use Rattle.clap.specs.Faults.{fault_of}
 use Rattle.clap.specs.declared.error.kind.ErrorKind.{ErrorKind}
 use Rattle.clap.specs.declared.error.kind.ErrorKind.TheVariants.{DisplayHelp, DisplayVersion, OutOfMemory}
-use Rattle.nbbo_main.specs.CommandLine.{GivesNone, IsRefused, IsWindow, RefusesBy, list_in, nbbo_app, refusal_by}
+use Rattle.nbbo_main.specs.CommandLine.{GivesNone, IsJournal, IsRefused, IsWindow, RefusesBy, list_in, nbbo_app, refusal_by, symbol_words_in, symbols_refusal_by}
 use Rattle.nbbo_main.specs.Sessions.{sessions_in}
 use Rattle.nbbo_main.specs.declared.sessions.SessionsFault.{SessionsFault}
 use Rattle.nbbo_main.specs.declared.sessions.SessionsFault.TheVariants as sessions
+use Rattle.nbbo_main.specs.Symbols.{HasSymbolsFault}
+use Rattle.nbbo_main.specs.declared.symbols.SymbolsFault.{SymbolsFault}
+use Rattle.nbbo_main.specs.declared.symbols.SymbolsFault.TheVariants as symbols
 use Rattle.nbbo_main.specs.declared.command_line.Refusal.{Refusal}
-use Rattle.nbbo_main.specs.declared.command_line.Refusal.TheVariants.{Shown, Usage, NotText, BadSession, TooManySessions, NoMemory}
+use Rattle.nbbo_main.specs.declared.command_line.Refusal.TheVariants.{Shown, Usage, NotText, BadSession, TooManySessions, BadSymbol, TooManySymbols, DuplicateSymbol, NoMemory}
 
 not_some : {A : Type 0} (x : A) → Some x ≡ None → ⊥
 not_some x e = let bad : true ≡ false = ap is_some e in absurd (cc)
@@ -38,6 +41,23 @@ pub IsWindow-none : (text : Option Text) → ((t : Text) → text ≡ Some t →
 IsWindow-none None unread = refl
 IsWindow-none (Some t) unread = λ numeral some few. absurd (unread t refl (numeral, omega arith))
 
+-- a number that was read is the journal
+pub IsJournal-read : (text : Option Text) (n : ℕ) → (text ≡ None → Some n ≡ None) → ((t : Text) → text ≡ Some t → n ≡ number_of t) → IsJournal text n
+IsJournal-read None n none value = absurd (not_some n (none refl))
+IsJournal-read (Some t) n none value = λ numeral few. value t refl
+
+-- and where none was read
+pub IsJournal-none : (text : Option Text) → ((t : Text) → text ≡ Some t → IsNumeral 10 (without_leading_plus t) × (number_of t < 2 ^ 32) → ⊥) → IsJournal text 1000000
+IsJournal-none None unread = refl
+IsJournal-none (Some t) unread = λ numeral few. absurd (unread t refl (numeral, omega arith))
+
+-- a fault of the symbols is the refusal, where the list of sessions is right
+pub GivesNone-symbols : (rows : List Row) (words sessions : List Text) (fault : SymbolsFault) → words ≡ symbol_words_in rows → sessions_in (list_in rows) ≡ Ok sessions → HasSymbolsFault words fault → GivesNone rows (symbols_refusal_by fault)
+GivesNone-symbols rows words sessions symbols.BadSymbol e right told = (sessions, right, subst (λ (ws : List Text). HasSymbolsFault ws symbols.BadSymbol) e told)
+GivesNone-symbols rows words sessions symbols.TooManySymbols e right told = (sessions, right, subst (λ (ws : List Text). HasSymbolsFault ws symbols.TooManySymbols) e told)
+GivesNone-symbols rows words sessions symbols.DuplicateSymbol e right told = (sessions, right, subst (λ (ws : List Text). HasSymbolsFault ws symbols.DuplicateSymbol) e told)
+GivesNone-symbols rows words sessions symbols.NoMemory e right told = tt
+
 -- a fault of the list is the refusal
 pub GivesNone-fault : (rows : List Row) (list : Text) (fault : SessionsFault) → list ≡ list_in rows → (fault ≢ sessions.NoMemory → sessions_in list ≡ Err fault) → GivesNone rows (refusal_by fault)
 GivesNone-fault rows list sessions.BadSession e told = ap sessions_in (sym e) ∙ told (search rules)
@@ -57,3 +77,13 @@ IsRefused-by words kind (Usage text) is (inr among) = (kind, is.0, among)
 IsRefused-by words kind NoMemory is among = tt
 IsRefused-by words kind BadSession is among = absurd is
 IsRefused-by words kind TooManySessions is among = absurd is
+IsRefused-by words kind BadSymbol is among = absurd is
+IsRefused-by words kind TooManySymbols is among = absurd is
+IsRefused-by words kind DuplicateSymbol is among = absurd is
+
+-- where the values of an option are, and where it has none
+pub all_found : (found all : Option (List Text)) (words : List Text) → Some words ≡ found → found ≡ all → words ≡ unwrap_or all []
+all_found found all words e f = ap (λ (o : Option (List Text)). unwrap_or o []) (e ∙ f)
+
+pub none_found : (found all : Option (List Text)) → None ≡ found → found ≡ all → [] ≡ unwrap_or all []
+none_found found all e f = ap (λ (o : Option (List Text)). unwrap_or o []) (e ∙ f)

@@ -1,7 +1,7 @@
 -- How the program ends after a replay: its status, and what standard error has then. This project's own texts.
 use Rattle.std.specs.Prelude.{ℕ, List, [], codes, Result, Ok, Err}
 use Rattle.feed_text.specs.declared.fault.ReplayFault.{ReplayFault}
-use Rattle.feed_text.specs.declared.fault.ReplayFault.TheVariants.{ReadFailed, WriteFailed, BadRecord, ShortRecord, TooManyTurns, NoMemory}
+use Rattle.feed_text.specs.declared.fault.ReplayFault.TheVariants.{ReadFailed, WriteFailed, BadRecord, ShortRecord, TooManyTurns, JournalFull, NoMemory}
 
 -- 0 after a replay that came to its end, 1 after one that didn't
 abbrev pub ending_status : Result (Unit {0}) ReplayFault → ℕ
@@ -14,6 +14,7 @@ fault_text WriteFailed = codes "nbbo: write failed\n"
 fault_text BadRecord = codes "nbbo: bad record\n"
 fault_text ShortRecord = codes "nbbo: short record\n"
 fault_text TooManyTurns = codes "nbbo: too many turns\n"
+fault_text JournalFull = codes "nbbo: journal full\n"
 fault_text NoMemory = codes "nbbo: no memory\n"
 
 -- one line; none after a replay that came to its end

@@ -5,17 +5,20 @@ ghost use Rattle.clap.specs.Simple.{app_of, new_app, subcommand_of, subcommand_r
 ghost use Rattle.clap.specs.Values.{kind_of};
 ghost use Rattle.clap.specs.Walk.{one_of, rows_of, rule_of};
 ghost use Rattle.clap.specs.declared.builder.command.Command.TheViews.{out-Command as fields_of};
-ghost use Rattle.nbbo_main.specs.CommandLine.{Asks, Gives, GivesNone, IsFlag, IsRefused, IsTaken, IsWindow, RefusesBy, gaps_rule, list_in, nbbo_app, refusal_by, refusal_status, refusal_text, replay_app, sessions_rule, window_rule};
+ghost use Rattle.nbbo_main.specs.CommandLine.{Asks, Gives, GivesNone, IsFlag, IsJournal, IsRefused, IsTaken, IsWindow, RefusesBy, gaps_rule, journal_rule, list_in, nbbo_app, options_app, refusal_by, refusal_status, refusal_text, replay_app, sessions_rule, symbol_words_in, symbols_refusal_by, symbols_rule, window_rule};
+ghost use Rattle.nbbo_main.specs.Symbols.{HasSymbolsFault, NameSymbols};
 ghost use Rattle.nbbo_main.specs.declared.command_line.Refusal.TheVariants.{NoMemory};
 
 use crate::help_texts::{
-    ABOUT, EXAMPLE, GAPS_HELP, REPLAY_ABOUT, REPLAY_EXAMPLE, REPLAY_LINES, REPLAY_LONG_ABOUT,
-    REPLAY_USAGE, SESSIONS_HELP, VERSION, WINDOW_HELP,
+    ABOUT, EXAMPLE, GAPS_HELP, JOURNAL_HELP, REPLAY_ABOUT, REPLAY_EXAMPLE, REPLAY_LINES,
+    REPLAY_LONG_ABOUT, REPLAY_USAGE, SESSIONS_HELP, SYMBOLS_HELP, VERSION, WINDOW_HELP,
 };
 use crate::replay_settings::ReplaySettings;
 use crate::sessions::{SessionsFault, read_sessions};
+use crate::symbols::{SymbolsFault, read_symbols};
 use clap::error::ErrorKind;
 use clap::{Arg, ArgAction, ArgMatches, Command, Error, value_parser};
+use feed_types::SymbolName;
 use std::alloc::{AllocError, Global};
 
 /// The most messages that a window can have.
@@ -23,6 +26,9 @@ const MAX_WINDOW: u32 = 65_535;
 
 /// The window where the words give none.
 const DEFAULT_WINDOW: u32 = 4_096;
+
+/// How many entries the journal has room for where the words don't say.
+const DEFAULT_JOURNAL: u32 = 1_000_000;
 
 /// Why there are no settings.
 #[derive(Debug, Drop)]
@@ -37,6 +43,12 @@ pub enum Refusal {
     BadSession,
     /// More than 16 sessions are named.
     TooManySessions,
+    /// A symbol is empty, has more than eight bytes, or has a byte outside of `21` to `7e`.
+    BadSymbol,
+    /// More than 4,096 symbols are named.
+    TooManySymbols,
+    /// A symbol is named twice.
+    DuplicateSymbol,
     /// Memory was refused.
     NoMemory,
 }
@@ -49,8 +61,9 @@ impl Refusal {
         match self {
             Refusal::Shown(_) => 0,
             Refusal::NoMemory => 1,
-            Refusal::Usage(_) | Refusal::NotText | Refusal::BadSession | Refusal::TooManySessions =>
-                2,
+            Refusal::Usage(_) | Refusal::NotText => 2,
+            Refusal::BadSession | Refusal::TooManySessions => 2,
+            Refusal::BadSymbol | Refusal::TooManySymbols | Refusal::DuplicateSymbol => 2,
         }
     }
 
@@ -63,6 +76,9 @@ impl Refusal {
             Refusal::NotText => "nbbo: the command line is not UTF-8\n",
             Refusal::BadSession => "nbbo: bad session\n",
             Refusal::TooManySessions => "nbbo: too many sessions\n",
+            Refusal::BadSymbol => "nbbo: bad symbol\n",
+            Refusal::TooManySymbols => "nbbo: too many symbols\n",
+            Refusal::DuplicateSymbol => "nbbo: duplicate symbol\n",
             Refusal::NoMemory => "nbbo: no memory\n",
         }
     }
@@ -84,6 +100,19 @@ impl From<SessionsFault> for Refusal {
             SessionsFault::BadSession => Refusal::BadSession,
             SessionsFault::TooManySessions => Refusal::TooManySessions,
             SessionsFault::NoMemory => Refusal::NoMemory,
+        }
+    }
+}
+
+impl From<SymbolsFault> for Refusal {
+    ghost from_gives = { λ fault refusal. refusal ≡ symbols_refusal_by fault };
+
+    fn from(fault: SymbolsFault) -> Refusal {
+        match fault {
+            SymbolsFault::BadSymbol => Refusal::BadSymbol,
+            SymbolsFault::TooManySymbols => Refusal::TooManySymbols,
+            SymbolsFault::DuplicateSymbol => Refusal::DuplicateSymbol,
+            SymbolsFault::NoMemory => Refusal::NoMemory,
         }
     }
 }
@@ -113,6 +142,19 @@ fn window_option<'a>(alloc: Global) -> Arg<'a>
         .long_help(WINDOW_HELP)
 }
 
+fn journal_option<'a>(alloc: Global) -> Arg<'a>
+    ensures rule { rule_of result ≡ journal_rule }
+    ensures local { result.global ≡ false }
+{
+    Arg::new(alloc, "journal")
+        .long("journal")
+        .value_name("N")
+        .value_parser(value_parser!(u32).range(0..=4294967295))
+        .default_value("1000000")
+        .help("How many items and declarations of self-help there may be, 0 to 4294967295")
+        .long_help(JOURNAL_HELP)
+}
+
 fn gaps_flag<'a>(alloc: Global) -> Arg<'a>
     ensures rule { rule_of result ≡ gaps_rule }
     ensures local { result.global ≡ false }
@@ -122,6 +164,17 @@ fn gaps_flag<'a>(alloc: Global) -> Arg<'a>
         .action(ArgAction::SetTrue)
         .help("Prints after each datagram which messages are to be asked for, if any are missing")
         .long_help(GAPS_HELP)
+}
+
+fn symbols_argument<'a>(alloc: Global) -> Arg<'a>
+    ensures rule { rule_of result ≡ symbols_rule }
+    ensures local { result.global ≡ false }
+{
+    Arg::new(alloc, "symbols")
+        .value_name("SYMBOL")
+        .num_args(0..)
+        .help("The symbols whose national best is printed, at most 4096")
+        .long_help(SYMBOLS_HELP)
 }
 
 /// The texts of `replay`, without its options.
@@ -137,14 +190,24 @@ fn replay_texts<'a>(alloc: Global) -> Command<'a>
         .after_long_help(REPLAY_LINES)
 }
 
-fn replay_command<'a>(alloc: Global) -> Result<Command<'a>, AllocError>
-    ensures app { IfOk result (λ c. app_of c ≡ replay_app) }
+/// `replay` with its options that have a value.
+fn options_command<'a>(alloc: Global) -> Result<Command<'a>, AllocError>
+    ensures app { IfOk result (λ c. app_of c ≡ options_app) }
     ensures local { IfOk result (λ c. (fields_of c).has_globals ≡ false) }
 {
     replay_texts(alloc)
         .arg(sessions_option(alloc))?
         .arg(window_option(alloc))?
-        .arg(gaps_flag(alloc))
+        .arg(journal_option(alloc))
+}
+
+fn replay_command<'a>(alloc: Global) -> Result<Command<'a>, AllocError>
+    ensures app { IfOk result (λ c. app_of c ≡ replay_app) }
+    ensures local { IfOk result (λ c. (fields_of c).has_globals ≡ false) }
+{
+    options_command(alloc)?
+        .arg(gaps_flag(alloc))?
+        .arg(symbols_argument(alloc))
 }
 
 fn nbbo_command<'a>(alloc: Global) -> Result<Command<'a>, AllocError>
@@ -204,6 +267,29 @@ fn window_of(replay: &ArgMatches<'_>) -> u32
     }
 }
 
+/// The journal that the option gives.
+fn journal_of(replay: &ArgMatches<'_>) -> u32
+    ensures { IsJournal (one_of (codes "journal") (rows_of (found_of replay.now))) result }
+{
+    match replay.get_one::<u32>("journal") {
+        Some(journal) => journal,
+        None => DEFAULT_JOURNAL,
+    }
+}
+
+/// The symbols that the words name.
+fn symbols_of(alloc: Global, replay: &ArgMatches<'_>) -> Result<Vec<SymbolName>, SymbolsFault>
+    ensures ok { IfOk result (λ symbols.
+        NameSymbols (symbol_words_in (rows_of (found_of replay.now))) symbols.items) }
+    ensures err { IfErr result (HasSymbolsFault
+        (symbol_words_in (rows_of (found_of replay.now)))) }
+{
+    match replay.get_strs("symbols") {
+        Some(words) => read_symbols(alloc, words),
+        None => read_symbols(alloc, &[]),
+    }
+}
+
 /// The list of sessions that the option gives.
 fn list_of<'a>(replay: &ArgMatches<'a>) -> &'a str
     ensures { result.now ≡ list_in (rows_of (found_of replay.now)) }
@@ -228,7 +314,9 @@ fn settings_of(alloc: Global, replay: &ArgMatches<'_>) -> Result<ReplaySettings,
 {
     Ok(ReplaySettings {
         sessions: read_sessions(alloc, list_of(replay))?,
+        symbols: symbols_of(alloc, replay)?,
         window: window_of(replay),
+        journal: journal_of(replay),
         gaps: gaps_of(replay),
     })
 }

@@ -17,6 +17,7 @@ pub fn ending(outcome: &Result<(), ReplayFault>) -> (u8, &'static str)
         Err(ReplayFault::BadRecord) => (1, "nbbo: bad record\n"),
         Err(ReplayFault::ShortRecord) => (1, "nbbo: short record\n"),
         Err(ReplayFault::TooManyTurns) => (1, "nbbo: too many turns\n"),
+        Err(ReplayFault::JournalFull) => (1, "nbbo: journal full\n"),
         Err(ReplayFault::NoMemory) => (1, "nbbo: no memory\n"),
     }
 }
@@ -33,6 +34,7 @@ mod tests {
             (ReplayFault::BadRecord, "nbbo: bad record\n"),
             (ReplayFault::ShortRecord, "nbbo: short record\n"),
             (ReplayFault::TooManyTurns, "nbbo: too many turns\n"),
+            (ReplayFault::JournalFull, "nbbo: journal full\n"),
             (ReplayFault::NoMemory, "nbbo: no memory\n"),
         ] {
             assert_eq!(rt; ending(&Err(fault)), (1, want));

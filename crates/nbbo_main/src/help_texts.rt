@@ -1,18 +1,19 @@
 //! What `--help` tells.
 
 /// The program, in a line.
-pub const ABOUT: &str =
-    "Brings the redundant lines of each venue's MoldUDP64 feed into one sequence";
+pub const ABOUT: &str = "\
+Brings the redundant lines of each venue's MoldUDP64 feed into one sequence, and keeps the
+national best bid and offer of each symbol";
 
 /// The program's version, and the kit that it is proved with.
 pub const VERSION: &str = "0.1.0\nproved with rattle-kit-13b logic dac8208d650f15bf";
 
 /// How `replay` is called.
-pub const REPLAY_USAGE: &str = "nbbo replay [OPTIONS] --sessions <LIST> < CAPTURE";
+pub const REPLAY_USAGE: &str = "nbbo replay [OPTIONS] --sessions <LIST> [SYMBOL]... < CAPTURE";
 
 pub const EXAMPLE: &str = "\
 Example:
-  nbbo replay --sessions 0000000001 < capture
+  nbbo replay --sessions NORTH,SOUTH ACME < capture
 
 'nbbo replay --help' tells what a capture is and what is printed.";
 
@@ -25,7 +26,8 @@ Replays a capture from standard input and prints what became of it.
 A capture is a list of records, one after the other: the venue (1 byte, from 0), a kind (1 byte),
 a length (2 bytes, big-endian) and that many bytes. Kind A, B or R is a MoldUDP64 datagram that
 came on line A, on line B or from recovery. Kind N has ten bytes, the name of the venue's next
-session.";
+session. Kind H declares self-help on the venue, which takes its quotations out of the national
+best, and kind W withdraws it; both have length 0.";
 
 pub const SESSIONS_HELP: &str = "\
 The first session of each venue, venue 0's first: 1 to 16 names parted by commas. A
@@ -36,13 +38,23 @@ pub const WINDOW_HELP: &str = "\
 How many messages past the last item sent a venue holds while it waits for those
 between: 1 to 65535. A packet that goes further is 'ahead': it is known of, not taken";
 
+pub const JOURNAL_HELP: &str = "\
+How many items and declarations of self-help there is room for: 0 to 4294967295. A
+replay that needs more ends there, with status 1";
+
+pub const SYMBOLS_HELP: &str = "\
+The symbols whose national best bid and offer is printed: at most 4096 words, each
+once, of 1 to 8 characters of printable ASCII without a space (bytes 21 to 7e). Write
+'--' before them where one begins with '-'";
+
 pub const GAPS_HELP: &str = "\
 Prints after each datagram, if messages are then missing, which ones to ask for first";
 
-/// An example, for the short help.
+/// Examples, for the short help.
 pub const REPLAY_EXAMPLE: &str = "\
-Example:
-  nbbo replay --sessions 0000000001 --gaps < capture
+Examples:
+  nbbo replay --sessions NORTH,SOUTH ACME < capture
+  zcat day.capture.gz | nbbo replay --sessions NORTH,SOUTH ACME | grep '^best '
 
 '--help' also tells what a capture is and what is printed.";
 
@@ -55,15 +67,31 @@ Printed lines, V a venue from 0, L a line (A, B or R for recovery):
   packet V L ahead               it goes beyond the window
   packet V L refused N           it is malformed or contradicts what came before: see below
   item V NUMBER KIND             the next message in sequence: quote, halt, trading or other; or
-                                 end, after the last
+                                 end, after the last. It is journaled
+  best NOTICE POSITION SYMBOL BID OFFER STATE
+                                 the journal's entry at POSITION, an item or a declaration, has
+                                 changed the national best bid or offer of the symbol. BID and
+                                 OFFER are none or V:PRICExSIZE; STATE is empty, one-sided,
+                                 normal, locked or crossed
   gap V NUMBER COUNT             with --gaps: COUNT messages from NUMBER on are to be asked for
   renew V ORDINAL                the venue's next session has begun, the second as 2
   renew V refused N              it can't begin: see below
+  declare V on POSITION          self-help stands on the venue; 'off' where it was withdrawn. In
+                                 place of the journal's position 'already' where it was so
   venue V sent SENT wins A B R   after the last record, for each venue: how many items were sent,
                                  and how many messages each line brought first
 
-Example:
-  nbbo replay --sessions 0000000001 --gaps < capture
+Examples:
+  $ nbbo replay --sessions NORTH,SOUTH ACME < capture
+  packet 0 A taken 1 0
+  item 0 1 quote
+  best 1 1 ACME 0:10.1500x300 0:10.1700x200 normal
+  packet 0 B taken 0 1
+  venue 0 sent 1 wins 1 0 0
+  venue 1 sent 0 wins 0 0 0
+
+  $ zcat day.capture.gz | nbbo replay --sessions NORTH,SOUTH ACME | grep '^best '
+  best 1 1 ACME 0:10.1500x300 0:10.1700x200 normal
 
 Refusals:
    1  fewer than the 20 bytes of a packet's header
@@ -83,12 +111,16 @@ Status:
   0  the capture was replayed to its end, or help or the version was shown
   1  the input or the run was refused; the lines of the records before were printed, and no venue
      lines. Standard error says why:
-       bad record      a record's venue isn't below the number of sessions, its kind isn't A, B, R
-                       or N, or a record N hasn't ten bytes
+       journal full    the next item or declaration has no room in the journal; those of the same
+                       datagram that had room were printed, too
+       bad record      a record's venue isn't below the number of sessions, its kind isn't A, B, R,
+                       N, H or W, a record N hasn't ten bytes, or a record H or W has any
        short record    the capture ends within a record
        read failed     standard input can't be read
        write failed    standard output can't be written, as where it is a pipe that 'head' has left
        too many turns  input was read 1,000,000,000 times and hasn't ended
        no memory       memory was refused
   2  the command line was refused; standard error says why. 'bad session': a name is empty, has
-     more than ten characters or one that isn't printable ASCII; 'too many sessions': more than 16";
+     more than ten characters or one that isn't printable ASCII; 'too many sessions': more than 16;
+     'bad symbol': a symbol is empty, has more than eight characters, or a space or one that isn't
+     printable ASCII; 'too many symbols': more than 4096; 'duplicate symbol': one is named twice";

@@ -1,7 +1,8 @@
 //! The program `nbbo`.
 //!
-//! `nbbo replay --sessions LIST [--window N] [--gaps]` reads a capture from standard input and writes its
-//! lines to standard output. What a capture is and what its lines are is told, and proved, in `feed_text`.
+//! `nbbo replay --sessions LIST [--window N] [--journal N] [--gaps] [SYMBOL]...` reads a capture from standard
+//! input and writes its lines to standard output. What a capture is and what its lines are is told, and proved,
+//! in `feed_text`.
 //!
 //! The contract here is that of `run::run`: of any words, over any input, output and standard error, it says what is
 //! read, what is written where, and the status (`specs/Runs.antt`). Outside of it stand, in this file, the opening of
@@ -19,6 +20,7 @@ mod help_texts;
 mod replay_settings;
 mod run;
 mod sessions;
+mod symbols;
 
 use command_line::Refusal;
 use feed_text::failures::Failures;

@@ -1,17 +1,27 @@
 //! What `nbbo replay` is to do.
 ghost use Rattle.std.specs.Prelude.{◌≤◌, vec_len};
+ghost use Rattle.std.specs.List.{IsDistinct, IsDistinct-prop};
+ghost use Rattle.std.specs.Str.{bytes_eq};
+
+use feed_types::SymbolName;
 
 /// What `nbbo replay` is to do.
 #[derive(Debug, Drop)]
 pub struct ReplaySettings {
     /// The first session of each venue, ten bytes, filled on the right with spaces.
     pub sessions: Vec<[u8; 10]>,
+    /// The symbols whose national best is printed, each once, in the order of the command line.
+    pub symbols: Vec<SymbolName>,
     /// How many messages past the last item sent a venue holds.
     pub window: u32,
+    /// How many entries the journal has room for.
+    pub journal: u32,
     /// Whether gaps are printed.
     pub gaps: bool,
     ghost some_venues: { 1 ≤ vec_len sessions },
     ghost few_venues: { vec_len sessions ≤ 16 },
+    ghost few_symbols: { vec_len symbols ≤ 4096 },
+    ghost each_once: { IsDistinct bytes_eq symbols.items } by { IsDistinct-prop bytes_eq symbols.items },
     ghost some_window: { 1 ≤ window },
     ghost window_in_range: { window ≤ 65535 },
 }

@@ -24,7 +24,9 @@ fn config_of(settings: &ReplaySettings) -> ReplayConfig<'_>
 {
     ReplayConfig {
         sessions: settings.sessions.as_slice(),
+        symbols: settings.symbols.as_slice(),
         window: settings.window,
+        journal: settings.journal,
         gaps: settings.gaps,
         turns: MAX_TURNS,
     }
