@@ -26,6 +26,8 @@ pub mod Growth
 pub mod Answering
 pub mod PacketSteps
 pub mod OneOutcome
+pub mod Deciding
+pub mod EveryAnswer
 pub mod Passing
 pub mod NameBytes
 -- genuine packets, and the laws

@@ -406,7 +406,7 @@ impl<G: Genuine> Arbiter<G> {
         }
     }
 
-    /// IsPrefix the venue's next session under a name of ten bytes, once End was advanced past, and
+    /// Begins the venue's next session under a name of ten bytes, once End was advanced past, and
     /// answers its ordinal. Nothing of it has come yet; wins go on counting. The refusals, in this
     /// order: NotEnded, SessionUsed, TooManySessions (64 at most).
     pub fn renew(&mut self, session: [u8; 10]) -> Result<u64, RenewFault>
