@@ -22,6 +22,7 @@ pub mod HeldCounts
 pub mod LineCounts
 -- one more packet
 pub mod Soundness
+pub mod Repeating
 pub mod Growth
 pub mod Answering
 pub mod PacketSteps
