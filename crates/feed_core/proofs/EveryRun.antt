@@ -1,5 +1,5 @@
 -- Each list of events has a run.
-use Rattle.std.proofs.Common.{◌≡◌, ℕ, ◌+◌, List, [], ◌∷◌, Option, Some, None, refl, inl, inr}
+use Rattle.std.proofs.Common.{ℕ, ◌+◌, List, [], ◌∷◌, Option, Some, None, refl, inl, inr}
 use Rattle.std.specs.Prelude.{MatchOption, slice_get, ◌⊎◌}
 use Rattle.std.specs.List.{AllByRecursion}
 use Rattle.feed_types.specs.declared.line.LineId.{LineId}
@@ -14,7 +14,7 @@ use Rattle.feed_core.specs.declared.event.Event.{Event}
 use Rattle.feed_core.specs.declared.event.Event.TheVariants.{Packet, Push, Consume, Declare, Renew, Subscribe, Offer, Dequeue}
 use Rattle.feed_core.specs.declared.event.Done.{Done}
 use Rattle.feed_core.specs.declared.event.Done.TheVariants as done
-use Rattle.feed_core.specs.Worlds.{Venue, sent_of, Subscriber, World, Setting}
+use Rattle.feed_core.specs.Worlds.{Venue, sent_of, World, Setting}
 use Rattle.feed_core.specs.Steps.{Came, stays, goes, Stays, Comes, put_venue, history_after, IsFaulty, answered, IsAnswered, renewal, IsNext, IsSubscribed, IsStep, IsRun, BringsBytes}
 
 -- some outcome and some world
