@@ -8,7 +8,7 @@ ghost use Rattle.feed_types.specs.declared.journal.Entry.{Entry};
 ghost use Rattle.nbbo_book.specs.Books.{Fits, venue_of, is_configured};
 ghost use Rattle.nbbo_book.specs.Eligible.{is_self_helped as self_helped};
 ghost use Rattle.nbbo_book.specs.Nationals.{national_of, IsRanking};
-ghost use Rattle.nbbo_book.specs.Changes.{changes_of};
+ghost use Rattle.nbbo_book.specs.Changes.{changes_by};
 ghost use Rattle.nbbo_book.specs.Rows.{empty_side as no_side, empty_row};
 
 use crate::book_side::BookSide;
@@ -128,7 +128,7 @@ impl Book {
             → Fits self.new (entries ++ entry.now ∷ []) }
         ensures changes { (entries : List Entry) → Fits self.old entries
             → out.new.items
-            ≡ out.old.items ++ changes_of self.old.symbols entries position entry.now }
+            ≡ out.old.items ++ changes_by self.old.symbols entries position entry.now }
         ensures count { vec_len out.new ≤ vec_len out.old + length self.old.symbols }
         ensures capacity { vec_capacity out.new ≡ vec_capacity out.old }
         ensures symbols { self.new.symbols ≡ self.old.symbols }
@@ -136,15 +136,12 @@ impl Book {
         ensures last { self.new.last ≡ position }
     {
         let helped = helped_after(&self.helped, entry);
-        let step = Step {
-            entry: *entry,
-            age: self.applied + 1,
-            position,
-            helped,
-        };
-        apply_step(&self.table, self.rows.as_mut_slice(), &step, out);
+        let age = self.applied + 1;
+        let step = Step { age, position };
+        let rows = self.rows.as_mut_slice();
+        apply_step(&self.table, rows, &helped, entry, step, out);
         self.helped = helped;
-        self.applied = step.age;
+        self.applied = age;
         self.last = position;
     }
 
