@@ -16,7 +16,7 @@ use crate::change::Change;
 use crate::fault::BookFault;
 use crate::row::Row;
 use crate::shown::Standing;
-use crate::steps::{Step, apply_step, helped_after};
+use crate::steps::{Step, apply_step, take_self_help};
 use crate::table::{Table, find, symbol_table};
 use arrayvec::ArrayVec;
 use feed_types::{Best, Entry, National, Side, SymbolName, VenueId};
@@ -135,12 +135,11 @@ impl Book {
         ensures venues { self.new.venues ≡ self.old.venues }
         ensures last { self.new.last ≡ position }
     {
-        let helped = helped_after(&self.helped, entry);
+        take_self_help(&mut self.helped, entry);
         let age = self.applied + 1;
         let step = Step { age, position };
         let rows = self.rows.as_mut_slice();
-        apply_step(&self.table, rows, &helped, entry, step, out);
-        self.helped = helped;
+        apply_step(&self.table, rows, &self.helped, entry, step, out);
         self.applied = age;
         self.last = position;
     }

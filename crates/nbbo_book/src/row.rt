@@ -46,6 +46,7 @@ impl Row {
         bid || offer
     }
 
+    #[inline(always)]
     fn end(&mut self, venue: VenueId, age: u64) -> bool
         requires { IsRowRanked self.old }
         ensures row { self.new ≡ row_ended venue age self.old }
@@ -53,11 +54,12 @@ impl Row {
             ≡ not (is_same_national (national_at self.old) (national_at self.new)) }
     {
         self.halted[venue.index()] = false;
-        let bid = self.bids.show(Side::Bid, venue, None, age, false);
-        let offer = self.offers.show(Side::Offer, venue, None, age, false);
+        let bid = self.bids.hide(Side::Bid, venue, age);
+        let offer = self.offers.hide(Side::Offer, venue, age);
         bid || offer
     }
 
+    #[inline(always)]
     fn gate(&mut self, venue: VenueId, may: bool) -> bool
         requires { IsRowRanked self.old }
         ensures symbol { self.new.symbol ≡ self.old.symbol }

@@ -108,20 +108,18 @@ pub fn apply_step(
     }
 }
 
-/// The venues that self-help stands on, after one more entry.
+/// Notes which venues self-help stands on after one more entry.
 #[inline(always)]
-pub fn helped_after(helped: &[bool; 16], entry: &Entry) -> [bool; 16]
-    ensures { result ≡ flags_after entry.now helped.now }
+pub fn take_self_help(helped: &mut [bool; 16], entry: &Entry)
+    ensures { helped.new ≡ flags_after entry.now helped.old }
 {
-    let mut after = *helped;
     match entry {
         Entry::Consumed {
             venue: _,
             numbered: _,
         } => {}
         Entry::SelfHelp { venue, on } => {
-            after[venue.index()] = *on;
+            helped[venue.index()] = *on;
         }
     }
-    after
 }
