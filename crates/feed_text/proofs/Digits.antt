@@ -1,5 +1,5 @@
 -- The digits of a number, two at a time.
-use Rattle.std.proofs.Common.{◌≡◌, ℕ, zero, suc, ◌+◌, ◌-◌, ◌*◌, ◌/◌, ◌%◌, ◌^◌, ◌<◌, ◌≤◌, Bool, true, ◌&&◌, T, eqb, List, [], ◌∷◌, ◌++◌, get_or, inl, inr, arith, eq-zero-or-pos, eqb→eq, append_assoc}
+use Rattle.std.proofs.Common.{◌≡◌, ap, sym, ◌∙◌, ℕ, zero, suc, ◌+◌, ◌-◌, ◌*◌, ◌/◌, ◌%◌, ◌^◌, ◌<◌, ◌≤◌, Bool, true, ◌&&◌, T, eqb, List, [], ◌∷◌, ◌++◌, get_or, inl, inr, arith, eq-zero-or-pos, eqb→eq, append_assoc}
 use Rattle.std.proofs.lemmas.Fmt.{decimal_digit, decimal_step}
 use Rattle.std.specs.Fmt.{decimal}
 use lib.Ieee.Fits.{and_l, and_r}
@@ -43,3 +43,28 @@ decimal_four n low high =
     let b : n / 100 % 100 ≡ n % 10000 / 100 = omega arith in
     let c : n % 10000 % 100 ≡ n % 100 = omega arith in
     rw (decimal_pair n (omega arith) high, decimal_pair (n / 100) (omega arith) (omega arith), append_assoc, a, b, c)
+
+digit_as : (m n : ℕ) → m ≡ n → n < 10 → (48 + m) ∷ [] ≡ decimal n
+digit_as m n e h = ap (λ (k : ℕ). (48 + k) ∷ []) e ∙ sym (decimal_digit n h)
+
+joined : (t u a b c d : List ℕ) → t ++ (u ++ (a ++ (b ++ (c ++ d)))) ≡ t ++ u ++ a ++ b ++ c ++ d
+joined t u a b c d =
+    sym (append_assoc t u (a ++ (b ++ (c ++ d)))) ∙ sym (append_assoc (t ++ u) a (b ++ (c ++ d)))
+    ∙ sym (append_assoc (t ++ u ++ a) b (c ++ d)) ∙ sym (append_assoc (t ++ u ++ a ++ b) c d)
+
+-- a price behind its dollars: a point, and two pairs for the four digits
+pub price_digits : (dollars : List ℕ) (p : ℕ) → dollars ++ (46 ∷ [] ++ (pair (p % 10000 / 100) ++ pair (p % 10000 % 100)))
+    ≡ dollars ++ (46 ∷ []) ++ decimal (p / 1000 % 10) ++ decimal (p / 100 % 10) ++ decimal (p / 10 % 10) ++ decimal (p % 10)
+price_digits dollars p =
+    let a = digit_as (p % 10000 / 100 / 10) (p / 1000 % 10) (omega arith) (omega arith) in
+    let b = digit_as (p % 10000 / 100 % 10) (p / 100 % 10) (omega arith) (omega arith) in
+    let c = digit_as (p % 10000 % 100 / 10) (p / 10 % 10) (omega arith) (omega arith) in
+    let d = digit_as (p % 10000 % 100 % 10) (p % 10) (omega arith) (omega arith) in
+    let B : List ℕ = (48 + p % 10000 / 100 % 10) ∷ [] in
+    let C : List ℕ = (48 + p % 10000 % 100 / 10) ∷ [] in
+    let D : List ℕ = (48 + p % 10000 % 100 % 10) ∷ [] in
+    ap (λ (t : List ℕ). dollars ++ (46 ∷ [] ++ (t ++ (B ++ (C ++ D))))) a
+    ∙ ap (λ (t : List ℕ). dollars ++ (46 ∷ [] ++ (decimal (p / 1000 % 10) ++ (t ++ (C ++ D))))) b
+    ∙ ap (λ (t : List ℕ). dollars ++ (46 ∷ [] ++ (decimal (p / 1000 % 10) ++ (decimal (p / 100 % 10) ++ (t ++ D))))) c
+    ∙ ap (λ (t : List ℕ). dollars ++ (46 ∷ [] ++ (decimal (p / 1000 % 10) ++ (decimal (p / 100 % 10) ++ (decimal (p / 10 % 10) ++ t))))) d
+    ∙ joined dollars (46 ∷ []) (decimal (p / 1000 % 10)) (decimal (p / 100 % 10)) (decimal (p / 10 % 10)) (decimal (p % 10))

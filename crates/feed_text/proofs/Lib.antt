@@ -4,7 +4,7 @@ pub mod Calls
 pub mod Steps
 pub mod Rest
 pub mod VenueSteps
-pub mod Growing
+pub mod Tales
 pub mod Telling
 pub mod OneText
 pub mod Stopping

@@ -1,6 +1,6 @@
 -- Records print one text.
-use Rattle.std.proofs.Common.{◌≡◌, ℕ, Bool, List, [], ◌∷◌, ◌++◌, Some, Option, refl, sym, ap, subst, ◌∙◌, arith, inl, inr}
-use Rattle.std.specs.Prelude.{Result, Ok, Err, slice_set, map}
+use Rattle.std.proofs.Common.{◌≡◌, ◌<◌, ◌≤◌, append_assoc, length, length-append, ℕ, Bool, List, [], ◌∷◌, ◌++◌, Some, Option, refl, sym, ap, subst, ◌∙◌, arith, inl, inr}
+use Rattle.std.specs.Prelude.{Result, Ok, Err, true, false, if◌then◌else◌, slice_set}
 use Rattle.feed_types.specs.declared.line.LineId.{LineId}
 use Rattle.mold_packet.specs.declared.fault.PacketFault.{PacketFault}
 use Rattle.mold_packet.specs.Content.{Content, Spells}
@@ -12,10 +12,16 @@ use Rattle.line_arbiter.specs.declared.faults.RenewFault.TheVariants.{NotEnded, 
 use Rattle.line_arbiter.specs.Packets.{Arrival, arrival_of}
 use Rattle.line_arbiter.specs.Outcomes.{IsOutcome}
 use Rattle.line_arbiter.specs.Renewals.{IsRenewal}
-use Rattle.feed_text.specs.Capture.{CaptureRecord, datagram_record, renewal_record, venue_of}
-use Rattle.feed_text.specs.Lines.{packet_line, fault_line, renew_line}
-use Rattle.line_arbiter.specs.Histories.{History, new_history, names_of, after_arrival}
-use Rattle.feed_text.specs.Printed.{sent_of, gap_lines, ready_items, after_answer, PrintsFault, PrintsPacket, PrintsAt, PrintsRecord, Prints, IsTextOf, last_lines}
+use Rattle.feed_types.specs.declared.journal.Entry.{Entry}
+use Rattle.feed_types.specs.declared.journal.Entry.TheVariants.{Consumed, SelfHelp}
+use Rattle.feed_text.proofs.Tales.{entries_more}
+use Rattle.feed_text.proofs.Steps.{tells_one}
+use Rattle.line_arbiter.specs.Histories.{History, names_of, after_arrival}
+use Rattle.feed_text.specs.declared.replay.ReplayConfig.{ReplayConfig}
+use Rattle.feed_text.specs.Capture.{CaptureRecord, datagram_record, renewal_record, self_help_record, venue_of}
+use Rattle.feed_text.specs.Happenings.{Happening, packet_answered, packet_refused, item_taken, gap_left, renewal_answered, self_help_declared, is_so, entries_after, entries_of}
+use Rattle.feed_text.specs.Told.{sent_of, gap_told, items_told, after_answer, TellsFault, TellsPacket, TellsAt, TellsRecord, Tells}
+use Rattle.feed_text.specs.Texts.{last_lines, new_histories, TellsAll, lines_told, HasRoom, IsTextOf, IsLinesOf, IsLinesToFull}
 
 -- the laws of packets and of their answers
 pub record Single : Type 0 where
@@ -24,22 +30,22 @@ pub record Single : Type 0 where
   pub fault : (bytes : List ℕ) (f g : PacketFault) → HasFault bytes f → HasFault bytes g → f ≡ g
   pub outcome : (session : List ℕ) (window sent : ℕ) (P : List Arrival) (p : Content) (a b : Result Outcome LineFault) → IsOutcome session window sent P p a → IsOutcome session window sent P p b → a ≡ b
 
-one_fault : (window : ℕ) (gaps : Bool) (venue : ℕ) (line : LineId) (bytes : List ℕ) (old n1 n2 : History) (l1 l2 : List ℕ) → Single → PrintsFault window gaps venue line bytes old l1 n1 → PrintsFault window gaps venue line bytes old l2 n2 → (l1 ≡ l2) × (n1 ≡ n2)
+one_fault : (window : ℕ) (gaps : Bool) (venue : ℕ) (line : LineId) (bytes : List ℕ) (old n1 n2 : History) (l1 l2 : List Happening) → Single → TellsFault window gaps venue line bytes old l1 n1 → TellsFault window gaps venue line bytes old l2 n2 → (l1 ≡ l2) × (n1 ≡ n2)
 one_fault window gaps venue line bytes old n1 n2 l1 l2 one a b =
-    let F : PacketFault → History → List ℕ = λ f h. fault_line venue line (code_of f) ++ gap_lines window gaps venue h in
+    let F : PacketFault → History → List Happening = λ f h. packet_refused venue line f ∷ gap_told window gaps venue h in
     let f = one.fault bytes a.fault b.fault a.has b.has in
     let n : n1 ≡ n2 = a.same ∙ sym b.same in
-    (a.lines_are ∙ ap (λ (x : PacketFault). F x n1) f ∙ ap (λ (h : History). F b.fault h) n ∙ sym b.lines_are, n)
+    (a.told_is ∙ ap (λ (x : PacketFault). F x n1) f ∙ ap (λ (h : History). F b.fault h) n ∙ sym b.told_is, n)
 
-one_packet : (window : ℕ) (gaps : Bool) (venue : ℕ) (line : LineId) (bytes : List ℕ) (old n1 n2 : History) (l1 l2 : List ℕ) → Single → PrintsPacket window gaps venue line bytes old l1 n1 → PrintsPacket window gaps venue line bytes old l2 n2 → (l1 ≡ l2) × (n1 ≡ n2)
+one_packet : (window : ℕ) (gaps : Bool) (venue : ℕ) (line : LineId) (bytes : List ℕ) (old n1 n2 : History) (l1 l2 : List Happening) → Single → TellsPacket window gaps venue line bytes old l1 n1 → TellsPacket window gaps venue line bytes old l2 n2 → (l1 ≡ l2) × (n1 ≡ n2)
 one_packet window gaps venue line bytes old n1 n2 l1 l2 one a b =
     let G : Content → Result Outcome LineFault → History = λ p x. after_arrival old (arrival_of line p x) in
-    let F : Result Outcome LineFault → History → List ℕ = λ x h. packet_line venue line x ++ ready_items venue old h.present.packets ++ gap_lines window gaps venue h in
+    let F : Result Outcome LineFault → History → List Happening = λ x h. packet_answered venue line x ∷ items_told venue old h.present.packets ++ gap_told window gaps venue h in
     let p : a.packet ≡ b.packet = one.packet bytes a.packet b.packet a.rest b.rest a.spells b.spells in
     let first : IsOutcome old.present.name window (sent_of old) old.present.packets b.packet a.answer = subst (λ (q : Content). IsOutcome old.present.name window (sent_of old) old.present.packets q a.answer) p a.outcome in
     let x : a.answer ≡ b.answer = one.outcome old.present.name window (sent_of old) old.present.packets b.packet a.answer b.answer first b.outcome in
     let n : n1 ≡ n2 = a.grown ∙ ap (λ (q : Content). G q a.answer) p ∙ ap (λ (y : Result Outcome LineFault). G b.packet y) x ∙ sym b.grown in
-    (a.lines_are ∙ ap (λ (y : Result Outcome LineFault). F y n1) x ∙ ap (λ (h : History). F b.answer h) n ∙ sym b.lines_are, n)
+    (a.told_is ∙ ap (λ (y : Result Outcome LineFault). F y n1) x ∙ ap (λ (h : History). F b.answer h) n ∙ sym b.told_is, n)
 
 one_renewal : (sessions : List (List ℕ)) (end : Option ℕ) (sent : ℕ) (name : List ℕ) (a b : Result ℕ RenewFault) → IsRenewal sessions end sent name a → IsRenewal sessions end sent name b → a ≡ b
 one_renewal sessions end sent name (Ok m) (Ok n) x y = ap Ok (x.3 ∙ sym y.3)
@@ -59,30 +65,131 @@ one_renewal sessions end sent name (Err TooManySessions) (Err NotEnded) x y = ab
 one_renewal sessions end sent name (Err TooManySessions) (Err SessionUsed) x y = absurd (x.1 y.1)
 one_renewal sessions end sent name (Err TooManySessions) (Err TooManySessions) x y = refl
 
-one_at : (window : ℕ) (gaps : Bool) (r : CaptureRecord) (old n1 n2 : History) (l1 l2 : List ℕ) → Single → PrintsAt window gaps r old l1 n1 → PrintsAt window gaps r old l2 n2 → (l1 ≡ l2) × (n1 ≡ n2)
+one_at : (window : ℕ) (gaps : Bool) (r : CaptureRecord) (old n1 n2 : History) (l1 l2 : List Happening) → Single → TellsAt window gaps r old l1 n1 → TellsAt window gaps r old l2 n2 → (l1 ≡ l2) × (n1 ≡ n2)
 one_at window gaps (datagram_record venue line bytes) old n1 n2 l1 l2 one (inl a) (inl b) = one_fault window gaps venue line bytes old n1 n2 l1 l2 one a b
 one_at window gaps (datagram_record venue line bytes) old n1 n2 l1 l2 one (inl a) (inr b) = absurd (one.no_fault bytes b.packet b.rest a.fault b.spells a.has)
 one_at window gaps (datagram_record venue line bytes) old n1 n2 l1 l2 one (inr a) (inl b) = absurd (one.no_fault bytes a.packet a.rest b.fault a.spells b.has)
 one_at window gaps (datagram_record venue line bytes) old n1 n2 l1 l2 one (inr a) (inr b) = one_packet window gaps venue line bytes old n1 n2 l1 l2 one a b
 one_at window gaps (renewal_record venue name) old n1 n2 l1 l2 one a b =
     let x = one_renewal (names_of old) _ (sent_of old) name a.answer b.answer a.is b.is in
-    (a.lines_are ∙ ap (renew_line venue) x ∙ sym b.lines_are, a.after ∙ ap (after_answer old name) x ∙ sym b.after)
+    (a.told_is ∙ ap (λ (y : Result ℕ RenewFault). renewal_answered venue y ∷ []) x ∙ sym b.told_is, a.after ∙ ap (after_answer old name) x ∙ sym b.after)
+one_at window gaps (self_help_record venue on) old n1 n2 l1 l2 one a b = (a.told_is ∙ sym b.told_is, a.same ∙ sym b.same)
 
-one_record : (window : ℕ) (gaps : Bool) (r : CaptureRecord) (old n1 n2 : List History) (l1 l2 : List ℕ) → Single → PrintsRecord window gaps r old l1 n1 → PrintsRecord window gaps r old l2 n2 → (l1 ≡ l2) × (n1 ≡ n2)
+one_record : (window : ℕ) (gaps : Bool) (r : CaptureRecord) (old n1 n2 : List History) (l1 l2 : List Happening) → Single → TellsRecord window gaps r old l1 n1 → TellsRecord window gaps r old l2 n2 → (l1 ≡ l2) × (n1 ≡ n2)
 one_record window gaps r old n1 n2 l1 l2 one a b =
     let some : Some a.before ≡ Some b.before = sym a.at ∙ b.at in
     let same : a.before ≡ b.before = cc in
-    let x = one_at window gaps r b.before a.after b.after l1 l2 one (subst (λ (h : History). PrintsAt window gaps r h l1 a.after) same a.prints) b.prints in
+    let x = one_at window gaps r b.before a.after b.after l1 l2 one (subst (λ (h : History). TellsAt window gaps r h l1 a.after) same a.tells) b.tells in
     (x.0, a.others ∙ ap (slice_set old (venue_of r)) x.1 ∙ sym b.others)
 
-pub one_prints : (window : ℕ) (gaps : Bool) (rs : List CaptureRecord) (old n1 n2 : List History) (l1 l2 : List ℕ) → Single → Prints window gaps rs old l1 n1 → Prints window gaps rs old l2 n2 → (l1 ≡ l2) × (n1 ≡ n2)
-one_prints window gaps [] old n1 n2 l1 l2 one a b = (a.0 ∙ sym b.0, a.1 ∙ sym b.1)
-one_prints window gaps (r ∷ rs) old n1 n2 l1 l2 one (m, first, others, record_is, more, whole) (k, head, tail, is, rest, all) =
+pub one_told : (window : ℕ) (gaps : Bool) (rs : List CaptureRecord) (old n1 n2 : List History) (l1 l2 : List Happening) → Single → Tells window gaps rs old l1 n1 → Tells window gaps rs old l2 n2 → (l1 ≡ l2) × (n1 ≡ n2)
+one_told window gaps [] old n1 n2 l1 l2 one a b = (a.0 ∙ sym b.0, a.1 ∙ sym b.1)
+one_told window gaps (r ∷ rs) old n1 n2 l1 l2 one (m, first, others, record_is, more, whole) (k, head, tail, is, rest, all) =
     let x = one_record window gaps r old m k first head one record_is is in
-    let y = one_prints window gaps rs k n1 n2 others tail one (subst (λ (h : List History). Prints window gaps rs h others n1) x.1 more) rest in
-    (whole ∙ ap (λ (t : List ℕ). t ++ others) x.0 ∙ ap (λ (t : List ℕ). head ++ t) y.0 ∙ sym all, y.1)
+    let y = one_told window gaps rs k n1 n2 others tail one (subst (λ (h : List History). Tells window gaps rs h others n1) x.1 more) rest in
+    (whole ∙ ap (λ (t : List Happening). t ++ others) x.0 ∙ ap (λ (t : List Happening). head ++ t) y.0 ∙ sym all, y.1)
 
-pub one_text : (sessions : List (List ℕ)) (window : ℕ) (gaps : Bool) (records : List CaptureRecord) (t u : List ℕ) → Single → IsTextOf sessions window gaps records t → IsTextOf sessions window gaps records u → t ≡ u
-one_text sessions window gaps records t u one a b =
-    let x = one_prints window gaps records (map new_history sessions) a.histories b.histories a.lines b.lines one a.prints b.prints in
-    a.whole ∙ ap (λ (ls : List ℕ). ls ++ last_lines 0 a.histories) x.0 ∙ ap (λ (hs : List History). b.lines ++ last_lines 0 hs) x.1 ∙ sym b.whole
+pub one_text : (config : ReplayConfig) (records : List CaptureRecord) (t u : List ℕ) → Single → IsTextOf config records t → IsTextOf config records u → t ≡ u
+one_text config records t u one a b =
+    let x = one_told config.window config.gaps records (new_histories config) a.histories b.histories a.told b.told one a.tells b.tells in
+    a.text_is ∙ ap (λ (hs : List Happening). lines_told config hs ++ last_lines 0 a.histories) x.0 ∙ ap (λ (hs : List History). lines_told config b.told ++ last_lines 0 hs) x.1 ∙ sym b.text_is
+
+pub one_lines : (config : ReplayConfig) (records : List CaptureRecord) (t u : List ℕ) → Single → IsLinesOf config records t → IsLinesOf config records u → t ≡ u
+one_lines config records t u one a b =
+    let x = one_told config.window config.gaps records (new_histories config) a.histories b.histories a.told b.told one a.tells b.tells in
+    a.lines_are ∙ ap (lines_told config) x.0 ∙ sym b.lines_are
+
+if_grows : (b : Bool) (old : List Entry) (e : Entry) → length old ≤ length (if b then old else old ++ e ∷ [])
+if_grows true old e = omega arith
+if_grows false old e = let n = length-append old (e ∷ []) in omega arith
+
+after_grows : (old : List Entry) (h : Happening) → length old ≤ length (entries_after old h)
+after_grows old (packet_answered venue line answer) = omega arith
+after_grows old (packet_refused venue line fault) = omega arith
+after_grows old (item_taken venue numbered) = let n = length-append old (Consumed venue numbered ∷ []) in omega arith
+after_grows old (gap_left venue request) = omega arith
+after_grows old (renewal_answered venue answer) = omega arith
+after_grows old (self_help_declared venue on) = if_grows (is_so old venue on) old (SelfHelp venue on)
+
+-- the journal only grows
+entries_grow : (old : List Entry) (hs : List Happening) → length old ≤ length (entries_of old hs)
+entries_grow old [] = omega arith
+entries_grow old (h ∷ hs) = let a = after_grows old h in let b = entries_grow (entries_after old h) hs in omega arith
+
+-- what had room up to the next happening is the same front
+one_front : (limit : ℕ) (old : List Entry) (f g : List Happening) (x y : Happening) (xs ys : List Happening) → f ++ x ∷ xs ≡ g ++ y ∷ ys
+    → length (entries_of old f) ≤ limit → length (entries_of old g) ≤ limit
+    → limit < length (entries_of old (f ++ x ∷ [])) → limit < length (entries_of old (g ++ y ∷ []))
+    → f ≡ g
+one_front limit old [] [] x y xs ys e fit_f fit_g full_f full_g = refl
+one_front limit old [] (h ∷ g) x y xs ys e fit_f fit_g full_f full_g =
+    let same : x ≡ h = cc in
+    let more = entries_grow (entries_after old h) g in
+    absurd (past (rw same at full_f))
+  where
+    past : limit < length (entries_after old h) → ⊥
+    past full = let more = entries_grow (entries_after old h) g in omega arith
+one_front limit old (h ∷ f) [] x y xs ys e fit_f fit_g full_f full_g =
+    let same : y ≡ h = cc in
+    absurd (past (rw same at full_g))
+  where
+    past : limit < length (entries_after old h) → ⊥
+    past full = let more = entries_grow (entries_after old h) f in omega arith
+one_front limit old (h ∷ f) (k ∷ g) x y xs ys e fit_f fit_g full_f full_g =
+    let same : k ≡ h = cc in
+    let rest : f ++ x ∷ xs ≡ g ++ y ∷ ys = cc in
+    let tails : f ≡ g = one_front limit (entries_after old h) f g x y xs ys rest fit_f (rw same at fit_g) full_f (rw same at full_g) in
+    cc
+
+-- the same lists with one more element each
+last_one : {X : Type 0} (xs ys : List X) (x y : X) → xs ++ x ∷ [] ≡ ys ++ y ∷ [] → (xs ≡ ys) × (x ≡ y)
+last_one [] [] x y e = (refl, cc)
+last_one [] (z ∷ ys) x y e = let n = ap length e in let m = length-append ys (y ∷ []) in absurd (omega arith)
+last_one (z ∷ xs) [] x y e = let n = ap length e in let m = length-append xs (x ∷ []) in absurd (omega arith)
+last_one (z ∷ xs) (w ∷ ys) x y e =
+    let head : z ≡ w = cc in
+    let tail : xs ++ x ∷ [] ≡ ys ++ y ∷ [] = cc in
+    let rest = last_one xs ys x y tail in
+    let back : xs ≡ ys = rest.0 in
+    (cc, rest.1)
+
+-- what has room, and what has none, behind what was told before
+room_behind : (config : ReplayConfig) (told more : List Happening) → HasRoom config (told ++ more) → length (entries_of (entries_of [] told) more) ≤ config.journal
+room_behind config told more h = subst (λ (es : List Entry). length es ≤ config.journal) (entries_more [] told more) h
+
+full_behind : (config : ReplayConfig) (told first : List Happening) (next : Happening) → config.journal < length (entries_of [] (told ++ first ++ next ∷ [])) → config.journal < length (entries_of (entries_of [] told) (first ++ next ∷ []))
+full_behind config told first next h =
+    subst (λ (es : List Entry). config.journal < length es) (ap (entries_of []) (append_assoc told first (next ∷ [])) ∙ entries_more [] told (first ++ next ∷ [])) h
+
+pub one_full : (config : ReplayConfig) (records : List CaptureRecord) (t u : List ℕ) → Single → IsLinesToFull config records t → IsLinesToFull config records u → t ≡ u
+one_full config records t u one a b =
+    let s = last_one a.earlier b.earlier a.last b.last (sym a.records_are ∙ b.records_are) in
+    let before : TellsAll config b.earlier a.told a.histories = subst (λ (rs : List CaptureRecord). TellsAll config rs a.told a.histories) s.0 a.tells in
+    let x = one_told config.window config.gaps b.earlier (new_histories config) a.histories b.histories a.told b.told one before b.tells in
+    let here : TellsRecord config.window config.gaps b.last b.histories (a.first ++ a.next ∷ a.others) a.after =
+        subst (λ (r : CaptureRecord). TellsRecord config.window config.gaps r b.histories (a.first ++ a.next ∷ a.others) a.after) s.1
+        (subst (λ (hs : List History). TellsRecord config.window config.gaps a.last hs (a.first ++ a.next ∷ a.others) a.after) x.1 a.last_tells) in
+    let y = one_record config.window config.gaps b.last b.histories a.after b.after (a.first ++ a.next ∷ a.others) (b.first ++ b.next ∷ b.others) one here b.last_tells in
+    let front : a.first ≡ b.first =
+        one_front config.journal (entries_of [] b.told) a.first b.first a.next b.next a.others b.others y.0
+        (room_behind config b.told a.first (subst (λ (hs : List Happening). HasRoom config (hs ++ a.first)) x.0 a.room))
+        (room_behind config b.told b.first b.room)
+        (full_behind config b.told a.first a.next (subst (λ (hs : List Happening). config.journal < length (entries_of [] (hs ++ a.first ++ a.next ∷ []))) x.0 a.full))
+        (full_behind config b.told b.first b.next b.full) in
+    a.lines_are ∙ ap (λ (hs : List Happening). lines_told config (hs ++ a.first)) x.0 ∙ ap (λ (hs : List Happening). lines_told config (b.told ++ hs)) front ∙ sym b.lines_are
+
+pub not_both : (config : ReplayConfig) (records : List CaptureRecord) (t u : List ℕ) → Single → IsLinesOf config records t → IsLinesToFull config records u → ⊥
+not_both config records t u one a b =
+    let all : TellsAll config (b.earlier ++ b.last ∷ []) (b.told ++ (b.first ++ b.next ∷ b.others)) b.after =
+        tells_one config.window config.gaps b.earlier b.last (new_histories config) b.histories b.after b.told (b.first ++ b.next ∷ b.others) b.tells b.last_tells in
+    let mine : TellsAll config (b.earlier ++ b.last ∷ []) a.told a.histories = subst (λ (rs : List CaptureRecord). TellsAll config rs a.told a.histories) b.records_are a.tells in
+    let x = one_told config.window config.gaps (b.earlier ++ b.last ∷ []) (new_histories config) a.histories b.after a.told (b.told ++ (b.first ++ b.next ∷ b.others)) one mine all in
+    let F : List Happening = b.told ++ b.first ++ b.next ∷ [] in
+    let split : b.told ++ (b.first ++ b.next ∷ b.others) ≡ F ++ b.others =
+        sym (append_assoc b.told b.first (b.next ∷ b.others))
+        ∙ sym (append_assoc (b.told ++ b.first) (b.next ∷ []) b.others) in
+    let room : HasRoom config (F ++ b.others) = subst (HasRoom config) (x.0 ∙ split) a.room in
+    let behind : length (entries_of (entries_of [] F) b.others) ≤ config.journal = room_behind config F b.others room in
+    let grown = entries_grow (entries_of [] F) b.others in
+    let full : config.journal < length (entries_of [] F) = b.full in
+    omega arith

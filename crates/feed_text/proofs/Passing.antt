@@ -1,7 +1,7 @@
--- A packet that passed through, and its items printed one after the other.
-use Rattle.std.proofs.Common.{◌≡◌, ℕ, ◌+◌, List, [], ◌∷◌, ◌++◌, length, sym, ap, ◌∙◌, append_assoc, append-nil}
-use Rattle.std.specs.Prelude.{drop, flat_map, map, Ok}
-use Rattle.std.proofs.lemmas.Grind.{flat_map-append}
+-- A packet that passed through, and its items told one after the other.
+use Rattle.std.proofs.Common.{◌≡◌, ℕ, ◌+◌, List, [], ◌∷◌, ◌++◌, length, sym, ap, ◌∙◌}
+use Rattle.std.specs.Prelude.{drop, map, Result, Ok, Err, OnOk}
+use Rattle.std.proofs.lemmas.List.{map-append}
 use Rattle.feed_types.specs.declared.item.Numbered.{Numbered}
 use Rattle.feed_types.specs.declared.line.LineId.{LineId}
 use Rattle.feed_types.specs.Sessions.{numbered_from}
@@ -15,33 +15,49 @@ use Rattle.line_arbiter.specs.Outcomes.{IsOutcome}
 use Rattle.line_arbiter.specs.States.{State, KeepsItsSession, KeepsAllButSent}
 use Rattle.line_arbiter.specs.Through.{SendsPacket}
 use Rattle.line_arbiter.specs.Fits.{Fits}
-use Rattle.feed_text.specs.Lines.{item_line, packet_line}
-use Rattle.feed_text.specs.Following.{Venue, Follows, PrintsOutcome}
-use Rattle.feed_text.proofs.VenueSteps.{outcome_prints}
+use Rattle.feed_text.specs.declared.report.Stop.{Stop}
+use Rattle.feed_text.specs.Happenings.{Happening, packet_answered, item_taken}
+use Rattle.feed_text.specs.Tales.{Tale, GoesOn, TellsBy}
+use Rattle.feed_text.specs.Following.{Venue, Follows, TellsOutcome}
+use Rattle.feed_text.proofs.Tales.{goes_more, tells_more, tells_stop, tells_as}
+use Rattle.feed_text.proofs.VenueSteps.{Left, outcome_told}
 
--- one more item of a packet
-pub one_printed : (f : Numbered → List ℕ) (n k : ℕ) (m : List ℕ) (now rest : List (List ℕ)) (t0 t1 all : List ℕ) → n + 1 ≡ k → now ≡ m ∷ rest → t1 ≡ t0 ++ f (record { number = n; item = item_of m })
-    → t0 ++ flat_map f (numbered_from n (map item_of now)) ≡ all → t1 ++ flat_map f (numbered_from k (map item_of rest)) ≡ all
-one_printed f n k m now rest t0 t1 all e is put h =
-    let D = flat_map f (numbered_from k (map item_of rest)) in
-    let N : Numbered = record { number = n; item = item_of m } in
-    ap (λ (t : List ℕ). t ++ D) put ∙ append_assoc t0 (f N) D
-    ∙ ap (λ (j : ℕ). t0 ++ (f N ++ flat_map f (numbered_from j (map item_of rest)))) (sym e)
-    ∙ ap (λ (xs : List (List ℕ)). t0 ++ flat_map f (numbered_from n (map item_of xs))) (sym is) ∙ h
+-- the items of a packet from this number on, one by one
+pub one_more : (venue n k : ℕ) (m : List ℕ) (now rest : List (List ℕ)) → n + 1 ≡ k → now ≡ m ∷ rest
+    → map (item_taken venue) (numbered_from n (map item_of now))
+    ≡ (item_taken venue (record { number = n; item = item_of m }) ∷ []) ++ map (item_taken venue) (numbered_from k (map item_of rest))
+one_more venue n k m now rest e is =
+    ap (λ (xs : List (List ℕ)). map (item_taken venue) (numbered_from n (map item_of xs))) is
+    ∙ ap (λ (j : ℕ). item_taken venue (record { number = n; item = item_of m }) ∷ map (item_taken venue) (numbered_from j (map item_of rest))) e
 
--- and then there is none
-pub all_printed : (f : Numbered → List ℕ) (n : ℕ) (now : List (List ℕ)) (t all : List ℕ) → now ≡ [] → t ++ flat_map f (numbered_from n (map item_of now)) ≡ all → t ≡ all
-all_printed f n now t all is h = sym (append-nil t) ∙ ap (λ (xs : List (List ℕ)). t ++ flat_map f (numbered_from n (map item_of xs))) (sym is) ∙ h
+-- the packet, its items and what is ready behind them are the stream's
+pub passed_all : (venue from to : ℕ) (items stream : List Numbered) (line : LineId) (o : Outcome) (t0 t1 t2 t3 : Tale) (done : Result (Unit {0}) Stop)
+    → drop from stream ≡ items ++ drop to stream
+    → GoesOn t0 (packet_answered venue line (Ok o) ∷ []) t1
+    → GoesOn t1 (map (item_taken venue) items) t2
+    → TellsBy t2 (map (item_taken venue) (drop to stream)) t3 done
+    → TellsBy t0 (packet_answered venue line (Ok o) ∷ map (item_taken venue) (drop from stream)) t3 done
+passed_all venue from to items stream line o t0 t1 t2 t3 done sends head first last =
+    let P : Happening = packet_answered venue line (Ok o) in
+    tells_as t0 t3 done
+    (ap (λ (hs : List Happening). P ∷ hs)
+    (sym (map-append (item_taken venue) items (drop to stream)) ∙ ap (map (item_taken venue)) (sym sends)))
+    (tells_more t3 (P ∷ map (item_taken venue) items) (map (item_taken venue) (drop to stream)) done
+    (goes_more (P ∷ []) (map (item_taken venue) items) head first) last)
 
--- a packet's items and what is ready behind them are the stream's
-pub packet_printed : (f : Numbered → List ℕ) (from to number : ℕ) (items : List Numbered) (stream : List Numbered) (t0 t1 t2 head : List ℕ)
-    → drop from stream ≡ items ++ drop to stream → t1 ≡ (t0 ++ head) ++ flat_map f items → t2 ≡ t1 ++ flat_map f (drop to stream)
-    → t2 ≡ t0 ++ head ++ flat_map f (drop from stream)
-packet_printed f from to number items stream t0 t1 t2 head sends first last =
-    last ∙ ap (λ (t : List ℕ). t ++ flat_map f (drop to stream)) first
-    ∙ append_assoc (t0 ++ head) (flat_map f items) (flat_map f (drop to stream))
-    ∙ ap (λ (t : List ℕ). t0 ++ head ++ t) (sym (flat_map-append f items (drop to stream)))
-    ∙ ap (λ (xs : List Numbered). t0 ++ head ++ flat_map f xs) (sym sends)
+-- the telling stopped within the packet's items
+pub passed_part : (venue from to : ℕ) (items stream : List Numbered) (line : LineId) (o : Outcome) (t0 t1 t2 : Tale) (stop : Stop)
+    → drop from stream ≡ items ++ drop to stream
+    → GoesOn t0 (packet_answered venue line (Ok o) ∷ []) t1
+    → TellsBy t1 (map (item_taken venue) items) t2 (Err stop)
+    → TellsBy t0 (packet_answered venue line (Ok o) ∷ map (item_taken venue) (drop from stream)) t2 (Err stop)
+passed_part venue from to items stream line o t0 t1 t2 stop sends head first =
+    let P : Happening = packet_answered venue line (Ok o) in
+    tells_as t0 t2 (Err stop)
+    (ap (λ (hs : List Happening). P ∷ hs)
+    (sym (map-append (item_taken venue) items (drop to stream)) ∙ ap (map (item_taken venue)) (sym sends)))
+    (tells_more t2 (P ∷ []) (map (item_taken venue) items ++ map (item_taken venue) (drop to stream)) (Err stop) head
+    (tells_stop t1 t2 (map (item_taken venue) items) (map (item_taken venue) (drop to stream)) stop first))
 
 stays_passed : (old mid new : State) → KeepsItsSession old mid → KeepsAllButSent mid new → KeepsItsSession old new
 stays_passed old mid new a b = record {
@@ -52,23 +68,29 @@ stays_passed old mid new a b = record {
   earlier = b.earlier ∙ a.earlier;
 }
 
--- a packet passed through, and then all that is ready was printed
-pub passed_prints : (width place : ℕ) (h : History) (v : Venue) (mid new : State) (line : LineId) (p : Content) (o : Outcome) (t0 t1 : List ℕ)
+-- a packet passed through, and then all that is ready was told
+pub passed_told : (width place : ℕ) (h : History) (v : Venue) (mid new : State) (line : LineId) (p : Content) (o : Outcome) (t0 t1 : Tale) (done : Result (Unit {0}) Stop)
     → Follows width place v h
     → ((packets : List Arrival) → Fits v.arbiter packets → IsOutcome v.arbiter.session v.arbiter.window v.arbiter.sent packets p (Ok o))
     → ((packets : List Arrival) → Fits v.arbiter packets → Fits mid (packets ++ arrival_of line p (Ok o) ∷ []))
     → ((packets : List Arrival) → Fits v.arbiter packets → SendsPacket v.arbiter.sent mid.sent p (packets ++ arrival_of line p (Ok o) ∷ []))
     → KeepsItsSession v.arbiter mid
     → ((from : ℕ) (packets : List Arrival) → Fits mid packets → SendsPacket from mid.sent p packets
-    → t1 ≡ t0 ++ packet_line mid.venue line (Ok o) ++ flat_map (item_line mid.venue) (drop from (stream_of packets)))
-    → ((packets : List Arrival) → Fits mid packets → Fits new packets × (new.sent ≡ length (stream_of packets)))
-    → KeepsAllButSent mid new
-    → PrintsOutcome width place line p h t0 t1 (record { arbiter = new; sent_before = v.sent_before })
-passed_prints width place h v mid new line p o t0 t1 f outcome fits sends kept prints done sent =
+    → TellsBy t0 (packet_answered place line (Ok o) ∷ map (item_taken place) (drop from (stream_of packets))) t1 done)
+    → OnOk done ((packets : List Arrival) → Fits mid packets → Fits new packets × (new.sent ≡ length (stream_of packets)))
+    → OnOk done (KeepsAllButSent mid new)
+    → TellsOutcome width place line p h t0 t1 (record { arbiter = new; sent_before = v.sent_before }) done
+passed_told width place h v mid new line p o t0 t1 done f outcome fits sends kept tells left stays =
     let Q = h.present.packets ++ arrival_of line p (Ok o) ∷ [] in
-    let fits_mid : Fits mid Q = fits h.present.packets f.fits in
-    let both = done Q fits_mid in
-    let there : mid.venue ≡ place = kept.venue ∙ f.number in
-    outcome_prints width place h v new line p (Ok o) t0 t1 f (outcome h.present.packets f.fits) both.0 both.1 (stays_passed v.arbiter mid new kept sent)
-    (prints v.arbiter.sent Q fits_mid (sends h.present.packets f.fits)
-    ∙ ap (λ (n : ℕ). t0 ++ packet_line n line (Ok o) ++ flat_map (item_line n) (drop v.arbiter.sent (stream_of Q))) there)
+    outcome_told width place h v new line p (Ok o) t0 t1 done f (outcome h.present.packets f.fits)
+    (tells v.arbiter.sent Q (fits h.present.packets f.fits) (sends h.present.packets f.fits))
+    (both done left stays)
+  where
+    both : (r : Result (Unit {0}) Stop)
+        → OnOk r ((packets : List Arrival) → Fits mid packets → Fits new packets × (new.sent ≡ length (stream_of packets)))
+        → OnOk r (KeepsAllButSent mid new)
+        → OnOk r (Left v (h.present.packets ++ arrival_of line p (Ok o) ∷ []) new)
+    both (Ok u) a b =
+        let x = a (h.present.packets ++ arrival_of line p (Ok o) ∷ []) (fits h.present.packets f.fits) in
+        record { fits = x.0; sent = x.1; stays = stays_passed v.arbiter mid new kept b }
+    both (Err e) a b = tt

@@ -1,12 +1,12 @@
 -- A capture has one reading.
 use Rattle.std.proofs.Common.{◌≡◌, inl, inr, ℕ, ◌+◌, ◌*◌, ◌/◌, ◌%◌, List, [], ◌∷◌, ◌++◌, length, take, refl, sym, ap, ◌∙◌, subst, arith, append_assoc, length-append}
-use Rattle.std.specs.Prelude.{All, flat_map}
+use Rattle.std.specs.Prelude.{All, Bool, true, false, flat_map}
 use Rattle.std.proofs.lemmas.List.{append_cancel_left, take_at}
 use Rattle.std.proofs.lemmas.List.Elements.{All-tail}
 use Rattle.feed_types.specs.declared.line.LineId.{LineId}
 use Rattle.feed_types.specs.declared.line.LineId.TheVariants.{A, B, Recovery}
 use Rattle.feed_types.specs.Text.{line_letter}
-use Rattle.feed_text.specs.Capture.{CaptureRecord, datagram_record, renewal_record, venue_of, kind_byte, bytes_of, spelling, capture_of, IsKind, IsRecord, IsHeader, NoRecord, len_at}
+use Rattle.feed_text.specs.Capture.{CaptureRecord, datagram_record, renewal_record, self_help_record, venue_of, kind_byte, bytes_of, spelling, capture_of, IsKind, IsRecord, IsHeader, NoRecord, len_at}
 
 letter_one : (k l : LineId) → line_letter k ≡ line_letter l → k ≡ l
 letter_one A A e = refl
@@ -24,12 +24,39 @@ no_line A e = omega arith
 no_line B e = omega arith
 no_line Recovery e = omega arith
 
+help_one : (venue : ℕ) (on off : Bool) → kind_byte (self_help_record venue on) ≡ kind_byte (self_help_record venue off) → on ≡ off
+help_one venue true true e = refl
+help_one venue true false e = absurd (omega arith)
+help_one venue false true e = absurd (omega arith)
+help_one venue false false e = refl
+
+no_help : (k : LineId) (venue : ℕ) (on : Bool) → line_letter k ≡ kind_byte (self_help_record venue on) → ⊥
+no_help A venue true e = omega arith
+no_help A venue false e = omega arith
+no_help B venue true e = omega arith
+no_help B venue false e = omega arith
+no_help Recovery venue true e = omega arith
+no_help Recovery venue false e = omega arith
+
+no_name : (venue : ℕ) (on : Bool) → kind_byte (self_help_record venue on) ≡ 78 → ⊥
+no_name venue true e = omega arith
+no_name venue false e = omega arith
+
+same_kind : (v w : ℕ) (on : Bool) → kind_byte (self_help_record v on) ≡ kind_byte (self_help_record w on)
+same_kind v w true = refl
+same_kind v w false = refl
+
 -- a record is its venue, its kind and its bytes
 record_one : (e f : CaptureRecord) → venue_of e ≡ venue_of f → kind_byte e ≡ kind_byte f → bytes_of e ≡ bytes_of f → e ≡ f
 record_one (datagram_record v k p) (datagram_record w l q) a b c = let d = letter_one k l b in cc
 record_one (datagram_record v k p) (renewal_record w q) a b c = absurd (no_line k b)
+record_one (datagram_record v k p) (self_help_record w on) a b c = absurd (no_help k w on b)
 record_one (renewal_record v p) (datagram_record w l q) a b c = absurd (no_line l (sym b))
 record_one (renewal_record v p) (renewal_record w q) a b c = cc
+record_one (renewal_record v p) (self_help_record w on) a b c = absurd (no_name w on (sym b))
+record_one (self_help_record v on) (datagram_record w l q) a b c = absurd (no_help l v on (sym b))
+record_one (self_help_record v on) (renewal_record w q) a b c = absurd (no_name v on b)
+record_one (self_help_record v on) (self_help_record w off) a b c = let d = help_one w on off (same_kind w v on ∙ b) in cc
 
 -- two lists of one length before the same bytes
 same_parts : (p q a b : List ℕ) → length p ≡ length q → p ++ a ≡ q ++ b → (p ≡ q) × (a ≡ b)

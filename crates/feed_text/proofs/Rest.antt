@@ -7,7 +7,7 @@ rest_at [] n x e = absurd cc
 rest_at (y ∷ ys) zero x e = cc
 rest_at (y ∷ ys) (suc n) x e = rw add-one (rw add-one at (rest_at ys n x e))
 
-rest_end : {X : Type 0} (xs : List X) (n : ℕ) → None ≡ slice_get xs n → drop n xs ≡ []
+pub rest_end : {X : Type 0} (xs : List X) (n : ℕ) → None ≡ slice_get xs n → drop n xs ≡ []
 rest_end [] zero e = refl
 rest_end [] (suc n) e = refl
 rest_end (y ∷ ys) zero e = absurd cc

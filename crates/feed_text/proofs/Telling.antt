@@ -1,14 +1,19 @@
 -- One more record, and the venue that it is of goes on.
 use Rattle.std.proofs.Common.{◌≡◌, ◌≢◌, ℕ, zero, suc, ◌+◌, ◌<◌, ◌≤◌, List, [], ◌∷◌, ◌++◌, length, map, take, drop, get_or, length-append, Some, refl, sym, ap, subst, ◌∙◌, append_assoc, append-nil, arith, inl, inr}
-use Rattle.std.specs.Prelude.{◌⊎◌, slice_get, slice_set}
+use Rattle.std.specs.Prelude.{◌⊎◌, Bool, Result, slice_get, slice_set}
+use Rattle.std.proofs.lemmas.Result.{on_ok_weaker}
 use Rattle.std.proofs.Math.ListN.{length-set, drop_of_length-le}
 use Rattle.std.proofs.lemmas.List.{length-map, map-append, take_more}
 use Rattle.std.proofs.lemmas.Grind.{common_steps}
 use Rattle.std.proofs.lemmas.Option.{slice_get_within}
-use Rattle.feed_text.specs.Capture.{CaptureRecord, venue_of}
+use Rattle.feed_text.specs.Capture.{CaptureRecord, self_help_record, venue_of}
 use Rattle.line_arbiter.specs.Histories.{History, new_history}
-use Rattle.feed_text.specs.Printed.{last_line, last_lines}
-use Rattle.feed_text.specs.Following.{Venue, VenueList, Follows, FollowAll, PrintsOne, TakesRecord}
+use Rattle.feed_text.specs.declared.report.Stop.{Stop}
+use Rattle.feed_text.specs.Texts.{last_line, last_lines}
+use Rattle.feed_text.specs.Tales.{Tale, TellsBy}
+use Rattle.feed_text.specs.Happenings.{self_help_declared}
+use Rattle.feed_text.specs.Following.{Venue, VenueList, Follows, FollowAll, TellsOne, TakesRecord}
+use Rattle.feed_text.proofs.VenueSteps.{on_ok}
 use Rattle.feed_text.proofs.Rest.{rest_at}
 
 -- an element within a list
@@ -57,20 +62,42 @@ history_at window vs hs i v f at =
     (h.0, h.1, f.each i v h.0 at h.1)
 
 -- one record
-pub takes_one : (from to : VenueList) (r : CaptureRecord) (old new : List ℕ) (v w : Venue) → slice_get from.items (venue_of r) ≡ Some v → to.items ≡ slice_set from.items (venue_of r) w → to.gaps ≡ from.gaps
-    → ((width : ℕ) (h : History) → Follows width (venue_of r) v h → PrintsOne width from.gaps r h old new w) → TakesRecord from r old new to
-takes_one from to r old new v w at set gaps step = record {
-  gaps = gaps;
-  count = ap length set ∙ length-set from.items (venue_of r) w;
+pub takes_one : (from to : VenueList) (r : CaptureRecord) (old new : Tale) (done : Result (Unit {0}) Stop) (v w : Venue) → slice_get from.items (venue_of r) ≡ Some v → to.items ≡ slice_set from.items (venue_of r) w → to.gaps ≡ from.gaps
+    → ((width : ℕ) (h : History) → Follows width (venue_of r) v h → TellsOne width from.gaps r h old new w done) → TakesRecord from r old new to done
+takes_one from to r old new done v w at set gaps step = record {
+  gaps = on_ok done gaps;
+  count = on_ok done (ap length set ∙ length-set from.items (venue_of r) w);
   told = λ window hs f.
       let h = history_at window from.items hs (venue_of r) v f at in
       let one = step window h.0 h.2 in
       record {
-        lines = one.lines;
+        told = one.told;
         after = slice_set hs (venue_of r) one.after;
-        prints = record { before = h.0; after = one.after; at = h.1; prints = one.prints; others = refl };
-        follow = rw set (follow_set window (venue_of r) from.items hs w one.after f one.follows);
-        behind = one.behind;
+        record_tells = record { before = h.0; after = one.after; at = h.1; tells = one.at; others = refl };
+        tells = one.tells;
+        follow = on_ok_weaker done (λ g. rw set (follow_set window (venue_of r) from.items hs w one.after f g)) one.follows;
+      };
+}
+
+same_set : {X : Type 0} (xs : List X) (i : ℕ) (x : X) → slice_get xs i ≡ Some x → slice_set xs i x ≡ xs
+same_set [] i x e = refl
+same_set (y ∷ xs) zero x e = cc
+same_set (y ∷ xs) (suc i) x e = ap (λ (ys : List _). y ∷ ys) (same_set xs i x e)
+
+-- a declaration: the venues and what came to them stay
+pub takes_self_help : (at : VenueList) (venue : ℕ) (on : Bool) (old new : Tale) (done : Result (Unit {0}) Stop) → venue < length at.items
+    → TellsBy old (self_help_declared venue on ∷ []) new done → TakesRecord at (self_help_record venue on) old new at done
+takes_self_help at venue on old new done within tells = record {
+  gaps = on_ok done refl;
+  count = on_ok done refl;
+  told = λ window hs f.
+      let h = get_within hs venue (rw (← f.count) within) in
+      record {
+        told = self_help_declared venue on ∷ [];
+        after = hs;
+        record_tells = record { before = h.0; after = h.0; at = h.1; tells = record { same = refl; told_is = refl }; others = sym (same_set hs venue h.0 h.1) };
+        tells = tells;
+        follow = on_ok done f;
       };
 }
 

@@ -1,6 +1,7 @@
 -- What a venue's steps leave, said of plain states.
 use Rattle.std.proofs.Common.{◌≡◌, ℕ, ◌+◌, Bool, true, false, List, [], ◌∷◌, ◌++◌, length, refl, sym, ap, subst, ◌∙◌, append_assoc, append-nil, arith, length-append, inl, inr}
-use Rattle.std.specs.Prelude.{sum_by, Option, Result, Ok, drop, flat_map}
+use Rattle.std.specs.Prelude.{sum_by, Option, Result, Ok, Err, OnOk, drop, map, flat_map}
+use Rattle.std.proofs.lemmas.Result.{on_ok_weaker}
 use Rattle.std.proofs.lemmas.List.{map-append}
 use Rattle.std.proofs.lemmas.Grind.{flat_map-append}
 use Rattle.std.proofs.lemmas.List.Sums.{sum_by_push}
@@ -8,9 +9,8 @@ use Rattle.feed_types.specs.declared.item.Numbered.{Numbered}
 use Rattle.feed_types.specs.declared.line.LineId.{LineId}
 use Rattle.feed_types.specs.declared.line.LineId.TheVariants.{A, B, Recovery}
 use Rattle.mold_packet.specs.declared.fault.PacketFault.{PacketFault}
-use Rattle.mold_packet.specs.declared.request.Request.{Request}
 use Rattle.mold_packet.specs.Content.{Content, Spells}
-use Rattle.mold_packet.specs.Faults.{HasFault, code_of}
+use Rattle.mold_packet.specs.Faults.{HasFault}
 use Rattle.line_arbiter.specs.declared.outcome.Outcome.{Outcome}
 use Rattle.line_arbiter.specs.declared.outcome.LineFault.{LineFault}
 use Rattle.line_arbiter.specs.declared.faults.RenewFault.{RenewFault}
@@ -22,11 +22,17 @@ use Rattle.line_arbiter.specs.Renewals.{IsRenewal}
 use Rattle.line_arbiter.specs.Counts.{Counts, count_on, shown}
 use Rattle.line_arbiter.specs.States.{State, KeepsItsPlace, KeepsItsSession, KeepsAllButSent, IsRenewed}
 use Rattle.line_arbiter.specs.Fits.{Fits}
-use Rattle.feed_text.specs.Capture.{datagram_record, renewal_record}
-use Rattle.feed_text.specs.Lines.{packet_line, fault_line, item_line, gap_line, renew_line, venue_line, wins_by}
 use Rattle.line_arbiter.specs.Histories.{History}
-use Rattle.feed_text.specs.Printed.{sent_of, all_wins_of, ready_items, after_answer, last_line}
-use Rattle.feed_text.specs.Following.{Venue, Follows, PrintsOutcome, PrintsOne, Renews}
+use Rattle.feed_text.specs.declared.report.Stop.{Stop}
+use Rattle.feed_text.specs.declared.report.Stop.TheVariants.{NoMemory}
+use Rattle.feed_text.specs.Capture.{datagram_record, renewal_record}
+use Rattle.feed_text.specs.Lines.{venue_line, wins_by}
+use Rattle.feed_text.specs.Happenings.{Happening, packet_answered, packet_refused, item_taken, renewal_answered}
+use Rattle.feed_text.specs.Told.{sent_of, items_told, gap_happening, gap_told, after_answer, TellsAt}
+use Rattle.feed_text.specs.Texts.{all_wins_of, last_line}
+use Rattle.feed_text.specs.Tales.{Tale, Grows, GoesOn, TellsBy}
+use Rattle.feed_text.specs.Following.{Venue, Follows, TellsOutcome, TellsOne, Renews}
+use Rattle.feed_text.proofs.Tales.{tells_more, tells_stop, tells_as}
 
 -- nothing was sent yet
 pub kept_none : (s : State) → KeepsAllButSent s s
@@ -84,86 +90,95 @@ pub last_is : (h : History) (place number sent a b recovery : ℕ) → number �
     → venue_line number sent (wins_by a b recovery) ≡ last_line place h
 last_is h place number sent a b recovery e s x y z = rw (e, s, x, y, z) refl
 
--- the lines of a packet
-pub packet_lines : (width place : ℕ) (h : History) (v : Venue) (line : LineId) (bytes rest : List ℕ) (p : Content) (t0 t1 : List ℕ)
-    → Spells bytes p rest → PrintsOutcome width place line p h t0 t1 v
-    → PrintsOne width false (datagram_record place line bytes) h t0 t1 v
-packet_lines width place h v line bytes rest p t0 t1 spells x =
+pub on_ok : {T E : Type 0} (r : Result T E) {P : Type 0} → P → OnOk r P
+on_ok (Ok x) p = p
+on_ok (Err e) p = tt
+
+-- a packet's datagram, where no gap is asked for
+pub packet_told : (width place : ℕ) (h : History) (v : Venue) (line : LineId) (bytes rest : List ℕ) (p : Content) (t0 t1 : Tale) (done : Result (Unit {0}) Stop)
+    → Spells bytes p rest → TellsOutcome width place line p h t0 t1 v done
+    → TellsOne width false (datagram_record place line bytes) h t0 t1 v done
+packet_told width place h v line bytes rest p t0 t1 done spells x =
     let Q : List Arrival = h.present.packets ++ arrival_of line p x.answer ∷ [] in
     record {
-      lines = packet_line place line x.answer ++ ready_items place h Q ++ [];
+      told = packet_answered place line x.answer ∷ items_told place h Q ++ [];
       after = after_arrival h (arrival_of line p x.answer);
-      prints = inr (record { packet = p; rest = rest; answer = x.answer; spells = spells; outcome = x.outcome; grown = refl; lines_are = refl });
+      at = inr (record { packet = p; rest = rest; answer = x.answer; spells = spells; outcome = x.outcome; grown = refl; told_is = refl });
+      tells = tells_as t0 t1 done (ap (λ (hs : List Happening). packet_answered place line x.answer ∷ hs) (sym (append-nil (items_told place h Q)))) x.tells;
       follows = x.follows;
-      behind = joined (packet_line place line x.answer) (ready_items place h Q) x.behind;
     }
-  where
-    joined : (a c : List ℕ) → t1 ≡ t0 ++ a ++ c → t1 ≡ t0 ++ (a ++ c ++ [])
-    joined a c e = rw (append-nil (a ++ c)) (e ∙ append_assoc t0 a c)
 
 -- a datagram that is no packet
-pub fault_lines : (width place number code : ℕ) (h : History) (v : Venue) (line : LineId) (bytes : List ℕ) (fault : PacketFault) (t0 t1 : List ℕ)
-    → number ≡ place → HasFault bytes fault → code ≡ code_of fault → t1 ≡ t0 ++ fault_line number line code → Follows width place v h
-    → PrintsOne width false (datagram_record place line bytes) h t0 t1 v
-fault_lines width place number code h v line bytes fault t0 t1 e has coded put f = record {
-  lines = fault_line place line (code_of fault) ++ [];
+pub fault_told : (width place : ℕ) (h : History) (v : Venue) (line : LineId) (bytes : List ℕ) (fault : PacketFault) (t0 t1 : Tale) (done : Result (Unit {0}) Stop)
+    → HasFault bytes fault → TellsBy t0 (packet_refused place line fault ∷ []) t1 done → Follows width place v h
+    → TellsOne width false (datagram_record place line bytes) h t0 t1 v done
+fault_told width place h v line bytes fault t0 t1 done has tells f = record {
+  told = packet_refused place line fault ∷ [];
   after = h;
-  prints = inl (record { fault = fault; has = has; same = refl; lines_are = refl });
-  follows = f;
-  behind = joined (fault_line place line (code_of fault))
-      (put ∙ ap (λ (n : ℕ). t0 ++ fault_line n line code) e ∙ ap (λ (n : ℕ). t0 ++ fault_line place line n) coded);
+  at = inl (record { fault = fault; has = has; same = refl; told_is = refl });
+  tells = tells;
+  follows = on_ok done f;
 }
-  where
-    joined : (a : List ℕ) → t1 ≡ t0 ++ a → t1 ≡ t0 ++ (a ++ [])
-    joined a e = rw (append-nil a) e
 
--- and then the gap line
-pub gap_added : (width place number : ℕ) (gap : Option Request) (h : History) (v : Venue) (line : LineId) (bytes t0 t1 t2 : List ℕ)
-    → PrintsOne width false (datagram_record place line bytes) h t0 t1 v
-    → number ≡ v.arbiter.venue
-    → ((P : List Arrival) → Fits v.arbiter P → gap ≡ gap_of v.arbiter.session v.arbiter.window v.arbiter.sent P)
-    → t2 ≡ t1 ++ gap_line number gap
-    → PrintsOne width true (datagram_record place line bytes) h t0 t2 v
-gap_added width place number gap h v line bytes t0 t1 t2 x e is put =
-    let f = x.follows in
-    let there : gap ≡ gap_of x.after.present.name width (sent_of x.after) x.after.present.packets = rw (← f.session, ← f.window, ← f.sent) (is x.after.present.packets f.fits) in
-    let G = gap_line place (gap_of x.after.present.name width (sent_of x.after) x.after.present.packets) in
-    let last : t2 ≡ t1 ++ G = put ∙ ap (λ (n : ℕ). t1 ++ gap_line n gap) (e ∙ f.number) ∙ ap (λ (g : Option Request). t1 ++ gap_line place g) there in
-    elim x.prints [
-      | inl a ↦ record {
-        lines = fault_line place line (code_of a.fault) ++ G;
-        after = x.after;
-        prints = inl (record { fault = a.fault; has = a.has; same = a.same; lines_are = refl });
-        follows = f;
-        behind = joined (fault_line place line (code_of a.fault)) G (x.behind ∙ ap (λ (t : List ℕ). t0 ++ t) a.lines_are) last;
-      }
-      | inr a ↦ record {
-        lines = packet_line place line a.answer ++ ready_items place h x.after.present.packets ++ G;
-        after = x.after;
-        prints = inr (record { packet = a.packet; rest = a.rest; answer = a.answer; spells = a.spells; outcome = a.outcome; grown = a.grown; lines_are = refl });
-        follows = f;
-        behind = joined (packet_line place line a.answer ++ ready_items place h x.after.present.packets) G (x.behind ∙ ap (λ (t : List ℕ). t0 ++ t) a.lines_are) last;
-      }
-    ]
-  where
-    joined : (a g : List ℕ) → t1 ≡ t0 ++ (a ++ []) → t2 ≡ t1 ++ g → t2 ≡ t0 ++ (a ++ g)
-    joined a g d e = e ∙ rw d (rw (append-nil a, append_assoc t0 a g) refl)
+-- what a datagram tells where gaps are asked for, too
+gap_at : (width place : ℕ) (gaps : Bool) (line : LineId) (bytes : List ℕ) (h after : History) (told : List Happening)
+    → TellsAt width false (datagram_record place line bytes) h told after
+    → TellsAt width gaps (datagram_record place line bytes) h (told ++ gap_told width gaps place after) after
+gap_at width place gaps line bytes h after told (inl a) =
+    inl (record { fault = a.fault; has = a.has; same = a.same; told_is = ap (λ (hs : List Happening). hs ++ gap_told width gaps place after) a.told_is })
+gap_at width place gaps line bytes h after told (inr a) =
+    let G : List Happening = gap_told width gaps place after in
+    let items : List Happening = items_told place h after.present.packets in
+    inr (record {
+      packet = a.packet;
+      rest = a.rest;
+      answer = a.answer;
+      spells = a.spells;
+      outcome = a.outcome;
+      grown = a.grown;
+      told_is = ap (λ (hs : List Happening). hs ++ G) a.told_is
+          ∙ ap (λ (hs : List Happening). packet_answered place line a.answer ∷ hs ++ G) (append-nil items);
+    })
 
-pub renewal_line : (width place number : ℕ) (gaps : Bool) (h : History) (v : Venue) (name : List ℕ) (answer : Result ℕ RenewFault) (t0 t1 : List ℕ)
-    → number ≡ v.arbiter.venue → Renews width place name h v answer → t1 ≡ t0 ++ renew_line number answer
-    → PrintsOne width gaps (renewal_record place name) h t0 t1 v
-renewal_line width place number gaps h v name answer t0 t1 e x put =
-    let there : v.arbiter.venue ≡ place = place_of answer x.follows in
+-- and then the gap was told
+pub gap_added : (width place : ℕ) (h : History) (v : Venue) (line : LineId) (bytes : List ℕ) (t0 t1 t2 : Tale) (done : Result (Unit {0}) Stop)
+    → TellsOne width false (datagram_record place line bytes) h t0 t1 v (Ok tt)
+    → ((P : List Arrival) → Fits v.arbiter P → TellsBy t1 (gap_happening place (gap_of v.arbiter.session v.arbiter.window v.arbiter.sent P)) t2 done)
+    → TellsOne width true (datagram_record place line bytes) h t0 t2 v done
+gap_added width place h v line bytes t0 t1 t2 done x gap =
+    let f : Follows width place v x.after = x.follows in
+    let G : List Happening = gap_happening place (gap_of x.after.present.name width (sent_of x.after) x.after.present.packets) in
+    let there : TellsBy t1 G t2 done = rw (← f.session, ← f.window, ← f.sent) (gap x.after.present.packets f.fits) in
     record {
-      lines = renew_line place answer;
-      after = after_answer h name answer;
-      prints = record { answer = answer; is = x.is; after = refl; lines_are = refl };
-      follows = x.follows;
-      behind = put ∙ ap (λ (n : ℕ). t0 ++ renew_line n answer) (e ∙ there);
+      told = x.told ++ G;
+      after = x.after;
+      at = gap_at width place true line bytes h x.after x.told x.at;
+      tells = tells_more t2 x.told G done x.tells there;
+      follows = on_ok done f;
     }
-  where
-    place_of : (a : Result ℕ RenewFault) → Follows width place v (after_answer h name a) → v.arbiter.venue ≡ place
-    place_of a f = f.number
+
+-- the telling had stopped before
+pub gap_never : (width place : ℕ) (gaps : Bool) (h : History) (v : Venue) (line : LineId) (bytes : List ℕ) (t0 t1 : Tale) (stop : Stop)
+    → TellsOne width false (datagram_record place line bytes) h t0 t1 v (Err stop)
+    → TellsOne width gaps (datagram_record place line bytes) h t0 t1 v (Err stop)
+gap_never width place gaps h v line bytes t0 t1 stop x = record {
+  told = x.told ++ gap_told width gaps place x.after;
+  after = x.after;
+  at = gap_at width place gaps line bytes h x.after x.told x.at;
+  tells = tells_stop t0 t1 x.told (gap_told width gaps place x.after) stop x.tells;
+  follows = tt;
+}
+
+pub renewal_told : (width place : ℕ) (gaps : Bool) (h : History) (v : Venue) (name : List ℕ) (answer : Result ℕ RenewFault) (t0 t1 : Tale) (done : Result (Unit {0}) Stop)
+    → Renews width place name h v answer → TellsBy t0 (renewal_answered place answer ∷ []) t1 done
+    → TellsOne width gaps (renewal_record place name) h t0 t1 v done
+renewal_told width place gaps h v name answer t0 t1 done x tells = record {
+  told = renewal_answered place answer ∷ [];
+  after = after_answer h name answer;
+  at = record { answer = answer; is = x.is; after = refl; told_is = refl };
+  tells = tells;
+  follows = on_ok done x.follows;
+}
 
 -- what stays of a venue while its session goes on
 stays_taken : (old mid new : State) → KeepsItsPlace old mid → KeepsAllButSent mid new → KeepsItsSession old new
@@ -175,59 +190,82 @@ stays_taken old mid new a b = record {
   earlier = b.earlier ∙ a.earlier;
 }
 
--- a packet was answered, and all that is ready was printed behind its line
-pub outcome_prints : (width place : ℕ) (h : History) (v : Venue) (new : State) (line : LineId) (p : Content) (answer : Result Outcome LineFault) (t0 t1 : List ℕ)
+-- what a venue is after a packet and all that it made ready
+pub record Left (v : Venue) (Q : List Arrival) (new : State) : Type 0 where
+  pub fits : Fits new Q
+  pub sent : new.sent ≡ length (stream_of Q)
+  pub stays : KeepsItsSession v.arbiter new
+
+left_follows : (width place : ℕ) (h : History) (v : Venue) (new : State) (a : Arrival)
+    → Follows width place v h → Left v (h.present.packets ++ a ∷ []) new
+    → Follows width place (record { arbiter = new; sent_before = v.sent_before }) (after_arrival h a)
+left_follows width place h v new a f x = record {
+  fits = x.fits;
+  number = x.stays.venue ∙ f.number;
+  window = x.stays.window ∙ f.window;
+  sessions = x.stays.sessions ∙ f.sessions ∙ same_names h.earlier;
+  session = x.stays.session ∙ f.session;
+  sent = x.sent;
+  sent_before = f.sent_before;
+  won_before = λ each. ap (λ (c : Counts). count_on each c) x.stays.earlier ∙ f.won_before each;
+}
+  where
+    same_names : (earlier : List Begun) → names_of (record h { earlier = earlier }) ≡ names_of (record (after_arrival h a) { earlier = earlier })
+    same_names [] = refl
+    same_names (b ∷ rest) = ap (λ (names : List (List ℕ)). b.name ∷ names) (same_names rest)
+
+-- a packet was answered, and what it made ready was told behind it
+pub outcome_told : (width place : ℕ) (h : History) (v : Venue) (new : State) (line : LineId) (p : Content) (answer : Result Outcome LineFault) (t0 t1 : Tale) (done : Result (Unit {0}) Stop)
     → Follows width place v h
     → IsOutcome v.arbiter.session v.arbiter.window v.arbiter.sent h.present.packets p answer
-    → Fits new (h.present.packets ++ arrival_of line p answer ∷ [])
-    → new.sent ≡ length (stream_of (h.present.packets ++ arrival_of line p answer ∷ []))
-    → KeepsItsSession v.arbiter new
-    → t1 ≡ t0 ++ packet_line place line answer ++ flat_map (item_line place) (drop v.arbiter.sent (stream_of (h.present.packets ++ arrival_of line p answer ∷ [])))
-    → PrintsOutcome width place line p h t0 t1 (record { arbiter = new; sent_before = v.sent_before })
-outcome_prints width place h v new line p answer t0 t1 f outcome fits sent stays put =
+    → TellsBy t0 (packet_answered place line answer ∷ map (item_taken place) (drop v.arbiter.sent (stream_of (h.present.packets ++ arrival_of line p answer ∷ [])))) t1 done
+    → OnOk done (Left v (h.present.packets ++ arrival_of line p answer ∷ []) new)
+    → TellsOutcome width place line p h t0 t1 (record { arbiter = new; sent_before = v.sent_before }) done
+outcome_told width place h v new line p answer t0 t1 done f outcome tells left =
     let Q = h.present.packets ++ arrival_of line p answer ∷ [] in
     record {
       answer = answer;
       outcome = rw (← f.session, ← f.window, ← f.sent) outcome;
-      follows = record {
-        fits = fits;
-        number = stays.venue ∙ f.number;
-        window = stays.window ∙ f.window;
-        sessions = stays.sessions ∙ f.sessions ∙ same_names h.earlier;
-        session = stays.session ∙ f.session;
-        sent = sent;
-        sent_before = f.sent_before;
-        won_before = λ each. ap (λ (c : Counts). count_on each c) stays.earlier ∙ f.won_before each;
-      };
-      behind = put ∙ ap (λ (n : ℕ). t0 ++ packet_line place line answer ++ flat_map (item_line place) (drop n (stream_of Q))) f.sent;
+      tells = tells_as t0 t1 done (ap (λ (n : ℕ). packet_answered place line answer ∷ map (item_taken place) (drop n (stream_of Q))) f.sent) tells;
+      follows = on_ok_weaker done (left_follows width place h v new (arrival_of line p answer) f) left;
     }
-  where
-    same_names : (earlier : List Begun) → names_of (record h { earlier = earlier }) ≡ names_of (record (after_arrival h (arrival_of line p answer)) { earlier = earlier })
-    same_names [] = refl
-    same_names (b ∷ rest) = ap (λ (names : List (List ℕ)). b.name ∷ names) (same_names rest)
 
--- a packet was taken, and then all that is ready was printed
-pub taken_prints : (width place number : ℕ) (h : History) (v : Venue) (mid new : State) (line : LineId) (p : Content) (answer : Result Outcome LineFault) (t0 t1 t2 : List ℕ)
+-- a packet was taken, and then all that is ready was told
+pub taken_told : (width place : ℕ) (h : History) (v : Venue) (mid new : State) (line : LineId) (p : Content) (answer : Result Outcome LineFault) (t0 t1 t2 : Tale) (done : Result (Unit {0}) Stop)
     → Follows width place v h
     → ((packets : List Arrival) → Fits v.arbiter packets → IsOutcome v.arbiter.session v.arbiter.window v.arbiter.sent packets p answer)
     → ((packets : List Arrival) → Fits v.arbiter packets → Fits mid (packets ++ arrival_of line p answer ∷ []))
     → KeepsItsPlace v.arbiter mid
-    → number ≡ mid.venue
-    → t1 ≡ t0 ++ packet_line number line answer
-    → ((packets : List Arrival) → Fits mid packets → t2 ≡ t1 ++ flat_map (item_line mid.venue) (drop mid.sent (stream_of packets)))
-    → ((packets : List Arrival) → Fits mid packets → Fits new packets × (new.sent ≡ length (stream_of packets)))
-    → KeepsAllButSent mid new
-    → PrintsOutcome width place line p h t0 t2 (record { arbiter = new; sent_before = v.sent_before })
-taken_prints width place number h v mid new line p answer t0 t1 t2 f outcome fits kept is head items done sent =
+    → GoesOn t0 (packet_answered place line answer ∷ []) t1
+    → ((packets : List Arrival) → Fits mid packets → TellsBy t1 (map (item_taken place) (drop mid.sent (stream_of packets))) t2 done)
+    → OnOk done ((packets : List Arrival) → Fits mid packets → Fits new packets × (new.sent ≡ length (stream_of packets)))
+    → OnOk done (KeepsAllButSent mid new)
+    → TellsOutcome width place line p h t0 t2 (record { arbiter = new; sent_before = v.sent_before }) done
+taken_told width place h v mid new line p answer t0 t1 t2 done f outcome fits kept head items left stays =
     let Q = h.present.packets ++ arrival_of line p answer ∷ [] in
     let fits_mid : Fits mid Q = fits h.present.packets f.fits in
-    let both = done Q fits_mid in
-    let there : mid.venue ≡ place = kept.venue ∙ f.number in
-    outcome_prints width place h v new line p answer t0 t2 f (outcome h.present.packets f.fits) both.0 both.1 (stays_taken v.arbiter mid new kept sent)
-    (items Q fits_mid
-    ∙ ap (λ (t : List ℕ). t ++ flat_map (item_line mid.venue) (drop mid.sent (stream_of Q))) (head ∙ ap (λ (n : ℕ). t0 ++ packet_line n line answer) (is ∙ there))
-    ∙ ap (λ (n : ℕ). t0 ++ packet_line place line answer ++ flat_map (item_line n) (drop mid.sent (stream_of Q))) there
-    ∙ ap (λ (n : ℕ). t0 ++ packet_line place line answer ++ flat_map (item_line place) (drop n (stream_of Q))) kept.sent)
+    outcome_told width place h v new line p answer t0 t2 done f (outcome h.present.packets f.fits)
+    (tells_as t0 t2 done (ap (λ (n : ℕ). packet_answered place line answer ∷ map (item_taken place) (drop n (stream_of Q))) kept.sent)
+    (tells_more t2 (packet_answered place line answer ∷ []) (map (item_taken place) (drop mid.sent (stream_of Q))) done head (items Q fits_mid)))
+    (both done left stays)
+  where
+    both : (r : Result (Unit {0}) Stop)
+        → OnOk r ((packets : List Arrival) → Fits mid packets → Fits new packets × (new.sent ≡ length (stream_of packets)))
+        → OnOk r (KeepsAllButSent mid new)
+        → OnOk r (Left v (h.present.packets ++ arrival_of line p answer ∷ []) new)
+    both (Ok u) a b =
+        let x = a (h.present.packets ++ arrival_of line p answer ∷ []) (fits h.present.packets f.fits) in
+        record { fits = x.0; sent = x.1; stays = stays_taken v.arbiter mid new kept b }
+    both (Err e) a b = tt
+
+-- there was no memory for the packet's line
+pub untold : (width place : ℕ) (h : History) (v : Venue) (new : State) (line : LineId) (p : Content) (answer : Result Outcome LineFault) (t0 t1 : Tale)
+    → Follows width place v h
+    → ((packets : List Arrival) → Fits v.arbiter packets → IsOutcome v.arbiter.session v.arbiter.window v.arbiter.sent packets p answer)
+    → Grows t0.text t1.text
+    → TellsOutcome width place line p h t0 t1 (record { arbiter = new; sent_before = v.sent_before }) (Err NoMemory)
+untold width place h v new line p answer t0 t1 f outcome grows =
+    outcome_told width place h v new line p answer t0 t1 (Err NoMemory) f (outcome h.present.packets f.fits) grows tt
 
 -- the next session began
 pub renewed_follows : (width place : ℕ) (h : History) (v : Venue) (new : State) (name : List ℕ) (ordinal sent : ℕ)

@@ -3,12 +3,13 @@
 -- A capture is a list of records, one after the other. A record is the venue (1 byte), a kind
 -- (1 byte), a length (2 bytes, big-endian) and that many bytes. Kinds 41 (A), 42 (B) and 52 (R) are
 -- a datagram of line A, line B or Recovery. Kind 4e (N) is a renewal: its 10 bytes are the name of
--- the venue's next session.
-use Rattle.std.specs.Prelude.{◌≡◌, ℕ, ◌+◌, ◌*◌, ◌/◌, ◌%◌, ◌<◌, ◌≤◌, ◌⊎◌, List, [], ◌∷◌, ◌++◌, length, drop, flat_map, slice_index}
+-- the venue's next session. Kinds 48 (H) and 57 (W), of length 0, declare self-help on the venue
+-- and withdraw it.
+use Rattle.std.specs.Prelude.{◌≡◌, ℕ, ◌+◌, ◌*◌, ◌/◌, ◌%◌, ◌<◌, ◌≤◌, ◌⊎◌, Bool, true, false, List, [], ◌∷◌, ◌++◌, length, drop, flat_map, slice_index}
 use Rattle.feed_types.specs.declared.line.LineId.{LineId}
 use Rattle.feed_types.specs.Text.{line_letter}
 use Rattle.feed_text.specs.declared.capture.Record.{Record}
-use Rattle.feed_text.specs.declared.capture.Record.TheVariants.{Datagram, Renewal}
+use Rattle.feed_text.specs.declared.capture.Record.TheVariants.{Datagram, Renewal, SelfHelp}
 use Rattle.feed_text.specs.declared.capture.Front.{Front}
 use Rattle.feed_text.specs.declared.capture.Front.TheVariants.{Whole, Bad, Wants}
 
@@ -16,20 +17,25 @@ use Rattle.feed_text.specs.declared.capture.Front.TheVariants.{Whole, Bad, Wants
 pub data CaptureRecord : Type 0 where
   datagram_record : (venue : ℕ) (line : LineId) (bytes : List ℕ) → CaptureRecord
   renewal_record : (venue : ℕ) (session : List ℕ) → CaptureRecord
+  self_help_record : (venue : ℕ) (on : Bool) → CaptureRecord
 
 abbrev pub venue_of : CaptureRecord → ℕ
 venue_of (datagram_record venue line bytes) = venue
 venue_of (renewal_record venue session) = venue
+venue_of (self_help_record venue on) = venue
 
 -- the byte that tells what a record holds
 abbrev pub kind_byte : CaptureRecord → ℕ
 kind_byte (datagram_record venue line bytes) = line_letter line
 kind_byte (renewal_record venue session) = 78
+kind_byte (self_help_record venue true) = 72
+kind_byte (self_help_record venue false) = 87
 
 -- the bytes that the length counts
 abbrev pub bytes_of : CaptureRecord → List ℕ
 bytes_of (datagram_record venue line bytes) = bytes
 bytes_of (renewal_record venue session) = session
+bytes_of (self_help_record venue on) = []
 
 -- the bytes of a record
 abbrev pub spelling : CaptureRecord → List ℕ
@@ -41,9 +47,12 @@ spelling r =
 abbrev pub capture_of : List CaptureRecord → List ℕ → List ℕ
 capture_of records rest = flat_map spelling records ++ rest
 
--- a kind with a length that it may have: A, B and R with any, N with that of a session name
+-- a kind with a length that it may have: A, B and R with any, N with that of a session name, H and
+-- W with 0
 abbrev pub IsKind : ℕ → ℕ → Type 0
-IsKind kind len = (kind ≡ 65) ⊎ (kind ≡ 66) ⊎ (kind ≡ 82) ⊎ ((kind ≡ 78) × (len ≡ 10))
+IsKind kind len =
+    (kind ≡ 65) ⊎ (kind ≡ 66) ⊎ (kind ≡ 82) ⊎ ((kind ≡ 78) × (len ≡ 10))
+    ⊎ (((kind ≡ 72) ⊎ (kind ≡ 87)) × (len ≡ 0))
 
 -- a record that a capture of so many venues may hold
 pub record IsRecord (venues : ℕ) (r : CaptureRecord) : Type 0 where
@@ -90,6 +99,7 @@ IsWanted venues bytes n =
 abbrev pub record_of : Record → CaptureRecord
 record_of (Datagram venue line bytes) = datagram_record venue line bytes.now
 record_of (Renewal venue session) = renewal_record venue session
+record_of (SelfHelp venue on) = self_help_record venue on
 
 -- what stands at the front of some bytes: a record and what is left behind it, no record, or less
 -- than one

@@ -3,7 +3,10 @@ pub mod Devices
 pub mod Kind
 pub mod DeviceLaws
 pub mod Lines
-pub mod Printed
+pub mod Happenings
+pub mod Told
+pub mod Texts
+pub mod Tales
 pub mod Following
 pub mod Replays
 pub mod Placing

@@ -1,12 +1,17 @@
 -- The printed lines, this project's own format: fields parted by one space, numbers in decimal, and
 -- a line feed at the end.
-use Rattle.std.specs.Prelude.{ℕ, List, [], ◌∷◌, ◌++◌, codes, decimal, Option, Some, None, Result, Ok, Err, true, false}
+use Rattle.std.specs.Prelude.{ℕ, Bool, List, [], ◌∷◌, ◌++◌, codes, decimal, Option, Some, None, Result, Ok, Err, true, false}
 use Rattle.feed_types.specs.declared.item.Item.{Item}
 use Rattle.feed_types.specs.declared.item.Item.TheVariants as items
 use Rattle.feed_types.specs.declared.item.Numbered.{Numbered}
 use Rattle.feed_types.specs.declared.line.LineId.{LineId}
 use Rattle.feed_types.specs.declared.line.LineId.TheVariants.{A, B, Recovery}
-use Rattle.feed_types.specs.Text.{line_letter}
+use Rattle.feed_types.specs.declared.journal.Notice.{Notice}
+use Rattle.feed_types.specs.declared.national.Best.{Best}
+use Rattle.feed_types.specs.declared.national.NationalState.{NationalState}
+use Rattle.feed_types.specs.Nationals.{state_of}
+use Rattle.feed_types.specs.Symbols.{name_of}
+use Rattle.feed_types.specs.Text.{line_letter, side_text, state_text}
 use Rattle.mold_packet.specs.declared.request.Request.{Request}
 use Rattle.line_arbiter.specs.declared.outcome.Outcome.{Outcome}
 use Rattle.line_arbiter.specs.declared.outcome.Outcome.TheVariants.{Taken, Heartbeat, Ended, Ahead}
@@ -53,11 +58,36 @@ item_word items.End = codes " end"
 abbrev pub item_line : ℕ → Numbered → List ℕ
 item_line venue n = codes "item" ++ field venue ++ field n.number ++ item_word n.item ++ line_end
 
--- gap V NUMBER COUNT: the run of messages to ask for, where there is one
-abbrev pub gap_line : ℕ → Option Request → List ℕ
-gap_line venue None = []
-gap_line venue (Some request) =
+-- a side of a national best after a space
+abbrev pub side_field : Option Best → List ℕ
+side_field side = codes " " ++ side_text side
+
+abbrev pub state_tail : NationalState → List ℕ
+state_tail state = codes " " ++ state_text state ++ line_end
+
+-- best NOTICE POSITION SYMBOL BID OFFER STATE: a change of the national best of a symbol
+abbrev pub best_line : Notice → List ℕ
+best_line n =
+    codes "best" ++ field n.number ++ field n.position ++ codes " " ++ name_of n.symbol
+    ++ side_field n.national.bid ++ side_field n.national.offer ++ state_tail (state_of n.national)
+
+-- gap V NUMBER COUNT: the run of messages to ask for
+abbrev pub gap_line : ℕ → Request → List ℕ
+gap_line venue request =
     codes "gap" ++ field venue ++ field request.number ++ field request.count ++ line_end
+
+abbrev pub on_word : Bool → List ℕ
+on_word true = codes " on"
+on_word false = codes " off"
+
+abbrev pub position_tail : Option ℕ → List ℕ
+position_tail (Some position) = field position ++ line_end
+position_tail None = codes " already" ++ line_end
+
+-- declare V on POSITION, or declare V on already; off likewise
+abbrev pub declare_line : ℕ → Bool → Option ℕ → List ℕ
+declare_line venue on position =
+    codes "declare" ++ field venue ++ on_word on ++ position_tail position
 
 -- renew V ORDINAL, or renew V refused N
 abbrev pub renew_line : ℕ → Result ℕ RenewFault → List ℕ

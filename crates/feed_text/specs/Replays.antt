@@ -1,23 +1,15 @@
 -- What a replay came to.
 use Rattle.std.specs.Prelude.{◌≡◌, ◌⊎◌, ⊤, ℕ, ◌+◌, ◌≤◌, List, [], length, map, All, Result, Ok, Err}
 use Rattle.feed_text.specs.declared.fault.ReplayFault.{ReplayFault}
-use Rattle.feed_text.specs.declared.fault.ReplayFault.TheVariants.{ReadFailed, WriteFailed, BadRecord, ShortRecord, TooManyTurns, NoMemory}
+use Rattle.feed_text.specs.declared.fault.ReplayFault.TheVariants.{ReadFailed, WriteFailed, BadRecord, ShortRecord, TooManyTurns, JournalFull, NoMemory}
 use Rattle.feed_text.specs.declared.replay.ReplayConfig.{ReplayConfig}
 use Rattle.feed_text.specs.Capture.{CaptureRecord, IsRecord, IsBad, IsShort, IsUnfinished, capture_of}
 use Rattle.feed_text.specs.Devices.{Reading, Writing, Wrote}
-use Rattle.line_arbiter.specs.Histories.{History, new_history}
-use Rattle.feed_text.specs.Printed.{Prints, IsTextOf}
+use Rattle.feed_text.specs.Texts.{IsLinesOf, IsTextOf, IsLinesToFull}
 
 -- how many venues there are
 abbrev pub venues_in : ReplayConfig → ℕ
 venues_in config = length config.sessions.now
-
--- the lines of records, without those of the venues at the end
-pub record IsLinesOf (config : ReplayConfig) (records : List CaptureRecord) (lines : List ℕ)
-    : Type 0 where
-  pub histories : List History
-  pub prints : Prints config.window config.gaps records (map new_history config.sessions.now)
-      lines histories
 
 -- By so many calls these records and then this rest were read.
 pub record HasRead {R : Type 0} (reading : Reading R) (config : ReplayConfig)
@@ -36,34 +28,34 @@ pub record ReplaysAll {R W : Type 0} (reading : Reading R) (writing : Writing W)
   pub read : HasRead reading config from calls mid records []
   pub end : reading.ends mid to
   pub text : List ℕ
-  pub is : IsTextOf config.sessions.now config.window config.gaps records text
+  pub is : IsTextOf config records text
   pub wrote : writing.adds before text after
 
--- By so many calls records and then a rest of this kind were read, and exactly the lines of the
+-- By so many calls records and then a rest of this kind were read, and exactly these lines of the
 -- records were written, and no venue line.
 pub record ReplaysTo {R W : Type 0} (reading : Reading R) (writing : Writing W)
-    (config : ReplayConfig) (IsLeft : List ℕ → Type 0)
-    (from : R) (calls : ℕ) (to : R) (before after : W) : Type 0 where
+    (config : ReplayConfig) (AreLines : List CaptureRecord → List ℕ → Type 0)
+    (IsLeft : List ℕ → Type 0) (from : R) (calls : ℕ) (to : R) (before after : W) : Type 0 where
   pub records : List CaptureRecord
   pub rest : List ℕ
   pub left : IsLeft rest
   pub read : HasRead reading config from calls to records rest
   pub lines : List ℕ
-  pub are : IsLinesOf config records lines
+  pub are : AreLines records lines
   pub wrote : writing.adds before lines after
 
 -- The same by some calls, and then the reader came to this state.
 pub record ReplaysUntil {R W : Type 0} (reading : Reading R) (writing : Writing W)
-    (config : ReplayConfig) (IsLeft : List ℕ → Type 0) (Then : R → Type 0)
-    (from : R) (before after : W) : Type 0 where
+    (config : ReplayConfig) (AreLines : List CaptureRecord → List ℕ → Type 0)
+    (IsLeft : List ℕ → Type 0) (Then : R → Type 0) (from : R) (before after : W) : Type 0 where
   pub calls : ℕ
   pub mid : R
-  pub replays : ReplaysTo reading writing config IsLeft from calls mid before after
+  pub replays : ReplaysTo reading writing config AreLines IsLeft from calls mid before after
   pub came_to : Then mid
 
 -- Records and then a rest were read by some calls, and a front of a text of theirs was written:
--- of their lines, or, where nothing is left and one more call showed the end, of these and the
--- venues' lines.
+-- of their lines, of those up to a full journal, or, where nothing is left and one more call showed
+-- the end, of their lines and the venues'.
 pub record ReplaysFront {R W : Type 0} (reading : Reading R) (writing : Writing W)
     (config : ReplayConfig) (from to : R) (before after : W) : Type 0 where
   pub records : List CaptureRecord
@@ -73,8 +65,8 @@ pub record ReplaysFront {R W : Type 0} (reading : Reading R) (writing : Writing 
   pub read : HasRead reading config from calls mid records rest
   pub text : List ℕ
   pub is : (IsLinesOf config records text × (mid ≡ to))
-      ⊎ (IsTextOf config.sessions.now config.window config.gaps records text
-      × (rest ≡ []) × reading.ends mid to)
+      ⊎ (IsLinesToFull config records text × (mid ≡ to))
+      ⊎ (IsTextOf config records text × (rest ≡ []) × reading.ends mid to)
   pub wrote : Wrote writing.adds before text after
 
 -- What a replay came to, by its answer.
@@ -83,21 +75,24 @@ abbrev pub Replays : {R W : Type 0} (reading : Reading R) (writing : Writing W)
 Replays reading writing config from to before after (Ok done) =
     ReplaysAll reading writing config from to before after
 Replays reading writing config from to before after (Err BadRecord) =
-    ReplaysUntil reading writing config (IsBad (venues_in config)) (λ mid. mid ≡ to)
-    from before after
+    ReplaysUntil reading writing config (IsLinesOf config) (IsBad (venues_in config))
+    (λ mid. mid ≡ to) from before after
 Replays reading writing config from to before after (Err ShortRecord) =
-    ReplaysUntil reading writing config (IsShort (venues_in config)) (λ mid. reading.ends mid to)
-    from before after
+    ReplaysUntil reading writing config (IsLinesOf config) (IsShort (venues_in config))
+    (λ mid. reading.ends mid to) from before after
 Replays reading writing config from to before after (Err TooManyTurns) =
-    ReplaysTo reading writing config (IsUnfinished (venues_in config)) from config.turns to
-    before after
-Replays reading writing config from to before after (Err ReadFailed) =
-    ReplaysUntil reading writing config (IsUnfinished (venues_in config)) (λ mid. ⊤)
+    ReplaysTo reading writing config (IsLinesOf config) (IsUnfinished (venues_in config))
+    from config.turns to before after
+Replays reading writing config from to before after (Err JournalFull) =
+    ReplaysUntil reading writing config (IsLinesToFull config) (λ rest. ⊤) (λ mid. mid ≡ to)
     from before after
+Replays reading writing config from to before after (Err ReadFailed) =
+    ReplaysUntil reading writing config (IsLinesOf config) (IsUnfinished (venues_in config))
+    (λ mid. ⊤) from before after
     × (reading.failures to ≡ reading.failures from + 1)
 Replays reading writing config from to before after (Err WriteFailed) =
     ReplaysFront reading writing config from to before after
     × (writing.failures after ≡ writing.failures before + 1)
 Replays reading writing config from to before after (Err NoMemory) =
-    ReplaysUntil reading writing config (λ rest. ⊤) (λ mid. (mid ≡ to) ⊎ reading.ends mid to)
-    from before after
+    ReplaysUntil reading writing config (IsLinesOf config) (λ rest. ⊤)
+    (λ mid. (mid ≡ to) ⊎ reading.ends mid to) from before after

@@ -23,6 +23,11 @@ pub enum Record<'a> {
         venue: VenueId,
         session: [u8; 10],
     },
+    /// Self-help on the venue is declared, or withdrawn.
+    SelfHelp {
+        venue: VenueId,
+        on: bool,
+    },
 }
 
 /// What stands at the front of some bytes.
@@ -30,8 +35,8 @@ pub enum Record<'a> {
 pub enum Front<'a> {
     /// A whole record, and how many bytes it takes: from 4 to 65,539.
     Whole(Record<'a>, usize),
-    /// No record, however the bytes go on: of a venue or a kind that isn't there, or a renewal whose
-    /// length isn't 10.
+    /// No record, however the bytes go on: of a venue or a kind that isn't there, a renewal whose
+    /// length isn't 10, or a declaration whose length isn't 0.
     Bad,
     /// Less than a record. So many bytes have to be there, with those that are, before more can be told.
     Wants(usize),
@@ -42,6 +47,7 @@ pub enum Front<'a> {
 enum Kind {
     Line(LineId),
     Renewal,
+    SelfHelp(bool),
 }
 
 /// The kind of a byte and a length, where there is one.
@@ -53,6 +59,8 @@ fn kind_from(byte: u8, len: usize) -> Option<Kind>
         b'B' => Some(Kind::Line(LineId::B)),
         b'R' => Some(Kind::Line(LineId::Recovery)),
         b'N' if len == 10 => Some(Kind::Renewal),
+        b'H' if len == 0 => Some(Kind::SelfHelp(true)),
+        b'W' if len == 0 => Some(Kind::SelfHelp(false)),
         _ => None,
     }
 }
@@ -108,6 +116,7 @@ pub fn front_of(venues: usize, bytes: &[u8]) -> Front<'_>
             venue,
             session: name_from(held),
         },
+        Kind::SelfHelp(on) => Record::SelfHelp { venue, on },
     };
     Front::Whole(record, HEADER + len)
 }

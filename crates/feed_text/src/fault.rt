@@ -23,6 +23,9 @@ pub enum ReplayFault {
     /// As many calls of the reader as are allowed were made, and none had shown the end.
     #[error("too many turns")]
     TooManyTurns,
+    /// The journal has as many entries as it holds, and a record needs one more.
+    #[error("journal full")]
+    JournalFull,
     /// Memory was refused.
     #[error("no memory")]
     NoMemory,

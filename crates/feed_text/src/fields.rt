@@ -3,9 +3,12 @@
 //! Each call writes behind the first `at` bytes of the room, and tells where what it wrote ends.
 //! What stands behind that end may have changed.
 ghost use Rattle.std.specs.Prelude.{◌≡◌, ◌+◌, ◌/◌, ◌%◌, ◌<◌, ◌≤◌, [], ◌∷◌, length, take, decimal};
+ghost use Rattle.feed_types.specs.Symbols.{name_of};
+ghost use Rattle.feed_types.specs.Text.{price_text};
 ghost use Rattle.feed_text.specs.Lines.{field};
 ghost use Rattle.feed_text.specs.Placing.{Placed};
 
+use feed_types::SymbolName;
 use itoa::write_digits;
 
 /// The two digits of each number below 100, one number after the other.
@@ -122,6 +125,20 @@ fn place_long(room: &mut [u8], at: usize, number: u64) -> usize
     place_slice(room, at, &digits[start..])
 }
 
+/// A number.
+#[inline(always)]
+pub(crate) fn place_number(room: &mut [u8], at: usize, number: u64) -> usize
+    requires { at + 20 ≤ length room.old }
+    ensures placed { Placed room.old room.new at (decimal number) result }
+    ensures short { result ≤ at + 20 }
+{
+    if number < NINE_DIGITS {
+        place_eight(room, at, number as u32)
+    } else {
+        place_long(room, at, number)
+    }
+}
+
 /// A number after a space.
 #[inline(always)]
 pub(crate) fn place_field(room: &mut [u8], at: usize, number: u64) -> usize
@@ -130,11 +147,32 @@ pub(crate) fn place_field(room: &mut [u8], at: usize, number: u64) -> usize
     ensures short { result ≤ at + 21 }
 {
     let at = place(room, at, [b' ']);
-    if number < NINE_DIGITS {
-        place_eight(room, at, number as u32)
-    } else {
-        place_long(room, at, number)
-    }
+    place_number(room, at, number)
+}
+
+/// A price: its dollars, a point and four digits.
+#[inline(always)]
+pub(crate) fn place_price(room: &mut [u8], at: usize, price: u32) -> usize
+    requires { at + 13 ≤ length room.old }
+    ensures placed { Placed room.old room.new at (price_text price) result }
+    ensures short { result ≤ at + 13 }
+{
+    let at = place_eight(room, at, price / 10_000);
+    let at = place(room, at, *b".");
+    let four = price % 10_000;
+    let at = place_pair(room, at, four / 100);
+    place_pair(room, at, four % 100)
+}
+
+/// A symbol's name, of which all eight bytes are stored.
+#[inline(always)]
+pub(crate) fn place_name(room: &mut [u8], at: usize, symbol: SymbolName) -> usize
+    requires { at + 8 ≤ length room.old }
+    ensures placed { Placed room.old room.new at (name_of symbol) result }
+    ensures short { result ≤ at + 8 }
+{
+    let len = symbol.name().len();
+    place_word(room, at, symbol.field(), len)
 }
 
 /// A number of one to five digits after a space. Most have one.

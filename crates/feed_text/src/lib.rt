@@ -1,20 +1,27 @@
 //! From the bytes of a capture to the lines that a replay prints.
 //!
 //! A capture is a list of records, one after the other: a datagram as it came on a line of a venue,
-//! or the name of a venue's next session (`specs/Capture.antt`). Its text (`specs/Printed.antt`) is each
-//! record's lines, told by the arbiter's definitions over all that came to the record's venue before,
-//! and at the end a line for each venue.
+//! the name of a venue's next session, or a declaration of self-help (`specs/Capture.antt`). The
+//! records tell what happens (`specs/Told.antt`), by the arbiter's definitions over all that came to
+//! the record's venue before. What happens makes a journal (`specs/Happenings.antt`): each item that
+//! is taken is an entry, and each declaration that changes something.
 //!
-//! The contract is that of `replay::replay`: where it answers Ok, what was read is a whole capture, and
-//! what was written is its text and nothing else. Each fault comes only when its cause did, and what was
-//! written then is a front of the text of the records read (`specs/Replays.antt`).
+//! The text (`specs/Texts.antt`) is the line of each happening, behind it the best lines of the
+//! changes of the national best that its entry makes, and at the end a line for each venue.
+//!
+//! The contract is that of `replay::replay`: where it answers Ok, what was read is a whole capture
+//! that has room in the journal, and what was written is its text and nothing else. Each fault comes
+//! only when its cause did. JournalFull says exactly where the journal was full: what was written is
+//! the lines up to there. After the other faults it is the text of the records read, or where the
+//! writer failed a front of it (`specs/Replays.antt`).
 //!
 //! A replay reads and writes through two traits, `devices::CaptureIn` and `devices::TextOut`, whose laws
 //! say what a call did. `memory` has devices over memory, `system` over the standard streams.
 //!
 //! `laws` says that a capture has one reading, and its records one text.
 //!
-//! Begin with `replay.rt`, then `specs/Printed.antt`; `venue.rt` has a venue, `lines.rt` its lines.
+//! Begin with `replay.rt`, then `specs/Texts.antt`; `venue.rt` has a venue, `report.rt` the journal and
+//! the text of all of them, `lines.rt` the lines.
 #![tactic(auto)]
 
 pub mod capture;
@@ -29,6 +36,7 @@ pub mod memory;
 pub mod output;
 mod page;
 pub mod replay;
+mod report;
 pub mod system;
 #[cfg(test)]
 mod tests;

@@ -4,18 +4,24 @@
 //! ends behind them. So a line takes memory at most once, and where that is refused the text is as
 //! it was.
 ghost use Rattle.std.specs.Prelude.{◌≡◌, ◌+◌, ◌≤◌, ◌++◌, codes, decimal, length, take, vec_len, IfOk, OnOk, OnErr};
-ghost use Rattle.feed_text.specs.Lines.{line_end, packet_head, packet_line, fault_line, refused_tail, outcome_tail, item_word, item_line, gap_line, renew_line, venue_line, wins_by};
+ghost use Rattle.feed_text.specs.Lines.{line_end, packet_head, packet_line, fault_line, refused_tail, outcome_tail, item_word, item_line, side_field, state_tail, best_line, gap_line, renew_line, on_word, position_tail, declare_line, venue_line, wins_by};
+ghost use Rattle.feed_types.specs.Text.{best_text};
 ghost use Rattle.feed_text.specs.Placing.{Placed};
 
-use crate::fields::{place, place_field, place_short_field, place_word};
+use crate::fields::{
+    place, place_field, place_name, place_number, place_price, place_short_field, place_word,
+};
 use crate::page::Page;
-use feed_types::{Item, LineId, Numbered, VenueId};
+use feed_types::{Best, Item, LineId, NationalState, Notice, Numbered, VenueId};
 use line_arbiter::{LineFault, Outcome, RenewFault};
 use mold_packet::Request;
 use std::alloc::AllocError;
 
-/// Room for any line but a venue's last one.
+/// Room for any line but a best line and a venue's last one.
 const LINE: usize = 64;
+
+/// Room for a best line.
+const BEST_LINE: usize = 192;
 
 /// Room for a venue's last line.
 const VENUE_LINE: usize = 128;
@@ -156,18 +162,77 @@ pub(crate) fn put_item(text: &mut Page, venue: VenueId, item: &Numbered) -> Resu
     Ok(())
 }
 
-/// The line of the run of messages to ask for, where there is one.
+/// A side of a national best: the venue, the price and the size.
+#[inline(always)]
+fn place_best(room: &mut [u8], at: usize, best: &Best) -> usize
+    requires { at + 44 ≤ length room.old }
+    ensures placed { Placed room.old room.new at (codes " " ++ best_text best.now) result }
+    ensures short { result ≤ at + 44 }
+{
+    let at = place_venue(room, at, best.venue);
+    let at = place(room, at, *b":");
+    let at = place_price(room, at, best.price);
+    let at = place(room, at, *b"x");
+    place_number(room, at, best.size)
+}
+
+/// A side of a national best, if there is one, after a space.
+#[inline(always)]
+fn place_side(room: &mut [u8], at: usize, side: &Option<Best>) -> usize
+    requires { at + 44 ≤ length room.old }
+    ensures placed { Placed room.old room.new at (side_field side.now) result }
+    ensures short { result ≤ at + 44 }
+{
+    match side {
+        Some(best) => place_best(room, at, best),
+        None => place(room, at, *b" none"),
+    }
+}
+
+/// The tail of a best line: how the two sides stand to each other.
+#[inline(always)]
+fn place_state(room: &mut [u8], at: usize, state: NationalState) -> usize
+    requires { at + 11 ≤ length room.old }
+    ensures { Placed room.old room.new at (state_tail state) result }
+{
+    match state {
+        NationalState::Empty => place_word(room, at, *b" empty\n ", 7),
+        NationalState::OneSided => place(room, at, *b" one-sided\n"),
+        NationalState::Normal => place(room, at, *b" normal\n"),
+        NationalState::Locked => place(room, at, *b" locked\n"),
+        NationalState::Crossed => place(room, at, *b" crossed\n"),
+    }
+}
+
+/// The line of a change of the national best.
+pub(crate) fn put_best(text: &mut Page, notice: &Notice) -> Result<(), AllocError>
+    ensures line { OnOk result (text.new.items ≡ text.old.items ++ best_line notice.now) }
+    ensures part { OnErr result (text.new.items ≡ text.old.items) }
+{
+    text.make_room(BEST_LINE)?;
+    let at = text.end;
+    let room = text.bytes.as_mut_slice();
+    let at = place(room, at, *b"best");
+    let at = place_field(room, at, notice.number);
+    let at = place_field(room, at, notice.position);
+    let at = place(room, at, *b" ");
+    let at = place_name(room, at, notice.symbol);
+    let at = place_side(room, at, &notice.national.bid);
+    let at = place_side(room, at, &notice.national.offer);
+    let at = place_state(room, at, notice.national.state());
+    text.end = at;
+    Ok(())
+}
+
+/// The line of the run of messages to ask for.
 pub(crate) fn put_gap(
     text: &mut Page,
     venue: VenueId,
-    gap: Option<Request>,
+    request: &Request,
 ) -> Result<(), AllocError>
-    ensures line { OnOk result (text.new.items ≡ text.old.items ++ gap_line venue gap) }
+    ensures line { OnOk result (text.new.items ≡ text.old.items ++ gap_line venue request.now) }
     ensures part { OnErr result (text.new.items ≡ text.old.items) }
 {
-    let Some(request) = gap else {
-        return Ok(());
-    };
     text.make_room(LINE)?;
     let at = text.end;
     let room = text.bytes.as_mut_slice();
@@ -176,6 +241,47 @@ pub(crate) fn put_gap(
     let at = place_field(room, at, request.number);
     let at = place_short_field(room, at, request.count);
     let at = place(room, at, *b"\n");
+    text.end = at;
+    Ok(())
+}
+
+/// Whether self-help is declared or withdrawn.
+#[inline(always)]
+fn place_on(room: &mut [u8], at: usize, on: bool) -> usize
+    requires { at + 8 ≤ length room.old }
+    ensures placed { Placed room.old room.new at (on_word on) result }
+    ensures short { result ≤ at + 4 }
+{
+    if on {
+        place(room, at, *b" on")
+    } else {
+        place(room, at, *b" off")
+    }
+}
+
+/// The line of a declaration: the position of its entry, or that it is so already.
+pub(crate) fn put_declared(
+    text: &mut Page,
+    venue: VenueId,
+    on: bool,
+    position: Option<u64>,
+) -> Result<(), AllocError>
+    ensures line { OnOk result (text.new.items ≡ text.old.items ++ declare_line venue on position) }
+    ensures part { OnErr result (text.new.items ≡ text.old.items) }
+{
+    text.make_room(LINE)?;
+    let at = text.end;
+    let room = text.bytes.as_mut_slice();
+    let at = place_word(room, at, *b"declare ", 7);
+    let at = place_venue(room, at, venue);
+    let at = place_on(room, at, on);
+    let at = match position {
+        Some(position) => {
+            let at = place_field(room, at, position);
+            place(room, at, *b"\n")
+        }
+        None => place(room, at, *b" already\n"),
+    };
     text.end = at;
     Ok(())
 }

@@ -1,7 +1,10 @@
 //! The replay of a capture.
-ghost use Rattle.std.specs.Prelude.{◌≡◌, ◌≤◌, [], length, take};
+ghost use Rattle.std.specs.Prelude.{◌≡◌, ◌≤◌, [], length, IfOk};
+ghost use Rattle.std.specs.List.{IsDistinct};
+ghost use Rattle.std.specs.Str.{bytes_eq};
+ghost use Rattle.journal_book.specs.Journals.{new_journal};
 ghost use Rattle.feed_text.specs.Devices.{Reading, Writing};
-ghost use Rattle.feed_text.specs.Following.{Closes, Stops};
+ghost use Rattle.feed_text.specs.Following.{Closes, Stops, fault_by, left_by};
 ghost use Rattle.feed_text.specs.Replays.{Replays};
 
 use crate::capture::{Front, front_of};
@@ -10,9 +13,12 @@ use crate::fault::ReplayFault;
 use crate::input::fill;
 use crate::output::{flush, flush_full};
 use crate::page::Page;
+use crate::report::{Report, Stop};
 use crate::unread::Unread;
 use crate::venues::Venues;
-use std::alloc::Global;
+use feed_types::SymbolName;
+use journal_book::Journal;
+use std::alloc::{AllocError, Global};
 
 /// What a replay is asked for.
 #[derive(Clone, Copy, Debug)]
@@ -20,23 +26,67 @@ pub struct ReplayConfig<'a> {
     /// The names of the venues' first sessions, ten bytes each, filled on the right with spaces: 1 to 16,
     /// any names.
     pub sessions: &'a [[u8; 10]],
+    /// The symbols whose national best is printed where it changes, in the order in which changes are
+    /// told: at most 4,096, each once.
+    pub symbols: &'a [SymbolName],
     /// How many messages past the last item sent are held, in each venue: 1 to 65,535.
     pub window: u32,
+    /// How many entries the journal holds. An item is one, and a declaration that changes something.
+    pub journal: u32,
     /// Whether a gap line is printed where a datagram leaves a gap.
     pub gaps: bool,
     /// How many calls of the reader may be made.
     pub turns: u64,
 }
 
-/// Writes the text of the records before, so many bytes, where memory was refused for the next one's lines, and
-/// says how that ended.
-fn refused<W: TextOut>(text: &mut Page, whole: usize, writer: &mut W) -> ReplayFault
-    ensures { Stops W.adds W.failures (take whole text.old.items) writer.old writer.new result }
+/// What is still to be written where the telling stopped: all of the text where the journal is full, and
+/// where memory was refused that of the records before, so many bytes.
+fn keep_told(stop: Stop, text: &mut Page, whole: usize) -> ReplayFault
+    ensures fault { result ≡ fault_by stop }
+    ensures left { text.new.items ≡ left_by stop whole text.old.items }
 {
-    text.truncate(whole);
+    match stop {
+        Stop::JournalFull => ReplayFault::JournalFull,
+        Stop::NoMemory => {
+            text.truncate(whole);
+            ReplayFault::NoMemory
+        }
+    }
+}
+
+/// Writes what was told before the telling stopped, and says how that ended.
+fn stopped<W: TextOut>(
+    stop: Stop,
+    text: &mut Page,
+    whole: usize,
+    writer: &mut W,
+) -> ReplayFault
+    ensures { Stops W.adds W.failures stop whole text.old.items writer.old writer.new result }
+{
+    let fault = keep_told(stop, text, whole);
     match flush(text, writer) {
-        Ok(()) => ReplayFault::NoMemory,
-        Err(fault) => fault,
+        Ok(()) => fault,
+        Err(failed) => failed,
+    }
+}
+
+/// A journal of no entries, and no text. The symbols are few enough and distinct, so that want of
+/// memory alone is refused.
+fn new_report(alloc: Global, config: &ReplayConfig<'_>) -> Result<Report, AllocError>
+    requires some { 1 ≤ length config.now.sessions.now }
+    requires few { length config.now.sessions.now ≤ 16 }
+    requires symbols { length config.now.symbols.now ≤ 4096 }
+    requires distinct { IsDistinct bytes_eq config.now.symbols.now }
+    ensures journal { IfOk result (λ report. report.journal
+        ≡ new_journal config.now.symbols.now (length config.now.sessions.now) config.now.journal) }
+    ensures text { IfOk result (λ report. report.text.items ≡ []) }
+{
+    match Journal::new(alloc, config.symbols, config.sessions.len(), config.journal) {
+        Ok(journal) => Ok(Report {
+            journal,
+            text: Page::new(alloc),
+        }),
+        Err(_) => Err(AllocError),
     }
 }
 
@@ -52,9 +102,9 @@ fn close<W: TextOut>(venues: &Venues, mut text: Page, writer: &mut W) -> Result<
 /// Reads a capture to its end, and writes the lines of its records and then those of its venues.
 ///
 /// What is ready is written before the reader is called again, so that a pipe shows lines as they come, and
-/// before a fault of the input or of memory is answered. Every call of the reader is a turn, also one that
-/// was interrupted. Memory is taken for the venues' windows, for the bytes of a read and for a text of about
-/// a page, and none for a record.
+/// before a fault of the input, of the journal or of memory is answered. Every call of the reader is a turn,
+/// also one that was interrupted. Memory is taken for the venues' windows, the symbols, the bytes of a read and
+/// a text of about a page, and for the journal and its notices, which grow by doubling.
 pub fn replay<R: CaptureIn, W: TextOut>(
     alloc: Global,
     config: &ReplayConfig<'_>,
@@ -65,38 +115,40 @@ pub fn replay<R: CaptureIn, W: TextOut>(
     requires few { length config.now.sessions.now ≤ 16 }
     requires least { 1 ≤ config.now.window }
     requires most { config.now.window ≤ 65535 }
+    requires symbols { length config.now.symbols.now ≤ 4096 }
+    requires distinct { IsDistinct bytes_eq config.now.symbols.now }
     ensures { Replays
         (record { gives = R.gives; ends = R.ends; failures = R.failures })
         (record { adds = W.adds; failures = W.failures })
         config.now reader.old reader.new writer.old writer.new result }
 {
     let mut venues = Venues::new(alloc, config.sessions, config.window, config.gaps)?;
+    let mut report = new_report(alloc, config)?;
     let mut unread = Unread::new(alloc)?;
-    let mut text = Page::new(alloc);
     let mut turns = config.turns;
     'records: loop {
         match front_of(config.sessions.len(), unread.bytes()) {
             Front::Whole(record, len) => {
-                let whole = text.len();
-                match venues.take(record, &mut text) {
+                let whole = report.text.len();
+                match venues.take(record, &mut report) {
                     Ok(()) => unread.advance(len),
-                    Err(_) => return Err(refused(&mut text, whole, writer)),
+                    Err(stop) => return Err(stopped(stop, &mut report.text, whole, writer)),
                 }
-                flush_full(&mut text, writer)?;
+                flush_full(&mut report.text, writer)?;
             }
             Front::Bad => {
-                flush(&mut text, writer)?;
+                flush(&mut report.text, writer)?;
                 return Err(ReplayFault::BadRecord);
             }
             Front::Wants(wanted) => {
-                flush(&mut text, writer)?;
+                flush(&mut report.text, writer)?;
                 if fill(&mut unread, reader, wanted, &mut turns)? {
                     continue;
                 }
                 if !unread.is_empty() {
                     return Err(ReplayFault::ShortRecord);
                 }
-                return close(&venues, text, writer);
+                return close(&venues, report.text, writer);
             }
         }
     }

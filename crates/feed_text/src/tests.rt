@@ -1,9 +1,5 @@
-//! Captures and bytes that were spelled by hand, and what comes of them.
+//! A capture and texts that were spelled by hand, and what comes of them. The others stand in
+//! tests/unproved/feed_text, since their own proofs take long.
 
-mod captures;
-mod devices;
-mod lines;
 mod replays;
-mod sizes;
 mod texts;
-mod unread;

@@ -1,21 +1,24 @@
 //! One venue of a replay: its lines, and what they give.
-ghost use Rattle.std.specs.Prelude.{◌≡◌, ℕ, Bool, false, List, ◌++◌, ◌≤◌, length, drop, flat_map, map, Ok, IfOk, OnOk};
+ghost use Rattle.std.specs.Prelude.{◌≡◌, ℕ, Bool, false, List, [], ◌∷◌, ◌++◌, ◌<◌, ◌≤◌, length, drop, map, Ok, IfOk, OnOk};
 ghost use Rattle.feed_types.specs.Sessions.{numbered_from};
 ghost use Rattle.quote_payload.specs.Payload.{item_of};
 ghost use Rattle.line_arbiter.specs.Through.{SendsPacket};
 ghost use Rattle.line_arbiter.specs.Packets.{Arrival};
-ghost use Rattle.line_arbiter.specs.Streams.{stream_of};
+ghost use Rattle.line_arbiter.specs.Streams.{gap_of, stream_of};
 ghost use Rattle.line_arbiter.specs.Counts.{shown};
 ghost use Rattle.line_arbiter.specs.States.{KeepsAllButSent};
 ghost use Rattle.line_arbiter.specs.Fits.{Fits};
-ghost use Rattle.feed_text.specs.Capture.{datagram_record, renewal_record};
-ghost use Rattle.feed_text.specs.Lines.{item_line, packet_line};
 ghost use Rattle.line_arbiter.specs.Histories.{History, new_history, streams_of};
-ghost use Rattle.feed_text.specs.Printed.{last_line};
-ghost use Rattle.feed_text.specs.Following.{Follows, Grows, PrintsOutcome, PrintsOne, Renews};
+ghost use Rattle.feed_text.specs.Capture.{datagram_record, renewal_record, self_help_record};
+ghost use Rattle.feed_text.specs.Happenings.{item_taken, packet_answered};
+ghost use Rattle.feed_text.specs.Told.{gap_happening};
+ghost use Rattle.feed_text.specs.Texts.{last_line};
+ghost use Rattle.feed_text.specs.Tales.{TellsBy, tale_of};
+ghost use Rattle.feed_text.specs.Following.{Follows, TellsOutcome, TellsOne, Renews};
 
-use crate::lines::{put_fault, put_gap, put_item, put_packet, put_renewal, put_venue};
+use crate::lines::{put_fault, put_gap, put_packet, put_renewal, put_venue};
 use crate::page::Page;
+use crate::report::{Report, Stop};
 use feed_types::{Anything, LineId, Numbered, VenueId};
 use line_arbiter::{Arbiter, Outcome, RenewFault};
 use mold_packet::{Packet, read_packet};
@@ -39,31 +42,36 @@ impl Model for VenueReplay {
     ghost view = { λ v. record { arbiter = v.arbiter; sent_before = v.sent_before } };
 }
 
-/// Prints each item that is ready, and goes past it.
-fn put_ready(arbiter: &mut Arbiter<Anything>, text: &mut Page) -> Result<(), AllocError>
-    ensures items { OnOk result ((P : List Arrival) → Fits arbiter.old P
-        → let ready = drop arbiter.old.sent (stream_of P) in
-        text.new.items ≡ text.old.items ++ flat_map (item_line arbiter.old.venue) ready) }
+/// Takes each item that is ready.
+fn take_ready(
+    arbiter: &mut Arbiter<Anything>,
+    venue: VenueId,
+    report: &mut Report,
+) -> Result<(), Stop>
+    requires { venue < report.old.journal.venues }
+    ensures tells { (P : List Arrival) → Fits arbiter.old P
+        → TellsBy (tale_of report.old)
+        (map (item_taken venue) (drop arbiter.old.sent (stream_of P)))
+        (tale_of report.new) result }
     ensures fits { OnOk result ((P : List Arrival) → Fits arbiter.old P
         → Fits arbiter.new P × (arbiter.new.sent ≡ length (stream_of P))) }
-    ensures grows { Grows text.old.items text.new.items }
     ensures kept { OnOk result (KeepsAllButSent arbiter.old arbiter.new) }
 {
-    let venue = arbiter.venue();
     while let Some(next) = arbiter.next_ready() {
-        put_item(text, venue, &next)?;
+        report.take_item(venue, &next)?;
         arbiter.advance();
     }
     Ok(())
 }
 
-/// Prints the items that a packet's messages are.
+/// Takes the items that a packet's messages are.
 #[inline(always)]
-fn put_items(venue: VenueId, packet: &Packet<'_>, text: &mut Page) -> Result<(), AllocError>
-    ensures items { OnOk result (text.new.items ≡ text.old.items
-        ++ flat_map (item_line venue)
-        (numbered_from packet.now.number (map item_of packet.now.messages))) }
-    ensures grows { Grows text.old.items text.new.items }
+fn take_messages(venue: VenueId, packet: &Packet<'_>, report: &mut Report) -> Result<(), Stop>
+    requires { venue < report.old.journal.venues }
+    ensures { TellsBy (tale_of report.old)
+        (map (item_taken venue)
+        (numbered_from packet.now.number (map item_of packet.now.messages)))
+        (tale_of report.new) result }
 {
     let first = packet.number();
     let mut messages = packet.messages();
@@ -73,34 +81,36 @@ fn put_items(venue: VenueId, packet: &Packet<'_>, text: &mut Page) -> Result<(),
             number: first + place,
             item: read_item(message),
         };
-        put_item(text, venue, &item)?;
+        report.take_item(venue, &item)?;
         place += 1;
     }
     Ok(())
 }
 
-/// Prints the line of a packet that passed through, its items, and what is ready behind them.
+/// Tells of a packet that passed through, takes its items, and what is ready behind them.
 #[inline(always)]
-fn put_passed(
+fn take_passed(
     arbiter: &mut Arbiter<Anything>,
+    venue: VenueId,
     line: LineId,
     packet: &Packet<'_>,
     outcome: Outcome,
-    text: &mut Page,
-) -> Result<(), AllocError>
-    ensures items { OnOk result ((from : ℕ) (packets : List Arrival) → Fits arbiter.old packets
+    report: &mut Report,
+) -> Result<(), Stop>
+    requires { venue < report.old.journal.venues }
+    ensures tells { (from : ℕ) (packets : List Arrival) → Fits arbiter.old packets
         → SendsPacket from arbiter.old.sent packet.now packets
-        → text.new.items ≡ text.old.items ++ packet_line arbiter.old.venue line (Ok outcome)
-        ++ flat_map (item_line arbiter.old.venue) (drop from (stream_of packets))) }
+        → TellsBy (tale_of report.old)
+        (packet_answered venue line (Ok outcome)
+        ∷ map (item_taken venue) (drop from (stream_of packets)))
+        (tale_of report.new) result }
     ensures fits { OnOk result ((packets : List Arrival) → Fits arbiter.old packets
         → Fits arbiter.new packets × (arbiter.new.sent ≡ length (stream_of packets))) }
-    ensures grows { Grows text.old.items text.new.items }
     ensures kept { OnOk result (KeepsAllButSent arbiter.old arbiter.new) }
 {
-    let venue = arbiter.venue();
-    put_packet(text, venue, line, &Ok(outcome))?;
-    put_items(venue, packet, text)?;
-    put_ready(arbiter, text)
+    put_packet(&mut report.text, venue, line, &Ok(outcome))?;
+    take_messages(venue, packet, report)?;
+    take_ready(arbiter, venue, report)
 }
 
 impl VenueReplay {
@@ -132,85 +142,105 @@ impl VenueReplay {
         self.sent_before.saturating_add(self.arbiter.status().sent)
     }
 
-    /// Takes a packet through the window, and prints what became of it and each item that is ready
+    /// Takes a packet through the window, and tells what became of it and each item that is ready
     /// then.
     #[inline(never)]
     fn take_held(
         &mut self,
+        venue: VenueId,
         line: LineId,
         packet: &Packet<'_>,
-        text: &mut Page,
-    ) -> Result<(), AllocError>
-        ensures prints { OnOk result
-            ((width place : ℕ) (h : History) → Follows width place self.old h
-            → PrintsOutcome width place line packet.now h
-            text.old.items text.new.items self.new) }
-        ensures grows { Grows text.old.items text.new.items }
+        report: &mut Report,
+    ) -> Result<(), Stop>
+        requires { venue < report.old.journal.venues }
+        ensures { (width : ℕ) (h : History) → Follows width venue self.old h
+            → TellsOutcome width venue line packet.now h
+            (tale_of report.old) (tale_of report.new) self.new result }
     {
         let answer = self.arbiter.take(line, packet);
-        put_packet(text, self.arbiter.venue(), line, &answer)?;
-        put_ready(&mut self.arbiter, text)
+        put_packet(&mut report.text, venue, line, &answer)?;
+        take_ready(&mut self.arbiter, venue, report)
     }
 
-    /// Takes a packet, past the window where it may, and prints what became of it and each item that
+    /// Takes a packet, past the window where it may, and tells what became of it and each item that
     /// is ready then.
     #[inline(always)]
     fn take_packet(
         &mut self,
+        venue: VenueId,
         line: LineId,
         packet: &Packet<'_>,
-        text: &mut Page,
-    ) -> Result<(), AllocError>
-        ensures prints { OnOk result
-            ((width place : ℕ) (h : History) → Follows width place self.old h
-            → PrintsOutcome width place line packet.now h
-            text.old.items text.new.items self.new) }
-        ensures grows { Grows text.old.items text.new.items }
+        report: &mut Report,
+    ) -> Result<(), Stop>
+        requires { venue < report.old.journal.venues }
+        ensures { (width : ℕ) (h : History) → Follows width venue self.old h
+            → TellsOutcome width venue line packet.now h
+            (tale_of report.old) (tale_of report.new) self.new result }
     {
         if let Some(outcome) = self.arbiter.take_through(line, packet) {
-            return put_passed(&mut self.arbiter, line, packet, outcome, text);
+            return take_passed(&mut self.arbiter, venue, line, packet, outcome, report);
         }
-        self.take_held(line, packet, text)
+        self.take_held(venue, line, packet, report)
     }
 
-    /// Prints the line of a datagram, and each item that is ready then.
-    fn put_datagram(
+    /// Takes a datagram of a line, and tells what became of it and each item that is ready then.
+    fn take_datagram(
         &mut self,
+        venue: VenueId,
         line: LineId,
         bytes: &[u8],
-        text: &mut Page,
-    ) -> Result<(), AllocError>
-        ensures prints { OnOk result
-            ((width place : ℕ) (h : History) → Follows width place self.old h
-            → PrintsOne width false (datagram_record place line bytes.now) h
-            text.old.items text.new.items self.new) }
-        ensures grows { Grows text.old.items text.new.items }
+        report: &mut Report,
+    ) -> Result<(), Stop>
+        requires { venue < report.old.journal.venues }
+        ensures { (width : ℕ) (h : History) → Follows width venue self.old h
+            → TellsOne width false (datagram_record venue line bytes.now) h
+            (tale_of report.old) (tale_of report.new) self.new result }
     {
         match read_packet(bytes) {
-            Ok(packet) => self.take_packet(line, &packet, text),
-            Err(fault) => put_fault(text, self.arbiter.venue(), line, fault.code()),
+            Ok(packet) => self.take_packet(venue, line, &packet, report),
+            Err(fault) => {
+                put_fault(&mut report.text, venue, line, fault.code())?;
+                Ok(())
+            }
         }
     }
 
-    /// Takes a datagram of a line and prints its lines: what became of it, each item that is ready
-    /// then, and where they are asked for the gap.
+    /// Tells the gap, if one is left.
+    fn tell_gap(&self, venue: VenueId, report: &mut Report) -> Result<(), Stop>
+        ensures { (P : List Arrival) → Fits self.now.arbiter P
+            → TellsBy (tale_of report.old)
+            (gap_happening venue
+            (gap_of self.now.arbiter.session self.now.arbiter.window self.now.arbiter.sent P))
+            (tale_of report.new) result }
+    {
+        match self.arbiter.gap() {
+            Some(request) => {
+                put_gap(&mut report.text, venue, &request)?;
+                Ok(())
+            }
+            None => Ok(()),
+        }
+    }
+
+    /// Takes a datagram of a line and tells of it: what became of it, each item that is ready then,
+    /// and where gaps are asked for the one that is left.
     #[inline(never)]
     pub fn take(
         &mut self,
+        venue: VenueId,
         line: LineId,
         bytes: &[u8],
         gaps: bool,
-        text: &mut Page,
-    ) -> Result<(), AllocError>
-        ensures prints { OnOk result
-            ((width place : ℕ) (h : History) → Follows width place self.old h
-            → PrintsOne width gaps (datagram_record place line bytes.now) h
-            text.old.items text.new.items self.new) }
-        ensures grows { Grows text.old.items text.new.items }
+        report: &mut Report,
+    ) -> Result<(), Stop>
+        requires { venue < report.old.journal.venues }
+        ensures { (width : ℕ) (h : History) → Follows width venue self.old h
+            → TellsOne width gaps (datagram_record venue line bytes.now) h
+            (tale_of report.old) (tale_of report.new) self.new result }
     {
-        self.put_datagram(line, bytes, text)?;
+        self.take_datagram(venue, line, bytes, report)?;
         if gaps {
-            put_gap(text, self.arbiter.venue(), self.arbiter.gap())?;
+            return self.tell_gap(venue, report);
         }
         Ok(())
     }
@@ -226,24 +256,27 @@ impl VenueReplay {
         Ok(ordinal)
     }
 
-    /// Begins the next session under this name, where it may begin, and prints the line of that.
-    pub fn renew(&mut self, session: [u8; 10], text: &mut Page) -> Result<(), AllocError>
-        ensures prints { OnOk result
-            ((width place : ℕ) (gaps : Bool) (h : History) → Follows width place self.old h
-            → PrintsOne width gaps (renewal_record place session) h
-            text.old.items text.new.items self.new) }
-        ensures grows { Grows text.old.items text.new.items }
+    /// Begins the next session under this name, where it may begin, and tells of that.
+    pub fn renew(
+        &mut self,
+        venue: VenueId,
+        session: [u8; 10],
+        report: &mut Report,
+    ) -> Result<(), Stop>
+        ensures { (width : ℕ) (gaps : Bool) (h : History) → Follows width venue self.old h
+            → TellsOne width gaps (renewal_record venue session) h
+            (tale_of report.old) (tale_of report.new) self.new result }
     {
         let answer = self.next_session(session);
-        put_renewal(text, self.arbiter.venue(), &answer)
+        put_renewal(&mut report.text, venue, &answer)?;
+        Ok(())
     }
 
     /// Prints the last line.
     pub fn put_last(&self, text: &mut Page) -> Result<(), AllocError>
-        ensures last { OnOk result
+        ensures { OnOk result
             ((width place : ℕ) (h : History) → Follows width place self.now h
             → text.new.items ≡ text.old.items ++ last_line place h) }
-        ensures grows { Grows text.old.items text.new.items }
     {
         put_venue(
             text,

@@ -2,10 +2,12 @@
 ghost use Rattle.std.specs.Prelude.{◌≡◌, ◌<◌, ◌≤◌, IfOk, OnOk, length, map};
 ghost use Rattle.feed_text.specs.Capture.{IsRecord, record_of};
 ghost use Rattle.line_arbiter.specs.Histories.{new_history};
-ghost use Rattle.feed_text.specs.Following.{FollowAll, Grows, PrintsLast, TakesRecord};
+ghost use Rattle.feed_text.specs.Tales.{tale_of};
+ghost use Rattle.feed_text.specs.Following.{FollowAll, PrintsLast, TakesRecord};
 
 use crate::capture::Record;
 use crate::page::Page;
+use crate::report::{Report, Stop};
 use crate::venue::VenueReplay;
 use feed_types::VenueId;
 use std::alloc::{AllocError, Global};
@@ -60,23 +62,24 @@ impl Venues {
         Ok(Venues { venues, gaps })
     }
 
-    /// Takes a record, and prints its lines behind the text. Where memory for them is refused, a
-    /// front of them may stand there, and no other record can be taken.
-    pub fn take(&mut self, next: Record<'_>, text: &mut Page) -> Result<(), AllocError>
-        requires { IsRecord (length self.old.items) (record_of next) }
-        ensures takes { OnOk result (TakesRecord self.old (record_of next.entry)
-            text.old.items text.new.items self.new) }
-        ensures grows { Grows text.old.items text.new.items }
+    /// Takes a record, and tells of it. Where it stops, no other record can be taken: for a full
+    /// journal all that had room was told, and where memory was refused some of it may be.
+    pub fn take(&mut self, next: Record<'_>, report: &mut Report) -> Result<(), Stop>
+        requires kind { IsRecord (length self.old.items) (record_of next) }
+        requires venues { report.old.journal.venues ≡ length self.old.items }
+        ensures { TakesRecord self.old (record_of next.entry)
+            (tale_of report.old) (tale_of report.new) self.new result }
     {
         match next {
             Record::Datagram { venue, line, bytes } => {
-                let venue = &mut self.venues[venue.index()];
-                venue.take(line, bytes, self.gaps, text)
+                let replay = &mut self.venues[venue.index()];
+                replay.take(venue, line, bytes, self.gaps, report)
             }
             Record::Renewal { venue, session } => {
-                let venue = &mut self.venues[venue.index()];
-                venue.renew(session, text)
+                let replay = &mut self.venues[venue.index()];
+                replay.renew(venue, session, report)
             }
+            Record::SelfHelp { venue, on } => report.declare(venue, on),
         }
     }
 

@@ -11,6 +11,7 @@ fn faults_of_replays(rt: HostRuntime) -> Result<(), Fail> {
         (ReplayFault::BadRecord, "bad record"),
         (ReplayFault::ShortRecord, "short record"),
         (ReplayFault::TooManyTurns, "too many turns"),
+        (ReplayFault::JournalFull, "journal full"),
         (ReplayFault::NoMemory, "no memory"),
     ] {
         let shown = format!(in rt.alloc(); "{fault}")?;

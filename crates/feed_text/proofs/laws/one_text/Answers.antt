@@ -1,22 +1,52 @@
-use Rattle.feed_text.proofs.OneText.{Single, one_prints, one_text}
+use Rattle.feed_text.proofs.OneText.{Single, one_told, one_text, one_lines, one_full, not_both}
 use Rattle.feed_text.proofs.laws.one_text.Goals as goal
 
-pub returns-clause-lines : goal.returns-clause-lines
-returns-clause-lines c window gaps records old new last t u a b =
+pub returns-clause-told : goal.returns-clause-told
+returns-clause-told c window gaps records old new last t u a b =
     let one : Single = record {
       packet = c.one_reading.ensures.packet;
       no_fault = c.one_reading.ensures.no_fault;
       fault = c.one_reading.ensures.fault;
       outcome = c.one_outcome.ensures;
     } in
-    one_prints window gaps records old new last t u one a b
+    one_told window gaps records old new last t u one a b
 
 pub returns-clause-text : goal.returns-clause-text
-returns-clause-text c sessions window gaps records t u a b =
+returns-clause-text c config records t u a b =
     let one : Single = record {
       packet = c.one_reading.ensures.packet;
       no_fault = c.one_reading.ensures.no_fault;
       fault = c.one_reading.ensures.fault;
       outcome = c.one_outcome.ensures;
     } in
-    one_text sessions window gaps records t u one a b
+    one_text config records t u one a b
+
+pub returns-clause-lines : goal.returns-clause-lines
+returns-clause-lines c config records t u a b =
+    let one : Single = record {
+      packet = c.one_reading.ensures.packet;
+      no_fault = c.one_reading.ensures.no_fault;
+      fault = c.one_reading.ensures.fault;
+      outcome = c.one_outcome.ensures;
+    } in
+    one_lines config records t u one a b
+
+pub returns-clause-full : goal.returns-clause-full
+returns-clause-full c config records t u a b =
+    let one : Single = record {
+      packet = c.one_reading.ensures.packet;
+      no_fault = c.one_reading.ensures.no_fault;
+      fault = c.one_reading.ensures.fault;
+      outcome = c.one_outcome.ensures;
+    } in
+    one_full config records t u one a b
+
+pub returns-clause-either : goal.returns-clause-either
+returns-clause-either c config records t u a b =
+    let one : Single = record {
+      packet = c.one_reading.ensures.packet;
+      no_fault = c.one_reading.ensures.no_fault;
+      fault = c.one_reading.ensures.fault;
+      outcome = c.one_outcome.ensures;
+    } in
+    not_both config records t u one a b

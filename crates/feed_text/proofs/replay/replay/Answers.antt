@@ -1,9 +1,10 @@
-use Rattle.std.proofs.Common.{rules, arith, refl, ◌≡◌, ℕ, ◌∙◌, ◌-◌, length-drop, Ok, Err, ap, true, false, take, length}
+use Rattle.std.proofs.Common.{rules, arith, refl, sym, ◌≡◌, ℕ, ◌∙◌, ◌-◌, length-drop, Ok, Err, ap, true, false, take, length}
 use Rattle.feed_text.specs.declared.fault.ReplayFault.TheVariants.{WriteFailed}
 use Rattle.feed_text.specs.Capture.{record_of}
 use Rattle.std.proofs.lemmas.Result.{err_from_is_err_and}
-use Rattle.feed_text.proofs.Steps.{Laws, so_far_none, so_far_step, so_far_moved, so_far_flushed, so_far_read, replays_until, nothing_replayed, unfinished_from, short_of}
-use Rattle.feed_text.proofs.Stopping.{cut_back, only_fault, stopped_by, unfilled_by, closed_by}
+use Rattle.feed_text.specs.Tales.{Tale, tale_of}
+use Rattle.feed_text.proofs.Steps.{Laws, so_far_none, so_far_step, so_far_moved, so_far_flushed, so_far_read, replays_until, nothing_replayed, unfinished_from, short_of, told_none}
+use Rattle.feed_text.proofs.Stopping.{only_fault, stopped_by, unwritten, unfilled_by, closed_by}
 use Rattle.feed_text.proofs.replay.replay.Given.{Over}
 use Rattle.feed_text.proofs.replay.replay.Goals as goal
 
@@ -17,7 +18,7 @@ laws_of g = record {
 
 pub records-init : goal.records-init
 records-init g c = record {
-  so_far = so_far_none (laws_of g) _ _ _ (omega arith) c.in_ok-unread.ensures c.new-text.ensures.items c.in_ok-venues.ensures.follow c.in_ok-venues.ensures.gaps;
+  so_far = so_far_none (laws_of g) _ _ _ (omega arith) c.in_ok-unread.ensures c.in_ok-venues.ensures.follow c.in_ok-venues.ensures.gaps (told_none c.in_ok-report.report.journal c.in_ok-report.report.text.items c.in_ok-report.ensures.journal c.in_ok-report.ensures.text);
   turns = omega arith;
   room = search rules;
   reads = refl;
@@ -29,22 +30,30 @@ returns-in_err-venues g c =
     let p = err_from_is_err_and c.from_residual.result c.from_residual.ensures.1 in
     rw (p.1, p.2) (nothing_replayed (laws_of g) c.args.config.now c.args.reader.now c.args.writer.now)
 
+pub returns-in_err-report : goal.returns-in_err-report
+returns-in_err-report g c =
+    let p = err_from_is_err_and c.from_residual-in_err-report.result c.from_residual-in_err-report.ensures.1 in
+    rw (p.1, p.2) (nothing_replayed (laws_of g) c.args.config.now c.args.reader.now c.args.writer.now)
+
 pub returns-in_err-unread : goal.returns-in_err-unread
 returns-in_err-unread g c =
     let p = err_from_is_err_and c.from_residual-in_err-unread.result c.from_residual-in_err-unread.ensures.1 in
     rw (p.1, p.2) (nothing_replayed (laws_of g) c.args.config.now c.args.reader.now c.args.writer.now)
 
-pub take-requires : goal.take-requires
-take-requires g c = rw c.records.invariant.so_far.count c.in-Whole.ensures.0
+pub take-requires-clause-kind : goal.take-requires-clause-kind
+take-requires-clause-kind g c = rw c.records.invariant.so_far.count c.in-Whole.ensures.0
+
+pub take-requires-clause-venues : goal.take-requires-clause-venues
+take-requires-clause-venues g c = c.records.invariant.so_far.tale_is.venues ∙ sym c.records.invariant.so_far.count
 
 pub returns-in-Err : goal.returns-in-Err
 returns-in-Err g c =
-    let whole : take c.len-whole.result c.take.new.text.items ≡ c.records.text.items = let len : c.len-whole.result ≡ length c.records.text.items = search rules in rw len (cut_back c.take.ensures.grows) in
-    stopped_by c.refused.result _ (laws_of g) c.records.invariant.so_far c.records.invariant.writes (rw (← whole) c.refused.ensures)
+    stopped_by c.in-Err.stop c.stopped.result _ (record_of c.in-Whole.record) c.in-Whole.len c.len-whole.result c.bytes.result.now (laws_of g) c.records.invariant.so_far c.records.invariant.writes
+    c.in-Whole.ensures.0 c.bytes.ensures c.in-Whole.ensures.2 c.in-Err.ensures (search rules) c.stopped.ensures
 
 pub records-preserved : goal.records-preserved
 records-preserved g c = record {
-  so_far = so_far_moved (laws_of g) (so_far_step (record_of c.in-Whole.record) c.in-Whole.len c.bytes.result.now c.advance.new.self c.in-Whole.ensures.0 c.bytes.ensures c.in-Whole.ensures.2 c.advance.ensures c.in-Ok.ensures.takes c.records.invariant.so_far) c.in_ok-flush_full-in-Whole.ensures.ok;
+  so_far = so_far_moved (laws_of g) (so_far_step (record_of c.in-Whole.record) c.in-Whole.len c.bytes.result.now c.advance.new.self c.in-Whole.ensures.0 c.bytes.ensures c.in-Whole.ensures.2 c.advance.ensures c.in-Ok.ensures c.records.invariant.so_far) c.in_ok-flush_full-in-Whole.ensures.ok;
   turns = c.records.invariant.turns;
   room = rw c.advance.ensures (omega (arith, c.records.invariant.room, length-drop {A = ℕ}));
   reads = c.records.invariant.reads;
@@ -55,30 +64,30 @@ pub returns-in_err-flush_full-in-Whole : goal.returns-in_err-flush_full-in-Whole
 returns-in_err-flush_full-in-Whole g c =
     let p = err_from_is_err_and c.from_residual-in_err-flush_full-in-Whole.result c.from_residual-in_err-flush_full-in-Whole.ensures.1 in
     let fault = only_fault c.in_err-flush_full-in-Whole.field-0.0 c.in_err-flush_full-in-Whole.ensures.only in
-    let x = so_far_step (record_of c.in-Whole.record) c.in-Whole.len c.bytes.result.now c.advance.new.self c.in-Whole.ensures.0 c.bytes.ensures c.in-Whole.ensures.2 c.advance.ensures c.in-Ok.ensures.takes c.records.invariant.so_far in
-    rw (p.1, p.2, fault) (stopped_by WriteFailed _ (laws_of g) x c.records.invariant.writes (c.in_err-flush_full-in-Whole.ensures.part, c.in_err-flush_full-in-Whole.ensures.failed))
+    let x = so_far_step (record_of c.in-Whole.record) c.in-Whole.len c.bytes.result.now c.advance.new.self c.in-Whole.ensures.0 c.bytes.ensures c.in-Whole.ensures.2 c.advance.ensures c.in-Ok.ensures c.records.invariant.so_far in
+    rw (p.1, p.2, fault) (unwritten (laws_of g) x c.records.invariant.writes c.in_err-flush_full-in-Whole.ensures.part c.in_err-flush_full-in-Whole.ensures.failed)
 
 pub returns-in_err-flush-in-Bad : goal.returns-in_err-flush-in-Bad
 returns-in_err-flush-in-Bad g c =
     let p = err_from_is_err_and c.from_residual-in_err-flush-in-Bad.result c.from_residual-in_err-flush-in-Bad.ensures.1 in
     let fault = only_fault c.in_err-flush-in-Bad.field-0.0 c.in_err-flush-in-Bad.ensures.only in
-    rw (p.1, p.2, fault) (stopped_by WriteFailed _ (laws_of g) c.records.invariant.so_far c.records.invariant.writes (c.in_err-flush-in-Bad.ensures.part, c.in_err-flush-in-Bad.ensures.failed))
+    rw (p.1, p.2, fault) (unwritten (laws_of g) c.records.invariant.so_far c.records.invariant.writes c.in_err-flush-in-Bad.ensures.part c.in_err-flush-in-Bad.ensures.failed)
 
 pub returns-in-Bad : goal.returns-in-Bad
-returns-in-Bad g c = replays_until (so_far_flushed (laws_of g) c.records.invariant.so_far c.in_ok-flush-in-Bad.ensures.ok.0 c.in_ok-flush-in-Bad.ensures.ok.1) (rw (← c.bytes.ensures) c.in-Bad.ensures) refl
+returns-in-Bad g c = replays_until (so_far_flushed (laws_of g) c.records.invariant.so_far c.in_ok-flush-in-Bad.ensures.ok.0 c.in_ok-flush-in-Bad.ensures.ok.1) refl (rw (← c.bytes.ensures) c.in-Bad.ensures) refl
 
 pub returns-in_err-flush-in-Wants : goal.returns-in_err-flush-in-Wants
 returns-in_err-flush-in-Wants g c =
     let p = err_from_is_err_and c.from_residual-in_err-flush-in-Wants.result c.from_residual-in_err-flush-in-Wants.ensures.1 in
     let fault = only_fault c.in_err-flush-in-Wants.field-0.0 c.in_err-flush-in-Wants.ensures.only in
-    rw (p.1, p.2, fault) (stopped_by WriteFailed _ (laws_of g) c.records.invariant.so_far c.records.invariant.writes (c.in_err-flush-in-Wants.ensures.part, c.in_err-flush-in-Wants.ensures.failed))
+    rw (p.1, p.2, fault) (unwritten (laws_of g) c.records.invariant.so_far c.records.invariant.writes c.in_err-flush-in-Wants.ensures.part c.in_err-flush-in-Wants.ensures.failed)
 
 pub returns-in_err-fill-in-Wants : goal.returns-in_err-fill-in-Wants
 returns-in_err-fill-in-Wants g c =
     let p = err_from_is_err_and c.from_residual-in_err-fill-in-Wants.result c.from_residual-in_err-fill-in-Wants.ensures.1 in
     let was : c.fill.result ≡ Err c.in_err-fill-in-Wants.field-0.0 = c.in_err-fill-in-Wants.was in
     let x = so_far_flushed (laws_of g) c.records.invariant.so_far c.in_ok-flush-in-Wants.ensures.ok.0 c.in_ok-flush-in-Wants.ensures.ok.1 in
-    rw (p.1, p.2) (unfilled_by c.in_err-fill-in-Wants.field-0.0 (laws_of g) x (omega (arith, c.records.invariant.turns)) c.records.invariant.reads
+    rw (p.1, p.2) (unfilled_by c.in_err-fill-in-Wants.field-0.0 (laws_of g) x refl (omega (arith, c.records.invariant.turns)) c.records.invariant.reads
     (λ e. c.fill.ensures.failed (was ∙ ap Err e))
     (λ e. c.fill.ensures.stopped (was ∙ ap Err e))
     (λ n. c.fill.ensures.faults _ was n)
@@ -104,7 +113,7 @@ returns-then-not-is_empty g c =
     let x = so_far_flushed (laws_of g) c.records.invariant.so_far c.in_ok-flush-in-Wants.ensures.ok.0 c.in_ok-flush-in-Wants.ensures.ok.1 in
     let y = so_far_read _ refl (laws_of g) x all.0.came in
     let left = unfinished_from c.records.unread c.bytes.result.now c.fill.new.unread all.0.came.bytes c.bytes.ensures all.0.came.behind c.in-Wants.ensures.0 (c.fill.ensures.lacking (λ r. cc)) in
-    replays_until y (short_of c.fill.new.unread left (search rules)) all.0.end
+    replays_until y refl (short_of c.fill.new.unread left (search rules)) all.0.end
 
 pub returns-in-Wants : goal.returns-in-Wants
 returns-in-Wants g c =
@@ -112,4 +121,4 @@ returns-in-Wants g c =
     let all = c.fill.ensures.end was in
     let x = so_far_flushed (laws_of g) c.records.invariant.so_far c.in_ok-flush-in-Wants.ensures.ok.0 c.in_ok-flush-in-Wants.ensures.ok.1 in
     let y = so_far_read _ refl (laws_of g) x all.0.came in
-    closed_by c.close.result _ (omega (arith, all.1, c.records.invariant.turns)) (laws_of g) y (search rules) all.0.end (c.in_ok-flush-in-Wants.ensures.kept ∙ c.records.invariant.writes) c.close.ensures
+    closed_by c.close.result _ (omega (arith, all.1, c.records.invariant.turns)) (laws_of g) y refl (search rules) all.0.end (c.in_ok-flush-in-Wants.ensures.kept ∙ c.records.invariant.writes) c.close.ensures

@@ -6,8 +6,8 @@ use Rattle.feed_text.proofs.VenueSteps.{last_is, won_all}
 use Rattle.feed_text.proofs.venue.VenueReplay.put_last.Goals as goal
 use Rattle.feed_types.specs.declared.line.LineId.TheVariants.{A, B, Recovery}
 
-pub returns-clause-last : goal.returns-clause-last
-returns-clause-last c =
+pub returns : goal.returns
+returns c =
     on_ok_weaker c.put_venue.result (λ put width place h f.
     let v : Venue = record { arbiter = c.self.inside.arbiter; sent_before = c.self.inside.sent_before } in
     let g : Follows width place v h = subst (λ (w : Venue). Follows width place w h) (sym c.self.view_is) f in

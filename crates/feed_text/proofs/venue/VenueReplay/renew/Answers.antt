@@ -1,14 +1,25 @@
-use Rattle.std.proofs.Common.{ap, ◌∙◌}
-use Rattle.std.proofs.lemmas.Result.{on_ok_weaker}
-use Rattle.feed_text.specs.Following.{Venue}
-use Rattle.feed_text.proofs.VenueSteps.{renewal_line}
+use Rattle.std.proofs.Common.{refl}
+use Rattle.std.specs.Prelude.{Ok, Err}
+use Rattle.std.proofs.lemmas.Result.{err_from_is_err_and}
+use Rattle.feed_text.specs.declared.report.Stop.TheVariants.{NoMemory}
+use Rattle.feed_text.specs.Happenings.{renewal_answered}
+use Rattle.feed_text.specs.Tales.{tale_of}
+use Rattle.feed_text.proofs.Tales.{line_goes, grows_as}
+use Rattle.feed_text.proofs.VenueSteps.{renewal_told}
 use Rattle.feed_text.proofs.venue.VenueReplay.renew.Goals as goal
 
-pub returns-clause-prints : goal.returns-clause-prints
-returns-clause-prints c =
-    on_ok_weaker c.put_renewal.result (λ put width place gaps h f.
-    renewal_line width place c.venue.result gaps h c.next_session-answer.new.self c.args.session c.next_session-answer.result c.args.text.now.items c.put_renewal.new.text.items
-    (c.venue.ensures ∙ ap (λ (v : Venue). v.arbiter.venue) c.self.view_is)
-    (c.next_session-answer.ensures width place h f)
-    put)
-    c.put_renewal.ensures.line
+pub returns : goal.returns
+returns c = λ width gaps h f.
+    renewal_told width c.args.venue gaps h c.next_session-answer.new.self c.args.session c.next_session-answer.result
+    (tale_of c.args.report.now) _ (Ok tt)
+    (c.next_session-answer.ensures width c.args.venue h f)
+    (line_goes (tale_of c.args.report.now) (renewal_answered c.args.venue c.next_session-answer.result) c.put_renewal.new.text.items refl c.in_ok-put_renewal.ensures.line)
+
+pub returns-in_err-put_renewal : goal.returns-in_err-put_renewal
+returns-in_err-put_renewal c = λ width gaps h f.
+    let p = err_from_is_err_and c.from_residual.result c.from_residual.ensures.1 in
+    rw (p.1, p.2)
+    (renewal_told width c.args.venue gaps h c.next_session-answer.new.self c.args.session c.next_session-answer.result
+    (tale_of c.args.report.now) _ (Err NoMemory)
+    (c.next_session-answer.ensures width c.args.venue h f)
+    (grows_as c.in_err-put_renewal.ensures.part))

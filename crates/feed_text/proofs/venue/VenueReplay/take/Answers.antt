@@ -1,20 +1,21 @@
-use Rattle.std.proofs.Common.{◌≡◌, List, ap, subst, ◌∙◌}
-use Rattle.line_arbiter.specs.Packets.{Arrival}
-use Rattle.line_arbiter.specs.Streams.{gap_of}
-use Rattle.line_arbiter.specs.Fits.{Fits}
-use Rattle.feed_text.specs.Following.{Venue}
-use Rattle.feed_text.proofs.VenueSteps.{gap_added}
+use Rattle.std.proofs.lemmas.Result.{err_from_is_err_and}
+use Rattle.feed_text.specs.Tales.{tale_of}
+use Rattle.feed_text.proofs.VenueSteps.{gap_added, gap_never}
 use Rattle.feed_text.proofs.venue.VenueReplay.take.Goals as goal
-use Rattle.feed_text.proofs.venue.VenueReplay.take.Goals.{then-gaps+in_ok-put_gap, else-gaps}
 
-pub returns-clause-prints : goal.returns-clause-prints
-returns-clause-prints c = λ width place h f. elim c.if-gaps.branch [
-  | then-gaps+in_ok-put_gap w ↦
-      rw (w.if-gaps.true, w.text-is)
-      (gap_added width place w.venue.result w.gap.result h c.put_datagram.new.self c.args.line c.args.bytes.now c.args.text.now.items c.put_datagram.new.text.items w.put_gap.new.text.items
-      (c.in_ok-put_datagram.ensures.prints width place h f)
-      (w.venue.ensures ∙ ap (λ (v : Venue). v.arbiter.venue) c.self.view_is)
-      (subst (λ (v : Venue). (P : List Arrival) → Fits v.arbiter P → w.gap.result ≡ gap_of v.arbiter.session v.arbiter.window v.arbiter.sent P) c.self.view_is w.gap.ensures)
-      w.in_ok-put_gap.ensures.line)
-  | else-gaps w ↦ rw (w.if-gaps.false, w.text-is) (c.in_ok-put_datagram.ensures.prints width place h f)
-]
+pub returns-then-gaps : goal.returns-then-gaps
+returns-then-gaps c = λ width h f.
+    rw c.if-gaps.true
+    (gap_added width c.args.venue h c.take_datagram.new.self c.args.line c.args.bytes.now
+    (tale_of c.args.report.now) (tale_of c.take_datagram.new.report) (tale_of c.tell_gap.new.report) c.tell_gap.result
+    (c.in_ok-take_datagram.ensures width h f) c.tell_gap.ensures)
+
+pub returns : goal.returns
+returns c = λ width h f. rw c.if-gaps.false (c.in_ok-take_datagram.ensures width h f)
+
+pub returns-in_err-take_datagram : goal.returns-in_err-take_datagram
+returns-in_err-take_datagram c = λ width h f.
+    let p = err_from_is_err_and c.from_residual.result c.from_residual.ensures.1 in
+    rw (p.1, p.2)
+    (gap_never width c.args.venue c.args.gaps h c.take_datagram.new.self c.args.line c.args.bytes.now (tale_of c.args.report.now) (tale_of c.take_datagram.new.report) c.in_err-take_datagram.field-0.0
+    (c.in_err-take_datagram.ensures width h f))

@@ -1,6 +1,6 @@
 use Rattle.std.proofs.Common.{◌≡◌, ℕ, List, ◌++◌, drop}
 use Rattle.line_arbiter.specs.Histories.{History}
-use Rattle.feed_text.specs.Printed.{last_lines}
+use Rattle.feed_text.specs.Texts.{last_lines}
 use Rattle.feed_text.specs.Following.{FollowAll}
 use Rattle.feed_text.proofs.venues.Venues.put_last.Given as goal
 

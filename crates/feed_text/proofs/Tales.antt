@@ -1,0 +1,284 @@
+-- Tales that go on: happenings after happenings.
+use Rattle.std.proofs.Common.{◌≡◌, ℕ, Bool, true, false, ◌+◌, ◌<◌, ◌≤◌, List, [], ◌∷◌, ◌++◌, length, drop, refl, sym, ap, subst, ◌∙◌, arith, append_assoc, append-nil, length-append}
+use Rattle.std.specs.Prelude.{Result, Ok, Err, OnOk, flat_map, not, Some, None, Option}
+use Rattle.std.proofs.Math.ListN.{drop_of_length-le}
+use Rattle.feed_types.specs.declared.item.Numbered.{Numbered}
+use Rattle.feed_types.specs.declared.journal.Entry.{Entry}
+use Rattle.feed_types.specs.declared.journal.Entry.TheVariants.{Consumed, SelfHelp}
+use Rattle.nbbo_book.specs.Eligible.{is_self_helped}
+use Rattle.journal_book.specs.Changes.{changes_of}
+use Rattle.journal_book.specs.Journals.{JournalState, changes, Journals, IsSo}
+use Rattle.feed_text.specs.declared.report.Stop.{Stop}
+use Rattle.feed_text.specs.declared.report.Stop.TheVariants.{JournalFull, NoMemory}
+use Rattle.feed_text.specs.Happenings.{Happening, item_taken, gap_left, self_help_declared, is_so, entries_after, entries_of}
+use Rattle.mold_packet.specs.declared.request.Request.{Request}
+use Rattle.feed_text.specs.Told.{gap_happening}
+use Rattle.feed_text.specs.Lines.{best_line, gap_line, item_line, declare_line}
+use Rattle.feed_text.specs.Texts.{line_of, lines_of, notices_since, text_of}
+use Rattle.feed_text.specs.Tales.{Tale, tale_after, IsWithin, Grows, GoesOn, GoesToFull, TellsBy}
+
+-- a journal and a text
+abbrev pub tale_from : JournalState → List ℕ → Tale
+tale_from j text = record {
+  symbols = j.symbols;
+  venues = j.venues;
+  journal = j.journal;
+  entries = j.entries;
+  text = text;
+}
+
+-- a tale with other entries and another text
+abbrev pub tale_with : Tale → List Entry → List ℕ → Tale
+tale_with t entries text = record {
+  symbols = t.symbols;
+  venues = t.venues;
+  journal = t.journal;
+  entries = entries;
+  text = text;
+}
+
+pub entries_more : (old : List Entry) (xs ys : List Happening) → entries_of old (xs ++ ys) ≡ entries_of (entries_of old xs) ys
+entries_more old [] ys = refl
+entries_more old (x ∷ xs) ys = entries_more (entries_after old x) xs ys
+
+pub text_more : (symbols : List (List ℕ)) (old : List Entry) (xs ys : List Happening) → text_of symbols old (xs ++ ys) ≡ text_of symbols old xs ++ text_of symbols (entries_of old xs) ys
+text_more symbols old [] ys = refl
+text_more symbols old (x ∷ xs) ys =
+    ap (λ (t : List ℕ). lines_of symbols old x ++ t) (text_more symbols (entries_after old x) xs ys)
+    ∙ sym (append_assoc (lines_of symbols old x) (text_of symbols (entries_after old x) xs) (text_of symbols (entries_of (entries_after old x) xs) ys))
+
+tale_more : (t : Tale) (xs ys : List Happening) → tale_after (tale_after t xs) ys ≡ tale_after t (xs ++ ys)
+tale_more t xs ys =
+    let E : List Entry = entries_of t.entries xs in
+    let A : List ℕ = text_of t.symbols t.entries xs in
+    let B : List ℕ = text_of t.symbols E ys in
+    ap (λ (e : List Entry). tale_with t e ((t.text ++ A) ++ B)) (sym (entries_more t.entries xs ys))
+    ∙ ap (λ (x : List ℕ). tale_with t (entries_of t.entries (xs ++ ys)) x)
+    (append_assoc t.text A B ∙ ap (λ (x : List ℕ). t.text ++ x) (sym (text_more t.symbols t.entries xs ys)))
+
+pub goes_none : (t : Tale) → GoesOn t [] t
+goes_none t = record { is = ap (λ (x : List ℕ). tale_with t t.entries x) (sym (append-nil t.text)); within = λ w. w }
+
+pub goes_more : {a b c : Tale} (xs ys : List Happening) → GoesOn a xs b → GoesOn b ys c → GoesOn a (xs ++ ys) c
+goes_more {a = a} xs ys g k = record {
+  is = k.is ∙ ap (λ (t : Tale). tale_after t ys) g.is ∙ tale_more a xs ys;
+  within = λ w. k.within (g.within w);
+}
+
+pub goes_grows : {a b : Tale} (xs : List Happening) → GoesOn a xs b → Grows a.text b.text
+goes_grows {a = a} xs g = record { more = text_of a.symbols a.entries xs; behind = ap (λ (t : Tale). t.text) g.is }
+
+pub grows_on : {a b c : List ℕ} → Grows a b → Grows b c → Grows a c
+grows_on {a = a} g k = record {
+  more = g.more ++ k.more;
+  behind = k.behind ∙ ap (λ (t : List ℕ). t ++ k.more) g.behind ∙ append_assoc a g.more k.more;
+}
+
+pub grows_more : {a b c : List ℕ} (more : List ℕ) → Grows a b → c ≡ b ++ more → Grows a c
+grows_more more g e = grows_on g (record { more = more; behind = e })
+
+pub grows_as : {old new : List ℕ} → new ≡ old → Grows old new
+grows_as {old = old} e = record { more = []; behind = e ∙ sym (append-nil old) }
+
+pub grows_same : (text : List ℕ) → Grows text text
+grows_same text = record { more = []; behind = sym (append-nil text) }
+
+full_more : {a b c : Tale} (xs ys : List Happening) → GoesOn a xs b → GoesToFull b ys c → GoesToFull a (xs ++ ys) c
+full_more xs ys g k = record {
+  first = xs ++ k.first;
+  next = k.next;
+  others = k.others;
+  told_is = ap (λ (hs : List Happening). xs ++ hs) k.told_is ∙ sym (append_assoc xs k.first (k.next ∷ k.others));
+  goes = goes_more xs k.first g k.goes;
+  full = k.full;
+}
+
+-- what was told goes on with what was told next, or stops there
+pub tells_more : {a b : Tale} (c : Tale) (xs ys : List Happening) (done : Result (Unit {0}) Stop) → GoesOn a xs b → TellsBy b ys c done → TellsBy a (xs ++ ys) c done
+tells_more c xs ys (Ok u) g k = goes_more xs ys g k
+tells_more c xs ys (Err JournalFull) g k = full_more xs ys g k
+tells_more c xs ys (Err NoMemory) g k = grows_on (goes_grows xs g) k
+
+-- where the telling stopped, nothing behind it was told
+pub tells_stop : (a c : Tale) (xs ys : List Happening) (stop : Stop) → TellsBy a xs c (Err stop) → TellsBy a (xs ++ ys) c (Err stop)
+tells_stop a c xs ys JournalFull k = record {
+  first = k.first;
+  next = k.next;
+  others = k.others ++ ys;
+  told_is = ap (λ (hs : List Happening). hs ++ ys) k.told_is ∙ append_assoc k.first (k.next ∷ k.others) ys;
+  goes = k.goes;
+  full = k.full;
+}
+tells_stop a c xs ys NoMemory k = k
+
+-- under another spelling of what was told
+pub tells_as : (a c : Tale) {xs ys : List Happening} (done : Result (Unit {0}) Stop) → xs ≡ ys → TellsBy a xs c done → TellsBy a ys c done
+tells_as a c done e k = subst (λ (hs : List Happening). TellsBy a hs c done) e k
+
+-- nothing new came, so no best line is due
+bests_none : (symbols : List (List ℕ)) (old new : List Entry) → new ≡ old → flat_map best_line (notices_since symbols old new) ≡ []
+bests_none symbols old new e =
+    ap (λ (n : List Entry). flat_map best_line (notices_since symbols old n)) e
+    ∙ ap (flat_map best_line) (drop_of_length-le (changes_of symbols old) (omega arith))
+
+-- one happening: its line and then the best lines, and the entries after it
+step_goes : (t : Tale) (h : Happening) (entries : List Entry) (text : List ℕ) → entries ≡ entries_after t.entries h
+    → text ≡ (t.text ++ line_of t.entries h) ++ flat_map best_line (notices_since t.symbols t.entries entries)
+    → (IsWithin t → length entries ≤ t.journal)
+    → GoesOn t (h ∷ []) (tale_with t entries text)
+step_goes t h entries text e put within = record {
+  is =
+      let A : List ℕ = line_of t.entries h in
+      let B : List ℕ = flat_map best_line (notices_since t.symbols t.entries (entries_after t.entries h)) in
+      let there : text ≡ t.text ++ ((A ++ B) ++ []) =
+          put ∙ ap (λ (n : List Entry). (t.text ++ A) ++ flat_map best_line (notices_since t.symbols t.entries n)) e
+          ∙ append_assoc t.text A B ∙ ap (λ (x : List ℕ). t.text ++ x) (sym (append-nil (A ++ B))) in
+      ap (λ (n : List Entry). tale_with t n text) e ∙ ap (λ (x : List ℕ). tale_with t (entries_after t.entries h) x) there;
+  within = within;
+}
+
+-- a happening without an entry: its line alone
+pub line_goes : (t : Tale) (h : Happening) (text : List ℕ) → entries_after t.entries h ≡ t.entries → text ≡ t.text ++ line_of t.entries h → GoesOn t (h ∷ []) (tale_with t t.entries text)
+line_goes t h text same put =
+    step_goes t h t.entries text (sym same)
+    (put ∙ sym (append-nil (t.text ++ line_of t.entries h)) ∙ ap (λ (x : List ℕ). (t.text ++ line_of t.entries h) ++ x) (sym (bests_none t.symbols t.entries t.entries refl)))
+    (λ w. w)
+
+-- a gap, if there is one
+pub gap_goes : (t : Tale) (venue : ℕ) (gap : Option Request) (request : Request) (text : List ℕ) → gap ≡ Some request → text ≡ t.text ++ gap_line venue request → GoesOn t (gap_happening venue gap) (tale_with t t.entries text)
+gap_goes t venue gap request text e put = rw e (line_goes t (gap_left venue request) text refl put)
+
+pub no_gap_goes : (t : Tale) (venue : ℕ) (gap : Option Request) → gap ≡ None → GoesOn t (gap_happening venue gap) t
+no_gap_goes t venue gap e = rw e (goes_none t)
+
+-- one more entry
+one_longer : (entries : List Entry) (e : Entry) (limit : ℕ) → length entries < limit → length (entries ++ e ∷ []) ≤ limit
+one_longer entries e limit h = let n = length-append entries (e ∷ []) in omega arith
+
+-- an item for which there was room
+pub item_goes : (o m j : JournalState) (venue : ℕ) (n : Numbered) (from : ℕ) (t0 t1 t2 : List ℕ)
+    → length o.entries < o.journal → m ≡ record o { ready = true } → Journals m (Consumed venue n) j
+    → t1 ≡ t0 ++ item_line venue n → from ≡ length (changes m) → t2 ≡ t1 ++ flat_map best_line (drop from (changes j))
+    → GoesOn (tale_from o t0) (item_taken venue n ∷ []) (tale_from j t2)
+item_goes o m j venue n from t0 t1 t2 room ready journals head counted bests =
+    let made : j ≡ record o { entries = o.entries ++ Consumed venue n ∷ []; ready = j.ready } =
+        journals ∙ ap (λ (s : JournalState). record s { entries = s.entries ++ Consumed venue n ∷ []; ready = j.ready }) ready in
+    let N : List Entry = o.entries ++ Consumed venue n ∷ [] in
+    let start : from ≡ length (changes_of o.symbols o.entries) = counted ∙ ap (λ (s : JournalState). length (changes s)) ready in
+    let text : t2 ≡ (t0 ++ item_line venue n) ++ flat_map best_line (notices_since o.symbols o.entries N) =
+        bests
+        ∙ ap (λ (t : List ℕ). t ++ flat_map best_line (drop from (changes j))) head
+        ∙ ap (λ (k : ℕ). (t0 ++ item_line venue n) ++ flat_map best_line (drop k (changes j))) start
+        ∙ ap (λ (s : JournalState). (t0 ++ item_line venue n) ++ flat_map best_line (drop (length (changes_of o.symbols o.entries)) (changes s))) made in
+    subst (λ (x : Tale). GoesOn (tale_from o t0) (item_taken venue n ∷ []) x)
+    (sym (ap (λ (s : JournalState). tale_from s t2) made))
+    (step_goes (tale_from o t0) (item_taken venue n) N t2 refl text (λ w. one_longer o.entries (Consumed venue n) o.journal room))
+
+-- an item for which there was none
+pub item_full : (o : JournalState) (venue : ℕ) (n : Numbered) (text : List ℕ) → o.journal ≤ length o.entries → GoesToFull (tale_from o text) (item_taken venue n ∷ []) (tale_from o text)
+item_full o venue n text full = record {
+  first = [];
+  next = item_taken venue n;
+  others = [];
+  told_is = refl;
+  goes = goes_none (tale_from o text);
+  full = let n = length-append o.entries (Consumed venue n ∷ []) in omega arith;
+}
+
+not_true : (b : Bool) → (b ≡ true → ⊥) → b ≡ false
+not_true true h = absurd (h refl)
+not_true false h = refl
+
+not_false : (b : Bool) → (b ≡ false → ⊥) → not b ≡ false
+not_false true h = refl
+not_false false h = absurd (h refl)
+
+so_not : (entries : List Entry) (venue : ℕ) (on : Bool) → (is_self_helped entries venue ≡ on → ⊥) → is_so entries venue on ≡ false
+so_not entries venue true h = not_true (is_self_helped entries venue) h
+so_not entries venue false h = not_false (is_self_helped entries venue) h
+
+so_yes : (entries : List Entry) (venue : ℕ) (on : Bool) → is_self_helped entries venue ≡ on → is_so entries venue on ≡ true
+so_yes entries venue true h = h
+so_yes entries venue false h = ap not h
+
+-- a declaration that was journaled
+pub declared_goes : (o j : JournalState) (venue : ℕ) (on : Bool) (from position : ℕ) (t0 t1 t2 : List ℕ)
+    → (¬ IsSo o venue on) → length o.entries < o.journal → Journals o (SelfHelp venue on) j → position ≡ length j.entries
+    → t1 ≡ t0 ++ declare_line venue on (Some position) → from ≡ length (changes o) → t2 ≡ t1 ++ flat_map best_line (drop from (changes j))
+    → GoesOn (tale_from o t0) (self_help_declared venue on ∷ []) (tale_from j t2)
+declared_goes o j venue on from position t0 t1 t2 other room made placed head counted bests =
+    let N : List Entry = o.entries ++ SelfHelp venue on ∷ [] in
+    let so : is_so o.entries venue on ≡ false = so_not o.entries venue on other in
+    let after : entries_after o.entries (self_help_declared venue on) ≡ N = rw so refl in
+    let longer : length N ≡ length o.entries + 1 = length-append o.entries (SelfHelp venue on ∷ []) in
+    let count : position ≡ length o.entries + 1 = placed ∙ ap (λ (s : JournalState). length s.entries) made ∙ longer in
+    let line : line_of o.entries (self_help_declared venue on) ≡ declare_line venue on (Some position) = rw (so, count) refl in
+    let text : t2 ≡ (t0 ++ line_of o.entries (self_help_declared venue on)) ++ flat_map best_line (notices_since o.symbols o.entries N) =
+        bests
+        ∙ ap (λ (t : List ℕ). t ++ flat_map best_line (drop from (changes j))) (head ∙ ap (λ (l : List ℕ). t0 ++ l) (sym line))
+        ∙ ap (λ (k : ℕ). (t0 ++ line_of o.entries (self_help_declared venue on)) ++ flat_map best_line (drop k (changes j))) counted
+        ∙ ap (λ (s : JournalState). (t0 ++ line_of o.entries (self_help_declared venue on)) ++ flat_map best_line (drop (length (changes_of o.symbols o.entries)) (changes s))) made in
+    subst (λ (x : Tale). GoesOn (tale_from o t0) (self_help_declared venue on ∷ []) x)
+    (sym (ap (λ (s : JournalState). tale_from s t2) made))
+    (step_goes (tale_from o t0) (self_help_declared venue on) N t2 (sym after) text (λ w. one_longer o.entries (SelfHelp venue on) o.journal room))
+
+-- one that is so already
+pub already_goes : (o j : JournalState) (venue : ℕ) (on : Bool) (from : ℕ) (t0 t1 t2 : List ℕ)
+    → IsSo o venue on → j ≡ o → t1 ≡ t0 ++ declare_line venue on None → from ≡ length (changes o) → t2 ≡ t1 ++ flat_map best_line (drop from (changes j))
+    → GoesOn (tale_from o t0) (self_help_declared venue on ∷ []) (tale_from j t2)
+already_goes o j venue on from t0 t1 t2 so same head counted bests =
+    let yes_so : is_so o.entries venue on ≡ true = so_yes o.entries venue on so in
+    let after : entries_after o.entries (self_help_declared venue on) ≡ o.entries = rw yes_so refl in
+    let line : line_of o.entries (self_help_declared venue on) ≡ declare_line venue on None = rw yes_so refl in
+    let H : List ℕ = t0 ++ line_of o.entries (self_help_declared venue on) in
+    let text : t2 ≡ H ++ flat_map best_line (notices_since o.symbols o.entries o.entries) =
+        bests
+        ∙ ap (λ (t : List ℕ). t ++ flat_map best_line (drop from (changes j))) (head ∙ ap (λ (l : List ℕ). t0 ++ l) (sym line))
+        ∙ ap (λ (k : ℕ). H ++ flat_map best_line (drop k (changes j))) counted
+        ∙ ap (λ (s : JournalState). H ++ flat_map best_line (drop (length (changes_of o.symbols o.entries)) (changes s))) same in
+    subst (λ (x : Tale). GoesOn (tale_from o t0) (self_help_declared venue on ∷ []) x)
+    (sym (ap (λ (s : JournalState). tale_from s t2) same))
+    (step_goes (tale_from o t0) (self_help_declared venue on) o.entries t2 (sym after) text (λ w. w))
+
+-- one for which there was no room
+pub declared_full : (o : JournalState) (venue : ℕ) (on : Bool) (text : List ℕ) → (¬ IsSo o venue on) → o.journal ≤ length o.entries → GoesToFull (tale_from o text) (self_help_declared venue on ∷ []) (tale_from o text)
+declared_full o venue on text other full = record {
+  first = [];
+  next = self_help_declared venue on;
+  others = [];
+  told_is = refl;
+  goes = goes_none (tale_from o text);
+  full =
+      let so : is_so o.entries venue on ≡ false = so_not o.entries venue on other in
+      let n = length-append o.entries (SelfHelp venue on ∷ []) in
+      rw so (omega arith);
+}
+
+-- Of all these happenings some were told, and the rest is still to be told.
+pub record Took (whole rest : List Happening) (old new : Tale) : Type 0 where
+  pub done : List Happening
+  pub goes : GoesOn old done new
+  pub split : done ++ rest ≡ whole
+
+pub took_none : (whole : List Happening) (t : Tale) → Took whole whole t t
+took_none whole t = record { done = []; goes = goes_none t; split = refl }
+
+pub took_one : {whole rest : List Happening} {a b c : Tale} (x : Happening) (left : List Happening) → rest ≡ x ∷ left → Took whole rest a b → GoesOn b (x ∷ []) c → Took whole left a c
+took_one x left e k g = record {
+  done = k.done ++ x ∷ [];
+  goes = goes_more k.done (x ∷ []) k.goes g;
+  split = append_assoc k.done (x ∷ []) left ∙ ap (λ (hs : List Happening). k.done ++ hs) (sym e) ∙ k.split;
+}
+
+pub took_all : {whole rest : List Happening} {a b : Tale} → rest ≡ [] → Took whole rest a b → GoesOn a whole b
+took_all {a = a} {b = b} e k =
+    subst (λ (hs : List Happening). GoesOn a hs b) (sym (append-nil k.done) ∙ ap (λ (hs : List Happening). k.done ++ hs) (sym e) ∙ k.split) k.goes
+
+pub took_stop : {whole rest : List Happening} {a b : Tale} (c : Tale) (x : Happening) (left : List Happening) (stop : Stop) → rest ≡ x ∷ left → Took whole rest a b → TellsBy b (x ∷ []) c (Err stop) → TellsBy a whole c (Err stop)
+took_stop {a = a} {b = b} c x left stop e k g =
+    tells_as a c (Err stop) (ap (λ (hs : List Happening). k.done ++ hs) (sym e) ∙ k.split)
+    (tells_more c k.done (x ∷ left) (Err stop) k.goes (tells_stop b c (x ∷ []) left stop g))
+
+-- the number of venues stays
+pub same_venues : {a b : Tale} (told : List Happening) → GoesOn a told b → b.venues ≡ a.venues
+same_venues told g = ap (λ (t : Tale). t.venues) g.is

@@ -1,0 +1,43 @@
+-- What happens in a replay, parted from how it is printed, and the journal that it leads to.
+use Rattle.std.specs.Prelude.{ℕ, Bool, true, false, not, List, [], ◌∷◌, ◌++◌, Result, if◌then◌else◌}
+use Rattle.feed_types.specs.declared.item.Numbered.{Numbered}
+use Rattle.feed_types.specs.declared.journal.Entry.{Entry}
+use Rattle.feed_types.specs.declared.journal.Entry.TheVariants.{Consumed, SelfHelp}
+use Rattle.feed_types.specs.declared.line.LineId.{LineId}
+use Rattle.mold_packet.specs.declared.fault.PacketFault.{PacketFault}
+use Rattle.mold_packet.specs.declared.request.Request.{Request}
+use Rattle.line_arbiter.specs.declared.outcome.Outcome.{Outcome}
+use Rattle.line_arbiter.specs.declared.outcome.LineFault.{LineFault}
+use Rattle.line_arbiter.specs.declared.faults.RenewFault.{RenewFault}
+use Rattle.nbbo_book.specs.Eligible.{is_self_helped}
+
+-- A packet was answered, a datagram was no packet, an item was ready and taken, a run of messages is
+-- to be asked for, a renewal was answered, or self-help was declared or withdrawn: each at a venue.
+pub data Happening : Type 0 where
+  packet_answered : (venue : ℕ) (line : LineId) (answer : Result Outcome LineFault) → Happening
+  packet_refused : (venue : ℕ) (line : LineId) (fault : PacketFault) → Happening
+  item_taken : (venue : ℕ) (numbered : Numbered) → Happening
+  gap_left : (venue : ℕ) (request : Request) → Happening
+  renewal_answered : (venue : ℕ) (answer : Result ℕ RenewFault) → Happening
+  self_help_declared : (venue : ℕ) (on : Bool) → Happening
+
+-- self-help on the venue is on, or off, already; at first it is off
+abbrev pub is_so : List Entry → ℕ → Bool → Bool
+is_so entries venue true = is_self_helped entries venue
+is_so entries venue false = not (is_self_helped entries venue)
+
+-- The journal after one happening more: an item adds its entry, a declaration does unless it is so
+-- already, and the others add none.
+abbrev pub entries_after : List Entry → Happening → List Entry
+entries_after entries (packet_answered venue line answer) = entries
+entries_after entries (packet_refused venue line fault) = entries
+entries_after entries (item_taken venue numbered) = entries ++ Consumed venue numbered ∷ []
+entries_after entries (gap_left venue request) = entries
+entries_after entries (renewal_answered venue answer) = entries
+entries_after entries (self_help_declared venue on) =
+    if is_so entries venue on then entries else entries ++ SelfHelp venue on ∷ []
+
+-- the journal after these happenings, one after another
+abbrev pub entries_of : List Entry → List Happening → List Entry
+entries_of entries [] = entries
+entries_of entries (h ∷ hs) = entries_of (entries_after entries h) hs

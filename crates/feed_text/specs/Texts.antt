@@ -1,0 +1,116 @@
+-- The text of a capture: the lines of what its records tell, and at the end a line for each venue.
+use Rattle.std.specs.Prelude.{◌≡◌, ℕ, ◌+◌, ◌<◌, ◌≤◌, Bool, List, [], ◌∷◌, ◌++◌, length, drop, flat_map, map, sum_by, Option, Some, None, if◌then◌else◌}
+use Rattle.feed_types.specs.declared.journal.Entry.{Entry}
+use Rattle.feed_types.specs.declared.journal.Notice.{Notice}
+use Rattle.feed_types.specs.declared.line.LineId.{LineId}
+use Rattle.mold_packet.specs.Faults.{code_of}
+use Rattle.line_arbiter.specs.Streams.{wins_of}
+use Rattle.line_arbiter.specs.Histories.{History, new_history, all_begun, streams_of}
+use Rattle.line_arbiter.specs.Counts.{shown}
+use Rattle.journal_book.specs.Changes.{changes_of}
+use Rattle.feed_text.specs.declared.replay.ReplayConfig.{ReplayConfig}
+use Rattle.feed_text.specs.Capture.{CaptureRecord}
+use Rattle.feed_text.specs.Happenings.{Happening, packet_answered, packet_refused, item_taken, gap_left, renewal_answered, self_help_declared, is_so, entries_after, entries_of}
+use Rattle.feed_text.specs.Lines.{packet_line, fault_line, item_line, best_line, gap_line, renew_line, declare_line, venue_line}
+use Rattle.feed_text.specs.Told.{TellsRecord, Tells}
+
+-- the position of the entry that a declaration adds, unless it is so already
+abbrev pub position_of : List Entry → ℕ → Bool → Option ℕ
+position_of entries venue on =
+    if is_so entries venue on then None else Some (length entries + 1)
+
+-- the line of a happening, where these are the entries before it
+abbrev pub line_of : List Entry → Happening → List ℕ
+line_of entries (packet_answered venue line answer) = packet_line venue line answer
+line_of entries (packet_refused venue line fault) = fault_line venue line (code_of fault)
+line_of entries (item_taken venue numbered) = item_line venue numbered
+line_of entries (gap_left venue request) = gap_line venue request
+line_of entries (renewal_answered venue answer) = renew_line venue answer
+line_of entries (self_help_declared venue on) =
+    declare_line venue on (position_of entries venue on)
+
+-- the notices that came with the entries behind the old ones
+abbrev pub notices_since : List (List ℕ) → List Entry → List Entry → List Notice
+notices_since symbols old new = drop (length (changes_of symbols old)) (changes_of symbols new)
+
+-- the lines of a happening: its own, and then the best lines of the notices that it made
+abbrev pub lines_of : List (List ℕ) → List Entry → Happening → List ℕ
+lines_of symbols entries h =
+    line_of entries h ++ flat_map best_line (notices_since symbols entries (entries_after entries h))
+
+-- the lines of happenings, one after another
+abbrev pub text_of : List (List ℕ) → List Entry → List Happening → List ℕ
+text_of symbols entries [] = []
+text_of symbols entries (h ∷ hs) =
+    lines_of symbols entries h ++ text_of symbols (entries_after entries h) hs
+
+-- how many numbers of all its sessions came first on the line
+abbrev pub all_wins_of : History → LineId → ℕ
+all_wins_of h line = sum_by (λ session. wins_of session.packets line) (all_begun h)
+
+-- a venue's last line: how many items of all its sessions were taken, and which lines brought how
+-- many numbers first
+abbrev pub last_line : ℕ → History → List ℕ
+last_line venue h =
+    venue_line venue (shown (length (streams_of h))) (λ line. shown (all_wins_of h line))
+
+-- the last lines, venue by venue
+abbrev pub last_lines : ℕ → List History → List ℕ
+last_lines venue [] = []
+last_lines venue (h ∷ hs) = last_line venue h ++ last_lines (venue + 1) hs
+
+-- the histories of venues to which nothing came
+abbrev pub new_histories : ReplayConfig → List History
+new_histories config = map new_history config.sessions.now
+
+-- records tell this, and lead to these histories
+abbrev pub TellsAll : ReplayConfig → List CaptureRecord → List Happening → List History → Type 0
+TellsAll config records told histories =
+    Tells config.window config.gaps records (new_histories config) told histories
+
+-- what happened has room in the journal
+abbrev pub HasRoom : ReplayConfig → List Happening → Type 0
+HasRoom config told = length (entries_of [] told) ≤ config.journal
+
+-- the lines of what happened, from an empty journal on
+abbrev pub lines_told : ReplayConfig → List Happening → List ℕ
+lines_told config told = text_of config.symbols.now [] told
+
+-- the lines of records that have room in the journal, without those of the venues at the end
+pub record IsLinesOf (config : ReplayConfig) (records : List CaptureRecord) (lines : List ℕ)
+    : Type 0 where
+  pub told : List Happening
+  pub histories : List History
+  pub tells : TellsAll config records told histories
+  pub room : HasRoom config told
+  pub lines_are : lines ≡ lines_told config told
+
+-- the text of a whole capture: the lines of its records, and then the last lines
+pub record IsTextOf (config : ReplayConfig) (records : List CaptureRecord) (text : List ℕ)
+    : Type 0 where
+  pub told : List Happening
+  pub histories : List History
+  pub tells : TellsAll config records told histories
+  pub room : HasRoom config told
+  pub text_is : text ≡ lines_told config told ++ last_lines 0 histories
+
+-- The lines up to a full journal: all records but the last have room; of what the last one tells
+-- these first happenings have room, too, and the next one would add an entry past the journal's
+-- end. The lines are those of all that had room.
+pub record IsLinesToFull (config : ReplayConfig) (records : List CaptureRecord) (lines : List ℕ)
+    : Type 0 where
+  pub earlier : List CaptureRecord
+  pub last : CaptureRecord
+  pub records_are : records ≡ earlier ++ last ∷ []
+  pub told : List Happening
+  pub histories : List History
+  pub tells : TellsAll config earlier told histories
+  pub first : List Happening
+  pub next : Happening
+  pub others : List Happening
+  pub after : List History
+  pub last_tells : TellsRecord config.window config.gaps last histories
+      (first ++ next ∷ others) after
+  pub room : HasRoom config (told ++ first)
+  pub full : config.journal < length (entries_of [] (told ++ first ++ next ∷ []))
+  pub lines_are : lines ≡ lines_told config (told ++ first)
