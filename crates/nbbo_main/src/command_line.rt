@@ -245,6 +245,3 @@ pub fn settings(alloc: Global, words: &[String]) -> Result<ReplaySettings, Refus
         None => Err(Refusal::BadSession),
     }
 }
-
-#[cfg(test)]
-mod tests;
