@@ -3,7 +3,6 @@ use Rattle.std.proofs.Common.{◌≡◌, ℕ, Bool, true, false, List, [], ◌�
 use Rattle.std.specs.Prelude.{MatchOption, slice_get, if◌then◌else◌, nat_le}
 use Rattle.std.specs.List.{AllByRecursion}
 use Rattle.feed_types.specs.declared.item.Numbered.{Numbered}
-use Rattle.feed_types.specs.declared.journal.Notice.{Notice}
 use Rattle.feed_types.specs.declared.line.LineId.{LineId}
 use Rattle.mold_packet.specs.Content.{Content, Spells}
 use Rattle.line_arbiter.specs.declared.outcome.Outcome.{Outcome}
@@ -12,12 +11,11 @@ use Rattle.line_arbiter.specs.declared.faults.RenewFault.{RenewFault}
 use Rattle.line_arbiter.specs.Histories.{History, streams_of}
 use Rattle.filter_terms.specs.declared.terms.Terms.{Terms}
 use Rattle.journal_book.specs.Wanted.{wanted_of}
-use Rattle.nbbo_book.specs.Eligible.{is_self_helped}
 use Rattle.feed_core.specs.declared.event.Event.{Event}
 use Rattle.feed_core.specs.declared.event.Event.TheVariants.{Packet, Push, Consume, Declare, Renew, Subscribe, Offer, Dequeue}
 use Rattle.feed_core.specs.declared.event.Done.{Done}
 use Rattle.feed_core.specs.Worlds.{is_full, Venue, sent_of, Subscriber, World, Setting}
-use Rattle.feed_core.specs.Steps.{Came, stays, goes, next_in, next_out, IsTaken, IsRenewed, pushed, journaled, consumed, is_same, declared, subscribed, offered, dequeued, journal_full, already_so, unknown_venue, unknown_subscriber, put_venue, Stays, Comes, with_sent, with_intake, with_offered, with_dequeued, IsSubscribed, IsStep, IsRun}
+use Rattle.feed_core.specs.Steps.{Came, stays, goes, next_in, next_out, IsTaken, IsRenewed, pushed, journaled, declared, subscribed, offered, dequeued, journal_full, unknown_venue, unknown_subscriber, put_venue, Stays, Comes, with_sent, with_intake, with_offered, with_dequeued, IsSubscribed, IsStep, IsRun}
 use Rattle.feed_core.proofs.Lists.{get_set}
 
 pub record MoveKept (s : Setting) (May : Event → Type 0) (Q : ℕ → Venue → Type 0) : Type 0 where

@@ -6,6 +6,7 @@ pub mod KeptSubscribers
 pub mod SubscriberHalfLaw
 pub mod HeadlineLaw
 pub mod OneRunLaw
+pub mod EveryRun
 pub mod VenueMoves
 pub mod Offering
 pub mod MachineMoves

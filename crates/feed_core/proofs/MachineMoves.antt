@@ -2,7 +2,7 @@
 use Rattle.std.proofs.Common.{take, Bor, get_or, ◌≡◌, ℕ, zero, suc, ◌+◌, ◌<◌, ◌≤◌, Bool, true, false, List, [], ◌∷◌, ◌++◌, length, Option, Some, None, refl, sym, ap, subst, ◌∙◌, arith, inl, inr, length-append}
 use Rattle.std.specs.Prelude.{slice_get, slice_set, MatchOption, IfOk, OnOk, Result, Ok, Err, nat_le, if◌then◌else◌, ◌⊎◌, filter, map}
 use Rattle.std.proofs.Math.ListN.{length-set}
-use Rattle.std.proofs.lemmas.Option.{slice_get_within, slice_get_past, slice_get_read}
+use Rattle.std.proofs.lemmas.Option.{slice_get_within, slice_get_read}
 use Rattle.std.proofs.lemmas.Bool.Decides.{nat_tests}
 use Rattle.std.proofs.lemmas.List.{length-map, take_more}
 use Rattle.feed_types.specs.declared.item.Numbered.{Numbered}
@@ -10,7 +10,6 @@ use Rattle.feed_types.specs.declared.journal.Entry.{Entry}
 use Rattle.feed_types.specs.declared.journal.Entry.TheVariants as entry
 use Rattle.feed_types.specs.declared.journal.Notice.{Notice}
 use Rattle.feed_types.specs.declared.line.LineId.{LineId}
-use Rattle.feed_types.specs.Prefix.{IsPrefix}
 use Rattle.line_arbiter.specs.Histories.{streams_of}
 use Rattle.filter_terms.specs.declared.terms.Terms.{Terms}
 use Rattle.filter_terms.specs.Terms.{meets}
@@ -23,8 +22,8 @@ use Rattle.feed_core.specs.declared.event.Event.TheVariants as events
 use Rattle.feed_core.specs.declared.event.Done.{Done}
 use Rattle.feed_core.specs.declared.event.Done.TheVariants as done
 use Rattle.feed_core.specs.Worlds.{Lane, empty_lane, is_full, Venue, Subscriber, World, Setting, new_world}
-use Rattle.feed_core.specs.Steps.{Came, stays, goes, journal_full, already_so, is_same, next_in, next_out, pushed, Intake, journaled, consumed, declared, offered, dequeued, put_venue, put_subscriber, Stays, Comes, ComesTo, with_sent, with_intake, with_offered, with_dequeued, AtVenue, AtSubscriber, unknown_venue, unknown_subscriber, too_many_subscribers, IsSubscribed, IsStep, IsRun}
-use Rattle.feed_core.specs.Fitting.{VenueView, FitsVenue, LeftFaulty, LeftAnswered, LeftRenewed, LeftPushed, SubscriberView, FitsSubscriber, LeftOffered, intake_of, KeepsJournal, MachineView, FitVenues, FitSubscribers, FitsWorld, Stepped, Reached}
+use Rattle.feed_core.specs.Steps.{Came, stays, goes, journal_full, already_so, is_same, next_in, next_out, pushed, Intake, journaled, consumed, declared, offered, dequeued, put_venue, put_subscriber, Comes, ComesTo, with_sent, with_intake, with_offered, with_dequeued, too_many_subscribers, IsSubscribed, IsStep, IsRun}
+use Rattle.feed_core.specs.Fitting.{VenueView, FitsVenue, LeftFaulty, LeftAnswered, LeftRenewed, LeftPushed, SubscriberView, FitsSubscriber, LeftOffered, intake_of, KeepsJournal, MachineView, FitSubscribers, FitsWorld, Stepped, Reached}
 use Rattle.journal_book.proofs.Growth.{changes_begin}
 use Rattle.feed_core.proofs.Lists.{get_set, get_push, get_within}
 

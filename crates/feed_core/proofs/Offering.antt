@@ -1,6 +1,6 @@
 -- The next notice that meets some terms, past those that were looked at.
 use Rattle.std.proofs.Common.{ℕ, zero, suc, ◌+◌, ◌≡◌, ◌<◌, ◌≤◌, List, [], ◌∷◌, ◌++◌, Bool, true, false, cond, ap, subst, ◌∙◌, sym, refl, length, take, filter, get_or, None, Some, Option, arith}
-use Rattle.std.specs.Prelude.{slice_get, nat_le, IfSome, IsTrue}
+use Rattle.std.specs.Prelude.{slice_get, IfSome, IsTrue}
 use Rattle.std.proofs.lemmas.List.{take_all}
 use Rattle.feed_types.specs.declared.journal.Entry.{Entry}
 use Rattle.feed_types.specs.declared.journal.Notice.{Notice}

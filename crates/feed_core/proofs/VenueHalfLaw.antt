@@ -1,6 +1,6 @@
 -- The venue half: what each venue keeps through a run, from the empty world on.
-use Rattle.std.proofs.Common.{◌≡◌, ℕ, zero, suc, ◌+◌, ◌≤◌, List, [], ◌∷◌, ◌++◌, length, map, Some, Result, Ok, Err, refl, sym, ap, subst, ◌∙◌, arith, append_assoc, append-nil, length-append}
-use Rattle.std.specs.Prelude.{slice_get, flat_map}
+use Rattle.std.proofs.Common.{◌≡◌, ℕ, zero, suc, ◌+◌, List, [], ◌∷◌, ◌++◌, length, map, Some, Result, Ok, Err, refl, sym, ap, subst, ◌∙◌, arith, append_assoc, append-nil, length-append}
+use Rattle.std.specs.Prelude.{slice_get}
 use Rattle.std.specs.List.{AllByRecursion}
 use Rattle.std.proofs.lemmas.Grind.{flat_map-append}
 use Rattle.feed_types.specs.declared.item.Numbered.{Numbered}
@@ -15,7 +15,7 @@ use Rattle.feed_types.specs.Prefix.{IsPrefix}
 use Rattle.line_arbiter.specs.Streams.{IsComplete, front_of, stream_of}
 use Rattle.line_arbiter.specs.Answered.{IsAnswered, AreAnswered}
 use Rattle.line_arbiter.specs.Renewals.{HasEnded}
-use Rattle.line_arbiter.specs.Histories.{Begun, History, new_session, all_begun, names_of, items_of, streams_of}
+use Rattle.line_arbiter.specs.Histories.{Begun, History, new_session, all_begun, items_of, streams_of}
 use Rattle.line_arbiter.specs.OfSession.{IsOfSession, AreOfSession, GivesSession, session_stream}
 use Rattle.line_arbiter.proofs.Below.{answered_more, answered_grows, all_sent}
 use Rattle.line_arbiter.proofs.Giving.{gives_session}

@@ -1,8 +1,7 @@
 -- What a venue's moves leave, said of plain states.
-use Rattle.std.proofs.Common.{◌≡◌, ℕ, zero, suc, ◌+◌, ◌-◌, ◌<◌, ◌≤◌, Bool, true, false, List, [], ◌∷◌, ◌++◌, length, map, take, drop, Option, Some, None, Result, refl, sym, ap, subst, ◌∙◌, arith, length-append, append_assoc, append-nil}
+use Rattle.std.proofs.Common.{◌≡◌, ℕ, zero, suc, ◌+◌, ◌-◌, ◌≤◌, Bool, true, false, List, [], ◌∷◌, ◌++◌, length, map, drop, Option, Some, None, Result, refl, sym, ap, subst, ◌∙◌, arith, length-append, append_assoc, append-nil}
 use Rattle.std.proofs.lemmas.List.{drop-append-le}
-use Rattle.std.specs.Prelude.{slice_get, nat_le, if◌then◌else◌}
-use Rattle.std.proofs.lemmas.Bool.Decides.{nat_tests}
+use Rattle.std.specs.Prelude.{slice_get}
 use Rattle.feed_types.specs.declared.item.Numbered.{Numbered}
 use Rattle.feed_types.specs.declared.line.LineId.{LineId}
 use Rattle.mold_packet.specs.Content.{Content, Spells}
@@ -13,11 +12,11 @@ use Rattle.line_arbiter.specs.Streams.{stream_of}
 use Rattle.line_arbiter.specs.Outcomes.{IsOutcome}
 use Rattle.line_arbiter.specs.States.{State, KeepsItsPlace, IsAdvanced}
 use Rattle.line_arbiter.specs.Fits.{Fits}
-use Rattle.line_arbiter.specs.Histories.{Begun, History, items_of, streams_of, names_of, after_arrival}
+use Rattle.line_arbiter.specs.Histories.{Begun, items_of, streams_of, after_arrival}
 use Rattle.feed_core.specs.declared.event.Done.{Done}
 use Rattle.feed_core.specs.declared.event.Done.TheVariants as done
 use Rattle.feed_core.specs.Worlds.{Lane, inside, is_full, Venue, sent_of}
-use Rattle.feed_core.specs.Steps.{stays, goes, next_in, IsTaken, answered, pushed, ComesTo}
+use Rattle.feed_core.specs.Steps.{next_in, answered, pushed, ComesTo}
 use Rattle.feed_core.specs.Fitting.{VenueView, FitsVenue, LeftAnswered, LeftPushed, ShowsVenue}
 use Rattle.feed_core.proofs.VenueHalfLaw.{items_push}
 

@@ -1,6 +1,6 @@
 -- A machine as it is made, and as it is shown in the end.
 use Rattle.std.proofs.Common.{take, get_or, ◌≡◌, ℕ, zero, suc, ◌+◌, ◌<◌, ◌≤◌, List, [], ◌∷◌, ◌++◌, length, map, Some, refl, sym, ap, subst, ◌∙◌, arith, length-append, inl, inr}
-use Rattle.std.specs.Prelude.{slice_get, slice_set, ◌⊎◌}
+use Rattle.std.specs.Prelude.{slice_get, slice_set}
 use Rattle.std.proofs.Math.ListN.{length-set}
 use Rattle.std.proofs.lemmas.Option.{slice_get_within, slice_get_read}
 use Rattle.std.proofs.lemmas.Bool.{cases_lt}
@@ -15,8 +15,7 @@ use Rattle.journal_book.specs.Journals.{JournalState}
 use Rattle.feed_core.specs.declared.event.Event.{Event}
 use Rattle.feed_core.specs.declared.event.Done.{Done}
 use Rattle.feed_core.specs.Worlds.{Lane, inside, Venue, Subscriber, World, Setting, setting_of, new_venue, new_world}
-use Rattle.feed_core.specs.VenueHalf.{waiting}
-use Rattle.feed_core.specs.Headline.{ShownVenue, ShownSubscriber, Shown, shown_venue, shown_subscriber, shown_of, IsRunOf}
+use Rattle.feed_core.specs.Headline.{ShownVenue, shown_venue, shown_subscriber, IsRunOf}
 use Rattle.feed_core.specs.Fitting.{VenueView, FitsVenue, ShowsVenue, SubscriberView, MachineView, FitVenues, FitSubscribers, FitsWorld, Reached, venue_shown, subscriber_shown, shown_by, ShownTo, ShowVenues, IsEmptyOf}
 use Rattle.feed_core.proofs.Lists.{get_set, get_push}
 

@@ -1,7 +1,7 @@
 -- Which configuration is refused, and why: the first that fits, in this order. Refused memory is
 -- the last refusal, but that for the table of symbols, which is asked for before it is seen that
 -- one comes twice.
-use Rattle.std.specs.Prelude.{ℕ, ◌≤◌, List, length}
+use Rattle.std.specs.Prelude.{ℕ, ◌≤◌, length}
 use Rattle.std.specs.List.{IsDistinct}
 use Rattle.std.specs.Str.{bytes_eq}
 use Rattle.feed_types.specs.declared.config.FeedConfig.{FeedConfig}

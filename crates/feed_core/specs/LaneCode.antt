@@ -1,5 +1,5 @@
 -- How the logic stores a lane: for the Model of a lane's code alone, no public clause cites it.
-use Rattle.std.specs.Prelude.{List, ◌≡◌, refl}
+use Rattle.std.specs.Prelude.{List, refl}
 use Rattle.std.specs.Coded.{Coded, code_by, coded×, coded_list}
 use Rattle.feed_core.specs.Worlds.{Lane}
 

@@ -8,6 +8,7 @@ use Rattle.feed_types.specs.declared.journal.Entry.{Entry}
 use Rattle.feed_types.specs.declared.journal.Entry.TheVariants as entry
 use Rattle.feed_types.specs.declared.journal.Notice.{Notice}
 use Rattle.mold_packet.specs.declared.fault.PacketFault.{PacketFault}
+use Rattle.mold_packet.specs.Bytes.{AreBytes}
 use Rattle.mold_packet.specs.Content.{Content, Spells}
 use Rattle.mold_packet.specs.Faults.{HasFault, code_of}
 use Rattle.line_arbiter.specs.declared.outcome.Outcome.{Outcome}
@@ -258,3 +259,15 @@ IsRun s old [] [] new = new ≡ old
 IsRun s old (e ∷ es) (d ∷ ds) new = (mid : World) × IsStep s old e d mid × IsRun s mid es ds new
 IsRun s old [] (d ∷ ds) new = ⊥
 IsRun s old (e ∷ es) [] new = ⊥
+
+-- A datagram's numbers are bytes. The type of an event knows it; a law, which speaks of all lists
+-- of numbers, asks for it.
+abbrev pub BringsBytes : Event → Type 0
+BringsBytes (Packet venue line bytes) = AreBytes bytes.now
+BringsBytes (Push venue) = Unit {0}
+BringsBytes (Consume venue) = Unit {0}
+BringsBytes (Declare venue on) = Unit {0}
+BringsBytes (Renew venue name) = Unit {0}
+BringsBytes Subscribe = Unit {0}
+BringsBytes (Offer id) = Unit {0}
+BringsBytes (Dequeue id) = Unit {0}

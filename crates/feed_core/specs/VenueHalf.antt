@@ -1,7 +1,7 @@
 -- The venue half of the headline: each venue's items, consumed and then waiting, are its sessions'
 -- messages, session by session up to the first gap, each once, in sequence and none after their
 -- session's end.
-use Rattle.std.specs.Prelude.{◌≡◌, ℕ, List, [], ◌∷◌, ◌++◌, length, drop, map, flat_map}
+use Rattle.std.specs.Prelude.{◌≡◌, ℕ, List, [], ◌∷◌, ◌++◌, length, drop, map}
 use Rattle.std.specs.List.{AllByRecursion}
 use Rattle.feed_types.specs.declared.item.Numbered.{Numbered}
 use Rattle.feed_types.specs.Sessions.{Session, whole_session, whole_sessions}

@@ -1,10 +1,11 @@
 //! What the definitions mean. Each function has an empty body, and its contract is a law.
 
 ghost use Rattle.std.specs.Prelude.{◌≡◌, ℕ, List, Some, slice_get};
+ghost use Rattle.std.specs.List.{AllByRecursion};
 ghost use Rattle.feed_core.specs.declared.event.Event.{Event};
 ghost use Rattle.feed_core.specs.declared.event.Done.{Done};
 ghost use Rattle.feed_core.specs.Worlds.{Venue, Subscriber, World, Setting, new_world};
-ghost use Rattle.feed_core.specs.Steps.{IsRun};
+ghost use Rattle.feed_core.specs.Steps.{BringsBytes, IsRun};
 ghost use Rattle.feed_core.specs.VenueHalf.{VenueHalf};
 ghost use Rattle.feed_core.specs.SubscriberHalf.{SubscriberHalf};
 ghost use Rattle.feed_core.specs.Headline.{Headline};
@@ -41,4 +42,13 @@ pub fn one_run()
     ensures world { (s : Setting) (old : World) (events : List Event)
         (a b : List Done) (v w : World)
         → IsRun s old events a v → IsRun s old events b w → v ≡ w }
+{}
+
+/// And it has one: whatever the events, in whatever order and from whatever world, they lead on.
+/// With [`one_run`], exactly one list of outcomes and one world, so that no clause over runs is
+/// empty.
+pub fn every_list_of_events_has_a_run()
+    ensures { (s : Setting) (old : World) (events : List Event)
+        → AllByRecursion BringsBytes events
+        → (outcomes : List Done) × (new : World) × IsRun s old events outcomes new }
 {}

@@ -23,7 +23,7 @@ mod world;
 
 pub use config::{ConfigFault, CoreFault};
 pub use event::{Done, Event};
-pub use laws::{headline, one_run, subscriber_half, venue_half};
+pub use laws::{every_list_of_events_has_a_run, headline, one_run, subscriber_half, venue_half};
 pub use running::run;
 pub use world::World;
 

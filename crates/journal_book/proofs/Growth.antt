@@ -8,7 +8,7 @@ use Rattle.feed_types.specs.declared.journal.Entry.{Entry}
 use Rattle.feed_types.specs.declared.journal.Notice.{Notice}
 use Rattle.feed_types.specs.Prefix.{IsPrefix}
 use Rattle.nbbo_book.specs.declared.change.Change.{Change}
-use Rattle.nbbo_book.specs.Changes.{change_of, changes_of as changes_by}
+use Rattle.nbbo_book.specs.Changes.{change_of, changes_by}
 use Rattle.nbbo_book.specs.Nationals.{national_of}
 use Rattle.journal_book.specs.Changes.{changes_at, all_changes, notice_of, notices_from, changes_of}
 

@@ -38,8 +38,7 @@ notices_from number [] = []
 notices_from number (change ∷ changes) =
     notice_of number change ∷ notices_from (number + 1) changes
 
--- The changes of the national best over a journal of these entries, numbered from 1. (The
--- `changes_of` of nbbo_book are those of one entry.)
+-- the changes of the national best over a journal of these entries, numbered from 1
 abbrev pub changes_of : List (List ℕ) → List Entry → List Notice
 changes_of symbols entries = notices_from 1 (all_changes symbols entries)
 

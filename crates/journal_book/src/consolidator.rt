@@ -186,6 +186,13 @@ impl Consolidator {
         self.journal.look_to(id, place + 1);
     }
 
+    /// How many venues there are: items and declarations are of those below.
+    pub fn venue_count(&self) -> usize
+        ensures { result ≡ (journal_of self.now).venues }
+    {
+        self.journal.venue_count()
+    }
+
     /// The entries, each at its position less one.
     pub fn entries(&self) -> &[Entry]
         ensures value { result.now ≡ (journal_of self.now).entries }

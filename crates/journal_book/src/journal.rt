@@ -200,6 +200,13 @@ impl Journal {
         self.book.is_self_helped(venue)
     }
 
+    /// How many venues there are: items and declarations are of those below.
+    pub fn venue_count(&self) -> usize
+        ensures { result ≡ self.now.venues }
+    {
+        self.venue_count
+    }
+
     /// The entries, each at its position less one.
     pub fn entries(&self) -> &[Entry]
         ensures value { result.now ≡ self.now.entries }

@@ -1,9 +1,11 @@
 -- Once End was sent: all is sent, and nothing comes after it.
-use Rattle.std.proofs.Common.{◌≡◌, ℕ, ◌+◌, ◌<◌, List, length, None, Some, ap, subst, ◌∙◌, arith, inl, inr}
+use Rattle.std.proofs.Common.{◌≡◌, ℕ, ◌+◌, ◌<◌, List, length, Option, None, Some, refl, sym, ap, subst, ◌∙◌, arith, inl, inr}
+use Rattle.std.specs.Prelude.{IsSome}
+use Rattle.feed_types.specs.declared.item.Item.{Item}
 use Rattle.line_arbiter.specs.Packets.{Arrival, end_of}
 use Rattle.line_arbiter.specs.Streams.{IsComplete, front_of, stream_of}
 use Rattle.line_arbiter.specs.Renewals.{HasEnded}
-use Rattle.line_arbiter.specs.Holding.{held_at}
+use Rattle.line_arbiter.specs.Holding.{held_at, IsEmpty}
 use Rattle.line_arbiter.specs.States.{State, held_of, next_from, next_of}
 use Rattle.line_arbiter.specs.Fits.{Fits}
 use Rattle.line_arbiter.specs.Steps.{IsSound}
@@ -11,6 +13,7 @@ use Rattle.line_arbiter.proofs.Standing.{stands_of}
 use Rattle.line_arbiter.proofs.Cursors.{cursor, length-stream, end_most}
 use Rattle.line_arbiter.proofs.Nexts.{none_from, past_end}
 use Rattle.line_arbiter.proofs.StreamGrowth.{EndsPast}
+use Rattle.line_arbiter.proofs.Windows.{in_window}
 
 pub ends_past : (s : State) (packets : List Arrival) → IsSound s → Fits s packets → EndsPast packets
 ends_past s packets sound fits e is = subst (λ (n : ℕ). n < e) fits.front (sound.front_before_end e (fits.end ∙ is))
@@ -29,6 +32,13 @@ complete s packets sound fits ended = elim (cursor s packets (stands_of fits)) [
         omega arith,
       )
 ]
+
+-- nothing is held
+pub empty_at_end : (s : State) → IsSound s → HasEnded s.end s.sent → IsEmpty (held_of s)
+empty_at_end s sound ended m = none_from (held_at (held_of s) m) (λ item is.
+    let below = sound.before_end s.sent m item ended is in
+    let past = (in_window (held_of s) m (subst (λ (o : Option Item). IsSome o) (sym is) refl)).0 in
+    omega arith)
 
 -- nothing is ready
 pub none_after_end : (s : State) → IsSound s → HasEnded s.end s.sent → next_of s ≡ None

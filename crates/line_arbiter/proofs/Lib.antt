@@ -22,10 +22,13 @@ pub mod HeldCounts
 pub mod LineCounts
 -- one more packet
 pub mod Soundness
+pub mod Repeating
 pub mod Growth
 pub mod Answering
 pub mod PacketSteps
 pub mod OneOutcome
+pub mod Deciding
+pub mod EveryAnswer
 pub mod Passing
 pub mod NameBytes
 -- genuine packets, and the laws

@@ -13,7 +13,7 @@ use Rattle.line_arbiter.specs.Renewals.{IsRenewal}
 use Rattle.line_arbiter.specs.Packets.{Arrival, end_of, last_of}
 use Rattle.line_arbiter.specs.Outcomes.{IsPast, IsBefore, Disagrees, Agrees, ToMessages, ToHeartbeat, ToEnd, ToKind, IsOutcome}
 
-same_some : (a b : ℕ) (o : Option ℕ) → o ≡ Some a → o ≡ Some b → a ≡ b
+pub same_some : (a b : ℕ) (o : Option ℕ) → o ≡ Some a → o ≡ Some b → a ≡ b
 same_some a b o p q = let e : Some a ≡ Some b = sym p ∙ q in cc
 
 past_or_before : (packets : List Arrival) (n : ℕ) → IsPast (end_of packets) n → IsBefore (end_of packets) n → ⊥
@@ -77,7 +77,7 @@ to_heartbeat packets n a (Err EndMoved) x y = absurd y
 to_heartbeat packets n a (Err EndTooEarly) x y = absurd y
 to_heartbeat packets n a (Err Conflict) x y = absurd y
 
-none_or_some : (o : Option ℕ) (e : ℕ) → o ≡ None → o ≡ Some e → ⊥
+pub none_or_some : (o : Option ℕ) (e : ℕ) → o ≡ None → o ≡ Some e → ⊥
 none_or_some o e p q = let r : None ≡ Some e = sym p ∙ q in absurd cc
 
 to_end : (packets : List Arrival) (n : ℕ) (a b : Result Outcome LineFault) → ToEnd packets n a → ToEnd packets n b → a ≡ b

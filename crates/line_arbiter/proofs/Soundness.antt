@@ -52,6 +52,7 @@ sound_after line fresh old new p sound fit before by =
             let no : e < e = below e e there.0 (sym end ∙ is) there.1 in
             absurd (omega arith)
       ];
+      stop = by.stop;
       named = subst (λ (names : List (List ℕ)). 1 ≤ length names) (sym (ap (λ (s : State). s.sessions) by.others)) sound.named;
       few = subst (λ (names : List (List ℕ)). length names ≤ 64) (sym (ap (λ (s : State). s.sessions) by.others)) sound.few;
     }
@@ -61,6 +62,10 @@ passed : (b : Bool) (o : Option Item) (item : Item) → (if b then None else o) 
 passed true o item e = absurd cc
 passed false o item e = e
 
+still_none : (b : Bool) (o : Option Item) → o ≡ None → (if b then None else o) ≡ None
+still_none true o e = refl
+still_none false o e = e
+
 pub sound_advanced : (old new : State) → IsSound old → new ≡ record old { sent = new.sent; ring = new.ring } → ((m : ℕ) → held_at (held_of new) m ≡ (if nat_eq m (old.sent + 1) then None else held_at (held_of old) m)) → IsSound new
 sound_advanced old new sound others held =
     let end : new.end ≡ old.end = ap (λ (s : State). s.end) others in
@@ -69,6 +74,7 @@ sound_advanced old new sound others held =
       end_small = λ e is. sound.end_small e (sym end ∙ is);
       before_end = λ e m item is here. sound.before_end e m item (sym end ∙ is) (passed (nat_eq m (old.sent + 1)) (held_at (held_of old) m) item (sym (held m) ∙ here));
       front_before_end = λ e is. let k = sound.front_before_end e (sym end ∙ is) in omega arith;
+      stop = rw front (held (old.front + 1) ∙ still_none (nat_eq (old.front + 1) (old.sent + 1)) (held_at (held_of old) (old.front + 1)) sound.stop);
       named = subst (λ (names : List (List ℕ)). 1 ≤ length names) (sym (ap (λ (s : State). s.sessions) others)) sound.named;
       few = subst (λ (names : List (List ℕ)). length names ≤ 64) (sym (ap (λ (s : State). s.sessions) others)) sound.few;
     }

@@ -17,7 +17,8 @@ use Rattle.line_arbiter.specs.Counts.{Counts, shown}
 use Rattle.line_arbiter.specs.Holding.{IsEmpty, held_at, put_all, fresh_to, HeldAgrees, HeldDisagrees}
 use Rattle.line_arbiter.specs.States.{State, held_of}
 
--- What every arbiter keeps: what is held, and the front, lie below the announced end.
+-- What every arbiter keeps: what is held, and the front, lie below the announced end; and nothing
+-- is held right behind the front.
 pub record IsSound (s : State) : Type 0 where
   pub end_small : (e : ℕ) → s.end ≡ Some e → e < 2 ^ 64
   pub before_end : (e m : ℕ) (item : Item)
@@ -25,6 +26,7 @@ pub record IsSound (s : State) : Type 0 where
   pub front_before_end : (e : ℕ) → s.end ≡ Some e → s.front < e
   pub named : 1 ≤ length s.sessions
   pub few : length s.sessions ≤ 64
+  pub stop : held_at (held_of s) (s.front + 1) ≡ None
 
 -- the number up to which there are messages, after one more is heard of: nothing changes once the
 -- end is announced

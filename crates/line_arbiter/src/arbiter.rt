@@ -191,6 +191,22 @@ impl<G: Genuine> Arbiter<G> {
         self.held.pass();
     }
 
+    /// Takes a packet of messages that were all sent, as on the line that comes second.
+    #[inline]
+    fn take_sent(&mut self, line: LineId, packet: &Packet<'_>, last: u64) -> Outcome
+        requires last { last ≡ last_of packet.now }
+        requires sent { last_of packet.now ≤ self.old.sent }
+        requires before { IsBefore self.old.end (last_of packet.now) }
+        ensures { MessagesStep line self.old self.new packet.now (Ok result) }
+    {
+        self.known_to = raised(self.known_to, self.end_number, last);
+        self.won.add(line, 0);
+        Outcome::Taken {
+            new: 0,
+            repeated: packet.count(),
+        }
+    }
+
     fn take_messages(&mut self, line: LineId, packet: &Packet<'_>) -> Result<Outcome, LineFault>
         requires { packet.now.kind ≡ Kind.Messages }
         ensures { MessagesStep line self.old self.new packet.now result }
@@ -198,6 +214,9 @@ impl<G: Genuine> Arbiter<G> {
         let last = last_number(packet);
         if is_past(self.end_number, last) {
             return Err(LineFault::PastEnd);
+        }
+        if last <= self.held.base() {
+            return Ok(self.take_sent(line, packet, last));
         }
         if last.saturating_sub(self.held.base()) > u64::from(self.held.width()) {
             self.known_to = raised(self.known_to, self.end_number, last);
@@ -406,7 +425,7 @@ impl<G: Genuine> Arbiter<G> {
         }
     }
 
-    /// IsPrefix the venue's next session under a name of ten bytes, once End was advanced past, and
+    /// Begins the venue's next session under a name of ten bytes, once End was advanced past, and
     /// answers its ordinal. Nothing of it has come yet; wins go on counting. The refusals, in this
     /// order: NotEnded, SessionUsed, TooManySessions (64 at most).
     pub fn renew(&mut self, session: [u8; 10]) -> Result<u64, RenewFault>

@@ -59,7 +59,8 @@ fn put(window: &mut Window, number: u64, message: &[u8]) -> bool
     true
 }
 
-fn fill_each(window: &mut Window, packet: &Packet<'_>) -> u16
+/// Holds the packet's messages past the base where nothing is held, and tells how many it held.
+pub(crate) fn fill(window: &mut Window, packet: &Packet<'_>) -> u16
     requires { packet.now.number + length packet.now.messages
         ≤ window.old.base + window.old.width + 1 }
     ensures after { (m : ℕ) → held_at window.new m
@@ -76,23 +77,4 @@ fn fill_each(window: &mut Window, packet: &Packet<'_>) -> u16
         count += u16::from(is_new);
     }
     count
-}
-
-/// Holds the packet's messages past the base where nothing is held, and tells how many it held.
-/// Where all of them were sent, as on the line that comes second, its messages aren't walked.
-pub(crate) fn fill(window: &mut Window, packet: &Packet<'_>) -> u16
-    requires { packet.now.number + length packet.now.messages
-        ≤ window.old.base + window.old.width + 1 }
-    ensures after { (m : ℕ) → held_at window.new m
-        ≡ put_all window.old.base packet.now (held_at window.old m) m }
-    ensures count { result
-        ≡ fresh_to (length packet.now.messages) window.old.base window.old packet.now }
-    ensures base { window.new.base ≡ window.old.base }
-    ensures width { window.new.width ≡ window.old.width }
-{
-    let sent = window.base().saturating_sub(packet.number() - 1);
-    if sent >= u64::from(packet.count()) {
-        return 0;
-    }
-    fill_each(window, packet)
 }

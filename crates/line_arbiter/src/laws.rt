@@ -34,6 +34,19 @@ pub fn one_renewal()
         → IsRenewal names end sent name a → IsRenewal names end sent name b → a ≡ b }
 {}
 
+/// And it has one: with [`one_outcome`], exactly one.
+pub fn every_packet_has_an_answer()
+    ensures { (session : List ℕ) (window sent : ℕ) (packets : List Arrival) (p : Content)
+        → (answer : Result Outcome LineFault)
+        × IsOutcome session window sent packets p answer }
+{}
+
+/// So has each renewal, with [`one_renewal`].
+pub fn every_renewal_has_an_answer()
+    ensures { (names : List (List ℕ)) (end : Option ℕ) (sent : ℕ) (name : List ℕ)
+        → (answer : Result ℕ RenewFault) × IsRenewal names end sent name answer }
+{}
+
 /// The first gap: the front is the greatest number up to which all were taken, and the next one
 /// wasn't.
 pub fn the_front_is_the_first_gap()

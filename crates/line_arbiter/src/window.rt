@@ -177,11 +177,15 @@ impl Window {
         ensures value { result ≡ held_at self.now (self.now.base + 1) }
         ensures small { IsSome result → self.now.base + 1 < 2 ^ 64 }
     {
+        if self.is_empty() {
+            return None;
+        }
         let _base = self.base_number;
         self.item_in(0)
     }
 
     /// Whether nothing is held.
+    #[inline]
     pub(crate) fn is_empty(&self) -> bool
         ensures { MatchBool result (IsEmpty self.now)
             ((m : ℕ) × IsSome (held_at self.now m)) }
@@ -266,10 +270,10 @@ impl Window {
         ensures run { (m : ℕ) → front < m → m ≤ result → IsSome (held_at self.now m) }
         ensures stop { held_at self.now (result + 1) ≡ None }
     {
-        let width = self.slots.len();
-        if front < self.base_number || front - self.base_number >= width as u64 {
+        if front < self.base_number || front >= self.top_number {
             return front;
         }
+        let width = self.slots.len();
         let from = (front - self.base_number) as usize;
         let end = first_place(self.marks.as_slice(), self.first, width, false, from, width);
         self.base_number + end as u64

@@ -7,7 +7,7 @@ use Rattle.std.proofs.lemmas.List.{take_at, drop_at, drop_all, append-nil, take-
 use Rattle.mold_packet.specs.Header.{header, session_at, number_at, count_at}
 
 -- a part of bytes holds bytes
-part_is : (bytes : List ℕ) (from n : ℕ) → ((i : ℕ) → get_or bytes i 0 < 256) → (i : ℕ) → get_or (take n (drop from bytes)) i 0 < 256
+pub part_is : (bytes : List ℕ) (from n : ℕ) → ((i : ℕ) → get_or bytes i 0 < 256) → (i : ℕ) → get_or (take n (drop from bytes)) i 0 < 256
 part_is bytes from n h i =
     elim (cases_lt i n) [
       | inl lt ↦ rw (get_or-take n (drop from bytes) i 0 lt, get_or-drop from bytes i 0) (h (from + i))

@@ -1,5 +1,6 @@
 pub mod Cutting
 pub mod Growing
+pub mod EveryReading
 pub mod HeaderFields
 pub mod OneReading
 pub mod OneRequest

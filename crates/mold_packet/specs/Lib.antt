@@ -1,5 +1,6 @@
 pub mod Block
 pub mod Body
+pub mod Bytes
 pub mod Content
 pub mod Faults
 pub mod Header

@@ -1,4 +1,5 @@
-ghost use Rattle.std.specs.Prelude.{◌≡◌, ◌≤◌, ℕ, List, [], Result, Ok, IfOk, IfErr};
+ghost use Rattle.std.specs.Prelude.{◌≡◌, ◌≤◌, ◌⊎◌, ℕ, List, [], Result, Ok, IfOk, IfErr};
+ghost use Rattle.mold_packet.specs.Bytes.{AreBytes};
 ghost use Rattle.mold_packet.specs.Content.{Content, Spells};
 ghost use Rattle.mold_packet.specs.Faults.{HasFault};
 ghost use Rattle.mold_packet.specs.Request.{SpellsRequest, HasRequestFault};
@@ -31,6 +32,19 @@ pub fn one_request()
         → SpellsRequest bytes r → 1 ≤ r.number → HasRequestFault bytes fault → ⊥ }
     ensures fault { (bytes : List ℕ) (f g : PacketFault)
         → HasRequestFault bytes f → HasRequestFault bytes g → f ≡ g }
+{}
+
+/// Bytes spell a packet or have a fault, and so it is with a request.
+///
+/// With [`one_reading`] and [`one_request`] they have exactly one of the two, so that no clause of
+/// reading is empty. The function does nothing: its contract is a law.
+pub fn bytes_read_or_have_a_fault()
+    ensures packet { (bytes : List ℕ) → AreBytes bytes
+        → ((packet : Content) × (rest : List ℕ) × Spells bytes packet rest)
+        ⊎ ((fault : PacketFault) × HasFault bytes fault) }
+    ensures request { (bytes : List ℕ) → AreBytes bytes
+        → ((request : Request) × SpellsRequest bytes request)
+        ⊎ ((fault : PacketFault) × HasRequestFault bytes fault) }
 {}
 
 /// What was written reads back. An answer that keeps the clauses of

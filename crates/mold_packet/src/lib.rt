@@ -27,7 +27,7 @@ mod writing;
 pub use blocks::Messages;
 pub use body::Body;
 pub use fault::PacketFault;
-pub use laws::{one_reading, one_request, reads_back};
+pub use laws::{bytes_read_or_have_a_fault, one_reading, one_request, reads_back};
 pub use packet::{Kind, Packet};
 pub use reading::read_packet;
 pub use request::{Request, read_request, write_request};

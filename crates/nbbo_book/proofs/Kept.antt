@@ -12,7 +12,7 @@ use Rattle.nbbo_book.specs.Books.{standing_at}
 use Rattle.nbbo_book.specs.Ranks.{InRank, IsIn, HasNone, without, placed}
 use Rattle.nbbo_book.specs.Rows.{age_at, side_set, side_shown, side_gated, IsRanked}
 use Rattle.nbbo_book.specs.Tables.{IsRankingOf, rank_at, IsSide}
-use Rattle.nbbo_book.proofs.Ranking.{nat_same, nat_refl, nat_apart, some_same, ranking_set, ranking_room, without_none, InRank-ages, InRank-without, in_all}
+use Rattle.nbbo_book.proofs.Ranking.{nat_same, nat_refl, nat_apart, some_same, ranking_set, ranking_room, without_none, without_nobody, InRank-ages, InRank-without, in_all}
 
 pub set_at : {X : Type 0} (xs : List X) (i : ℕ) (x d : X) → i < length xs → get_or (set xs i x) i d ≡ x
 set_at [] i x d h = absurd (omega (arith, h))
@@ -58,11 +58,22 @@ ranking_same b e g f a xs same ages h = record {
   order = InRank-ages b f a xs (λ x i. ages x.venue ((h.members x).0 i).0) h.order;
 }
 
+-- a venue that shows nothing isn't ranked
+not_ranked : (may : ℕ → Bool) (ss : List Standing) (v : ℕ) (x : Best) → (standing_at ss v).shown ≡ None → rank_at may ss x.venue ≡ Some x → nat_eq x.venue v ≡ false
+not_ranked may ss v x none e =
+    (elim (nat_eq x.venue v) as (λ t. nat_eq x.venue v ≡ t → t ≡ false) [
+      | true ↦ λ q.
+          let nothing : rank_at may ss x.venue ≡ None = ap (λ (w : ℕ). rank_at may ss w) (nat_same x.venue v q) ∙ ap (ranked_by (may v) v) none ∙ ranked_nothing (may v) v in
+          (let no : None ≡ Some x = sym nothing ∙ e in cc)
+      | false ↦ λ q. refl
+    ]) refl
+
 -- what code asks of a side
 pub side_is_ranked : (b : Side) (may : ℕ → Bool) (n : ℕ) (k : BookSide) → IsSide b may n k → IsRanked b k
 side_is_ranked b may n k h = record {
   order = h.ranked.order;
   once = λ v. without_none b (age_at k.standings) (rank_at may k.standings) v k.ranks.items (λ x i. ((h.ranked.members x).0 i).1) h.ranked.order;
+  absent = λ v none. without_nobody v k.ranks.items (λ x i. not_ranked may k.standings v x none ((h.ranked.members x).0 i).1);
   room = λ v l. ranking_room b (rank_at may k.standings) (age_at k.standings) v k.ranks.items l h.ranked;
 }
 
@@ -74,6 +85,12 @@ pub others_stay : (b : Side) (k : BookSide) (v : ℕ) (st : Standing) → IsRank
 others_stay b k v st h = InRank-ages b (age_at k.standings) (age_at (set k.standings v st)) (without v k.ranks.items)
     (λ x i. ap (λ (t : Standing). t.age) (sym (set_off k.standings v x.venue st _ (apart_from v x.venue (in_all (λ y. nat_eq y.venue v ≡ false) (without v k.ranks.items) (h.once v) x i)))))
     (others_in_order b k v h)
+
+-- leave to rank changes nothing where the venue shows nothing
+pub gated_absent : (b : Side) (k : BookSide) (v : ℕ) (may : Bool) → IsRanked b k → (standing_at k.standings v).shown ≡ None → side_gated b v may k ≡ k
+gated_absent b k v may h none =
+    ap (λ o. record { standings = k.standings; ranks = record { items = placed b (age_at k.standings) o (without v k.ranks.items) } }) (ap (ranked_by may v) none ∙ ranked_nothing may v)
+    ∙ ap (λ t. record { standings = k.standings; ranks = record { items = t } }) (h.absent v none)
 
 -- more entries, of which none concerns the side
 pub side_waits : (b : Side) (may more : ℕ → Bool) (n m : ℕ) (k : BookSide) → n ≤ m → ((w : ℕ) → w < 16 → rank_at may k.standings w ≡ rank_at more k.standings w) → IsSide b may n k → IsSide b more m k

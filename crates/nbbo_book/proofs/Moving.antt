@@ -1,11 +1,13 @@
 -- A side that moves past its neighbours, one place at a time.
 use Rattle.std.proofs.Common.{ℕ, zero, suc, ◌<◌, ◌≤◌, ◌≡◌, ◌+◌, List, [], ◌∷◌, ◌++◌, Bool, true, false, refl, ap, sym, ◌∙◌, subst, arith, length, take, drop, set, get_or, cond, add-one, nat_eq}
 use Rattle.std.specs.List.{insert, remove, AllByRecursion}
+use Rattle.std.proofs.lemmas.List.Edits.{length-remove}
 use Rattle.feed_types.specs.declared.line.Side.{Side}
 use Rattle.feed_types.specs.declared.national.Best.{Best}
 use Rattle.nbbo_book.specs.Nationals.{beats}
 use Rattle.nbbo_book.specs.Ranks.{InRank, without, with_rank}
 use Rattle.nbbo_book.proofs.Beating.{beats_chain}
+use Rattle.nbbo_book.proofs.Kept.{set_off}
 
 -- past the neighbour before it
 up_one : (ys : List Best) (k : ℕ) (x d : Best) → k < length ys → set (set (insert ys (suc k) x) (suc k) (get_or ys k d)) k x ≡ insert ys k x
@@ -29,11 +31,16 @@ behind_it [] k x d h = absurd (omega (arith, h))
 behind_it (y ∷ ys) zero x d h = refl
 behind_it (y ∷ ys) (suc k) x d h = behind_it ys k x d (omega (arith, h))
 
--- a side stands in its own place
-pub in_its_place : (xs : List Best) (i : ℕ) (x : Best) → i < length xs → get_or xs i x ≡ x → xs ≡ insert (remove xs i) i x
-in_its_place [] i x h e = absurd (omega (arith, h))
-in_its_place (y ∷ xs) zero x h e = ap (λ t. t ∷ xs) e
-in_its_place (y ∷ xs) (suc i) x h e = ap (λ t. y ∷ t) (in_its_place xs i x (omega (arith, h)) e)
+-- a side in the place of another
+pub set_in_place : (xs : List Best) (i : ℕ) (x : Best) → i < length xs → set xs i x ≡ insert (remove xs i) i x
+set_in_place [] i x h = absurd (omega (arith, h))
+set_in_place (y ∷ xs) zero x h = refl
+set_in_place (y ∷ xs) (suc i) x h = ap (λ t. y ∷ t) (set_in_place xs i x (omega (arith, h)))
+
+set_twice : (xs : List Best) (i : ℕ) (x n : Best) → set (set xs i x) i n ≡ set xs i n
+set_twice [] i x n = refl
+set_twice (y ∷ xs) zero x n = refl
+set_twice (y ∷ xs) (suc i) x n = ap (λ t. y ∷ t) (set_twice xs i x n)
 
 any_default : (xs : List Best) (i : ℕ) (c d : Best) → i < length xs → get_or xs i c ≡ get_or xs i d
 any_default [] i c d h = absurd (omega (arith, h))
@@ -66,29 +73,47 @@ ranked_here b f x (y ∷ ys) (suc (suc k)) h order before behind =
     ∙ ap (λ t. cond t (x ∷ y ∷ ys) (y ∷ with_rank b f x ys)) (sym not_here)
 
 -- one step up: the neighbour before it takes its place
-pub moved_up : (ys ranks : List Best) (at k : ℕ) (x n : Best) → ranks ≡ insert ys at x → at ≡ suc k → k < length ys → n ≡ get_or ranks k n → (set (set ranks at n) k x ≡ insert ys k x) × (n ≡ get_or ys k x)
+moved_up : (ys ranks : List Best) (at k : ℕ) (x n : Best) → ranks ≡ insert ys at x → at ≡ suc k → k < length ys → n ≡ get_or ranks k n → (set (set ranks at n) k x ≡ insert ys k x) × (n ≡ get_or ys k x)
 moved_up ys ranks at k x n now is h read =
     let here : n ≡ get_or ys k n = read ∙ ap (λ t. get_or t k n) now ∙ ap (λ t. get_or (insert ys t x) k n) is ∙ before_it ys k x n h in (
       ap (λ t. set (set t at n) k x) now ∙ ap (λ t. set (set (insert ys t x) t n) k x) is ∙ ap (λ t. set (set (insert ys (suc k) x) (suc k) t) k x) here ∙ up_one ys k x n h,
       here ∙ any_default ys k n x h,
     )
 
-pub moved_down : (ys ranks : List Best) (k : ℕ) (x n : Best) → ranks ≡ insert ys k x → k < length ys → n ≡ get_or ranks (suc k) n → (set (set ranks k n) (suc k) x ≡ insert ys (suc k) x) × (n ≡ get_or ys k x)
+moved_down : (ys ranks : List Best) (k : ℕ) (x n : Best) → ranks ≡ insert ys k x → k < length ys → n ≡ get_or ranks (suc k) n → (set (set ranks k n) (suc k) x ≡ insert ys (suc k) x) × (n ≡ get_or ys k x)
 moved_down ys ranks k x n now h read =
     let here : n ≡ get_or ys k n = read ∙ ap (λ t. get_or t (suc k) n) now ∙ behind_it ys k x n h in (
       ap (λ t. set (set t k n) (suc k) x) now ∙ ap (λ t. set (set (insert ys k x) k t) (suc k) x) here ∙ down_one ys k x n h,
       here ∙ any_default ys k n x h,
     )
 
-pub remove_set : (xs : List Best) (i : ℕ) (x : Best) → remove (set xs i x) i ≡ remove xs i
+-- the same where x stands in its place only at the end
+pub slid_up : (ys ranks : List Best) (at k : ℕ) (x n : Best) → set ranks at x ≡ insert ys at x → at ≡ suc k → k < length ys → n ≡ get_or ranks k n → (set (set ranks at n) k x ≡ insert ys k x) × (n ≡ get_or ys k x)
+slid_up ys ranks at k x n now is h read =
+    let m = moved_up ys (set ranks at x) at k x n now is h (read ∙ sym (set_off ranks at k x n (λ e. (let no : suc k ≡ k = sym is ∙ e in omega (arith, no))))) in
+    (ap (λ t. set t k x) (sym (set_twice ranks at x n)) ∙ m.0, m.1)
+
+pub slid_down : (ys ranks : List Best) (k : ℕ) (x n : Best) → set ranks k x ≡ insert ys k x → k < length ys → n ≡ get_or ranks (suc k) n → (set (set ranks k n) (suc k) x ≡ insert ys (suc k) x) × (n ≡ get_or ys k x)
+slid_down ys ranks k x n now h read =
+    let m = moved_down ys (set ranks k x) k x n now h (read ∙ sym (set_off ranks k (suc k) x n (λ e. (let no : k ≡ suc k = e in omega (arith, no))))) in
+    (ap (λ t. set t (suc k) x) (sym (set_twice ranks k x n)) ∙ m.0, m.1)
+
+remove_set : (xs : List Best) (i : ℕ) (x : Best) → remove (set xs i x) i ≡ remove xs i
 remove_set [] i x = refl
 remove_set (y ∷ xs) zero x = refl
 remove_set (y ∷ xs) (suc i) x = ap (λ t. y ∷ t) (remove_set xs i x)
 
-pub remove_insert : (ys : List Best) (k : ℕ) (x : Best) → k ≤ length ys → remove (insert ys k x) k ≡ ys
+remove_insert : (ys : List Best) (k : ℕ) (x : Best) → k ≤ length ys → remove (insert ys k x) k ≡ ys
 remove_insert ys zero x h = refl
 remove_insert [] (suc k) x h = absurd (omega (arith, h))
 remove_insert (y ∷ ys) (suc k) x h = ap (λ t. y ∷ t) (remove_insert ys k x (omega (arith, h)))
+
+-- where x has risen past none, the others are as they were
+pub left_behind : (xs ranks : List Best) (i at : ℕ) (x : Best) → i < length xs → at ≡ i → set ranks at x ≡ insert (remove xs i) at x → remove ranks i ≡ remove xs i
+left_behind xs ranks i at x h same now =
+    let within : i ≤ length (remove xs i) = omega (arith, length-remove xs i h, h) in
+    let here : set ranks i x ≡ insert (remove xs i) i x = subst (λ (n : ℕ). set ranks n x ≡ insert (remove xs i) n x) same now in
+    sym (remove_set ranks i x) ∙ ap (λ t. remove t i) here ∙ remove_insert (remove xs i) i x within
 
 pub remove_last : (ys : List Best) (x : Best) → remove (ys ++ x ∷ []) (length ys) ≡ ys
 remove_last [] x = refl

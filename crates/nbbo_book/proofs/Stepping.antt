@@ -23,7 +23,7 @@ use Rattle.nbbo_book.specs.declared.scope.Scope.TheVariants.{Nothing, One, All}
 use Rattle.nbbo_book.specs.Sides.{shown_by, side_of, age_of}
 use Rattle.nbbo_book.specs.Eligible.{ranked_by, may_rank, is_self_helped, eligible_of}
 use Rattle.nbbo_book.specs.Nationals.{national_of, best_of}
-use Rattle.nbbo_book.specs.Changes.{is_same_best, is_same_national, change_of, changes_of}
+use Rattle.nbbo_book.specs.Changes.{is_same_best, is_same_national, change_of, changes_by}
 use Rattle.nbbo_book.specs.Books.{BookState, standing_at, RowFits, Fits, venue_of}
 use Rattle.nbbo_book.specs.Ranks.{front_of}
 use Rattle.nbbo_book.specs.Rows.{age_at, row_quoted, row_ended, row_halted, row_helped, row_after, row_after_item, row_change, national_at, helped_after, scope_of, scope_of_item, IsRowRanked}
@@ -140,7 +140,7 @@ rows_fit es e helped flags n m [] below young h fits = tt
 rows_fit es e helped flags n m (r ∷ rs) below young h fits = (row_fits es e n m helped flags r below young h.0 fits.0, rows_fit es e helped flags n m rs below young h.1 fits.1)
 
 -- the changes, too, are those of the entries
-pub changes_are : (es : List Entry) (e : Entry) (p : ℕ) (helped : List Bool) (n : ℕ) (rs : List Row) → venue_of e < 16 → length helped ≡ 16 → n ≡ length es → ((w : ℕ) → w < 16 → slice_index_or helped w false ≡ is_self_helped es w) → AllByRecursion (IsRow helped n) rs → AllByRecursion (RowFits es) rs → filter_map (row_change (helped_after e helped) (n + 1) p e) rs ≡ changes_of (symbols_of rs) es p e
+pub changes_are : (es : List Entry) (e : Entry) (p : ℕ) (helped : List Bool) (n : ℕ) (rs : List Row) → venue_of e < 16 → length helped ≡ 16 → n ≡ length es → ((w : ℕ) → w < 16 → slice_index_or helped w false ≡ is_self_helped es w) → AllByRecursion (IsRow helped n) rs → AllByRecursion (RowFits es) rs → filter_map (row_change (helped_after e helped) (n + 1) p e) rs ≡ changes_by (symbols_of rs) es p e
 changes_are es e p helped n [] below long count flags h fits = refl
 changes_are es e p helped n (r ∷ rs) below long count flags h fits =
     let next = row_after (helped_after e helped) (n + 1) e r in

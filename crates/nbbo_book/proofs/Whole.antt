@@ -14,7 +14,7 @@ use Rattle.nbbo_book.specs.declared.row.Row.{Row}
 use Rattle.nbbo_book.specs.Eligible.{ranked_by, eligible_of}
 use Rattle.nbbo_book.specs.Sides.{side_of, age_of}
 use Rattle.nbbo_book.specs.Nationals.{national_of, IsRanking}
-use Rattle.nbbo_book.specs.Changes.{changes_of}
+use Rattle.nbbo_book.specs.Changes.{changes_by}
 use Rattle.nbbo_book.specs.Books.{BookState, standing_at, SideFits, RowFits, Fits, venue_of}
 use Rattle.nbbo_book.specs.Ranks.{IsIn}
 use Rattle.nbbo_book.specs.Rows.{row_after, row_change, national_at, ranks_at, helped_after, empty_side, empty_row}
@@ -58,10 +58,10 @@ after_fits keys b e last es below h fits =
       rows = rows_fit es e (helped_after e b.helped) b.helped (b.applied + 1) b.applied b.rows below young h.rows fits.rows;
     }
 
-pub after_changes : (keys : List ℕ) (b : BookState) (e : Entry) (p : ℕ) (es : List Entry) → venue_of e < 16 → IsBook keys b → Fits b es → filter_map (row_change (helped_after e b.helped) (b.applied + 1) p e) b.rows ≡ changes_of b.symbols es p e
+pub after_changes : (keys : List ℕ) (b : BookState) (e : Entry) (p : ℕ) (es : List Entry) → venue_of e < 16 → IsBook keys b → Fits b es → filter_map (row_change (helped_after e b.helped) (b.applied + 1) p e) b.rows ≡ changes_by b.symbols es p e
 after_changes keys b e p es below h fits =
     changes_are es e p b.helped b.applied b.rows below h.count fits.applied fits.helped h.rows fits.rows
-    ∙ ap (λ ss. changes_of ss es p e) (sym h.symbols)
+    ∙ ap (λ ss. changes_by ss es p e) (sym h.symbols)
 
 -- the row at the place that a symbol was found
 pub national_found : (keys : List ℕ) (b : BookState) (es : List Entry) (s : List ℕ) (i : ℕ) (d : Row) → IsBook keys b → Fits b es → position (bytes_eq s) (symbols_of b.rows) ≡ Some i → national_at (get_or b.rows i d) ≡ national_of es s

@@ -26,8 +26,8 @@ change_of position symbol before after =
 
 -- The changes that one more entry makes, each with its position: one for each symbol whose national
 -- best is another one after it, in the order of the symbols.
-abbrev pub changes_of : List (List ℕ) → List Entry → ℕ → Entry → List Change
-changes_of symbols entries position entry =
+abbrev pub changes_by : List (List ℕ) → List Entry → ℕ → Entry → List Change
+changes_by symbols entries position entry =
     filter_map
     (λ symbol. change_of position symbol
     (national_of entries symbol) (national_of (entries ++ entry ∷ []) symbol))

@@ -1,5 +1,5 @@
 -- Cited by private clauses alone: what a book keeps of a symbol, and how an entry changes it.
-use Rattle.std.specs.Prelude.{ℕ, ◌<◌, List, [], ◌∷◌, Bool, false, not, ◌&&◌, Option, Some, None, slice_index_or, slice_set, length, replicate, if◌then◌else◌}
+use Rattle.std.specs.Prelude.{◌≡◌, ℕ, ◌<◌, List, [], ◌∷◌, Bool, false, not, ◌&&◌, Option, Some, None, slice_index_or, slice_set, length, replicate, if◌then◌else◌}
 use Rattle.std.specs.Str.{bytes_eq}
 use Rattle.feed_types.specs.declared.journal.Entry.{Entry}
 use Rattle.feed_types.specs.declared.journal.Entry.TheVariants.{Consumed, SelfHelp}
@@ -128,11 +128,13 @@ row_change helped age position entry row =
     change_of position row.symbol
     (national_at row) (national_at (row_after helped age entry row))
 
--- What code asks of a side: its ranks are in order, a venue has at most one, and there is room for
--- each venue's.
+-- What code asks of a side: its ranks are in order, a venue has at most one and where it shows
+-- nothing none, and there is room for each venue's.
 pub record IsRanked (side : Side) (kept : BookSide) : Type 0 where
   pub order : InRank side (age_at kept.standings) kept.ranks.items
   pub once : (venue : ℕ) → HasNone venue (without venue kept.ranks.items)
+  pub absent : (venue : ℕ) → (standing_at kept.standings venue).shown ≡ None
+      → without venue kept.ranks.items ≡ kept.ranks.items
   pub room : (venue : ℕ) → venue < 16 → length (without venue kept.ranks.items) < 16
 
 pub record IsRowRanked (row : Row) : Type 0 where

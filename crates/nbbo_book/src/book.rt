@@ -8,7 +8,7 @@ ghost use Rattle.feed_types.specs.declared.journal.Entry.{Entry};
 ghost use Rattle.nbbo_book.specs.Books.{Fits, venue_of, is_configured};
 ghost use Rattle.nbbo_book.specs.Eligible.{is_self_helped as self_helped};
 ghost use Rattle.nbbo_book.specs.Nationals.{national_of, IsRanking};
-ghost use Rattle.nbbo_book.specs.Changes.{changes_of};
+ghost use Rattle.nbbo_book.specs.Changes.{changes_by};
 ghost use Rattle.nbbo_book.specs.Rows.{empty_side as no_side, empty_row};
 
 use crate::book_side::BookSide;
@@ -16,7 +16,7 @@ use crate::change::Change;
 use crate::fault::BookFault;
 use crate::row::Row;
 use crate::shown::Standing;
-use crate::steps::{Step, apply_step, helped_after};
+use crate::steps::{Step, apply_step, take_self_help};
 use crate::table::{Table, find, symbol_table};
 use arrayvec::ArrayVec;
 use feed_types::{Best, Entry, National, Side, SymbolName, VenueId};
@@ -128,23 +128,19 @@ impl Book {
             → Fits self.new (entries ++ entry.now ∷ []) }
         ensures changes { (entries : List Entry) → Fits self.old entries
             → out.new.items
-            ≡ out.old.items ++ changes_of self.old.symbols entries position entry.now }
+            ≡ out.old.items ++ changes_by self.old.symbols entries position entry.now }
         ensures count { vec_len out.new ≤ vec_len out.old + length self.old.symbols }
         ensures capacity { vec_capacity out.new ≡ vec_capacity out.old }
         ensures symbols { self.new.symbols ≡ self.old.symbols }
         ensures venues { self.new.venues ≡ self.old.venues }
         ensures last { self.new.last ≡ position }
     {
-        let helped = helped_after(&self.helped, entry);
-        let step = Step {
-            entry: *entry,
-            age: self.applied + 1,
-            position,
-            helped,
-        };
-        apply_step(&self.table, self.rows.as_mut_slice(), &step, out);
-        self.helped = helped;
-        self.applied = step.age;
+        take_self_help(&mut self.helped, entry);
+        let age = self.applied + 1;
+        let step = Step { age, position };
+        let rows = self.rows.as_mut_slice();
+        apply_step(&self.table, rows, &self.helped, entry, step, out);
+        self.applied = age;
         self.last = position;
     }
 

@@ -1,6 +1,6 @@
 //! One side of a symbol: each venue's standing, and the ranks of those that are eligible.
 
-ghost use Rattle.std.specs.Prelude.{◌≡◌, not, ◌<◌, None};
+ghost use Rattle.std.specs.Prelude.{◌≡◌, not, false, None};
 ghost use Rattle.nbbo_book.specs.Changes.{is_same_best};
 ghost use Rattle.nbbo_book.specs.Ranks.{front_of};
 ghost use Rattle.nbbo_book.specs.Rows.{IsRanked, side_set, side_shown, side_gated};
@@ -21,6 +21,7 @@ pub struct BookSide {
 impl BookSide {
     /// The venue's side and its age are these from now on. Whether the best side is another one
     /// then.
+    #[inline(always)]
     fn set(&mut self, side: Side, venue: VenueId, standing: Standing, may: bool) -> bool
         requires { IsRanked side self.old }
         ensures side { self.new ≡ side_set side venue standing may self.old }
@@ -37,6 +38,7 @@ impl BookSide {
 
     /// The venue shows this, or nothing, from now on; `may` is whether it may be ranked. Whether
     /// the best side is another one then.
+    #[inline(always)]
     pub fn show(
         &mut self,
         side: Side,
@@ -57,8 +59,51 @@ impl BookSide {
         self.set(side, venue, Standing { shown, age }, may)
     }
 
+    /// The venue shows nothing from now on. Whether the best side is another one then.
+    #[inline(always)]
+    pub fn hide(&mut self, side: Side, venue: VenueId, age: u64) -> bool
+        requires { IsRanked side self.old }
+        ensures side { self.new ≡ side_shown side venue None age false self.old }
+        ensures moved { result
+            ≡ not (is_same_best
+            (front_of self.old.ranks.items) (front_of self.new.ranks.items)) }
+    {
+        match self.standings[venue.index()].shown {
+            None => false,
+            Some(_) => self.hide_shown(side, venue, age),
+        }
+    }
+
+    /// The same, whether or not the venue shows a side.
+    #[inline(never)]
+    fn hide_shown(&mut self, side: Side, venue: VenueId, age: u64) -> bool
+        requires { IsRanked side self.old }
+        ensures side { self.new ≡ side_shown side venue None age false self.old }
+        ensures moved { result
+            ≡ not (is_same_best
+            (front_of self.old.ranks.items) (front_of self.new.ranks.items)) }
+    {
+        self.show(side, venue, None, age, false)
+    }
+
     /// The venue may be ranked, or may not, from now on. Whether the best side is another one then.
+    #[inline(always)]
     pub fn gate(&mut self, side: Side, venue: VenueId, may: bool) -> bool
+        requires { IsRanked side self.old }
+        ensures side { self.new ≡ side_gated side venue may self.old }
+        ensures moved { result
+            ≡ not (is_same_best
+            (front_of self.old.ranks.items) (front_of self.new.ranks.items)) }
+    {
+        match self.standings[venue.index()].shown {
+            None => false,
+            Some(_) => self.gate_shown(side, venue, may),
+        }
+    }
+
+    /// The same, whether or not the venue shows a side.
+    #[inline(never)]
+    fn gate_shown(&mut self, side: Side, venue: VenueId, may: bool) -> bool
         requires { IsRanked side self.old }
         ensures side { self.new ≡ side_gated side venue may self.old }
         ensures moved { result
@@ -72,6 +117,7 @@ impl BookSide {
     }
 
     /// The best side.
+    #[inline(always)]
     pub fn best(&self) -> Option<Best>
         ensures { result ≡ front_of self.now.ranks.items }
     {

@@ -1,6 +1,7 @@
 //! What a book keeps of one symbol.
 
 ghost use Rattle.std.specs.Prelude.{◌≡◌, not, ◌&&◌, false, slice_index_or};
+ghost use Rattle.std.specs.Str.{bytes_eq};
 ghost use Rattle.feed_types.specs.declared.line.Side.TheVariants.{Bid, Offer};
 ghost use Rattle.nbbo_book.specs.Changes.{is_same_national};
 ghost use Rattle.nbbo_book.specs.Rows.{IsRowRanked, row_quoted, row_ended, row_halted, row_helped, side_gated, row_after_item, row_after, national_at, ranks_at};
@@ -20,6 +21,15 @@ pub struct Row {
 }
 
 impl Row {
+    /// Whether the symbol is the row's. Their words are compared: eight bytes at once.
+    #[inline(always)]
+    fn is_of(&self, symbol: SymbolName) -> bool
+        ensures { result ≡ bytes_eq symbol self.now.symbol }
+    {
+        symbol.word() == self.symbol.word()
+    }
+
+    #[inline(always)]
     fn quote(&mut self, helped: &[bool; 16], venue: VenueId, quote: &Quote, age: u64) -> bool
         requires { IsRowRanked self.old }
         ensures row { self.new ≡ row_quoted helped.now venue quote.now age self.old }
@@ -36,6 +46,7 @@ impl Row {
         bid || offer
     }
 
+    #[inline(always)]
     fn end(&mut self, venue: VenueId, age: u64) -> bool
         requires { IsRowRanked self.old }
         ensures row { self.new ≡ row_ended venue age self.old }
@@ -43,11 +54,12 @@ impl Row {
             ≡ not (is_same_national (national_at self.old) (national_at self.new)) }
     {
         self.halted[venue.index()] = false;
-        let bid = self.bids.show(Side::Bid, venue, None, age, false);
-        let offer = self.offers.show(Side::Offer, venue, None, age, false);
+        let bid = self.bids.hide(Side::Bid, venue, age);
+        let offer = self.offers.hide(Side::Offer, venue, age);
         bid || offer
     }
 
+    #[inline(always)]
     fn gate(&mut self, venue: VenueId, may: bool) -> bool
         requires { IsRowRanked self.old }
         ensures symbol { self.new.symbol ≡ self.old.symbol }
@@ -72,6 +84,7 @@ impl Row {
         self.gate(venue, !helped[venue.index()] && !halted)
     }
 
+    #[inline(always)]
     fn take_item(&mut self, helped: &[bool; 16], venue: VenueId, item: &Item, age: u64) -> bool
         requires { IsRowRanked self.old }
         ensures row { self.new ≡ row_after_item helped.now age venue item.now self.old }
@@ -80,10 +93,10 @@ impl Row {
     {
         match item {
             Item::Quote(quote) => {
-                quote.symbol == self.symbol && self.quote(helped, venue, quote, age)
+                self.is_of(quote.symbol) && self.quote(helped, venue, quote, age)
             }
             Item::Halt { symbol, halted } => {
-                *symbol == self.symbol && self.halt(helped, venue, *halted)
+                self.is_of(*symbol) && self.halt(helped, venue, *halted)
             }
             Item::Other => false,
             Item::End => self.end(venue, age),
@@ -92,6 +105,7 @@ impl Row {
 
     /// Takes one more entry, of this age; `helped` are the venues that self-help stands on after
     /// it. Whether the national best is another one then.
+    #[inline(always)]
     pub fn take_entry(&mut self, helped: &[bool; 16], entry: &Entry, age: u64) -> bool
         requires { IsRowRanked self.old }
         ensures row { self.new ≡ row_after helped.now age entry.now self.old }
@@ -120,6 +134,7 @@ impl Row {
     }
 
     /// The national best.
+    #[inline(always)]
     pub fn national(&self) -> National
         ensures { result ≡ national_at self.now }
     {

@@ -14,13 +14,14 @@ pub enum Scope {
 }
 
 /// A quotation and a halt change one symbol, an end and self-help all.
+#[inline(always)]
 pub fn scope_of(entry: &Entry) -> Scope
     ensures { result ≡ scope_of_entry entry.now }
 {
     match entry {
-        Entry::Consumed { venue: _, numbered } => match numbered.item {
+        Entry::Consumed { venue: _, numbered } => match &numbered.item {
             Item::Quote(quote) => Scope::One(quote.symbol),
-            Item::Halt { symbol, halted: _ } => Scope::One(symbol),
+            Item::Halt { symbol, halted: _ } => Scope::One(*symbol),
             Item::Other => Scope::Nothing,
             Item::End => Scope::All,
         },

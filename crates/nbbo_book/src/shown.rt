@@ -24,6 +24,7 @@ pub struct Standing {
     pub age: u64,
 }
 
+#[inline(always)]
 pub(crate) fn bid_of(quote: &Quote) -> Shown
     ensures { result ≡ shown_by quote.now Bid }
 {
@@ -34,6 +35,7 @@ pub(crate) fn bid_of(quote: &Quote) -> Shown
     }
 }
 
+#[inline(always)]
 pub(crate) fn offer_of(quote: &Quote) -> Shown
     ensures { result ≡ shown_by quote.now OfferSide }
 {
@@ -44,6 +46,7 @@ pub(crate) fn offer_of(quote: &Quote) -> Shown
     }
 }
 
+#[inline(always)]
 pub(crate) fn is_same(x: Option<Shown>, y: Option<Shown>) -> bool
     ensures { result ≡ is_same_side x y }
 {
@@ -56,6 +59,7 @@ pub(crate) fn is_same(x: Option<Shown>, y: Option<Shown>) -> bool
     }
 }
 
+#[inline(always)]
 fn counts(shown: &Shown) -> bool
     ensures { result ≡ is_protected shown.now }
 {
@@ -63,6 +67,7 @@ fn counts(shown: &Shown) -> bool
 }
 
 /// What the venue is ranked with, where it may be ranked and its side counts.
+#[inline(always)]
 pub(crate) fn rank_of(may: bool, venue: VenueId, shown: Option<Shown>) -> Option<Best>
     ensures { result ≡ ranked_by may venue shown }
 {

@@ -13,16 +13,14 @@ use crate::scope::{Scope, scope_of};
 use crate::table::{Table, find};
 use feed_types::{Best, Entry, National, SymbolName};
 
-/// One more entry: its place in the order of all, its position, and the venues that self-help
-/// stands on after it.
+/// Where one more entry stands: its place in the order of all, and its position.
 #[derive(Clone, Copy)]
 pub struct Step {
-    pub entry: Entry,
     pub age: u64,
     pub position: u64,
-    pub helped: [bool; 16],
 }
 
+#[inline(always)]
 fn append(out: &mut Vec<Change>, position: u64, symbol: SymbolName, national: National)
     requires { vec_len out.old < vec_capacity out.old }
     ensures items { out.new.items
@@ -40,72 +38,88 @@ fn append(out: &mut Vec<Change>, position: u64, symbol: SymbolName, national: Na
     });
 }
 
-fn step_row(row: &mut Row, step: &Step, out: &mut Vec<Change>)
+#[inline(always)]
+fn step_row(row: &mut Row, helped: &[bool; 16], entry: &Entry, step: Step, out: &mut Vec<Change>)
     requires ranked { IsRowRanked row.old }
     requires room { vec_len out.old < vec_capacity out.old }
-    ensures row { row.new ≡ row_after step.now.helped step.now.age step.now.entry row.old }
+    ensures row { row.new ≡ row_after helped.now step.age entry.now row.old }
     ensures items { out.new.items
         ≡ out.old.items ++ option_to_list (row_change
-        step.now.helped step.now.age step.now.position step.now.entry row.old) }
+        helped.now step.age step.position entry.now row.old) }
     ensures len { vec_len out.new ≤ vec_len out.old + 1 }
     ensures capacity { vec_capacity out.new ≡ vec_capacity out.old }
 {
-    if row.take_entry(&step.helped, &step.entry, step.age) {
+    if row.take_entry(helped, entry, step.age) {
         append(out, step.position, row.symbol, row.national());
     }
 }
 
-fn step_rows(rows: &mut [Row], step: &Step, out: &mut Vec<Change>)
+#[inline(never)]
+fn step_rows(
+    rows: &mut [Row],
+    helped: &[bool; 16],
+    entry: &Entry,
+    step: Step,
+    out: &mut Vec<Change>,
+)
     requires ranked { AllByRecursion IsRowRanked rows.old }
     requires room { vec_len out.old + length rows.old ≤ vec_capacity out.old }
-    ensures rows { rows.new ≡ map (row_after step.now.helped step.now.age step.now.entry) rows.old }
+    ensures rows { rows.new ≡ map (row_after helped.now step.age entry.now) rows.old }
     ensures items { out.new.items
         ≡ out.old.items ++ filter_map (row_change
-        step.now.helped step.now.age step.now.position step.now.entry) rows.old }
+        helped.now step.age step.position entry.now) rows.old }
     ensures len { vec_len out.new ≤ vec_len out.old + length rows.old }
     ensures capacity { vec_capacity out.new ≡ vec_capacity out.old }
 {
     for i in 0..rows.len() {
-        step_row(&mut rows[i], step, out);
+        step_row(&mut rows[i], helped, entry, step, out);
     }
 }
 
-/// Applies the step to the symbols that its entry concerns, and appends their changes in order.
-pub fn apply_step(table: &Table, rows: &mut [Row], step: &Step, out: &mut Vec<Change>)
+/// Applies the entry to the symbols that it concerns, and appends their changes in order; `helped`
+/// are the venues that self-help stands on after it.
+#[inline(always)]
+pub fn apply_step(
+    table: &Table,
+    rows: &mut [Row],
+    helped: &[bool; 16],
+    entry: &Entry,
+    step: Step,
+    out: &mut Vec<Change>,
+)
     requires table { IsTable (symbols_of rows.old) table.now.keys }
     requires ranked { AllByRecursion IsRowRanked rows.old }
     requires room { vec_len out.old + length rows.old ≤ vec_capacity out.old }
-    ensures rows { rows.new ≡ map (row_after step.now.helped step.now.age step.now.entry) rows.old }
+    ensures rows { rows.new ≡ map (row_after helped.now step.age entry.now) rows.old }
     ensures items { out.new.items
         ≡ out.old.items ++ filter_map (row_change
-        step.now.helped step.now.age step.now.position step.now.entry) rows.old }
+        helped.now step.age step.position entry.now) rows.old }
     ensures len { vec_len out.new ≤ vec_len out.old + length rows.old }
     ensures capacity { vec_capacity out.new ≡ vec_capacity out.old }
 {
-    match scope_of(&step.entry) {
+    match scope_of(entry) {
         Scope::Nothing => {}
         Scope::One(symbol) => {
             if let Some(i) = find(table, symbol) {
-                step_row(&mut rows[i], step, out);
+                step_row(&mut rows[i], helped, entry, step, out);
             }
         }
-        Scope::All => step_rows(rows, step, out),
+        Scope::All => step_rows(rows, helped, entry, step, out),
     }
 }
 
-/// The venues that self-help stands on, after one more entry.
-pub fn helped_after(helped: &[bool; 16], entry: &Entry) -> [bool; 16]
-    ensures { result ≡ flags_after entry.now helped.now }
+/// Notes which venues self-help stands on after one more entry.
+#[inline(always)]
+pub fn take_self_help(helped: &mut [bool; 16], entry: &Entry)
+    ensures { helped.new ≡ flags_after entry.now helped.old }
 {
-    let mut after = *helped;
     match entry {
         Entry::Consumed {
             venue: _,
             numbered: _,
         } => {}
         Entry::SelfHelp { venue, on } => {
-            after[venue.index()] = *on;
+            helped[venue.index()] = *on;
         }
     }
-    after
 }

@@ -43,6 +43,7 @@ pub fn symbol_table(alloc: Global, symbols: &[SymbolName]) -> Result<Table, Book
 }
 
 /// Where the symbol stands in the table.
+#[inline(always)]
 pub fn find(table: &Table, symbol: SymbolName) -> Option<usize>
     ensures { (symbols : List (List ℕ)) → IsTable symbols table.now.keys
         → result ≡ position (bytes_eq symbol) symbols }

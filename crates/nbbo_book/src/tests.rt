@@ -1,18 +1,14 @@
-//! Worked entries, refusals, and generated entries against a plain recomputation.
+//! Refusals in their order, and one quotation. Worked and generated entries stand in
+//! tests/unproved/nbbo_book, since their own proofs take long.
 
 ghost use Rattle.std.specs.Prelude.{◌≡◌};
-ghost use Rattle.nbbo_book.specs.Books.{venue_of as venue_of_entry};
 
-mod generated;
 mod refusals;
-mod worked;
 
-use crate::{Book, Change};
+use crate::Book;
 use feed_types::{Best, Entry, Item, Numbered, Quote, SymbolName, VenueId};
 use std::process::Abort;
-
-/// A price and a size.
-type Level = (u32, u64);
+use std::test::Fail;
 
 fn venue(rt: &impl Abort, place: u8) -> VenueId {
     VenueId::new(place).expect(rt, "below 16")
@@ -22,48 +18,40 @@ fn symbol(rt: &impl Abort, name: &str) -> SymbolName {
     SymbolName::from_text(name.as_bytes()).expect(rt, "a name")
 }
 
-/// A quotation with flags as on the wire: bit 0 for an automated bid, bit 1 for the offer.
-fn quote(symbol: SymbolName, bid: Level, offer: Level, flags: u8) -> Item {
-    Item::Quote(Quote {
-        symbol,
-        bid_price: bid.0,
-        bid_size: bid.1,
-        offer_price: offer.0,
-        offer_size: offer.1,
-        bid_auto: flags % 2 == 1,
-        offer_auto: flags / 2 == 1,
-    })
-}
-
-fn consumed(venue: VenueId, item: Item) -> Entry {
-    Entry::Consumed {
-        venue,
-        numbered: Numbered { number: 1, item },
-    }
-}
-
-fn venue_of(entry: &Entry) -> VenueId
-    ensures { result ≡ venue_of_entry entry.now }
-{
-    match entry {
-        Entry::Consumed { venue, numbered: _ } => *venue,
-        Entry::SelfHelp { venue, on: _ } => *venue,
-    }
-}
-
-fn best(rt: &impl Abort, place: u8, level: Level) -> Option<Best> {
-    Some(Best {
-        venue: venue(rt, place),
-        price: level.0,
-        size: level.1,
-    })
-}
-
-/// Applies the entry, and leaves its changes in `out`.
-fn apply(rt: &impl Abort, book: &mut Book, position: u64, entry: Entry, out: &mut Vec<Change>) {
-    out.clear();
-    assert!(rt; book.symbol_count() <= out.capacity());
-    assert!(rt; venue_of(&entry).index() < book.venue_count());
-    assert!(rt; book.last_position() < position);
-    book.apply(position, &entry, out);
+#[test]
+fn one_quotation(rt: HostRuntime) -> Result<(), Fail> {
+    let (acme, first) = (symbol(&rt, "ACME"), venue(&rt, 0));
+    let mut book = Book::new(rt.alloc(), &[acme], 1)?;
+    let mut out = Vec::with_capacity(rt.alloc(), 1)?;
+    let quote = Quote {
+        bid_size: 300,
+        offer_size: 400,
+        bid_price: 101_500,
+        offer_price: 101_600,
+        symbol: acme,
+        bid_auto: true,
+        offer_auto: false,
+    };
+    let numbered = Numbered {
+        number: 1,
+        item: Item::Quote(quote),
+    };
+    let entry = Entry::Consumed {
+        venue: first,
+        numbered,
+    };
+    book.apply(1, &entry, &mut out);
+    let [change] = out.as_slice() else {
+        return Err(Fail::from("one change"));
+    };
+    assert_eq!(rt; change.position, 1);
+    let bid = Best {
+        venue: first,
+        price: 101_500,
+        size: 300,
+    };
+    assert_eq!(rt; change.national.bid, Some(bid));
+    assert_eq!(rt; change.national.offer, None);
+    assert_eq!(rt; book.national(&acme), Some(change.national));
+    Ok(())
 }

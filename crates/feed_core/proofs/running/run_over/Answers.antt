@@ -1,4 +1,4 @@
-use Rattle.std.proofs.Common.{ℕ, ◌≡◌, refl}
+use Rattle.std.proofs.Common.{refl}
 use Rattle.feed_core.specs.Worlds.{setting_of}
 use Rattle.feed_core.specs.Fitting.{all_terms}
 use Rattle.feed_core.proofs.MachineMoves.{if_ok}

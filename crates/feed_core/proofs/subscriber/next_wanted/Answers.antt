@@ -1,4 +1,4 @@
-use Rattle.std.proofs.Common.{ap, ◌∙◌, sym, ◌≡◌, List, length}
+use Rattle.std.proofs.Common.{ap, ◌∙◌, sym, List, length}
 use Rattle.std.specs.Prelude.{slice_get, filter}
 use Rattle.feed_types.specs.declared.journal.Notice.{Notice}
 use Rattle.filter_terms.specs.Terms.{meets}

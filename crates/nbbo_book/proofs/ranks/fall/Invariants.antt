@@ -1,4 +1,4 @@
-use Rattle.std.proofs.Common.{◌≡◌, ℕ, ◌+◌, ◌-◌, ◌≤◌, ◌<◌, get_or, length, false}
+use Rattle.std.proofs.Common.{◌≡◌, ℕ, ◌+◌, ◌-◌, ◌≤◌, ◌<◌, get_or, set, length, false}
 use Rattle.std.specs.List.{insert, remove}
 use Rattle.nbbo_book.specs.Nationals.{beats}
 use Rattle.nbbo_book.specs.Rows.{age_at}
@@ -7,7 +7,7 @@ use Rattle.nbbo_book.proofs.ranks.fall.Given as goal
 abbrev pub invariant-loop-at : goal.invariant-loop-at
 invariant-loop-at l = record {
   within : l.at ≤ length (remove l.fn.ranks l.from);
-  moved : l.ranks ≡ insert (remove l.fn.ranks l.from) l.at l.x;
+  moved : set l.ranks l.at l.x ≡ insert (remove l.fn.ranks l.from) l.at l.x;
   stopped : (k : ℕ) → l.at ≡ k + 1 → beats l.side (age_at l.standings) l.x (get_or (remove l.fn.ranks l.from) k l.x) ≡ false;
 }
 

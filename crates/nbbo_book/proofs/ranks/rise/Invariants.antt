@@ -1,4 +1,4 @@
-use Rattle.std.proofs.Common.{◌≡◌, ℕ, ◌≤◌, ◌<◌, get_or, true}
+use Rattle.std.proofs.Common.{◌≡◌, ℕ, ◌≤◌, ◌<◌, get_or, set, true}
 use Rattle.std.specs.List.{insert, remove}
 use Rattle.nbbo_book.specs.Nationals.{beats}
 use Rattle.nbbo_book.specs.Rows.{age_at}
@@ -7,7 +7,7 @@ use Rattle.nbbo_book.proofs.ranks.rise.Given as goal
 abbrev pub invariant-loop-at : goal.invariant-loop-at
 invariant-loop-at l = record {
   within : l.at ≤ l.from;
-  moved : l.ranks ≡ insert (remove l.fn.ranks l.from) l.at l.x;
+  moved : set l.ranks l.at l.x ≡ insert (remove l.fn.ranks l.from) l.at l.x;
   passed : l.at < l.from → beats l.side (age_at l.standings) l.x (get_or (remove l.fn.ranks l.from) l.at l.x) ≡ true;
 }
 

@@ -14,32 +14,32 @@ use Rattle.nbbo_book.proofs.steps.apply_step.Goals as goal
 
 pub returns-in-Nothing-clause-rows : goal.returns-in-Nothing-clause-rows
 returns-in-Nothing-clause-rows c =
-    sym (nothing_steps c.args.step.now.helped c.args.step.now.age c.args.step.now.position c.args.step.now.entry c.args.rows.now (sym c.scope_of.ensures ∙ c.in-Nothing.is)).0
+    sym (nothing_steps c.args.helped.now c.args.step.age c.args.step.position c.args.entry.now c.args.rows.now (sym c.scope_of.ensures ∙ c.in-Nothing.is)).0
 
 pub returns-in-Nothing-clause-items : goal.returns-in-Nothing-clause-items
 returns-in-Nothing-clause-items c =
     sym (alone c.args.out.now.items)
-    ∙ ap (λ (t : List Change). c.args.out.now.items ++ t) (sym (nothing_steps c.args.step.now.helped c.args.step.now.age c.args.step.now.position c.args.step.now.entry c.args.rows.now (sym c.scope_of.ensures ∙ c.in-Nothing.is)).1)
+    ∙ ap (λ (t : List Change). c.args.out.now.items ++ t) (sym (nothing_steps c.args.helped.now c.args.step.age c.args.step.position c.args.entry.now c.args.rows.now (sym c.scope_of.ensures ∙ c.in-Nothing.is)).1)
 
 pub returns-in-Some-clause-rows : goal.returns-in-Some-clause-rows
 returns-in-Some-clause-rows c =
-    let k = found_steps c.args.step.now.helped c.args.step.now.age c.args.step.now.position c.args.step.now.entry c.in-One.symbol c.args.rows.now c.in-Some.i c.index-rows-i.result
+    let k = found_steps c.args.helped.now c.args.step.age c.args.step.position c.args.entry.now c.in-One.symbol c.args.rows.now c.in-Some.i c.index-rows-i.result
     (sym c.scope_of.ensures ∙ c.in-One.is) (symbols_apart (symbols_of c.args.rows.now) c.args.table.now.keys c.requires.table) (sym (c.find.ensures (symbols_of c.args.rows.now) c.requires.table) ∙ c.in-Some.is) in
     ap (λ (t : Row). set c.args.rows.now c.in-Some.i t) c.step_row.ensures.row ∙ sym k.0
 
 pub returns-in-Some-clause-items : goal.returns-in-Some-clause-items
 returns-in-Some-clause-items c =
-    let k = found_steps c.args.step.now.helped c.args.step.now.age c.args.step.now.position c.args.step.now.entry c.in-One.symbol c.args.rows.now c.in-Some.i c.index-rows-i.result
+    let k = found_steps c.args.helped.now c.args.step.age c.args.step.position c.args.entry.now c.in-One.symbol c.args.rows.now c.in-Some.i c.index-rows-i.result
     (sym c.scope_of.ensures ∙ c.in-One.is) (symbols_apart (symbols_of c.args.rows.now) c.args.table.now.keys c.requires.table) (sym (c.find.ensures (symbols_of c.args.rows.now) c.requires.table) ∙ c.in-Some.is) in
     c.step_row.ensures.items ∙ ap (λ (t : List Change). c.args.out.now.items ++ t) (sym k.1)
 
 pub returns-in_default-clause-rows : goal.returns-in_default-clause-rows
 returns-in_default-clause-rows c =
-    sym (missed_steps c.args.step.now.helped c.args.step.now.age c.args.step.now.position c.args.step.now.entry c.in-One.symbol c.args.rows.now
+    sym (missed_steps c.args.helped.now c.args.step.age c.args.step.position c.args.entry.now c.in-One.symbol c.args.rows.now
     (sym c.scope_of.ensures ∙ c.in-One.is) (sym (c.find.ensures (symbols_of c.args.rows.now) c.requires.table) ∙ c.in_default.is)).0
 
 pub returns-in_default-clause-items : goal.returns-in_default-clause-items
 returns-in_default-clause-items c =
     sym (alone c.args.out.now.items)
-    ∙ ap (λ (t : List Change). c.args.out.now.items ++ t) (sym (missed_steps c.args.step.now.helped c.args.step.now.age c.args.step.now.position c.args.step.now.entry c.in-One.symbol c.args.rows.now
+    ∙ ap (λ (t : List Change). c.args.out.now.items ++ t) (sym (missed_steps c.args.helped.now c.args.step.age c.args.step.position c.args.entry.now c.in-One.symbol c.args.rows.now
     (sym c.scope_of.ensures ∙ c.in-One.is) (sym (c.find.ensures (symbols_of c.args.rows.now) c.requires.table) ∙ c.in_default.is)).1)

@@ -12,8 +12,8 @@ loop-i-preserved c =
     let rows : List Row = c.args.rows.now in
     let i : ℕ = c.loop-i.i in
     let row : Row = c.index-rows-i.result in
-    let f : Row → Row = row_after c.args.step.now.helped c.args.step.now.age c.args.step.now.entry in
-    let g = row_change c.args.step.now.helped c.args.step.now.age c.args.step.now.position c.args.step.now.entry in
+    let f : Row → Row = row_after c.args.helped.now c.args.step.age c.args.entry.now in
+    let g = row_change c.args.helped.now c.args.step.age c.args.step.position c.args.entry.now in
     let read : get_or c.loop-i.rows i row ≡ get_or rows i row = ap (λ (t : List Row). get_or t i row) c.loop-i.invariant.rows ∙ walk_read f rows i row c.loop-i-test.true in
     record {
       rows =

@@ -1,5 +1,4 @@
-use Rattle.std.proofs.Common.{◌≤◌, length, rules}
-use Rattle.feed_core.proofs.MachineMoves.{reach_next, reach_end}
+use Rattle.feed_core.proofs.MachineMoves.{reach_next}
 use Rattle.feed_core.proofs.machine.Machine.take_all.Goals as goal
 
 pub loop-event-preserved : goal.loop-event-preserved

@@ -1,4 +1,4 @@
-use Rattle.std.proofs.Common.{◌≡◌, ◌≤◌, List, length, take}
+use Rattle.std.proofs.Common.{◌≡◌, ◌≤◌, length, take}
 use Rattle.feed_core.specs.Worlds.{Setting, new_world}
 use Rattle.feed_core.specs.Fitting.{all_terms, FitsWorld, Reached}
 use Rattle.feed_core.proofs.machine.Machine.take_all.Given as goal

@@ -1,4 +1,4 @@
-use Rattle.std.proofs.Common.{sym, subst, refl, ◌∙◌, ◌≡◌}
+use Rattle.std.proofs.Common.{sym, subst, refl, ◌∙◌}
 use Rattle.filter_terms.specs.Filters.{terms_of}
 use Rattle.feed_core.specs.Fitting.{SubscriberView, FitsSubscriber}
 use Rattle.feed_core.proofs.Offering.{offer_none, offer_full, offer_one}

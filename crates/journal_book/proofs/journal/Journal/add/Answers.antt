@@ -1,6 +1,6 @@
 use Rattle.std.proofs.Common.{arith, ap, ◌∙◌, sym, ◌≡◌, ◌≤◌, ◌<◌, ◌++◌, ◌∷◌, [], length, ◌+◌, map, vec_len}
 use Rattle.std.proofs.lemmas.List.{length-append}
-use Rattle.nbbo_book.specs.Changes.{changes_of as changes_by}
+use Rattle.nbbo_book.specs.Changes.{changes_by}
 use Rattle.journal_book.specs.Changes.{changes_of, notices_from}
 use Rattle.journal_book.specs.Journals.{subscription_of}
 use Rattle.journal_book.proofs.Growth.{notices-put}

@@ -4,7 +4,7 @@ use Rattle.std.specs.List.{AllByRecursion, filter_map}
 use Rattle.nbbo_book.specs.declared.row.Row.{Row}
 use Rattle.nbbo_book.specs.declared.change.Change.{Change}
 use Rattle.nbbo_book.specs.Books.{BookState, Fits, venue_of}
-use Rattle.nbbo_book.specs.Changes.{changes_of}
+use Rattle.nbbo_book.specs.Changes.{changes_by}
 use Rattle.nbbo_book.specs.Rows.{row_after, row_change, helped_after, IsRowRanked}
 use Rattle.nbbo_book.specs.Tables.{IsBook, symbols_of}
 use Rattle.nbbo_book.proofs.Stepping.{rows_are_ranked, rows_keep_symbols}
@@ -13,7 +13,7 @@ use Rattle.nbbo_book.proofs.book.Book.apply.Goals as goal
 
 pub apply_step-requires-clause-ranked : goal.apply_step-requires-clause-ranked
 apply_step-requires-clause-ranked c =
-    subst (λ (t : List Row). AllByRecursion IsRowRanked t) (sym c.as_mut_slice.ensures.value) (rows_are_ranked c.self.inside.helped c.self.inside.applied c.self.inside.rows.items c.self.invariant.rows)
+    subst (λ (t : List Row). AllByRecursion IsRowRanked t) (sym c.as_mut_slice-rows.ensures.value) (rows_are_ranked c.self.inside.helped c.self.inside.applied c.self.inside.rows.items c.self.invariant.rows)
 
 pub invariant_of-self : goal.invariant_of-self
 invariant_of-self c =
@@ -21,13 +21,13 @@ invariant_of-self c =
     let few : c.args.self.now.venues ≤ 16 = subst (λ (t : BookState). t.venues ≤ 16) c.self.view_is c.self.invariant.venues in
     let below : venue_of c.args.entry.now < 16 = omega (arith, c.requires.venue, few) in
     let rising : c.self.inside.last < c.args.position = subst (λ (t : BookState). t.last < c.args.position) (sym c.self.view_is) c.requires.rising in
-    let helped = c.helped_after-helped.ensures in
+    let helped = c.take_self_help.ensures in
     let rows =
-    with_items_is c.self.inside.rows c.apply_step.new.rows (c.apply_step.auto.rows ∙ c.as_mut_slice.ensures.len)
+    with_items_is c.self.inside.rows c.apply_step.new.rows (c.apply_step.auto.rows ∙ c.as_mut_slice-rows.ensures.len)
     ∙ c.apply_step.ensures.rows
-    ∙ ap (λ (t : List Row). map (row_after c.helped_after-helped.result (c.self.inside.applied + 1) c.args.entry.now) t) c.as_mut_slice.ensures.value
+    ∙ ap (λ (t : List Row). map (row_after c.take_self_help.new.helped (c.self.inside.applied + 1) c.args.entry.now) t) c.as_mut_slice-rows.ensures.value
     ∙ ap (λ (t : List Bool). map (row_after t (c.self.inside.applied + 1) c.args.entry.now) c.self.inside.rows.items) helped in
-    subst (λ (t : List Row). IsBook c.self.inside.table.keys (record { symbols = symbols_of t; venues = c.self.inside.venues; last = c.args.position; applied = c.self.inside.applied + 1; helped = c.helped_after-helped.result; rows = t })) (sym rows)
+    subst (λ (t : List Row). IsBook c.self.inside.table.keys (record { symbols = symbols_of t; venues = c.self.inside.venues; last = c.args.position; applied = c.self.inside.applied + 1; helped = c.take_self_help.new.helped; rows = t })) (sym rows)
     (subst (λ (t : List Bool). IsBook c.self.inside.table.keys (record { symbols = symbols_of (map (row_after (helped_after c.args.entry.now c.self.inside.helped) (c.self.inside.applied + 1) c.args.entry.now) c.self.inside.rows.items); venues = c.self.inside.venues; last = c.args.position; applied = c.self.inside.applied + 1; helped = t; rows = map (row_after (helped_after c.args.entry.now c.self.inside.helped) (c.self.inside.applied + 1) c.args.entry.now) c.self.inside.rows.items })) (sym helped)
     (after_is c.self.inside.table.keys b c.args.entry.now c.args.position below rising c.self.invariant))
 
@@ -37,13 +37,13 @@ returns-clause-fits c = λ entries fits.
     let here : Fits b entries = subst (λ (t : BookState). Fits t entries) (sym c.self.view_is) fits in
     let few : c.args.self.now.venues ≤ 16 = subst (λ (t : BookState). t.venues ≤ 16) c.self.view_is c.self.invariant.venues in
     let below : venue_of c.args.entry.now < 16 = omega (arith, c.requires.venue, few) in
-    let helped = c.helped_after-helped.ensures in
+    let helped = c.take_self_help.ensures in
     let rows =
-    with_items_is c.self.inside.rows c.apply_step.new.rows (c.apply_step.auto.rows ∙ c.as_mut_slice.ensures.len)
+    with_items_is c.self.inside.rows c.apply_step.new.rows (c.apply_step.auto.rows ∙ c.as_mut_slice-rows.ensures.len)
     ∙ c.apply_step.ensures.rows
-    ∙ ap (λ (t : List Row). map (row_after c.helped_after-helped.result (c.self.inside.applied + 1) c.args.entry.now) t) c.as_mut_slice.ensures.value
+    ∙ ap (λ (t : List Row). map (row_after c.take_self_help.new.helped (c.self.inside.applied + 1) c.args.entry.now) t) c.as_mut_slice-rows.ensures.value
     ∙ ap (λ (t : List Bool). map (row_after t (c.self.inside.applied + 1) c.args.entry.now) c.self.inside.rows.items) helped in
-    subst (λ (t : List Row). Fits (record { symbols = symbols_of t; venues = c.self.inside.venues; last = c.args.position; applied = c.self.inside.applied + 1; helped = c.helped_after-helped.result; rows = t }) (entries ++ c.args.entry.now ∷ [])) (sym rows)
+    subst (λ (t : List Row). Fits (record { symbols = symbols_of t; venues = c.self.inside.venues; last = c.args.position; applied = c.self.inside.applied + 1; helped = c.take_self_help.new.helped; rows = t }) (entries ++ c.args.entry.now ∷ [])) (sym rows)
     (subst (λ (t : List Bool). Fits (record { symbols = symbols_of (map (row_after (helped_after c.args.entry.now c.self.inside.helped) (c.self.inside.applied + 1) c.args.entry.now) c.self.inside.rows.items); venues = c.self.inside.venues; last = c.args.position; applied = c.self.inside.applied + 1; helped = t; rows = map (row_after (helped_after c.args.entry.now c.self.inside.helped) (c.self.inside.applied + 1) c.args.entry.now) c.self.inside.rows.items }) (entries ++ c.args.entry.now ∷ [])) (sym helped)
     (after_fits c.self.inside.table.keys b c.args.entry.now c.args.position entries below c.self.invariant here))
 
@@ -55,16 +55,16 @@ returns-clause-changes c = λ entries fits.
     let below : venue_of c.args.entry.now < 16 = omega (arith, c.requires.venue, few) in
     c.apply_step.ensures.items
     ∙ ap (λ (t : List Change). c.args.out.now.items ++ t)
-    (ap (λ (t : List Row). filter_map (row_change c.helped_after-helped.result (c.self.inside.applied + 1) c.args.position c.args.entry.now) t) c.as_mut_slice.ensures.value
-    ∙ ap (λ (t : List Bool). filter_map (row_change t (c.self.inside.applied + 1) c.args.position c.args.entry.now) c.self.inside.rows.items) c.helped_after-helped.ensures
+    (ap (λ (t : List Row). filter_map (row_change c.take_self_help.new.helped (c.self.inside.applied + 1) c.args.position c.args.entry.now) t) c.as_mut_slice-rows.ensures.value
+    ∙ ap (λ (t : List Bool). filter_map (row_change t (c.self.inside.applied + 1) c.args.position c.args.entry.now) c.self.inside.rows.items) c.take_self_help.ensures
     ∙ after_changes c.self.inside.table.keys b c.args.entry.now c.args.position entries below c.self.invariant here
-    ∙ ap (λ (t : BookState). changes_of t.symbols entries c.args.position c.args.entry.now) c.self.view_is)
+    ∙ ap (λ (t : BookState). changes_by t.symbols entries c.args.position c.args.entry.now) c.self.view_is)
 
 pub returns-clause-symbols : goal.returns-clause-symbols
 returns-clause-symbols c =
     ap symbols_of
-    (with_items_is c.self.inside.rows c.apply_step.new.rows (c.apply_step.auto.rows ∙ c.as_mut_slice.ensures.len)
+    (with_items_is c.self.inside.rows c.apply_step.new.rows (c.apply_step.auto.rows ∙ c.as_mut_slice-rows.ensures.len)
     ∙ c.apply_step.ensures.rows
-    ∙ ap (λ (t : List Row). map (row_after c.helped_after-helped.result (c.self.inside.applied + 1) c.args.entry.now) t) c.as_mut_slice.ensures.value)
-    ∙ rows_keep_symbols c.helped_after-helped.result (c.self.inside.applied + 1) c.args.entry.now c.self.inside.rows.items
+    ∙ ap (λ (t : List Row). map (row_after c.take_self_help.new.helped (c.self.inside.applied + 1) c.args.entry.now) t) c.as_mut_slice-rows.ensures.value)
+    ∙ rows_keep_symbols c.take_self_help.new.helped (c.self.inside.applied + 1) c.args.entry.now c.self.inside.rows.items
     ∙ ap (λ (t : BookState). t.symbols) c.self.view_is

@@ -1,0 +1,18 @@
+use Rattle.line_arbiter.specs.States.{State}
+use Rattle.line_arbiter.proofs.Repeating.{repeats}
+use Rattle.line_arbiter.proofs.arbiter.Arbiter.take_sent.Given.{Over}
+use Rattle.line_arbiter.proofs.arbiter.Arbiter.take_sent.Goals as goal
+use Rattle.line_arbiter.proofs.arbiter.Arbiter.take_sent.Goals.{After-count}
+
+old : (g : Over) → After-count g → State
+old g c =
+    let i = c.self.inside in
+    record { venue = i.venue_id; sessions = i.names.items; session = i.session_name; window = i.held.width; sent = i.held.base; front = i.run_to; known = i.known_to; end = i.end_number; ring = i.held.ring; wins = i.won; earlier = i.won_before }
+
+pub returns : goal.returns
+unfolding old
+returns g c =
+    let sent = rw (← c.self.view_is) at c.requires.sent in
+    let before = rw (← c.self.view_is) at c.requires.before in
+    let known = rw c.requires.last at c.raised-self-inside.ensures in
+    rw (← c.self.view_is, c.count.ensures.value) (repeats c.args.line (old g (goal.at.returns g c).After-count) c.args.packet.now _ _ c.count.ensures.content.from_one c.self.invariant.stop sent before known c.add.ensures)
