@@ -1,0 +1,3 @@
+pub mod Histories
+pub mod CellMoves
+pub mod CellAnswers

@@ -1,0 +1,7 @@
+-- a feed's lanes, and what is counted of packets
+pub mod Lanes
+pub mod Sums
+pub mod Seats
+-- what stands behind the locks, and the sections under them
+pub mod Cells
+pub mod Sections
