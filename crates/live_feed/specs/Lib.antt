@@ -5,3 +5,8 @@ pub mod Seats
 -- what stands behind the locks, and the sections under them
 pub mod Cells
 pub mod Sections
+pub mod Hubs
+pub mod HubSections
+-- a subscriber
+pub mod Tapes
+pub mod Codes
