@@ -2,6 +2,7 @@
 pub mod Lanes
 pub mod Sums
 pub mod Seats
+pub mod Datagrams
 -- what stands behind the locks, and the sections under them
 pub mod Cells
 pub mod Sections

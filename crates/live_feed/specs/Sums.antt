@@ -3,11 +3,11 @@
 use Rattle.std.specs.Prelude.{ℕ, ◌+◌, ◌%◌, ◌^◌, List, [], ◌∷◌, fold, Result, Ok, Err, if◌then◌else◌}
 use Rattle.feed_types.specs.declared.line.LineId.{LineId}
 use Rattle.feed_types.specs.declared.line.LineId.TheVariants.{A, B, Recovery}
-use Rattle.mold_packet.specs.Content.{Content}
+use Rattle.mold_packet.specs.Content.{Content, last_number}
 use Rattle.line_arbiter.specs.declared.outcome.Outcome.{Outcome}
 use Rattle.line_arbiter.specs.declared.outcome.Outcome.TheVariants.{Taken, Heartbeat, Ended, Ahead}
 use Rattle.line_arbiter.specs.declared.outcome.LineFault.{LineFault}
-use Rattle.line_arbiter.specs.Packets.{Arrival, last_of}
+use Rattle.line_arbiter.specs.Packets.{Arrival}
 use Rattle.line_arbiter.specs.Streams.{is_same_line}
 
 pub record Sums : Type 0 where
@@ -29,10 +29,10 @@ wrapping total n = (total + n) % 2 ^ 64
 
 -- after one packet more that was answered so; a refused one adds nothing
 abbrev pub sums_after : Sums → Content → Result Outcome LineFault → Sums
-sums_after s p (Ok (Taken new repeated)) = record s { taken = wrapping s.taken (last_of p) }
+sums_after s p (Ok (Taken new repeated)) = record s { taken = wrapping s.taken (last_number p) }
 sums_after s p (Ok Heartbeat) = record s { heartbeat = wrapping s.heartbeat p.number }
 sums_after s p (Ok Ended) = record s { ended = wrapping s.ended p.number }
-sums_after s p (Ok Ahead) = record s { ahead = wrapping s.ahead (last_of p) }
+sums_after s p (Ok Ahead) = record s { ahead = wrapping s.ahead (last_number p) }
 sums_after s p (Err fault) = s
 
 -- those of the packets that came on the line

@@ -1,6 +1,6 @@
 //! The journal with the lanes that meet at it.
 
-ghost use Rattle.std.specs.Prelude.{◌≡◌, ◌<◌, ◌^◌, length, slice_get, OnErr};
+ghost use Rattle.std.specs.Prelude.{◌≡◌, ◌<◌, ◌^◌, ◌↔◌, length, slice_get, OnErr, IsTrue};
 ghost use Rattle.journal_book.specs.Journals.{Declares};
 ghost use Rattle.journal_book.specs.Places.{IsNextOf};
 ghost use Rattle.live_feed.specs.HubSections.{Consumes, KeepsButIntake, OffersOne, KeepsButOffers};
@@ -62,6 +62,20 @@ fn notice_at(notices: &[Notice], place: usize) -> Option<Notice>
 }
 
 impl<G: Genuine, N: FeedName> HubCore<G, N> {
+    /// How many venues there are.
+    pub(crate) fn venue_count(&self) -> usize
+        ensures { result ≡ self.now.journal.venues }
+    {
+        self.from_venues.len()
+    }
+
+    /// Whether there is a subscriber of this id.
+    pub(crate) fn has(&self, id: SubscriberId) -> bool
+        ensures { IsTrue result ↔ (id < length self.now.journal.cursors) }
+    {
+        self.kept.has(id)
+    }
+
     /// Journals the next item of the venue's lane. All room is made before it is popped.
     pub(crate) fn consume<W: Wait>(
         &mut self,

@@ -11,16 +11,20 @@
 //! (`specs/Sections.antt`, `specs/HubSections.antt`). Begin at `specs/Cells.antt`,
 //! `specs/Hubs.antt` and `specs/Tapes.antt`, and at `venue_cell.rt` and `hub_cell.rt` for the code.
 //!
-//! Not here yet: how subscribers are made, the feed that puts the cells behind their locks, and its
-//! settlement.
+//! An [`OpenFeed`] puts the cells behind their locks; each of its calls takes one of them.
+//!
+//! Not here yet: how a feed is made and opened, how subscribers are made, and its settlement.
 #![tactic(auto)]
 
 mod advising;
+mod datagram;
+mod faults;
 mod feed_name;
 mod hub_cell;
 mod hub_core;
 mod logged;
 mod next_wanted;
+mod open_feed;
 mod seat;
 mod spare;
 mod subscriber;
@@ -29,10 +33,13 @@ mod tape;
 mod unsent;
 mod venue_cell;
 
+pub use datagram::Datagram;
+pub use faults::{FeedFault, RenewalFault, TakeFault};
 pub use feed_name::FeedName;
 pub use hub_cell::HubCell;
 pub use hub_core::HubCore;
 pub use logged::{Logged, PollFault};
+pub use open_feed::OpenFeed;
 pub use seat::LineSeat;
 pub use spare::SpareLane;
 pub use subscriber::Subscriber;

@@ -1,6 +1,6 @@
 //! What stands behind a venue's lock.
 
-ghost use Rattle.std.specs.Prelude.{◌≡◌, ◌⊎◌, List, ℕ, ◌+◌, ◌∷◌, ◌++◌, [], Some, Ok, Err, IsOk, OnOk, OnErr, IfOk, slice_get};
+ghost use Rattle.std.specs.Prelude.{◌≡◌, ◌≤◌, ◌⊎◌, List, ℕ, ◌+◌, ◌∷◌, ◌++◌, [], Some, Ok, Err, IsOk, OnOk, OnErr, IfOk, slice_get};
 ghost use Rattle.feed_types.specs.declared.item.Numbered.{Numbered};
 ghost use Rattle.feed_types.specs.Sessions.{Session, IsSessionAt, Names};
 ghost use Rattle.line_arbiter.specs.Genuine.{IsGenuine};
@@ -89,7 +89,8 @@ impl<G: Genuine, N: FeedName> VenueCell<G, N> {
 
     /// Which of the venue's sessions the present one is, counted from 1 to 64.
     pub fn ordinal(&self) -> u64
-        ensures { result ≡ ordinal_of self.now.arbiter }
+        ensures value { result ≡ ordinal_of self.now.arbiter }
+        ensures range { (1 ≤ result) × (result ≤ 64) }
     {
         self.lines.ordinal()
     }
