@@ -24,6 +24,3 @@ pub use answerer::Answers;
 pub use filter::Filter;
 pub use strategy::Strategy;
 pub use terms::Terms;
-
-#[cfg(test)]
-mod tests;

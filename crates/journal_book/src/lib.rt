@@ -23,6 +23,3 @@ pub use cursor::Cursor;
 pub use fault::JournalFault;
 pub use journal::Journal;
 pub use laws::{changes_grow_at_their_end, wanted_grow_at_their_end, wanted_numbers_rise};
-
-#[cfg(test)]
-mod tests;

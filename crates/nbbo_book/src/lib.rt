@@ -25,6 +25,3 @@ pub use book::Book;
 pub use change::Change;
 pub use fault::BookFault;
 pub use laws::{age_is_the_first, any_two_rank, one_best};
-
-#[cfg(test)]
-mod tests;
