@@ -11,8 +11,9 @@ use Rattle.line_arbiter.specs.declared.outcome.LineFault.{LineFault}
 use Rattle.line_arbiter.specs.declared.faults.RenewFault.{RenewFault}
 use Rattle.nbbo_book.specs.Eligible.{is_self_helped}
 
--- A packet was answered, a datagram was no packet, an item was ready and taken, a run of messages is
--- to be asked for, a renewal was answered, or self-help was declared or withdrawn: each at a venue.
+-- A packet was answered, a datagram was no packet, an item was ready and taken, a run of messages
+-- is to be asked for, a renewal was answered, or self-help was declared or withdrawn: each at a
+-- venue.
 pub data Happening : Type 0 where
   packet_answered : (venue : ℕ) (line : LineId) (answer : Result Outcome LineFault) → Happening
   packet_refused : (venue : ℕ) (line : LineId) (fault : PacketFault) → Happening

@@ -16,8 +16,9 @@ pub fn one_reading()
         → capture_of xs r ≡ capture_of ys s → (xs ≡ ys) × (r ≡ s) }
 {}
 
-/// Records tell one list of happenings, and have one text: what meets the definition is the same. So do
-/// the lines of records, and those up to a full journal; and records have either the one or the other.
+/// Records tell one list of happenings, and have one text: what meets the definition is the same.
+/// So do the lines of records, and those up to a full journal; and records have either the one or
+/// the other.
 pub fn one_text()
     ensures told { (window : ℕ) (gaps : Bool) (records : List CaptureRecord)
         (old new last : List History) (t u : List Happening)

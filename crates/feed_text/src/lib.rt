@@ -15,8 +15,8 @@
 //! the lines up to there. After the other faults it is the text of the records read, or where the
 //! writer failed a front of it (`specs/Replays.antt`).
 //!
-//! A replay reads and writes through two traits, `devices::CaptureIn` and `devices::TextOut`, whose laws
-//! say what a call did. `memory` has devices over memory, `system` over the standard streams.
+//! A replay reads and writes through two traits, `devices::CaptureIn` and `devices::TextOut`, whose
+//! laws say what a call did. `memory` has devices over memory, `system` over the standard streams.
 //!
 //! `laws` says that a capture has one reading, and its records one text.
 //!
@@ -38,8 +38,6 @@ mod page;
 pub mod replay;
 mod report;
 pub mod system;
-#[cfg(test)]
-mod tests;
 mod unread;
 mod venue;
 mod venues;

@@ -26,8 +26,8 @@ pub struct ReplayConfig<'a> {
     /// The names of the venues' first sessions, ten bytes each, filled on the right with spaces: 1 to 16,
     /// any names.
     pub sessions: &'a [[u8; 10]],
-    /// The symbols whose national best is printed where it changes, in the order in which changes are
-    /// told: at most 4,096, each once.
+    /// The symbols whose national best is printed where it changes, in the order in which changes
+    /// are told: at most 4,096, each once.
     pub symbols: &'a [SymbolName],
     /// How many messages past the last item sent are held, in each venue: 1 to 65,535.
     pub window: u32,
@@ -39,8 +39,8 @@ pub struct ReplayConfig<'a> {
     pub turns: u64,
 }
 
-/// What is still to be written where the telling stopped: all of the text where the journal is full, and
-/// where memory was refused that of the records before, so many bytes.
+/// What is still to be written where the telling stopped: all of the text where the journal is
+/// full, and where memory was refused that of the records before, so many bytes.
 fn keep_told(stop: Stop, text: &mut Page, whole: usize) -> ReplayFault
     ensures fault { result ≡ fault_by stop }
     ensures left { text.new.items ≡ left_by stop whole text.old.items }
@@ -96,10 +96,11 @@ fn close<W: TextOut>(venues: &Venues, mut text: Page, writer: &mut W) -> Result<
 
 /// Reads a capture to its end, and writes the lines of its records and then those of its venues.
 ///
-/// What is ready is written before the reader is called again, so that a pipe shows lines as they come, and
-/// before a fault of the input, of the journal or of memory is answered. Every call of the reader is a turn,
-/// also one that was interrupted. Memory is taken for the venues' windows, the symbols, the bytes of a read and
-/// a text of about a page, and for the journal and its notices, which grow by doubling.
+/// What is ready is written before the reader is called again, so that a pipe shows lines as they
+/// come, and before a fault of the input, of the journal or of memory is answered. Every call of the
+/// reader is a turn, also one that was interrupted. Memory is taken for the venues' windows, the
+/// symbols, the bytes of a read and a text of about a page, and for the journal and its notices,
+/// which grow by doubling.
 pub fn replay<R: CaptureIn, W: TextOut>(
     alloc: Global,
     config: &ReplayConfig<'_>,
