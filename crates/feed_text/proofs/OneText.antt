@@ -4,7 +4,7 @@ use Rattle.std.specs.Prelude.{Result, Ok, Err, true, false, if◌then◌else◌,
 use Rattle.feed_types.specs.declared.line.LineId.{LineId}
 use Rattle.mold_packet.specs.declared.fault.PacketFault.{PacketFault}
 use Rattle.mold_packet.specs.Content.{Content, Spells}
-use Rattle.mold_packet.specs.Faults.{HasFault, code_of}
+use Rattle.mold_packet.specs.Faults.{HasFault}
 use Rattle.line_arbiter.specs.declared.outcome.Outcome.{Outcome}
 use Rattle.line_arbiter.specs.declared.outcome.LineFault.{LineFault}
 use Rattle.line_arbiter.specs.declared.faults.RenewFault.{RenewFault}
@@ -167,27 +167,27 @@ one_full config records t u one a b =
     let before : TellsAll config b.earlier a.told a.histories = subst (λ (rs : List CaptureRecord). TellsAll config rs a.told a.histories) s.0 a.tells in
     let x = one_told config.window config.gaps b.earlier (new_histories config) a.histories b.histories a.told b.told one before b.tells in
     let here : TellsRecord config.window config.gaps b.last b.histories (a.first ++ a.next ∷ a.others) a.after =
-        subst (λ (r : CaptureRecord). TellsRecord config.window config.gaps r b.histories (a.first ++ a.next ∷ a.others) a.after) s.1
-        (subst (λ (hs : List History). TellsRecord config.window config.gaps a.last hs (a.first ++ a.next ∷ a.others) a.after) x.1 a.last_tells) in
+    subst (λ (r : CaptureRecord). TellsRecord config.window config.gaps r b.histories (a.first ++ a.next ∷ a.others) a.after) s.1
+    (subst (λ (hs : List History). TellsRecord config.window config.gaps a.last hs (a.first ++ a.next ∷ a.others) a.after) x.1 a.last_tells) in
     let y = one_record config.window config.gaps b.last b.histories a.after b.after (a.first ++ a.next ∷ a.others) (b.first ++ b.next ∷ b.others) one here b.last_tells in
     let front : a.first ≡ b.first =
-        one_front config.journal (entries_of [] b.told) a.first b.first a.next b.next a.others b.others y.0
-        (room_behind config b.told a.first (subst (λ (hs : List Happening). HasRoom config (hs ++ a.first)) x.0 a.room))
-        (room_behind config b.told b.first b.room)
-        (full_behind config b.told a.first a.next (subst (λ (hs : List Happening). config.journal < length (entries_of [] (hs ++ a.first ++ a.next ∷ []))) x.0 a.full))
-        (full_behind config b.told b.first b.next b.full) in
+    one_front config.journal (entries_of [] b.told) a.first b.first a.next b.next a.others b.others y.0
+    (room_behind config b.told a.first (subst (λ (hs : List Happening). HasRoom config (hs ++ a.first)) x.0 a.room))
+    (room_behind config b.told b.first b.room)
+    (full_behind config b.told a.first a.next (subst (λ (hs : List Happening). config.journal < length (entries_of [] (hs ++ a.first ++ a.next ∷ []))) x.0 a.full))
+    (full_behind config b.told b.first b.next b.full) in
     a.lines_are ∙ ap (λ (hs : List Happening). lines_told config (hs ++ a.first)) x.0 ∙ ap (λ (hs : List Happening). lines_told config (b.told ++ hs)) front ∙ sym b.lines_are
 
 pub not_both : (config : ReplayConfig) (records : List CaptureRecord) (t u : List ℕ) → Single → IsLinesOf config records t → IsLinesToFull config records u → ⊥
 not_both config records t u one a b =
     let all : TellsAll config (b.earlier ++ b.last ∷ []) (b.told ++ (b.first ++ b.next ∷ b.others)) b.after =
-        tells_one config.window config.gaps b.earlier b.last (new_histories config) b.histories b.after b.told (b.first ++ b.next ∷ b.others) b.tells b.last_tells in
+    tells_one config.window config.gaps b.earlier b.last (new_histories config) b.histories b.after b.told (b.first ++ b.next ∷ b.others) b.tells b.last_tells in
     let mine : TellsAll config (b.earlier ++ b.last ∷ []) a.told a.histories = subst (λ (rs : List CaptureRecord). TellsAll config rs a.told a.histories) b.records_are a.tells in
     let x = one_told config.window config.gaps (b.earlier ++ b.last ∷ []) (new_histories config) a.histories b.after a.told (b.told ++ (b.first ++ b.next ∷ b.others)) one mine all in
     let F : List Happening = b.told ++ b.first ++ b.next ∷ [] in
     let split : b.told ++ (b.first ++ b.next ∷ b.others) ≡ F ++ b.others =
-        sym (append_assoc b.told b.first (b.next ∷ b.others))
-        ∙ sym (append_assoc (b.told ++ b.first) (b.next ∷ []) b.others) in
+    sym (append_assoc b.told b.first (b.next ∷ b.others))
+    ∙ sym (append_assoc (b.told ++ b.first) (b.next ∷ []) b.others) in
     let room : HasRoom config (F ++ b.others) = subst (HasRoom config) (x.0 ∙ split) a.room in
     let behind : length (entries_of (entries_of [] F) b.others) ≤ config.journal = room_behind config F b.others room in
     let grown = entries_grow (entries_of [] F) b.others in

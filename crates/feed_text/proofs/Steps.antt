@@ -1,13 +1,13 @@
 -- Steps of a replay: how what is known so far grows, and what follows from it at the end.
-use Rattle.std.proofs.Common.{◌≡◌, inl, inr, ℕ, Bool, ◌+◌, ◌<◌, ◌≤◌, List, [], ◌∷◌, ◌++◌, length, map, take, drop, append_assoc, append-nil, refl, sym, ap, ◌∙◌, subst, arith, length-append}
+use Rattle.std.proofs.Common.{◌≡◌, inl, inr, ℕ, Bool, ◌+◌, ◌<◌, ◌≤◌, List, [], ◌∷◌, ◌++◌, length, take, drop, append_assoc, append-nil, refl, sym, ap, ◌∙◌, subst, arith, length-append}
 use Rattle.std.specs.Prelude.{flat_map, slice_index, Result, Ok, Err, OnErr, ◌⊎◌, ⊤}
 use Rattle.std.proofs.lemmas.Grind.{flat_map-append}
 use Rattle.std.proofs.lemmas.List.{places, length-map}
 use Rattle.std.proofs.lemmas.List.Elements.{All-nil, All-push}
-use Rattle.std.proofs.Math.Seq.{take-append_seam, take-append-add}
+use Rattle.std.proofs.Math.Seq.{take-append-add}
 use Rattle.feed_text.specs.declared.replay.ReplayConfig.{ReplayConfig}
 use Rattle.feed_text.specs.Capture.{CaptureRecord, IsRecord, IsShort, IsUnfinished, IsWanted, IsHeader, len_at, spelling, capture_of}
-use Rattle.feed_text.specs.Devices.{Reading, Writing, Came, CameAll, Wrote, Moved}
+use Rattle.feed_text.specs.Devices.{Reading, Writing, Came, Wrote, Moved}
 use Rattle.feed_types.specs.declared.journal.Entry.{Entry}
 use Rattle.line_arbiter.specs.Histories.{History, new_history}
 use Rattle.feed_text.specs.declared.report.Stop.TheVariants as stops
@@ -101,7 +101,7 @@ told_more : {config : ReplayConfig} {shown : List ℕ} {t u : Tale} (told more :
 told_more {config = config} {shown = shown} {t = t} {u = u} told more x g =
     let entries : entries_of t.entries more ≡ entries_of [] (told ++ more) = rw x.entries (sym (entries_more [] told more)) in
     let text : u.text ≡ t.text ++ text_of config.symbols.now (entries_of [] told) more =
-        ap (λ (s : Tale). s.text) g.is ∙ rw (x.symbols, x.entries) refl in
+    ap (λ (s : Tale). s.text) g.is ∙ rw (x.symbols, x.entries) refl in
     record {
       symbols = ap (λ (s : Tale). s.symbols) g.is ∙ x.symbols;
       venues = ap (λ (s : Tale). s.venues) g.is ∙ x.venues;
@@ -265,8 +265,8 @@ full_here {reading = reading} {config = config} {from = from} {to = to} {calls =
     let all = told_more x.told full.first x.tale_is full.goes in
     let cut : unread ≡ spelling e ++ drop len unread = sym same ∙ (front ∙ ap (λ (xs : List ℕ). spelling e ++ xs) (ap (drop len) same)) in
     let last : entries_of [] (x.told ++ full.first ++ full.next ∷ []) ≡ entries_after u.entries full.next =
-        entries_more [] (x.told ++ full.first) (full.next ∷ [])
-        ∙ ap (λ (es : List Entry). entries_after es full.next) (sym all.entries) in
+    entries_more [] (x.told ++ full.first) (full.next ∷ [])
+    ∙ ap (λ (es : List Entry). entries_after es full.next) (sym all.entries) in
     record {
       records = x.records ++ e ∷ [];
       rest = drop len unread;

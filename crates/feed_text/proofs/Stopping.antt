@@ -1,5 +1,5 @@
 -- How a replay stops, by the answer of what it called.
-use Rattle.std.proofs.Common.{◌≡◌, inl, inr, ℕ, ◌+◌, ◌≤◌, List, [], ◌∷◌, ◌++◌, length, take, drop, append-nil, refl, sym, ap, ◌∙◌, subst}
+use Rattle.std.proofs.Common.{◌≡◌, inl, inr, ℕ, ◌+◌, ◌≤◌, List, [], ◌++◌, length, take, drop, append-nil, refl, sym, ap, ◌∙◌, subst}
 use Rattle.std.specs.Prelude.{◌≢◌, Result, Ok, Err, OnOk, OnErr, IsErrOf}
 use Rattle.std.proofs.Math.Seq.{take-append_seam}
 use Rattle.feed_text.specs.declared.fault.ReplayFault.{ReplayFault}

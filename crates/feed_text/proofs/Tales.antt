@@ -1,6 +1,6 @@
 -- Tales that go on: happenings after happenings.
 use Rattle.std.proofs.Common.{◌≡◌, ℕ, Bool, true, false, ◌+◌, ◌<◌, ◌≤◌, List, [], ◌∷◌, ◌++◌, length, drop, refl, sym, ap, subst, ◌∙◌, arith, append_assoc, append-nil, length-append}
-use Rattle.std.specs.Prelude.{Result, Ok, Err, OnOk, flat_map, not, Some, None, Option}
+use Rattle.std.specs.Prelude.{Result, Ok, Err, flat_map, not, Some, None, Option}
 use Rattle.std.proofs.Math.ListN.{drop_of_length-le}
 use Rattle.feed_types.specs.declared.item.Numbered.{Numbered}
 use Rattle.feed_types.specs.declared.journal.Entry.{Entry}
@@ -131,8 +131,8 @@ step_goes t h entries text e put within = record {
       let A : List ℕ = line_of t.entries h in
       let B : List ℕ = flat_map best_line (notices_since t.symbols t.entries (entries_after t.entries h)) in
       let there : text ≡ t.text ++ ((A ++ B) ++ []) =
-          put ∙ ap (λ (n : List Entry). (t.text ++ A) ++ flat_map best_line (notices_since t.symbols t.entries n)) e
-          ∙ append_assoc t.text A B ∙ ap (λ (x : List ℕ). t.text ++ x) (sym (append-nil (A ++ B))) in
+      put ∙ ap (λ (n : List Entry). (t.text ++ A) ++ flat_map best_line (notices_since t.symbols t.entries n)) e
+      ∙ append_assoc t.text A B ∙ ap (λ (x : List ℕ). t.text ++ x) (sym (append-nil (A ++ B))) in
       ap (λ (n : List Entry). tale_with t n text) e ∙ ap (λ (x : List ℕ). tale_with t (entries_after t.entries h) x) there;
   within = within;
 }
@@ -162,14 +162,14 @@ pub item_goes : (o m j : JournalState) (venue : ℕ) (n : Numbered) (from : ℕ)
     → GoesOn (tale_from o t0) (item_taken venue n ∷ []) (tale_from j t2)
 item_goes o m j venue n from t0 t1 t2 room ready journals head counted bests =
     let made : j ≡ record o { entries = o.entries ++ Consumed venue n ∷ []; ready = j.ready } =
-        journals ∙ ap (λ (s : JournalState). record s { entries = s.entries ++ Consumed venue n ∷ []; ready = j.ready }) ready in
+    journals ∙ ap (λ (s : JournalState). record s { entries = s.entries ++ Consumed venue n ∷ []; ready = j.ready }) ready in
     let N : List Entry = o.entries ++ Consumed venue n ∷ [] in
     let start : from ≡ length (changes_of o.symbols o.entries) = counted ∙ ap (λ (s : JournalState). length (changes s)) ready in
     let text : t2 ≡ (t0 ++ item_line venue n) ++ flat_map best_line (notices_since o.symbols o.entries N) =
-        bests
-        ∙ ap (λ (t : List ℕ). t ++ flat_map best_line (drop from (changes j))) head
-        ∙ ap (λ (k : ℕ). (t0 ++ item_line venue n) ++ flat_map best_line (drop k (changes j))) start
-        ∙ ap (λ (s : JournalState). (t0 ++ item_line venue n) ++ flat_map best_line (drop (length (changes_of o.symbols o.entries)) (changes s))) made in
+    bests
+    ∙ ap (λ (t : List ℕ). t ++ flat_map best_line (drop from (changes j))) head
+    ∙ ap (λ (k : ℕ). (t0 ++ item_line venue n) ++ flat_map best_line (drop k (changes j))) start
+    ∙ ap (λ (s : JournalState). (t0 ++ item_line venue n) ++ flat_map best_line (drop (length (changes_of o.symbols o.entries)) (changes s))) made in
     subst (λ (x : Tale). GoesOn (tale_from o t0) (item_taken venue n ∷ []) x)
     (sym (ap (λ (s : JournalState). tale_from s t2) made))
     (step_goes (tale_from o t0) (item_taken venue n) N t2 refl text (λ w. one_longer o.entries (Consumed venue n) o.journal room))
@@ -214,10 +214,10 @@ declared_goes o j venue on from position t0 t1 t2 other room made placed head co
     let count : position ≡ length o.entries + 1 = placed ∙ ap (λ (s : JournalState). length s.entries) made ∙ longer in
     let line : line_of o.entries (self_help_declared venue on) ≡ declare_line venue on (Some position) = rw (so, count) refl in
     let text : t2 ≡ (t0 ++ line_of o.entries (self_help_declared venue on)) ++ flat_map best_line (notices_since o.symbols o.entries N) =
-        bests
-        ∙ ap (λ (t : List ℕ). t ++ flat_map best_line (drop from (changes j))) (head ∙ ap (λ (l : List ℕ). t0 ++ l) (sym line))
-        ∙ ap (λ (k : ℕ). (t0 ++ line_of o.entries (self_help_declared venue on)) ++ flat_map best_line (drop k (changes j))) counted
-        ∙ ap (λ (s : JournalState). (t0 ++ line_of o.entries (self_help_declared venue on)) ++ flat_map best_line (drop (length (changes_of o.symbols o.entries)) (changes s))) made in
+    bests
+    ∙ ap (λ (t : List ℕ). t ++ flat_map best_line (drop from (changes j))) (head ∙ ap (λ (l : List ℕ). t0 ++ l) (sym line))
+    ∙ ap (λ (k : ℕ). (t0 ++ line_of o.entries (self_help_declared venue on)) ++ flat_map best_line (drop k (changes j))) counted
+    ∙ ap (λ (s : JournalState). (t0 ++ line_of o.entries (self_help_declared venue on)) ++ flat_map best_line (drop (length (changes_of o.symbols o.entries)) (changes s))) made in
     subst (λ (x : Tale). GoesOn (tale_from o t0) (self_help_declared venue on ∷ []) x)
     (sym (ap (λ (s : JournalState). tale_from s t2) made))
     (step_goes (tale_from o t0) (self_help_declared venue on) N t2 (sym after) text (λ w. one_longer o.entries (SelfHelp venue on) o.journal room))
@@ -232,10 +232,10 @@ already_goes o j venue on from t0 t1 t2 so same head counted bests =
     let line : line_of o.entries (self_help_declared venue on) ≡ declare_line venue on None = rw yes_so refl in
     let H : List ℕ = t0 ++ line_of o.entries (self_help_declared venue on) in
     let text : t2 ≡ H ++ flat_map best_line (notices_since o.symbols o.entries o.entries) =
-        bests
-        ∙ ap (λ (t : List ℕ). t ++ flat_map best_line (drop from (changes j))) (head ∙ ap (λ (l : List ℕ). t0 ++ l) (sym line))
-        ∙ ap (λ (k : ℕ). H ++ flat_map best_line (drop k (changes j))) counted
-        ∙ ap (λ (s : JournalState). H ++ flat_map best_line (drop (length (changes_of o.symbols o.entries)) (changes s))) same in
+    bests
+    ∙ ap (λ (t : List ℕ). t ++ flat_map best_line (drop from (changes j))) (head ∙ ap (λ (l : List ℕ). t0 ++ l) (sym line))
+    ∙ ap (λ (k : ℕ). H ++ flat_map best_line (drop k (changes j))) counted
+    ∙ ap (λ (s : JournalState). H ++ flat_map best_line (drop (length (changes_of o.symbols o.entries)) (changes s))) same in
     subst (λ (x : Tale). GoesOn (tale_from o t0) (self_help_declared venue on ∷ []) x)
     (sym (ap (λ (s : JournalState). tale_from s t2) same))
     (step_goes (tale_from o t0) (self_help_declared venue on) o.entries t2 (sym after) text (λ w. w))

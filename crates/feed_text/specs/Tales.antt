@@ -1,6 +1,6 @@
 -- What a replay keeps of all venues together: its journal, and the text that waits to be written.
 -- Private clauses alone cite this file.
-use Rattle.std.specs.Prelude.{◌≡◌, ℕ, ◌<◌, ◌≤◌, List, [], ◌∷◌, ◌++◌, length, Result, Ok, Err}
+use Rattle.std.specs.Prelude.{◌≡◌, ℕ, ◌<◌, ◌≤◌, List, ◌∷◌, ◌++◌, length, Result, Ok, Err}
 use Rattle.feed_types.specs.declared.journal.Entry.{Entry}
 use Rattle.feed_text.specs.declared.report.Report.{Report}
 use Rattle.feed_text.specs.declared.report.Stop.{Stop}

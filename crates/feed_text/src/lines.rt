@@ -225,11 +225,7 @@ pub(crate) fn put_best(text: &mut Page, notice: &Notice) -> Result<(), AllocErro
 }
 
 /// The line of the run of messages to ask for.
-pub(crate) fn put_gap(
-    text: &mut Page,
-    venue: VenueId,
-    request: &Request,
-) -> Result<(), AllocError>
+pub(crate) fn put_gap(text: &mut Page, venue: VenueId, request: &Request) -> Result<(), AllocError>
     ensures line { OnOk result (text.new.items ≡ text.old.items ++ gap_line venue request.now) }
     ensures part { OnErr result (text.new.items ≡ text.old.items) }
 {

@@ -55,12 +55,7 @@ fn keep_told(stop: Stop, text: &mut Page, whole: usize) -> ReplayFault
 }
 
 /// Writes what was told before the telling stopped, and says how that ended.
-fn stopped<W: TextOut>(
-    stop: Stop,
-    text: &mut Page,
-    whole: usize,
-    writer: &mut W,
-) -> ReplayFault
+fn stopped<W: TextOut>(stop: Stop, text: &mut Page, whole: usize, writer: &mut W) -> ReplayFault
     ensures { Stops W.adds W.failures stop whole text.old.items writer.old writer.new result }
 {
     let fault = keep_told(stop, text, whole);

@@ -1,8 +1,6 @@
 //! Refusals in their order, and one quotation. Worked and generated entries stand in
 //! tests/unproved/nbbo_book, since their own proofs take long.
 
-ghost use Rattle.std.specs.Prelude.{◌≡◌};
-
 mod refusals;
 
 use crate::Book;
@@ -40,6 +38,8 @@ fn one_quotation(rt: HostRuntime) -> Result<(), Fail> {
         venue: first,
         numbered,
     };
+    assert!(rt; book.symbol_count() <= out.capacity());
+    assert!(rt; first.index() < book.venue_count());
     book.apply(1, &entry, &mut out);
     let [change] = out.as_slice() else {
         return Err(Fail::from("one change"));

@@ -13,8 +13,6 @@
 mod form;
 mod laws;
 mod reading;
-#[cfg(test)]
-mod tests;
 mod writing;
 
 pub use laws::no_message_is_the_end;

@@ -40,16 +40,26 @@ fn run<L: Ledger>(
     (ending, writer.into_text())
 }
 
+/// The same.
+fn run_in_memory(
+    alloc: Global,
+    symbol: SymbolName,
+    journal: u32,
+) -> (Result<(), ReplayFault>, Vec<u8>) {
+    let blank = Blank::new(1);
+    run::<Brand>(alloc, symbol, journal, blank)
+}
+
 #[test]
 fn best_and_declared(rt: HostRuntime) -> Result<(), Fail> {
     let symbol = SymbolName::from_text(b"ACME").ok_or("a name")?;
     let text: &[u8] = b"packet 0 A taken 1 0\nitem 0 1 quote\n\
         best 1 1 ACME 0:10.1500x300 0:10.1600x400 normal\n\
         declare 0 on 2\nbest 2 2 ACME none none empty\nvenue 0 sent 1 wins 1 0 0\n";
-    let (ending, seen) = run::<Brand>(rt.alloc(), symbol, 2, Blank::new(1));
+    let (ending, seen) = run_in_memory(rt.alloc(), symbol, 2);
     assert!(rt; ending == Ok(()));
     assert_eq!(rt; seen.as_slice(), text);
-    let (ending, seen) = run::<Brand>(rt.alloc(), symbol, 1, Blank::new(1));
+    let (ending, seen) = run_in_memory(rt.alloc(), symbol, 1);
     assert!(rt; ending == Err(ReplayFault::JournalFull));
     assert_eq!(rt; seen.as_slice(), &text[..85]);
     Ok(())

@@ -1,5 +1,4 @@
-use Rattle.std.proofs.Common.{◌≡◌, ℕ, zero, suc, List, [], ◌∷◌, take, length, refl, ap, rules}
-use Rattle.feed_types.specs.Symbols.{name_of}
+use Rattle.std.proofs.Common.{◌≡◌, ℕ, zero, suc, List, [], ◌∷◌, take, length, refl, ap}
 use Rattle.feed_text.proofs.Places.{placed_as}
 use Rattle.feed_text.proofs.fields.place_name.Goals as goal
 

@@ -1,4 +1,4 @@
-use Rattle.std.proofs.Common.{rules, drop, ap, ◌∙◌}
+use Rattle.std.proofs.Common.{rules}
 use Rattle.std.proofs.lemmas.List.{take_rest}
 use Rattle.feed_text.proofs.Calls.{adds_more, adds_done}
 use Rattle.feed_text.proofs.output.write_all.Goals as goal

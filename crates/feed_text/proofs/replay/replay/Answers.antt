@@ -1,8 +1,6 @@
-use Rattle.std.proofs.Common.{rules, arith, refl, sym, ◌≡◌, ℕ, ◌∙◌, ◌-◌, length-drop, Ok, Err, ap, true, false, take, length}
-use Rattle.feed_text.specs.declared.fault.ReplayFault.TheVariants.{WriteFailed}
+use Rattle.std.proofs.Common.{rules, arith, refl, sym, ◌≡◌, ℕ, ◌∙◌, ◌-◌, length-drop, Ok, Err, ap, true, false}
 use Rattle.feed_text.specs.Capture.{record_of}
 use Rattle.std.proofs.lemmas.Result.{err_from_is_err_and}
-use Rattle.feed_text.specs.Tales.{Tale, tale_of}
 use Rattle.feed_text.proofs.Steps.{Laws, so_far_none, so_far_step, so_far_moved, so_far_flushed, so_far_read, replays_until, nothing_replayed, unfinished_from, short_of, told_none}
 use Rattle.feed_text.proofs.Stopping.{only_fault, stopped_by, unwritten, unfilled_by, closed_by}
 use Rattle.feed_text.proofs.replay.replay.Given.{Over}

@@ -1,5 +1,4 @@
 use Rattle.std.proofs.Common.{◌≡◌, ◌+◌, ◌*◌, ◌-◌, ◌<◌, ◌≤◌, length}
-use Rattle.feed_text.specs.Devices.{Reading, Writing}
 use Rattle.feed_text.specs.Tales.{tale_of}
 use Rattle.feed_text.proofs.Steps.{SoFar}
 use Rattle.feed_text.proofs.replay.replay.Given as goal

@@ -1,4 +1,4 @@
-use Rattle.std.proofs.Common.{◌≡◌, ◌++◌, List, length, drop, refl, sym, ap, ◌∙◌, append-nil}
+use Rattle.std.proofs.Common.{◌++◌, List, length, refl, sym, ap, ◌∙◌, append-nil}
 use Rattle.std.specs.Prelude.{ℕ, flat_map}
 use Rattle.std.proofs.Math.ListN.{drop_of_length-le}
 use Rattle.std.proofs.lemmas.Option.{slice_get_read}

@@ -1,4 +1,4 @@
-use Rattle.std.proofs.Common.{◌≡◌, ◌+◌, List, length, sym, ap, refl, subst, ◌∙◌, arith, rules}
+use Rattle.std.proofs.Common.{◌≡◌, ◌+◌, List, length, ap, refl, subst, ◌∙◌, arith}
 use Rattle.std.specs.Prelude.{ℕ, ◌∷◌, [], map, Err}
 use Rattle.feed_types.specs.declared.item.Item.{Item}
 use Rattle.std.proofs.lemmas.Result.{err_from_is_err_and}

@@ -1,7 +1,6 @@
 use Rattle.std.proofs.Common.{◌≡◌, List, length, drop, sym, ap, subst, ◌∷◌, [], ◌++◌, ◌∙◌}
 use Rattle.std.specs.Prelude.{ℕ, Option, flat_map}
 use Rattle.feed_types.specs.declared.journal.Notice.{Notice}
-use Rattle.journal_book.specs.Changes.{changes_of}
 use Rattle.journal_book.specs.Journals.{JournalState}
 use Rattle.feed_text.specs.Happenings.{self_help_declared}
 use Rattle.feed_text.specs.Lines.{best_line, declare_line}
@@ -19,10 +18,10 @@ returns-in-Err-JournalFull c =
 pub returns : goal.returns
 returns c =
     let bests =
-        c.in_ok-put_bests.ensures.lines
-        ∙ ap (λ (notices : List Notice). c.put_declared.new.text.items ++ flat_map best_line (drop (length c.changes-from.result.now) notices)) c.changes.ensures in
+    c.in_ok-put_bests.ensures.lines
+    ∙ ap (λ (notices : List Notice). c.put_declared.new.text.items ++ flat_map best_line (drop (length c.changes-from.result.now) notices)) c.changes.ensures in
     let line : (position : Option ℕ) → c.match-declare.position ≡ position → c.put_declared.new.text.items ≡ c.args.self.now.text.items ++ declare_line c.args.venue c.args.on position =
-        λ position e. c.in_ok-put_declared.ensures.line ∙ ap (λ (p : Option ℕ). c.args.self.now.text.items ++ declare_line c.args.venue c.args.on p) e in
+    λ position e. c.in_ok-put_declared.ensures.line ∙ ap (λ (p : Option ℕ). c.args.self.now.text.items ++ declare_line c.args.venue c.args.on p) e in
     elim c.match-declare.branch [
       | in-Ok w ↦
           let e = w.in-Ok.ensures.declares in

@@ -1,0 +1,287 @@
+-- What a packet, a push and a renewal leave of a venue's cell, said of plain states.
+use Rattle.std.proofs.Common.{◌≡◌, ℕ, ◌+◌, true, false, List, [], ◌∷◌, ◌++◌, length, map, take, drop, Option, Some, None, Result, Ok, Err, refl, sym, ap, subst, ◌∙◌, arith, append_assoc, append-nil, length-append}
+use Rattle.std.specs.Prelude.{slice_get, if◌then◌else◌}
+use Rattle.std.proofs.lemmas.List.{take-append-drop}
+use Rattle.std.proofs.lemmas.List.Sums.{fold-append, sum_by-append}
+use Rattle.feed_types.specs.declared.item.Numbered.{Numbered}
+use Rattle.feed_types.specs.declared.line.LineId.{LineId}
+use Rattle.feed_types.specs.declared.line.LineId.TheVariants.{A, B, Recovery}
+use Rattle.feed_types.specs.Prefix.{IsPrefix}
+use Rattle.feed_types.specs.Sequence.{Carries, Ends, IsInSequence}
+use Rattle.feed_types.specs.SequenceLaws.{prefix_in_sequence}
+use Rattle.feed_types.specs.Sessions.{SessionNames}
+use Rattle.mold_packet.specs.Content.{Content, IsContent}
+use Rattle.line_arbiter.specs.declared.outcome.Outcome.{Outcome}
+use Rattle.line_arbiter.specs.declared.outcome.LineFault.{LineFault}
+use Rattle.line_arbiter.specs.Packets.{Arrival, arrival_of}
+use Rattle.line_arbiter.specs.Streams.{IsComplete, is_same_line, stream_of, wins_of}
+use Rattle.line_arbiter.specs.Outcomes.{IsOutcome}
+use Rattle.line_arbiter.specs.Genuine.{IsGenuine}
+use Rattle.line_arbiter.specs.Histories.{Begun, History, all_begun, items_of, new_history, new_session, streams_of, after_arrival}
+use Rattle.line_arbiter.specs.Counts.{count_on, no_counts, shown}
+use Rattle.line_arbiter.specs.States.{State, ordinal_of, KeepsItsPlace, IsAdvanced, IsNew, IsRenewed}
+use Rattle.line_arbiter.specs.Fits.{Fits}
+use Rattle.fifo_lane.specs.Lane.{LaneEnd, with_items, WasFull}
+use Rattle.feed_core.proofs.VenueHalfLaw.{items_push}
+use Rattle.live_feed.specs.Lanes.{FeedLanes}
+use Rattle.live_feed.specs.Sums.{Sums, no_sums, sums_after, accepted_on, sums_on, line_sums_after, LineSums}
+use Rattle.live_feed.specs.Cells.{CellState, FitsCell, AreGivenFrom, IsKept, arrivals_of, new_cell, wins_in}
+use Rattle.live_feed.specs.Sections.{TakesPacket, PushesOne, RenewsSession}
+use Rattle.line_arbiter.specs.Renewals.{IsRenewal}
+use Rattle.live_feed.specs.declared.unsent.Unsent.TheVariants as unsent
+use Rattle.live_feed.proofs.Histories.{take_same, take_next, get_sent, names_same, names_length, arrivals_push, arrivals_more, given_more, present_more, next_given, streams_sequence}
+
+-- ---- sums
+
+-- of this line the sums go on by the packet, of others they stay
+adds_on : (line l : LineId) (s : LineSums) (p : Content) (answer : Result Outcome LineFault)
+    → sums_on l (line_sums_after line p answer s) ≡ (if is_same_line line l then sums_after (sums_on l s) p answer else sums_on l s)
+adds_on A A s p answer = refl
+adds_on A B s p answer = refl
+adds_on A Recovery s p answer = refl
+adds_on B A s p answer = refl
+adds_on B B s p answer = refl
+adds_on B Recovery s p answer = refl
+adds_on Recovery A s p answer = refl
+adds_on Recovery B s p answer = refl
+adds_on Recovery Recovery s p answer = refl
+
+pub no_more : (line : LineId) (s : LineSums) (p : Content) (fault : LineFault) → line_sums_after line p (Err fault) s ≡ s
+no_more A s p fault = refl
+no_more B s p fault = refl
+no_more Recovery s p fault = refl
+
+-- ---- a packet
+
+module _ (old new : CellState) (h : History) (line : LineId) (p : Content) (answer : Result Outcome LineFault) (f : FitsCell old h) (lane : new.lane ≡ old.lane) (kept : KeepsItsPlace old.arbiter new.arbiter)
+    (fits : Fits new.arbiter (h.present.packets ++ arrival_of line p answer ∷ [])) (grows : IsPrefix (stream_of h.present.packets) (stream_of (h.present.packets ++ arrival_of line p answer ∷ [])))
+    (sums : new.accepted ≡ line_sums_after line p answer old.accepted) where
+  abbrev a : Arrival
+  a = arrival_of line p answer
+
+  packet_sums : (l : LineId) → sums_on l new.accepted ≡ accepted_on l (arrivals_of (all_begun (after_arrival h a)))
+  packet_sums l =
+      ap (sums_on l) sums
+      ∙ adds_on line l old.accepted p answer
+      ∙ ap (λ (s : Sums). if is_same_line line l then sums_after s p answer else s) (f.accepted l)
+      ∙ sym (fold-append (λ (s : Sums) (x : Arrival). if is_same_line x.line l then sums_after s x.packet x.answer else s) no_sums (arrivals_of (all_begun h)) (a ∷ []))
+      ∙ ap (accepted_on l) (sym (arrivals_more h a))
+
+  pub packet_fits : FitsCell new (after_arrival h a)
+  packet_fits = record {
+    fits = fits;
+    names = kept.sessions ∙ f.names ∙ names_same h a;
+    session = kept.session ∙ f.session;
+    sent =
+        ap (λ (e : LaneEnd Numbered). e.items) lane ∙ f.sent
+        ∙ ap (λ (xs : List Numbered). items_of h.earlier ++ xs)
+        (sym (take_same (stream_of h.present.packets) (stream_of (h.present.packets ++ a ∷ [])) old.arbiter.sent grows f.fits.sent) ∙ ap (λ (n : ℕ). take n (stream_of (h.present.packets ++ a ∷ []))) (sym kept.sent));
+    earlier = λ l. ap (count_on l) kept.earlier ∙ f.earlier l;
+    accepted = packet_sums;
+  }
+
+  right_at : IsOutcome old.arbiter.session old.arbiter.window old.arbiter.sent h.present.packets p answer → IsOutcome h.present.name old.arbiter.window old.arbiter.sent h.present.packets p answer
+  right_at o = subst (λ (n : List ℕ). IsOutcome n old.arbiter.window old.arbiter.sent h.present.packets p answer) f.session o
+
+  pub takes : IsOutcome old.arbiter.session old.arbiter.window old.arbiter.sent h.present.packets p answer → TakesPacket line p answer h old new
+  takes o = record { after = after_arrival h a; taken = record { right = right_at o; is = refl }; fits = packet_fits }
+
+pub ordinal_is : (c : CellState) (h : History) → FitsCell c h → ordinal_of c.arbiter ≡ 1 + length h.earlier
+ordinal_is c h f = ap length f.names ∙ names_length h
+
+pub packet_kept : (sessions : SessionNames) (carries : Carries) (ends : Ends) (lanes : FeedLanes) (old new : CellState) (line : LineId) (p : Content) (answer : Result Outcome LineFault) (k : IsKept sessions carries ends lanes old)
+    → new.lane ≡ old.lane → KeepsItsPlace old.arbiter new.arbiter → FitsCell new (after_arrival k.history (arrival_of line p answer)) → IsContent p
+    → IsOutcome old.arbiter.session old.arbiter.window old.arbiter.sent k.history.present.packets p answer → IsGenuine sessions carries ends old.arbiter.venue p → IsKept sessions carries ends lanes new
+packet_kept sessions carries ends lanes old new line p answer k lane kept fits content o genuine =
+    let h = k.history in
+    let f = k.fits in
+    let venue = old.arbiter.venue in
+    let window = old.arbiter.window in
+    let right = subst (λ (n : List ℕ). IsOutcome n window old.arbiter.sent h.present.packets p answer) f.session o in
+    let ordinal : ordinal_of old.arbiter ≡ 1 + length h.earlier = ordinal_is old h f in
+    let named : sessions venue (1 + length h.earlier) h.present.name = subst (λ (x : ℕ × List ℕ). sessions venue x.0 x.1) (λ i. (ordinal i, f.session i)) k.named in
+    let given = present_more carries ends venue window 1 h.earlier h.present (after_arrival h (arrival_of line p answer)).present
+    (given_more carries ends venue window (1 + length h.earlier) h.present (arrival_of line p answer) (λ same. genuine (1 + length h.earlier) (subst (λ (n : List ℕ). sessions venue (1 + length h.earlier) n) (sym same) named)) (record { content = content; sent = old.arbiter.sent; outcome = right }))
+    k.given in
+    record {
+      history = after_arrival h (arrival_of line p answer);
+      fits = fits;
+      given = subst (λ (x : ℕ × ℕ). AreGivenFrom carries ends x.0 x.1 1 h.earlier (after_arrival h (arrival_of line p answer)).present) (λ i. (sym kept.venue i, sym kept.window i)) given;
+      named = subst (λ (x : ℕ × (List (List ℕ) × List ℕ)). sessions x.0 (length x.1.0) x.1.1) (λ i. (sym kept.venue i, (sym kept.sessions i, sym kept.session i))) k.named;
+      tag = ap (λ (e : LaneEnd Numbered). e.tag) lane ∙ k.tag ∙ sym kept.venue;
+      lane = ap (slice_get lanes.venues) kept.venue ∙ k.lane ∙ ap (λ (e : LaneEnd Numbered). Some e.lane) (sym lane);
+    }
+
+-- ---- a push
+
+module _ (c : CellState) (h : History) (f : FitsCell c h) where
+  -- the next item of all streams is that of the present one
+  pub next_is : slice_get (streams_of h) (length c.lane.items) ≡ slice_get (stream_of h.present.packets) c.arbiter.sent
+  next_is =
+      ap (λ (xs : List Numbered). slice_get xs (length c.lane.items)) (items_push h.earlier h.present)
+      ∙ get_sent (items_of h.earlier) (stream_of h.present.packets) c.lane.items c.arbiter.sent f.sent f.fits.sent
+
+  sent_more : (x : Numbered) (n : ℕ) → n ≡ c.arbiter.sent + 1 → Some x ≡ slice_get (stream_of h.present.packets) c.arbiter.sent
+      → c.lane.items ++ x ∷ [] ≡ items_of h.earlier ++ take n (stream_of h.present.packets)
+  sent_more x n is e =
+      ap (λ (xs : List Numbered). xs ++ x ∷ []) f.sent
+      ∙ append_assoc (items_of h.earlier) (take c.arbiter.sent (stream_of h.present.packets)) (x ∷ [])
+      ∙ ap (λ (xs : List Numbered). items_of h.earlier ++ xs) (sym (take_next (stream_of h.present.packets) c.arbiter.sent n x is e))
+
+  -- it may be sent
+  pub may_push : (carries : Carries) (ends : Ends) (venue window : ℕ) (x : Numbered) → AreGivenFrom carries ends venue window 1 h.earlier h.present → Some x ≡ slice_get (stream_of h.present.packets) c.arbiter.sent
+      → IsInSequence carries ends venue (c.lane.items ++ x ∷ [])
+  may_push carries ends venue window x given e =
+      let stream = stream_of h.present.packets in
+      let n = c.arbiter.sent + 1 in
+      let whole : streams_of h ≡ (items_of h.earlier ++ take n stream) ++ drop n stream =
+      items_push h.earlier h.present ∙ ap (λ (xs : List Numbered). items_of h.earlier ++ xs) (sym (take-append-drop n stream)) ∙ sym (append_assoc (items_of h.earlier) (take n stream) (drop n stream)) in
+      let all : IsInSequence carries ends venue ((items_of h.earlier ++ take n stream) ++ drop n stream) =
+      subst (λ (xs : List Numbered). IsInSequence carries ends venue xs) whole (streams_sequence carries ends venue window h given) in
+      subst (λ (xs : List Numbered). IsInSequence carries ends venue xs) (sym (sent_more x n refl e)) (prefix_in_sequence carries ends venue (items_of h.earlier ++ take n stream) (drop n stream) all)
+
+  pub push_fits : (new : CellState) (x : Numbered) → Some x ≡ slice_get (stream_of h.present.packets) c.arbiter.sent → new.lane ≡ with_items c.lane (c.lane.items ++ x ∷ []) → new.accepted ≡ c.accepted
+      → IsAdvanced c.arbiter new.arbiter → Fits new.arbiter h.present.packets → FitsCell new h
+  push_fits new x e lane sums advanced fits = record {
+    fits = fits;
+    names = advanced.kept.sessions ∙ f.names;
+    session = advanced.kept.session ∙ f.session;
+    sent = ap (λ (e : LaneEnd Numbered). e.items) lane ∙ sent_more x new.arbiter.sent advanced.sent e;
+    earlier = λ l. ap (count_on l) advanced.kept.earlier ∙ f.earlier l;
+    accepted = λ l. ap (sums_on l) sums ∙ f.accepted l;
+  }
+
+  pub pushes : (may_send : ℕ → List Numbered → Type 0) (new : CellState) (x : Numbered) (number : ℕ) → Some x ≡ slice_get (stream_of h.present.packets) c.arbiter.sent → number ≡ x.number
+      → new.lane ≡ with_items c.lane (c.lane.items ++ x ∷ []) → FitsCell new h → PushesOne may_send (Ok number) h c new
+  pushes may_send new x number e is lane fits = record {
+    full = false;
+    was_full = λ t. absurd cc;
+    comes = rw (next_is, ← e, is) (refl, ap (λ (e : LaneEnd Numbered). e.items) lane);
+    fits = fits;
+  }
+
+  pub push_nothing : (may_send : ℕ → List Numbered → Type 0) → None ≡ slice_get (stream_of h.present.packets) c.arbiter.sent → PushesOne may_send (Err unsent.Nothing) h c c
+  push_nothing may_send e = record {
+    full = false;
+    was_full = λ t. absurd cc;
+    comes = rw (next_is, ← e) (refl, refl);
+    fits = f;
+  }
+
+  pub push_full : (may_send : ℕ → List Numbered → Type 0) (x : Numbered) → Some x ≡ slice_get (stream_of h.present.packets) c.arbiter.sent → WasFull may_send c.lane → PushesOne may_send (Err unsent.LaneFull) h c c
+  push_full may_send x e was = record {
+    full = true;
+    was_full = λ t. was;
+    comes = rw (next_is, ← e) (refl, refl);
+    fits = f;
+  }
+
+pub push_kept : (sessions : SessionNames) (carries : Carries) (ends : Ends) (lanes : FeedLanes) (old new : CellState) (x : Numbered) (k : IsKept sessions carries ends lanes old)
+    → new.lane ≡ with_items old.lane (old.lane.items ++ x ∷ []) → IsAdvanced old.arbiter new.arbiter → FitsCell new k.history → IsKept sessions carries ends lanes new
+push_kept sessions carries ends lanes old new x k lane advanced fits = record {
+  history = k.history;
+  fits = fits;
+  given = subst (λ (x : ℕ × ℕ). AreGivenFrom carries ends x.0 x.1 1 k.history.earlier k.history.present) (λ i. (sym advanced.kept.venue i, sym advanced.kept.window i)) k.given;
+  named = subst (λ (x : ℕ × (List (List ℕ) × List ℕ)). sessions x.0 (length x.1.0) x.1.1) (λ i. (sym advanced.kept.venue i, (sym advanced.kept.sessions i, sym advanced.kept.session i))) k.named;
+  tag = ap (λ (e : LaneEnd Numbered). e.tag) lane ∙ k.tag ∙ sym advanced.kept.venue;
+  lane = ap (slice_get lanes.venues) advanced.kept.venue ∙ k.lane ∙ ap (λ (e : LaneEnd Numbered). Some e.lane) (sym lane);
+}
+
+-- ---- a cell where nothing came yet
+
+no_wins : (line : LineId) → count_on line no_counts ≡ shown 0
+no_wins A = refl
+no_wins B = refl
+no_wins Recovery = refl
+
+nothing : (line : LineId) → sums_on line (record { a = no_sums; b = no_sums; recovery = no_sums }) ≡ no_sums
+nothing A = refl
+nothing B = refl
+nothing Recovery = refl
+
+pub new_fits : (arbiter : State) (lane : LaneEnd Numbered) → IsNew arbiter lane.tag arbiter.session arbiter.window → Fits arbiter [] → lane.items ≡ [] → FitsCell (new_cell arbiter lane) (new_history arbiter.session)
+new_fits arbiter lane new fits empty = record {
+  fits = fits;
+  names = new.sessions;
+  session = refl;
+  sent = empty ∙ sym (ap (λ (n : ℕ). take n (stream_of [])) new.begun.sent);
+  earlier = λ l. ap (count_on l) new.earlier ∙ no_wins l;
+  accepted = nothing;
+}
+
+pub new_kept : (sessions : SessionNames) (carries : Carries) (ends : Ends) (lanes : FeedLanes) (arbiter : State) (lane : LaneEnd Numbered) → IsNew arbiter lane.tag arbiter.session arbiter.window → Fits arbiter [] → lane.items ≡ []
+    → sessions lane.tag 1 arbiter.session → slice_get lanes.venues lane.tag ≡ Some lane.lane → IsKept sessions carries ends lanes (new_cell arbiter lane)
+new_kept sessions carries ends lanes arbiter lane new fits empty named at = record {
+  history = new_history arbiter.session;
+  fits = new_fits arbiter lane new fits empty;
+  given = record { answered = tt; genuine = tt };
+  named = subst (λ (x : ℕ × ℕ). sessions x.0 x.1 arbiter.session) (λ i. (sym new.venue i, sym (ap length new.sessions) i)) named;
+  tag = sym new.venue;
+  lane = ap (slice_get lanes.venues) new.venue ∙ at;
+}
+
+-- ---- a renewal
+
+names_next : (bs : List Begun) (name : List ℕ) → map (λ (x : Begun). x.name) (bs ++ new_session name ∷ []) ≡ map (λ (x : Begun). x.name) bs ++ name ∷ []
+names_next [] name = refl
+names_next (b ∷ bs) name = ap (λ (l : List (List ℕ)). b.name ∷ l) (names_next bs name)
+
+take_whole : {X : Type 0} (xs : List X) → take (length xs) xs ≡ xs
+take_whole [] = refl
+take_whole (x ∷ xs) = ap (λ (l : List _). x ∷ l) (take_whole xs)
+
+shown_sum : (m n : ℕ) → shown (shown m + n) ≡ shown (m + n)
+shown_sum m n = grind (arith)
+
+-- the wins of all sessions, as the arbiter shows them
+pub wins_are : (c : CellState) (h : History) → FitsCell c h → (l : LineId) → count_on l c.arbiter.wins ≡ shown (wins_in (all_begun h) l)
+wins_are c h f l =
+    f.fits.wins l
+    ∙ ap (λ (n : ℕ). shown (n + wins_of h.present.packets l)) (f.earlier l)
+    ∙ shown_sum (wins_in h.earlier l) (wins_of h.present.packets l)
+    ∙ ap shown (sym sums)
+  where
+    sums : wins_in (all_begun h) l ≡ wins_in h.earlier l + wins_of h.present.packets l
+    sums = let e = sum_by-append (λ (b : Begun). wins_of b.packets l) h.earlier (h.present ∷ []) in omega (arith, e)
+
+module _ (old new : CellState) (h : History) (name : List ℕ) (f : FitsCell old h) (begun : IsRenewed old.arbiter new.arbiter name) (fits : Fits new.arbiter [])
+    (whole : IsComplete h.present.packets × (old.arbiter.sent ≡ length (stream_of h.present.packets))) (lane : new.lane ≡ old.lane) (sums : new.accepted ≡ old.accepted) where
+  pub renewed_fits : FitsCell new (record { earlier = all_begun h; present = new_session name })
+  renewed_fits = record {
+    fits = fits;
+    names = begun.sessions ∙ ap (λ (l : List (List ℕ)). l ++ name ∷ []) f.names ∙ sym (names_next (all_begun h) name);
+    session = begun.begun.session;
+    sent =
+        ap (λ (e : LaneEnd Numbered). e.items) lane ∙ f.sent
+        ∙ ap (λ (n : ℕ). items_of h.earlier ++ take n (stream_of h.present.packets)) whole.1
+        ∙ ap (λ (xs : List Numbered). items_of h.earlier ++ xs) (take_whole (stream_of h.present.packets))
+        ∙ sym (items_push h.earlier h.present)
+        ∙ sym (append-nil (items_of (all_begun h)))
+        ∙ ap (λ (n : ℕ). items_of (all_begun h) ++ take n (stream_of [])) (sym begun.begun.sent);
+    earlier = λ l. ap (count_on l) begun.earlier ∙ wins_are old h f l;
+    accepted = λ l. ap (sums_on l) sums ∙ f.accepted l ∙ ap (accepted_on l) (sym (arrivals_push (all_begun h) (new_session name) ∙ append-nil (arrivals_of (all_begun h))));
+  }
+
+  pub renewed_kept : (sessions : SessionNames) (carries : Carries) (ends : Ends) (lanes : FeedLanes) (k : IsKept sessions carries ends lanes old) → k.history ≡ h → sessions old.arbiter.venue (ordinal_of old.arbiter + 1) name
+      → IsKept sessions carries ends lanes new
+  renewed_kept sessions carries ends lanes k is named =
+      let given = subst (λ (x : History). AreGivenFrom carries ends old.arbiter.venue old.arbiter.window 1 x.earlier x.present) is k.given in
+      record {
+        history = record { earlier = all_begun h; present = new_session name };
+        fits = renewed_fits;
+        given = subst (λ (x : ℕ × ℕ). AreGivenFrom carries ends x.0 x.1 1 (all_begun h) (new_session name)) (λ i. (sym begun.venue i, sym begun.window i))
+            (next_given carries ends old.arbiter.venue old.arbiter.window 1 h.earlier h.present name whole.0 given);
+        named = subst (λ (x : ℕ × (ℕ × List ℕ)). sessions x.0 x.1.0 x.1.1) (λ i. (sym begun.venue i, (sym ordinal i, sym begun.begun.session i))) named;
+        tag = ap (λ (e : LaneEnd Numbered). e.tag) lane ∙ k.tag ∙ sym begun.venue;
+        lane = ap (slice_get lanes.venues) begun.venue ∙ k.lane ∙ ap (λ (e : LaneEnd Numbered). Some e.lane) (sym lane);
+      }
+    where
+      ordinal : ordinal_of new.arbiter ≡ ordinal_of old.arbiter + 1
+      ordinal = ap length begun.sessions ∙ length-append old.arbiter.sessions (name ∷ [])
+
+  pub renews : (ordinal : ℕ) → IsRenewal old.arbiter.sessions old.arbiter.end old.arbiter.sent name (Ok ordinal) → RenewsSession name (Ok ordinal) h old new
+  renews ordinal right = record {
+    after = record { earlier = all_begun h; present = new_session name };
+    renewed = record { right = subst (λ (x : List (List ℕ) × Option ℕ). IsRenewal x.0 x.1 old.arbiter.sent name (Ok ordinal)) (λ i. (f.names i, f.fits.end i)) right; is = refl };
+    fits = renewed_fits;
+  }

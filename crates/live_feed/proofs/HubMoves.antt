@@ -1,0 +1,373 @@
+-- What a consumed item and an offered notice leave of the consolidator's cell, said of plain states.
+use Rattle.std.proofs.Common.{◌≡◌, ◌≢◌, ℕ, zero, suc, ◌+◌, ◌≤◌, ◌<◌, Bool, true, false, cond, List, [], ◌∷◌, ◌++◌, length, filter, take, drop, Option, Some, None, Result, Ok, Err, refl, sym, ap, subst, ◌∙◌, arith, append-nil, length-append, inl, inr}
+use Rattle.std.specs.Prelude.{slice_get, slice_set, nat_le, ◌⊎◌, ◌==◌, MatchOption, AllPairs, if◌then◌else◌}
+use Rattle.std.specs.Option.{option_map}
+use Rattle.std.proofs.lemmas.Grind.{flat_map-append}
+use Rattle.std.proofs.lemmas.List.Elements.{filter-append}
+use Rattle.std.proofs.lemmas.List.{take-append-drop}
+use Rattle.std.proofs.lemmas.Bool.Decides.{nat_tests}
+use Rattle.feed_types.specs.declared.item.Numbered.{Numbered}
+use Rattle.feed_types.specs.declared.journal.Entry.{Entry}
+use Rattle.feed_types.specs.declared.journal.Entry.TheVariants as entry
+use Rattle.feed_types.specs.declared.journal.Notice.{Notice}
+use Rattle.feed_types.specs.Sequence.{Carries, Ends, IsInSequence}
+use Rattle.filter_terms.specs.declared.terms.Terms.{Terms}
+use Rattle.filter_terms.specs.Terms.{meets}
+use Rattle.journal_book.specs.declared.cursor.Cursor.{Cursor}
+use Rattle.journal_book.specs.Changes.{changes_of}
+use Rattle.journal_book.specs.Journals.{JournalState, changes, offered_of, Declares, Journals, LooksTo, Reserves, terms_at}
+use Rattle.journal_book.specs.declared.fault.JournalFault.{JournalFault}
+use Rattle.journal_book.specs.declared.fault.JournalFault.TheVariants.{NoMemory, JournalFull, UnknownVenue, AlreadySo, TooManySubscribers}
+use Rattle.journal_book.specs.Places.{IsNextPlace, IsNextOf}
+use Rattle.journal_book.specs.Wanted.{wanted_of}
+use Rattle.journal_book.proofs.Growth.{changes_begin}
+use Rattle.journal_book.proofs.Rising.{wanted_rise, pairs_rise}
+use Rattle.fifo_lane.specs.Lane.{LaneEnd, with_items, WasEmpty, WasFull}
+use Rattle.fifo_lane.specs.Rising.{AllPairs-prefix}
+use Rattle.feed_core.proofs.Lists.{begins_len}
+use Rattle.live_feed.specs.Lanes.{FeedLanes}
+use Rattle.live_feed.specs.Hubs.{HubState, IsConsumed, IsHub, IsOffered, IsSpare, item_by, items_in}
+use Rattle.live_feed.specs.HubSections.{Consumes, ConsumesOne, OffersOne, intake_of}
+use Rattle.live_feed.specs.declared.unsent.Unsent.TheVariants as unsent
+use Rattle.live_feed.proofs.Histories.{take_same, take_next}
+
+-- ---- lists
+
+pub length_put : {X : Type 0} (xs : List X) (i : ℕ) (x : X) → length (slice_set xs i x) ≡ length xs
+length_put [] i x = refl
+length_put (y ∷ ys) zero x = refl
+length_put (y ∷ ys) (suc i) x = ap suc (length_put ys i x)
+
+-- what is read after a write: what was written at its place, and what was there elsewhere
+pub get_put : {X : Type 0} (xs : List X) (i j : ℕ) (x y : X) → slice_get (slice_set xs i x) j ≡ Some y → ((j ≡ i) × (y ≡ x)) ⊎ ((j ≢ i) × (slice_get xs j ≡ Some y))
+get_put [] i j x y e = absurd cc
+get_put (z ∷ xs) zero zero x y e = inl (refl, cc)
+get_put (z ∷ xs) zero (suc j) x y e = inr ((λ h. omega arith), e)
+get_put (z ∷ xs) (suc i) zero x y e = inr ((λ h. omega arith), e)
+get_put (z ∷ xs) (suc i) (suc j) x y e = elim (get_put xs i j x y e) [ inl here ↦ inl (ap suc here.0, here.1) | inr there ↦ inr ((λ h. there.0 (omega arith)), there.1) ]
+
+-- an item put where it stands
+pub put_same : {X : Type 0} (xs : List X) (i : ℕ) (x : X) → slice_get xs i ≡ Some x → slice_set xs i x ≡ xs
+put_same [] i x e = refl
+put_same (y ∷ ys) zero x e = let same : y ≡ x = cc in ap (λ (z : _). z ∷ ys) (sym same)
+put_same (y ∷ ys) (suc i) x e = ap (λ (l : List _). y ∷ l) (put_same ys i x e)
+
+pub one_there : {X : Type 0} (o : Option X) (x y : X) → o ≡ Some x → o ≡ Some y → x ≡ y
+one_there o x y e f = cc
+
+-- ---- a venue's items
+
+items_put : (v : ℕ) (es : List Entry) (e : Entry) → items_in (es ++ e ∷ []) v ≡ items_in es v ++ item_by v e
+items_put v es e = flat_map-append (item_by v) es (e ∷ []) ∙ ap (λ (xs : List Numbered). items_in es v ++ xs) (append-nil (item_by v e))
+
+items_here : (v k : ℕ) (es : List Entry) (x : Numbered) → v ≡ k → items_in (es ++ entry.Consumed k x ∷ []) v ≡ items_in es v ++ x ∷ []
+items_here v k es x e =
+    let t : (k == v) ≡ true = grind (arith, nat_tests) in
+    items_put v es (entry.Consumed k x) ∙ ap (λ (b : Bool). items_in es v ++ (if b then x ∷ [] else [])) t
+
+items_there : (v k : ℕ) (es : List Entry) (x : Numbered) → v ≢ k → items_in (es ++ entry.Consumed k x ∷ []) v ≡ items_in es v
+items_there v k es x e =
+    let t : (k == v) ≡ false = grind (arith, nat_tests) in
+    items_put v es (entry.Consumed k x) ∙ ap (λ (b : Bool). items_in es v ++ (if b then x ∷ [] else [])) t ∙ append-nil (items_in es v)
+
+-- ---- one entry more
+
+-- what was sent to a subscriber stays what it was offered
+offered_still : (lanes : FeedLanes) (j : JournalState) (e : Entry) (ready : Bool) (id : ℕ) (l : LaneEnd Notice) → IsOffered lanes j id l
+    → IsOffered lanes (record j { entries = j.entries ++ e ∷ []; ready = ready }) id l
+offered_still lanes j e ready id l o = record {
+  tag = o.tag;
+  lane = o.lane;
+  items = λ cursor at.
+      let grows = changes_begin j.symbols j.entries (e ∷ []) in
+      let were = o.items cursor at in
+      let more = begins_len grows in
+      let seen = were.0 in
+      (omega arith, were.1 ∙ ap (filter (meets cursor.terms)) (sym (take_same (changes_of j.symbols j.entries) (changes_of j.symbols (j.entries ++ e ∷ [])) cursor.seen grows were.0)));
+}
+
+-- an entry of self-help changes no venue's items
+pub declares : (carries : Carries) (ends : Ends) (lanes : FeedLanes) (s : HubState) (k : ℕ) (on ready : Bool) → IsHub carries ends lanes s
+    → IsHub carries ends lanes (record s { journal = record s.journal { entries = s.journal.entries ++ entry.SelfHelp k on ∷ []; ready = ready } })
+declares carries ends lanes s k on ready h = record {
+  venues = h.venues;
+  subscribers = h.subscribers;
+  consumed = λ v e at.
+      let o = h.consumed v e at in
+      let same : items_in (s.journal.entries ++ entry.SelfHelp k on ∷ []) v ≡ items_in s.journal.entries v = items_put v s.journal.entries (entry.SelfHelp k on) ∙ append-nil (items_in s.journal.entries v) in
+      record { tag = o.tag; lane = o.lane; items = o.items ∙ sym same; sequence = subst (λ (l : List Numbered). IsInSequence carries ends v l) (sym same) o.sequence };
+  offered = λ id e at. offered_still lanes s.journal (entry.SelfHelp k on) ready id e (h.offered id e at);
+  spare = h.spare;
+}
+
+pub consumes : (carries : Carries) (ends : Ends) (lanes : FeedLanes) (s : HubState) (k : ℕ) (r : LaneEnd Numbered) (x : Numbered) (ready : Bool) → IsHub carries ends lanes s → slice_get s.receivers k ≡ Some r
+    → IsInSequence carries ends r.tag (r.items ++ x ∷ [])
+    → IsHub carries ends lanes (record s { journal = record s.journal { entries = s.journal.entries ++ entry.Consumed k x ∷ []; ready = ready }; receivers = slice_set s.receivers k (with_items r (r.items ++ x ∷ [])) })
+consumes carries ends lanes s k r x ready h at may = record {
+  venues = length_put s.receivers k w ∙ h.venues;
+  subscribers = h.subscribers;
+  consumed = λ v e got. elim (get_put s.receivers k v w e got) [ inl here ↦ subst (λ (y : ℕ × LaneEnd Numbered). IsConsumed carries ends lanes entries y.0 y.1) (λ i. (sym here.0 i, sym here.1 i)) this | inr there ↦ other v e there.0 there.1 ];
+  offered = λ id e got. offered_still lanes s.journal (entry.Consumed k x) ready id e (h.offered id e got);
+  spare = h.spare;
+}
+  where
+    w : LaneEnd Numbered
+    w = with_items r (r.items ++ x ∷ [])
+
+    entries : List Entry
+    entries = s.journal.entries ++ entry.Consumed k x ∷ []
+
+    this : IsConsumed carries ends lanes entries k w
+    this =
+        let mine = h.consumed k r at in
+        let items : r.items ++ x ∷ [] ≡ items_in entries k = ap (λ (l : List Numbered). l ++ x ∷ []) mine.items ∙ sym (items_here k k s.journal.entries x refl) in
+        record { tag = mine.tag; lane = mine.lane; items = items; sequence = subst (λ (y : ℕ × List Numbered). IsInSequence carries ends y.0 y.1) (λ i. (mine.tag i, items i)) may }
+
+    other : (v : ℕ) (e : LaneEnd Numbered) → v ≢ k → slice_get s.receivers v ≡ Some e → IsConsumed carries ends lanes entries v e
+    other v e apart got =
+        let o = h.consumed v e got in
+        let same : items_in entries v ≡ items_in s.journal.entries v = items_there v k s.journal.entries x apart in
+        record { tag = o.tag; lane = o.lane; items = o.items ∙ sym same; sequence = subst (λ (l : List Numbered). IsInSequence carries ends v l) (sym same) o.sequence }
+
+-- ---- one notice more, or none
+
+-- the cursor has come to a place, and what was sent is what was wanted up to there
+pub moves : (carries : Carries) (ends : Ends) (lanes : FeedLanes) (s : HubState) (id : ℕ) (c : Cursor) (l : LaneEnd Notice) (place : ℕ) (sent : List Notice) → IsHub carries ends lanes s
+    → slice_get s.journal.cursors id ≡ Some c → slice_get s.senders id ≡ Some l → place ≤ length (changes s.journal) → sent ≡ filter (meets c.terms) (take place (changes s.journal))
+    → IsHub carries ends lanes (record s { journal = record s.journal { cursors = slice_set s.journal.cursors id (record c { seen = place }) }; senders = slice_set s.senders id (with_items l sent) })
+moves carries ends lanes s id c l place sent h at from within is = record {
+  venues = h.venues;
+  subscribers = length_put s.senders id (with_items l sent) ∙ h.subscribers ∙ sym (length_put s.journal.cursors id (record c { seen = place }));
+  consumed = h.consumed;
+  offered = λ j e got. elim (get_put s.senders id j (with_items l sent) e got) [ inl here ↦ subst (λ (y : ℕ × LaneEnd Notice). IsOffered lanes after y.0 y.1) (λ i. (sym here.0 i, sym here.1 i)) this | inr there ↦ other j e there.0 there.1 ];
+  spare = λ k x got. subst (λ (n : ℕ). IsSpare lanes (n + k) x) (sym (length_put s.journal.cursors id (record c { seen = place }))) (h.spare k x got);
+}
+  where
+    after : JournalState
+    after = record s.journal { cursors = slice_set s.journal.cursors id (record c { seen = place }) }
+
+    here_items : (cursor : Cursor) → ((id ≡ id) × (cursor ≡ record c { seen = place })) ⊎ ((id ≢ id) × (slice_get s.journal.cursors id ≡ Some cursor)) → (cursor.seen ≤ length (changes s.journal)) × (sent ≡ offered_of (changes s.journal) cursor)
+    here_items cursor (inl here) = subst (λ (y : Cursor). (y.seen ≤ length (changes s.journal)) × (sent ≡ offered_of (changes s.journal) y)) (sym here.1) (within, is)
+    here_items cursor (inr there) = absurd (there.0 refl)
+
+    this : IsOffered lanes after id (with_items l sent)
+    this =
+        let mine = h.offered id l from in
+        record { tag = mine.tag; lane = mine.lane; items = λ cursor got. here_items cursor (get_put s.journal.cursors id id (record c { seen = place }) cursor got) }
+
+    other : (j : ℕ) (e : LaneEnd Notice) → j ≢ id → slice_get s.senders j ≡ Some e → IsOffered lanes after j e
+    other j e apart got =
+        let o = h.offered j e got in
+        record {
+          tag = o.tag;
+          lane = o.lane;
+          items = λ cursor here. elim (get_put s.journal.cursors id j (record c { seen = place }) cursor here) [ inl same ↦ absurd (apart same.0) | inr there ↦ o.items cursor there.1 ];
+        }
+
+-- the next wanted notice, behind what was wanted before it
+pub filter_next : (p : Notice → Bool) (xs : List Notice) (from place : ℕ) (n : Notice) → IsNextPlace p xs from place → Some n ≡ slice_get xs place → place < length xs
+    → filter p (take (place + 1) xs) ≡ filter p (take from xs) ++ n ∷ []
+filter_next p xs from place n h at below =
+    ap (filter p) (take_next xs place (place + 1) n refl at) ∙ filter-append p (take place xs) (n ∷ []) ∙ by_test (p n) refl ∙ ap (λ (l : List Notice). l ++ n ∷ []) h.passed
+  where
+    more : filter p (take (place + 1) xs) ≡ filter p (take place xs) ++ filter p (n ∷ [])
+    more = ap (filter p) (take_next xs place (place + 1) n refl at) ∙ filter-append p (take place xs) (n ∷ [])
+
+    by_test : (b : Bool) → p n ≡ b → filter p (take place xs) ++ filter p (n ∷ []) ≡ filter p (take place xs) ++ n ∷ []
+    by_test true e = ap (λ (b : Bool). filter p (take place xs) ++ cond b (n ∷ []) []) e
+    by_test false e =
+        let none : filter p (n ∷ []) ≡ [] = ap (λ (b : Bool). cond b (n ∷ []) []) e in
+        let same : length (filter p (take (place + 1) xs)) ≡ length (filter p (take place xs)) = ap length (more ∙ ap (λ (l : List Notice). filter p (take place xs) ++ l) none ∙ append-nil (filter p (take place xs))) in
+        let counted = h.counted below in
+        let passed = ap length h.passed in
+        absurd (omega arith)
+
+pub below_of : {X : Type 0} (xs : List X) (i : ℕ) (x : X) → Some x ≡ slice_get xs i → i < length xs
+below_of [] i x e = absurd cc
+below_of (y ∷ ys) zero x e = omega arith
+below_of (y ∷ ys) (suc i) x e = let h = below_of ys i x e in omega arith
+
+-- what was wanted up to a place, and more of it, are numbered rising
+pub may_offer : (symbols : List (List ℕ)) (terms : Terms) (es : List Entry) (place : ℕ) → AllPairs (λ (x y : Notice). x.number < y.number) (filter (meets terms) (take place (changes_of symbols es)))
+may_offer symbols terms es place =
+    let notices = changes_of symbols es in
+    let whole : filter (meets terms) notices ≡ filter (meets terms) (take place notices) ++ filter (meets terms) (drop place notices) =
+    ap (filter (meets terms)) (sym (take-append-drop place notices)) ∙ filter-append (meets terms) (take place notices) (drop place notices) in
+    AllPairs-prefix (λ (x y : Notice). x.number < y.number) (filter (meets terms) (take place notices)) (filter (meets terms) (drop place notices))
+    (subst (λ (l : List Notice). AllPairs (λ (x y : Notice). x.number < y.number) l) whole (pairs_rise 0 (wanted_of symbols terms es) (wanted_rise symbols terms es)))
+
+-- ---- consume
+
+full_is : (m n : ℕ) → m ≤ n → nat_le m n ≡ true
+full_is m n h = grind (arith, nat_tests)
+
+room_is : (m n : ℕ) → n < m → nat_le m n ≡ false
+room_is m n h = grind (arith, nat_tests)
+
+pub ready_still : (carries : Carries) (ends : Ends) (lanes : FeedLanes) (s : HubState) (j : JournalState) → IsHub carries ends lanes s → j ≡ record s.journal { ready = true } → IsHub carries ends lanes (record s { journal = j })
+ready_still carries ends lanes s j h is = subst (λ (x : JournalState). IsHub carries ends lanes (record s { journal = x })) (sym is) (record {
+  venues = h.venues;
+  subscribers = h.subscribers;
+  consumed = h.consumed;
+  offered = λ id e at. (let o = h.offered id e at in record { tag = o.tag; lane = o.lane; items = o.items });
+  spare = h.spare;
+})
+
+module _ (may_send : ℕ → List Numbered → Type 0) (venue : ℕ) (s : HubState) (r : LaneEnd Numbered) (at : slice_get s.receivers venue ≡ Some r) where
+  pub consume_refused : (fault : JournalFault) (j : JournalState) → Reserves s.journal (Err fault) j → Consumes may_send venue (Err fault) s (record s { journal = j })
+  consume_refused JournalFull j e = record {
+    lane = r;
+    at = at;
+    next = None;
+    was_empty = λ t. absurd cc;
+    after = intake_of r s.journal;
+    comes = rw (full_is s.journal.journal (length s.journal.entries) e.0) (refl, refl);
+    received = sym (put_same s.receivers venue r at);
+    entries = ap (λ (x : JournalState). x.entries) e.1;
+  }
+  consume_refused NoMemory j e = ap (λ (x : JournalState). record s { journal = x }) e.1
+  consume_refused UnknownVenue j e = absurd e
+  consume_refused AlreadySo j e = absurd e
+  consume_refused TooManySubscribers j e = absurd e
+
+  module _ (j : JournalState) (w : LaneEnd Numbered) (room : length s.journal.entries < s.journal.journal) (is : j ≡ record s.journal { ready = true }) where
+    pub consume_none : w ≡ r → WasEmpty may_send r → ConsumesOne may_send venue (Ok None) s (record s { journal = j; receivers = slice_set s.receivers venue w })
+    consume_none same was = record {
+      lane = r;
+      at = at;
+      next = None;
+      was_empty = λ t. was;
+      after = intake_of r s.journal;
+      comes = rw (room_is s.journal.journal (length s.journal.entries) room) (refl, refl);
+      received = ap (slice_set s.receivers venue) same;
+      entries = ap (λ (x : JournalState). x.entries) is;
+    }
+
+    pub consume_none_kept : (carries : Carries) (ends : Ends) (lanes : FeedLanes) → IsHub carries ends lanes s → w ≡ r → IsHub carries ends lanes (record s { journal = j; receivers = slice_set s.receivers venue w })
+    consume_none_kept carries ends lanes h same =
+        subst (λ (x : List (LaneEnd Numbered)). IsHub carries ends lanes (record s { journal = j; receivers = x })) (sym (ap (slice_set s.receivers venue) same ∙ put_same s.receivers venue r at)) (ready_still carries ends lanes s j h is)
+
+    module _ (x : Numbered) (k : JournalState) (position : ℕ) (grown : w ≡ with_items r (r.items ++ x ∷ [])) (journals : Journals j (entry.Consumed venue x) k) where
+      k_is : k ≡ record s.journal { entries = s.journal.entries ++ entry.Consumed venue x ∷ []; ready = k.ready }
+      k_is = journals ∙ ap (λ (y : JournalState). record y { entries = y.entries ++ entry.Consumed venue x ∷ []; ready = k.ready }) is
+
+      pub consume_one : position ≡ length k.entries → ConsumesOne may_send venue (Ok (Some position)) s (record s { journal = k; receivers = slice_set s.receivers venue w })
+      consume_one counted =
+          let entries = ap (λ (y : JournalState). y.entries) k_is in
+          let number : position ≡ length s.journal.entries + 1 = counted ∙ ap length entries ∙ length-append s.journal.entries (entry.Consumed venue x ∷ []) in
+          record {
+            lane = r;
+            at = at;
+            next = Some x;
+            was_empty = λ t. absurd cc;
+            after = record { received = r.items ++ x ∷ []; entries = s.journal.entries ++ entry.Consumed venue x ∷ [] };
+            comes = rw (room_is s.journal.journal (length s.journal.entries) room, number) (refl, refl);
+            received = ap (slice_set s.receivers venue) grown;
+            entries = entries;
+          }
+
+      pub consume_one_kept : (carries : Carries) (ends : Ends) (lanes : FeedLanes) → IsHub carries ends lanes s → IsInSequence carries ends r.tag w.items
+          → IsHub carries ends lanes (record s { journal = k; receivers = slice_set s.receivers venue w })
+      consume_one_kept carries ends lanes h may =
+          subst (λ (y : JournalState × LaneEnd Numbered). IsHub carries ends lanes (record s { journal = y.0; receivers = slice_set s.receivers venue y.1 })) (λ i. (sym k_is i, sym grown i))
+          (consumes carries ends lanes s venue r x k.ready h at (subst (λ (e : LaneEnd Numbered). IsInSequence carries ends r.tag e.items) grown may))
+
+-- ---- offer
+
+module _ (carries : Carries) (ends : Ends) (lanes : FeedLanes) (s : HubState) (id place : ℕ) (h : IsHub carries ends lanes s) (l : LaneEnd Notice) (from : slice_get s.senders id ≡ Some l)
+    (c : Cursor) (at : slice_get s.journal.cursors id ≡ Some c) (found : IsNextPlace (meets c.terms) (changes s.journal) c.seen place) where
+  items_are : l.items ≡ filter (meets c.terms) (take c.seen (changes s.journal))
+  items_are = ((h.offered id l from).items c at).1
+
+  wanted_next : slice_get (wanted_of s.journal.symbols c.terms s.journal.entries) (length l.items) ≡ slice_get (changes s.journal) place
+  wanted_next = ap (λ (xs : List Notice). slice_get (wanted_of s.journal.symbols c.terms s.journal.entries) (length xs)) items_are ∙ sym found.next
+
+  terms_here : terms_at s.journal id ≡ Some c.terms
+  terms_here = ap (option_map (λ (x : Cursor). x.terms)) at
+
+  pub looks_kept : (j : JournalState) (w : LaneEnd Notice) → j ≡ record s.journal { cursors = slice_set s.journal.cursors id (record c { seen = place }) } → w ≡ l → IsHub carries ends lanes (record s { journal = j; senders = slice_set s.senders id w })
+  looks_kept j w is same =
+      subst (λ (y : JournalState × LaneEnd Notice). IsHub carries ends lanes (record s { journal = y.0; senders = slice_set s.senders id y.1 })) (λ i. (sym is i, sym same i))
+      (moves carries ends lanes s id c l place l.items h at from found.within (items_are ∙ sym found.passed))
+
+  pub looks_only : (j : JournalState) → j ≡ record s.journal { cursors = slice_set s.journal.cursors id (record c { seen = place }) } → IsHub carries ends lanes (record s { journal = j })
+  looks_only j is = subst (λ (x : List (LaneEnd Notice)). IsHub carries ends lanes (record s { journal = j; senders = x })) (put_same s.senders id l from) (looks_kept j l is refl)
+
+  pub offers_kept : (j : JournalState) (w : LaneEnd Notice) (n : Notice) → Some n ≡ slice_get (changes s.journal) place → j ≡ record s.journal { cursors = slice_set s.journal.cursors id (record c { seen = place + 1 }) }
+      → w ≡ with_items l (l.items ++ n ∷ []) → IsHub carries ends lanes (record s { journal = j; senders = slice_set s.senders id w })
+  offers_kept j w n here is grown =
+      let below = below_of (changes s.journal) place n here in
+      subst (λ (y : JournalState × LaneEnd Notice). IsHub carries ends lanes (record s { journal = y.0; senders = slice_set s.senders id y.1 })) (λ i. (sym is i, sym grown i))
+      (moves carries ends lanes s id c l (place + 1) (l.items ++ n ∷ []) h at from (omega arith)
+      (ap (λ (xs : List Notice). xs ++ n ∷ []) items_are ∙ sym (filter_next (meets c.terms) (changes s.journal) c.seen place n found here below)))
+
+  pub offer_may : (n : Notice) → Some n ≡ slice_get (changes s.journal) place → AllPairs (λ (x y : Notice). x.number < y.number) (l.items ++ n ∷ [])
+  offer_may n here =
+      subst (λ (xs : List Notice). AllPairs (λ (x y : Notice). x.number < y.number) xs)
+      (filter_next (meets c.terms) (changes s.journal) c.seen place n found here (below_of (changes s.journal) place n here) ∙ ap (λ (xs : List Notice). xs ++ n ∷ []) (sym items_are))
+      (may_offer s.journal.symbols c.terms s.journal.entries (place + 1))
+
+  module _ (may_send : ℕ → List Notice → Type 0) (j : JournalState) where
+    pub offer_nothing : None ≡ slice_get (changes s.journal) place → OffersOne may_send id (Err unsent.Nothing) s (record s { journal = j })
+    offer_nothing none = record {
+      lane = l;
+      at = from;
+      terms = c.terms;
+      terms_is = terms_here;
+      full = false;
+      was_full = λ t. absurd cc;
+      sent = l.items;
+      comes = rw (wanted_next, ← none) (refl, refl);
+      sent_is = sym (put_same s.senders id l from);
+    }
+
+    pub offer_full : (n : Notice) (w : LaneEnd Notice) → Some n ≡ slice_get (changes s.journal) place → w ≡ l → WasFull may_send l → OffersOne may_send id (Err unsent.LaneFull) s (record s { journal = j; senders = slice_set s.senders id w })
+    offer_full n w here same was = record {
+      lane = l;
+      at = from;
+      terms = c.terms;
+      terms_is = terms_here;
+      full = true;
+      was_full = λ t. was;
+      sent = l.items;
+      comes = rw (wanted_next, ← here) (refl, refl);
+      sent_is = ap (slice_set s.senders id) same;
+    }
+
+    pub offer_one : (n : Notice) (w : LaneEnd Notice) (number : ℕ) → Some n ≡ slice_get (changes s.journal) place → number ≡ n.number → w ≡ with_items l (l.items ++ n ∷ [])
+        → OffersOne may_send id (Ok number) s (record s { journal = j; senders = slice_set s.senders id w })
+    offer_one n w number here is grown = record {
+      lane = l;
+      at = from;
+      terms = c.terms;
+      terms_is = terms_here;
+      full = false;
+      was_full = λ t. absurd cc;
+      sent = l.items ++ n ∷ [];
+      comes = rw (wanted_next, ← here, is) (refl, refl);
+      sent_is = ap (slice_set s.senders id) grown;
+    }
+
+-- what looking and finding are, at the subscriber's cursor
+pub looked : (s new : JournalState) (id place : ℕ) (c : Cursor) → LooksTo s id place new → slice_get s.cursors id ≡ Some c → new ≡ record s { cursors = slice_set s.cursors id (record c { seen = place }) }
+looked s new id place c looks at = subst (λ (o : Option Cursor). MatchOption o ⊥ (λ cursor. new ≡ record s { cursors = slice_set s.cursors id (record cursor { seen = place }) })) at looks
+
+pub found_at : (s : JournalState) (id place : ℕ) (c : Cursor) → IsNextOf s id place → slice_get s.cursors id ≡ Some c → IsNextPlace (meets c.terms) (changes s) c.seen place
+found_at s id place c found at = subst (λ (o : Option Cursor). MatchOption o ⊥ (λ cursor. IsNextPlace (meets cursor.terms) (changes s) cursor.seen place)) at found
+
+-- ---- declare
+
+pub declare_kept : (carries : Carries) (ends : Ends) (lanes : FeedLanes) (s : HubState) (venue : ℕ) (on : Bool) (answer : Result ℕ JournalFault) (j : JournalState) → IsHub carries ends lanes s → Declares s.journal venue on answer j
+    → IsHub carries ends lanes (record s { journal = j })
+declare_kept carries ends lanes s venue on answer j h d = by_answer answer d
+  where
+    stays : j ≡ s.journal → IsHub carries ends lanes (record s { journal = j })
+    stays is = subst (λ (x : JournalState). IsHub carries ends lanes (record s { journal = x })) (sym is) h
+
+    by_answer : (a : Result ℕ JournalFault) → Declares s.journal venue on a j → IsHub carries ends lanes (record s { journal = j })
+    by_answer (Err UnknownVenue) e = stays e.1
+    by_answer (Err AlreadySo) e = stays e.2
+    by_answer (Err JournalFull) e = stays e.3
+    by_answer (Err NoMemory) e = stays e.3
+    by_answer (Err TooManySubscribers) e = absurd e
+    by_answer (Ok position) e = subst (λ (x : JournalState). IsHub carries ends lanes (record s { journal = x })) (sym e.3) (declares carries ends lanes s venue on j.ready h)

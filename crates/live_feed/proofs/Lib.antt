@@ -1,0 +1,4 @@
+pub mod Histories
+pub mod CellMoves
+pub mod CellAnswers
+pub mod HubMoves

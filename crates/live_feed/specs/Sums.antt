@@ -1,0 +1,62 @@
+-- The sums of accepted packets: for each answer the numbers of the packets so answered, of a packet
+-- of messages the last, added up modulo 2^64.
+use Rattle.std.specs.Prelude.{ℕ, ◌+◌, ◌%◌, ◌^◌, List, [], ◌∷◌, fold, Result, Ok, Err, if◌then◌else◌}
+use Rattle.feed_types.specs.declared.line.LineId.{LineId}
+use Rattle.feed_types.specs.declared.line.LineId.TheVariants.{A, B, Recovery}
+use Rattle.mold_packet.specs.Content.{Content, last_number}
+use Rattle.line_arbiter.specs.declared.outcome.Outcome.{Outcome}
+use Rattle.line_arbiter.specs.declared.outcome.Outcome.TheVariants.{Taken, Heartbeat, Ended, Ahead}
+use Rattle.line_arbiter.specs.declared.outcome.LineFault.{LineFault}
+use Rattle.line_arbiter.specs.Packets.{Arrival}
+use Rattle.line_arbiter.specs.Streams.{is_same_line}
+
+pub record Sums : Type 0 where
+  pub taken : ℕ
+  pub heartbeat : ℕ
+  pub ended : ℕ
+  pub ahead : ℕ
+
+abbrev pub no_sums : Sums
+no_sums = record { taken = 0; heartbeat = 0; ended = 0; ahead = 0 }
+
+-- as they are shown
+abbrev pub sums_list : Sums → List ℕ
+sums_list s = s.taken ∷ s.heartbeat ∷ s.ended ∷ s.ahead ∷ []
+
+-- a sum and one number more
+abbrev pub wrapping : ℕ → ℕ → ℕ
+wrapping total n = (total + n) % 2 ^ 64
+
+-- after one packet more that was answered so; a refused one adds nothing
+abbrev pub sums_after : Sums → Content → Result Outcome LineFault → Sums
+sums_after s p (Ok (Taken new repeated)) = record s { taken = wrapping s.taken (last_number p) }
+sums_after s p (Ok Heartbeat) = record s { heartbeat = wrapping s.heartbeat p.number }
+sums_after s p (Ok Ended) = record s { ended = wrapping s.ended p.number }
+sums_after s p (Ok Ahead) = record s { ahead = wrapping s.ahead (last_number p) }
+sums_after s p (Err fault) = s
+
+-- those of the packets that came on the line
+abbrev pub accepted_on : LineId → List Arrival → Sums
+accepted_on line packets =
+    fold (λ s a. if is_same_line a.line line then sums_after s a.packet a.answer else s) no_sums
+    packets
+
+-- the sums of a venue, line by line
+pub record LineSums : Type 0 where
+  pub a : Sums
+  pub b : Sums
+  pub recovery : Sums
+
+abbrev pub no_line_sums : LineSums
+no_line_sums = record { a = no_sums; b = no_sums; recovery = no_sums }
+
+abbrev pub sums_on : LineId → LineSums → Sums
+sums_on A s = s.a
+sums_on B s = s.b
+sums_on Recovery s = s.recovery
+
+-- after one packet more on the line
+abbrev pub line_sums_after : LineId → Content → Result Outcome LineFault → LineSums → LineSums
+line_sums_after A p answer s = record s { a = sums_after s.a p answer }
+line_sums_after B p answer s = record s { b = sums_after s.b p answer }
+line_sums_after Recovery p answer s = record s { recovery = sums_after s.recovery p answer }

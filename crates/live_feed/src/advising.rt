@@ -1,0 +1,25 @@
+//! A strategy that is asked.
+
+ghost use Rattle.std.specs.Prelude.{◌≡◌};
+ghost use Rattle.filter_terms.specs.Allowed.{IsAllowed};
+ghost use Rattle.filter_terms.specs.Advisers.{MayAdvise};
+
+use feed_types::Notice;
+use filter_terms::{Advice, Adviser, Strategy};
+
+fn ask(adviser: &mut Adviser, notice: &Notice) -> Advice
+    ensures { MayAdvise adviser.old notice.entry result adviser.new }
+{
+    (adviser.advise)(notice)
+}
+
+/// What the strategy advises on the notice. It is what [`Strategy::advise`] gives, and stands here
+/// since a strategy that is lent can't be asked through another crate's call.
+pub(crate) fn advise(strategy: &mut Strategy, notice: &Notice) -> Advice
+    ensures { IsAllowed strategy.old.limits notice.now result }
+{
+    match &mut strategy.adviser {
+        Some(adviser) => ask(adviser, notice),
+        None => Advice::Hold,
+    }
+}

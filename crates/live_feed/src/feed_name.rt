@@ -1,0 +1,18 @@
+//! Which feed it is.
+
+use std::marker::Brand;
+
+/// Which feed it is, in statements alone: it has no calls and costs nothing. Each feed that is
+/// opened has a name of its own; a function that opens one is generic in it.
+pub trait FeedName {
+    ghost use Rattle.live_feed.specs.Lanes.{FeedLanes};
+
+    /// The feed's lanes: those of its venues, in order, and those of its subscribers.
+    ghost lanes: { FeedLanes };
+}
+
+impl FeedName for Brand {
+    ghost use Rattle.std.specs.Prelude.{[]};
+
+    ghost lanes = { record { venues = []; subscribers = [] } };
+}

@@ -1,0 +1,48 @@
+//! A feed that is run by many threads: what stands behind its locks.
+//!
+//! Each venue's arbiter and the sending end of its lane stand behind a lock of the venue, a
+//! [`VenueCell`]. The journal, the receiving ends of the venues' lanes and the sending ends of the
+//! subscribers' stand behind the consolidator's lock, a [`HubCell`]. A line has a [`LineSeat`],
+//! which shows what it brought; a [`Subscriber`] has the receiving end of its lane, its strategy
+//! and its log.
+//!
+//! Contract: whenever a lock is free, what stands behind it is a part of a world of the event
+//! machine (`feed_core`), and each section under the lock is one of its events
+//! (`specs/Sections.antt`, `specs/HubSections.antt`). Begin at `specs/Cells.antt`,
+//! `specs/Hubs.antt` and `specs/Tapes.antt`, and at `venue_cell.rt` and `hub_cell.rt` for the code.
+//!
+//! An [`OpenFeed`] puts the cells behind their locks; each of its calls takes one of them.
+//!
+//! Not here yet: how a feed is made and opened, how subscribers are made, and its settlement.
+#![tactic(auto)]
+
+mod advising;
+mod datagram;
+mod faults;
+mod feed_name;
+mod hub_cell;
+mod hub_core;
+mod logged;
+mod next_wanted;
+mod open_feed;
+mod seat;
+mod spare;
+mod subscriber;
+mod sums;
+mod tape;
+mod unsent;
+mod venue_cell;
+
+pub use datagram::Datagram;
+pub use faults::{FeedFault, RenewalFault, TakeFault};
+pub use feed_name::FeedName;
+pub use hub_cell::HubCell;
+pub use hub_core::HubCore;
+pub use logged::{Logged, PollFault};
+pub use open_feed::OpenFeed;
+pub use seat::LineSeat;
+pub use spare::SpareLane;
+pub use subscriber::Subscriber;
+pub use tape::Tape;
+pub use unsent::Unsent;
+pub use venue_cell::VenueCell;

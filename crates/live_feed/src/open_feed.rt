@@ -1,0 +1,215 @@
+//! A feed behind its locks.
+
+ghost use Rattle.std.specs.Prelude.{◌≡◌, ◌⊎◌, ◌↔◌, ◌≤◌, ◌<◌, ◌+◌, ℕ, List, length, Ok, Err, IsOk, IfOk, IfErr, OnErr, vec_len};
+ghost use Rattle.feed_types.specs.Sessions.{Session, IsSessionAt, Names};
+ghost use Rattle.mold_packet.specs.Content.{Content, Spells};
+ghost use Rattle.line_arbiter.specs.declared.outcome.LineFault.TheVariants.{OtherSession};
+ghost use Rattle.line_arbiter.specs.Genuine.{IsGenuine};
+ghost use Rattle.live_feed.specs.Seats.{new_seat, seat_after};
+ghost use Rattle.live_feed.specs.Datagrams.{AreGenuineBytes, IsTakenBy, bytes_of};
+
+use crate::datagram::Datagram;
+use crate::faults::{FeedFault, RenewalFault, TakeFault};
+use crate::feed_name::FeedName;
+use crate::hub_cell::HubCell;
+use crate::seat::LineSeat;
+use crate::venue_cell::VenueCell;
+use feed_types::{Genuine, LineId, SubscriberId, VenueId};
+use journal_book::JournalFault;
+use line_arbiter::{LineFault, Outcome};
+use mold_packet::{Packet, Request, read_packet};
+use std::sync::{Mutex, Wait};
+
+/// What a venue's lock guards: the cell, and which lines have their seats.
+#[derive(Drop)]
+pub(crate) struct Guarded<G: Genuine, N: FeedName> {
+    pub(crate) cell: VenueCell<G, N>,
+    pub(crate) a: bool,
+    pub(crate) b: bool,
+    pub(crate) recovery: bool,
+}
+
+/// A feed behind its locks: one for each venue, and the consolidator's. No call holds two of them.
+#[derive(Drop)]
+pub struct OpenFeed<G: Genuine, N: FeedName> {
+    pub(crate) venues: Vec<Mutex<Guarded<G, N>>>,
+    pub(crate) hub: Mutex<HubCell<G, N>>,
+}
+
+/// Pushes what is ready of the venue, until nothing is or the lane is full, and gives how many
+/// items were pushed.
+fn push_ready<G: Genuine, N: FeedName, W: Wait>(rt: &W, cell: &mut VenueCell<G, N>) -> u64 {
+    let mut pushed: u64 = 0;
+    for _ in rt.forever() {
+        if cell.push_one(rt).is_err() {
+            break;
+        }
+        pushed = pushed.saturating_add(1);
+    }
+    pushed
+}
+
+/// Takes the packet where the cell is of the seat's venue.
+fn take_packet<G: Genuine, N: FeedName>(
+    cell: &mut VenueCell<G, N>,
+    seat: &mut LineSeat<G, N>,
+    packet: &Packet<'_>,
+) -> Result<Outcome, LineFault>
+    requires { IsGenuine G.sessions G.carries G.ends seat.old.venue packet.now }
+    ensures seat { seat.new ≡ seat_after seat.old packet.now result }
+{
+    if cell.venue() != seat.venue() {
+        return Err(LineFault::OtherSession);
+    }
+    cell.take(seat, packet)
+}
+
+impl<G: Genuine, N: FeedName> OpenFeed<G, N> {
+    /// The seat of the venue's line, which has brought nothing. UnknownVenue, else SeatTaken where
+    /// the line has its seat.
+    pub fn line_seat<W: Wait>(
+        &self,
+        rt: &W,
+        venue: VenueId,
+        line: LineId,
+    ) -> Result<LineSeat<G, N>, FeedFault>
+        ensures seat { IfOk result (λ seat. seat ≡ new_seat venue line) }
+    {
+        let Some(lock) = self.venues.get(venue.index()) else {
+            return Err(FeedFault::UnknownVenue);
+        };
+        let mut guarded = lock.lock(rt);
+        let taken = match line {
+            LineId::A => guarded.a,
+            LineId::B => guarded.b,
+            LineId::Recovery => guarded.recovery,
+        };
+        if taken || guarded.cell.venue() != venue {
+            return Err(FeedFault::SeatTaken);
+        }
+        match line {
+            LineId::A => guarded.a = true,
+            LineId::B => guarded.b = true,
+            LineId::Recovery => guarded.recovery = true,
+        }
+        Ok(LineSeat::new(venue, line))
+    }
+
+    /// Takes a datagram that came on the seat's line, which is genuine at its venue, and answers
+    /// what became of it: the packet's fault, else the line's, else the outcome. What is ready then
+    /// is pushed, until nothing is or the lane is full.
+    pub fn take<W: Wait>(
+        &self,
+        rt: &W,
+        seat: &mut LineSeat<G, N>,
+        datagram: &Datagram,
+    ) -> Result<Outcome, TakeFault>
+        requires { AreGenuineBytes G.sessions G.carries G.ends seat.old.venue
+            (bytes_of datagram.now) }
+        ensures { IsTakenBy (bytes_of datagram.now) seat.old result seat.new }
+    {
+        let Some(lock) = self.venues.get(seat.venue().index()) else {
+            return match read_packet(datagram.bytes()) {
+                Ok(_) => Err(TakeFault::Line(LineFault::OtherSession)),
+                Err(fault) => Err(TakeFault::Packet(fault)),
+            };
+        };
+        let mut guarded = lock.lock(rt);
+        let answer = match read_packet(datagram.bytes()) {
+            Ok(packet) => match take_packet(&mut guarded.cell, seat, &packet) {
+                Ok(outcome) => Ok(outcome),
+                Err(fault) => Err(TakeFault::Line(fault)),
+            },
+            Err(fault) => Err(TakeFault::Packet(fault)),
+        };
+        push_ready(rt, &mut guarded.cell);
+        answer
+    }
+
+    /// Pushes what is ready of the venue, until nothing is or the lane is full, and gives how many
+    /// items were pushed.
+    pub fn flush<W: Wait>(&self, rt: &W, venue: VenueId) -> Result<u64, FeedFault> {
+        let Some(lock) = self.venues.get(venue.index()) else {
+            return Err(FeedFault::UnknownVenue);
+        };
+        let mut guarded = lock.lock(rt);
+        if guarded.cell.venue() != venue {
+            return Ok(0);
+        }
+        Ok(push_ready(rt, &mut guarded.cell))
+    }
+
+    /// The request for the venue's gap to send now, if any.
+    pub fn due<W: Wait>(
+        &self,
+        rt: &W,
+        venue: VenueId,
+        now_ms: u64,
+    ) -> Result<Option<Request>, FeedFault> {
+        let Some(lock) = self.venues.get(venue.index()) else {
+            return Err(FeedFault::UnknownVenue);
+        };
+        let mut guarded = lock.lock(rt);
+        if guarded.cell.venue() != venue {
+            return Ok(None);
+        }
+        Ok(guarded.cell.due(now_ms))
+    }
+
+    /// Begins the venue's session of this ordinal and name, once End of the one before it was sent,
+    /// and gives the ordinal.
+    pub fn renew<W: Wait>(
+        &self,
+        rt: &W,
+        venue: VenueId,
+        ordinal: u64,
+        session: [u8; 10],
+    ) -> Result<u64, RenewalFault>
+        requires { G.sessions venue ordinal session }
+        ensures { IfOk result (λ begun. begun ≡ ordinal) }
+    {
+        let Some(lock) = self.venues.get(venue.index()) else {
+            return Err(RenewalFault::UnknownVenue);
+        };
+        let mut guarded = lock.lock(rt);
+        if guarded.cell.venue() != venue || guarded.cell.ordinal() + 1 != ordinal {
+            return Err(RenewalFault::WrongOrdinal);
+        }
+        match guarded.cell.renew(session) {
+            Ok(begun) => Ok(begun),
+            Err(fault) => Err(RenewalFault::Venue(fault)),
+        }
+    }
+
+    /// Journals the next item of the venue's lane, and gives its position; None where nothing was
+    /// inside. UnknownVenue, JournalFull or NoMemory come before an item is taken out of the lane.
+    pub fn consume<W: Wait>(&self, rt: &W, venue: VenueId) -> Result<Option<u64>, JournalFault> {
+        let mut hub = self.hub.lock(rt);
+        if venue.index() >= hub.core.venue_count() {
+            return Err(JournalFault::UnknownVenue);
+        }
+        hub.consume(rt, venue)
+    }
+
+    /// Declares self-help on the venue, or withdraws it, and gives the entry's position.
+    pub fn declare<W: Wait>(&self, rt: &W, venue: VenueId, on: bool) -> Result<u64, JournalFault> {
+        self.hub.lock(rt).declare(venue, on)
+    }
+
+    /// Pushes the notices that the subscriber wants, until there is none or its lane is full, and
+    /// gives how many were pushed.
+    pub fn offer<W: Wait>(&self, rt: &W, id: SubscriberId) -> Result<u64, FeedFault> {
+        let mut hub = self.hub.lock(rt);
+        let mut pushed: u64 = 0;
+        for _ in rt.forever() {
+            if !hub.core.has(id) {
+                return Err(FeedFault::UnknownSubscriber);
+            }
+            if hub.offer_one(rt, id).is_err() {
+                break;
+            }
+            pushed = pushed.saturating_add(1);
+        }
+        Ok(pushed)
+    }
+}

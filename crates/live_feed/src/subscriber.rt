@@ -1,0 +1,47 @@
+//! A subscriber of a feed.
+
+ghost use Rattle.std.specs.Prelude.{◌≡◌};
+ghost use Rattle.live_feed.specs.Tapes.{Polls};
+
+use crate::feed_name::FeedName;
+use crate::logged::{Logged, PollFault};
+use crate::tape::Tape;
+use feed_types::{Notice, SubscriberId};
+use fifo_lane::{LaneRule, RisingNotices};
+use filter_terms::{Advice, Strategy};
+use std::sync::Wait;
+
+/// A subscriber's end of its lane, with its strategy and the log of what that advised. Whoever has
+/// it polls it, under no lock.
+#[derive(Drop)]
+pub struct Subscriber<N: FeedName> {
+    /// The lane's end and the log.
+    pub tape: Tape<N>,
+    pub(crate) strategy: Strategy,
+    pub(crate) subscriber: SubscriberId,
+}
+
+impl<N: FeedName> Subscriber<N> {
+    /// The id that the feed gave it.
+    pub fn id(&self) -> SubscriberId {
+        self.subscriber
+    }
+
+    /// One line for each notice that was taken, in order, with what the strategy advised.
+    pub fn log(&self) -> &[Logged]
+        ensures { result.now ≡ self.now.tape.log }
+    {
+        self.tape.log()
+    }
+
+    /// Takes the next notice out of the lane, and logs and gives what the strategy advises on it;
+    /// None where nothing was inside. LogFull exactly where the log has as many lines as
+    /// configured, else NoMemory where the room for one more was refused: both before a notice is
+    /// taken. A refused call changes nothing.
+    pub fn poll<W: Wait>(&mut self, rt: &W) -> Result<Option<Advice>, PollFault>
+        ensures { Polls ⟦<RisingNotices as LaneRule<Notice>>⟧.may_send result self.old.tape
+            self.new.tape }
+    {
+        self.tape.poll(rt, &mut self.strategy)
+    }
+}

@@ -1,0 +1,138 @@
+//! What a subscriber keeps beside its strategy.
+
+ghost use Rattle.std.specs.Prelude.{◌≡◌, ◌<◌, [], ◌∷◌, ◌++◌, Some, slice_get, vec_len, vec_capacity};
+ghost use Rattle.filter_terms.specs.Allowed.{IsAllowed};
+ghost use Rattle.live_feed.specs.Tapes.{Polls, logged};
+
+use crate::advising::advise;
+use crate::feed_name::FeedName;
+use crate::logged::{Logged, PollFault};
+use feed_types::{Best, National, Notice, SymbolName, VenueId};
+use fifo_lane::{LaneRule, Receiver, RisingNotices};
+use filter_terms::{Advice, Limits, Strategy};
+use std::alloc::Global;
+use std::marker::{Model, PhantomData};
+use std::sync::Wait;
+
+/// The receiving end of a subscriber's lane, and the log of what it took.
+#[derive(Drop)]
+pub struct Tape<N: FeedName> {
+    notices: Receiver<Notice, RisingNotices>,
+    lines: Vec<Logged>,
+    most_lines: u32,
+    bounds: Limits,
+    feed: PhantomData<N>,
+}
+
+impl<N: FeedName> Model for Tape<N> {
+    ghost use Rattle.live_feed.specs.Tapes.{TapeState, IsTape};
+
+    ghost Value = { TapeState };
+
+    ghost view = { λ t. record {
+      lane = t.notices;
+      log = t.lines.items;
+      most = t.most_lines;
+      limits = t.bounds;
+    } };
+
+    ghost invariant = { λ t. IsTape N.lanes (record {
+      lane = t.notices;
+      log = t.lines.items;
+      most = t.most_lines;
+      limits = t.bounds;
+    }) };
+}
+
+/// What the strategy advises, where its limits are these; another one, which no subscriber has, is
+/// asked and holds.
+fn advised(strategy: &mut Strategy, bounds: Limits, notice: &Notice) -> Advice
+    ensures { IsAllowed bounds notice.now result }
+{
+    let same = strategy.limits == bounds;
+    let advice = advise(strategy, notice);
+    if same { advice } else { Advice::Hold }
+}
+
+/// Appends a line, for which there is room.
+fn push_line(lines: &mut Vec<Logged>, notice: &Notice, advice: &Advice)
+    requires { vec_len lines.old < vec_capacity lines.old }
+    ensures { lines.new.items ≡ lines.old.items ++ logged notice.now advice.now ∷ [] }
+{
+    let _named: Option<(National, Best, SymbolName, VenueId)> = None;
+    let notice = *notice;
+    let advice = *advice;
+    lines.push_reserved(Logged { notice, advice });
+}
+
+/// Asks for advice on the notice and logs it. There is room for a line.
+fn log_line(
+    lines: &mut Vec<Logged>,
+    strategy: &mut Strategy,
+    bounds: Limits,
+    notice: &Notice,
+) -> Advice
+    requires { vec_len lines.old < vec_capacity lines.old }
+    ensures logged { lines.new.items ≡ lines.old.items ++ logged notice.now result ∷ [] }
+    ensures allowed { IsAllowed bounds notice.now result }
+{
+    let advice = advised(strategy, bounds, notice);
+    push_line(lines, notice, &advice);
+    advice
+}
+
+impl<N: FeedName> Tape<N> {
+    pub(crate) fn new(
+        alloc: Global,
+        lane: Receiver<Notice, RisingNotices>,
+        most: u32,
+        limits: Limits,
+    ) -> Tape<N>
+        requires lane { slice_get N.lanes.subscribers lane.tag ≡ Some lane.lane }
+        requires new { lane.items ≡ [] }
+        ensures { result ≡ record { lane = lane; log = []; most = most; limits = limits } }
+    {
+        Tape {
+            notices: lane,
+            lines: Vec::new(alloc),
+            most_lines: most,
+            bounds: limits,
+            feed: PhantomData,
+        }
+    }
+
+    /// The log, its oldest line first.
+    pub fn log(&self) -> &[Logged]
+        ensures { result.now ≡ self.now.log }
+    {
+        self.lines.as_slice()
+    }
+
+    /// The subscriber's id, as the tag of its lane.
+    pub(crate) fn tag(&self) -> u8
+        ensures { result ≡ self.now.lane.tag }
+    {
+        self.notices.tag()
+    }
+
+    /// Takes the next notice and logs the strategy's advice on it.
+    pub(crate) fn poll<W: Wait>(
+        &mut self,
+        rt: &W,
+        strategy: &mut Strategy,
+    ) -> Result<Option<Advice>, PollFault>
+        ensures { Polls ⟦<RisingNotices as LaneRule<Notice>>⟧.may_send result self.old self.new }
+    {
+        if self.lines.len() >= self.most_lines as usize {
+            return Err(PollFault::LogFull);
+        }
+        if self.lines.reserve(1).is_err() {
+            return Err(PollFault::NoMemory);
+        }
+        let Some(notice) = self.notices.pop(rt) else {
+            return Ok(None);
+        };
+        let advice = log_line(&mut self.lines, strategy, self.bounds, &notice);
+        Ok(Some(advice))
+    }
+}
