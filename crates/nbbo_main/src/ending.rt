@@ -21,24 +21,3 @@ pub fn ending(outcome: &Result<(), ReplayFault>) -> (u8, &'static str)
         Err(ReplayFault::NoMemory) => (1, "nbbo: no memory\n"),
     }
 }
-
-#[cfg(test)]
-mod tests {
-    use super::*;
-
-    #[test]
-    fn endings(rt: HostRuntime) {
-        for (fault, want) in [
-            (ReplayFault::ReadFailed, "nbbo: read failed\n"),
-            (ReplayFault::WriteFailed, "nbbo: write failed\n"),
-            (ReplayFault::BadRecord, "nbbo: bad record\n"),
-            (ReplayFault::ShortRecord, "nbbo: short record\n"),
-            (ReplayFault::TooManyTurns, "nbbo: too many turns\n"),
-            (ReplayFault::JournalFull, "nbbo: journal full\n"),
-            (ReplayFault::NoMemory, "nbbo: no memory\n"),
-        ] {
-            assert_eq!(rt; ending(&Err(fault)), (1, want));
-        }
-        assert_eq!(rt; ending(&Ok(())), (0, ""));
-    }
-}

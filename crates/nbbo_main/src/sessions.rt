@@ -89,23 +89,3 @@ pub fn read_sessions(alloc: Global, list: &str) -> Result<Vec<[u8; 10]>, Session
     }
     Ok(filled_all(alloc, names.as_slice())?)
 }
-
-#[cfg(test)]
-mod tests {
-    use super::*;
-    use std::test::Fail;
-
-    #[test]
-    fn spaces_are_kept(rt: HostRuntime) -> Result<(), Fail> {
-        let sessions = read_sessions(rt.alloc(), " ,a,a , b,0000000001")?;
-        let want = [
-            *b"          ",
-            *b"a         ",
-            *b"a         ",
-            *b" b        ",
-            *b"0000000001",
-        ];
-        assert_eq!(rt; sessions.as_slice(), want.as_slice());
-        Ok(())
-    }
-}
