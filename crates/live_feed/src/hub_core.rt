@@ -69,6 +69,13 @@ impl<G: Genuine, N: FeedName> HubCore<G, N> {
         self.from_venues.len()
     }
 
+    /// How many subscribers there are.
+    pub(crate) fn subscriber_count(&self) -> usize
+        ensures { result ≡ length self.now.journal.cursors }
+    {
+        self.kept.subscriber_count()
+    }
+
     /// Whether there is a subscriber of this id.
     pub(crate) fn has(&self, id: SubscriberId) -> bool
         ensures { IsTrue result ↔ (id < length self.now.journal.cursors) }
