@@ -24,7 +24,8 @@ use Rattle.journal_book.proofs.Growth.{changes_begin}
 use Rattle.journal_book.proofs.Rising.{wanted_rise, pairs_rise}
 use Rattle.fifo_lane.specs.Lane.{LaneEnd, with_items, WasEmpty, WasFull}
 use Rattle.fifo_lane.specs.Rising.{AllPairs-prefix}
-use Rattle.feed_core.proofs.Lists.{begins_len}
+use Rattle.feed_core.proofs.Lists.{begins_len, get_push}
+use Rattle.live_feed.specs.declared.spare.SpareLane.{SpareLane}
 use Rattle.live_feed.specs.Lanes.{FeedLanes}
 use Rattle.live_feed.specs.Hubs.{HubState, IsConsumed, IsHub, IsOffered, IsSpare, item_by, items_in}
 use Rattle.live_feed.specs.HubSections.{Consumes, ConsumesOne, OffersOne, intake_of}
@@ -92,6 +93,7 @@ pub declares : (carries : Carries) (ends : Ends) (lanes : FeedLanes) (s : HubSta
 declares carries ends lanes s k on ready h = record {
   venues = h.venues;
   subscribers = h.subscribers;
+  many = h.many;
   consumed = λ v e at.
       let o = h.consumed v e at in
       let same : items_in (s.journal.entries ++ entry.SelfHelp k on ∷ []) v ≡ items_in s.journal.entries v = items_put v s.journal.entries (entry.SelfHelp k on) ∙ append-nil (items_in s.journal.entries v) in
@@ -106,6 +108,7 @@ pub consumes : (carries : Carries) (ends : Ends) (lanes : FeedLanes) (s : HubSta
 consumes carries ends lanes s k r x ready h at may = record {
   venues = length_put s.receivers k w ∙ h.venues;
   subscribers = h.subscribers;
+  many = h.many;
   consumed = λ v e got. elim (get_put s.receivers k v w e got) [ inl here ↦ subst (λ (y : ℕ × LaneEnd Numbered). IsConsumed carries ends lanes entries y.0 y.1) (λ i. (sym here.0 i, sym here.1 i)) this | inr there ↦ other v e there.0 there.1 ];
   offered = λ id e got. offered_still lanes s.journal (entry.Consumed k x) ready id e (h.offered id e got);
   spare = h.spare;
@@ -137,6 +140,7 @@ pub moves : (carries : Carries) (ends : Ends) (lanes : FeedLanes) (s : HubState)
     → IsHub carries ends lanes (record s { journal = record s.journal { cursors = slice_set s.journal.cursors id (record c { seen = place }) }; senders = slice_set s.senders id (with_items l sent) })
 moves carries ends lanes s id c l place sent h at from within is = record {
   venues = h.venues;
+  many = ap (λ (n : ℕ). n + length s.spare) (length_put s.journal.cursors id (record c { seen = place })) ∙ h.many;
   subscribers = length_put s.senders id (with_items l sent) ∙ h.subscribers ∙ sym (length_put s.journal.cursors id (record c { seen = place }));
   consumed = h.consumed;
   offered = λ j e got. elim (get_put s.senders id j (with_items l sent) e got) [ inl here ↦ subst (λ (y : ℕ × LaneEnd Notice). IsOffered lanes after y.0 y.1) (λ i. (sym here.0 i, sym here.1 i)) this | inr there ↦ other j e there.0 there.1 ];
@@ -208,6 +212,7 @@ pub ready_still : (carries : Carries) (ends : Ends) (lanes : FeedLanes) (s : Hub
 ready_still carries ends lanes s j h is = subst (λ (x : JournalState). IsHub carries ends lanes (record s { journal = x })) (sym is) (record {
   venues = h.venues;
   subscribers = h.subscribers;
+  many = h.many;
   consumed = h.consumed;
   offered = λ id e at. (let o = h.offered id e at in record { tag = o.tag; lane = o.lane; items = o.items });
   spare = h.spare;
@@ -371,3 +376,61 @@ declare_kept carries ends lanes s venue on answer j h d = by_answer answer d
     by_answer (Err NoMemory) e = stays e.3
     by_answer (Err TooManySubscribers) e = absurd e
     by_answer (Ok position) e = subst (λ (x : JournalState). IsHub carries ends lanes (record s { journal = x })) (sym e.3) (declares carries ends lanes s venue on j.ready h)
+
+-- ---- subscribe
+
+-- one more subscriber, with the first of the lanes that were left
+pub subscribes : (carries : Carries) (ends : Ends) (lanes : FeedLanes) (s : HubState) (x : SpareLane) (rest : List SpareLane) (j : JournalState) (senders : List (LaneEnd Notice)) (terms : Terms) → IsHub carries ends lanes s
+    → s.spare ≡ x ∷ rest → j ≡ record s.journal { cursors = s.journal.cursors ++ record { terms = terms; seen = 0 } ∷ [] } → senders ≡ s.senders ++ x.sender ∷ []
+    → IsHub carries ends lanes (record s { journal = j; senders = senders; spare = rest })
+subscribes carries ends lanes s x rest j senders terms h first is more =
+    subst (λ (y : JournalState × List (LaneEnd Notice)). IsHub carries ends lanes (record s { journal = y.0; senders = y.1; spare = rest })) (λ i. (sym is i, sym more i)) (record {
+      venues = h.venues;
+      subscribers = length-append s.senders (x.sender ∷ []) ∙ ap (λ (n : ℕ). n + 1) h.subscribers ∙ sym count;
+      many = (let m = h.many in let f = ap length first in let n = count in omega arith);
+      consumed = h.consumed;
+      offered = λ id e at. elim (get_push s.senders id x.sender e at) [ inl here ↦ subst (λ (y : ℕ × LaneEnd Notice). IsOffered lanes after y.0 y.1) (λ i. (sym (here.0 ∙ h.subscribers) i, sym here.1 i)) this | inr there ↦ other id e there.0 there.1 ];
+      spare = λ k y at. subst (λ (n : ℕ). IsSpare lanes n y) (let n = count in omega arith) (h.spare (suc k) y (ap (λ (l : List SpareLane). slice_get l (suc k)) first ∙ at));
+    })
+  where
+    new : Cursor
+    new = record { terms = terms; seen = 0 }
+
+    after : JournalState
+    after = record s.journal { cursors = s.journal.cursors ++ record { terms = terms; seen = 0 } ∷ [] }
+
+    count : length (s.journal.cursors ++ record { terms = terms; seen = 0 } ∷ []) ≡ length s.journal.cursors + 1
+    count = length-append s.journal.cursors (record { terms = terms; seen = 0 } ∷ [])
+
+    spare_is : IsSpare lanes (length s.journal.cursors + 0) x
+    spare_is = h.spare 0 x (ap (λ (l : List SpareLane). slice_get l 0) first)
+
+    here_items : (cursor : Cursor) → ((length s.journal.cursors ≡ length s.journal.cursors) × (cursor ≡ record { terms = terms; seen = 0 })) ⊎ ((length s.journal.cursors < length s.journal.cursors) × (slice_get s.journal.cursors (length s.journal.cursors) ≡ Some cursor)) → (cursor.seen ≤ length (changes s.journal)) × (x.sender.items ≡ offered_of (changes s.journal) cursor)
+    here_items cursor (inl here) = subst (λ (y : Cursor). (y.seen ≤ length (changes s.journal)) × (x.sender.items ≡ offered_of (changes s.journal) y)) (sym here.1) (omega arith, spare_is.items)
+    here_items cursor (inr there) = absurd (let h = there.0 in omega arith)
+
+    this : IsOffered lanes after (length s.journal.cursors) x.sender
+    this =
+        let zero_more : length s.journal.cursors + 0 ≡ length s.journal.cursors = omega arith in
+        record {
+          tag = spare_is.tag ∙ zero_more;
+          lane = ap (slice_get lanes.subscribers) (sym zero_more) ∙ spare_is.lane;
+          items = λ cursor at. here_items cursor (get_push s.journal.cursors (length s.journal.cursors) (record { terms = terms; seen = 0 }) cursor at);
+        }
+
+    other : (id : ℕ) (e : LaneEnd Notice) → id < length s.senders → slice_get s.senders id ≡ Some e → IsOffered lanes after id e
+    other id e below at =
+        let o = h.offered id e at in
+        let same = h.subscribers in
+        record {
+          tag = o.tag;
+          lane = o.lane;
+          items = λ cursor got. elim (get_push s.journal.cursors id (record { terms = terms; seen = 0 }) cursor got) [ inl here ↦ absurd (let k = here.0 in omega arith) | inr there ↦ o.items cursor there.1 ];
+        }
+
+pub spare_end : (carries : Carries) (ends : Ends) (lanes : FeedLanes) (s : HubState) (x : SpareLane) (rest : List SpareLane) → IsHub carries ends lanes s → s.spare ≡ x ∷ rest
+    → (x.receiver ≡ x.sender) × (x.receiver.tag ≡ length s.journal.cursors) × (x.receiver.items ≡ []) × (slice_get lanes.subscribers (length s.journal.cursors) ≡ Some x.receiver.lane)
+spare_end carries ends lanes s x rest h first =
+    let i = h.spare 0 x (ap (λ (l : List SpareLane). slice_get l 0) first) in
+    let zero_more : length s.journal.cursors + 0 ≡ length s.journal.cursors = omega arith in
+    (i.same, ap (λ (e : LaneEnd Notice). e.tag) i.same ∙ i.tag ∙ zero_more, ap (λ (e : LaneEnd Notice). e.items) i.same ∙ i.items, ap (slice_get lanes.subscribers) (sym zero_more) ∙ i.lane ∙ ap (λ (e : LaneEnd Notice). Some e.lane) (sym i.same))

@@ -1,6 +1,6 @@
 -- Each section under the consolidator's lock is one event of the machine (feed_core), on the part
 -- that the lock keeps.
-use Rattle.std.specs.Prelude.{◌≡◌, ℕ, Bool, true, List, length, slice_get, slice_set, Option, Some, None, Result, Ok, Err}
+use Rattle.std.specs.Prelude.{◌≡◌, ℕ, ◌<◌, ◌≤◌, Bool, true, List, [], ◌∷◌, ◌++◌, length, slice_get, slice_set, Option, Some, None, Result, Ok, Err}
 use Rattle.feed_types.specs.declared.item.Numbered.{Numbered}
 use Rattle.feed_types.specs.declared.journal.Notice.{Notice}
 use Rattle.filter_terms.specs.declared.terms.Terms.{Terms}
@@ -16,6 +16,7 @@ use Rattle.feed_core.specs.declared.event.Done.TheVariants as done
 use Rattle.feed_core.specs.Steps.{Intake, consumed, offered, ComesTo}
 use Rattle.live_feed.specs.declared.unsent.Unsent.{Unsent}
 use Rattle.live_feed.specs.declared.unsent.Unsent.TheVariants as unsent
+use Rattle.live_feed.specs.Lanes.{FeedLanes}
 use Rattle.live_feed.specs.Hubs.{HubState}
 
 -- what Consume looks at
@@ -89,3 +90,30 @@ pub record OffersOne (may_send : ℕ → List Notice → Type 0) (id : ℕ) (ans
 pub record KeepsButOffers (old new : HubState) : Type 0 where
   pub journal : StaysButCursors old.journal new.journal
   pub others : new ≡ record old { journal = new.journal; senders = new.senders }
+
+-- Subscribe: one more subscriber with these terms, to whom nothing was offered, and with the lane
+-- that the feed has for it.
+pub record AddsSubscriber (lanes : FeedLanes) (terms : Terms) (id : ℕ) (e : LaneEnd Notice)
+    (old new : HubState) : Type 0 where
+  pub few : length old.journal.cursors < 32
+  pub id_is : id ≡ length old.journal.cursors
+  pub tag : e.tag ≡ id
+  pub lane : slice_get lanes.subscribers id ≡ Some e.lane
+  pub empty : e.items ≡ []
+  pub journal : new.journal ≡ record old.journal {
+    cursors = old.journal.cursors ++ record { terms = terms; seen = 0 } ∷ [];
+  }
+  pub senders : new.senders ≡ old.senders ++ e ∷ []
+  pub receivers : new.receivers ≡ old.receivers
+
+-- the answer to `subscribe`, by cases: a refused call hands the terms back and changes nothing
+abbrev pub Subscribes : FeedLanes → Terms → Result (ℕ × LaneEnd Notice) (JournalFault × Terms)
+    → HubState → HubState → Type 0
+Subscribes lanes terms (Ok (id, e)) old new = AddsSubscriber lanes terms id e old new
+Subscribes lanes terms (Err (TooManySubscribers, back)) old new =
+    (32 ≤ length old.journal.cursors) × (back ≡ terms) × (new ≡ old)
+Subscribes lanes terms (Err (NoMemory, back)) old new =
+    (length old.journal.cursors < 32) × (back ≡ terms) × (new ≡ old)
+Subscribes lanes terms (Err (JournalFull, back)) old new = ⊥
+Subscribes lanes terms (Err (UnknownVenue, back)) old new = ⊥
+Subscribes lanes terms (Err (AlreadySo, back)) old new = ⊥

@@ -61,5 +61,6 @@ pub record IsHub (carries : Carries) (ends : Ends) (lanes : FeedLanes) (s : HubS
       → IsConsumed carries ends lanes s.journal.entries venue e
   pub offered : (id : ℕ) (e : LaneEnd Notice) → slice_get s.senders id ≡ Some e
       → IsOffered lanes s.journal id e
+  pub many : length s.journal.cursors + length s.spare ≡ 32
   pub spare : (k : ℕ) (x : SpareLane) → slice_get s.spare k ≡ Some x
       → IsSpare lanes (length s.journal.cursors + k) x

@@ -11,8 +11,9 @@ use Rattle.live_feed.specs.declared.logged.PollFault.{PollFault}
 use Rattle.live_feed.specs.declared.logged.PollFault.TheVariants.{NoMemory, LogFull}
 use Rattle.live_feed.specs.Lanes.{FeedLanes}
 
--- the receiving end of its lane, its log, how many lines that holds, and the limits of its strategy
+-- the subscriber's id, the receiving end of its lane, its log, how many lines that holds, and the limits of its strategy
 pub record TapeState : Type 0 where
+  pub id : ℕ
   pub lane : LaneEnd Notice
   pub log : List Logged
   pub most : ℕ
@@ -26,7 +27,8 @@ logged notice advice = record { notice = notice; advice = advice }
 pub record IsTape (lanes : FeedLanes) (t : TapeState) : Type 0 where
   pub notices : map (λ line. line.notice) t.log ≡ t.lane.items
   pub allowed : AllByRecursion (λ line. IsAllowed t.limits line.notice line.advice) t.log
-  pub lane : slice_get lanes.subscribers t.lane.tag ≡ Some t.lane.lane
+  pub tag : t.lane.tag ≡ t.id
+  pub lane : slice_get lanes.subscribers t.id ≡ Some t.lane.lane
 
 -- The answer to `poll`, by cases: LogFull exactly where the log is full; nothing is taken by a
 -- refused poll, nor where nothing was inside the lane at a moment of the call; else the next notice

@@ -1,14 +1,17 @@
 //! What stands behind the consolidator's lock.
 
-ghost use Rattle.std.specs.Prelude.{◌≡◌, ◌<◌, length, OnErr};
+ghost use Rattle.std.specs.Prelude.{◌≡◌, ◌<◌, length, IfOk, IfErr, OnErr};
 ghost use Rattle.journal_book.specs.Journals.{Declares};
-ghost use Rattle.live_feed.specs.HubSections.{Consumes, KeepsButIntake, OffersOne, KeepsButOffers};
+ghost use Rattle.live_feed.specs.HubSections.{Consumes, KeepsButIntake, OffersOne, KeepsButOffers, AddsSubscriber};
+ghost use Rattle.filter_terms.specs.declared.terms.Terms.{Terms};
+ghost use Rattle.filter_terms.specs.Copies.{IsCopy};
+ghost use Rattle.filter_terms.specs.Filters.{terms_of};
 
 use crate::feed_name::FeedName;
 use crate::hub_core::HubCore;
 use crate::unsent::Unsent;
 use feed_types::{Genuine, Notice, Numbered, SubscriberId, VenueId};
-use fifo_lane::{LaneRule, RisingNotices, VenueItems};
+use fifo_lane::{LaneRule, Receiver, RisingNotices, VenueItems};
 use filter_terms::Filter;
 use journal_book::JournalFault;
 use std::sync::Wait;
@@ -43,6 +46,36 @@ impl<G: Genuine, N: FeedName> HubCell<G, N> {
             ≡ record self.old.core { journal = self.new.core.journal } }
     {
         self.core.declare(venue, on)
+    }
+
+    /// Adds a subscriber, to whom nothing was offered, and gives its id and the receiving end of its
+    /// lane. It is refused, with the filter, as TooManySubscribers where there are 32, else as
+    /// NoMemory.
+    pub(crate) fn subscribe(
+        &mut self,
+        filter: Filter,
+    ) -> Result<(SubscriberId, Receiver<Notice, RisingNotices>), (JournalFault, Filter)>
+        ensures added { IfOk result (λ made. (copy : Terms) × IsCopy (terms_of filter) copy
+            × AddsSubscriber N.lanes copy made.0 made.1 self.old.core self.new.core) }
+        ensures back { IfErr result (λ refused. refused.1 ≡ filter) }
+        ensures refused { OnErr result (self.new.core ≡ self.old.core) }
+    {
+        if self.core.subscriber_count() >= 32 {
+            return Err((JournalFault::TooManySubscribers, filter));
+        }
+        if self.filters.reserve(1).is_err() {
+            return Err((JournalFault::NoMemory, filter));
+        }
+        let Ok(terms) = filter.terms().clone() else {
+            return Err((JournalFault::NoMemory, filter));
+        };
+        match self.core.subscribe(terms) {
+            Ok(made) => {
+                self.filters.push_reserved(filter);
+                Ok(made)
+            }
+            Err((fault, _)) => Err((fault, filter)),
+        }
     }
 
     /// Pushes the next notice that the subscriber wants, and gives its number. The id is of this

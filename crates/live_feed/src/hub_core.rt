@@ -3,7 +3,7 @@
 ghost use Rattle.std.specs.Prelude.{◌≡◌, ◌<◌, ◌^◌, ◌↔◌, length, slice_get, OnErr, IsTrue};
 ghost use Rattle.journal_book.specs.Journals.{Declares};
 ghost use Rattle.journal_book.specs.Places.{IsNextOf};
-ghost use Rattle.live_feed.specs.HubSections.{Consumes, KeepsButIntake, OffersOne, KeepsButOffers};
+ghost use Rattle.live_feed.specs.HubSections.{Consumes, KeepsButIntake, OffersOne, KeepsButOffers, Subscribes};
 
 use crate::feed_name::FeedName;
 use crate::next_wanted::next_wanted;
@@ -11,7 +11,7 @@ use crate::spare::SpareLane;
 use crate::unsent::Unsent;
 use feed_types::{Genuine, Notice, Numbered, SubscriberId, VenueId};
 use fifo_lane::{LaneRule, Receiver, RisingNotices, Sender, VenueItems};
-use filter_terms::Filter;
+use filter_terms::{Filter, Terms};
 use journal_book::{Journal, JournalFault};
 use std::collections::VecDeque;
 use std::marker::{Model, PhantomData};
@@ -69,6 +69,13 @@ impl<G: Genuine, N: FeedName> HubCore<G, N> {
         self.from_venues.len()
     }
 
+    /// How many subscribers there are.
+    pub(crate) fn subscriber_count(&self) -> usize
+        ensures { result ≡ length self.now.journal.cursors }
+    {
+        self.kept.subscriber_count()
+    }
+
     /// Whether there is a subscriber of this id.
     pub(crate) fn has(&self, id: SubscriberId) -> bool
         ensures { IsTrue result ↔ (id < length self.now.journal.cursors) }
@@ -105,6 +112,31 @@ impl<G: Genuine, N: FeedName> HubCore<G, N> {
         ensures kept { self.new ≡ record self.old { journal = self.new.journal } }
     {
         self.kept.declare(venue, on)
+    }
+
+    /// Adds a subscriber of these terms, and gives its id and the receiving end of its lane.
+    pub(crate) fn subscribe(
+        &mut self,
+        terms: Terms,
+    ) -> Result<(SubscriberId, Receiver<Notice, RisingNotices>), (JournalFault, Terms)>
+        ensures { Subscribes N.lanes terms result self.old self.new }
+    {
+        if self.kept.subscriber_count() >= 32 {
+            return Err((JournalFault::TooManySubscribers, terms));
+        }
+        if self.to_subscribers.reserve(1).is_err() {
+            return Err((JournalFault::NoMemory, terms));
+        }
+        let id = match self.kept.subscribe(terms) {
+            Ok(id) => id,
+            Err(refused) => return Err(refused),
+        };
+        let Some(spare) = self.spare_lanes.pop_front() else {
+            unreachable!()
+        };
+        let SpareLane { sender, receiver } = spare;
+        self.to_subscribers.push_reserved(sender);
+        Ok((id, receiver))
     }
 
     /// The place of the next notice that the subscriber wants, or the end.

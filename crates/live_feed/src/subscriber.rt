@@ -18,13 +18,14 @@ pub struct Subscriber<N: FeedName> {
     /// The lane's end and the log.
     pub tape: Tape<N>,
     pub(crate) strategy: Strategy,
-    pub(crate) subscriber: SubscriberId,
 }
 
 impl<N: FeedName> Subscriber<N> {
     /// The id that the feed gave it.
-    pub fn id(&self) -> SubscriberId {
-        self.subscriber
+    pub fn id(&self) -> SubscriberId
+        ensures { result ≡ self.now.tape.id }
+    {
+        self.tape.id()
     }
 
     /// One line for each notice that was taken, in order, with what the strategy advised.

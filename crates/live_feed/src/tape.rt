@@ -7,7 +7,7 @@ ghost use Rattle.live_feed.specs.Tapes.{Polls, logged};
 use crate::advising::advise;
 use crate::feed_name::FeedName;
 use crate::logged::{Logged, PollFault};
-use feed_types::{Best, National, Notice, SymbolName, VenueId};
+use feed_types::{Best, National, Notice, SubscriberId, SymbolName, VenueId};
 use fifo_lane::{LaneRule, Receiver, RisingNotices};
 use filter_terms::{Advice, Limits, Strategy};
 use std::alloc::Global;
@@ -17,6 +17,7 @@ use std::sync::Wait;
 /// The receiving end of a subscriber's lane, and the log of what it took.
 #[derive(Drop)]
 pub struct Tape<N: FeedName> {
+    owner: SubscriberId,
     notices: Receiver<Notice, RisingNotices>,
     lines: Vec<Logged>,
     most_lines: u32,
@@ -30,6 +31,7 @@ impl<N: FeedName> Model for Tape<N> {
     ghost Value = { TapeState };
 
     ghost view = { λ t. record {
+      id = t.owner;
       lane = t.notices;
       log = t.lines.items;
       most = t.most_lines;
@@ -37,6 +39,7 @@ impl<N: FeedName> Model for Tape<N> {
     } };
 
     ghost invariant = { λ t. IsTape N.lanes (record {
+      id = t.owner;
       lane = t.notices;
       log = t.lines.items;
       most = t.most_lines;
@@ -84,15 +87,19 @@ fn log_line(
 impl<N: FeedName> Tape<N> {
     pub(crate) fn new(
         alloc: Global,
+        id: SubscriberId,
         lane: Receiver<Notice, RisingNotices>,
         most: u32,
         limits: Limits,
     ) -> Tape<N>
-        requires lane { slice_get N.lanes.subscribers lane.tag ≡ Some lane.lane }
+        requires tag { lane.tag ≡ id }
+        requires lane { slice_get N.lanes.subscribers id ≡ Some lane.lane }
         requires new { lane.items ≡ [] }
-        ensures { result ≡ record { lane = lane; log = []; most = most; limits = limits } }
+        ensures { result
+            ≡ record { id = id; lane = lane; log = []; most = most; limits = limits } }
     {
         Tape {
+            owner: id,
             notices: lane,
             lines: Vec::new(alloc),
             most_lines: most,
@@ -108,11 +115,11 @@ impl<N: FeedName> Tape<N> {
         self.lines.as_slice()
     }
 
-    /// The subscriber's id, as the tag of its lane.
-    pub(crate) fn tag(&self) -> u8
-        ensures { result ≡ self.now.lane.tag }
+    /// The subscriber's id.
+    pub fn id(&self) -> SubscriberId
+        ensures { result ≡ self.now.id }
     {
-        self.notices.tag()
+        self.owner
     }
 
     /// Takes the next notice and logs the strategy's advice on it.
