@@ -13,7 +13,7 @@
 //!
 //! An [`OpenFeed`] puts the cells behind their locks; each of its calls takes one of them.
 //!
-//! Not here yet: how a feed is made and opened, how subscribers are made, and its settlement.
+//! Not here yet: how a feed is made and opened, and its settlement.
 #![tactic(auto)]
 
 mod advising;

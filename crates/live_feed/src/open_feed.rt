@@ -1,9 +1,6 @@
 //! A feed behind its locks.
 
-ghost use Rattle.std.specs.Prelude.{◌≡◌, ◌⊎◌, ◌↔◌, ◌≤◌, ◌<◌, ◌+◌, ℕ, List, length, Ok, Err, IsOk, IfOk, IfErr, OnErr, vec_len};
-ghost use Rattle.feed_types.specs.Sessions.{Session, IsSessionAt, Names};
-ghost use Rattle.mold_packet.specs.Content.{Content, Spells};
-ghost use Rattle.line_arbiter.specs.declared.outcome.LineFault.TheVariants.{OtherSession};
+ghost use Rattle.std.specs.Prelude.{◌≡◌, [], IfOk, IfErr};
 ghost use Rattle.line_arbiter.specs.Genuine.{IsGenuine};
 ghost use Rattle.live_feed.specs.Seats.{new_seat, seat_after};
 ghost use Rattle.live_feed.specs.Datagrams.{AreGenuineBytes, IsTakenBy, bytes_of};
@@ -13,11 +10,15 @@ use crate::faults::{FeedFault, RenewalFault, TakeFault};
 use crate::feed_name::FeedName;
 use crate::hub_cell::HubCell;
 use crate::seat::LineSeat;
+use crate::subscriber::Subscriber;
+use crate::tape::Tape;
 use crate::venue_cell::VenueCell;
 use feed_types::{Genuine, LineId, SubscriberId, VenueId};
+use filter_terms::{Filter, Strategy};
 use journal_book::JournalFault;
 use line_arbiter::{LineFault, Outcome};
 use mold_packet::{Packet, Request, read_packet};
+use std::alloc::Global;
 use std::sync::{Mutex, Wait};
 
 /// What a venue's lock guards: the cell, and which lines have their seats.
@@ -34,6 +35,7 @@ pub(crate) struct Guarded<G: Genuine, N: FeedName> {
 pub struct OpenFeed<G: Genuine, N: FeedName> {
     pub(crate) venues: Vec<Mutex<Guarded<G, N>>>,
     pub(crate) hub: Mutex<HubCell<G, N>>,
+    pub(crate) log_lines: u32,
 }
 
 /// Pushes what is ready of the venue, until nothing is or the lane is full, and gives how many
@@ -194,6 +196,31 @@ impl<G: Genuine, N: FeedName> OpenFeed<G, N> {
     /// Declares self-help on the venue, or withdraws it, and gives the entry's position.
     pub fn declare<W: Wait>(&self, rt: &W, venue: VenueId, on: bool) -> Result<u64, JournalFault> {
         self.hub.lock(rt).declare(venue, on)
+    }
+
+    /// Adds a subscriber with this filter and strategy, whose log is empty. Its notices begin with
+    /// the first change of the journal. It is refused, with both, as TooManySubscribers where there
+    /// are 32, else as NoMemory.
+    pub fn subscribe<W: Wait>(
+        &self,
+        rt: &W,
+        alloc: Global,
+        filter: Filter,
+        strategy: Strategy,
+    ) -> Result<Subscriber<N>, (JournalFault, Filter, Strategy)>
+        ensures new { IfOk result (λ made. (made.tape.log ≡ [])
+            × (made.tape.limits ≡ strategy.limits)) }
+        ensures back { IfErr result (λ refused. (refused.1 ≡ filter) × (refused.2 ≡ strategy)) }
+    {
+        let made = self.hub.lock(rt).subscribe(filter);
+        match made {
+            Ok((id, lane)) => {
+                let limits = strategy.limits();
+                let tape = Tape::new(alloc, id, lane, self.log_lines, limits);
+                Ok(Subscriber { tape, strategy })
+            }
+            Err((fault, filter)) => Err((fault, filter, strategy)),
+        }
     }
 
     /// Pushes the notices that the subscriber wants, until there is none or its lane is full, and
