@@ -26,6 +26,3 @@ pub use event::{Done, Event};
 pub use laws::{every_list_of_events_has_a_run, headline, one_run, subscriber_half, venue_half};
 pub use running::run;
 pub use world::World;
-
-#[cfg(test)]
-mod tests;

@@ -32,6 +32,3 @@ pub use laws::{
 };
 pub use outcome::{LineFault, Outcome};
 pub use pacer::Pacer;
-
-#[cfg(test)]
-mod tests;

@@ -295,6 +295,9 @@ impl Window {
         }
         let from = (front - self.base_number) as usize;
         let end = (limit - self.base_number).min(width as u64) as usize;
+        if front >= self.top_number {
+            return (end - from) as u16;
+        }
         let place = first_place(self.marks.as_slice(), self.first, width, true, from, end);
         (place - from) as u16
     }
