@@ -1,8 +1,9 @@
 //! The journal with the lanes that meet at it.
 
-ghost use Rattle.std.specs.Prelude.{◌≡◌, ◌<◌, ◌^◌, ◌↔◌, length, slice_get, OnErr, IsTrue};
+ghost use Rattle.std.specs.Prelude.{◌≡◌, ◌<◌, ◌^◌, ◌↔◌, [], length, slice_get, OnErr, IsTrue};
 ghost use Rattle.journal_book.specs.Journals.{Declares};
 ghost use Rattle.journal_book.specs.Places.{IsNextOf};
+ghost use Rattle.live_feed.specs.Hubs.{IsHub};
 ghost use Rattle.live_feed.specs.HubSections.{Consumes, KeepsButIntake, OffersOne, KeepsButOffers, Subscribes};
 
 use crate::feed_name::FeedName;
@@ -13,6 +14,7 @@ use feed_types::{Genuine, Notice, Numbered, SubscriberId, VenueId};
 use fifo_lane::{LaneRule, Receiver, RisingNotices, Sender, VenueItems};
 use filter_terms::{Filter, Terms};
 use journal_book::{Journal, JournalFault};
+use std::alloc::Global;
 use std::collections::VecDeque;
 use std::marker::{Model, PhantomData};
 use std::sync::Wait;
@@ -62,6 +64,36 @@ fn notice_at(notices: &[Notice], place: usize) -> Option<Notice>
 }
 
 impl<G: Genuine, N: FeedName> HubCore<G, N> {
+    /// An empty journal of no subscribers, with the lanes of its venues and those that are left for
+    /// subscribers.
+    pub(crate) fn new(
+        alloc: Global,
+        journal: Journal,
+        receivers: Vec<Receiver<Numbered, VenueItems<G>>>,
+        spare: VecDeque<SpareLane>,
+    ) -> HubCore<G, N>
+        requires { IsHub G.carries G.ends N.lanes (record {
+          journal = journal;
+          receivers = receivers.items;
+          senders = [];
+          spare = spare.items;
+        }) }
+        ensures { result ≡ record {
+          journal = journal;
+          receivers = receivers.items;
+          senders = [];
+          spare = spare.items;
+        } }
+    {
+        HubCore {
+            kept: journal,
+            from_venues: receivers,
+            to_subscribers: Vec::new(alloc),
+            spare_lanes: spare,
+            feed: PhantomData,
+        }
+    }
+
     /// How many venues there are.
     pub(crate) fn venue_count(&self) -> usize
         ensures { result ≡ self.now.journal.venues }

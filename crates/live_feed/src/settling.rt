@@ -1,0 +1,90 @@
+//! How a venue's lane is closed.
+
+ghost use Rattle.std.specs.Prelude.{◌≡◌, ◌≤◌, ◌+◌, List, drop, length, vec_capacity};
+ghost use Rattle.line_arbiter.specs.Packets.{Arrival};
+ghost use Rattle.line_arbiter.specs.Streams.{stream_of};
+ghost use Rattle.line_arbiter.specs.Fits.{Fits};
+ghost use Rattle.live_feed.specs.Settlements.{IsSettled};
+
+use crate::feed_name::FeedName;
+use crate::sums::VenueSums;
+use crate::venue_cell::VenueCell;
+use feed_types::{Genuine, Numbered};
+use fifo_lane::{Receiver, Settled, VenueItems, settle};
+use line_arbiter::Arbiter;
+use std::sync::Wait;
+
+/// What is left of a venue once its lane is closed: what still lay in the lane, what is ready
+/// behind it, and what is counted per line.
+#[derive(Drop)]
+pub(crate) struct VenueEnd<G> {
+    pub(crate) lines: Arbiter<G>,
+    pub(crate) sums: VenueSums,
+    pub(crate) in_lane: Vec<Numbered>,
+    pub(crate) ready: Vec<Numbered>,
+}
+
+/// The items inside the lane, in order. There is room for as many as it holds.
+fn drained<G: Genuine, W: Wait>(
+    rt: &W,
+    mut inside: Settled<Numbered, VenueItems<G>>,
+    capacity: usize,
+    mut room: Vec<Numbered>,
+) -> Vec<Numbered>
+    requires room { (length room.items ≡ 0) × (capacity ≤ vec_capacity room) }
+    requires inside { length inside ≤ capacity }
+    ensures { result.items ≡ inside }
+{
+    for _ in 0..capacity {
+        let Some(item) = inside.next(rt) else {
+            break;
+        };
+        room.push_reserved(item);
+    }
+    room
+}
+
+/// The items that are ready, in order. There is room for all up to the front, and for End.
+fn take_ready<G: Genuine>(lines: &mut Arbiter<G>, mut room: Vec<Numbered>) -> Vec<Numbered>
+    requires room { (length room.items ≡ 0)
+        × (lines.old.front + 1 ≤ lines.old.sent + vec_capacity room) }
+    requires fits { (packets : List Arrival) × Fits lines.old packets }
+    ensures ready { (packets : List Arrival) → Fits lines.old packets
+        → result.items ≡ drop lines.old.sent (stream_of packets) }
+    ensures wins { lines.new.wins ≡ lines.old.wins }
+{
+    while let Some(next) = lines.next_ready() {
+        room.push_reserved(next);
+        lines.advance();
+    }
+    room
+}
+
+/// Closes a venue's lane, whose two ends these are. The two lists are empty and have room: one for
+/// what the lane holds, one for what is ready.
+pub(crate) fn settle_venue<G: Genuine, N: FeedName, W: Wait>(
+    rt: &W,
+    cell: VenueCell<G, N>,
+    receiver: Receiver<Numbered, VenueItems<G>>,
+    in_lane: Vec<Numbered>,
+    ready: Vec<Numbered>,
+) -> VenueEnd<G>
+    requires lane { cell.lane.lane ≡ receiver.lane }
+    requires inside { (length in_lane.items ≡ 0) × (cell.lane.capacity ≤ vec_capacity in_lane) }
+    requires ready { (length ready.items ≡ 0)
+        × (cell.arbiter.front + 1 ≤ cell.arbiter.sent + vec_capacity ready) }
+    ensures { IsSettled G.carries G.ends cell.arbiter.venue cell.arbiter.window receiver.items
+        result.in_lane.items result.ready.items result.lines.wins result.sums }
+{
+    let capacity = cell.capacity();
+    let (mut lines, sender, sums) = cell.into_parts();
+    let inside = settle(sender, receiver);
+    let in_lane = drained(rt, inside, capacity, in_lane);
+    let ready = take_ready(&mut lines, ready);
+    VenueEnd {
+        lines,
+        sums,
+        in_lane,
+        ready,
+    }
+}
