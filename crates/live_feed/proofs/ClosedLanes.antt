@@ -52,10 +52,10 @@ fewer s packets n x f e =
     let front = f.front in
     omega arith
 
-next_drop : (xs : List Numbered) (old new : ℕ) (x : Numbered) → Some x ≡ slice_get xs old → new ≡ old + 1 → drop old xs ≡ x ∷ drop new xs
+pub next_drop : {X : Type 0} (xs : List X) (old new : ℕ) (x : X) → Some x ≡ slice_get xs old → new ≡ old + 1 → drop old xs ≡ x ∷ drop new xs
 next_drop [] old new x e is = absurd cc
 next_drop (y ∷ ys) zero zero x e is = absurd (omega arith)
-next_drop (y ∷ ys) zero (suc m) x e is = let none : m ≡ 0 = omega arith in ap (λ (k : ℕ). y ∷ drop k ys) (sym none) ∙ (let same : y ≡ x = cc in ap (λ (z : Numbered). z ∷ drop m ys) same)
+next_drop (y ∷ ys) zero (suc m) x e is = let none : m ≡ 0 = omega arith in ap (λ (k : ℕ). y ∷ drop k ys) (sym none) ∙ (let same : y ≡ x = cc in ap (λ (z : _). z ∷ drop m ys) same)
 next_drop (y ∷ ys) (suc n) zero x e is = absurd (omega arith)
 next_drop (y ∷ ys) (suc n) (suc m) x e is = next_drop ys n m x e (omega arith)
 

@@ -4,3 +4,5 @@ pub mod CellAnswers
 pub mod HubMoves
 pub mod FeedMoves
 pub mod ClosedLanes
+pub mod TheirPackets
+pub mod ClosedSubscribers

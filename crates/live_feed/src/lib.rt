@@ -11,10 +11,10 @@
 //! (`specs/Sections.antt`, `specs/HubSections.antt`). Begin at `specs/Cells.antt`,
 //! `specs/Hubs.antt` and `specs/Tapes.antt`, and at `venue_cell.rt` and `hub_cell.rt` for the code.
 //!
-//! A [`LiveFeed`] has all lanes of a feed, to which nothing came yet (`specs/Feeds.antt`). Opened as
-//! an [`OpenFeed`] it stands behind its locks; each call takes one of them. `settling.rt` closes a
-//! venue's lane: what was consumed, is in the lane and is ready are then the sessions' streams
-//! (`specs/Settlements.antt`).
+//! A [`LiveFeed`] has all lanes of a feed, to which nothing came yet (`specs/Feeds.antt`). Opened
+//! as an [`OpenFeed`] it stands behind its locks; each call takes one of them. `settling.rt` closes
+//! a venue's lane: what was consumed, is in the lane and is ready are then the sessions' streams.
+//! `serving.rt` closes a subscriber's (`specs/Settlements.antt`).
 //!
 //! Not here yet: the settlement of a whole feed.
 #![tactic(auto)]
@@ -31,6 +31,7 @@ mod making;
 mod next_wanted;
 mod open_feed;
 mod seat;
+mod serving;
 mod settling;
 mod spare;
 mod subscriber;

@@ -40,8 +40,8 @@ pub(crate) fn fault_of(config: &FeedConfig<'_>) -> Option<ConfigFault>
 /// An empty journal of the configuration, whose sizes are good.
 pub(crate) fn new_journal(alloc: Global, config: &FeedConfig<'_>) -> Result<Journal, CoreFault>
     requires { IsSized config.now }
-    ensures empty { IfOk result (λ journal. journal
-        ≡ empty_journal config.now.symbols.now (length config.now.sessions.now) config.now.journal) }
+    ensures empty { IfOk result (λ journal. journal ≡ empty_journal config.now.symbols.now
+        (length config.now.sessions.now) config.now.journal) }
     ensures distinct { OnOk result (IsDistinct bytes_eq config.now.symbols.now) }
     ensures fault { IfErr result (Explains config.now) }
 {

@@ -10,7 +10,7 @@ use crate::feed_name::FeedName;
 use crate::sums::VenueSums;
 use crate::venue_cell::VenueCell;
 use feed_types::{Genuine, Numbered};
-use fifo_lane::{Receiver, Settled, VenueItems, settle};
+use fifo_lane::{LaneRule, Receiver, Settled, VenueItems, settle};
 use line_arbiter::Arbiter;
 use std::sync::Wait;
 
@@ -25,12 +25,12 @@ pub(crate) struct VenueEnd<G> {
 }
 
 /// The items inside the lane, in order. There is room for as many as it holds.
-fn drained<G: Genuine, W: Wait>(
+pub(crate) fn drained<T: Drop, R: LaneRule<T>, W: Wait>(
     rt: &W,
-    mut inside: Settled<Numbered, VenueItems<G>>,
+    mut inside: Settled<T, R>,
     capacity: usize,
-    mut room: Vec<Numbered>,
-) -> Vec<Numbered>
+    mut room: Vec<T>,
+) -> Vec<T>
     requires room { (length room.items ≡ 0) × (capacity ≤ vec_capacity room) }
     requires inside { length inside ≤ capacity }
     ensures { result.items ≡ inside }
