@@ -5,6 +5,7 @@ use Rattle.std.specs.List.{range_with_len}
 use Rattle.std.proofs.lemmas.List.{length-map, take-append-drop}
 use Rattle.std.proofs.lemmas.List.FromFn.{length-range_with_len}
 use Rattle.feed_types.specs.declared.item.Numbered.{Numbered}
+use Rattle.feed_types.specs.declared.journal.Entry.{Entry}
 use Rattle.feed_types.specs.Sequence.{Carries, Ends}
 use Rattle.feed_types.specs.Sessions.{SessionNames, end_item}
 use Rattle.line_arbiter.specs.Packets.{Arrival, end_of}
@@ -17,6 +18,7 @@ use Rattle.fifo_lane.specs.Lane.{Keeps}
 use Rattle.feed_core.proofs.VenueHalfLaw.{items_push}
 use Rattle.live_feed.specs.Lanes.{FeedLanes}
 use Rattle.live_feed.specs.Cells.{CellState, IsKept}
+use Rattle.live_feed.specs.Hubs.{item_by, items_in}
 use Rattle.live_feed.specs.Settlements.{IsSettled}
 use Rattle.live_feed.proofs.CellMoves.{wins_are}
 
@@ -75,6 +77,28 @@ none_left (y ∷ ys) (suc n) e = none_left ys n e
 
 pub ready_all : (n : ℕ) (packets : List Arrival) (room all : List Numbered) → None ≡ slice_get (stream_of packets) n → room ++ drop n (stream_of packets) ≡ all → room ≡ all
 ready_all n packets room all e same = sym (append-nil room) ∙ ap (λ (l : List Numbered). room ++ l) (sym (none_left (stream_of packets) n e)) ∙ same
+
+pub drop_past : {X : Type 0} (xs : List X) (n : ℕ) → length xs ≤ n → drop n xs ≡ []
+drop_past [] zero h = refl
+drop_past [] (suc n) h = refl
+drop_past (y ∷ ys) zero h = absurd (omega arith)
+drop_past (y ∷ ys) (suc n) h = drop_past ys n (omega arith)
+
+-- ---- what was consumed
+
+module _ (v : ℕ) (entries : List Entry) (place : ℕ) where
+  -- one entry was looked at
+  pub items_more : (x : Entry) (room more all : List Numbered) → slice_get entries place ≡ Some x → more ≡ room ++ item_by v x → room ++ items_in (drop place entries) v ≡ all → more ++ items_in (drop (place + 1) entries) v ≡ all
+  items_more x room more all at grown same =
+      let rest = items_in (drop (place + 1) entries) v in
+      ap (λ (l : List Numbered). l ++ rest) grown
+      ∙ append_assoc room (item_by v x) rest
+      ∙ ap (λ (l : List Entry). room ++ items_in l v) (sym (next_drop entries place (place + 1) x (sym at) refl))
+      ∙ same
+
+  -- all were looked at
+  pub items_all : (room all : List Numbered) → length entries ≤ place → room ++ items_in (drop place entries) v ≡ all → room ≡ all
+  items_all room all past same = sym (append-nil room) ∙ ap (λ (l : List Entry). room ++ items_in l v) (sym (drop_past entries place past)) ∙ same
 
 -- ---- a closed lane
 

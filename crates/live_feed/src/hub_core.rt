@@ -19,6 +19,13 @@ use std::collections::VecDeque;
 use std::marker::{Model, PhantomData};
 use std::sync::Wait;
 
+/// The journal, the receiving ends of the venues' lanes and the sending ends of the subscribers'.
+type HubParts<G> = (
+    Journal,
+    Vec<Receiver<Numbered, VenueItems<G>>>,
+    Vec<Sender<Notice, RisingNotices>>,
+);
+
 /// The journal, the receiving ends of the venues' lanes, and the sending ends of the subscribers'.
 ///
 /// Whenever it is let go, each venue's items in the entries are what its receiver popped, and what
@@ -92,6 +99,22 @@ impl<G: Genuine, N: FeedName> HubCore<G, N> {
             spare_lanes: spare,
             feed: PhantomData,
         }
+    }
+
+    /// What the lock kept, once it is gone.
+    pub(crate) fn into_parts(self) -> HubParts<G>
+        ensures parts { (result.0 ≡ self.journal) × (result.1.items ≡ self.receivers)
+            × (result.2.items ≡ self.senders) }
+        ensures hub { IsHub G.carries G.ends N.lanes self }
+    {
+        let HubCore {
+            kept,
+            from_venues,
+            to_subscribers,
+            spare_lanes: _,
+            feed: _,
+        } = self;
+        (kept, from_venues, to_subscribers)
     }
 
     /// How many venues there are.

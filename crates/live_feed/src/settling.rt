@@ -1,15 +1,16 @@
 //! How a venue's lane is closed.
 
-ghost use Rattle.std.specs.Prelude.{◌≡◌, ◌≤◌, ◌+◌, List, drop, length, vec_capacity};
+ghost use Rattle.std.specs.Prelude.{◌≡◌, ◌≤◌, ◌<◌, ◌+◌, ◌++◌, List, drop, length, vec_len, vec_capacity};
 ghost use Rattle.line_arbiter.specs.Packets.{Arrival};
 ghost use Rattle.line_arbiter.specs.Streams.{stream_of};
 ghost use Rattle.line_arbiter.specs.Fits.{Fits};
+ghost use Rattle.live_feed.specs.Hubs.{item_by, items_in};
 ghost use Rattle.live_feed.specs.Settlements.{IsSettled};
 
 use crate::feed_name::FeedName;
 use crate::sums::VenueSums;
 use crate::venue_cell::VenueCell;
-use feed_types::{Genuine, Numbered};
+use feed_types::{Entry, Genuine, Item, Numbered, Quote, SymbolName, VenueId};
 use fifo_lane::{LaneRule, Receiver, Settled, VenueItems, settle};
 use line_arbiter::Arbiter;
 use std::sync::Wait;
@@ -40,6 +41,42 @@ pub(crate) fn drained<T: Drop, R: LaneRule<T>, W: Wait>(
             break;
         };
         room.push_reserved(item);
+    }
+    room
+}
+
+/// Appends the entry's item where it is the venue's. There is room for it.
+fn push_item(room: &mut Vec<Numbered>, venue: VenueId, entry: &Entry)
+    requires { vec_len room.old < vec_capacity room.old }
+    ensures items { room.new.items ≡ room.old.items ++ item_by venue entry.now }
+    ensures count { vec_len room.new ≤ vec_len room.old + 1 }
+    ensures capacity { vec_capacity room.new ≡ vec_capacity room.old }
+{
+    let _named: Option<(Item, Quote, SymbolName)> = None;
+    match entry {
+        Entry::Consumed {
+            venue: of,
+            numbered,
+        } => {
+            if *of == venue {
+                room.push_reserved(*numbered);
+            }
+        }
+        Entry::SelfHelp { .. } => {}
+    }
+}
+
+/// The venue's items in the entries, in order. There is room for all entries.
+pub(crate) fn consumed_of(
+    entries: &[Entry],
+    venue: VenueId,
+    mut room: Vec<Numbered>,
+) -> Vec<Numbered>
+    requires { (length room.items ≡ 0) × (length entries.now ≤ vec_capacity room) }
+    ensures { result.items ≡ items_in entries.now venue }
+{
+    for place in 0..entries.len() {
+        push_item(&mut room, venue, &entries[place]);
     }
     room
 }
