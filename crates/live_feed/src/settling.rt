@@ -4,7 +4,7 @@ ghost use Rattle.std.specs.Prelude.{◌≡◌, ◌≤◌, ◌<◌, ◌+◌, ◌+
 ghost use Rattle.line_arbiter.specs.Packets.{Arrival};
 ghost use Rattle.line_arbiter.specs.Streams.{stream_of};
 ghost use Rattle.line_arbiter.specs.Fits.{Fits};
-ghost use Rattle.live_feed.specs.Hubs.{item_by, items_in};
+ghost use Rattle.live_feed.specs.Hubs.{IsConsumed, item_by, items_in};
 ghost use Rattle.live_feed.specs.Settlements.{IsSettled};
 
 use crate::feed_name::FeedName;
@@ -15,12 +15,13 @@ use fifo_lane::{LaneRule, Receiver, Settled, VenueItems, settle};
 use line_arbiter::Arbiter;
 use std::sync::Wait;
 
-/// What is left of a venue once its lane is closed: what still lay in the lane, what is ready
-/// behind it, and what is counted per line.
+/// What is left of a venue once its lane is closed: what was consumed, what still lay in the lane,
+/// what is ready behind it, and what is counted per line.
 #[derive(Drop)]
 pub(crate) struct VenueEnd<G> {
     pub(crate) lines: Arbiter<G>,
     pub(crate) sums: VenueSums,
+    pub(crate) consumed: Vec<Numbered>,
     pub(crate) in_lane: Vec<Numbered>,
     pub(crate) ready: Vec<Numbered>,
 }
@@ -97,23 +98,30 @@ fn take_ready<G: Genuine>(lines: &mut Arbiter<G>, mut room: Vec<Numbered>) -> Ve
     room
 }
 
-/// Closes a venue's lane, whose two ends these are. The two lists are empty and have room: one for
-/// what the lane holds, one for what is ready.
+/// Closes a venue's lane, whose two ends these are. The three lists are empty and have room: one for
+/// all entries of the journal, one for what the lane holds, one for what is ready.
 pub(crate) fn settle_venue<G: Genuine, N: FeedName, W: Wait>(
     rt: &W,
+    entries: &[Entry],
     cell: VenueCell<G, N>,
     receiver: Receiver<Numbered, VenueItems<G>>,
+    consumed: Vec<Numbered>,
     in_lane: Vec<Numbered>,
     ready: Vec<Numbered>,
 ) -> VenueEnd<G>
-    requires lane { cell.lane.lane ≡ receiver.lane }
+    requires end { IsConsumed G.carries G.ends N.lanes entries.now cell.arbiter.venue receiver }
+    requires entries { (length consumed.items ≡ 0)
+        × (length entries.now ≤ vec_capacity consumed) }
     requires inside { (length in_lane.items ≡ 0) × (cell.lane.capacity ≤ vec_capacity in_lane) }
     requires ready { (length ready.items ≡ 0)
         × (cell.arbiter.front + 1 ≤ cell.arbiter.sent + vec_capacity ready) }
-    ensures { IsSettled G.carries G.ends cell.arbiter.venue cell.arbiter.window receiver.items
-        result.in_lane.items result.ready.items result.lines.wins result.sums }
+    ensures settled { IsSettled G.carries G.ends cell.arbiter.venue cell.arbiter.window
+        result.consumed.items result.in_lane.items result.ready.items result.lines.wins
+        result.sums }
+    ensures consumed { result.consumed.items ≡ items_in entries.now cell.arbiter.venue }
 {
     let capacity = cell.capacity();
+    let consumed = consumed_of(entries, cell.venue(), consumed);
     let (mut lines, sender, sums) = cell.into_parts();
     let inside = settle(sender, receiver);
     let in_lane = drained(rt, inside, capacity, in_lane);
@@ -121,6 +129,7 @@ pub(crate) fn settle_venue<G: Genuine, N: FeedName, W: Wait>(
     VenueEnd {
         lines,
         sums,
+        consumed,
         in_lane,
         ready,
     }
