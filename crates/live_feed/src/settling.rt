@@ -98,8 +98,8 @@ fn take_ready<G: Genuine>(lines: &mut Arbiter<G>, mut room: Vec<Numbered>) -> Ve
     room
 }
 
-/// Closes a venue's lane, whose two ends these are. The three lists are empty and have room: one for
-/// all entries of the journal, one for what the lane holds, one for what is ready.
+/// Closes a venue's lane, whose two ends these are. The three lists are empty and have room: one
+/// for all entries of the journal, one for what the lane holds, one for what is ready.
 pub(crate) fn settle_venue<G: Genuine, N: FeedName, W: Wait>(
     rt: &W,
     entries: &[Entry],
