@@ -3,6 +3,8 @@ pub mod Lanes
 pub mod Sums
 pub mod Seats
 pub mod Datagrams
+-- a feed that isn't open
+pub mod Feeds
 -- what stands behind the locks, and the sections under them
 pub mod Cells
 pub mod Sections
@@ -11,3 +13,5 @@ pub mod HubSections
 -- a subscriber
 pub mod Tapes
 pub mod Codes
+-- how a lane is closed
+pub mod Settlements

@@ -1,8 +1,9 @@
 //! The journal with the lanes that meet at it.
 
-ghost use Rattle.std.specs.Prelude.{◌≡◌, ◌<◌, ◌^◌, ◌↔◌, length, slice_get, OnErr, IsTrue};
+ghost use Rattle.std.specs.Prelude.{◌≡◌, ◌<◌, ◌^◌, ◌↔◌, [], length, slice_get, OnErr, IsTrue};
 ghost use Rattle.journal_book.specs.Journals.{Declares};
 ghost use Rattle.journal_book.specs.Places.{IsNextOf};
+ghost use Rattle.live_feed.specs.Hubs.{IsHub};
 ghost use Rattle.live_feed.specs.HubSections.{Consumes, KeepsButIntake, OffersOne, KeepsButOffers, Subscribes};
 
 use crate::feed_name::FeedName;
@@ -13,9 +14,17 @@ use feed_types::{Genuine, Notice, Numbered, SubscriberId, VenueId};
 use fifo_lane::{LaneRule, Receiver, RisingNotices, Sender, VenueItems};
 use filter_terms::{Filter, Terms};
 use journal_book::{Journal, JournalFault};
+use std::alloc::Global;
 use std::collections::VecDeque;
 use std::marker::{Model, PhantomData};
 use std::sync::Wait;
+
+/// The journal, the receiving ends of the venues' lanes and the sending ends of the subscribers'.
+type HubParts<G> = (
+    Journal,
+    Vec<Receiver<Numbered, VenueItems<G>>>,
+    Vec<Sender<Notice, RisingNotices>>,
+);
 
 /// The journal, the receiving ends of the venues' lanes, and the sending ends of the subscribers'.
 ///
@@ -62,6 +71,52 @@ fn notice_at(notices: &[Notice], place: usize) -> Option<Notice>
 }
 
 impl<G: Genuine, N: FeedName> HubCore<G, N> {
+    /// An empty journal of no subscribers, with the lanes of its venues and those that are left for
+    /// subscribers.
+    pub(crate) fn new(
+        alloc: Global,
+        journal: Journal,
+        receivers: Vec<Receiver<Numbered, VenueItems<G>>>,
+        spare: VecDeque<SpareLane>,
+    ) -> HubCore<G, N>
+        requires { IsHub G.carries G.ends N.lanes (record {
+          journal = journal;
+          receivers = receivers.items;
+          senders = [];
+          spare = spare.items;
+        }) }
+        ensures { result ≡ record {
+          journal = journal;
+          receivers = receivers.items;
+          senders = [];
+          spare = spare.items;
+        } }
+    {
+        HubCore {
+            kept: journal,
+            from_venues: receivers,
+            to_subscribers: Vec::new(alloc),
+            spare_lanes: spare,
+            feed: PhantomData,
+        }
+    }
+
+    /// What the lock kept, once it is gone.
+    pub(crate) fn into_parts(self) -> HubParts<G>
+        ensures parts { (result.0 ≡ self.journal) × (result.1.items ≡ self.receivers)
+            × (result.2.items ≡ self.senders) }
+        ensures hub { IsHub G.carries G.ends N.lanes self }
+    {
+        let HubCore {
+            kept,
+            from_venues,
+            to_subscribers,
+            spare_lanes: _,
+            feed: _,
+        } = self;
+        (kept, from_venues, to_subscribers)
+    }
+
     /// How many venues there are.
     pub(crate) fn venue_count(&self) -> usize
         ensures { result ≡ self.now.journal.venues }

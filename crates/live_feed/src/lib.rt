@@ -11,30 +11,39 @@
 //! (`specs/Sections.antt`, `specs/HubSections.antt`). Begin at `specs/Cells.antt`,
 //! `specs/Hubs.antt` and `specs/Tapes.antt`, and at `venue_cell.rt` and `hub_cell.rt` for the code.
 //!
-//! An [`OpenFeed`] puts the cells behind their locks; each of its calls takes one of them.
+//! A [`LiveFeed`] has all lanes of a feed, to which nothing came yet (`specs/Feeds.antt`). Opened
+//! as an [`OpenFeed`] it stands behind its locks; each call takes one of them. `settling.rt` closes
+//! a venue's lane: what was consumed, is in the lane and is ready are then the sessions' streams.
+//! `serving.rt` closes a subscriber's (`specs/Settlements.antt`).
 //!
-//! Not here yet: how a feed is made and opened, and its settlement.
+//! Not here yet: the settlement of a whole feed.
 #![tactic(auto)]
 
 mod advising;
 mod datagram;
 mod faults;
+mod feed;
 mod feed_name;
 mod hub_cell;
 mod hub_core;
 mod logged;
+mod making;
 mod next_wanted;
 mod open_feed;
 mod seat;
+mod serving;
+mod settling;
 mod spare;
 mod subscriber;
 mod sums;
 mod tape;
 mod unsent;
 mod venue_cell;
+mod venue_start;
 
 pub use datagram::Datagram;
 pub use faults::{FeedFault, RenewalFault, TakeFault};
+pub use feed::LiveFeed;
 pub use feed_name::FeedName;
 pub use hub_cell::HubCell;
 pub use hub_core::HubCore;

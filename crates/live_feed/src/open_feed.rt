@@ -1,9 +1,12 @@
 //! A feed behind its locks.
 
-ghost use Rattle.std.specs.Prelude.{◌≡◌, [], IfOk, IfErr};
+ghost use Rattle.std.specs.Prelude.{◌≡◌, ◌⊎◌, ℕ, List, [], Err, IsOk, IfOk, IfErr};
+ghost use Rattle.feed_types.specs.Sessions.{Session, IsSessionAt, Names};
+ghost use Rattle.line_arbiter.specs.OfSession.{IsOfSession};
+ghost use Rattle.line_arbiter.specs.declared.outcome.LineFault.TheVariants.{OtherSession};
 ghost use Rattle.line_arbiter.specs.Genuine.{IsGenuine};
 ghost use Rattle.live_feed.specs.Seats.{new_seat, seat_after};
-ghost use Rattle.live_feed.specs.Datagrams.{AreGenuineBytes, IsTakenBy, bytes_of};
+ghost use Rattle.live_feed.specs.Datagrams.{AreGenuineBytes, AcceptsTheirs, IsTakenBy, bytes_of};
 
 use crate::datagram::Datagram;
 use crate::faults::{FeedFault, RenewalFault, TakeFault};
@@ -59,11 +62,48 @@ fn take_packet<G: Genuine, N: FeedName>(
 ) -> Result<Outcome, LineFault>
     requires { IsGenuine G.sessions G.carries G.ends seat.old.venue packet.now }
     ensures seat { seat.new ≡ seat_after seat.old packet.now result }
+    ensures accepts { (all : List Session) (ordinal : ℕ) (session : Session)
+        → Names G.sessions G.carries G.ends seat.old.venue all
+        → IsSessionAt all ordinal session → IsOfSession session packet.now
+        → IsOk result ⊎ (result ≡ Err OtherSession) }
 {
     if cell.venue() != seat.venue() {
         return Err(LineFault::OtherSession);
     }
     cell.take(seat, packet)
+}
+
+/// The answer to bytes on a seat of no venue.
+fn unheld<G: Genuine, N: FeedName>(
+    seat: &LineSeat<G, N>,
+    bytes: &[u8],
+) -> Result<Outcome, TakeFault>
+    ensures taken { IsTakenBy bytes.now seat.now result seat.now }
+    ensures accepts { AcceptsTheirs G.sessions G.carries G.ends seat.now.venue bytes.now result }
+{
+    match read_packet(bytes) {
+        Ok(_) => Err(TakeFault::Line(LineFault::OtherSession)),
+        Err(fault) => Err(TakeFault::Packet(fault)),
+    }
+}
+
+/// Takes the packet that the bytes are, where the cell is of the seat's venue.
+fn take_bytes<G: Genuine, N: FeedName>(
+    cell: &mut VenueCell<G, N>,
+    seat: &mut LineSeat<G, N>,
+    bytes: &[u8],
+) -> Result<Outcome, TakeFault>
+    requires { AreGenuineBytes G.sessions G.carries G.ends seat.old.venue bytes.now }
+    ensures taken { IsTakenBy bytes.now seat.old result seat.new }
+    ensures accepts { AcceptsTheirs G.sessions G.carries G.ends seat.old.venue bytes.now result }
+{
+    match read_packet(bytes) {
+        Ok(packet) => match take_packet(cell, seat, &packet) {
+            Ok(outcome) => Ok(outcome),
+            Err(fault) => Err(TakeFault::Line(fault)),
+        },
+        Err(fault) => Err(TakeFault::Packet(fault)),
+    }
 }
 
 impl<G: Genuine, N: FeedName> OpenFeed<G, N> {
@@ -108,22 +148,18 @@ impl<G: Genuine, N: FeedName> OpenFeed<G, N> {
     ) -> Result<Outcome, TakeFault>
         requires { AreGenuineBytes G.sessions G.carries G.ends seat.old.venue
             (bytes_of datagram.now) }
-        ensures { IsTakenBy (bytes_of datagram.now) seat.old result seat.new }
+        ensures taken { IsTakenBy (bytes_of datagram.now) seat.old result seat.new }
+
+        // Where it is known which sessions the lines bring, a packet of one of them is refused only
+        // where it isn't of the present one.
+        ensures accepts { AcceptsTheirs G.sessions G.carries G.ends seat.old.venue
+            (bytes_of datagram.now) result }
     {
         let Some(lock) = self.venues.get(seat.venue().index()) else {
-            return match read_packet(datagram.bytes()) {
-                Ok(_) => Err(TakeFault::Line(LineFault::OtherSession)),
-                Err(fault) => Err(TakeFault::Packet(fault)),
-            };
+            return unheld(seat, datagram.bytes());
         };
         let mut guarded = lock.lock(rt);
-        let answer = match read_packet(datagram.bytes()) {
-            Ok(packet) => match take_packet(&mut guarded.cell, seat, &packet) {
-                Ok(outcome) => Ok(outcome),
-                Err(fault) => Err(TakeFault::Line(fault)),
-            },
-            Err(fault) => Err(TakeFault::Packet(fault)),
-        };
+        let answer = take_bytes(&mut guarded.cell, seat, datagram.bytes());
         push_ready(rt, &mut guarded.cell);
         answer
     }

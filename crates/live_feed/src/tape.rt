@@ -2,7 +2,7 @@
 
 ghost use Rattle.std.specs.Prelude.{◌≡◌, ◌<◌, [], ◌∷◌, ◌++◌, Some, slice_get, vec_len, vec_capacity};
 ghost use Rattle.filter_terms.specs.Allowed.{IsAllowed};
-ghost use Rattle.live_feed.specs.Tapes.{Polls, logged};
+ghost use Rattle.live_feed.specs.Tapes.{IsTape, Polls, logged};
 
 use crate::advising::advise;
 use crate::feed_name::FeedName;
@@ -106,6 +106,22 @@ impl<N: FeedName> Tape<N> {
             bounds: limits,
             feed: PhantomData,
         }
+    }
+
+    /// The log, and the receiving end of the lane.
+    pub(crate) fn into_parts(self) -> (Vec<Logged>, Receiver<Notice, RisingNotices>)
+        ensures parts { (result.0.items ≡ self.log) × (result.1 ≡ self.lane) }
+        ensures tape { IsTape N.lanes self }
+    {
+        let Tape {
+            owner: _,
+            notices,
+            lines,
+            most_lines: _,
+            bounds: _,
+            feed: _,
+        } = self;
+        (lines, notices)
     }
 
     /// The log, its oldest line first.

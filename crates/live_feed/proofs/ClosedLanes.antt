@@ -1,0 +1,124 @@
+-- How a venue's lane is closed, said of plain states.
+use Rattle.std.proofs.Common.{◌≡◌, ℕ, Bool, true, false, zero, suc, ◌+◌, ◌≤◌, ◌<◌, List, [], ◌∷◌, ◌++◌, length, map, take, drop, Option, Some, None, refl, sym, ap, ◌∙◌, arith, append_assoc, append-nil, length-append}
+use Rattle.std.specs.Prelude.{slice_get, ◌==◌, if◌then◌else◌}
+use Rattle.std.specs.List.{range_with_len}
+use Rattle.std.proofs.lemmas.List.{length-map, take-append-drop}
+use Rattle.std.proofs.lemmas.List.FromFn.{length-range_with_len}
+use Rattle.feed_types.specs.declared.item.Numbered.{Numbered}
+use Rattle.feed_types.specs.declared.journal.Entry.{Entry}
+use Rattle.feed_types.specs.Sequence.{Carries, Ends}
+use Rattle.feed_types.specs.Sessions.{SessionNames, end_item}
+use Rattle.line_arbiter.specs.Packets.{Arrival, end_of}
+use Rattle.line_arbiter.specs.Streams.{end_at, front_of, item_numbered, stream_of}
+use Rattle.line_arbiter.specs.States.{State}
+use Rattle.line_arbiter.specs.Fits.{Fits}
+use Rattle.line_arbiter.specs.Counts.{Counts, count_on}
+use Rattle.line_arbiter.specs.Histories.{items_of}
+use Rattle.fifo_lane.specs.Lane.{Keeps}
+use Rattle.feed_core.proofs.VenueHalfLaw.{items_push}
+use Rattle.live_feed.specs.Lanes.{FeedLanes}
+use Rattle.live_feed.specs.Cells.{CellState, IsKept}
+use Rattle.live_feed.specs.Hubs.{item_by, items_in}
+use Rattle.live_feed.specs.Settlements.{IsSettled}
+use Rattle.live_feed.proofs.CellMoves.{wins_are}
+
+-- ---- what is ready
+
+end_short : (o : Option ℕ) (m : ℕ) → length (end_at o m) ≤ 1
+end_short None m = omega arith
+end_short (Some e) m = by_test (e == m)
+  where
+    by_test : (b : Bool) → length (if b then end_item m ∷ [] else []) ≤ 1
+    by_test true = omega arith
+    by_test false = omega arith
+
+-- the items in sequence are at most those up to the front, and End
+stream_length : (packets : List Arrival) → length (stream_of packets) ≤ front_of packets + 1
+stream_length packets =
+    let n = front_of packets in
+    let both = length-append (map (item_numbered packets) (range_with_len 1 n)) (end_at (end_of packets) (n + 1)) in
+    let first = length-map (range_with_len 1 n) (item_numbered packets) ∙ length-range_with_len 1 n in
+    let last = end_short (end_of packets) (n + 1) in
+    omega arith
+
+within : {X : Type 0} (xs : List X) (n : ℕ) (x : X) → Some x ≡ slice_get xs n → n < length xs
+within [] n x e = absurd cc
+within (y ∷ ys) zero x e = omega arith
+within (y ∷ ys) (suc n) x e = let h = within ys n x e in omega arith
+
+-- where one more is ready, fewer were taken than there is room for
+pub fewer : (s : State) (packets : List Arrival) (n : ℕ) (x : Numbered) → Fits s packets → Some x ≡ slice_get (stream_of packets) n → n < s.front + 1
+fewer s packets n x f e =
+    let inside = within (stream_of packets) n x e in
+    let most = stream_length packets in
+    let front = f.front in
+    omega arith
+
+pub next_drop : {X : Type 0} (xs : List X) (old new : ℕ) (x : X) → Some x ≡ slice_get xs old → new ≡ old + 1 → drop old xs ≡ x ∷ drop new xs
+next_drop [] old new x e is = absurd cc
+next_drop (y ∷ ys) zero zero x e is = absurd (omega arith)
+next_drop (y ∷ ys) zero (suc m) x e is = let none : m ≡ 0 = omega arith in ap (λ (k : ℕ). y ∷ drop k ys) (sym none) ∙ (let same : y ≡ x = cc in ap (λ (z : _). z ∷ drop m ys) same)
+next_drop (y ∷ ys) (suc n) zero x e is = absurd (omega arith)
+next_drop (y ∷ ys) (suc n) (suc m) x e is = next_drop ys n m x e (omega arith)
+
+pub ready_more : (old new : ℕ) (packets : List Arrival) (room more all : List Numbered) (x : Numbered) → Some x ≡ slice_get (stream_of packets) old → new ≡ old + 1 → more ≡ room ++ x ∷ []
+    → room ++ drop old (stream_of packets) ≡ all → more ++ drop new (stream_of packets) ≡ all
+ready_more old new packets room more all x e is grown same =
+    ap (λ (l : List Numbered). l ++ drop new (stream_of packets)) grown
+    ∙ append_assoc room (x ∷ []) (drop new (stream_of packets))
+    ∙ ap (λ (l : List Numbered). room ++ l) (sym (next_drop (stream_of packets) old new x e is))
+    ∙ same
+
+none_left : (xs : List Numbered) (n : ℕ) → None ≡ slice_get xs n → drop n xs ≡ []
+none_left [] zero e = refl
+none_left [] (suc n) e = refl
+none_left (y ∷ ys) zero e = absurd cc
+none_left (y ∷ ys) (suc n) e = none_left ys n e
+
+pub ready_all : (n : ℕ) (packets : List Arrival) (room all : List Numbered) → None ≡ slice_get (stream_of packets) n → room ++ drop n (stream_of packets) ≡ all → room ≡ all
+ready_all n packets room all e same = sym (append-nil room) ∙ ap (λ (l : List Numbered). room ++ l) (sym (none_left (stream_of packets) n e)) ∙ same
+
+pub drop_past : {X : Type 0} (xs : List X) (n : ℕ) → length xs ≤ n → drop n xs ≡ []
+drop_past [] zero h = refl
+drop_past [] (suc n) h = refl
+drop_past (y ∷ ys) zero h = absurd (omega arith)
+drop_past (y ∷ ys) (suc n) h = drop_past ys n (omega arith)
+
+-- ---- what was consumed
+
+module _ (v : ℕ) (entries : List Entry) (place : ℕ) where
+  -- one entry was looked at
+  pub items_more : (x : Entry) (room more all : List Numbered) → slice_get entries place ≡ Some x → more ≡ room ++ item_by v x → room ++ items_in (drop place entries) v ≡ all → more ++ items_in (drop (place + 1) entries) v ≡ all
+  items_more x room more all at grown same =
+      let rest = items_in (drop (place + 1) entries) v in
+      ap (λ (l : List Numbered). l ++ rest) grown
+      ∙ append_assoc room (item_by v x) rest
+      ∙ ap (λ (l : List Entry). room ++ items_in l v) (sym (next_drop entries place (place + 1) x (sym at) refl))
+      ∙ same
+
+  -- all were looked at
+  pub items_all : (room all : List Numbered) → length entries ≤ place → room ++ items_in (drop place entries) v ≡ all → room ≡ all
+  items_all room all past same = sym (append-nil room) ∙ ap (λ (l : List Entry). room ++ items_in l v) (sym (drop_past entries place past)) ∙ same
+
+-- ---- a closed lane
+
+pub settled : (sessions : SessionNames) (carries : Carries) (ends : Ends) (lanes : FeedLanes) (may_send : ℕ → List Numbered → Type 0) (c : CellState) (k : IsKept sessions carries ends lanes c) (received inside ready : List Numbered) (won : Counts)
+    → Keeps may_send c.lane.tag c.lane.capacity c.lane.items received inside → ready ≡ drop c.arbiter.sent (stream_of k.history.present.packets) → won ≡ c.arbiter.wins
+    → IsSettled carries ends c.arbiter.venue c.arbiter.window received inside ready won c.accepted
+settled sessions carries ends lanes may_send c k received inside ready won keeps rest same =
+    let h = k.history in
+    let f = k.fits in
+    let stream = stream_of h.present.packets in
+    record {
+      history = h;
+      given = k.given;
+      whole =
+          sym (append_assoc received inside ready)
+          ∙ ap (λ (l : List Numbered). l ++ ready) (sym keeps.whole ∙ f.sent)
+          ∙ ap (λ (l : List Numbered). (items_of h.earlier ++ take c.arbiter.sent stream) ++ l) rest
+          ∙ append_assoc (items_of h.earlier) (take c.arbiter.sent stream) (drop c.arbiter.sent stream)
+          ∙ ap (λ (l : List Numbered). items_of h.earlier ++ l) (take-append-drop c.arbiter.sent stream)
+          ∙ sym (items_push h.earlier h.present);
+      wins = λ l. ap (count_on l) same ∙ wins_are c h f l;
+      accepted = λ l. f.accepted l;
+    }

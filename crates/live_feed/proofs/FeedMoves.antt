@@ -1,0 +1,86 @@
+-- How a feed is made and opened, said of plain states.
+use Rattle.std.proofs.Common.{◌≡◌, ℕ, zero, suc, ◌+◌, List, [], ◌∷◌, ◌++◌, length, map, Some, refl, sym, ap, subst, ◌∙◌, arith, length-append, get_or, All, inl, inr}
+use Rattle.std.specs.Prelude.{slice_get}
+use Rattle.std.proofs.lemmas.Option.{slice_get-get_or}
+use Rattle.feed_types.specs.declared.item.Numbered.{Numbered}
+use Rattle.feed_types.specs.declared.journal.Entry.{Entry}
+use Rattle.feed_types.specs.Sequence.{Carries, Ends, IsInSequence}
+use Rattle.journal_book.specs.Journals.{JournalState}
+use Rattle.fifo_lane.specs.Lane.{LaneEnd}
+use Rattle.feed_core.proofs.Lists.{get_push}
+use Rattle.live_feed.specs.declared.spare.SpareLane.{SpareLane}
+use Rattle.live_feed.specs.Lanes.{FeedLanes}
+use Rattle.live_feed.specs.Feeds.{StartState, AreStarts, IsUnused, AreUnused, lanes_of, IsClosed, HasItsLane}
+use Rattle.live_feed.specs.Hubs.{IsHub, items_in}
+
+get_last : {X : Type 0} (xs : List X) (x : X) → slice_get (xs ++ x ∷ []) (length xs) ≡ Some x
+get_last [] x = refl
+get_last (y ∷ ys) x = get_last ys x
+
+get_more : {X : Type 0} (xs ys : List X) (k : ℕ) (x : X) → slice_get xs k ≡ Some x → slice_get (xs ++ ys) k ≡ Some x
+get_more [] ys k x e = absurd cc
+get_more (z ∷ xs) ys zero x e = e
+get_more (z ∷ xs) ys (suc k) x e = get_more xs ys k x e
+
+get_map : {X Y : Type 0} (f : X → Y) (xs : List X) (k : ℕ) (x : X) → slice_get xs k ≡ Some x → slice_get (map f xs) k ≡ Some (f x)
+get_map f [] k x e = absurd cc
+get_map f (z ∷ xs) zero x e = let same : z ≡ x = cc in ap (λ (y : _). Some (f y)) same
+get_map f (z ∷ xs) (suc k) x e = get_map f xs k x e
+
+-- one lane more
+pub unused_more : (xs : List SpareLane) (x : SpareLane) → AreUnused xs → IsUnused (length xs) x → AreUnused (xs ++ x ∷ [])
+unused_more xs x all new = λ id y at. elim (get_push xs id x y at) [
+  | inl here ↦ subst (λ (p : ℕ × SpareLane). IsUnused p.0 p.1) (λ i. (sym here.0 i, sym here.1 i)) new
+  | inr there ↦ all id y there.1
+]
+
+-- one venue more
+pub starts_more : (starts : List StartState) (receivers : List (LaneEnd Numbered)) (s : StartState) (e : LaneEnd Numbered) → AreStarts starts receivers → e ≡ s.lane → e.tag ≡ length receivers → e.items ≡ []
+    → AreStarts (starts ++ s ∷ []) (receivers ++ e ∷ [])
+starts_more starts receivers s e h same tag empty = record {
+  count = length-append starts (s ∷ []) ∙ ap (λ (n : ℕ). n + 1) h.count ∙ sym (length-append receivers (e ∷ []));
+  same = λ k y at. elim (get_push starts k s y at) [
+    | inl here ↦ ap (slice_get (receivers ++ e ∷ [])) (here.0 ∙ h.count) ∙ get_last receivers e ∙ ap Some (same ∙ sym (ap (λ (x : StartState). x.lane) here.1))
+    | inr there ↦ get_more receivers (e ∷ []) k y.lane (h.same k y there.1)
+  ];
+  new = λ k y at. elim (get_push receivers k e y at) [
+    | inl here ↦ subst (λ (p : ℕ × LaneEnd Numbered). (p.1.tag ≡ p.0) × (p.1.items ≡ [])) (λ i. (sym here.0 i, sym here.1 i)) (tag, empty)
+    | inr there ↦ h.new k y there.1
+  ];
+}
+
+module _ (starts : List StartState) (receivers : List (LaneEnd Numbered)) (journal : JournalState) (spare : List SpareLane) (lanes : FeedLanes) (h : IsClosed starts receivers journal spare) (e : lanes_of receivers spare ≡ lanes) where
+  lane_at : (k : ℕ) (r : LaneEnd Numbered) → slice_get receivers k ≡ Some r → slice_get lanes.venues k ≡ Some r.lane
+  lane_at k r at = ap (λ (l : FeedLanes). slice_get l.venues k) (sym e) ∙ get_map (λ (x : LaneEnd Numbered). x.lane) receivers k r at
+
+  no_cursors : length journal.cursors ≡ 0
+  no_cursors = ap length h.cursors
+
+  -- an empty journal with these lanes
+  pub fresh : (carries : Carries) (ends : Ends) → IsHub carries ends lanes (record { journal = journal; receivers = receivers; senders = []; spare = spare })
+  fresh carries ends = record {
+    venues = h.venues;
+    subscribers = sym (ap length h.cursors);
+    consumed = λ v r at.
+        let none : items_in journal.entries v ≡ [] = ap (λ (es : List Entry). items_in es v) h.entries in
+        let new = h.begun.new v r at in
+        record { tag = new.0; lane = lane_at v r at; items = new.1 ∙ sym none; sequence = subst (λ (l : List Numbered). IsInSequence carries ends v l) (sym none) tt };
+    offered = λ id x at. absurd cc;
+    many = (let none = no_cursors in let all = h.many in omega arith);
+    spare = λ k x at.
+        let u = h.unused k x at in
+        let none : k ≡ length journal.cursors + k = (let count = no_cursors in omega arith) in
+        record {
+          tag = u.tag ∙ none;
+          lane = ap (slice_get lanes.subscribers) (sym none) ∙ ap (λ (l : FeedLanes). slice_get l.subscribers k) (sym e) ∙ get_map (λ (s : SpareLane). s.sender.lane) spare k x at;
+          items = u.items;
+          same = u.same;
+        };
+  }
+
+  -- each venue has its lane
+  pub have_lanes : All (HasItsLane lanes) starts
+  have_lanes k d lt =
+      let s = get_or starts k d in
+      let there = h.begun.same k s (slice_get-get_or starts k d lt) in
+      ap (slice_get lanes.venues) (h.begun.new k s.lane there).0 ∙ lane_at k s.lane there

@@ -1,0 +1,130 @@
+//! A feed that isn't open yet.
+
+ghost use Rattle.std.specs.Prelude.{◌≡◌, ◌≤◌, All, length, vec_len, vec_capacity, IfOk, IfErr, OnOk};
+ghost use Rattle.feed_core.specs.Configs.{IsGood, Explains};
+ghost use Rattle.live_feed.specs.Feeds.{AreNamed, HasItsLane};
+
+use crate::feed_name::FeedName;
+use crate::hub_cell::HubCell;
+use crate::hub_core::HubCore;
+use crate::making::{fault_of, new_journal, new_spares, new_starts};
+use crate::open_feed::{Guarded, OpenFeed};
+use crate::spare::SpareLane;
+use crate::venue_cell::VenueCell;
+use crate::venue_start::VenueStart;
+use feed_core::CoreFault;
+use feed_types::{FeedConfig, Genuine, Numbered};
+use fifo_lane::{Receiver, VenueItems};
+use journal_book::Journal;
+use std::alloc::Global;
+use std::collections::VecDeque;
+use std::marker::Model;
+use std::sync::Mutex;
+
+/// A feed that isn't open yet, to which nothing came. Contracts see it as its lanes.
+#[derive(Drop)]
+pub struct LiveFeed<G: Genuine> {
+    starts: Vec<VenueStart<G>>,
+    from_venues: Vec<Receiver<Numbered, VenueItems<G>>>,
+    kept: Journal,
+    spare_lanes: VecDeque<SpareLane>,
+    log_lines: u32,
+}
+
+impl<G: Genuine> Model for LiveFeed<G> {
+    ghost use Rattle.live_feed.specs.Lanes.{FeedLanes};
+    ghost use Rattle.live_feed.specs.Feeds.{IsClosed, lanes_of, feed_lanes_code};
+
+    ghost Value = { FeedLanes };
+
+    ghost coded = { feed_lanes_code };
+
+    ghost view = { λ f. lanes_of f.from_venues.items f.spare_lanes.items };
+
+    ghost invariant = { λ f. IsClosed f.starts.items f.from_venues.items f.kept
+        f.spare_lanes.items };
+}
+
+/// Puts each venue behind a lock of its own. There is room for all.
+fn locked<G: Genuine, N: FeedName>(
+    starts: Vec<VenueStart<G>>,
+    mut venues: Vec<Mutex<Guarded<G, N>>>,
+) -> Vec<Mutex<Guarded<G, N>>>
+    requires lanes { All (HasItsLane N.lanes) starts.items }
+    requires room { (length venues.items ≡ 0) × (vec_len starts ≤ vec_capacity venues) }
+    ensures { length result.items ≡ length starts.items }
+{
+    for start in starts {
+        let (arbiter, lane) = start.into_parts();
+        let cell = VenueCell::new(arbiter, lane);
+        venues.push_reserved(Mutex::new(Guarded {
+            cell,
+            a: false,
+            b: false,
+            recovery: false,
+        }));
+    }
+    venues
+}
+
+impl<G: Genuine> LiveFeed<G> {
+    /// A feed of this configuration, with the lanes of its venues and of 32 subscribers. The lines
+    /// may use its names for the venues' first sessions.
+    ///
+    /// BadConfig carries the first fault that fits, in the order of [`feed_core::ConfigFault`];
+    /// NoMemory comes where memory was refused.
+    pub fn new(alloc: Global, config: &FeedConfig<'_>) -> Result<LiveFeed<G>, CoreFault>
+        requires { AreNamed G.sessions config.now.sessions.now }
+        ensures venues { IfOk result (λ feed. length feed.venues
+            ≡ length config.now.sessions.now) }
+        ensures subscribers { IfOk result (λ feed. length feed.subscribers ≡ 32) }
+        ensures good { OnOk result (IsGood config.now) }
+        ensures fault { IfErr result (Explains config.now) }
+    {
+        if let Some(fault) = fault_of(config) {
+            return Err(CoreFault::BadConfig(fault));
+        }
+        let kept = new_journal(alloc, config)?;
+        let Ok((starts, from_venues)) = new_starts(alloc, config) else {
+            return Err(CoreFault::NoMemory);
+        };
+        let Ok(spare_lanes) = new_spares(alloc, config.lane) else {
+            return Err(CoreFault::NoMemory);
+        };
+        Ok(LiveFeed {
+            starts,
+            from_venues,
+            kept,
+            spare_lanes,
+            log_lines: config.log,
+        })
+    }
+
+    /// Puts the venues and the journal behind their locks. N names this feed's lanes. Where memory
+    /// was refused, the feed comes back as it was.
+    pub fn open<N: FeedName>(self, alloc: Global) -> Result<OpenFeed<G, N>, LiveFeed<G>>
+        requires { self ≡ N.lanes }
+        ensures { IfErr result (λ feed. feed ≡ self) }
+    {
+        let mut venues = Vec::new(alloc);
+        if venues.reserve(self.starts.len()).is_err() {
+            return Err(self);
+        }
+        let LiveFeed {
+            starts,
+            from_venues,
+            kept,
+            spare_lanes,
+            log_lines,
+        } = self;
+        let core = HubCore::new(alloc, kept, from_venues, spare_lanes);
+        let filters = Vec::new(alloc);
+        let hub = Mutex::new(HubCell { core, filters });
+        let venues = locked(starts, venues);
+        Ok(OpenFeed {
+            venues,
+            hub,
+            log_lines,
+        })
+    }
+}
