@@ -1,4 +1,5 @@
--- What a replay keeps of each venue, and that it follows the histories. Private clauses alone cite this file.
+-- What a replay keeps of each venue, and that it follows the histories. Private clauses alone cite
+-- this file.
 use Rattle.std.specs.Prelude.{◌≡◌, ◌⊎◌, ℕ, Bool, List, [], ◌∷◌, ◌++◌, ◌+◌, length, sum_by, Some, Result, Ok, Err, OnOk, slice_get, take}
 use Rattle.feed_types.specs.declared.line.LineId.{LineId}
 use Rattle.mold_packet.specs.Content.{Content}
@@ -24,7 +25,8 @@ use Rattle.feed_text.specs.Told.{sent_of, items_told, after_answer, TellsAt, Tel
 use Rattle.feed_text.specs.Texts.{last_lines}
 use Rattle.feed_text.specs.Tales.{Tale, TellsBy}
 
--- a venue's arbiter, and how many items of the sessions that are over were sent, as far as a u64 shows it
+-- a venue's arbiter, and how many items of the sessions that are over were sent, as far as a u64
+-- shows it
 pub record Venue : Type 0 where
   pub arbiter : State
   pub sent_before : ℕ
@@ -55,7 +57,8 @@ pub record TellsOutcome (width place : ℕ) (line : LineId) (packet : Content) (
   pub follows : OnOk done (Follows width place v (after_arrival h (arrival_of line packet answer)))
 
 -- A renewal was answered, and the venue follows the history after it.
-pub record Renews (width place : ℕ) (name : List ℕ) (h : History) (v : Venue) (answer : Result ℕ RenewFault) : Type 0 where
+pub record Renews (width place : ℕ) (name : List ℕ) (h : History) (v : Venue)
+    (answer : Result ℕ RenewFault) : Type 0 where
   pub is : IsRenewal (names_of h) (end_of h.present.packets) (sent_of h) name answer
   pub follows : Follows width place v (after_answer h name answer)
 

@@ -11,7 +11,8 @@ use Rattle.live_feed.specs.declared.logged.PollFault.{PollFault}
 use Rattle.live_feed.specs.declared.logged.PollFault.TheVariants.{NoMemory, LogFull}
 use Rattle.live_feed.specs.Lanes.{FeedLanes}
 
--- the subscriber's id, the receiving end of its lane, its log, how many lines that holds, and the limits of its strategy
+-- the subscriber's id, the receiving end of its lane, its log, how many lines that holds, and the
+-- limits of its strategy
 pub record TapeState : Type 0 where
   pub id : ℕ
   pub lane : LaneEnd Notice
