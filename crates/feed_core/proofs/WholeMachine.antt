@@ -12,11 +12,12 @@ use Rattle.feed_types.specs.declared.config.FeedConfig.{FeedConfig}
 use Rattle.filter_terms.specs.declared.terms.Terms.{Terms}
 use Rattle.journal_book.specs.Changes.{changes_of}
 use Rattle.journal_book.specs.Journals.{JournalState}
+use Rattle.feed_core.specs.Configs.{journal_of}
 use Rattle.feed_core.specs.declared.event.Event.{Event}
 use Rattle.feed_core.specs.declared.event.Done.{Done}
 use Rattle.feed_core.specs.Worlds.{Lane, inside, Venue, Subscriber, World, Setting, setting_of, new_venue, new_world}
 use Rattle.feed_core.specs.Headline.{ShownVenue, shown_venue, shown_subscriber, IsRunOf}
-use Rattle.feed_core.specs.Fitting.{VenueView, FitsVenue, ShowsVenue, SubscriberView, MachineView, FitVenues, FitSubscribers, FitsWorld, Reached, venue_shown, subscriber_shown, shown_by, ShownTo, ShowVenues, IsEmptyOf}
+use Rattle.feed_core.specs.Fitting.{VenueView, FitsVenue, ShowsVenue, SubscriberView, MachineView, FitVenues, FitSubscribers, FitsWorld, Reached, venue_shown, subscriber_shown, shown_by, ShownTo, ShowVenues}
 use Rattle.feed_core.proofs.Lists.{get_set, get_push}
 
 -- ---- as it is made
@@ -46,14 +47,14 @@ fit_next window cs sessions i c f h now =
     length-take_le : (n : ℕ) (xs : List (List ℕ)) → n < length xs → length (take n xs) ≡ n
     length-take_le n xs h = grind (arith, common_steps)
 
-pub new_fits : (config : FeedConfig) (filters : List Terms) (cs : List VenueView) (journal : JournalState) → FitVenues config.window cs (map new_venue config.sessions.now) → IsEmptyOf config journal
+pub new_fits : (config : FeedConfig) (filters : List Terms) (cs : List VenueView) (journal : JournalState) → FitVenues config.window cs (map new_venue config.sessions.now) → journal ≡ journal_of config
     → FitsWorld (setting_of config filters) (record { venues = cs; journal = journal; subscribers = []; capacity = config.lane; used = 0 }) (new_world (setting_of config filters))
 new_fits config filters cs journal f empty = record {
   venues = f;
-  entries = empty.entries;
-  symbols = empty.symbols;
-  journal = empty.journal_is;
-  counted = empty.venues ∙ sym (length-map config.sessions.now new_venue);
+  entries = ap (λ (j : JournalState). j.entries) empty;
+  symbols = ap (λ (j : JournalState). j.symbols) empty;
+  journal = ap (λ (j : JournalState). j.journal) empty;
+  counted = ap (λ (j : JournalState). j.venues) empty ∙ sym (length-map config.sessions.now new_venue);
   placed = length-map config.sessions.now new_venue;
   capacity = refl;
   subscribers = record { count = refl; each = λ i c x a b. absurd cc; terms = λ i x a. absurd cc };

@@ -5,6 +5,7 @@ use Rattle.std.specs.Prelude.{ℕ, ◌≤◌, length}
 use Rattle.std.specs.List.{IsDistinct}
 use Rattle.std.specs.Str.{bytes_eq}
 use Rattle.feed_types.specs.declared.config.FeedConfig.{FeedConfig}
+use Rattle.journal_book.specs.Journals.{JournalState, new_journal}
 use Rattle.feed_core.specs.declared.config.ConfigFault.{ConfigFault}
 use Rattle.feed_core.specs.declared.config.ConfigFault.TheVariants.{BadVenueCount, BadWindow, BadCapacity, TooManySymbols, DuplicateSymbol}
 use Rattle.feed_core.specs.declared.config.CoreFault.{CoreFault}
@@ -37,6 +38,11 @@ IsBad config BadCapacity = HasVenues config × HasWindow config × (¬ HasLanes 
 IsBad config TooManySymbols =
     HasVenues config × HasWindow config × HasLanes config × (4097 ≤ length config.symbols.now)
 IsBad config DuplicateSymbol = IsSized config × (¬ IsDistinct bytes_eq config.symbols.now)
+
+-- the journal of a configuration, before an entry
+abbrev pub journal_of : FeedConfig → JournalState
+journal_of config =
+    new_journal config.symbols.now (length config.sessions.now) config.journal
 
 -- why there is no world
 abbrev pub Explains : FeedConfig → CoreFault → Type 0

@@ -203,10 +203,3 @@ shown_by outcomes venues journal subscribers = record {
   changes = changes_of journal.symbols journal.entries;
   subscribers = map subscriber_shown subscribers;
 }
-
--- a journal of this configuration, without an entry
-pub record IsEmptyOf (config : FeedConfig) (journal : JournalState) : Type 0 where
-  pub symbols : journal.symbols ≡ config.symbols.now
-  pub venues : journal.venues ≡ length config.sessions.now
-  pub journal_is : journal.journal ≡ config.journal
-  pub entries : journal.entries ≡ []

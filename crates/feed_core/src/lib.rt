@@ -11,6 +11,7 @@
 #![tactic(auto)]
 
 mod config;
+mod configured;
 mod event;
 mod journaling;
 mod lane;
@@ -22,6 +23,7 @@ mod venue;
 mod world;
 
 pub use config::{ConfigFault, CoreFault};
+pub use configured::new_journal;
 pub use event::{Done, Event};
 pub use laws::{every_list_of_events_has_a_run, headline, one_run, subscriber_half, venue_half};
 pub use running::run;

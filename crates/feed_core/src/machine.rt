@@ -4,7 +4,8 @@ ghost use Rattle.std.specs.Prelude.{◌≡◌, ℕ, ◌<◌, ◌≤◌, List, le
 ghost use Rattle.filter_terms.specs.declared.terms.Terms.{Terms};
 ghost use Rattle.feed_core.specs.declared.event.Event.{Event};
 ghost use Rattle.feed_core.specs.Worlds.{Venue, World as WorldView, Setting, new_venue, new_world, setting_of};
-ghost use Rattle.feed_core.specs.Fitting.{all_terms, FitVenues, ShowVenues, IsEmptyOf, FitsWorld, Stepped, Reached};
+ghost use Rattle.feed_core.specs.Configs.{journal_of};
+ghost use Rattle.feed_core.specs.Fitting.{all_terms, FitVenues, ShowVenues, FitsWorld, Stepped, Reached};
 ghost use Rattle.feed_core.specs.Headline.{IsRunOf};
 
 use crate::event::{Done, Event};
@@ -101,7 +102,7 @@ impl Machine {
     ) -> Result<Machine, AllocError>
         requires few { length config.now.sessions.now ≤ 16 }
         requires counted { journal.venues ≡ length config.now.sessions.now }
-        ensures fits { IfOk result (λ m. IsEmptyOf config.now journal → (filters : List Terms)
+        ensures fits { IfOk result (λ m. journal ≡ journal_of config.now → (filters : List Terms)
             → FitsWorld (setting_of config.now filters) m
             (new_world (setting_of config.now filters))) }
         ensures used { IfOk result (λ m. m.used ≡ 0) }

@@ -1,55 +1,20 @@
 //! The run over a list of events.
 
-ghost use Rattle.std.specs.Prelude.{◌≡◌, ◌≤◌, ◌<◌, length, IfOk, IfErr, MatchOption, OnOk};
-ghost use Rattle.std.specs.List.{IsDistinct};
-ghost use Rattle.std.specs.Str.{bytes_eq};
+ghost use Rattle.std.specs.Prelude.{◌≡◌, ◌≤◌, length, IfOk, IfErr, OnOk};
 ghost use Rattle.feed_core.specs.Worlds.{setting_of};
 ghost use Rattle.feed_core.specs.Headline.{IsRunOf, ShowsHeadline};
-ghost use Rattle.feed_core.specs.Configs.{HasVenues, HasWindow, HasLanes, IsSized, IsGood, IsBad, Explains};
-ghost use Rattle.feed_core.specs.Fitting.{all_terms, IsEmptyOf};
+ghost use Rattle.feed_core.specs.Configs.{IsGood, Explains, journal_of};
+ghost use Rattle.feed_core.specs.Fitting.{all_terms};
 
-use crate::config::{ConfigFault, CoreFault};
+use crate::config::CoreFault;
+use crate::configured::new_journal;
 use crate::event::Event;
 use crate::machine::Machine;
 use crate::world::World;
 use feed_types::FeedConfig;
 use filter_terms::Filter;
 use journal_book::Journal;
-use nbbo_book::BookFault;
 use std::alloc::{AllocError, Global};
-
-/// The first fault of the configuration's sizes.
-fn fault_of(config: &FeedConfig<'_>) -> Option<ConfigFault>
-    ensures { MatchOption result (IsSized config.now) (IsBad config.now) }
-{
-    if config.sessions.is_empty() || config.sessions.len() > 16 {
-        return Some(ConfigFault::BadVenueCount);
-    }
-    if config.window < 1 || config.window > 65_535 {
-        return Some(ConfigFault::BadWindow);
-    }
-    if config.lane < 1 || config.lane > 65_536 {
-        return Some(ConfigFault::BadCapacity);
-    }
-    if config.symbols.len() > 4_096 {
-        return Some(ConfigFault::TooManySymbols);
-    }
-    None
-}
-
-/// An empty journal of the configuration, whose sizes are good.
-fn new_journal(alloc: Global, config: &FeedConfig<'_>) -> Result<Journal, CoreFault>
-    requires { IsSized config.now }
-    ensures empty { IfOk result (IsEmptyOf config.now) }
-    ensures distinct { OnOk result (IsDistinct bytes_eq config.now.symbols.now) }
-    ensures fault { IfErr result (Explains config.now) }
-{
-    match Journal::new(alloc, config.symbols, config.sessions.len(), config.journal) {
-        Ok(journal) => Ok(journal),
-        Err(BookFault::DuplicateSymbol) => Err(CoreFault::BadConfig(ConfigFault::DuplicateSymbol)),
-        Err(_) => Err(CoreFault::NoMemory),
-    }
-}
 
 fn run_over(
     alloc: Global,
@@ -60,7 +25,7 @@ fn run_over(
 ) -> Result<World, AllocError>
     requires few { length config.now.sessions.now ≤ 16 }
     requires counted { journal.venues ≡ length config.now.sessions.now }
-    ensures { IfOk result (λ shown. IsEmptyOf config.now journal
+    ensures { IfOk result (λ shown. journal ≡ journal_of config.now
         → IsRunOf (setting_of config.now (all_terms filters.now)) events.now shown) }
 {
     let mut machine = Machine::new(alloc, config, journal)?;
@@ -89,9 +54,6 @@ pub fn run(
     ensures good { OnOk result (IsGood config.now) }
     ensures fault { IfErr result (Explains config.now) }
 {
-    if let Some(fault) = fault_of(config) {
-        return Err(CoreFault::BadConfig(fault));
-    }
     let journal = new_journal(alloc, config)?;
     match run_over(alloc, config, journal, events, filters.as_slice()) {
         Ok(world) => Ok(world),

@@ -7,12 +7,12 @@ ghost use Rattle.live_feed.specs.Feeds.{AreNamed, HasItsLane};
 use crate::feed_name::FeedName;
 use crate::hub_cell::HubCell;
 use crate::hub_core::HubCore;
-use crate::making::{fault_of, new_journal, new_spares, new_starts};
+use crate::making::{new_spares, new_starts};
 use crate::open_feed::{Guarded, OpenFeed};
 use crate::spare::SpareLane;
 use crate::venue_cell::VenueCell;
 use crate::venue_start::VenueStart;
-use feed_core::CoreFault;
+use feed_core::{CoreFault, new_journal};
 use feed_types::{FeedConfig, Genuine, Numbered};
 use fifo_lane::{Receiver, VenueItems};
 use journal_book::Journal;
@@ -81,9 +81,6 @@ impl<G: Genuine> LiveFeed<G> {
         ensures good { OnOk result (IsGood config.now) }
         ensures fault { IfErr result (Explains config.now) }
     {
-        if let Some(fault) = fault_of(config) {
-            return Err(CoreFault::BadConfig(fault));
-        }
         let kept = new_journal(alloc, config)?;
         let Ok((starts, from_venues)) = new_starts(alloc, config) else {
             return Err(CoreFault::NoMemory);

@@ -1,56 +1,15 @@
 //! The parts of a new feed.
 
-ghost use Rattle.std.specs.Prelude.{◌≡◌, ◌≤◌, ◌<◌, [], length, IfOk, IfErr, MatchOption, OnOk};
-ghost use Rattle.std.specs.List.{IsDistinct};
-ghost use Rattle.std.specs.Str.{bytes_eq};
-ghost use Rattle.journal_book.specs.Journals.{new_journal as empty_journal};
-ghost use Rattle.feed_core.specs.Configs.{HasVenues, HasWindow, HasLanes, IsSized, IsBad, Explains};
+ghost use Rattle.std.specs.Prelude.{◌≡◌, ◌≤◌, ◌<◌, [], length, IfOk};
 ghost use Rattle.live_feed.specs.Feeds.{AreNamed, AreStarts, AreUnused};
 
 use crate::spare::SpareLane;
 use crate::venue_start::VenueStart;
-use feed_core::{ConfigFault, CoreFault};
 use feed_types::{FeedConfig, Genuine, Numbered, VenueId};
 use fifo_lane::{Receiver, VenueItems, lane};
-use journal_book::Journal;
 use line_arbiter::Arbiter;
-use nbbo_book::BookFault;
 use std::alloc::{AllocError, Global};
 use std::collections::VecDeque;
-
-/// The first fault of the configuration's sizes.
-pub(crate) fn fault_of(config: &FeedConfig<'_>) -> Option<ConfigFault>
-    ensures { MatchOption result (IsSized config.now) (IsBad config.now) }
-{
-    if config.sessions.is_empty() || config.sessions.len() > 16 {
-        return Some(ConfigFault::BadVenueCount);
-    }
-    if config.window < 1 || config.window > 65_535 {
-        return Some(ConfigFault::BadWindow);
-    }
-    if config.lane < 1 || config.lane > 65_536 {
-        return Some(ConfigFault::BadCapacity);
-    }
-    if config.symbols.len() > 4_096 {
-        return Some(ConfigFault::TooManySymbols);
-    }
-    None
-}
-
-/// An empty journal of the configuration, whose sizes are good.
-pub(crate) fn new_journal(alloc: Global, config: &FeedConfig<'_>) -> Result<Journal, CoreFault>
-    requires { IsSized config.now }
-    ensures empty { IfOk result (λ journal. journal ≡ empty_journal config.now.symbols.now
-        (length config.now.sessions.now) config.now.journal) }
-    ensures distinct { OnOk result (IsDistinct bytes_eq config.now.symbols.now) }
-    ensures fault { IfErr result (Explains config.now) }
-{
-    match Journal::new(alloc, config.symbols, config.sessions.len(), config.journal) {
-        Ok(journal) => Ok(journal),
-        Err(BookFault::DuplicateSymbol) => Err(CoreFault::BadConfig(ConfigFault::DuplicateSymbol)),
-        Err(_) => Err(CoreFault::NoMemory),
-    }
-}
 
 /// The venue of this number.
 fn venue_at(place: usize) -> VenueId

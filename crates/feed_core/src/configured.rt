@@ -1,0 +1,48 @@
+//! What is made of a configuration first: its sizes are checked, and its journal begins.
+
+ghost use Rattle.std.specs.Prelude.{◌≡◌, ◌≤◌, IfOk, IfErr, MatchOption, OnOk};
+ghost use Rattle.feed_core.specs.Configs.{IsSized, IsGood, IsBad, Explains, journal_of};
+
+use crate::config::{ConfigFault, CoreFault};
+use feed_types::FeedConfig;
+use journal_book::Journal;
+use nbbo_book::BookFault;
+use std::alloc::Global;
+
+/// The first fault of the configuration's sizes.
+fn fault_of(config: &FeedConfig<'_>) -> Option<ConfigFault>
+    ensures { MatchOption result (IsSized config.now) (IsBad config.now) }
+{
+    if config.sessions.is_empty() || config.sessions.len() > 16 {
+        return Some(ConfigFault::BadVenueCount);
+    }
+    if config.window < 1 || config.window > 65_535 {
+        return Some(ConfigFault::BadWindow);
+    }
+    if config.lane < 1 || config.lane > 65_536 {
+        return Some(ConfigFault::BadCapacity);
+    }
+    if config.symbols.len() > 4_096 {
+        return Some(ConfigFault::TooManySymbols);
+    }
+    None
+}
+
+/// The journal of the configuration, before an entry.
+///
+/// BadConfig carries the configuration's first fault, in the order of [`ConfigFault`]; NoMemory
+/// comes where memory was refused.
+pub fn new_journal(alloc: Global, config: &FeedConfig<'_>) -> Result<Journal, CoreFault>
+    ensures empty { IfOk result (λ journal. journal ≡ journal_of config.now) }
+    ensures good { OnOk result (IsGood config.now) }
+    ensures fault { IfErr result (Explains config.now) }
+{
+    if let Some(fault) = fault_of(config) {
+        return Err(CoreFault::BadConfig(fault));
+    }
+    match Journal::new(alloc, config.symbols, config.sessions.len(), config.journal) {
+        Ok(journal) => Ok(journal),
+        Err(BookFault::DuplicateSymbol) => Err(CoreFault::BadConfig(ConfigFault::DuplicateSymbol)),
+        Err(_) => Err(CoreFault::NoMemory),
+    }
+}
