@@ -4,16 +4,16 @@ use Rattle.line_arbiter.specs.States.{State}
 use Rattle.line_arbiter.proofs.Filling.{fresh_most}
 use Rattle.line_arbiter.proofs.Turns.{numbers_fit}
 use Rattle.line_arbiter.proofs.Soundness.{sound_after}
-use Rattle.line_arbiter.proofs.arbiter.Arbiter.take_messages.Given.{Over}
-use Rattle.line_arbiter.proofs.arbiter.Arbiter.take_messages.Goals as goal
-use Rattle.line_arbiter.proofs.arbiter.Arbiter.take_messages.Goals.{After-add}
+use Rattle.line_arbiter.proofs.arbiter.Arbiter.take_in.Given.{Over}
+use Rattle.line_arbiter.proofs.arbiter.Arbiter.take_in.Goals as goal
+use Rattle.line_arbiter.proofs.arbiter.Arbiter.take_in.Goals.{After-add}
 
 module _ (g : Over) (c : After-add g) where
   -- the state with the window and the cursor as they are after the filling
   at : ℕ → ℕ → State
   at width base =
       let i = c.self.inside in
-      record { venue = i.venue_id; sessions = i.names.items; session = i.session_name; window = width; sent = base; front = c.run_end-self-inside.result; known = c.raised-self-inside-2.result; end = i.end_number; ring = c.fill-new.new.window.ring; wins = c.add.new.self; earlier = i.won_before }
+      record { venue = i.venue_id; sessions = i.names.items; session = i.session_name; window = width; sent = base; front = c.run_end-self-inside.result; known = c.raised-self-inside.result; end = i.end_number; ring = c.fill-new.new.window.ring; wins = c.add.new.self; earlier = i.won_before }
 
   old : State
   old =
@@ -27,7 +27,7 @@ module _ (g : Over) (c : After-add g) where
     from = c.run_end-self-inside.ensures.from;
     run = c.run_end-self-inside.ensures.run;
     stop = c.run_end-self-inside.ensures.stop;
-    known = rw (← c.last_number-last.ensures.value) c.raised-self-inside-2.ensures;
+    known = rw c.requires.last at c.raised-self-inside.ensures;
     wins = c.add.ensures;
     others = ap (λ (width : ℕ). at width c.fill-new.new.window.base) c.fill-new.ensures.width ∙ ap (λ (base : ℕ). at c.self.inside.held.width base) c.fill-new.ensures.base;
   }
@@ -35,18 +35,22 @@ module _ (g : Over) (c : After-add g) where
 pub overflow_sub-repeated : goal.overflow_sub-repeated
 overflow_sub-repeated g c = let k = c.fill-new.ensures.count in let n = c.count.ensures in omega (arith, fresh_most (length c.args.packet.now.messages) c.self.inside.held.base c.self.inside.held c.args.packet.now)
 
-pub invariant_of-self-2 : goal.invariant_of-self-2
+pub invariant_of-self : goal.invariant_of-self
 unfolding at old
-invariant_of-self-2 g c =
-    sound_after c.args.line c.fill-new.result _ _ c.args.packet.now c.self.invariant (numbers_fit c.args.packet.now c.last_number-last.ensures.content) (rw (← c.last_number-last.ensures.value) c.if-is_past.ensures) (takes g (goal.at.invariant_of-self-2 g c).After-add)
+invariant_of-self g c =
+    let before = rw (← c.self.view_is) at c.requires.before in
+    sound_after c.args.line c.fill-new.result _ _ c.args.packet.now c.self.invariant (numbers_fit c.args.packet.now c.count.ensures.content) before (takes g (goal.at.invariant_of-self g c).After-add)
 
 pub returns : goal.returns
 unfolding at old
-returns g c = rw (← c.self.view_is) (
-  takes g (goal.at.returns g c).After-add,
-  rw (← c.last_number-last.ensures.value) c.if-is_past.ensures,
-  let f = c.if-saturating_sub-from.false in let a = c.saturating_sub.ensures in let b = c.from.ensures in let l = c.last_number-last.ensures.value in let w = c.width.ensures.value in let s = c.base.ensures in omega arith,
-  c.if-disagrees.ensures,
-  c.fill-new.ensures.count,
-  let k = c.fill-new.ensures.count in let n = c.count.ensures in omega (arith, fresh_most (length c.args.packet.now.messages) c.self.inside.held.base c.self.inside.held c.args.packet.now),
-)
+returns g c =
+    let before = rw (← c.self.view_is) at c.requires.before in
+    let within = rw (← c.self.view_is) at c.requires.within in
+    rw (← c.self.view_is) (
+      takes g (goal.at.returns g c).After-add,
+      before,
+      within,
+      c.if-disagrees.ensures,
+      c.fill-new.ensures.count,
+      let k = c.fill-new.ensures.count in let n = c.count.ensures in omega (arith, fresh_most (length c.args.packet.now.messages) c.self.inside.held.base c.self.inside.held c.args.packet.now),
+    )

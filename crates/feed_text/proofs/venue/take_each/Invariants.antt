@@ -7,7 +7,7 @@ use Rattle.line_arbiter.specs.Fits.{Fits}
 use Rattle.feed_text.specs.Happenings.{item_taken}
 use Rattle.feed_text.specs.Tales.{tale_of}
 use Rattle.feed_text.proofs.Tales.{Took}
-use Rattle.feed_text.proofs.venue.take_ready.Given as goal
+use Rattle.feed_text.proofs.venue.take_each.Given as goal
 
 abbrev pub invariant-loop-next : goal.invariant-loop-next
 invariant-loop-next l = record {
