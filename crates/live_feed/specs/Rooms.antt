@@ -9,8 +9,8 @@ use Rattle.live_feed.specs.Hubs.{items_in}
 use Rattle.live_feed.specs.declared.rooms.VenueRoom.{VenueRoom}
 use Rattle.live_feed.specs.declared.rooms.SubscriberRoom.{SubscriberRoom}
 
--- empty lists with room: for the venue's items in the entries, for what its lane holds, and for what
--- is ready
+-- empty lists with room: for the venue's items in the entries, for what its lane holds, and for
+-- what is ready
 pub record HasVenueRoom (entries : List Entry) (c : CellState) (r : VenueRoom) : Type 0 where
   pub consumed : (length r.consumed.items ≡ 0)
       × (length (items_in entries c.arbiter.venue) ≤ vec_capacity r.consumed)

@@ -30,8 +30,8 @@ pub record IsSettled (carries : Carries) (ends : Ends) (venue window : ℕ)
   pub accepted : (line : LineId)
       → sums_on line sums ≡ accepted_on line (arrivals_of (all_begun history))
 
--- A subscriber whose lane is closed: the notices of its log, then those in the lane, then those that
--- weren't offered are what it wants of the entries.
+-- A subscriber whose lane is closed: the notices of its log, then those in the lane, then those
+-- that weren't offered are what it wants of the entries.
 pub record IsServed (journal : JournalState) (id : ℕ) (log : List Logged)
     (queued unoffered : List Notice) : Type 0 where
   pub terms : Terms
@@ -134,8 +134,8 @@ pub record ShowsSubscriber (journal : JournalState) (id : ℕ) (t : TapeState)
   pub served : IsServed journal id x.log x.queued x.unoffered
   pub own : (t.id ≡ id) × (x.log ≡ t.log)
 
--- What a feed has come to, once these seats and these subscribers were handed in: each of its venues
--- and each of its subscribers is closed.
+-- What a feed has come to, once these seats and these subscribers were handed in: each of its
+-- venues and each of its subscribers is closed.
 pub record IsSettlement (carries : Carries) (ends : Ends) (seats : List SeatState)
     (tapes : List TapeState) (s : SettlementState) : Type 0 where
   pub venue_count : length s.venues ≡ s.journal.venues

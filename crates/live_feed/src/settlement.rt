@@ -124,9 +124,9 @@ impl Settlement {
         self.venue_ends[venue.index()].wins(line)
     }
 
-    /// Four sums modulo 2^64, of the line's packets answered Taken, Heartbeat, Ended and Ahead: each
-    /// adds up the numbers of these packets, of a packet of messages the last message's. The venue
-    /// is below the number of venues.
+    /// Four sums modulo 2^64, of the line's packets answered Taken, Heartbeat, Ended and Ahead:
+    /// each adds up the numbers of these packets, of a packet of messages the last message's. The
+    /// venue is below the number of venues.
     pub fn accepted(&self, venue: VenueId, line: LineId) -> [u64; 4]
         requires { venue < length self.now.venues }
         ensures { IfSome (slice_get self.now.venues venue)
