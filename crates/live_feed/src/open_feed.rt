@@ -1,12 +1,10 @@
 //! A feed behind its locks.
 
-ghost use Rattle.std.specs.Prelude.{◌≡◌, ◌⊎◌, ℕ, List, [], Err, IsOk, IfOk, IfErr};
-ghost use Rattle.feed_types.specs.Sessions.{Session, IsSessionAt, Names};
-ghost use Rattle.line_arbiter.specs.OfSession.{IsOfSession};
-ghost use Rattle.line_arbiter.specs.declared.outcome.LineFault.TheVariants.{OtherSession};
+ghost use Rattle.std.specs.Prelude.{◌≡◌, [], IfOk, IfErr};
 ghost use Rattle.line_arbiter.specs.Genuine.{IsGenuine};
 ghost use Rattle.live_feed.specs.Seats.{new_seat, seat_after};
-ghost use Rattle.live_feed.specs.Datagrams.{AreGenuineBytes, AcceptsTheirs, IsTakenBy, bytes_of};
+ghost use Rattle.live_feed.specs.Sections.{AcceptsTheirPacket};
+ghost use Rattle.live_feed.specs.Datagrams.{AreGenuineBytes, AcceptsTheirs, IsAnsweredAt, IsTakenBy, bytes_of};
 
 use crate::datagram::Datagram;
 use crate::faults::{FeedFault, RenewalFault, TakeFault};
@@ -55,55 +53,21 @@ fn push_ready<G: Genuine, N: FeedName, W: Wait>(rt: &W, cell: &mut VenueCell<G, 
 }
 
 /// Takes the packet where the cell is of the seat's venue.
-fn take_packet<G: Genuine, N: FeedName>(
+fn take_in<G: Genuine, N: FeedName>(
     cell: &mut VenueCell<G, N>,
     seat: &mut LineSeat<G, N>,
     packet: &Packet<'_>,
 ) -> Result<Outcome, LineFault>
     requires { IsGenuine G.sessions G.carries G.ends seat.old.venue packet.now }
     ensures seat { seat.new ≡ seat_after seat.old packet.now result }
-    ensures accepts { (all : List Session) (ordinal : ℕ) (session : Session)
-        → Names G.sessions G.carries G.ends seat.old.venue all
-        → IsSessionAt all ordinal session → IsOfSession session packet.now
-        → IsOk result ⊎ (result ≡ Err OtherSession) }
+    ensures answer { IsAnsweredAt G.sessions G.carries G.ends N.lanes seat.old packet.now result }
+    ensures accepts { AcceptsTheirPacket G.sessions G.carries G.ends seat.old.venue packet.now
+        result }
 {
     if cell.venue() != seat.venue() {
         return Err(LineFault::OtherSession);
     }
     cell.take(seat, packet)
-}
-
-/// The answer to bytes on a seat of no venue.
-fn unheld<G: Genuine, N: FeedName>(
-    seat: &LineSeat<G, N>,
-    bytes: &[u8],
-) -> Result<Outcome, TakeFault>
-    ensures taken { IsTakenBy bytes.now seat.now result seat.now }
-    ensures accepts { AcceptsTheirs G.sessions G.carries G.ends seat.now.venue bytes.now result }
-{
-    match read_packet(bytes) {
-        Ok(_) => Err(TakeFault::Line(LineFault::OtherSession)),
-        Err(fault) => Err(TakeFault::Packet(fault)),
-    }
-}
-
-/// Takes the packet that the bytes are, where the cell is of the seat's venue.
-fn take_bytes<G: Genuine, N: FeedName>(
-    cell: &mut VenueCell<G, N>,
-    seat: &mut LineSeat<G, N>,
-    bytes: &[u8],
-) -> Result<Outcome, TakeFault>
-    requires { AreGenuineBytes G.sessions G.carries G.ends seat.old.venue bytes.now }
-    ensures taken { IsTakenBy bytes.now seat.old result seat.new }
-    ensures accepts { AcceptsTheirs G.sessions G.carries G.ends seat.old.venue bytes.now result }
-{
-    match read_packet(bytes) {
-        Ok(packet) => match take_packet(cell, seat, &packet) {
-            Ok(outcome) => Ok(outcome),
-            Err(fault) => Err(TakeFault::Line(fault)),
-        },
-        Err(fault) => Err(TakeFault::Packet(fault)),
-    }
 }
 
 impl<G: Genuine, N: FeedName> OpenFeed<G, N> {
@@ -138,8 +102,9 @@ impl<G: Genuine, N: FeedName> OpenFeed<G, N> {
     }
 
     /// Takes a datagram that came on the seat's line, which is genuine at its venue, and answers
-    /// what became of it: the packet's fault, else the line's, else the outcome. What is ready then
-    /// is pushed, until nothing is or the lane is full.
+    /// what became of it: the packet's fault, else the line's, else the outcome. What is ready then,
+    /// after a fault too, is pushed, until nothing is or the lane is full. The datagram is read
+    /// before the venue's lock is taken.
     pub fn take<W: Wait>(
         &self,
         rt: &W,
@@ -148,18 +113,45 @@ impl<G: Genuine, N: FeedName> OpenFeed<G, N> {
     ) -> Result<Outcome, TakeFault>
         requires { AreGenuineBytes G.sessions G.carries G.ends seat.old.venue
             (bytes_of datagram.now) }
-        ensures taken { IsTakenBy (bytes_of datagram.now) seat.old result seat.new }
+        ensures taken { IsTakenBy G.sessions G.carries G.ends N.lanes (bytes_of datagram.now)
+            seat.old result seat.new }
 
         // Where it is known which sessions the lines bring, a packet of one of them is refused only
         // where it isn't of the present one.
         ensures accepts { AcceptsTheirs G.sessions G.carries G.ends seat.old.venue
             (bytes_of datagram.now) result }
     {
+        match read_packet(datagram.bytes()) {
+            Ok(packet) => match self.take_packet(rt, seat, &packet) {
+                Ok(outcome) => Ok(outcome),
+                Err(fault) => Err(TakeFault::Line(fault)),
+            },
+            Err(fault) => {
+                let _ = self.flush(rt, seat.venue());
+                Err(TakeFault::Packet(fault))
+            }
+        }
+    }
+
+    /// Takes a packet that was read, under the lock of the seat's venue, and pushes what is ready.
+    fn take_packet<W: Wait>(
+        &self,
+        rt: &W,
+        seat: &mut LineSeat<G, N>,
+        packet: &Packet<'_>,
+    ) -> Result<Outcome, LineFault>
+        requires { IsGenuine G.sessions G.carries G.ends seat.old.venue packet.now }
+        ensures seat { seat.new ≡ seat_after seat.old packet.now result }
+        ensures answer { IsAnsweredAt G.sessions G.carries G.ends N.lanes seat.old packet.now
+            result }
+        ensures accepts { AcceptsTheirPacket G.sessions G.carries G.ends seat.old.venue packet.now
+            result }
+    {
         let Some(lock) = self.venues.get(seat.venue().index()) else {
-            return unheld(seat, datagram.bytes());
+            return Err(LineFault::OtherSession);
         };
         let mut guarded = lock.lock(rt);
-        let answer = take_bytes(&mut guarded.cell, seat, datagram.bytes());
+        let answer = take_in(&mut guarded.cell, seat, packet);
         push_ready(rt, &mut guarded.cell);
         answer
     }
@@ -229,7 +221,9 @@ impl<G: Genuine, N: FeedName> OpenFeed<G, N> {
         hub.consume(rt, venue)
     }
 
-    /// Declares self-help on the venue, or withdraws it, and gives the entry's position.
+    /// Declares self-help on the venue, or withdraws it, and gives the entry's position. It is
+    /// refused as UnknownVenue, AlreadySo (the venue's self-help is in that state), JournalFull or
+    /// NoMemory: the first of these that fits. A refused call changes nothing.
     pub fn declare<W: Wait>(&self, rt: &W, venue: VenueId, on: bool) -> Result<u64, JournalFault> {
         self.hub.lock(rt).declare(venue, on)
     }

@@ -1,12 +1,9 @@
 //! What stands behind a venue's lock.
 
-ghost use Rattle.std.specs.Prelude.{◌≡◌, ◌≤◌, ◌⊎◌, List, ℕ, ◌+◌, ◌∷◌, ◌++◌, [], Some, Ok, Err, IsOk, OnOk, OnErr, IfOk, IfSome, slice_get};
+ghost use Rattle.std.specs.Prelude.{◌≡◌, ◌≤◌, ◌+◌, [], Some, OnOk, OnErr, IfOk, IfSome, slice_get};
 ghost use Rattle.feed_types.specs.declared.item.Numbered.{Numbered};
-ghost use Rattle.feed_types.specs.Sessions.{Session, IsSessionAt, Names};
 ghost use Rattle.line_arbiter.specs.Genuine.{IsGenuine};
-ghost use Rattle.line_arbiter.specs.OfSession.{IsOfSession};
 ghost use Rattle.line_arbiter.specs.Histories.{History};
-ghost use Rattle.line_arbiter.specs.declared.outcome.LineFault.TheVariants.{OtherSession};
 ghost use Rattle.line_arbiter.specs.Streams.{gap_of};
 ghost use Rattle.line_arbiter.specs.Pacing.{IsPaced};
 ghost use Rattle.line_arbiter.specs.Fits.{Fits};
@@ -15,7 +12,7 @@ ghost use Rattle.line_arbiter.specs.Counts.{count_on};
 ghost use Rattle.live_feed.specs.Seats.{seat_after};
 ghost use Rattle.live_feed.specs.Sums.{sums_on};
 ghost use Rattle.live_feed.specs.Cells.{FitsCell, IsKept, new_cell};
-ghost use Rattle.live_feed.specs.Sections.{TakesPacket, KeepsButPackets, PushesOne, KeepsButSent, RenewsSession, BeginsNext};
+ghost use Rattle.live_feed.specs.Sections.{TakesPacket, IsAnsweredBy, AcceptsTheirPacket, KeepsButPackets, PushesOne, KeepsButSent, RenewsSession, BeginsNext};
 
 use crate::feed_name::FeedName;
 use crate::seat::LineSeat;
@@ -158,12 +155,13 @@ impl<G: Genuine, N: FeedName> VenueCell<G, N> {
         ensures kept { KeepsButPackets self.old self.new }
         ensures seat { seat.new ≡ seat_after seat.old packet.now result }
 
+        ensures answered { IsAnsweredBy G.sessions G.carries G.ends N.lanes seat.old.venue
+            seat.old.line packet.now result }
+
         // Where it is known which sessions the lines bring, a packet of one of them is refused only
         // where it isn't of the present one.
-        ensures accepts { (all : List Session) (ordinal : ℕ) (session : Session)
-            → Names G.sessions G.carries G.ends seat.old.venue all
-            → IsSessionAt all ordinal session → IsOfSession session packet.now
-            → IsOk result ⊎ (result ≡ Err OtherSession) }
+        ensures accepts { AcceptsTheirPacket G.sessions G.carries G.ends seat.old.venue packet.now
+            result }
         ensures refused { OnErr result (self.new ≡ self.old) }
     {
         let _number = packet.number();
