@@ -14,4 +14,7 @@ pub mod HubSections
 pub mod Tapes
 pub mod Codes
 -- how a lane is closed
+pub mod Rooms
+pub mod SideBySide
 pub mod Settlements
+pub mod Closings

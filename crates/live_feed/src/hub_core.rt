@@ -117,6 +117,21 @@ impl<G: Genuine, N: FeedName> HubCore<G, N> {
         (kept, from_venues, to_subscribers)
     }
 
+    /// The journal.
+    pub(crate) fn journal(&self) -> &Journal
+        ensures { result.now ≡ self.now.journal }
+    {
+        &self.kept
+    }
+
+    /// The sending ends of the subscribers' lanes.
+    pub(crate) fn senders(&self) -> &[Sender<Notice, RisingNotices>]
+        ensures value { result.now ≡ self.now.senders }
+        ensures count { length result.now ≡ length self.now.journal.cursors }
+    {
+        self.to_subscribers.as_slice()
+    }
+
     /// How many venues there are.
     pub(crate) fn venue_count(&self) -> usize
         ensures { result ≡ self.now.journal.venues }

@@ -1,6 +1,6 @@
 //! What stands behind a venue's lock.
 
-ghost use Rattle.std.specs.Prelude.{◌≡◌, ◌≤◌, ◌+◌, [], Some, OnOk, OnErr, IfOk, slice_get};
+ghost use Rattle.std.specs.Prelude.{◌≡◌, ◌≤◌, ◌+◌, [], Some, OnOk, OnErr, IfOk, IfSome, slice_get};
 ghost use Rattle.feed_types.specs.declared.item.Numbered.{Numbered};
 ghost use Rattle.line_arbiter.specs.Genuine.{IsGenuine};
 ghost use Rattle.line_arbiter.specs.Histories.{History};
@@ -8,15 +8,17 @@ ghost use Rattle.line_arbiter.specs.Streams.{gap_of};
 ghost use Rattle.line_arbiter.specs.Pacing.{IsPaced};
 ghost use Rattle.line_arbiter.specs.Fits.{Fits};
 ghost use Rattle.line_arbiter.specs.States.{IsNew, ordinal_of};
+ghost use Rattle.line_arbiter.specs.Counts.{count_on};
 ghost use Rattle.live_feed.specs.Seats.{seat_after};
+ghost use Rattle.live_feed.specs.Sums.{sums_on};
 ghost use Rattle.live_feed.specs.Cells.{FitsCell, IsKept, new_cell};
 ghost use Rattle.live_feed.specs.Sections.{TakesPacket, IsAnsweredBy, AcceptsTheirPacket, KeepsButPackets, PushesOne, KeepsButSent, RenewsSession, BeginsNext};
 
 use crate::feed_name::FeedName;
 use crate::seat::LineSeat;
-use crate::sums::VenueSums;
+use crate::sums::{PacketSums, VenueSums};
 use crate::unsent::Unsent;
-use feed_types::{Genuine, Numbered, VenueId};
+use feed_types::{Genuine, LineId, Numbered, VenueId};
 use fifo_lane::{LaneRule, Sender, VenueItems};
 use line_arbiter::{Arbiter, LineFault, Outcome, Pacer, RenewFault};
 use mold_packet::{Packet, Request};
@@ -97,6 +99,30 @@ impl<G: Genuine, N: FeedName> VenueCell<G, N> {
         ensures { result ≡ self.now.lane.capacity }
     {
         self.items.capacity()
+    }
+
+    /// How many numbers the line brought first.
+    pub(crate) fn wins(&self, line: LineId) -> u64
+        ensures { result ≡ count_on line self.now.arbiter.wins }
+    {
+        self.lines.wins(line)
+    }
+
+    /// The sums of the line's accepted packets.
+    pub(crate) fn accepted(&self, line: LineId) -> PacketSums
+        ensures { result ≡ sums_on line self.now.accepted }
+    {
+        self.sums.on(line)
+    }
+
+    /// Room enough for what is ready, the items up to the front and End; None past a `usize`.
+    pub(crate) fn most_ready(&self) -> Option<usize>
+        ensures { IfSome result (λ most.
+            self.now.arbiter.front + 1 ≤ self.now.arbiter.sent + most) }
+    {
+        let status = self.lines.status();
+        let messages = status.front.saturating_sub(status.sent) as usize;
+        messages.checked_add(1)
     }
 
     /// What the lock kept, once it is gone.
