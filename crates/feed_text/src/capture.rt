@@ -50,18 +50,14 @@ enum Kind {
     SelfHelp(bool),
 }
 
-/// The kind of a byte and a length, where there is one. Nearly all are those of the lines, which are
-/// told first.
+/// The kind of a byte and a length, where there is one.
 fn kind_from(byte: u8, len: usize) -> Option<Kind>
     ensures { MatchOption result (IsKind byte len → ⊥) (IsKindOf byte len) }
 {
     match byte {
-        b'A' => return Some(Kind::Line(LineId::A)),
-        b'B' => return Some(Kind::Line(LineId::B)),
-        b'R' => return Some(Kind::Line(LineId::Recovery)),
-        _ => {}
-    }
-    match byte {
+        b'A' => Some(Kind::Line(LineId::A)),
+        b'B' => Some(Kind::Line(LineId::B)),
+        b'R' => Some(Kind::Line(LineId::Recovery)),
         b'N' if len == 10 => Some(Kind::Renewal),
         b'H' if len == 0 => Some(Kind::SelfHelp(true)),
         b'W' if len == 0 => Some(Kind::SelfHelp(false)),
