@@ -70,8 +70,8 @@ impl Report {
         Ok(())
     }
 
-    /// Journals a declaration, unless it is so already, and prints its line and those of the notices
-    /// that it makes.
+    /// Journals a declaration, unless it is so already, and prints its line and those of the
+    /// notices that it makes.
     pub fn declare(&mut self, venue: VenueId, on: bool) -> Result<(), Stop>
         requires { venue < self.old.journal.venues }
         ensures { TellsBy (tale_of self.old) (self_help_declared venue on ∷ [])
