@@ -31,8 +31,8 @@ pub record Venue : Type 0 where
   pub arbiter : State
   pub sent_before : ℕ
 
--- The venue, at this place and with a window of this width, is that to which this came, and all that
--- is ready was sent.
+-- The venue, at this place and with a window of this width, is that to which this came, and all
+-- that is ready was sent.
 pub record Follows (width place : ℕ) (v : Venue) (h : History) : Type 0 where
   pub fits : Fits v.arbiter h.present.packets
   pub number : v.arbiter.venue ≡ place
@@ -126,7 +126,8 @@ fault_by NoMemory = faults.NoMemory
 
 -- The text was written, or the writer failed within it.
 pub record Stops {W : Type 0} (adds : W → List ℕ → W → Type 0) (failures : W → ℕ)
-    (stop : Stop) (whole : ℕ) (text : List ℕ) (before after : W) (fault : ReplayFault) : Type 0 where
+    (stop : Stop) (whole : ℕ) (text : List ℕ) (before after : W)
+    (fault : ReplayFault) : Type 0 where
   pub ways : ((fault ≡ fault_by stop) × adds before (left_by stop whole text) after)
       ⊎ ((fault ≡ faults.WriteFailed) × Wrote adds before (left_by stop whole text) after
       × (failures after ≡ failures before + 1))
@@ -138,8 +139,8 @@ pub record WritesLast (at : VenueList) (Takes : List ℕ → Type 0) : Type 0 wh
   pub taken : Takes lines
 
 -- What writing the last lines came to, by its answer.
-abbrev pub Closes : {W : Type 0} (adds : W → List ℕ → W → Type 0) (failures : W → ℕ) (at : VenueList)
-    (before after : W) → Result (Unit {0}) ReplayFault → Type 0
+abbrev pub Closes : {W : Type 0} (adds : W → List ℕ → W → Type 0) (failures : W → ℕ)
+    (at : VenueList) (before after : W) → Result (Unit {0}) ReplayFault → Type 0
 Closes adds failures at before after (Ok done) = WritesLast at (λ lines. adds before lines after)
 Closes adds failures at before after (Err faults.NoMemory) = after ≡ before
 Closes adds failures at before after (Err faults.WriteFailed) =

@@ -219,7 +219,7 @@ impl VenueReplay {
 
     /// Takes a datagram of a line and tells of it: what became of it, each item that is ready then,
     /// and where gaps are asked for the one that is left.
-    #[inline(never)]
+    #[inline(always)]
     pub fn take(
         &mut self,
         venue: VenueId,

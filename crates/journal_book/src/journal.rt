@@ -64,12 +64,13 @@ impl Model for Journal {
 }
 
 /// Appends the entry, for which there is room.
-fn push_entry(entries: &mut Vec<Entry>, entry: &Entry)
+#[inline(always)]
+fn push_entry(entries: &mut Vec<Entry>, entry: Entry)
     requires { vec_len entries.old < vec_capacity entries.old }
-    ensures { entries.new.items ≡ entries.old.items ++ entry.now ∷ [] }
+    ensures { entries.new.items ≡ entries.old.items ++ entry ∷ [] }
 {
     let _named: Option<(Numbered, Item, Quote)> = None;
-    entries.push_reserved(*entry);
+    entries.push_reserved(entry);
 }
 
 /// Moves the subscriber's cursor to this place.
@@ -148,25 +149,29 @@ impl Journal {
             && self.notices.len() + self.book.symbol_count() <= self.notices.capacity()
     }
 
-    /// Journals the entry and its changes, and gives its position. It comes by reference, so that it
-    /// is copied once, into its place.
-    fn add(&mut self, entry: &Entry) -> u64
+    /// Journals the entry and its changes, and gives its position. The entry is written where it
+    /// stays, and read there.
+    #[inline(always)]
+    fn add(&mut self, entry: Entry) -> u64
         requires ready { IsTrue self.old.ready }
-        requires venue { venue_of entry.now < self.old.venues }
-        ensures journals { Journals self.old entry.now self.new }
+        requires venue { venue_of entry < self.old.venues }
+        ensures journals { Journals self.old entry self.new }
         ensures position { result ≡ length self.new.entries }
         ensures offered { subscriptions_of self.new ≡ subscriptions_of self.old }
     {
-        let position = self.entries.len() as u64 + 1;
+        let place = self.entries.len();
+        let position = place as u64 + 1;
         self.made.clear();
-        self.book.apply(position, entry, &mut self.made);
-        push_notices(&mut self.notices, self.made.as_slice());
         push_entry(&mut self.entries, entry);
+        self.book
+            .apply(position, &self.entries[place], &mut self.made);
+        push_notices(&mut self.notices, self.made.as_slice());
         position
     }
 
     /// Journals the venue's item and its changes, and gives its position, which counts from 1. It
     /// takes no memory: there is room, and the venue is below the count.
+    #[inline(always)]
     pub fn record(&mut self, venue: VenueId, numbered: Numbered) -> u64
         requires ready { IsTrue self.old.ready }
         requires venue { venue < self.old.venues }
@@ -174,7 +179,7 @@ impl Journal {
         ensures position { result ≡ length self.new.entries }
         ensures offered { subscriptions_of self.new ≡ subscriptions_of self.old }
     {
-        self.add(&Entry::Consumed { venue, numbered })
+        self.add(Entry::Consumed { venue, numbered })
     }
 
     /// Declares self-help on the venue, or withdraws it, and gives the entry's position. It is
@@ -191,7 +196,7 @@ impl Journal {
             return Err(JournalFault::AlreadySo);
         }
         self.reserve_one()?;
-        Ok(self.add(&Entry::SelfHelp { venue, on }))
+        Ok(self.add(Entry::SelfHelp { venue, on }))
     }
 
     /// Whether self-help stands on the venue.

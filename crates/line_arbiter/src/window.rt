@@ -1,5 +1,5 @@
-//! The messages that were taken and not yet sent on, in a ring of slots with a mark for each. A slot
-//! is first written when it is first needed, so that a wide window costs no more than what it holds.
+//! The messages that were taken and not yet sent on, in a ring of slots with a mark for each. A
+//! slot is first written when it is first needed, so that a wide window costs what it holds.
 
 ghost use Rattle.std.specs.Prelude.{◌≡◌, ◌≢◌, ℕ, ◌+◌, ◌-◌, ◌*◌, ◌^◌, ◌<◌, ◌≤◌, ◌⊎◌, None, Some, Bool, true, not, length, replicate, slice_set, nat_eq, nat_lt, if◌then◌else◌, IfOk, IfSome, IfNone, IsSome, IsTrue, MatchBool, is_some, get_or};
 ghost use Rattle.std.specs.Vec.{vec_len, vec_capacity};
@@ -13,8 +13,8 @@ use std::alloc::{AllocError, Global};
 use std::marker::Model;
 
 /// Places for the numbers from `base_number + 1` on. The first place is in slot `first`, and the
-/// slots go round, as many as there are places; those past the end of `slots` weren't needed yet, and
-/// have room. A marked slot holds the item of its number. Nothing is held above `top_number`.
+/// slots go round, as many as there are places; those past the end of `slots` weren't needed yet,
+/// and have room. A marked slot holds the item of its number. Nothing is held above `top_number`.
 #[derive(Drop)]
 pub(crate) struct Window {
     base_number: u64,

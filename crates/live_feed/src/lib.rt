@@ -48,6 +48,7 @@ mod unsent;
 mod unsettled;
 mod venue_cell;
 mod venue_end;
+mod venue_locks;
 mod venue_start;
 
 pub use datagram::Datagram;

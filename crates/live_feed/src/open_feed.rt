@@ -1,6 +1,6 @@
 //! A feed behind its locks.
 
-ghost use Rattle.std.specs.Prelude.{◌≡◌, [], IfOk, IfErr};
+ghost use Rattle.std.specs.Prelude.{◌≡◌, ◌≤◌, ◌↔◌, [], length, IfOk, IfErr, IsErrOf};
 ghost use Rattle.line_arbiter.specs.Genuine.{IsGenuine};
 ghost use Rattle.live_feed.specs.Seats.{new_seat, seat_after};
 ghost use Rattle.live_feed.specs.Sections.{AcceptsTheirPacket};
@@ -14,6 +14,7 @@ use crate::seat::LineSeat;
 use crate::subscriber::Subscriber;
 use crate::tape::Tape;
 use crate::venue_cell::VenueCell;
+use crate::venue_locks::VenueLocks;
 use feed_types::{Genuine, LineId, SubscriberId, VenueId};
 use filter_terms::{Filter, Strategy};
 use journal_book::JournalFault;
@@ -34,7 +35,7 @@ pub(crate) struct Guarded<G: Genuine, N: FeedName> {
 /// A feed behind its locks: one for each venue, and the consolidator's. No call holds two of them.
 #[derive(Drop)]
 pub struct OpenFeed<G: Genuine, N: FeedName> {
-    pub(crate) venues: Vec<Mutex<Guarded<G, N>>>,
+    pub(crate) venues: VenueLocks<G, N>,
     pub(crate) hub: Mutex<HubCell<G, N>>,
     pub(crate) log_lines: u32,
 }
@@ -80,8 +81,9 @@ impl<G: Genuine, N: FeedName> OpenFeed<G, N> {
         line: LineId,
     ) -> Result<LineSeat<G, N>, FeedFault>
         ensures seat { IfOk result (λ seat. seat ≡ new_seat venue line) }
+        ensures unknown { IsErrOf result FeedFault.UnknownVenue ↔ (length N.lanes.venues ≤ venue) }
     {
-        let Some(lock) = self.venues.get(venue.index()) else {
+        let Some(lock) = self.venues.get(venue) else {
             return Err(FeedFault::UnknownVenue);
         };
         let mut guarded = lock.lock(rt);
@@ -147,7 +149,7 @@ impl<G: Genuine, N: FeedName> OpenFeed<G, N> {
         ensures accepts { AcceptsTheirPacket G.sessions G.carries G.ends seat.old.venue packet.now
             result }
     {
-        let Some(lock) = self.venues.get(seat.venue().index()) else {
+        let Some(lock) = self.venues.get(seat.venue()) else {
             return Err(LineFault::OtherSession);
         };
         let mut guarded = lock.lock(rt);
@@ -158,8 +160,10 @@ impl<G: Genuine, N: FeedName> OpenFeed<G, N> {
 
     /// Pushes what is ready of the venue, until nothing is or the lane is full, and gives how many
     /// items were pushed.
-    pub fn flush<W: Wait>(&self, rt: &W, venue: VenueId) -> Result<u64, FeedFault> {
-        let Some(lock) = self.venues.get(venue.index()) else {
+    pub fn flush<W: Wait>(&self, rt: &W, venue: VenueId) -> Result<u64, FeedFault>
+        ensures unknown { IsErrOf result FeedFault.UnknownVenue ↔ (length N.lanes.venues ≤ venue) }
+    {
+        let Some(lock) = self.venues.get(venue) else {
             return Err(FeedFault::UnknownVenue);
         };
         let mut guarded = lock.lock(rt);
@@ -175,8 +179,10 @@ impl<G: Genuine, N: FeedName> OpenFeed<G, N> {
         rt: &W,
         venue: VenueId,
         now_ms: u64,
-    ) -> Result<Option<Request>, FeedFault> {
-        let Some(lock) = self.venues.get(venue.index()) else {
+    ) -> Result<Option<Request>, FeedFault>
+        ensures unknown { IsErrOf result FeedFault.UnknownVenue ↔ (length N.lanes.venues ≤ venue) }
+    {
+        let Some(lock) = self.venues.get(venue) else {
             return Err(FeedFault::UnknownVenue);
         };
         let mut guarded = lock.lock(rt);
@@ -196,9 +202,10 @@ impl<G: Genuine, N: FeedName> OpenFeed<G, N> {
         session: [u8; 10],
     ) -> Result<u64, RenewalFault>
         requires { G.sessions venue ordinal session }
-        ensures { IfOk result (λ begun. begun ≡ ordinal) }
+        ensures ordinal { IfOk result (λ begun. begun ≡ ordinal) }
+        ensures unknown { IsErrOf result RenewalFault.UnknownVenue ↔ (length N.lanes.venues ≤ venue) }
     {
-        let Some(lock) = self.venues.get(venue.index()) else {
+        let Some(lock) = self.venues.get(venue) else {
             return Err(RenewalFault::UnknownVenue);
         };
         let mut guarded = lock.lock(rt);
@@ -213,7 +220,9 @@ impl<G: Genuine, N: FeedName> OpenFeed<G, N> {
 
     /// Journals the next item of the venue's lane, and gives its position; None where nothing was
     /// inside. UnknownVenue, JournalFull or NoMemory come before an item is taken out of the lane.
-    pub fn consume<W: Wait>(&self, rt: &W, venue: VenueId) -> Result<Option<u64>, JournalFault> {
+    pub fn consume<W: Wait>(&self, rt: &W, venue: VenueId) -> Result<Option<u64>, JournalFault>
+        ensures unknown { IsErrOf result JournalFault.UnknownVenue ↔ (length N.lanes.venues ≤ venue) }
+    {
         let mut hub = self.hub.lock(rt);
         if venue.index() >= hub.core.venue_count() {
             return Err(JournalFault::UnknownVenue);
@@ -224,7 +233,9 @@ impl<G: Genuine, N: FeedName> OpenFeed<G, N> {
     /// Declares self-help on the venue, or withdraws it, and gives the entry's position. It is
     /// refused as UnknownVenue, AlreadySo (the venue's self-help is in that state), JournalFull or
     /// NoMemory: the first of these that fits. A refused call changes nothing.
-    pub fn declare<W: Wait>(&self, rt: &W, venue: VenueId, on: bool) -> Result<u64, JournalFault> {
+    pub fn declare<W: Wait>(&self, rt: &W, venue: VenueId, on: bool) -> Result<u64, JournalFault>
+        ensures unknown { IsErrOf result JournalFault.UnknownVenue ↔ (length N.lanes.venues ≤ venue) }
+    {
         self.hub.lock(rt).declare(venue, on)
     }
 

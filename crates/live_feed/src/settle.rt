@@ -15,6 +15,7 @@ use crate::seat::LineSeat;
 use crate::settlement::Settlement;
 use crate::subscriber::Subscriber;
 use crate::unsettled::Unsettled;
+use crate::venue_locks::VenueLocks;
 use feed_types::Genuine;
 use std::alloc::Global;
 use std::sync::{Mutex, Wait};
@@ -61,8 +62,9 @@ fn unlock<G: Genuine, N: FeedName>(
     alloc: Global,
     feed: OpenFeed<G, N>,
 ) -> Result<Unlocked<G, N>, OpenFeed<G, N>>
-    ensures { IfOk result (λ u. (length u.locks.items ≡ 0)
+    ensures room { IfOk result (λ u. (length u.locks.items ≡ 0)
         × (vec_len u.venues ≤ vec_capacity u.locks)) }
+    ensures count { IfOk result (λ u. length u.venues.items ≡ length N.lanes.venues) }
 {
     let count = feed.venues.len();
     let (Ok(venues), Ok(locks)) = (
@@ -77,7 +79,7 @@ fn unlock<G: Genuine, N: FeedName>(
         log_lines,
     } = feed;
     Ok(Unlocked {
-        venues: out_of_locks(behind, venues),
+        venues: out_of_locks(behind.into_locks(), venues),
         hub: hub.into_inner(),
         locks,
         log_lines,
@@ -86,8 +88,9 @@ fn unlock<G: Genuine, N: FeedName>(
 
 /// Puts the feed behind locks again.
 fn locked<G: Genuine, N: FeedName>(unlocked: Unlocked<G, N>) -> OpenFeed<G, N>
-    requires { (length unlocked.locks.items ≡ 0)
+    requires room { (length unlocked.locks.items ≡ 0)
         × (vec_len unlocked.venues ≤ vec_capacity unlocked.locks) }
+    requires count { length unlocked.venues.items ≡ length N.lanes.venues }
 {
     let Unlocked {
         venues,
@@ -96,7 +99,7 @@ fn locked<G: Genuine, N: FeedName>(unlocked: Unlocked<G, N>) -> OpenFeed<G, N>
         log_lines,
     } = unlocked;
     OpenFeed {
-        venues: behind_locks(venues, locks),
+        venues: VenueLocks::new(behind_locks(venues, locks)),
         hub: Mutex::new(hub),
         log_lines,
     }
@@ -109,7 +112,7 @@ fn missing<G: Genuine, N: FeedName, W: Wait>(
     seats: &[LineSeat<G, N>],
     subscribers: &[Subscriber<N>],
 ) -> Option<SettleFault> {
-    for lock in &feed.venues {
+    for lock in feed.venues.as_slice() {
         let guarded = lock.lock(rt);
         if !has_its_seats(&guarded, seats) {
             return Some(SettleFault::SeatsMissing);
