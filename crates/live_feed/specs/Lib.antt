@@ -15,3 +15,5 @@ pub mod Tapes
 pub mod Codes
 -- how a lane is closed
 pub mod Settlements
+-- a run by threads
+pub mod Runs
