@@ -20,6 +20,8 @@
 #![tactic(auto)]
 
 mod advising;
+mod consolidating;
+mod consolidator_thread;
 mod datagram;
 mod faults;
 mod feed;
@@ -27,6 +29,8 @@ mod feed_name;
 mod hub_cell;
 mod hub_core;
 mod line;
+mod line_threads;
+mod line_work;
 mod logged;
 mod making;
 mod next_wanted;
@@ -35,9 +39,13 @@ mod report;
 mod seat;
 mod serving;
 mod settling;
+mod shared;
+mod signals;
 mod source;
 mod spare;
 mod subscriber;
+mod subscriber_threads;
+mod subscriber_work;
 mod sums;
 mod tape;
 mod unsent;

@@ -8,7 +8,8 @@ use crate::line::LineEnd;
 use crate::subscriber::Subscriber;
 use thiserror::Error;
 
-/// Why a run stopped early. The lines read no further datagram then, and no further item is consumed.
+/// Why a run stopped early. The lines read no further datagram then, and no further item is
+/// consumed.
 #[derive(Clone, Copy, Debug, PartialEq, Eq, Hash, Error)]
 pub enum Stop {
     /// The journal has as many entries as configured.

@@ -59,8 +59,9 @@ pub trait LineSource<G: Genuine>: Drop {
 
     /// The next datagram, which is genuine at the source's venue; None at the end of the line.
     ///
-    /// Device where the device failed, TooManyTurns where it was broken off as often as one call may
-    /// ask it: each is a failure. NoMemory where memory for the datagram was refused, which is none.
+    /// Device where the device failed, TooManyTurns where it was broken off as often as one call
+    /// may ask it: each is a failure. NoMemory where memory for the datagram was refused, which is
+    /// none.
     fn next(&mut self) -> Result<Option<Datagram>, SourceFault>
         ensures venue { venue_of self.new ≡ venue_of self.old }
         ensures becomes { becomes self.old self.new }
