@@ -205,6 +205,7 @@ fn place_state(room: &mut [u8], at: usize, state: NationalState) -> usize
 }
 
 /// The line of a change of the national best.
+#[inline(never)]
 pub(crate) fn put_best(text: &mut Page, notice: &Notice) -> Result<(), AllocError>
     ensures line { OnOk result (text.new.items ≡ text.old.items ++ best_line notice.now) }
     ensures part { OnErr result (text.new.items ≡ text.old.items) }

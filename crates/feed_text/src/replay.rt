@@ -101,6 +101,7 @@ fn close<W: TextOut>(venues: &Venues, mut text: Page, writer: &mut W) -> Result<
 /// reader is a turn, also one that was interrupted. Memory is taken for the venues' windows, the
 /// symbols, the bytes of a read and a text of about a page, and for the journal and its notices,
 /// which grow by doubling.
+#[inline(never)]
 pub fn replay<R: CaptureIn, W: TextOut>(
     alloc: Global,
     config: &ReplayConfig<'_>,

@@ -38,6 +38,7 @@ pub struct Report {
 }
 
 /// Prints the notices from this place on.
+#[inline(always)]
 fn put_bests(text: &mut Page, notices: &[Notice], from: usize) -> Result<(), AllocError>
     ensures lines { OnOk result
         (text.new.items ≡ text.old.items ++ flat_map best_line (drop from notices.now)) }

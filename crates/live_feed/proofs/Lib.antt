@@ -7,4 +7,5 @@ pub mod ClosedLanes
 pub mod TheirPackets
 pub mod ClosedSubscribers
 pub mod RunMoves
-pub mod Sharing
+pub mod Sides
+pub mod Settled

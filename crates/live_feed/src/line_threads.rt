@@ -6,23 +6,25 @@ ghost use Rattle.live_feed.specs.Runs.{Pairwise, HasEnded};
 use crate::feed_name::FeedName;
 use crate::line::{Line, LineEnd};
 use crate::line_work::{LineOf, work_line};
-use crate::open_feed::OpenFeed;
 use crate::signals::Signals;
 use crate::source::LineSource;
+use crate::venue_locks::VenueLocks;
 use feed_types::Genuine;
 use std::snapshot::Snapshot;
 use std::sync::Wait;
 use std::thread::{PromisedHandle, Scope, Threads};
 
 /// A line's thread, or the line where none could be started: it has read nothing.
-pub(crate) type LineThread<G, N, S> =
-    Result<PromisedHandle<LineEnd<G, N, S>, LineOf<G, N, S>>, LineEnd<G, N, S>>;
+pub(crate) type LineThread<G, N, S> = Result<
+    PromisedHandle<LineEnd<G, N, S>, LineOf<G, N, S>>,
+    LineEnd<G, N, S>,
+>;
 
 /// Starts a thread for a line. Where that can't be, the run stops early.
 fn start_line<'s, E, G, N, S, R>(
     rt: &'s R,
     scope: &Scope<'s, E>,
-    feed: &'s OpenFeed<G, N>,
+    venues: &'s VenueLocks<G, N>,
     signals: &'s Signals,
     line: Line<G, N, S>,
 ) -> LineThread<G, N, S>
@@ -33,9 +35,9 @@ where
     R: Threads + Wait + Sync,
     ensures { MatchResult result
         (λ handle. (handle.promise.seat.value ≡ line.seat)
-            × (handle.promise.source.value ≡ line.source))
+        × (handle.promise.source.value ≡ line.source))
         (λ ended. HasEnded S.becomes S.failures line.seat line.source ended.seat ended.source
-            ended.fault) }
+        ended.fault) }
 {
     let promise = LineOf {
         seat: Snapshot::of(&line.seat),
@@ -44,7 +46,7 @@ where
     let job = move || -> LineEnd<G, N, S>
         ensures { HasEnded S.becomes S.failures line.seat line.source result.seat
             result.source result.fault }
-    { work_line(rt, feed, signals, line) };
+    { work_line(rt, venues, signals, line) };
     match scope.spawn_with(promise, job) {
         Ok(handle) => Ok(handle),
         Err(refused) => {
@@ -59,7 +61,7 @@ where
 pub(crate) fn start_lines<'s, E, G, N, S, R>(
     rt: &'s R,
     scope: &Scope<'s, E>,
-    feed: &'s OpenFeed<G, N>,
+    venues: &'s VenueLocks<G, N>,
     signals: &'s Signals,
     lines: Vec<Line<G, N, S>>,
     mut threads: Vec<LineThread<G, N, S>>,
@@ -71,15 +73,16 @@ where
     R: Threads + Wait + Sync,
     requires empty { threads.items ≡ [] }
     requires room { vec_len lines ≤ vec_capacity threads }
-    ensures { Pairwise (λ line thread. MatchResult thread
+    ensures count { vec_len result ≡ vec_len lines }
+    ensures threads { Pairwise (λ line thread. MatchResult thread
         (λ handle. (handle.promise.seat.value ≡ line.seat)
-            × (handle.promise.source.value ≡ line.source))
+        × (handle.promise.source.value ≡ line.source))
         (λ ended. HasEnded S.becomes S.failures line.seat line.source ended.seat ended.source
-            ended.fault))
+        ended.fault))
         lines.items result.items }
 {
     for line in lines {
-        let thread = start_line(rt, scope, feed, signals, line);
+        let thread = start_line(rt, scope, venues, signals, line);
         threads.push_reserved(thread);
     }
     threads
@@ -94,7 +97,7 @@ where
     R: Threads,
     ensures { MatchResult thread
         (λ handle. HasEnded S.becomes S.failures handle.promise.seat.value
-            handle.promise.source.value result.seat result.source result.fault)
+        handle.promise.source.value result.seat result.source result.fault)
         (λ here. result ≡ here) }
 {
     match thread {
@@ -119,7 +122,7 @@ where
     requires room { vec_len threads ≤ vec_capacity ends }
     ensures { Pairwise (λ thread ended. MatchResult thread
         (λ handle. HasEnded S.becomes S.failures handle.promise.seat.value
-            handle.promise.source.value ended.seat ended.source ended.fault)
+        handle.promise.source.value ended.seat ended.source ended.fault)
         (λ here. ended ≡ here))
         threads.items result.items }
 {

@@ -5,10 +5,10 @@ ghost use Rattle.live_feed.specs.Runs.{HasEnded, failures_after};
 
 use crate::feed_name::FeedName;
 use crate::line::{Line, LineEnd};
-use crate::open_feed::OpenFeed;
 use crate::seat::LineSeat;
 use crate::signals::Signals;
 use crate::source::{LineSource, SourceFault};
+use crate::venue_locks::VenueLocks;
 use feed_types::{Genuine, VenueId};
 use std::snapshot::Snapshot;
 use std::sync::Wait;
@@ -31,7 +31,7 @@ impl<G: Genuine, N, S: LineSource<G>> Promise<LineEnd<G, N, S>> for LineOf<G, N,
 /// Has the source send the request for the venue's gap that is due, if any.
 fn request_due<G: Genuine, N: FeedName, S: LineSource<G>, W: Wait>(
     rt: &W,
-    feed: &OpenFeed<G, N>,
+    venues: &VenueLocks<G, N>,
     venue: VenueId,
     source: &mut S,
 ) -> Result<(), SourceFault>
@@ -42,7 +42,7 @@ fn request_due<G: Genuine, N: FeedName, S: LineSource<G>, W: Wait>(
         ≡ failures_after (S.failures source.old) fault) }
 {
     let now_ms = source.now_ms();
-    match feed.due(rt, venue, now_ms) {
+    match venues.due(rt, venue, now_ms) {
         Ok(Some(request)) => source.request(&request),
         _ => Ok(()),
     }
@@ -52,7 +52,7 @@ fn request_due<G: Genuine, N: FeedName, S: LineSource<G>, W: Wait>(
 /// ends or fails or the run stops early.
 pub(crate) fn work_line<G: Genuine, N: FeedName, S: LineSource<G>, W: Wait>(
     rt: &W,
-    feed: &OpenFeed<G, N>,
+    venues: &VenueLocks<G, N>,
     signals: &Signals,
     line: Line<G, N, S>,
 ) -> LineEnd<G, N, S>
@@ -73,7 +73,7 @@ pub(crate) fn work_line<G: Genuine, N: FeedName, S: LineSource<G>, W: Wait>(
         match source.next() {
             Ok(Some(datagram)) => {
                 datagrams = datagrams.saturating_add(1);
-                let _answer = feed.take(rt, &mut seat, &datagram);
+                let _answer = venues.take(rt, &mut seat, &datagram);
             }
             Ok(None) => break,
             Err(failed) => {
@@ -81,11 +81,12 @@ pub(crate) fn work_line<G: Genuine, N: FeedName, S: LineSource<G>, W: Wait>(
                 break;
             }
         }
-        if let Err(failed) = request_due(rt, feed, venue, &mut source) {
+        if let Err(failed) = request_due(rt, venues, venue, &mut source) {
             fault = Some(failed);
             break;
         }
     }
+    signals.end_line();
     LineEnd {
         seat,
         source,

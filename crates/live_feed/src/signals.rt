@@ -2,7 +2,7 @@
 
 use feed_types::SubscriberId;
 use std::array;
-use std::sync::atomic::{AtomicBool, Ordering};
+use std::sync::atomic::{AtomicBool, AtomicU64, Ordering};
 
 /// What the threads of a run tell each other.
 #[derive(Drop)]
@@ -11,8 +11,8 @@ pub(crate) struct Signals {
     stop: AtomicBool,
     /// A thread couldn't be started.
     no_thread: AtomicBool,
-    /// All lines have ended.
-    lines_ended: AtomicBool,
+    /// How many lines haven't ended.
+    lines_left: AtomicU64,
     /// All that can be offered was offered.
     offered: AtomicBool,
     /// By id, whether the subscriber's thread takes notices.
@@ -20,12 +20,12 @@ pub(crate) struct Signals {
 }
 
 impl Signals {
-    /// A run that has begun, with no thread yet.
-    pub(crate) fn new() -> Signals {
+    /// A run of so many lines that has begun, with no thread yet.
+    pub(crate) fn new(lines: u64) -> Signals {
         Signals {
             stop: AtomicBool::new(false),
             no_thread: AtomicBool::new(false),
-            lines_ended: AtomicBool::new(false),
+            lines_left: AtomicU64::new(lines),
             offered: AtomicBool::new(false),
             polling: array::from_fn(|_| AtomicBool::new(false)),
         }
@@ -52,14 +52,14 @@ impl Signals {
         self.no_thread.load(Ordering::SeqCst)
     }
 
-    /// All lines have ended.
-    pub(crate) fn end_lines(&self) {
-        self.lines_ended.store(true, Ordering::SeqCst);
+    /// One line more has ended.
+    pub(crate) fn end_line(&self) {
+        self.lines_left.fetch_sub(1, Ordering::SeqCst);
     }
 
     /// Whether all lines have ended.
     pub(crate) fn have_lines_ended(&self) -> bool {
-        self.lines_ended.load(Ordering::SeqCst)
+        self.lines_left.load(Ordering::SeqCst) == 0
     }
 
     /// All that can be offered was offered.

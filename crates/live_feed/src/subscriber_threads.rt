@@ -65,7 +65,8 @@ where
     requires strategies { vec_len tapes ≤ vec_len strategies.now }
     requires empty { threads.items ≡ [] }
     requires room { vec_len tapes ≤ vec_capacity threads }
-    ensures { Pairwise (λ tape thread. MatchResult thread
+    ensures count { vec_len result ≡ vec_len tapes }
+    ensures threads { Pairwise (λ tape thread. MatchResult thread
         (λ handle. handle.promise.tape.value ≡ tape)
         (λ back. HasPolled tape back))
         tapes.items result.items }
@@ -105,7 +106,8 @@ where
     R: Threads,
     requires empty { tapes.items ≡ [] }
     requires room { vec_len threads ≤ vec_capacity tapes }
-    ensures { Pairwise (λ thread back. MatchResult thread
+    ensures count { vec_len result ≡ vec_len threads }
+    ensures tapes { Pairwise (λ thread back. MatchResult thread
         (λ handle. HasPolled handle.promise.tape.value back)
         (λ here. back ≡ here))
         threads.items result.items }

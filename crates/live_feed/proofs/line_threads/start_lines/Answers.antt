@@ -10,7 +10,7 @@ loop-line-preserved g c =
       tt,
       tt,
       rw pushed.items
-        (pairwise_more _ c.loop-line.yielded c.loop-line.threads.items c.in-Some.line
+          (pairwise_more _ c.loop-line.yielded c.loop-line.threads.items c.in-Some.line
           c.start_line-thread.result i.2 c.start_line-thread.ensures),
       omega (arith, more, pushed.len, i.3),
       omega (arith, pushed.capacity, i.4),

@@ -7,6 +7,6 @@ pub take-answer-requires : goal.take-answer-requires
 take-answer-requires g c =
     let datagram = c.in-Ok-Some.datagram in
     genuine_at g.G.Genuine.sessions g.G.Genuine.carries g.G.Genuine.ends
-        (g.S.LineSource.venue_of c.loop.source) c.loop.seat.venue (bytes_of datagram)
-        c.loop.invariant.2 (c.in-Ok-Some.ensures.genuine datagram
-        (ap (λ found. Ok found) c.in-Ok-Some.field-0-is))
+    (g.S.LineSource.venue_of c.loop.source) c.loop.seat.venue (bytes_of datagram)
+    c.loop.invariant.2 (c.in-Ok-Some.ensures.genuine datagram
+    (ap (λ found. Ok found) c.in-Ok-Some.field-0-is))

@@ -7,8 +7,8 @@ invariant-loop-thread g l =
     (goal.iterator-loop-thread g).can_next l.thread-iterator
     × (goal.iterator-loop-thread g).is_finite l.thread-iterator
     × Pairwise (λ thread back. MatchResult thread
-        (λ handle. HasPolled handle.promise.tape.value back)
-        (λ here. back ≡ here))
-        l.yielded l.tapes.items
+    (λ handle. HasPolled handle.promise.tape.value back)
+    (λ here. back ≡ here))
+    l.yielded l.tapes.items
     × (vec_len l.tapes ≡ length l.yielded)
     × (vec_capacity l.tapes ≡ vec_capacity l.fn.tapes)

@@ -10,7 +10,7 @@ loop-tape-preserved g c =
       tt,
       tt,
       rw pushed.items
-        (pairwise_more _ c.loop-tape.yielded c.loop-tape.threads.items c.in-Some.tape
+          (pairwise_more _ c.loop-tape.yielded c.loop-tape.threads.items c.in-Some.tape
           c.start_subscriber-thread.result i.2 c.start_subscriber-thread.ensures),
       omega (arith, more, pushed.len, i.3),
       omega (arith, pushed.capacity, i.4),

@@ -7,8 +7,8 @@ invariant-loop-tape g l =
     (goal.iterator-loop-tape g).can_next l.tape-iterator
     × (goal.iterator-loop-tape g).is_finite l.tape-iterator
     × Pairwise (λ tape thread. MatchResult thread
-        (λ handle. handle.promise.tape.value ≡ tape)
-        (λ back. HasPolled tape back))
-        l.yielded l.threads.items
+    (λ handle. handle.promise.tape.value ≡ tape)
+    (λ back. HasPolled tape back))
+    l.yielded l.threads.items
     × (vec_len l.threads ≡ length l.yielded)
     × (vec_capacity l.threads ≡ vec_capacity l.fn.threads)
