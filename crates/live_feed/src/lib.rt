@@ -38,6 +38,7 @@ mod next_wanted;
 mod open_feed;
 mod report;
 mod rooms;
+mod running;
 mod seat;
 mod serving;
 mod settle;
