@@ -6,5 +6,6 @@ pub mod FeedMoves
 pub mod ClosedLanes
 pub mod TheirPackets
 pub mod ClosedSubscribers
+pub mod RunMoves
 pub mod Sides
 pub mod Settled

@@ -17,4 +17,6 @@ pub mod Codes
 pub mod Rooms
 pub mod SideBySide
 pub mod Settlements
+-- a run by threads
+pub mod Runs
 pub mod Closings

@@ -1,10 +1,8 @@
 //! A feed behind its locks.
 
 ghost use Rattle.std.specs.Prelude.{◌≡◌, ◌≤◌, ◌↔◌, [], length, IfOk, IfErr, IsErrOf};
-ghost use Rattle.line_arbiter.specs.Genuine.{IsGenuine};
-ghost use Rattle.live_feed.specs.Seats.{new_seat, seat_after};
-ghost use Rattle.live_feed.specs.Sections.{AcceptsTheirPacket};
-ghost use Rattle.live_feed.specs.Datagrams.{AreGenuineBytes, AcceptsTheirs, IsAnsweredAt, IsTakenBy, bytes_of};
+ghost use Rattle.live_feed.specs.Seats.{new_seat};
+ghost use Rattle.live_feed.specs.Datagrams.{AreGenuineBytes, AcceptsTheirs, IsTakenBy, bytes_of};
 
 use crate::datagram::Datagram;
 use crate::faults::{FeedFault, RenewalFault, TakeFault};
@@ -18,8 +16,8 @@ use crate::venue_locks::VenueLocks;
 use feed_types::{Genuine, LineId, SubscriberId, VenueId};
 use filter_terms::{Filter, Strategy};
 use journal_book::JournalFault;
-use line_arbiter::{LineFault, Outcome};
-use mold_packet::{Packet, Request, read_packet};
+use line_arbiter::Outcome;
+use mold_packet::Request;
 use std::alloc::Global;
 use std::sync::{Mutex, Wait};
 
@@ -38,37 +36,6 @@ pub struct OpenFeed<G: Genuine, N: FeedName> {
     pub(crate) venues: VenueLocks<G, N>,
     pub(crate) hub: Mutex<HubCell<G, N>>,
     pub(crate) log_lines: u32,
-}
-
-/// Pushes what is ready of the venue, until nothing is or the lane is full, and gives how many
-/// items were pushed.
-fn push_ready<G: Genuine, N: FeedName, W: Wait>(rt: &W, cell: &mut VenueCell<G, N>) -> u64 {
-    let mut pushed: u64 = 0;
-    for _ in rt.forever() {
-        if cell.push_one(rt).is_err() {
-            break;
-        }
-        pushed = pushed.saturating_add(1);
-    }
-    pushed
-}
-
-/// Takes the packet where the cell is of the seat's venue.
-fn take_in<G: Genuine, N: FeedName>(
-    cell: &mut VenueCell<G, N>,
-    seat: &mut LineSeat<G, N>,
-    packet: &Packet<'_>,
-) -> Result<Outcome, LineFault>
-    requires { IsGenuine G.sessions G.carries G.ends seat.old.venue packet.now }
-    ensures seat { seat.new ≡ seat_after seat.old packet.now result }
-    ensures answer { IsAnsweredAt G.sessions G.carries G.ends N.lanes seat.old packet.now result }
-    ensures accepts { AcceptsTheirPacket G.sessions G.carries G.ends seat.old.venue packet.now
-        result }
-{
-    if cell.venue() != seat.venue() {
-        return Err(LineFault::OtherSession);
-    }
-    cell.take(seat, packet)
 }
 
 impl<G: Genuine, N: FeedName> OpenFeed<G, N> {
@@ -123,39 +90,7 @@ impl<G: Genuine, N: FeedName> OpenFeed<G, N> {
         ensures accepts { AcceptsTheirs G.sessions G.carries G.ends seat.old.venue
             (bytes_of datagram.now) result }
     {
-        match read_packet(datagram.bytes()) {
-            Ok(packet) => match self.take_packet(rt, seat, &packet) {
-                Ok(outcome) => Ok(outcome),
-                Err(fault) => Err(TakeFault::Line(fault)),
-            },
-            Err(fault) => {
-                let _ = self.flush(rt, seat.venue());
-                Err(TakeFault::Packet(fault))
-            }
-        }
-    }
-
-    /// Takes a packet that was read, under the lock of the seat's venue, and pushes what is ready.
-    fn take_packet<W: Wait>(
-        &self,
-        rt: &W,
-        seat: &mut LineSeat<G, N>,
-        packet: &Packet<'_>,
-    ) -> Result<Outcome, LineFault>
-        requires { IsGenuine G.sessions G.carries G.ends seat.old.venue packet.now }
-        ensures seat { seat.new ≡ seat_after seat.old packet.now result }
-        ensures answer { IsAnsweredAt G.sessions G.carries G.ends N.lanes seat.old packet.now
-            result }
-        ensures accepts { AcceptsTheirPacket G.sessions G.carries G.ends seat.old.venue packet.now
-            result }
-    {
-        let Some(lock) = self.venues.get(seat.venue()) else {
-            return Err(LineFault::OtherSession);
-        };
-        let mut guarded = lock.lock(rt);
-        let answer = take_in(&mut guarded.cell, seat, packet);
-        push_ready(rt, &mut guarded.cell);
-        answer
+        self.venues.take(rt, seat, datagram)
     }
 
     /// Pushes what is ready of the venue, until nothing is or the lane is full, and gives how many
@@ -163,14 +98,7 @@ impl<G: Genuine, N: FeedName> OpenFeed<G, N> {
     pub fn flush<W: Wait>(&self, rt: &W, venue: VenueId) -> Result<u64, FeedFault>
         ensures unknown { IsErrOf result FeedFault.UnknownVenue ↔ (length N.lanes.venues ≤ venue) }
     {
-        let Some(lock) = self.venues.get(venue) else {
-            return Err(FeedFault::UnknownVenue);
-        };
-        let mut guarded = lock.lock(rt);
-        if guarded.cell.venue() != venue {
-            return Ok(0);
-        }
-        Ok(push_ready(rt, &mut guarded.cell))
+        self.venues.flush(rt, venue)
     }
 
     /// The request for the venue's gap to send now, if any.
@@ -182,14 +110,7 @@ impl<G: Genuine, N: FeedName> OpenFeed<G, N> {
     ) -> Result<Option<Request>, FeedFault>
         ensures unknown { IsErrOf result FeedFault.UnknownVenue ↔ (length N.lanes.venues ≤ venue) }
     {
-        let Some(lock) = self.venues.get(venue) else {
-            return Err(FeedFault::UnknownVenue);
-        };
-        let mut guarded = lock.lock(rt);
-        if guarded.cell.venue() != venue {
-            return Ok(None);
-        }
-        Ok(guarded.cell.due(now_ms))
+        self.venues.due(rt, venue, now_ms)
     }
 
     /// Begins the venue's session of this ordinal and name, once End of the one before it was sent,

@@ -1,0 +1,129 @@
+-- How lines and subscribers go on in a run.
+use Rattle.std.proofs.Common.{◌≡◌, ℕ, MatchResult, map, List, [], ◌∷◌, ◌++◌, Option, None, Some, Result, Ok, Err, refl, sym, ◌∙◌, ap, subst, append-nil, append_assoc}
+use Rattle.feed_types.specs.declared.journal.Notice.{Notice}
+use Rattle.feed_types.specs.Prefix.{IsPrefix}
+use Rattle.feed_types.specs.Sequence.{Carries, Ends}
+use Rattle.feed_types.specs.Sessions.{SessionNames}
+use Rattle.filter_terms.specs.declared.advice.Advice.{Advice}
+use Rattle.line_arbiter.specs.declared.outcome.Outcome.{Outcome}
+use Rattle.live_feed.specs.declared.faults.TakeFault.{TakeFault}
+use Rattle.live_feed.specs.declared.faults.TakeFault.TheVariants as faults
+use Rattle.live_feed.specs.declared.source.SourceFault.{SourceFault}
+use Rattle.live_feed.specs.declared.logged.PollFault.{PollFault}
+use Rattle.live_feed.specs.declared.logged.PollFault.TheVariants.{NoMemory, LogFull}
+use Rattle.live_feed.specs.Lanes.{FeedLanes}
+use Rattle.live_feed.specs.Seats.{SeatState}
+use Rattle.live_feed.specs.Datagrams.{AreGenuineBytes, IsTakenBy}
+use Rattle.live_feed.specs.Tapes.{TapeState, Polls, logged}
+use Rattle.live_feed.specs.Runs.{HasEnded, HasPolled, Pairwise}
+
+-- a datagram leaves a seat where it is
+pub seat_stays : (sessions : SessionNames) (carries : Carries) (ends : Ends) (lanes : FeedLanes)
+    (bytes : List ℕ) (old : SeatState) (answer : Result Outcome TakeFault) (new : SeatState)
+    → IsTakenBy sessions carries ends lanes bytes old answer new
+    → (new.venue ≡ old.venue) × (new.line ≡ old.line)
+seat_stays sessions carries ends lanes bytes old (Err (faults.Packet fault)) new taken =
+    (ap (λ s. s.venue) taken.1, ap (λ s. s.line) taken.1)
+seat_stays sessions carries ends lanes bytes old (Err (faults.Line fault)) new taken =
+    (ap (λ s. s.venue) taken.seat, ap (λ s. s.line) taken.seat)
+seat_stays sessions carries ends lanes bytes old (Ok outcome) new taken =
+    (ap (λ s. s.venue) taken.seat, ap (λ s. s.line) taken.seat)
+
+-- what is genuine at a source's venue is so at its seat's
+pub genuine_at : (sessions : SessionNames) (carries : Carries) (ends : Ends) (v w : ℕ)
+    (bytes : List ℕ) → v ≡ w → AreGenuineBytes sessions carries ends v bytes
+    → AreGenuineBytes sessions carries ends w bytes
+genuine_at sessions carries ends v w bytes same genuine =
+    let P : ℕ → Type 0 = λ x. AreGenuineBytes sessions carries ends x bytes in
+    subst P same genuine
+
+pub polled_itself : (t : TapeState) → HasPolled t t
+polled_itself t = record {
+  id = refl;
+  limits = refl;
+  most = refl;
+  log = record { rest = []; is = sym (append-nil t.log) };
+}
+
+polled_same : (t u v : TapeState) → HasPolled t u → v ≡ u → HasPolled t v
+polled_same t u v so_far same = let P : TapeState → Type 0 = λ x. HasPolled t x in
+    rw same so_far
+
+-- one poll more
+pub polled_more : (may_send : ℕ → List Notice → Type 0)
+    (answer : Result (Option Advice) PollFault) (t u v : TapeState)
+    → HasPolled t u → Polls may_send answer u v → HasPolled t v
+polled_more may_send (Err LogFull) t u v so_far polled = polled_same t u v so_far polled.1
+polled_more may_send (Err NoMemory) t u v so_far polled = polled_same t u v so_far polled.1
+polled_more may_send (Ok None) t u v so_far polled = polled_same t u v so_far polled.1
+polled_more may_send (Ok (Some advice)) t u v so_far polled =
+    let line = logged polled.1 advice in record {
+      id = ap (λ x. x.id) polled.3 ∙ so_far.id;
+      limits = ap (λ x. x.limits) polled.3 ∙ so_far.limits;
+      most = ap (λ x. x.most) polled.3 ∙ so_far.most;
+      log = record {
+        rest = so_far.log.rest ++ line ∷ [];
+        is = ap (λ x. x.log) polled.3 ∙ (ap (λ xs. xs ++ line ∷ []) so_far.log.is
+            ∙ append_assoc t.log so_far.log.rest (line ∷ []));
+      };
+    }
+
+-- one pair more
+pub pairwise_more : {A B : Type 0} (R : A → B → Type 0) (xs : List A) (ys : List B) (x : A) (y : B)
+    → Pairwise R xs ys → R x y → Pairwise R (xs ++ x ∷ []) (ys ++ y ∷ [])
+pairwise_more R [] [] x y all one = (one, tt)
+pairwise_more R [] (b ∷ ys) x y all one = absurd all
+pairwise_more R (a ∷ xs) [] x y all one = absurd all
+pairwise_more R (a ∷ xs) (b ∷ ys) x y all one =
+    (all.0, pairwise_more R xs ys x y all.1 one)
+
+-- the relation of a list's items so far is that of the list, once these are all
+pub pairwise_all : {A B : Type 0} (R : A → B → Type 0) (xs all : List A) (ys : List B)
+    → Pairwise R xs ys → xs ≡ all → Pairwise R all ys
+pairwise_all R xs all ys pairs same = subst (λ zs. Pairwise R zs ys) same pairs
+
+-- the same line's end, where its seat and source are known by another name
+pub ended_of : {S : Type 0} (becomes : S → S → Type 0) (failures : S → ℕ) (seat given : SeatState)
+    (source first : S) (last_seat : SeatState) (last_source : S) (fault : Option SourceFault)
+    → seat ≡ given → source ≡ first
+    → HasEnded becomes failures seat source last_seat last_source fault
+    → HasEnded becomes failures given first last_seat last_source fault
+ended_of becomes failures seat given source first last_seat last_source fault same_seat same ended =
+    let P : SeatState → Type 0 = λ s. HasEnded becomes failures s source last_seat last_source fault
+    in let Q : _ → Type 0 = λ s. HasEnded becomes failures given s last_seat last_source fault in
+    subst Q same (subst P same_seat ended)
+
+-- what was started for each, and then joined or handed back
+pub joined : {A H C : Type 0} (made : A → H → Type 0) (ends : A → C → Type 0)
+    (kept : H → C → Type 0) (step : (a : A) (h : H) (x : C) → made a h → kept h x → ends a x)
+    (xs : List A) (threads : List (Result H C)) (zs : List C)
+    → Pairwise (λ a thread. MatchResult thread (made a) (ends a)) xs threads
+    → Pairwise (λ thread x. MatchResult thread (λ h. kept h x) (λ here. x ≡ here)) threads zs
+    → Pairwise ends xs zs
+joined made ends kept step [] [] [] started ended = tt
+joined made ends kept step [] [] (z ∷ zs) started ended = absurd ended
+joined made ends kept step [] (t ∷ ts) zs started ended = absurd started
+joined made ends kept step (x ∷ xs) [] zs started ended = absurd started
+joined made ends kept step (x ∷ xs) (t ∷ ts) [] started ended = absurd ended
+joined made ends kept step (x ∷ xs) ((Ok h) ∷ ts) (z ∷ zs) started ended =
+    (step x h z started.0 ended.0, joined made ends kept step xs ts zs started.1 ended.1)
+joined made ends kept step (x ∷ xs) ((Err here) ∷ ts) (z ∷ zs) started ended =
+    let P : _ → Type 0 = λ y. ends x y in
+    (subst P (sym ended.0) started.0, joined made ends kept step xs ts zs started.1 ended.1)
+
+-- a relation of what is seen of the items
+pub pairwise_seen : {A B X Y : Type 0} (R : X → Y → Type 0) (f : A → X) (g : B → Y) (xs : List A)
+    (ys : List B) → Pairwise R (map f xs) (map g ys) → Pairwise (λ x y. R (f x) (g y)) xs ys
+pairwise_seen R f g [] [] pairs = tt
+pairwise_seen R f g [] (y ∷ ys) pairs = absurd pairs
+pairwise_seen R f g (x ∷ xs) [] pairs = absurd pairs
+pairwise_seen R f g (x ∷ xs) (y ∷ ys) pairs = (pairs.0, pairwise_seen R f g xs ys pairs.1)
+
+-- what is seen of those handed back is what came of those given
+pub handed_back : {A X : Type 0} (R : X → X → Type 0) (f : A → X) (given back : List A)
+    (tapes ends : List X) → tapes ≡ map f given → map f back ≡ ends → Pairwise R tapes ends
+    → Pairwise (λ x y. R (f x) (f y)) given back
+handed_back R f given back tapes ends first last pairs =
+    pairwise_seen R f f given back
+    (subst (λ xs. Pairwise R xs (map f back)) first
+    (subst (λ ys. Pairwise R tapes ys) (sym last) pairs))

@@ -1,0 +1,16 @@
+use Rattle.std.proofs.Common.{◌≡◌, MatchResult, length, vec_len, vec_capacity}
+use Rattle.live_feed.specs.Runs.{Pairwise, HasEnded}
+use Rattle.live_feed.proofs.line_threads.join_lines.Given as goal
+
+abbrev pub invariant-loop-thread : goal.invariant-loop-thread
+invariant-loop-thread g l =
+    (goal.iterator-loop-thread g).can_next l.thread-iterator
+    × (goal.iterator-loop-thread g).is_finite l.thread-iterator
+    × Pairwise (λ thread ended. MatchResult thread
+    (λ handle. HasEnded g.S.LineSource.becomes g.S.LineSource.failures
+    handle.promise.seat.value handle.promise.source.value ended.seat ended.source
+    ended.fault)
+    (λ here. ended ≡ here))
+    l.yielded l.ends.items
+    × (vec_len l.ends ≡ length l.yielded)
+    × (vec_capacity l.ends ≡ vec_capacity l.fn.ends)

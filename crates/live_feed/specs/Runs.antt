@@ -1,0 +1,51 @@
+-- What a run of a feed hands back.
+use Rattle.std.specs.Prelude.{◌≡◌, ℕ, ◌+◌, List, [], ◌∷◌, Option, MatchOption}
+use Rattle.feed_types.specs.Prefix.{IsPrefix}
+use Rattle.live_feed.specs.declared.source.SourceFault.{SourceFault}
+use Rattle.live_feed.specs.declared.source.SourceFault.TheVariants as faults
+use Rattle.live_feed.specs.declared.report.Stop.{Stop}
+use Rattle.live_feed.specs.declared.report.Stop.TheVariants as stops
+use Rattle.live_feed.specs.declared.logged.Logged.{Logged}
+use Rattle.live_feed.specs.Seats.{SeatState}
+use Rattle.live_feed.specs.Tapes.{TapeState}
+
+abbrev pub source_fault_code : SourceFault → ℕ
+source_fault_code faults.NoMemory = 12
+source_fault_code faults.TooManyTurns = 28
+source_fault_code faults.Device = 33
+
+abbrev pub stop_code : Stop → ℕ
+stop_code stops.NoMemory = 12
+stop_code stops.JournalFull = 17
+stop_code stops.NoThread = 34
+
+-- The count of a source's failures after a call that was refused so: want of memory is none.
+abbrev pub failures_after : ℕ → SourceFault → ℕ
+failures_after failures faults.Device = failures + 1
+failures_after failures faults.TooManyTurns = failures + 1
+failures_after failures faults.NoMemory = failures
+
+-- The lists are as long as one another, and the relation holds at each place.
+abbrev pub Pairwise : {A B : Type 0} → (A → B → Type 0) → List A → List B → Type 0
+Pairwise R [] [] = Unit {0}
+Pairwise R [] (y ∷ ys) = ⊥
+Pairwise R (x ∷ xs) [] = ⊥
+Pairwise R (x ∷ xs) (y ∷ ys) = R x y × Pairwise R xs ys
+
+-- A line that has ended: its seat is the one that it had, its source is what calls made of the one
+-- that it had, and of these calls none failed but the last, where the line has a fault.
+pub record HasEnded {S : Type 0} (becomes : S → S → Type 0) (failures : S → ℕ)
+    (seat : SeatState) (source : S) (last_seat : SeatState) (last_source : S)
+    (fault : Option SourceFault) : Type 0 where
+  pub venue : last_seat.venue ≡ seat.venue
+  pub line : last_seat.line ≡ seat.line
+  pub later : becomes source last_source
+  pub counted : MatchOption fault (failures last_source ≡ failures source)
+      (λ fault. failures last_source ≡ failures_after (failures source) fault)
+
+-- A subscriber that took notices: it is the one that it was, and its log has grown at its end.
+pub record HasPolled (old new : TapeState) : Type 0 where
+  pub id : new.id ≡ old.id
+  pub limits : new.limits ≡ old.limits
+  pub most : new.most ≡ old.most
+  pub log : IsPrefix old.log new.log

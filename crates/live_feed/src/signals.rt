@@ -1,0 +1,84 @@
+//! What the threads of a run tell each other.
+
+use feed_types::SubscriberId;
+use std::array;
+use std::sync::atomic::{AtomicBool, AtomicU64, Ordering};
+
+/// What the threads of a run tell each other.
+#[derive(Drop)]
+pub(crate) struct Signals {
+    /// The run stops early.
+    stop: AtomicBool,
+    /// A thread couldn't be started.
+    no_thread: AtomicBool,
+    /// How many lines haven't ended.
+    lines_left: AtomicU64,
+    /// All that can be offered was offered.
+    offered: AtomicBool,
+    /// By id, whether the subscriber's thread takes notices.
+    polling: [AtomicBool; 32],
+}
+
+impl Signals {
+    /// A run of so many lines that has begun, with no thread yet.
+    pub(crate) fn new(lines: u64) -> Signals {
+        Signals {
+            stop: AtomicBool::new(false),
+            no_thread: AtomicBool::new(false),
+            lines_left: AtomicU64::new(lines),
+            offered: AtomicBool::new(false),
+            polling: array::from_fn(|_| AtomicBool::new(false)),
+        }
+    }
+
+    /// The run stops early.
+    pub(crate) fn stop(&self) {
+        self.stop.store(true, Ordering::SeqCst);
+    }
+
+    /// Whether the run stops early.
+    pub(crate) fn is_stopped(&self) -> bool {
+        self.stop.load(Ordering::SeqCst)
+    }
+
+    /// The run stops early, since a thread couldn't be started.
+    pub(crate) fn lack_thread(&self) {
+        self.no_thread.store(true, Ordering::SeqCst);
+        self.stop();
+    }
+
+    /// Whether a thread couldn't be started.
+    pub(crate) fn lacks_thread(&self) -> bool {
+        self.no_thread.load(Ordering::SeqCst)
+    }
+
+    /// One line more has ended.
+    pub(crate) fn end_line(&self) {
+        self.lines_left.fetch_sub(1, Ordering::SeqCst);
+    }
+
+    /// Whether all lines have ended.
+    pub(crate) fn have_lines_ended(&self) -> bool {
+        self.lines_left.load(Ordering::SeqCst) == 0
+    }
+
+    /// All that can be offered was offered.
+    pub(crate) fn end_offers(&self) {
+        self.offered.store(true, Ordering::SeqCst);
+    }
+
+    /// Whether all that can be offered was offered.
+    pub(crate) fn have_offers_ended(&self) -> bool {
+        self.offered.load(Ordering::SeqCst)
+    }
+
+    /// Whether the subscriber's thread takes notices, from now on.
+    pub(crate) fn set_polling(&self, id: SubscriberId, polls: bool) {
+        self.polling[id.index()].store(polls, Ordering::SeqCst);
+    }
+
+    /// Whether the subscriber's thread takes notices.
+    pub(crate) fn is_polling(&self, id: SubscriberId) -> bool {
+        self.polling[id.index()].load(Ordering::SeqCst)
+    }
+}

@@ -1,0 +1,140 @@
+//! The calls of a feed that take a venue's lock alone.
+
+ghost use Rattle.std.specs.Prelude.{◌≡◌, ◌≤◌, ◌↔◌, length, IsErrOf};
+ghost use Rattle.line_arbiter.specs.Genuine.{IsGenuine};
+ghost use Rattle.live_feed.specs.Seats.{seat_after};
+ghost use Rattle.live_feed.specs.Sections.{AcceptsTheirPacket};
+ghost use Rattle.live_feed.specs.Datagrams.{AreGenuineBytes, AcceptsTheirs, IsAnsweredAt, IsTakenBy, bytes_of};
+
+use crate::datagram::Datagram;
+use crate::faults::{FeedFault, TakeFault};
+use crate::feed_name::FeedName;
+use crate::seat::LineSeat;
+use crate::venue_cell::VenueCell;
+use crate::venue_locks::VenueLocks;
+use feed_types::{Genuine, VenueId};
+use line_arbiter::{LineFault, Outcome};
+use mold_packet::{Packet, Request, read_packet};
+use std::sync::Wait;
+
+/// Pushes what is ready of the venue, until nothing is or the lane is full, and gives how many
+/// items were pushed.
+fn push_ready<G: Genuine, N: FeedName, W: Wait>(rt: &W, cell: &mut VenueCell<G, N>) -> u64 {
+    let mut pushed: u64 = 0;
+    for _ in rt.forever() {
+        if cell.push_one(rt).is_err() {
+            break;
+        }
+        pushed = pushed.saturating_add(1);
+    }
+    pushed
+}
+
+/// Takes the packet where the cell is of the seat's venue.
+fn take_in<G: Genuine, N: FeedName>(
+    cell: &mut VenueCell<G, N>,
+    seat: &mut LineSeat<G, N>,
+    packet: &Packet<'_>,
+) -> Result<Outcome, LineFault>
+    requires { IsGenuine G.sessions G.carries G.ends seat.old.venue packet.now }
+    ensures seat { seat.new ≡ seat_after seat.old packet.now result }
+    ensures answer { IsAnsweredAt G.sessions G.carries G.ends N.lanes seat.old packet.now result }
+    ensures accepts { AcceptsTheirPacket G.sessions G.carries G.ends seat.old.venue packet.now
+        result }
+{
+    if cell.venue() != seat.venue() {
+        return Err(LineFault::OtherSession);
+    }
+    cell.take(seat, packet)
+}
+
+impl<G: Genuine, N: FeedName> VenueLocks<G, N> {
+    /// Takes a datagram that came on the seat's line, which is genuine at its venue, and answers
+    /// what became of it: the packet's fault, else the line's, else the outcome. What is ready then,
+    /// after a fault too, is pushed, until nothing is or the lane is full. The datagram is read
+    /// before the venue's lock is taken.
+    pub(crate) fn take<W: Wait>(
+        &self,
+        rt: &W,
+        seat: &mut LineSeat<G, N>,
+        datagram: &Datagram,
+    ) -> Result<Outcome, TakeFault>
+        requires { AreGenuineBytes G.sessions G.carries G.ends seat.old.venue
+            (bytes_of datagram.now) }
+        ensures taken { IsTakenBy G.sessions G.carries G.ends N.lanes (bytes_of datagram.now)
+            seat.old result seat.new }
+
+        // Where it is known which sessions the lines bring, a packet of one of them is refused only
+        // where it isn't of the present one.
+        ensures accepts { AcceptsTheirs G.sessions G.carries G.ends seat.old.venue
+            (bytes_of datagram.now) result }
+    {
+        match read_packet(datagram.bytes()) {
+            Ok(packet) => match self.take_packet(rt, seat, &packet) {
+                Ok(outcome) => Ok(outcome),
+                Err(fault) => Err(TakeFault::Line(fault)),
+            },
+            Err(fault) => {
+                let _ = self.flush(rt, seat.venue());
+                Err(TakeFault::Packet(fault))
+            }
+        }
+    }
+
+    /// Takes a packet that was read, under the lock of the seat's venue, and pushes what is ready.
+    fn take_packet<W: Wait>(
+        &self,
+        rt: &W,
+        seat: &mut LineSeat<G, N>,
+        packet: &Packet<'_>,
+    ) -> Result<Outcome, LineFault>
+        requires { IsGenuine G.sessions G.carries G.ends seat.old.venue packet.now }
+        ensures seat { seat.new ≡ seat_after seat.old packet.now result }
+        ensures answer { IsAnsweredAt G.sessions G.carries G.ends N.lanes seat.old packet.now
+            result }
+        ensures accepts { AcceptsTheirPacket G.sessions G.carries G.ends seat.old.venue packet.now
+            result }
+    {
+        let Some(lock) = self.get(seat.venue()) else {
+            return Err(LineFault::OtherSession);
+        };
+        let mut guarded = lock.lock(rt);
+        let answer = take_in(&mut guarded.cell, seat, packet);
+        push_ready(rt, &mut guarded.cell);
+        answer
+    }
+
+    /// Pushes what is ready of the venue, until nothing is or the lane is full, and gives how many
+    /// items were pushed.
+    pub(crate) fn flush<W: Wait>(&self, rt: &W, venue: VenueId) -> Result<u64, FeedFault>
+        ensures unknown { IsErrOf result FeedFault.UnknownVenue ↔ (length N.lanes.venues ≤ venue) }
+    {
+        let Some(lock) = self.get(venue) else {
+            return Err(FeedFault::UnknownVenue);
+        };
+        let mut guarded = lock.lock(rt);
+        if guarded.cell.venue() != venue {
+            return Ok(0);
+        }
+        Ok(push_ready(rt, &mut guarded.cell))
+    }
+
+    /// The request for the venue's gap to send now, if any.
+    pub(crate) fn due<W: Wait>(
+        &self,
+        rt: &W,
+        venue: VenueId,
+        now_ms: u64,
+    ) -> Result<Option<Request>, FeedFault>
+        ensures unknown { IsErrOf result FeedFault.UnknownVenue ↔ (length N.lanes.venues ≤ venue) }
+    {
+        let Some(lock) = self.get(venue) else {
+            return Err(FeedFault::UnknownVenue);
+        };
+        let mut guarded = lock.lock(rt);
+        if guarded.cell.venue() != venue {
+            return Ok(None);
+        }
+        Ok(guarded.cell.due(now_ms))
+    }
+}
