@@ -1,4 +1,6 @@
+pub mod Addresses
 pub mod CommandLine
+pub mod Commands
 pub mod Ending
 pub mod Runs
 pub mod Sessions

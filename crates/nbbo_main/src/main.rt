@@ -12,20 +12,25 @@
 #![tactic(auto)]
 
 ghost use Rattle.std.specs.Prelude.{◌≡◌, ◌≢◌, ◌<◌};
-ghost use Rattle.nbbo_main.specs.declared.command_line.Refusal.TheVariants.{NoMemory, NotText};
+ghost use Rattle.nbbo_main.specs.declared.refusal.Refusal.TheVariants.{NoMemory, NotText};
 
+mod addresses;
 mod command_line;
+mod commands;
 mod ending;
 mod help_texts;
+mod listen_settings;
+mod refusal;
 mod replay_settings;
 mod run;
 mod sessions;
 mod symbols;
+mod task;
 
-use command_line::Refusal;
 use feed_text::failures::Failures;
 use feed_text::system::{StreamIn, StreamOut};
-use run::{refuse, run};
+use refusal::Refusal;
+use run::{Ran, refuse, run};
 use std::io::{ErrorKind, IsTerminal, Stderr, Stdin, Stdout};
 use std::marker::Brand;
 use std::process::ExitCode;
@@ -70,16 +75,21 @@ fn run_streams<R: Ledger, W: Ledger, E: Ledger>(
     let mut input: StreamIn<Stdin, R> = StreamIn::new(rt.stdin(), Failures::new(of_reads));
     let mut output: StreamOut<Stdout, W> = StreamOut::new(rt.stdout(), Failures::new(of_writes));
     let mut errors: StreamOut<Stderr, E> = StreamOut::new(rt.stderr(), Failures::new(of_errors));
-    match words_of(rt) {
-        Ok(words) => run(
-            rt.alloc(),
-            words.as_slice(),
-            at_terminal,
-            &mut input,
-            &mut output,
-            &mut errors,
-        ),
-        Err(error) => refuse(&unread(error.kind()), &mut output, &mut errors),
+    let words = match words_of(rt) {
+        Ok(words) => words,
+        Err(error) => return refuse(&unread(error.kind()), &mut output, &mut errors),
+    };
+    let ran = run(
+        rt.alloc(),
+        words.as_slice(),
+        at_terminal,
+        &mut input,
+        &mut output,
+        &mut errors,
+    );
+    match ran {
+        Ran::Ended(status) => status,
+        Ran::Listens(_settings) => 1,
     }
 }
 
