@@ -5,3 +5,4 @@ pub mod Ending
 pub mod Runs
 pub mod Sessions
 pub mod Symbols
+pub mod UdpLines

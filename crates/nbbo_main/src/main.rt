@@ -19,22 +19,32 @@ mod command_line;
 mod commands;
 mod ending;
 mod help_texts;
+mod listen;
 mod listen_settings;
+mod listening;
 mod refusal;
 mod replay_settings;
 mod run;
 mod sessions;
+mod summary;
 mod symbols;
 mod task;
+mod udp_line;
 
+use feed_text::devices::TextOut;
 use feed_text::failures::Failures;
 use feed_text::system::{StreamIn, StreamOut};
+use filter_terms::Terms;
+use listen::{bound, listen_with};
+use listen_settings::ListenSettings;
 use refusal::Refusal;
-use run::{Ran, refuse, run};
+use run::{Ran, refuse, run, say};
 use std::io::{ErrorKind, IsTerminal, Stderr, Stdin, Stdout};
 use std::marker::Brand;
 use std::process::ExitCode;
+use std::sync::Wait;
 use std::sync::ledger::{Blank, Ledger};
+use std::thread::Threads;
 use std::{env, io};
 
 /// The words of the command line, the program's name first.
@@ -55,8 +65,9 @@ fn unread(kind: ErrorKind) -> Refusal
 }
 
 /// Runs over the standard streams, whose failures the blank pages count, and gives the status of the program.
-fn run_streams<R: Ledger, W: Ledger, E: Ledger>(
+fn run_streams<H: Threads + Wait + Sync, R: Ledger, W: Ledger, E: Ledger>(
     rt: &HostRuntime,
+    threads: &H,
     of_reads: Blank,
     of_writes: Blank,
     of_errors: Blank,
@@ -89,12 +100,39 @@ fn run_streams<R: Ledger, W: Ledger, E: Ledger>(
     );
     match ran {
         Ran::Ended(status) => status,
-        Ran::Listens(_settings) => 1,
+        Ran::Listens(settings) => listen_live(rt, threads, &settings, &mut output, &mut errors),
+    }
+}
+
+/// Listens on the lines of the settings.
+fn listen_live<H: Threads + Wait + Sync, W: TextOut, E: TextOut>(
+    rt: &HostRuntime,
+    threads: &H,
+    settings: &ListenSettings,
+    output: &mut W,
+    errors: &mut E,
+) -> u8 {
+    match bound(rt, rt.alloc(), settings.lines.as_slice()) {
+        Ok(sockets) => listen_with(
+            threads,
+            rt,
+            rt.alloc(),
+            settings,
+            sockets,
+            Terms::All,
+            output,
+            errors,
+        ),
+        Err(text) => {
+            say(text, errors);
+            1
+        }
     }
 }
 
 fn main(rt: HostRuntime) -> ExitCode {
-    ExitCode::from(run_streams::<Brand, Brand, Brand>(
+    ExitCode::from(run_streams::<HostRuntime, Brand, Brand, Brand>(
+        &rt,
         &rt,
         Blank::new(1),
         Blank::new(1),

@@ -45,7 +45,7 @@ fn config_of(settings: &ReplaySettings) -> ReplayConfig<'_>
 }
 
 /// Writes a text on standard error. Where it can't be written nothing can be told.
-fn say<E: TextOut>(text: &str, errors: &mut E)
+pub fn say<E: TextOut>(text: &str, errors: &mut E)
     ensures { Says (record { adds = E.adds; failures = E.failures })
         text.now errors.old errors.new }
 {
