@@ -1,18 +1,18 @@
 -- What a replay keeps of each venue, and that it follows the histories. Private clauses alone cite
 -- this file.
-use Rattle.std.specs.Prelude.{◌≡◌, ◌⊎◌, ℕ, Bool, List, [], ◌∷◌, ◌++◌, ◌+◌, length, sum_by, Some, Result, Ok, Err, OnOk, slice_get, take}
+use Rattle.std.specs.Prelude.{◌≡◌, ◌⊎◌, ℕ, Bool, List, [], ◌∷◌, ◌++◌, ◌+◌, length, sum_by, Some, Result, Ok, Err, OnOk, slice_get, take, drop, map}
 use Rattle.feed_types.specs.declared.line.LineId.{LineId}
 use Rattle.mold_packet.specs.Content.{Content}
 use Rattle.line_arbiter.specs.declared.outcome.Outcome.{Outcome}
 use Rattle.line_arbiter.specs.declared.outcome.LineFault.{LineFault}
 use Rattle.line_arbiter.specs.declared.faults.RenewFault.{RenewFault}
-use Rattle.line_arbiter.specs.Packets.{arrival_of, end_of}
-use Rattle.line_arbiter.specs.Streams.{wins_of}
+use Rattle.line_arbiter.specs.Packets.{Arrival, arrival_of, end_of}
+use Rattle.line_arbiter.specs.Streams.{stream_of, wins_of}
 use Rattle.line_arbiter.specs.Histories.{History, items_of, names_of, after_arrival}
 use Rattle.line_arbiter.specs.Outcomes.{IsOutcome}
 use Rattle.line_arbiter.specs.Renewals.{IsRenewal}
 use Rattle.line_arbiter.specs.Counts.{count_on, shown}
-use Rattle.line_arbiter.specs.States.{State}
+use Rattle.line_arbiter.specs.States.{State, KeepsAllButSent}
 use Rattle.line_arbiter.specs.Fits.{Fits}
 use Rattle.feed_text.specs.declared.fault.ReplayFault.{ReplayFault}
 use Rattle.feed_text.specs.declared.fault.ReplayFault.TheVariants as faults
@@ -20,7 +20,7 @@ use Rattle.feed_text.specs.declared.report.Stop.{Stop}
 use Rattle.feed_text.specs.declared.report.Stop.TheVariants.{JournalFull, NoMemory}
 use Rattle.feed_text.specs.Capture.{CaptureRecord, venue_of}
 use Rattle.feed_text.specs.Devices.{Wrote}
-use Rattle.feed_text.specs.Happenings.{Happening, packet_answered}
+use Rattle.feed_text.specs.Happenings.{Happening, item_taken, packet_answered}
 use Rattle.feed_text.specs.Told.{sent_of, items_told, after_answer, TellsAt, TellsRecord}
 use Rattle.feed_text.specs.Texts.{last_lines}
 use Rattle.feed_text.specs.Tales.{Tale, TellsBy}
@@ -31,8 +31,8 @@ pub record Venue : Type 0 where
   pub arbiter : State
   pub sent_before : ℕ
 
--- The venue, at this place and with a window of this width, is that to which this came, and all that
--- is ready was sent.
+-- The venue, at this place and with a window of this width, is that to which this came, and all
+-- that is ready was sent.
 pub record Follows (width place : ℕ) (v : Venue) (h : History) : Type 0 where
   pub fits : Fits v.arbiter h.present.packets
   pub number : v.arbiter.venue ≡ place
@@ -43,6 +43,16 @@ pub record Follows (width place : ℕ) (v : Venue) (h : History) : Type 0 where
   pub sent_before : v.sent_before ≡ shown (length (items_of h.earlier))
   pub won_before : (line : LineId) → count_on line v.arbiter.earlier
       ≡ shown (sum_by (λ session. wins_of session.packets line) h.earlier)
+
+-- The items that are ready were taken, each once and in sequence, and where all of them were the
+-- arbiter has sent them, and keeps the rest.
+pub record TakesReady (venue : ℕ) (from to : State) (old new : Tale)
+    (done : Result (Unit {0}) Stop) : Type 0 where
+  pub tells : (P : List Arrival) → Fits from P
+      → TellsBy old (map (item_taken venue) (drop from.sent (stream_of P))) new done
+  pub fits : OnOk done ((P : List Arrival) → Fits from P
+      → Fits to P × (to.sent ≡ length (stream_of P)))
+  pub kept : OnOk done (KeepsAllButSent from to)
 
 -- A packet and then the items that it made ready were told, and where all of them were the venue
 -- follows the history with this packet.
@@ -116,7 +126,8 @@ fault_by NoMemory = faults.NoMemory
 
 -- The text was written, or the writer failed within it.
 pub record Stops {W : Type 0} (adds : W → List ℕ → W → Type 0) (failures : W → ℕ)
-    (stop : Stop) (whole : ℕ) (text : List ℕ) (before after : W) (fault : ReplayFault) : Type 0 where
+    (stop : Stop) (whole : ℕ) (text : List ℕ) (before after : W)
+    (fault : ReplayFault) : Type 0 where
   pub ways : ((fault ≡ fault_by stop) × adds before (left_by stop whole text) after)
       ⊎ ((fault ≡ faults.WriteFailed) × Wrote adds before (left_by stop whole text) after
       × (failures after ≡ failures before + 1))
@@ -128,8 +139,8 @@ pub record WritesLast (at : VenueList) (Takes : List ℕ → Type 0) : Type 0 wh
   pub taken : Takes lines
 
 -- What writing the last lines came to, by its answer.
-abbrev pub Closes : {W : Type 0} (adds : W → List ℕ → W → Type 0) (failures : W → ℕ) (at : VenueList)
-    (before after : W) → Result (Unit {0}) ReplayFault → Type 0
+abbrev pub Closes : {W : Type 0} (adds : W → List ℕ → W → Type 0) (failures : W → ℕ)
+    (at : VenueList) (before after : W) → Result (Unit {0}) ReplayFault → Type 0
 Closes adds failures at before after (Ok done) = WritesLast at (λ lines. adds before lines after)
 Closes adds failures at before after (Err faults.NoMemory) = after ≡ before
 Closes adds failures at before after (Err faults.WriteFailed) =

@@ -175,7 +175,17 @@ pub(crate) fn place_name(room: &mut [u8], at: usize, symbol: SymbolName) -> usiz
     place_word(room, at, symbol.field(), len)
 }
 
-/// A number of one to five digits after a space. Most have one.
+/// A number of three to five digits, or any below 100,000.
+#[inline(never)]
+fn place_five(room: &mut [u8], at: usize, number: u16) -> usize
+    requires { at + 8 ≤ length room.old }
+    ensures placed { Placed room.old room.new at (decimal number) result }
+    ensures short { result ≤ at + 8 }
+{
+    place_eight(room, at, u32::from(number))
+}
+
+/// A number of one to five digits after a space. Most have one or two.
 #[inline(always)]
 #[tactic(auto, using(std::proofs::lemmas::Fmt::decimal_digit))]
 pub(crate) fn place_short_field(room: &mut [u8], at: usize, number: u16) -> usize
@@ -187,5 +197,8 @@ pub(crate) fn place_short_field(room: &mut [u8], at: usize, number: u16) -> usiz
         return place(room, at, [b' ', b'0' + number as u8]);
     }
     let at = place(room, at, [b' ']);
-    place_eight(room, at, u32::from(number))
+    if number < 100 {
+        return place_two(room, at, u32::from(number));
+    }
+    place_five(room, at, number)
 }

@@ -23,15 +23,16 @@ use std::alloc::{AllocError, Global};
 /// What a replay is asked for.
 #[derive(Clone, Copy, Debug)]
 pub struct ReplayConfig<'a> {
-    /// The names of the venues' first sessions, ten bytes each, filled on the right with spaces: 1 to 16,
-    /// any names.
+    /// The names of the venues' first sessions, ten bytes each, filled on the right with spaces: 1
+    /// to 16, any names.
     pub sessions: &'a [[u8; 10]],
     /// The symbols whose national best is printed where it changes, in the order in which changes
     /// are told: at most 4,096, each once.
     pub symbols: &'a [SymbolName],
     /// How many messages past the last item sent are held, in each venue: 1 to 65,535.
     pub window: u32,
-    /// How many entries the journal holds. An item is one, and a declaration that changes something.
+    /// How many entries the journal holds. An item is one, and so is a declaration that changes
+    /// something.
     pub journal: u32,
     /// Whether a gap line is printed where a datagram leaves a gap.
     pub gaps: bool,
@@ -97,10 +98,11 @@ fn close<W: TextOut>(venues: &Venues, mut text: Page, writer: &mut W) -> Result<
 /// Reads a capture to its end, and writes the lines of its records and then those of its venues.
 ///
 /// What is ready is written before the reader is called again, so that a pipe shows lines as they
-/// come, and before a fault of the input, of the journal or of memory is answered. Every call of the
-/// reader is a turn, also one that was interrupted. Memory is taken for the venues' windows, the
-/// symbols, the bytes of a read and a text of about a page, and for the journal and its notices,
-/// which grow by doubling.
+/// come, and before a fault of the input, of the journal or of memory is answered. Every call of
+/// the reader is a turn, also one that was interrupted. Memory is taken for the venues' windows,
+/// the symbols, the bytes of a read and a text of about a page, and for the journal and its
+/// notices, which grow by doubling.
+#[inline(never)]
 pub fn replay<R: CaptureIn, W: TextOut>(
     alloc: Global,
     config: &ReplayConfig<'_>,

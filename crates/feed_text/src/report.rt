@@ -38,6 +38,7 @@ pub struct Report {
 }
 
 /// Prints the notices from this place on.
+#[inline(always)]
 fn put_bests(text: &mut Page, notices: &[Notice], from: usize) -> Result<(), AllocError>
     ensures lines { OnOk result
         (text.new.items ≡ text.old.items ++ flat_map best_line (drop from notices.now)) }
@@ -69,8 +70,8 @@ impl Report {
         Ok(())
     }
 
-    /// Journals a declaration, unless it is so already, and prints its line and those of the notices
-    /// that it makes.
+    /// Journals a declaration, unless it is so already, and prints its line and those of the
+    /// notices that it makes.
     pub fn declare(&mut self, venue: VenueId, on: bool) -> Result<(), Stop>
         requires { venue < self.old.journal.venues }
         ensures { TellsBy (tale_of self.old) (self_help_declared venue on ∷ [])

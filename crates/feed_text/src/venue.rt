@@ -14,7 +14,7 @@ ghost use Rattle.feed_text.specs.Happenings.{item_taken, packet_answered};
 ghost use Rattle.feed_text.specs.Told.{gap_happening};
 ghost use Rattle.feed_text.specs.Texts.{last_line};
 ghost use Rattle.feed_text.specs.Tales.{TellsBy, tale_of};
-ghost use Rattle.feed_text.specs.Following.{Follows, TellsOutcome, TellsOne, Renews};
+ghost use Rattle.feed_text.specs.Following.{Follows, TakesReady, TellsOutcome, TellsOne, Renews};
 
 use crate::lines::{put_fault, put_gap, put_packet, put_renewal, put_venue};
 use crate::page::Page;
@@ -43,25 +43,38 @@ impl Model for VenueReplay {
 }
 
 /// Takes each item that is ready.
-fn take_ready(
+#[inline(never)]
+fn take_each(
     arbiter: &mut Arbiter<Anything>,
     venue: VenueId,
     report: &mut Report,
 ) -> Result<(), Stop>
     requires { venue < report.old.journal.venues }
-    ensures tells { (P : List Arrival) → Fits arbiter.old P
-        → TellsBy (tale_of report.old)
-        (map (item_taken venue) (drop arbiter.old.sent (stream_of P)))
-        (tale_of report.new) result }
-    ensures fits { OnOk result ((P : List Arrival) → Fits arbiter.old P
-        → Fits arbiter.new P × (arbiter.new.sent ≡ length (stream_of P))) }
-    ensures kept { OnOk result (KeepsAllButSent arbiter.old arbiter.new) }
+    ensures { TakesReady venue arbiter.old arbiter.new (tale_of report.old) (tale_of report.new)
+        result }
 {
     while let Some(next) = arbiter.next_ready() {
         report.take_item(venue, &next)?;
         arbiter.advance();
     }
     Ok(())
+}
+
+/// Takes each item that is ready. Most often there is none, which a glance tells.
+#[inline(always)]
+fn take_ready(
+    arbiter: &mut Arbiter<Anything>,
+    venue: VenueId,
+    report: &mut Report,
+) -> Result<(), Stop>
+    requires { venue < report.old.journal.venues }
+    ensures { TakesReady venue arbiter.old arbiter.new (tale_of report.old) (tale_of report.new)
+        result }
+{
+    match arbiter.next_ready() {
+        Some(_) => take_each(arbiter, venue, report),
+        None => Ok(()),
+    }
 }
 
 /// Takes the items that a packet's messages are.
@@ -142,26 +155,6 @@ impl VenueReplay {
         self.sent_before.saturating_add(self.arbiter.status().sent)
     }
 
-    /// Takes a packet through the window, and tells what became of it and each item that is ready
-    /// then.
-    #[inline(never)]
-    fn take_held(
-        &mut self,
-        venue: VenueId,
-        line: LineId,
-        packet: &Packet<'_>,
-        report: &mut Report,
-    ) -> Result<(), Stop>
-        requires { venue < report.old.journal.venues }
-        ensures { (width : ℕ) (h : History) → Follows width venue self.old h
-            → TellsOutcome width venue line packet.now h
-            (tale_of report.old) (tale_of report.new) self.new result }
-    {
-        let answer = self.arbiter.take(line, packet);
-        put_packet(&mut report.text, venue, line, &answer)?;
-        take_ready(&mut self.arbiter, venue, report)
-    }
-
     /// Takes a packet, past the window where it may, and tells what became of it and each item that
     /// is ready then.
     #[inline(always)]
@@ -180,7 +173,9 @@ impl VenueReplay {
         if let Some(outcome) = self.arbiter.take_through(line, packet) {
             return take_passed(&mut self.arbiter, venue, line, packet, outcome, report);
         }
-        self.take_held(venue, line, packet, report)
+        let answer = self.arbiter.take(line, packet);
+        put_packet(&mut report.text, venue, line, &answer)?;
+        take_ready(&mut self.arbiter, venue, report)
     }
 
     /// Takes a datagram of a line, and tells what became of it and each item that is ready then.
@@ -224,7 +219,7 @@ impl VenueReplay {
 
     /// Takes a datagram of a line and tells of it: what became of it, each item that is ready then,
     /// and where gaps are asked for the one that is left.
-    #[inline(never)]
+    #[inline(always)]
     pub fn take(
         &mut self,
         venue: VenueId,

@@ -32,6 +32,3 @@ pub use rule::LaneRule;
 pub use rules::{RisingNotices, VenueItems};
 pub use sender::Sender;
 pub use settled::{Settled, settle};
-
-#[cfg(test)]
-mod tests;

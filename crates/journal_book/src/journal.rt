@@ -64,6 +64,7 @@ impl Model for Journal {
 }
 
 /// Appends the entry, for which there is room.
+#[inline(always)]
 fn push_entry(entries: &mut Vec<Entry>, entry: Entry)
     requires { vec_len entries.old < vec_capacity entries.old }
     ensures { entries.new.items ≡ entries.old.items ++ entry ∷ [] }
@@ -148,7 +149,9 @@ impl Journal {
             && self.notices.len() + self.book.symbol_count() <= self.notices.capacity()
     }
 
-    /// Journals the entry and its changes, and gives its position.
+    /// Journals the entry and its changes, and gives its position. The entry is written where it
+    /// stays, and read there.
+    #[inline(always)]
     fn add(&mut self, entry: Entry) -> u64
         requires ready { IsTrue self.old.ready }
         requires venue { venue_of entry < self.old.venues }
@@ -156,16 +159,19 @@ impl Journal {
         ensures position { result ≡ length self.new.entries }
         ensures offered { subscriptions_of self.new ≡ subscriptions_of self.old }
     {
-        let position = self.entries.len() as u64 + 1;
+        let place = self.entries.len();
+        let position = place as u64 + 1;
         self.made.clear();
-        self.book.apply(position, &entry, &mut self.made);
-        push_notices(&mut self.notices, self.made.as_slice());
         push_entry(&mut self.entries, entry);
+        self.book
+            .apply(position, &self.entries[place], &mut self.made);
+        push_notices(&mut self.notices, self.made.as_slice());
         position
     }
 
     /// Journals the venue's item and its changes, and gives its position, which counts from 1. It
     /// takes no memory: there is room, and the venue is below the count.
+    #[inline(always)]
     pub fn record(&mut self, venue: VenueId, numbered: Numbered) -> u64
         requires ready { IsTrue self.old.ready }
         requires venue { venue < self.old.venues }

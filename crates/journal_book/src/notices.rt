@@ -8,6 +8,7 @@ use feed_types::{Best, National, Notice};
 use nbbo_book::Change;
 
 /// Appends the change under the next number.
+#[inline(never)]
 fn push_notice(notices: &mut Vec<Notice>, change: &Change)
     requires { vec_len notices.old < vec_capacity notices.old }
     ensures items { notices.new.items
@@ -27,6 +28,7 @@ fn push_notice(notices: &mut Vec<Notice>, change: &Change)
 }
 
 /// Appends the changes under the next numbers. There is room for them.
+#[inline(always)]
 pub(crate) fn push_notices(notices: &mut Vec<Notice>, made: &[Change])
     requires { vec_len notices.old + length made.now ≤ vec_capacity notices.old }
     ensures items { notices.new.items

@@ -9,6 +9,7 @@ pub mod Winning
 -- a window
 pub mod Marking
 pub mod Rings
+pub mod Padding
 pub mod Windows
 pub mod Turns
 pub mod Filling

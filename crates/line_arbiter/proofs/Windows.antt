@@ -11,7 +11,7 @@ use Rattle.feed_types.specs.declared.item.Item.{Item}
 use Rattle.line_arbiter.specs.Marks.{is_marked, is_set}
 use Rattle.line_arbiter.specs.Holding.{Ring, Held, held_at, item_in, count_held, put_one, slot_of, IsEmpty, IsFree, IsHeld}
 use Rattle.line_arbiter.proofs.Counting.{one_if, count_none, count_same, count_split, count_sum, count_first}
-use Rattle.line_arbiter.proofs.Rings.{IsPut, IsPassed, filled_at, first_slot_is, first_within, is_held, item_in-pass, item_in-put, none_beyond}
+use Rattle.line_arbiter.proofs.Rings.{IsPut, IsPassed, filled_at, first_slot_is, first_within, is_held, item_in-pass, item_in-put, none_beyond, slot_is}
 
 abbrev pub window : ℕ → ℕ → Ring → Held
 window base width ring = record { base = base; width = width; ring = ring }
@@ -251,59 +251,50 @@ none_held top count held h low m = by_item (held_at held m) refl
         let b = (in_window held m some).0 in
         absurd (omega arith)
 
--- an item is held, in a ring
-pub record Holds (top count base : ℕ) (old new : Ring) (number : ℕ) (item : Item) : Type 0 where
-  pub width : length new.slots ≡ length old.slots
-  pub kept : IsHeld (max top number) (count + 1) (window base (length new.slots) new)
-  pub held : (m : ℕ) → held_at (window base (length new.slots) new) m ≡ put_one base number item (held_at (window base (length old.slots) old) m) m
+-- a free number's slot is one of the window's
+pub slot_inside : (top count number slot : ℕ) (held : Held) → IsHeld top count held → IsFree held number slot → number ≤ held.base + held.width → slot < held.width
+slot_inside top count number slot held h free within =
+    let past = free.past in
+    rw free.is (slot_is held.ring.first held.width (number - held.base - 1) h.first (omega arith)).within
 
-pub holds : (top count base : ℕ) (old new : Ring) (number slot : ℕ) (item : Item) → number < 2 ^ 64 → IsHeld top count (window base (length old.slots) old) → IsFree (window base (length old.slots) old) number slot → number ≤ base + length old.slots
+-- an item is held, in a ring
+pub record Holds (top count base width : ℕ) (old new : Ring) (number : ℕ) (item : Item) : Type 0 where
+  pub kept : IsHeld (max top number) (count + 1) (window base width new)
+  pub held : (m : ℕ) → held_at (window base width new) m ≡ put_one base number item (held_at (window base width old) m) m
+
+pub holds : (top count base width : ℕ) (old new : Ring) (number slot : ℕ) (item : Item) → number < 2 ^ 64 → IsHeld top count (window base width old) → IsFree (window base width old) number slot → number ≤ base + width
     → new.first ≡ old.first → new.slots ≡ set old.slots slot item → is_marked new.marks slot ≡ true → ((other : ℕ) → other ≢ slot → is_marked new.marks other ≡ is_marked old.marks other) → length new.marks ≡ length old.marks
-    → Holds top count base old new number item
-holds top count base old new number slot item small h free within first slots here others marks =
-    let width : length new.slots ≡ length old.slots = ap (λ (xs : List Item). length xs) slots ∙ length-set old.slots slot item in
-    let put : IsPut (length old.slots) (number - base - 1) item old new = record {
+    → Holds top count base width old new number item
+holds top count base width old new number slot item small h free within first slots here others marks =
+    let wide : length new.slots ≡ width = ap (λ (xs : List Item). length xs) slots ∙ length-set old.slots slot item ∙ h.slots in
+    let put : IsPut width (number - base - 1) item old new = record {
       first = first;
       here = rw (← free.is) here;
       others = rw (← free.is) others;
       slots = rw (← free.is) slots;
     } in
     record {
-      width = width;
-      kept = rw width (IsHeld-put top count base (length old.slots) number old new item h free.past within free.free put width marks small);
-      held = rw width (held_at-put base (length old.slots) number old new item refl h.first free.past within free.free put);
+      kept = IsHeld-put top count base width number old new item h free.past within free.free put wide marks small;
+      held = held_at-put base width number old new item h.slots h.first free.past within free.free put;
     }
 
--- the first place's mark is counted
-pub first_mark : (top count base : ℕ) (old : Ring) → IsHeld top count (window base (length old.slots) old) → one_if (is_marked old.marks old.first) ≤ count
-first_mark top count base old h =
-    let held = window base (length old.slots) old in
-    let q : ℕ → Bool = λ (m : ℕ). is_some (held_at held m) in
-    let f = h.first in
-    let one : suc (length old.slots - 1) ≡ length old.slots = omega arith in
-    let whole : count_by q (range_with_len (base + 1) (suc (length old.slots - 1))) ≡ count_by q (range_with_len (base + 1) (length old.slots)) = ap (λ (n : ℕ). count_by q (range_with_len (base + 1) n)) one in
-    let flag : one_if (q (base + 1)) ≡ one_if (is_marked old.marks old.first) = ap one_if (first_marked held h.first) in
-    let counted = h.counted in
-    omega (arith, count_first q (base + 1) (range_with_len (base + 1 + 1) (length old.slots - 1)))
-
 -- the first place was passed, in a ring
-pub record Passes (top count base : ℕ) (old new : Ring) : Type 0 where
+pub record Passes (top count base width : ℕ) (old new : Ring) : Type 0 where
   pub some : one_if (is_marked old.marks old.first) ≤ count
-  pub kept : IsHeld top (count - one_if (is_marked old.marks old.first)) (window (base + 1) (length new.slots) new)
-  pub held : (m : ℕ) → held_at (window (base + 1) (length new.slots) new) m ≡ (if nat_eq m (base + 1) then None else held_at (window base (length old.slots) old) m)
+  pub kept : IsHeld top (count - one_if (is_marked old.marks old.first)) (window (base + 1) width new)
+  pub held : (m : ℕ) → held_at (window (base + 1) width new) m ≡ (if nat_eq m (base + 1) then None else held_at (window base width old) m)
 
-pub passes : (top count base : ℕ) (old new : Ring) → IsHeld top count (window base (length old.slots) old)
-    → new.slots ≡ old.slots → new.first ≡ (if nat_lt (old.first + 1) (length old.slots) then old.first + 1 else 0) → is_marked new.marks old.first ≡ false → ((other : ℕ) → other ≢ old.first → is_marked new.marks other ≡ is_marked old.marks other) → length new.marks ≡ length old.marks
-    → Passes top count base old new
-passes top count base old new h slots first here others marks =
-    let by : IsPassed (length old.slots) old new = record { first = first; here = here; others = others; slots = slots } in
-    let width : length new.slots ≡ length old.slots = ap (λ (xs : List Item). length xs) slots in
+pub passes : (top count base width : ℕ) (old new : Ring) → IsHeld top count (window base width old)
+    → new.slots ≡ old.slots → new.first ≡ (if nat_lt (old.first + 1) width then old.first + 1 else 0) → is_marked new.marks old.first ≡ false → ((other : ℕ) → other ≢ old.first → is_marked new.marks other ≡ is_marked old.marks other) → length new.marks ≡ length old.marks
+    → Passes top count base width old new
+passes top count base width old new h slots first here others marks =
+    let by : IsPassed width old new = record { first = first; here = here; others = others; slots = slots } in
     let counted = h.counted in
-    let d = count_pass base (length old.slots) old new h.first by in
+    let d = count_pass base width old new h.first by in
     record {
       some = omega arith;
-      kept = rw width (IsHeld-pass top count (count - one_if (is_marked old.marks old.first)) base (length old.slots) old new h by marks (omega arith));
-      held = rw width (held_at-pass base (length old.slots) old new h.first by);
+      kept = IsHeld-pass top count (count - one_if (is_marked old.marks old.first)) base width old new h by marks (omega arith);
+      held = held_at-pass base width old new h.first by;
     }
 
 -- the run of held numbers that goes on past a front in the window

@@ -1,6 +1,6 @@
 -- What a window holds: messages past the last item sent. Of this file public clauses cite `held_at`
 -- alone, through `Fits` and `next_of`.
-use Rattle.std.specs.Prelude.{◌≡◌, ◌≢◌, ℕ, ◌+◌, ◌-◌, ◌*◌, ◌^◌, ◌<◌, ◌≤◌, nat_eq, nat_le, nat_lt, ◌&&◌, List, Option, Some, None, IsSome, count_by, get_or, is_none, is_some, length, if◌then◌else◌}
+use Rattle.std.specs.Prelude.{◌≡◌, ◌≢◌, ℕ, ◌+◌, ◌-◌, ◌*◌, ◌^◌, ◌<◌, ◌≤◌, nat_eq, nat_le, nat_lt, ◌&&◌, List, ◌++◌, Option, Some, None, IsSome, count_by, get_or, is_none, is_some, length, replicate, if◌then◌else◌}
 use Rattle.std.specs.List.{range_with_len}
 use Rattle.feed_types.specs.declared.item.Item.{Item}
 use Rattle.feed_types.specs.declared.item.Item.TheVariants as items
@@ -19,6 +19,10 @@ pub record Held : Type 0 where
   pub base : ℕ
   pub width : ℕ
   pub ring : Ring
+
+-- as many slots, where those that weren't needed yet are blank
+abbrev pub padded : ℕ → List Item → List Item
+padded width slots = slots ++ replicate (width - length slots) items.Other
 
 -- the slot of a place
 abbrev pub slot_of : ℕ → ℕ → ℕ → ℕ

@@ -1,16 +1,22 @@
 -- How a window and an arbiter are seen. Only private clauses cite this file.
-use Rattle.std.specs.Prelude.{length}
+use Rattle.std.specs.Prelude.{◌≤◌}
+use Rattle.std.specs.Vec.{vec_capacity}
 use Rattle.line_arbiter.specs.declared.window.Window.TheInside.{Inside as WindowInside}
 use Rattle.line_arbiter.specs.declared.arbiter.Arbiter.TheInside.{Inside as ArbiterInside}
-use Rattle.line_arbiter.specs.Holding.{Held}
+use Rattle.line_arbiter.specs.Holding.{Held, IsHeld, padded}
 use Rattle.line_arbiter.specs.States.{State}
 
 abbrev pub window_inside : WindowInside → Held
 window_inside w = record {
   base = w.base_number;
-  width = length w.slots.items;
-  ring = record { first = w.first; slots = w.slots.items; marks = w.marks.items };
+  width = w.places;
+  ring = record { first = w.first; slots = padded w.places w.slots.items; marks = w.marks.items };
 }
+
+-- what a window keeps, and that each of its slots has room
+pub record IsWindow (w : WindowInside) : Type 0 where
+  pub held : IsHeld w.top_number w.held_items (window_inside w)
+  pub room : w.places ≤ vec_capacity w.slots
 
 abbrev pub arbiter_inside : {G : Type 0} → ArbiterInside G → State
 arbiter_inside a = record {

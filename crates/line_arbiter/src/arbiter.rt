@@ -207,6 +207,30 @@ impl<G: Genuine> Arbiter<G> {
         }
     }
 
+    /// Takes a packet of messages into the window, in which all of them have a place or were sent.
+    #[inline(never)]
+    fn take_in(
+        &mut self,
+        line: LineId,
+        packet: &Packet<'_>,
+        last: u64,
+    ) -> Result<Outcome, LineFault>
+        requires last { last ≡ last_of packet.now }
+        requires before { IsBefore self.old.end (last_of packet.now) }
+        requires within { last_of packet.now ≤ self.old.sent + self.old.window }
+        ensures { MessagesStep line self.old self.new packet.now result }
+    {
+        if disagrees(&self.held, packet) {
+            return Err(LineFault::Conflict);
+        }
+        let new = fill(&mut self.held, packet);
+        self.run_to = self.held.run_end(self.run_to);
+        self.known_to = raised(self.known_to, self.end_number, last);
+        let repeated = packet.count() - new;
+        self.won.add(line, new);
+        Ok(Outcome::Taken { new, repeated })
+    }
+
     fn take_messages(&mut self, line: LineId, packet: &Packet<'_>) -> Result<Outcome, LineFault>
         requires { packet.now.kind ≡ Kind.Messages }
         ensures { MessagesStep line self.old self.new packet.now result }
@@ -222,15 +246,7 @@ impl<G: Genuine> Arbiter<G> {
             self.known_to = raised(self.known_to, self.end_number, last);
             return Ok(Outcome::Ahead);
         }
-        if disagrees(&self.held, packet) {
-            return Err(LineFault::Conflict);
-        }
-        let new = fill(&mut self.held, packet);
-        self.run_to = self.held.run_end(self.run_to);
-        self.known_to = raised(self.known_to, self.end_number, last);
-        let repeated = packet.count() - new;
-        self.won.add(line, new);
-        Ok(Outcome::Taken { new, repeated })
+        self.take_in(line, packet, last)
     }
 
     /// Whether the packet's first message is the next one, nothing is held, and the window is as

@@ -1,12 +1,21 @@
 //! A packet's messages against a window, and into it.
 
-ghost use Rattle.std.specs.Prelude.{◌≡◌, ◌↔◌, ℕ, ◌+◌, ◌^◌, ◌<◌, ◌≤◌, None, IsSome, IsTrue, ◌⊎◌, length, MatchBool};
+ghost use Rattle.std.specs.Prelude.{◌≡◌, ◌≢◌, ◌↔◌, ℕ, ◌+◌, ◌^◌, ◌<◌, ◌≤◌, None, IsSome, IsTrue, ◌⊎◌, length, MatchBool};
 ghost use Rattle.quote_payload.specs.Payload.{item_of};
 ghost use Rattle.line_arbiter.specs.Holding.{held_at, put_one, put_all, fresh_to, HoldsOther, HoldsNoOther, HeldAgrees, HeldDisagrees};
 
 use crate::window::Window;
+use feed_types::Item;
 use mold_packet::Packet;
 use quote_payload::read_item;
+
+/// Whether the items differ. Apart, so that both stand in memory and symbols compare as words.
+#[inline(never)]
+fn differ(a: &Item, b: &Item) -> bool
+    ensures { MatchBool result (a.now ≢ b.now) (a.now ≡ b.now) }
+{
+    a != b
+}
 
 /// Whether another item is held at the number than the message reads as. A message is read only
 /// where an item is held.
@@ -15,7 +24,7 @@ fn is_other(window: &Window, number: u64, message: &[u8]) -> bool
         (HoldsNoOther window.now number (item_of message.now)) }
 {
     match window.get(number) {
-        Some(found) => found != read_item(message),
+        Some(found) => differ(&found, &read_item(message)),
         None => false,
     }
 }

@@ -1,43 +1,41 @@
-//! The messages that were taken and not yet sent on, in a ring of slots with a mark for each.
+//! The messages that were taken and not yet sent on, in a ring of slots with a mark for each. A
+//! slot is first written when it is first needed, so that a wide window costs what it holds.
 
 ghost use Rattle.std.specs.Prelude.{◌≡◌, ◌≢◌, ℕ, ◌+◌, ◌-◌, ◌*◌, ◌^◌, ◌<◌, ◌≤◌, ◌⊎◌, None, Some, Bool, true, not, length, replicate, slice_set, nat_eq, nat_lt, if◌then◌else◌, IfOk, IfSome, IfNone, IsSome, IsTrue, MatchBool, is_some, get_or};
+ghost use Rattle.std.specs.Vec.{vec_len, vec_capacity};
+ghost use Rattle.feed_types.specs.declared.item.Item.TheVariants as items;
 ghost use Rattle.line_arbiter.specs.Marks.{is_marked};
-ghost use Rattle.line_arbiter.specs.Holding.{count_held, held_at, item_in, put_one, slot_of as slot_of_place, IsEmpty, IsFree};
+ghost use Rattle.line_arbiter.specs.Holding.{count_held, held_at, item_in, padded, put_one, slot_of as slot_of_place, IsEmpty, IsFree};
 
 use crate::marks::{first_slot, has_mark, mark, unmark};
 use feed_types::Item;
 use std::alloc::{AllocError, Global};
 use std::marker::Model;
 
-/// Places for the numbers from `base_number + 1` on, as many as there are slots. The first place is
-/// in slot `first`, and the slots go round. A marked slot holds the item of its number. Nothing is
-/// held above `top_number`.
+/// Places for the numbers from `base_number + 1` on. The first place is in slot `first`, and the
+/// slots go round, as many as there are places; those past the end of `slots` weren't needed yet,
+/// and have room. A marked slot holds the item of its number. Nothing is held above `top_number`.
 #[derive(Drop)]
 pub(crate) struct Window {
     base_number: u64,
     top_number: u64,
     held_items: u32,
     first: usize,
+    places: usize,
     slots: Vec<Item>,
     marks: Vec<u64>,
 }
 
 impl Model for Window {
-    ghost use Rattle.line_arbiter.specs.Holding.{Held, IsHeld};
+    ghost use Rattle.line_arbiter.specs.Holding.{Held};
 
     ghost Value = { Held };
 
-    ghost use Rattle.line_arbiter.specs.Inside.{window_inside};
+    ghost use Rattle.line_arbiter.specs.Inside.{window_inside, IsWindow};
 
     ghost view = { window_inside };
 
-    ghost invariant = { λ w. IsHeld w.top_number w.held_items (window_inside w) };
-}
-
-fn blank_slots(alloc: Global, count: usize) -> Result<Vec<Item>, AllocError>
-    ensures { IfOk result (λ slots. length slots.items ≡ count) }
-{
-    vec![in alloc; Item::Other; count]
+    ghost invariant = { λ w. IsWindow w };
 }
 
 fn no_marks(alloc: Global, words: usize) -> Result<Vec<u64>, AllocError>
@@ -68,10 +66,37 @@ fn slot_after(slot: usize, width: usize) -> usize
     if slot + 1 < width { slot + 1 } else { 0 }
 }
 
-fn set(slots: &mut Vec<Item>, slot: usize, item: Item)
-    requires { slot < length slots.old.items }
-    ensures { slots.new.items ≡ slice_set slots.old.items slot item }
+/// The item in the slot: Other where it wasn't needed yet.
+fn item_at(slots: &[Item], slot: usize) -> Item
+    ensures { (width : ℕ) → result ≡ get_or (padded width slots.now) slot items.Other }
 {
+    match slots.get(slot) {
+        Some(item) => *item,
+        None => Item::Other,
+    }
+}
+
+/// Blanks the slots up to this one that weren't needed yet.
+fn reach(slots: &mut Vec<Item>, slot: usize)
+    requires { slot < vec_capacity slots.old }
+    ensures reached { slot < vec_len slots.new }
+    ensures same { (width : ℕ) → slot < width
+        → padded width slots.new.items ≡ padded width slots.old.items }
+    ensures capacity { vec_capacity slots.new ≡ vec_capacity slots.old }
+{
+    while slots.len() <= slot {
+        slots.push_reserved(Item::Other);
+    }
+}
+
+/// Puts the item into the slot.
+fn set(slots: &mut Vec<Item>, slot: usize, item: Item)
+    requires { slot < vec_capacity slots.old }
+    ensures slots { (width : ℕ) → slot < width
+        → padded width slots.new.items ≡ slice_set (padded width slots.old.items) slot item }
+    ensures capacity { vec_capacity slots.new ≡ vec_capacity slots.old }
+{
+    reach(slots, slot);
     slots[slot] = item;
 }
 
@@ -109,7 +134,7 @@ fn first_place(
 }
 
 impl Window {
-    /// An empty window of so many places. This alone takes memory.
+    /// An empty window of so many places. This alone takes memory, and writes none of its slots.
     pub(crate) fn new(alloc: Global, width: u32) -> Result<Window, AllocError>
         requires some { 1 ≤ width }
         requires most { width ≤ 65535 }
@@ -117,13 +142,15 @@ impl Window {
         ensures width { IfOk result (λ w. w.width ≡ width) }
         ensures empty { IfOk result IsEmpty }
     {
-        let slots = blank_slots(alloc, width as usize)?;
-        let marks = no_marks(alloc, width as usize / 64 + 1)?;
+        let places = width as usize;
+        let slots = Vec::with_capacity(alloc, places)?;
+        let marks = no_marks(alloc, places / 64 + 1)?;
         Ok(Window {
             base_number: 0,
             top_number: 0,
             held_items: 0,
             first: 0,
+            places,
             slots,
             marks,
         })
@@ -140,7 +167,7 @@ impl Window {
         ensures value { result ≡ self.now.width }
         ensures most { result ≤ 65535 }
     {
-        self.slots.len() as u32
+        self.places as u32
     }
 
     /// How many places hold an item.
@@ -154,9 +181,9 @@ impl Window {
         requires { place < self.now.width }
         ensures { result ≡ item_in self.now.width self.now.ring place }
     {
-        let slot = slot_of(self.first, self.slots.len(), place);
+        let slot = slot_of(self.first, self.places, place);
         if has_mark(self.marks.as_slice(), slot) {
-            Some(self.slots[slot])
+            Some(item_at(self.slots.as_slice(), slot))
         } else {
             None
         }
@@ -166,7 +193,7 @@ impl Window {
     pub(crate) fn get(&self, number: u64) -> Option<Item>
         ensures { result ≡ held_at self.now number }
     {
-        if number <= self.base_number || number - self.base_number > self.slots.len() as u64 {
+        if number <= self.base_number || number - self.base_number > self.places as u64 {
             return None;
         }
         self.item_in((number - self.base_number - 1) as usize)
@@ -212,7 +239,7 @@ impl Window {
             return None;
         }
         let place = (number - self.base_number - 1) as usize;
-        let slot = slot_of(self.first, self.slots.len(), place);
+        let slot = slot_of(self.first, self.places, place);
         if has_mark(self.marks.as_slice(), slot) {
             None
         } else {
@@ -245,7 +272,7 @@ impl Window {
             ≡ (if nat_eq m (self.old.base + 1) then None else held_at self.old m) }
     {
         let slot = self.first;
-        let next = slot_after(slot, self.slots.len());
+        let next = slot_after(slot, self.places);
         let was_held = has_mark(self.marks.as_slice(), slot);
         unmark(&mut self.marks, slot);
         self.held_items -= u32::from(was_held);
@@ -273,7 +300,7 @@ impl Window {
         if front < self.base_number || front >= self.top_number {
             return front;
         }
-        let width = self.slots.len();
+        let width = self.places;
         let from = (front - self.base_number) as usize;
         let end = first_place(self.marks.as_slice(), self.first, width, false, from, width);
         self.base_number + end as u64
@@ -289,7 +316,7 @@ impl Window {
         ensures stop { (front < self.now.base) ⊎ (self.now.base + self.now.width ≤ front + result)
             ⊎ (front + result ≡ limit) ⊎ IsSome (held_at self.now (front + result + 1)) }
     {
-        let width = self.slots.len();
+        let width = self.places;
         if front < self.base_number || front - self.base_number >= width as u64 {
             return 0;
         }

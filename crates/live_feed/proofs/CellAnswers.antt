@@ -1,26 +1,25 @@
 -- Where it is known which sessions the lines bring, no packet of one of them is refused but for another session's.
-use Rattle.std.proofs.Common.{◌≡◌, ℕ, ◌+◌, List, length, Result, Err, sym, subst, ◌∙◌, inl, inr}
-use Rattle.std.specs.Prelude.{◌⊎◌, IsOk}
+use Rattle.std.proofs.Common.{◌≡◌, ℕ, ◌+◌, List, length, Result, sym, subst, ◌∙◌, inl, inr}
+use Rattle.std.specs.Prelude.{IsOk}
 use Rattle.feed_types.specs.Sequence.{Carries, Ends}
-use Rattle.feed_types.specs.Sessions.{Session, SessionNames, IsSessionAt, Names}
+use Rattle.feed_types.specs.Sessions.{SessionNames}
 use Rattle.mold_packet.specs.Content.{Content, IsContent}
 use Rattle.line_arbiter.specs.declared.outcome.Outcome.{Outcome}
 use Rattle.line_arbiter.specs.declared.outcome.LineFault.{LineFault}
-use Rattle.line_arbiter.specs.declared.outcome.LineFault.TheVariants.{OtherSession}
 use Rattle.line_arbiter.specs.Outcomes.{IsOutcome, ToKind}
 use Rattle.line_arbiter.specs.Genuine.{AreGenuine}
-use Rattle.line_arbiter.specs.OfSession.{IsOfSession}
 use Rattle.line_arbiter.specs.States.{ordinal_of}
 use Rattle.line_arbiter.proofs.OfSession.{part_of}
 use Rattle.line_arbiter.proofs.Accepting.{accepted}
 use Rattle.live_feed.specs.Lanes.{FeedLanes}
 use Rattle.live_feed.specs.Cells.{CellState, IsKept}
+use Rattle.live_feed.specs.Sections.{AcceptsTheirPacket}
 use Rattle.live_feed.proofs.Histories.{given_genuine, present_given}
 use Rattle.live_feed.proofs.CellMoves.{ordinal_is}
 
 pub accepts : (sessions : SessionNames) (carries : Carries) (ends : Ends) (lanes : FeedLanes) (c : CellState) (k : IsKept sessions carries ends lanes c) (p : Content) (answer : Result Outcome LineFault) → IsContent p
     → IsOutcome c.arbiter.session c.arbiter.window c.arbiter.sent k.history.present.packets p answer
-    → (all : List Session) (ordinal : ℕ) (s : Session) → Names sessions carries ends c.arbiter.venue all → IsSessionAt all ordinal s → IsOfSession s p → IsOk answer ⊎ (answer ≡ Err OtherSession)
+    → AcceptsTheirPacket sessions carries ends c.arbiter.venue p answer
 accepts sessions carries ends lanes c k p answer content o all ordinal s names at of = elim o [
   | inl other ↦ inr other.1
   | inr same ↦ inl (here same)

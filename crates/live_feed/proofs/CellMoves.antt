@@ -26,7 +26,7 @@ use Rattle.feed_core.proofs.VenueHalfLaw.{items_push}
 use Rattle.live_feed.specs.Lanes.{FeedLanes}
 use Rattle.live_feed.specs.Sums.{Sums, no_sums, sums_after, accepted_on, sums_on, line_sums_after, LineSums}
 use Rattle.live_feed.specs.Cells.{CellState, FitsCell, AreGivenFrom, IsKept, arrivals_of, new_cell, wins_in}
-use Rattle.live_feed.specs.Sections.{TakesPacket, PushesOne, RenewsSession}
+use Rattle.live_feed.specs.Sections.{TakesPacket, IsAnsweredBy, PushesOne, RenewsSession}
 use Rattle.line_arbiter.specs.Renewals.{IsRenewal}
 use Rattle.live_feed.specs.declared.unsent.Unsent.TheVariants as unsent
 use Rattle.live_feed.proofs.Histories.{take_same, take_next, get_sent, names_same, names_length, arrivals_push, arrivals_more, given_more, present_more, next_given, streams_sequence}
@@ -85,6 +85,10 @@ module _ (old new : CellState) (h : History) (line : LineId) (p : Content) (answ
 
   pub takes : IsOutcome old.arbiter.session old.arbiter.window old.arbiter.sent h.present.packets p answer → TakesPacket line p answer h old new
   takes o = record { after = after_arrival h a; taken = record { right = right_at o; is = refl }; fits = packet_fits }
+
+pub answered : (sessions : SessionNames) (carries : Carries) (ends : Ends) (lanes : FeedLanes) (old new : CellState) (venue : ℕ) (line : LineId) (p : Content) (answer : Result Outcome LineFault) (k : IsKept sessions carries ends lanes old)
+    → old.arbiter.venue ≡ venue → TakesPacket line p answer k.history old new → IsAnsweredBy sessions carries ends lanes venue line p answer
+answered sessions carries ends lanes old new venue line p answer k venue_is takes = record { old = old; kept = k; venue_is = venue_is; new = new; takes = takes }
 
 pub ordinal_is : (c : CellState) (h : History) → FitsCell c h → ordinal_of c.arbiter ≡ 1 + length h.earlier
 ordinal_is c h f = ap length f.names ∙ names_length h

@@ -100,6 +100,30 @@ module _ (v : ℕ) (entries : List Entry) (place : ℕ) where
   pub items_all : (room all : List Numbered) → length entries ≤ place → room ++ items_in (drop place entries) v ≡ all → room ≡ all
   items_all room all past same = sym (append-nil room) ∙ ap (λ (l : List Entry). room ++ items_in l v) (sym (drop_past entries place past)) ∙ same
 
+  -- one entry was counted
+  pub count_more : (x : Entry) (count one all : ℕ) → slice_get entries place ≡ Some x → one ≡ length (item_by v x) → count + length (items_in (drop place entries) v) ≡ all → (count + one) + length (items_in (drop (place + 1) entries) v) ≡ all
+  count_more x count one all at is same =
+      let rest = items_in (drop (place + 1) entries) v in
+      let here : length (items_in (drop place entries) v) ≡ length (item_by v x ++ rest) = ap (λ (l : List Entry). length (items_in l v)) (next_drop entries place (place + 1) x (sym at) refl) in
+      let both = length-append (item_by v x) rest in
+      omega arith
+
+  -- all were counted
+  pub count_all : (count all : ℕ) → length entries ≤ place → count + length (items_in (drop place entries) v) ≡ all → count ≡ all
+  count_all count all past same =
+      let none : length (items_in (drop place entries) v) ≡ 0 = ap (λ (l : List Entry). length (items_in l v)) (drop_past entries place past) in
+      omega arith
+
+  -- there is room for the next item
+  pub room_more : (x : Entry) (room all : List Numbered) (most : ℕ) → slice_get entries place ≡ Some x → room ++ items_in (drop place entries) v ≡ all → length all ≤ most → length room + length (item_by v x) ≤ most
+  room_more x room all most at same few =
+      let rest = items_in (drop (place + 1) entries) v in
+      let here : length (items_in (drop place entries) v) ≡ length (item_by v x ++ rest) = ap (λ (l : List Entry). length (items_in l v)) (next_drop entries place (place + 1) x (sym at) refl) in
+      let both = length-append (item_by v x) rest in
+      let whole = length-append room (items_in (drop place entries) v) in
+      let long = ap length same in
+      omega arith
+
 -- ---- a closed lane
 
 pub settled : (sessions : SessionNames) (carries : Carries) (ends : Ends) (lanes : FeedLanes) (may_send : ℕ → List Numbered → Type 0) (c : CellState) (k : IsKept sessions carries ends lanes c) (received inside ready : List Numbered) (won : Counts)

@@ -2,6 +2,7 @@
 use Rattle.std.proofs.Common.{◌≡◌, ℕ, zero, suc, ◌+◌, List, [], ◌∷◌, ◌++◌, length, map, Some, refl, sym, ap, subst, ◌∙◌, arith, length-append, get_or, All, inl, inr}
 use Rattle.std.specs.Prelude.{slice_get}
 use Rattle.std.proofs.lemmas.Option.{slice_get-get_or}
+use Rattle.std.proofs.lemmas.List.{length-map}
 use Rattle.feed_types.specs.declared.item.Numbered.{Numbered}
 use Rattle.feed_types.specs.declared.journal.Entry.{Entry}
 use Rattle.feed_types.specs.Sequence.{Carries, Ends, IsInSequence}
@@ -56,10 +57,18 @@ module _ (starts : List StartState) (receivers : List (LaneEnd Numbered)) (journ
   no_cursors : length journal.cursors ≡ 0
   no_cursors = ap length h.cursors
 
+  lanes_count : length lanes.venues ≡ length receivers
+  lanes_count = ap (λ (l : FeedLanes). length l.venues) (sym e) ∙ length-map receivers (λ (x : LaneEnd Numbered). x.lane)
+
+  -- there are as many venues as lanes for them
+  pub starts_count : length starts ≡ length lanes.venues
+  starts_count = h.begun.count ∙ sym lanes_count
+
   -- an empty journal with these lanes
   pub fresh : (carries : Carries) (ends : Ends) → IsHub carries ends lanes (record { journal = journal; receivers = receivers; senders = []; spare = spare })
   fresh carries ends = record {
     venues = h.venues;
+    count = lanes_count ∙ h.venues;
     subscribers = sym (ap length h.cursors);
     consumed = λ v r at.
         let none : items_in journal.entries v ≡ [] = ap (λ (es : List Entry). items_in es v) h.entries in

@@ -92,6 +92,7 @@ pub declares : (carries : Carries) (ends : Ends) (lanes : FeedLanes) (s : HubSta
     → IsHub carries ends lanes (record s { journal = record s.journal { entries = s.journal.entries ++ entry.SelfHelp k on ∷ []; ready = ready } })
 declares carries ends lanes s k on ready h = record {
   venues = h.venues;
+  count = h.count;
   subscribers = h.subscribers;
   many = h.many;
   consumed = λ v e at.
@@ -107,6 +108,7 @@ pub consumes : (carries : Carries) (ends : Ends) (lanes : FeedLanes) (s : HubSta
     → IsHub carries ends lanes (record s { journal = record s.journal { entries = s.journal.entries ++ entry.Consumed k x ∷ []; ready = ready }; receivers = slice_set s.receivers k (with_items r (r.items ++ x ∷ [])) })
 consumes carries ends lanes s k r x ready h at may = record {
   venues = length_put s.receivers k w ∙ h.venues;
+  count = h.count;
   subscribers = h.subscribers;
   many = h.many;
   consumed = λ v e got. elim (get_put s.receivers k v w e got) [ inl here ↦ subst (λ (y : ℕ × LaneEnd Numbered). IsConsumed carries ends lanes entries y.0 y.1) (λ i. (sym here.0 i, sym here.1 i)) this | inr there ↦ other v e there.0 there.1 ];
@@ -140,6 +142,7 @@ pub moves : (carries : Carries) (ends : Ends) (lanes : FeedLanes) (s : HubState)
     → IsHub carries ends lanes (record s { journal = record s.journal { cursors = slice_set s.journal.cursors id (record c { seen = place }) }; senders = slice_set s.senders id (with_items l sent) })
 moves carries ends lanes s id c l place sent h at from within is = record {
   venues = h.venues;
+  count = h.count;
   many = ap (λ (n : ℕ). n + length s.spare) (length_put s.journal.cursors id (record c { seen = place })) ∙ h.many;
   subscribers = length_put s.senders id (with_items l sent) ∙ h.subscribers ∙ sym (length_put s.journal.cursors id (record c { seen = place }));
   consumed = h.consumed;
@@ -211,6 +214,7 @@ room_is m n h = grind (arith, nat_tests)
 pub ready_still : (carries : Carries) (ends : Ends) (lanes : FeedLanes) (s : HubState) (j : JournalState) → IsHub carries ends lanes s → j ≡ record s.journal { ready = true } → IsHub carries ends lanes (record s { journal = j })
 ready_still carries ends lanes s j h is = subst (λ (x : JournalState). IsHub carries ends lanes (record s { journal = x })) (sym is) (record {
   venues = h.venues;
+  count = h.count;
   subscribers = h.subscribers;
   many = h.many;
   consumed = h.consumed;
@@ -386,6 +390,7 @@ pub subscribes : (carries : Carries) (ends : Ends) (lanes : FeedLanes) (s : HubS
 subscribes carries ends lanes s x rest j senders terms h first is more =
     subst (λ (y : JournalState × List (LaneEnd Notice)). IsHub carries ends lanes (record s { journal = y.0; senders = y.1; spare = rest })) (λ i. (sym is i, sym more i)) (record {
       venues = h.venues;
+      count = h.count;
       subscribers = length-append s.senders (x.sender ∷ []) ∙ ap (λ (n : ℕ). n + 1) h.subscribers ∙ sym count;
       many = (let m = h.many in let f = ap length first in let n = count in omega arith);
       consumed = h.consumed;

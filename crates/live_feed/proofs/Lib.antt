@@ -6,3 +6,5 @@ pub mod FeedMoves
 pub mod ClosedLanes
 pub mod TheirPackets
 pub mod ClosedSubscribers
+pub mod Sides
+pub mod Settled

@@ -1,8 +1,7 @@
 -- The answers to bytes that are a packet of a known session.
-use Rattle.std.proofs.Common.{◌≡◌, ℕ, List, Result, Ok, Err, refl, ap, subst, inl, inr}
-use Rattle.std.specs.Prelude.{◌⊎◌, IsOk}
+use Rattle.std.proofs.Common.{ℕ, List, Result, Ok, Err, refl, ap, subst, inl, inr}
 use Rattle.feed_types.specs.Sequence.{Carries, Ends}
-use Rattle.feed_types.specs.Sessions.{Session, SessionNames, IsSessionAt, Names}
+use Rattle.feed_types.specs.Sessions.{SessionNames}
 use Rattle.mold_packet.specs.Content.{Content, Spells}
 use Rattle.mold_packet.specs.Faults.{HasFault}
 use Rattle.mold_packet.specs.declared.fault.PacketFault.{PacketFault}
@@ -13,6 +12,7 @@ use Rattle.line_arbiter.specs.declared.outcome.LineFault.TheVariants.{OtherSessi
 use Rattle.line_arbiter.specs.OfSession.{IsOfSession}
 use Rattle.live_feed.specs.declared.faults.TakeFault.{TakeFault}
 use Rattle.live_feed.specs.declared.faults.TakeFault.TheVariants as faults
+use Rattle.live_feed.specs.Sections.{AcceptsTheirPacket}
 use Rattle.live_feed.specs.Datagrams.{AcceptsTheirs}
 
 abbrev as_taken : Result Outcome LineFault → Result Outcome TakeFault
@@ -27,7 +27,7 @@ module _ (sessions : SessionNames) (carries : Carries) (ends : Ends) (venue : �
   other all ordinal session p rest names at spells of = inr refl
 
   pub theirs : (q : Content) (more : List ℕ) (fault : LineFault) → Spells bytes q more
-      → ((all : List Session) (ordinal : ℕ) (session : Session) → Names sessions carries ends venue all → IsSessionAt all ordinal session → IsOfSession session q → IsOk {T = Outcome} (Err fault) ⊎ (◌≡◌ {A = Result Outcome LineFault} (Err fault) (Err OtherSession)))
+      → AcceptsTheirPacket sessions carries ends venue q (Err fault)
       → AcceptsTheirs sessions carries ends venue bytes (Err (faults.Line fault))
   theirs q more fault spelled accepts all ordinal session p rest names at spells of =
       elim (accepts all ordinal session names at (subst (IsOfSession session) (same_packet bytes p q rest more spells spelled) of)) [

@@ -8,6 +8,8 @@ use Rattle.live_feed.specs.declared.faults.TakeFault.{TakeFault}
 use Rattle.live_feed.specs.declared.faults.TakeFault.TheVariants.{Packet, Line}
 use Rattle.live_feed.specs.declared.faults.RenewalFault.{RenewalFault}
 use Rattle.live_feed.specs.declared.faults.RenewalFault.TheVariants as renewal
+use Rattle.live_feed.specs.declared.faults.SettleFault.{SettleFault}
+use Rattle.live_feed.specs.declared.faults.SettleFault.TheVariants as settling
 use Rattle.live_feed.specs.declared.logged.PollFault.{PollFault}
 use Rattle.live_feed.specs.declared.logged.PollFault.TheVariants.{NoMemory, LogFull}
 
@@ -25,6 +27,12 @@ abbrev pub renewal_fault_code : RenewalFault → ℕ
 renewal_fault_code renewal.UnknownVenue = 18
 renewal_fault_code renewal.WrongOrdinal = 38
 renewal_fault_code (renewal.Venue fault) = renew_fault_code fault
+
+abbrev pub settle_fault_code : SettleFault → ℕ
+settle_fault_code settling.NoMemory = 12
+settle_fault_code settling.SeatsMissing = 31
+settle_fault_code settling.SubscribersMissing = 32
+settle_fault_code settling.CountsDiffer = 39
 
 abbrev pub poll_fault_code : PollFault → ℕ
 poll_fault_code NoMemory = 12

@@ -56,6 +56,7 @@ pub record IsSpare (lanes : FeedLanes) (id : ℕ) (s : SpareLane) : Type 0 where
 -- entries, by its own contract.)
 pub record IsHub (carries : Carries) (ends : Ends) (lanes : FeedLanes) (s : HubState) : Type 0 where
   pub venues : length s.receivers ≡ s.journal.venues
+  pub count : length lanes.venues ≡ s.journal.venues
   pub subscribers : length s.senders ≡ length s.journal.cursors
   pub consumed : (venue : ℕ) (e : LaneEnd Numbered) → slice_get s.receivers venue ≡ Some e
       → IsConsumed carries ends lanes s.journal.entries venue e

@@ -14,6 +14,9 @@ pub mod HubSections
 pub mod Tapes
 pub mod Codes
 -- how a lane is closed
+pub mod Rooms
+pub mod SideBySide
 pub mod Settlements
 -- a run by threads
 pub mod Runs
+pub mod Closings

@@ -1,13 +1,17 @@
 -- Each section under a lock is one event of the machine (feed_core), on the part that the lock
 -- keeps.
-use Rattle.std.specs.Prelude.{◌≡◌, ℕ, Bool, true, List, length, slice_get, Result, Ok, Err}
+use Rattle.std.specs.Prelude.{◌≡◌, ◌⊎◌, ℕ, Bool, true, List, length, slice_get, Result, Ok, Err, IsOk}
 use Rattle.feed_types.specs.declared.item.Numbered.{Numbered}
 use Rattle.feed_types.specs.declared.line.LineId.{LineId}
+use Rattle.feed_types.specs.Sequence.{Carries, Ends}
+use Rattle.feed_types.specs.Sessions.{Session, SessionNames, IsSessionAt, Names}
 use Rattle.mold_packet.specs.Content.{Content}
 use Rattle.line_arbiter.specs.declared.outcome.Outcome.{Outcome}
 use Rattle.line_arbiter.specs.declared.outcome.LineFault.{LineFault}
+use Rattle.line_arbiter.specs.declared.outcome.LineFault.TheVariants.{OtherSession}
 use Rattle.line_arbiter.specs.declared.faults.RenewFault.{RenewFault}
 use Rattle.line_arbiter.specs.Histories.{History, streams_of}
+use Rattle.line_arbiter.specs.OfSession.{IsOfSession}
 use Rattle.line_arbiter.specs.States.{KeepsItsPlace, KeepsAllButSent}
 use Rattle.fifo_lane.specs.Lane.{WasFull, with_items}
 use Rattle.feed_core.specs.declared.event.Done.{Done}
@@ -15,7 +19,8 @@ use Rattle.feed_core.specs.declared.event.Done.TheVariants as done
 use Rattle.feed_core.specs.Steps.{IsTaken, IsRenewed, pushed, ComesTo}
 use Rattle.live_feed.specs.declared.unsent.Unsent.{Unsent}
 use Rattle.live_feed.specs.declared.unsent.Unsent.TheVariants as unsent
-use Rattle.live_feed.specs.Cells.{CellState, FitsCell, new_pace}
+use Rattle.live_feed.specs.Lanes.{FeedLanes}
+use Rattle.live_feed.specs.Cells.{CellState, FitsCell, IsKept, new_pace}
 
 -- Packet: what came to the venue has grown by the packet, and the cell stands for it.
 pub record TakesPacket (line : LineId) (p : Content) (answer : Result Outcome LineFault)
@@ -23,6 +28,26 @@ pub record TakesPacket (line : LineId) (p : Content) (answer : Result Outcome Li
   pub after : History
   pub taken : IsTaken old.arbiter.window old.arbiter.sent line p h answer after
   pub fits : FitsCell new after
+
+-- Where the lines bring exactly these sessions, a packet of one of them is accepted, or is of another
+-- session than the present one.
+abbrev pub AcceptsTheirPacket : SessionNames → Carries → Ends → ℕ → Content
+    → Result Outcome LineFault → Type 0
+AcceptsTheirPacket sessions carries ends venue p answer =
+    (all : List Session) (ordinal : ℕ) (session : Session)
+    → Names sessions carries ends venue all → IsSessionAt all ordinal session
+    → IsOfSession session p → IsOk answer ⊎ (answer ≡ Err OtherSession)
+
+-- Packet, where the cell is known by what its lock keeps alone: there is such a cell of this venue,
+-- which answers so.
+pub record IsAnsweredBy (sessions : SessionNames) (carries : Carries) (ends : Ends)
+    (lanes : FeedLanes) (venue : ℕ) (line : LineId) (p : Content)
+    (answer : Result Outcome LineFault) : Type 0 where
+  pub old : CellState
+  pub kept : IsKept sessions carries ends lanes old
+  pub venue_is : old.arbiter.venue ≡ venue
+  pub new : CellState
+  pub takes : TakesPacket line p answer kept.history old new
 
 -- and nothing else has changed
 pub record KeepsButPackets (old new : CellState) : Type 0 where

@@ -35,6 +35,15 @@ sums_after s p (Ok Ended) = record s { ended = wrapping s.ended p.number }
 sums_after s p (Ok Ahead) = record s { ahead = wrapping s.ahead (last_number p) }
 sums_after s p (Err fault) = s
 
+-- two lots of sums, added up
+abbrev pub sums_together : Sums → Sums → Sums
+sums_together s t = record {
+  taken = wrapping s.taken t.taken;
+  heartbeat = wrapping s.heartbeat t.heartbeat;
+  ended = wrapping s.ended t.ended;
+  ahead = wrapping s.ahead t.ahead;
+}
+
 -- those of the packets that came on the line
 abbrev pub accepted_on : LineId → List Arrival → Sums
 accepted_on line packets =

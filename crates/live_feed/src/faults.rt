@@ -1,7 +1,7 @@
 //! Why a call on a feed is refused.
 
 ghost use Rattle.std.specs.Prelude.{◌≡◌};
-ghost use Rattle.live_feed.specs.Codes.{feed_fault_code, take_fault_code, renewal_fault_code};
+ghost use Rattle.live_feed.specs.Codes.{feed_fault_code, take_fault_code, renewal_fault_code, settle_fault_code};
 
 use line_arbiter::{LineFault, RenewFault};
 use mold_packet::PacketFault;
@@ -80,6 +80,37 @@ impl RenewalFault {
             RenewalFault::UnknownVenue => 18,
             RenewalFault::WrongOrdinal => 38,
             RenewalFault::Venue(fault) => fault.code(),
+        }
+    }
+}
+
+/// Why a feed isn't settled. Everything is handed back.
+#[derive(Clone, Copy, Debug, PartialEq, Eq, Hash, Error)]
+pub enum SettleFault {
+    /// A seat that was handed out isn't among those handed in.
+    #[error("a line's seat is missing")]
+    SeatsMissing,
+    /// The subscribers handed in aren't all subscribers, in the order of their ids.
+    #[error("a subscriber is missing or out of order")]
+    SubscribersMissing,
+    /// A venue counts otherwise than its seats show. No feed comes to this.
+    #[error("a venue's counts differ from those of its seats")]
+    CountsDiffer,
+    /// Memory was refused.
+    #[error("no memory to settle the feed")]
+    NoMemory,
+}
+
+impl SettleFault {
+    /// The number that stands for the fault, 12, 31, 32 or 39.
+    pub fn code(self) -> u8
+        ensures { result ≡ settle_fault_code self }
+    {
+        match self {
+            SettleFault::NoMemory => 12,
+            SettleFault::SeatsMissing => 31,
+            SettleFault::SubscribersMissing => 32,
+            SettleFault::CountsDiffer => 39,
         }
     }
 }

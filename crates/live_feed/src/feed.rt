@@ -11,6 +11,7 @@ use crate::making::{new_spares, new_starts};
 use crate::open_feed::{Guarded, OpenFeed};
 use crate::spare::SpareLane;
 use crate::venue_cell::VenueCell;
+use crate::venue_locks::VenueLocks;
 use crate::venue_start::VenueStart;
 use feed_core::{CoreFault, new_journal};
 use feed_types::{FeedConfig, Genuine, Numbered};
@@ -20,6 +21,9 @@ use std::alloc::Global;
 use std::collections::VecDeque;
 use std::marker::Model;
 use std::sync::Mutex;
+
+/// How many subscribers there are at most.
+const MAX_SUBSCRIBERS: usize = 32;
 
 /// A feed that isn't open yet, to which nothing came. Contracts see it as its lanes.
 #[derive(Drop)]
@@ -103,10 +107,13 @@ impl<G: Genuine> LiveFeed<G> {
         requires { self ≡ N.lanes }
         ensures { IfErr result (λ feed. feed ≡ self) }
     {
-        let mut venues = Vec::new(alloc);
-        if venues.reserve(self.starts.len()).is_err() {
+        let (Ok(venues), Ok(senders), Ok(filters)) = (
+            Vec::with_capacity(alloc, self.starts.len()),
+            Vec::with_capacity(alloc, MAX_SUBSCRIBERS),
+            Vec::with_capacity(alloc, MAX_SUBSCRIBERS),
+        ) else {
             return Err(self);
-        }
+        };
         let LiveFeed {
             starts,
             from_venues,
@@ -114,10 +121,9 @@ impl<G: Genuine> LiveFeed<G> {
             spare_lanes,
             log_lines,
         } = self;
-        let core = HubCore::new(alloc, kept, from_venues, spare_lanes);
-        let filters = Vec::new(alloc);
+        let core = HubCore::new(kept, from_venues, senders, spare_lanes);
         let hub = Mutex::new(HubCell { core, filters });
-        let venues = locked(starts, venues);
+        let venues = VenueLocks::new(locked(starts, venues));
         Ok(OpenFeed {
             venues,
             hub,

@@ -42,6 +42,7 @@ impl<G: Genuine, N: FeedName> HubCell<G, N> {
     /// refused as UnknownVenue, AlreadySo, JournalFull or NoMemory: the first of these that fits.
     pub fn declare(&mut self, venue: VenueId, on: bool) -> Result<u64, JournalFault>
         ensures declares { Declares self.old.core.journal venue on result self.new.core.journal }
+        ensures venues { self.old.core.journal.venues ≡ length N.lanes.venues }
         ensures kept { self.new.core
             ≡ record self.old.core { journal = self.new.core.journal } }
     {

@@ -14,7 +14,6 @@ use feed_types::{Genuine, Notice, Numbered, SubscriberId, VenueId};
 use fifo_lane::{LaneRule, Receiver, RisingNotices, Sender, VenueItems};
 use filter_terms::{Filter, Terms};
 use journal_book::{Journal, JournalFault};
-use std::alloc::Global;
 use std::collections::VecDeque;
 use std::marker::{Model, PhantomData};
 use std::sync::Wait;
@@ -71,31 +70,31 @@ fn notice_at(notices: &[Notice], place: usize) -> Option<Notice>
 }
 
 impl<G: Genuine, N: FeedName> HubCore<G, N> {
-    /// An empty journal of no subscribers, with the lanes of its venues and those that are left for
-    /// subscribers.
+    /// A journal with the lanes of its venues, those of its subscribers, and those that are left for
+    /// further ones.
     pub(crate) fn new(
-        alloc: Global,
         journal: Journal,
         receivers: Vec<Receiver<Numbered, VenueItems<G>>>,
+        senders: Vec<Sender<Notice, RisingNotices>>,
         spare: VecDeque<SpareLane>,
     ) -> HubCore<G, N>
         requires { IsHub G.carries G.ends N.lanes (record {
           journal = journal;
           receivers = receivers.items;
-          senders = [];
+          senders = senders.items;
           spare = spare.items;
         }) }
         ensures { result ≡ record {
           journal = journal;
           receivers = receivers.items;
-          senders = [];
+          senders = senders.items;
           spare = spare.items;
         } }
     {
         HubCore {
             kept: journal,
             from_venues: receivers,
-            to_subscribers: Vec::new(alloc),
+            to_subscribers: senders,
             spare_lanes: spare,
             feed: PhantomData,
         }
@@ -117,9 +116,25 @@ impl<G: Genuine, N: FeedName> HubCore<G, N> {
         (kept, from_venues, to_subscribers)
     }
 
+    /// The journal.
+    pub(crate) fn journal(&self) -> &Journal
+        ensures { result.now ≡ self.now.journal }
+    {
+        &self.kept
+    }
+
+    /// The sending ends of the subscribers' lanes.
+    pub(crate) fn senders(&self) -> &[Sender<Notice, RisingNotices>]
+        ensures value { result.now ≡ self.now.senders }
+        ensures count { length result.now ≡ length self.now.journal.cursors }
+    {
+        self.to_subscribers.as_slice()
+    }
+
     /// How many venues there are.
     pub(crate) fn venue_count(&self) -> usize
-        ensures { result ≡ self.now.journal.venues }
+        ensures value { result ≡ self.now.journal.venues }
+        ensures lanes { result ≡ length N.lanes.venues }
     {
         self.from_venues.len()
     }
@@ -164,6 +179,7 @@ impl<G: Genuine, N: FeedName> HubCore<G, N> {
     /// Declares self-help on the venue, or withdraws it, and gives the entry's position.
     pub(crate) fn declare(&mut self, venue: VenueId, on: bool) -> Result<u64, JournalFault>
         ensures declares { Declares self.old.journal venue on result self.new.journal }
+        ensures venues { self.old.journal.venues ≡ length N.lanes.venues }
         ensures kept { self.new ≡ record self.old { journal = self.new.journal } }
     {
         self.kept.declare(venue, on)

@@ -12,14 +12,16 @@
 //! `specs/Hubs.antt` and `specs/Tapes.antt`, and at `venue_cell.rt` and `hub_cell.rt` for the code.
 //!
 //! A [`LiveFeed`] has all lanes of a feed, to which nothing came yet (`specs/Feeds.antt`). Opened
-//! as an [`OpenFeed`] it stands behind its locks; each call takes one of them. `settling.rt` closes
-//! a venue's lane: what was consumed, is in the lane and is ready are then the sessions' streams.
-//! `serving.rt` closes a subscriber's (`specs/Settlements.antt`).
-//!
-//! Not here yet: the settlement of a whole feed.
+//! as an [`OpenFeed`] it stands behind its locks; each call takes one of them. Once all threads have
+//! returned, `OpenFeed::settle` closes all lanes and gives a [`Settlement`]: per venue, what was
+//! consumed, is in the lane and is ready are the sessions' streams; per subscriber, its log, what is
+//! queued and what wasn't offered are what it wants (`specs/Settlements.antt`). `settling.rt` closes
+//! a venue's lane, `serving.rt` a subscriber's, `closing.rt` all.
 #![tactic(auto)]
 
 mod advising;
+mod agreeing;
+mod closing;
 mod datagram;
 mod faults;
 mod feed;
@@ -32,20 +34,28 @@ mod making;
 mod next_wanted;
 mod open_feed;
 mod report;
+mod rooms;
 mod seat;
 mod serving;
+mod settle;
+mod settlement;
 mod settling;
 mod source;
 mod spare;
 mod subscriber;
+mod subscriber_end;
 mod sums;
+mod tally;
 mod tape;
 mod unsent;
+mod unsettled;
 mod venue_cell;
+mod venue_end;
+mod venue_locks;
 mod venue_start;
 
 pub use datagram::Datagram;
-pub use faults::{FeedFault, RenewalFault, TakeFault};
+pub use faults::{FeedFault, RenewalFault, SettleFault, TakeFault};
 pub use feed::LiveFeed;
 pub use feed_name::FeedName;
 pub use hub_cell::HubCell;
@@ -56,8 +66,10 @@ pub use open_feed::OpenFeed;
 pub use report::{RunReport, Stop};
 pub use seat::LineSeat;
 pub use source::{LineSource, SourceFault};
+pub use settlement::Settlement;
 pub use spare::SpareLane;
 pub use subscriber::Subscriber;
 pub use tape::Tape;
 pub use unsent::Unsent;
+pub use unsettled::Unsettled;
 pub use venue_cell::VenueCell;

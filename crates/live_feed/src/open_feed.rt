@@ -1,12 +1,10 @@
 //! A feed behind its locks.
 
-ghost use Rattle.std.specs.Prelude.{◌≡◌, ◌⊎◌, ℕ, List, [], Err, IsOk, IfOk, IfErr};
-ghost use Rattle.feed_types.specs.Sessions.{Session, IsSessionAt, Names};
-ghost use Rattle.line_arbiter.specs.OfSession.{IsOfSession};
-ghost use Rattle.line_arbiter.specs.declared.outcome.LineFault.TheVariants.{OtherSession};
+ghost use Rattle.std.specs.Prelude.{◌≡◌, ◌≤◌, ◌↔◌, [], length, IfOk, IfErr, IsErrOf};
 ghost use Rattle.line_arbiter.specs.Genuine.{IsGenuine};
 ghost use Rattle.live_feed.specs.Seats.{new_seat, seat_after};
-ghost use Rattle.live_feed.specs.Datagrams.{AreGenuineBytes, AcceptsTheirs, IsTakenBy, bytes_of};
+ghost use Rattle.live_feed.specs.Sections.{AcceptsTheirPacket};
+ghost use Rattle.live_feed.specs.Datagrams.{AreGenuineBytes, AcceptsTheirs, IsAnsweredAt, IsTakenBy, bytes_of};
 
 use crate::datagram::Datagram;
 use crate::faults::{FeedFault, RenewalFault, TakeFault};
@@ -16,6 +14,7 @@ use crate::seat::LineSeat;
 use crate::subscriber::Subscriber;
 use crate::tape::Tape;
 use crate::venue_cell::VenueCell;
+use crate::venue_locks::VenueLocks;
 use feed_types::{Genuine, LineId, SubscriberId, VenueId};
 use filter_terms::{Filter, Strategy};
 use journal_book::JournalFault;
@@ -36,7 +35,7 @@ pub(crate) struct Guarded<G: Genuine, N: FeedName> {
 /// A feed behind its locks: one for each venue, and the consolidator's. No call holds two of them.
 #[derive(Drop)]
 pub struct OpenFeed<G: Genuine, N: FeedName> {
-    pub(crate) venues: Vec<Mutex<Guarded<G, N>>>,
+    pub(crate) venues: VenueLocks<G, N>,
     pub(crate) hub: Mutex<HubCell<G, N>>,
     pub(crate) log_lines: u32,
 }
@@ -55,55 +54,21 @@ fn push_ready<G: Genuine, N: FeedName, W: Wait>(rt: &W, cell: &mut VenueCell<G, 
 }
 
 /// Takes the packet where the cell is of the seat's venue.
-fn take_packet<G: Genuine, N: FeedName>(
+fn take_in<G: Genuine, N: FeedName>(
     cell: &mut VenueCell<G, N>,
     seat: &mut LineSeat<G, N>,
     packet: &Packet<'_>,
 ) -> Result<Outcome, LineFault>
     requires { IsGenuine G.sessions G.carries G.ends seat.old.venue packet.now }
     ensures seat { seat.new ≡ seat_after seat.old packet.now result }
-    ensures accepts { (all : List Session) (ordinal : ℕ) (session : Session)
-        → Names G.sessions G.carries G.ends seat.old.venue all
-        → IsSessionAt all ordinal session → IsOfSession session packet.now
-        → IsOk result ⊎ (result ≡ Err OtherSession) }
+    ensures answer { IsAnsweredAt G.sessions G.carries G.ends N.lanes seat.old packet.now result }
+    ensures accepts { AcceptsTheirPacket G.sessions G.carries G.ends seat.old.venue packet.now
+        result }
 {
     if cell.venue() != seat.venue() {
         return Err(LineFault::OtherSession);
     }
     cell.take(seat, packet)
-}
-
-/// The answer to bytes on a seat of no venue.
-fn unheld<G: Genuine, N: FeedName>(
-    seat: &LineSeat<G, N>,
-    bytes: &[u8],
-) -> Result<Outcome, TakeFault>
-    ensures taken { IsTakenBy bytes.now seat.now result seat.now }
-    ensures accepts { AcceptsTheirs G.sessions G.carries G.ends seat.now.venue bytes.now result }
-{
-    match read_packet(bytes) {
-        Ok(_) => Err(TakeFault::Line(LineFault::OtherSession)),
-        Err(fault) => Err(TakeFault::Packet(fault)),
-    }
-}
-
-/// Takes the packet that the bytes are, where the cell is of the seat's venue.
-fn take_bytes<G: Genuine, N: FeedName>(
-    cell: &mut VenueCell<G, N>,
-    seat: &mut LineSeat<G, N>,
-    bytes: &[u8],
-) -> Result<Outcome, TakeFault>
-    requires { AreGenuineBytes G.sessions G.carries G.ends seat.old.venue bytes.now }
-    ensures taken { IsTakenBy bytes.now seat.old result seat.new }
-    ensures accepts { AcceptsTheirs G.sessions G.carries G.ends seat.old.venue bytes.now result }
-{
-    match read_packet(bytes) {
-        Ok(packet) => match take_packet(cell, seat, &packet) {
-            Ok(outcome) => Ok(outcome),
-            Err(fault) => Err(TakeFault::Line(fault)),
-        },
-        Err(fault) => Err(TakeFault::Packet(fault)),
-    }
 }
 
 impl<G: Genuine, N: FeedName> OpenFeed<G, N> {
@@ -116,8 +81,9 @@ impl<G: Genuine, N: FeedName> OpenFeed<G, N> {
         line: LineId,
     ) -> Result<LineSeat<G, N>, FeedFault>
         ensures seat { IfOk result (λ seat. seat ≡ new_seat venue line) }
+        ensures unknown { IsErrOf result FeedFault.UnknownVenue ↔ (length N.lanes.venues ≤ venue) }
     {
-        let Some(lock) = self.venues.get(venue.index()) else {
+        let Some(lock) = self.venues.get(venue) else {
             return Err(FeedFault::UnknownVenue);
         };
         let mut guarded = lock.lock(rt);
@@ -138,8 +104,9 @@ impl<G: Genuine, N: FeedName> OpenFeed<G, N> {
     }
 
     /// Takes a datagram that came on the seat's line, which is genuine at its venue, and answers
-    /// what became of it: the packet's fault, else the line's, else the outcome. What is ready then
-    /// is pushed, until nothing is or the lane is full.
+    /// what became of it: the packet's fault, else the line's, else the outcome. What is ready then,
+    /// after a fault too, is pushed, until nothing is or the lane is full. The datagram is read
+    /// before the venue's lock is taken.
     pub fn take<W: Wait>(
         &self,
         rt: &W,
@@ -148,26 +115,55 @@ impl<G: Genuine, N: FeedName> OpenFeed<G, N> {
     ) -> Result<Outcome, TakeFault>
         requires { AreGenuineBytes G.sessions G.carries G.ends seat.old.venue
             (bytes_of datagram.now) }
-        ensures taken { IsTakenBy (bytes_of datagram.now) seat.old result seat.new }
+        ensures taken { IsTakenBy G.sessions G.carries G.ends N.lanes (bytes_of datagram.now)
+            seat.old result seat.new }
 
         // Where it is known which sessions the lines bring, a packet of one of them is refused only
         // where it isn't of the present one.
         ensures accepts { AcceptsTheirs G.sessions G.carries G.ends seat.old.venue
             (bytes_of datagram.now) result }
     {
-        let Some(lock) = self.venues.get(seat.venue().index()) else {
-            return unheld(seat, datagram.bytes());
+        match read_packet(datagram.bytes()) {
+            Ok(packet) => match self.take_packet(rt, seat, &packet) {
+                Ok(outcome) => Ok(outcome),
+                Err(fault) => Err(TakeFault::Line(fault)),
+            },
+            Err(fault) => {
+                let _ = self.flush(rt, seat.venue());
+                Err(TakeFault::Packet(fault))
+            }
+        }
+    }
+
+    /// Takes a packet that was read, under the lock of the seat's venue, and pushes what is ready.
+    fn take_packet<W: Wait>(
+        &self,
+        rt: &W,
+        seat: &mut LineSeat<G, N>,
+        packet: &Packet<'_>,
+    ) -> Result<Outcome, LineFault>
+        requires { IsGenuine G.sessions G.carries G.ends seat.old.venue packet.now }
+        ensures seat { seat.new ≡ seat_after seat.old packet.now result }
+        ensures answer { IsAnsweredAt G.sessions G.carries G.ends N.lanes seat.old packet.now
+            result }
+        ensures accepts { AcceptsTheirPacket G.sessions G.carries G.ends seat.old.venue packet.now
+            result }
+    {
+        let Some(lock) = self.venues.get(seat.venue()) else {
+            return Err(LineFault::OtherSession);
         };
         let mut guarded = lock.lock(rt);
-        let answer = take_bytes(&mut guarded.cell, seat, datagram.bytes());
+        let answer = take_in(&mut guarded.cell, seat, packet);
         push_ready(rt, &mut guarded.cell);
         answer
     }
 
     /// Pushes what is ready of the venue, until nothing is or the lane is full, and gives how many
     /// items were pushed.
-    pub fn flush<W: Wait>(&self, rt: &W, venue: VenueId) -> Result<u64, FeedFault> {
-        let Some(lock) = self.venues.get(venue.index()) else {
+    pub fn flush<W: Wait>(&self, rt: &W, venue: VenueId) -> Result<u64, FeedFault>
+        ensures unknown { IsErrOf result FeedFault.UnknownVenue ↔ (length N.lanes.venues ≤ venue) }
+    {
+        let Some(lock) = self.venues.get(venue) else {
             return Err(FeedFault::UnknownVenue);
         };
         let mut guarded = lock.lock(rt);
@@ -183,8 +179,10 @@ impl<G: Genuine, N: FeedName> OpenFeed<G, N> {
         rt: &W,
         venue: VenueId,
         now_ms: u64,
-    ) -> Result<Option<Request>, FeedFault> {
-        let Some(lock) = self.venues.get(venue.index()) else {
+    ) -> Result<Option<Request>, FeedFault>
+        ensures unknown { IsErrOf result FeedFault.UnknownVenue ↔ (length N.lanes.venues ≤ venue) }
+    {
+        let Some(lock) = self.venues.get(venue) else {
             return Err(FeedFault::UnknownVenue);
         };
         let mut guarded = lock.lock(rt);
@@ -204,9 +202,10 @@ impl<G: Genuine, N: FeedName> OpenFeed<G, N> {
         session: [u8; 10],
     ) -> Result<u64, RenewalFault>
         requires { G.sessions venue ordinal session }
-        ensures { IfOk result (λ begun. begun ≡ ordinal) }
+        ensures ordinal { IfOk result (λ begun. begun ≡ ordinal) }
+        ensures unknown { IsErrOf result RenewalFault.UnknownVenue ↔ (length N.lanes.venues ≤ venue) }
     {
-        let Some(lock) = self.venues.get(venue.index()) else {
+        let Some(lock) = self.venues.get(venue) else {
             return Err(RenewalFault::UnknownVenue);
         };
         let mut guarded = lock.lock(rt);
@@ -221,7 +220,9 @@ impl<G: Genuine, N: FeedName> OpenFeed<G, N> {
 
     /// Journals the next item of the venue's lane, and gives its position; None where nothing was
     /// inside. UnknownVenue, JournalFull or NoMemory come before an item is taken out of the lane.
-    pub fn consume<W: Wait>(&self, rt: &W, venue: VenueId) -> Result<Option<u64>, JournalFault> {
+    pub fn consume<W: Wait>(&self, rt: &W, venue: VenueId) -> Result<Option<u64>, JournalFault>
+        ensures unknown { IsErrOf result JournalFault.UnknownVenue ↔ (length N.lanes.venues ≤ venue) }
+    {
         let mut hub = self.hub.lock(rt);
         if venue.index() >= hub.core.venue_count() {
             return Err(JournalFault::UnknownVenue);
@@ -229,8 +230,12 @@ impl<G: Genuine, N: FeedName> OpenFeed<G, N> {
         hub.consume(rt, venue)
     }
 
-    /// Declares self-help on the venue, or withdraws it, and gives the entry's position.
-    pub fn declare<W: Wait>(&self, rt: &W, venue: VenueId, on: bool) -> Result<u64, JournalFault> {
+    /// Declares self-help on the venue, or withdraws it, and gives the entry's position. It is
+    /// refused as UnknownVenue, AlreadySo (the venue's self-help is in that state), JournalFull or
+    /// NoMemory: the first of these that fits. A refused call changes nothing.
+    pub fn declare<W: Wait>(&self, rt: &W, venue: VenueId, on: bool) -> Result<u64, JournalFault>
+        ensures unknown { IsErrOf result JournalFault.UnknownVenue ↔ (length N.lanes.venues ≤ venue) }
+    {
         self.hub.lock(rt).declare(venue, on)
     }
 

@@ -77,6 +77,13 @@ impl<G, N> LineSeat<G, N> {
         self.sums.all()
     }
 
+    /// The sums of its accepted packets.
+    pub(crate) fn sums(&self) -> PacketSums
+        ensures { result ≡ self.now.accepted }
+    {
+        self.sums
+    }
+
     /// One packet more, with its outcome.
     pub(crate) fn count(&mut self, packet: &Packet<'_>, outcome: Outcome)
         ensures { self.new ≡ seat_after self.old packet.now (Ok outcome) }

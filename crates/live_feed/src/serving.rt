@@ -2,28 +2,20 @@
 
 ghost use Rattle.std.specs.Prelude.{◌≡◌, ◌≤◌, ◌<◌, ◌+◌, ◌++◌, ◌∷◌, [], drop, filter, length, vec_len, vec_capacity};
 ghost use Rattle.filter_terms.specs.Terms.{meets};
-ghost use Rattle.journal_book.specs.Journals.{changes};
 ghost use Rattle.live_feed.specs.Hubs.{IsOffered};
 ghost use Rattle.live_feed.specs.Settlements.{IsServed};
+ghost use Rattle.live_feed.specs.Rooms.{HasSubscriberRoom};
 
 use crate::feed_name::FeedName;
-use crate::logged::Logged;
+use crate::rooms::SubscriberRoom;
 use crate::settling::drained;
+use crate::subscriber_end::SubscriberEnd;
 use crate::tape::Tape;
-use feed_types::{Best, National, Notice, SubscriberId, SymbolName, VenueId};
+use feed_types::{Best, National, Notice, SymbolName, VenueId};
 use fifo_lane::{RisingNotices, Sender, settle};
 use filter_terms::Terms;
 use journal_book::Journal;
 use std::sync::Wait;
-
-/// What is left of a subscriber once its lane is closed: its log, what still lay in the lane, and
-/// what it wants and wasn't offered.
-#[derive(Drop)]
-pub(crate) struct SubscriberEnd {
-    pub(crate) lines: Vec<Logged>,
-    pub(crate) queued: Vec<Notice>,
-    pub(crate) unoffered: Vec<Notice>,
-}
 
 /// Appends the notice, for which there is room.
 fn push_notice(room: &mut Vec<Notice>, notice: &Notice)
@@ -49,10 +41,10 @@ fn push_wanted(room: &mut Vec<Notice>, terms: &Terms, notice: &Notice)
     }
 }
 
-/// The notices from this place on that meet the terms, in order. There is room for all.
+/// The notices from this place on that meet the terms, in order. There is room for all from there.
 fn wanted_past(terms: &Terms, notices: &[Notice], from: usize, mut room: Vec<Notice>) -> Vec<Notice>
     requires from { from ≤ length notices.now }
-    requires room { (length room.items ≡ 0) × (length notices.now ≤ vec_capacity room) }
+    requires room { (length room.items ≡ 0) × (length notices.now ≤ from + vec_capacity room) }
     ensures { result.items ≡ filter (meets terms.now) (drop from notices.now) }
 {
     for place in from..notices.len() {
@@ -61,26 +53,22 @@ fn wanted_past(terms: &Terms, notices: &[Notice], from: usize, mut room: Vec<Not
     room
 }
 
-/// Closes a subscriber's lane, whose two ends these are. The two lists are empty and have room: one
-/// for what the lane holds, one for all changes of the journal.
+/// Closes a subscriber's lane, whose two ends these are. There is room for its lists.
 pub(crate) fn settle_subscriber<N: FeedName, W: Wait>(
     rt: &W,
     journal: &Journal,
-    id: SubscriberId,
     sender: Sender<Notice, RisingNotices>,
     tape: Tape<N>,
-    queued: Vec<Notice>,
-    unoffered: Vec<Notice>,
+    room: SubscriberRoom,
 ) -> SubscriberEnd
-    requires known { id < length journal.now.cursors }
-    requires offered { IsOffered N.lanes journal.now id sender }
-    requires lane { sender.lane ≡ tape.lane.lane }
-    requires queued { (length queued.items ≡ 0) × (sender.capacity ≤ vec_capacity queued) }
-    requires unoffered { (length unoffered.items ≡ 0)
-        × (length (changes journal.now) ≤ vec_capacity unoffered) }
-    ensures { IsServed journal.now id result.lines.items result.queued.items
-        result.unoffered.items }
+    requires known { tape.id < length journal.now.cursors }
+    requires offered { IsOffered N.lanes journal.now tape.id sender }
+    requires room { HasSubscriberRoom journal.now tape.id sender room }
+    ensures served { IsServed journal.now tape.id result.log result.queued result.unoffered }
+    ensures log { result.log ≡ tape.log }
 {
+    let SubscriberRoom { queued, unoffered } = room;
+    let id = tape.id();
     let capacity = sender.capacity();
     let from = journal.seen(id);
     let terms = journal.terms(id);
@@ -88,9 +76,5 @@ pub(crate) fn settle_subscriber<N: FeedName, W: Wait>(
     let inside = settle(sender, receiver);
     let queued = drained(rt, inside, capacity, queued);
     let unoffered = wanted_past(terms, journal.changes(), from, unoffered);
-    SubscriberEnd {
-        lines,
-        queued,
-        unoffered,
-    }
+    SubscriberEnd::new(lines, queued, unoffered)
 }

@@ -5,26 +5,17 @@ ghost use Rattle.line_arbiter.specs.Packets.{Arrival};
 ghost use Rattle.line_arbiter.specs.Streams.{stream_of};
 ghost use Rattle.line_arbiter.specs.Fits.{Fits};
 ghost use Rattle.live_feed.specs.Hubs.{IsConsumed, item_by, items_in};
-ghost use Rattle.live_feed.specs.Settlements.{IsSettled};
+ghost use Rattle.live_feed.specs.Settlements.{IsClosedVenue};
+ghost use Rattle.live_feed.specs.Rooms.{HasVenueRoom};
 
 use crate::feed_name::FeedName;
-use crate::sums::VenueSums;
+use crate::rooms::VenueRoom;
 use crate::venue_cell::VenueCell;
+use crate::venue_end::{VenueEnd, VenueWins};
 use feed_types::{Entry, Genuine, Item, Numbered, Quote, SymbolName, VenueId};
 use fifo_lane::{LaneRule, Receiver, Settled, VenueItems, settle};
 use line_arbiter::Arbiter;
 use std::sync::Wait;
-
-/// What is left of a venue once its lane is closed: what was consumed, what still lay in the lane,
-/// what is ready behind it, and what is counted per line.
-#[derive(Drop)]
-pub(crate) struct VenueEnd<G> {
-    pub(crate) lines: Arbiter<G>,
-    pub(crate) sums: VenueSums,
-    pub(crate) consumed: Vec<Numbered>,
-    pub(crate) in_lane: Vec<Numbered>,
-    pub(crate) ready: Vec<Numbered>,
-}
 
 /// The items inside the lane, in order. There is room for as many as it holds.
 pub(crate) fn drained<T: Drop, R: LaneRule<T>, W: Wait>(
@@ -46,11 +37,32 @@ pub(crate) fn drained<T: Drop, R: LaneRule<T>, W: Wait>(
     room
 }
 
+/// How many items of the venue the entry is, one or none.
+fn count_item(venue: VenueId, entry: &Entry) -> usize
+    ensures value { result ≡ length (item_by venue entry.now) }
+    ensures few { result ≤ 1 }
+{
+    match entry {
+        Entry::Consumed { venue: of, .. } => { if *of == venue { 1 } else { 0 } }
+        Entry::SelfHelp { .. } => 0,
+    }
+}
+
+/// How many of the entries are items of the venue.
+pub(crate) fn count_items(entries: &[Entry], venue: VenueId) -> usize
+    ensures { result ≡ length (items_in entries.now venue) }
+{
+    let mut count = 0;
+    for place in 0..entries.len() {
+        count += count_item(venue, &entries[place]);
+    }
+    count
+}
+
 /// Appends the entry's item where it is the venue's. There is room for it.
 fn push_item(room: &mut Vec<Numbered>, venue: VenueId, entry: &Entry)
-    requires { vec_len room.old < vec_capacity room.old }
+    requires { vec_len room.old + length (item_by venue entry.now) ≤ vec_capacity room.old }
     ensures items { room.new.items ≡ room.old.items ++ item_by venue entry.now }
-    ensures count { vec_len room.new ≤ vec_len room.old + 1 }
     ensures capacity { vec_capacity room.new ≡ vec_capacity room.old }
 {
     let _named: Option<(Item, Quote, SymbolName)> = None;
@@ -67,13 +79,14 @@ fn push_item(room: &mut Vec<Numbered>, venue: VenueId, entry: &Entry)
     }
 }
 
-/// The venue's items in the entries, in order. There is room for all entries.
+/// The venue's items in the entries, in order. There is room for them.
 pub(crate) fn consumed_of(
     entries: &[Entry],
     venue: VenueId,
     mut room: Vec<Numbered>,
 ) -> Vec<Numbered>
-    requires { (length room.items ≡ 0) × (length entries.now ≤ vec_capacity room) }
+    requires { (length room.items ≡ 0)
+        × (length (items_in entries.now venue) ≤ vec_capacity room) }
     ensures { result.items ≡ items_in entries.now venue }
 {
     for place in 0..entries.len() {
@@ -98,39 +111,29 @@ fn take_ready<G: Genuine>(lines: &mut Arbiter<G>, mut room: Vec<Numbered>) -> Ve
     room
 }
 
-/// Closes a venue's lane, whose two ends these are. The three lists are empty and have room: one
-/// for all entries of the journal, one for what the lane holds, one for what is ready.
+/// Closes a venue's lane, whose two ends these are. There is room for its lists.
 pub(crate) fn settle_venue<G: Genuine, N: FeedName, W: Wait>(
     rt: &W,
     entries: &[Entry],
     cell: VenueCell<G, N>,
     receiver: Receiver<Numbered, VenueItems<G>>,
-    consumed: Vec<Numbered>,
-    in_lane: Vec<Numbered>,
-    ready: Vec<Numbered>,
-) -> VenueEnd<G>
+    room: VenueRoom,
+) -> VenueEnd
     requires end { IsConsumed G.carries G.ends N.lanes entries.now cell.arbiter.venue receiver }
-    requires entries { (length consumed.items ≡ 0)
-        × (length entries.now ≤ vec_capacity consumed) }
-    requires inside { (length in_lane.items ≡ 0) × (cell.lane.capacity ≤ vec_capacity in_lane) }
-    requires ready { (length ready.items ≡ 0)
-        × (cell.arbiter.front + 1 ≤ cell.arbiter.sent + vec_capacity ready) }
-    ensures settled { IsSettled G.carries G.ends cell.arbiter.venue cell.arbiter.window
-        result.consumed.items result.in_lane.items result.ready.items result.lines.wins
-        result.sums }
-    ensures consumed { result.consumed.items ≡ items_in entries.now cell.arbiter.venue }
+    requires room { HasVenueRoom entries.now cell room }
+    ensures { IsClosedVenue G.carries G.ends entries.now cell.arbiter.venue cell result }
 {
+    let VenueRoom {
+        consumed,
+        in_lane,
+        ready,
+    } = room;
     let capacity = cell.capacity();
     let consumed = consumed_of(entries, cell.venue(), consumed);
     let (mut lines, sender, sums) = cell.into_parts();
     let inside = settle(sender, receiver);
     let in_lane = drained(rt, inside, capacity, in_lane);
     let ready = take_ready(&mut lines, ready);
-    VenueEnd {
-        lines,
-        sums,
-        consumed,
-        in_lane,
-        ready,
-    }
+    let wins = VenueWins::counted(&lines);
+    VenueEnd::new(consumed, in_lane, ready, wins, sums)
 }

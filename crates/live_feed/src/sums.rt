@@ -1,7 +1,7 @@
 //! The sums of accepted packets.
 
-ghost use Rattle.std.specs.Prelude.{◌≡◌, Ok};
-ghost use Rattle.live_feed.specs.Sums.{no_sums, sums_list, sums_after, no_line_sums, sums_on, line_sums_after};
+ghost use Rattle.std.specs.Prelude.{◌≡◌, Ok, IsTrue};
+ghost use Rattle.live_feed.specs.Sums.{no_sums, sums_list, sums_after, sums_together, no_line_sums, sums_on, line_sums_after};
 
 use feed_types::LineId;
 use line_arbiter::Outcome;
@@ -62,6 +62,28 @@ impl PacketSums {
             Outcome::Ended => self.of_ended = self.of_ended.wrapping_add(number),
             Outcome::Ahead => self.of_ahead = self.of_ahead.wrapping_add(last),
         }
+    }
+
+    /// These sums and the others, added up.
+    pub(crate) fn together(self, others: PacketSums) -> PacketSums
+        ensures { result ≡ sums_together self others }
+    {
+        PacketSums {
+            of_taken: self.of_taken.wrapping_add(others.of_taken),
+            of_heartbeat: self.of_heartbeat.wrapping_add(others.of_heartbeat),
+            of_ended: self.of_ended.wrapping_add(others.of_ended),
+            of_ahead: self.of_ahead.wrapping_add(others.of_ahead),
+        }
+    }
+
+    /// Whether these sums are the others.
+    pub(crate) fn are(self, others: PacketSums) -> bool
+        ensures { IsTrue result → self ≡ others }
+    {
+        self.of_taken == others.of_taken
+            && self.of_heartbeat == others.of_heartbeat
+            && self.of_ended == others.of_ended
+            && self.of_ahead == others.of_ahead
     }
 
     /// The sums for Taken, Heartbeat, Ended and Ahead.

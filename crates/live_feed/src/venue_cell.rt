@@ -1,25 +1,24 @@
 //! What stands behind a venue's lock.
 
-ghost use Rattle.std.specs.Prelude.{◌≡◌, ◌≤◌, ◌⊎◌, List, ℕ, ◌+◌, ◌∷◌, ◌++◌, [], Some, Ok, Err, IsOk, OnOk, OnErr, IfOk, slice_get};
+ghost use Rattle.std.specs.Prelude.{◌≡◌, ◌≤◌, ◌+◌, [], Some, OnOk, OnErr, IfOk, IfSome, slice_get};
 ghost use Rattle.feed_types.specs.declared.item.Numbered.{Numbered};
-ghost use Rattle.feed_types.specs.Sessions.{Session, IsSessionAt, Names};
 ghost use Rattle.line_arbiter.specs.Genuine.{IsGenuine};
-ghost use Rattle.line_arbiter.specs.OfSession.{IsOfSession};
 ghost use Rattle.line_arbiter.specs.Histories.{History};
-ghost use Rattle.line_arbiter.specs.declared.outcome.LineFault.TheVariants.{OtherSession};
 ghost use Rattle.line_arbiter.specs.Streams.{gap_of};
 ghost use Rattle.line_arbiter.specs.Pacing.{IsPaced};
 ghost use Rattle.line_arbiter.specs.Fits.{Fits};
 ghost use Rattle.line_arbiter.specs.States.{IsNew, ordinal_of};
+ghost use Rattle.line_arbiter.specs.Counts.{count_on};
 ghost use Rattle.live_feed.specs.Seats.{seat_after};
+ghost use Rattle.live_feed.specs.Sums.{sums_on};
 ghost use Rattle.live_feed.specs.Cells.{FitsCell, IsKept, new_cell};
-ghost use Rattle.live_feed.specs.Sections.{TakesPacket, KeepsButPackets, PushesOne, KeepsButSent, RenewsSession, BeginsNext};
+ghost use Rattle.live_feed.specs.Sections.{TakesPacket, IsAnsweredBy, AcceptsTheirPacket, KeepsButPackets, PushesOne, KeepsButSent, RenewsSession, BeginsNext};
 
 use crate::feed_name::FeedName;
 use crate::seat::LineSeat;
-use crate::sums::VenueSums;
+use crate::sums::{PacketSums, VenueSums};
 use crate::unsent::Unsent;
-use feed_types::{Genuine, Numbered, VenueId};
+use feed_types::{Genuine, LineId, Numbered, VenueId};
 use fifo_lane::{LaneRule, Sender, VenueItems};
 use line_arbiter::{Arbiter, LineFault, Outcome, Pacer, RenewFault};
 use mold_packet::{Packet, Request};
@@ -102,6 +101,30 @@ impl<G: Genuine, N: FeedName> VenueCell<G, N> {
         self.items.capacity()
     }
 
+    /// How many numbers the line brought first.
+    pub(crate) fn wins(&self, line: LineId) -> u64
+        ensures { result ≡ count_on line self.now.arbiter.wins }
+    {
+        self.lines.wins(line)
+    }
+
+    /// The sums of the line's accepted packets.
+    pub(crate) fn accepted(&self, line: LineId) -> PacketSums
+        ensures { result ≡ sums_on line self.now.accepted }
+    {
+        self.sums.on(line)
+    }
+
+    /// Room enough for what is ready, the items up to the front and End; None past a `usize`.
+    pub(crate) fn most_ready(&self) -> Option<usize>
+        ensures { IfSome result (λ most.
+            self.now.arbiter.front + 1 ≤ self.now.arbiter.sent + most) }
+    {
+        let status = self.lines.status();
+        let messages = status.front.saturating_sub(status.sent) as usize;
+        messages.checked_add(1)
+    }
+
     /// What the lock kept, once it is gone.
     pub(crate) fn into_parts(self) -> (Arbiter<G>, Sender<Numbered, VenueItems<G>>, VenueSums)
         ensures parts { (result.0 ≡ self.arbiter) × (result.1 ≡ self.lane)
@@ -132,12 +155,13 @@ impl<G: Genuine, N: FeedName> VenueCell<G, N> {
         ensures kept { KeepsButPackets self.old self.new }
         ensures seat { seat.new ≡ seat_after seat.old packet.now result }
 
+        ensures answered { IsAnsweredBy G.sessions G.carries G.ends N.lanes seat.old.venue
+            seat.old.line packet.now result }
+
         // Where it is known which sessions the lines bring, a packet of one of them is refused only
         // where it isn't of the present one.
-        ensures accepts { (all : List Session) (ordinal : ℕ) (session : Session)
-            → Names G.sessions G.carries G.ends seat.old.venue all
-            → IsSessionAt all ordinal session → IsOfSession session packet.now
-            → IsOk result ⊎ (result ≡ Err OtherSession) }
+        ensures accepts { AcceptsTheirPacket G.sessions G.carries G.ends seat.old.venue packet.now
+            result }
         ensures refused { OnErr result (self.new ≡ self.old) }
     {
         let _number = packet.number();

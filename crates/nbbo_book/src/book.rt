@@ -120,6 +120,7 @@ impl Book {
     ///
     /// It takes no memory: `out` has room for as many changes as there are symbols. The entry's
     /// venue is below the count, and positions rise.
+    #[inline(never)]
     pub fn apply(&mut self, position: u64, entry: &Entry, out: &mut Vec<Change>)
         requires room { vec_len out.old + length self.old.symbols ≤ vec_capacity out.old }
         requires venue { venue_of entry.now < self.old.venues }

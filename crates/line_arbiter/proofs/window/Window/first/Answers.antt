@@ -7,4 +7,4 @@ use Rattle.line_arbiter.proofs.window.Window.first.Goals as goal
 pub returns-clause-small : goal.returns-clause-small
 returns-clause-small c some =
     let there = rw (← c.self.view_is) at c.item_in.ensures in
-    rw (← c.self.view_is) (first_small _ _ _ c.self.invariant (subst (λ (o : Option Item). IsSome o) there some))
+    rw (← c.self.view_is) (first_small _ _ _ c.self.invariant.held (subst (λ (o : Option Item). IsSome o) there some))

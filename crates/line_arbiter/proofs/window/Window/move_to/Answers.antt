@@ -2,7 +2,7 @@ use Rattle.line_arbiter.proofs.Windows.{IsHeld-moved, empty_moved}
 use Rattle.line_arbiter.proofs.window.Window.move_to.Goals as goal
 
 pub invariant_of-self : goal.invariant_of-self
-invariant_of-self c = let none = rw (← c.self.view_is) at c.requires in IsHeld-moved _ _ c.args.number _ c.ranges.number.fits c.self.invariant none
+invariant_of-self c = let none = rw (← c.self.view_is) at c.requires in record { held = IsHeld-moved _ _ c.args.number _ c.ranges.number.fits c.self.invariant.held none; room = c.self.invariant.room }
 
 pub returns-clause-empty : goal.returns-clause-empty
 returns-clause-empty c = let none = rw (← c.self.view_is) at c.requires in empty_moved _ c.args.number none

@@ -1,11 +1,24 @@
-use Rattle.std.proofs.Common.{◌∙◌}
-use Rattle.live_feed.proofs.FeedMoves.{fresh, have_lanes}
+use Rattle.std.proofs.Common.{◌≡◌, List, sym, subst, ◌∙◌}
+use Rattle.feed_types.specs.declared.journal.Notice.{Notice}
+use Rattle.fifo_lane.specs.Lane.{LaneEnd}
+use Rattle.live_feed.specs.Hubs.{IsHub}
+use Rattle.live_feed.proofs.FeedMoves.{fresh, have_lanes, starts_count}
 use Rattle.live_feed.proofs.feed.LiveFeed.open.Goals as goal
 
 pub new-core-requires : goal.new-core-requires
 new-core-requires g c =
-    fresh c.self.inside.starts.items c.self.inside.from_venues.items c.self.inside.kept c.self.inside.spare_lanes.items g.N.FeedName.lanes c.self.invariant (c.self.view_is ∙ c.requires) g.G.Genuine.carries g.G.Genuine.ends
+    let inside = c.self.inside in
+    let carries = g.G.Genuine.carries in
+    let ends = g.G.Genuine.ends in
+    let lanes = g.N.FeedName.lanes in
+    subst (λ (l : List (LaneEnd Notice)). IsHub carries ends lanes (record { journal = inside.kept; receivers = inside.from_venues.items; senders = l; spare = inside.spare_lanes.items })) (sym c.in-Ok-Ok-Ok.ensures'.items)
+    (fresh inside.starts.items inside.from_venues.items inside.kept inside.spare_lanes.items lanes c.self.invariant (c.self.view_is ∙ c.requires) carries ends)
 
-pub locked-venues-requires-clause-lanes : goal.locked-venues-requires-clause-lanes
-locked-venues-requires-clause-lanes g c =
+pub locked-requires-clause-lanes : goal.locked-requires-clause-lanes
+locked-requires-clause-lanes g c =
     have_lanes c.self.inside.starts.items c.self.inside.from_venues.items c.self.inside.kept c.self.inside.spare_lanes.items g.N.FeedName.lanes c.self.invariant (c.self.view_is ∙ c.requires)
+
+pub new-venues-requires : goal.new-venues-requires
+new-venues-requires g c =
+    c.locked.ensures
+    ∙ starts_count c.self.inside.starts.items c.self.inside.from_venues.items c.self.inside.kept c.self.inside.spare_lanes.items g.N.FeedName.lanes c.self.invariant (c.self.view_is ∙ c.requires)

@@ -1,0 +1,46 @@
+-- What a feed has come to, said of plain states.
+use Rattle.std.proofs.Common.{◌≡◌, ℕ, List, length, Some, sym, ap, ◌∙◌, arith}
+use Rattle.std.specs.Prelude.{slice_get}
+use Rattle.feed_types.specs.Sequence.{Carries, Ends}
+use Rattle.line_arbiter.specs.Counts.{count_on}
+use Rattle.journal_book.specs.Journals.{JournalState}
+use Rattle.feed_core.proofs.Lists.{get_within}
+use Rattle.live_feed.specs.Cells.{CellState}
+use Rattle.live_feed.specs.Hubs.{HubState}
+use Rattle.live_feed.specs.Seats.{SeatState}
+use Rattle.live_feed.specs.Sums.{sums_on}
+use Rattle.live_feed.specs.Tapes.{TapeState}
+use Rattle.live_feed.specs.Settlements.{AllAgree, IsClosedVenue, IsSettlement, SettlementState, ShowsSubscriber, ShowsVenue, VenueEndState, tally_of}
+use Rattle.live_feed.specs.Closings.{IsClosedFeed}
+use Rattle.live_feed.proofs.HubMoves.{below_of}
+use Rattle.live_feed.proofs.Sides.{two_long, two_at_start}
+
+module _ (carries : Carries) (ends : Ends) (seats : List SeatState) (cells : List CellState) (hub : HubState) (tapes : List TapeState) (s : SettlementState) (f : IsClosedFeed carries ends cells hub tapes s) (agree : AllAgree seats cells) where
+  shows : (venue : ℕ) (v : VenueEndState) → slice_get s.venues venue ≡ Some v → ShowsVenue carries ends s.journal.entries seats venue v
+  shows venue v at =
+      let S = IsClosedVenue carries ends s.journal.entries in
+      let long = two_long S 0 cells s.venues f.venues in
+      let below = below_of s.venues venue v (sym at) in
+      let there = get_within cells venue (omega arith) in
+      let cell = there.0 in
+      let closed = two_at_start S cells s.venues f.venues venue cell v there.1 at in
+      let same = agree venue cell there.1 in
+      record {
+        window = cell.arbiter.window;
+        settled = closed.settled;
+        consumed = closed.consumed;
+        wins = λ line. ap (count_on line) closed.wins ∙ (same.on line).wins ∙ (λ i. (tally_of (same.venue_is i) line seats).wins);
+        accepted = λ line. ap (sums_on line) closed.accepted ∙ (same.on line).accepted ∙ (λ i. (tally_of (same.venue_is i) line seats).accepted);
+      }
+
+  pub settlement : length cells ≡ hub.journal.venues → length tapes ≡ length hub.journal.cursors → IsSettlement carries ends seats tapes s
+  settlement venues subscribers =
+      let long = two_long (IsClosedVenue carries ends s.journal.entries) 0 cells s.venues f.venues in
+      let all = two_long (ShowsSubscriber s.journal) 0 tapes s.subscribers f.subscribers in
+      record {
+        venue_count = long ∙ venues ∙ ap (λ (j : JournalState). j.venues) (sym f.journal);
+        venues = shows;
+        subscriber_count = all ∙ subscribers ∙ ap (λ (j : JournalState). length j.cursors) (sym f.journal);
+        all = all;
+        subscribers = λ id t x left right. two_at_start (ShowsSubscriber s.journal) tapes s.subscribers f.subscribers id t x left right;
+      }

@@ -1,0 +1,244 @@
+//! How a feed is settled.
+
+ghost use Rattle.std.specs.Prelude.{◌≡◌, ◌≤◌, length, map, vec_len, vec_capacity, IfOk, IfErr, OnOk};
+ghost use Rattle.live_feed.specs.Settlements.{AllAgree, AreInOrder, AreVenues, IsSettlement};
+ghost use Rattle.live_feed.specs.Closings.{HasRoom, IsClosedFeed};
+
+use crate::agreeing::{all_agree, are_in_order, has_its_seats};
+use crate::closing::{close_subscribers, close_venues};
+use crate::faults::SettleFault;
+use crate::feed_name::FeedName;
+use crate::hub_cell::HubCell;
+use crate::open_feed::{Guarded, OpenFeed};
+use crate::rooms::{FeedRoom, feed_room};
+use crate::seat::LineSeat;
+use crate::settlement::Settlement;
+use crate::subscriber::Subscriber;
+use crate::unsettled::Unsettled;
+use crate::venue_locks::VenueLocks;
+use feed_types::Genuine;
+use std::alloc::Global;
+use std::sync::{Mutex, Wait};
+
+/// A feed out of its locks, and an empty list with room for the venues' locks.
+#[derive(Drop)]
+struct Unlocked<G: Genuine, N: FeedName> {
+    venues: Vec<Guarded<G, N>>,
+    hub: HubCell<G, N>,
+    locks: Vec<Mutex<Guarded<G, N>>>,
+    log_lines: u32,
+}
+
+/// Takes each venue out of its lock. There is room for all.
+fn out_of_locks<G: Genuine, N: FeedName>(
+    locks: Vec<Mutex<Guarded<G, N>>>,
+    mut venues: Vec<Guarded<G, N>>,
+) -> Vec<Guarded<G, N>>
+    requires { (length venues.items ≡ 0) × (vec_len locks ≤ vec_capacity venues) }
+    ensures { length result.items ≡ length locks.items }
+{
+    for lock in locks {
+        venues.push_reserved(lock.into_inner());
+    }
+    venues
+}
+
+/// Puts each venue behind a lock. There is room for all.
+fn behind_locks<G: Genuine, N: FeedName>(
+    venues: Vec<Guarded<G, N>>,
+    mut locks: Vec<Mutex<Guarded<G, N>>>,
+) -> Vec<Mutex<Guarded<G, N>>>
+    requires { (length locks.items ≡ 0) × (vec_len venues ≤ vec_capacity locks) }
+    ensures { length result.items ≡ length venues.items }
+{
+    for venue in venues {
+        locks.push_reserved(Mutex::new(venue));
+    }
+    locks
+}
+
+/// Takes the feed out of its locks. Where memory was refused, it comes back.
+fn unlock<G: Genuine, N: FeedName>(
+    alloc: Global,
+    feed: OpenFeed<G, N>,
+) -> Result<Unlocked<G, N>, OpenFeed<G, N>>
+    ensures room { IfOk result (λ u. (length u.locks.items ≡ 0)
+        × (vec_len u.venues ≤ vec_capacity u.locks)) }
+    ensures count { IfOk result (λ u. length u.venues.items ≡ length N.lanes.venues) }
+{
+    let count = feed.venues.len();
+    let (Ok(venues), Ok(locks)) = (
+        Vec::with_capacity(alloc, count),
+        Vec::with_capacity(alloc, count),
+    ) else {
+        return Err(feed);
+    };
+    let OpenFeed {
+        venues: behind,
+        hub,
+        log_lines,
+    } = feed;
+    Ok(Unlocked {
+        venues: out_of_locks(behind.into_locks(), venues),
+        hub: hub.into_inner(),
+        locks,
+        log_lines,
+    })
+}
+
+/// Puts the feed behind locks again.
+fn locked<G: Genuine, N: FeedName>(unlocked: Unlocked<G, N>) -> OpenFeed<G, N>
+    requires room { (length unlocked.locks.items ≡ 0)
+        × (vec_len unlocked.venues ≤ vec_capacity unlocked.locks) }
+    requires count { length unlocked.venues.items ≡ length N.lanes.venues }
+{
+    let Unlocked {
+        venues,
+        hub,
+        locks,
+        log_lines,
+    } = unlocked;
+    OpenFeed {
+        venues: VenueLocks::new(behind_locks(venues, locks)),
+        hub: Mutex::new(hub),
+        log_lines,
+    }
+}
+
+/// What is missing of the seats that were handed out and of the subscribers, if anything.
+fn missing<G: Genuine, N: FeedName, W: Wait>(
+    rt: &W,
+    feed: &OpenFeed<G, N>,
+    seats: &[LineSeat<G, N>],
+    subscribers: &[Subscriber<N>],
+) -> Option<SettleFault> {
+    for lock in feed.venues.as_slice() {
+        let guarded = lock.lock(rt);
+        if !has_its_seats(&guarded, seats) {
+            return Some(SettleFault::SeatsMissing);
+        }
+    }
+    let count = feed.hub.lock(rt).core.subscriber_count();
+    if count != subscribers.len() || !are_in_order(subscribers) {
+        return Some(SettleFault::SubscribersMissing);
+    }
+    None
+}
+
+/// Room for all that is left of the feed, where the venues count what their seats show. (What was
+/// looked at under the locks is looked at again: nothing is known of it once they are let go.)
+fn room_for<G: Genuine, N: FeedName>(
+    alloc: Global,
+    unlocked: &Unlocked<G, N>,
+    seats: &[LineSeat<G, N>],
+    subscribers: &[Subscriber<N>],
+) -> Result<FeedRoom, SettleFault>
+    ensures agree { OnOk result (AllAgree seats.now (map (λ g. g.cell) unlocked.now.venues.items)) }
+    ensures order { OnOk result (AreInOrder (map (λ s. s.tape) subscribers.now)) }
+    ensures counts { OnOk result
+        ((length unlocked.now.venues.items ≡ unlocked.now.hub.core.journal.venues)
+        × (length subscribers.now ≡ length unlocked.now.hub.core.journal.cursors)) }
+    ensures room { IfOk result (HasRoom (map (λ g. g.cell) unlocked.now.venues.items)
+        unlocked.now.hub.core) }
+{
+    let core = &unlocked.hub.core;
+    let venues = unlocked.venues.as_slice();
+    if venues.len() != core.venue_count() || !all_agree(venues, seats) {
+        return Err(SettleFault::CountsDiffer);
+    }
+    if subscribers.len() != core.subscriber_count() || !are_in_order(subscribers) {
+        return Err(SettleFault::SubscribersMissing);
+    }
+    match feed_room(alloc, venues, core) {
+        Ok(room) => Ok(room),
+        Err(_) => Err(SettleFault::NoMemory),
+    }
+}
+
+/// Closes all lanes of the feed.
+fn closed<G: Genuine, N: FeedName, W: Wait>(
+    rt: &W,
+    unlocked: Unlocked<G, N>,
+    subscribers: Vec<Subscriber<N>>,
+    room: FeedRoom,
+) -> Settlement
+    requires venues { AreVenues (map (λ g. g.cell) unlocked.venues.items) }
+    requires order { AreInOrder (map (λ s. s.tape) subscribers.items) }
+    requires counts { (length unlocked.venues.items ≡ unlocked.hub.core.journal.venues)
+        × (length subscribers.items ≡ length unlocked.hub.core.journal.cursors) }
+    requires room { HasRoom (map (λ g. g.cell) unlocked.venues.items) unlocked.hub.core room }
+    ensures { IsClosedFeed G.carries G.ends (map (λ g. g.cell) unlocked.venues.items)
+        unlocked.hub.core (map (λ s. s.tape) subscribers.items) result }
+{
+    let Unlocked {
+        venues,
+        hub,
+        locks: _,
+        log_lines: _,
+    } = unlocked;
+    let HubCell { core, filters: _ } = hub;
+    let (journal, receivers, senders) = core.into_parts();
+    let entries = journal.entries();
+    let venue_ends = close_venues(rt, entries, venues, receivers, room.venues, room.venue_ends);
+    let subscriber_ends = close_subscribers(
+        rt,
+        &journal,
+        subscribers,
+        senders,
+        room.subscribers,
+        room.subscriber_ends,
+    );
+    Settlement::new(journal, venue_ends, subscriber_ends)
+}
+
+impl<G: Genuine, N: FeedName> OpenFeed<G, N> {
+    /// Closes all lanes, once all threads have returned, and gives what the feed has come to. All
+    /// seats that were handed out come back, in any order, and all subscribers, in the order of
+    /// their ids.
+    ///
+    /// SeatsMissing where a seat is missing; SubscribersMissing where a subscriber is, or is out of
+    /// order; CountsDiffer where a venue counts otherwise than its seats show, to which no feed
+    /// comes; NoMemory where memory for the lists was refused: all is made before a lane is closed.
+    /// Each hands everything back.
+    pub fn settle<W: Wait>(
+        self,
+        rt: &W,
+        alloc: Global,
+        seats: Vec<LineSeat<G, N>>,
+        subscribers: Vec<Subscriber<N>>,
+    ) -> Result<Settlement, Unsettled<G, N>>
+        ensures settled { IfOk result (IsSettlement G.carries G.ends seats.items
+            (map (λ s. s.tape) subscribers.items)) }
+        ensures back { IfErr result (λ back. (back.seats.items ≡ seats.items)
+            × (back.subscribers.items ≡ subscribers.items)) }
+    {
+        if let Some(fault) = missing(rt, &self, seats.as_slice(), subscribers.as_slice()) {
+            return Err(Unsettled {
+                fault,
+                feed: self,
+                seats,
+                subscribers,
+            });
+        }
+        let unlocked = match unlock(alloc, self) {
+            Ok(unlocked) => unlocked,
+            Err(feed) => {
+                return Err(Unsettled {
+                    fault: SettleFault::NoMemory,
+                    feed,
+                    seats,
+                    subscribers,
+                });
+            }
+        };
+        match room_for(alloc, &unlocked, seats.as_slice(), subscribers.as_slice()) {
+            Ok(room) => Ok(closed(rt, unlocked, subscribers, room)),
+            Err(fault) => Err(Unsettled {
+                fault,
+                feed: locked(unlocked),
+                seats,
+                subscribers,
+            }),
+        }
+    }
+}
