@@ -1,6 +1,6 @@
--- The addresses on the command line, this project's own format: an address is an IP address and a port, as std
--- reads it (1.2.3.4:5, or [::1]:5). The list of lines has two for each venue, parted by commas: line A's and
--- then line B's.
+-- The addresses on the command line, this project's own format: an address is an IP address and a
+-- port, as std reads it (1.2.3.4:5, or [::1]:5). The list of lines has two for each venue, parted by
+-- commas: line A's and then line B's.
 use Rattle.std.specs.Prelude.{◌≡◌, ℕ, ◌*◌, List, [], ◌∷◌, Option, Some, None, length}
 use Rattle.std.specs.Net.Grammar.{IsSocketText}
 use Rattle.std.specs.declared.net.socket_addr.SocketAddr.{SocketAddr}

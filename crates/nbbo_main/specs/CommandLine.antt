@@ -1,7 +1,8 @@
 -- What a command line asks for, and why it is refused.
 --
--- How words become the values of options is told by the crate clap: of the command nbbo_app and some words,
--- subcommand_of gives the subcommand with the values of its options, and fault_of what is wrong with the words.
+-- How words become the values of options is told by the crate clap: of the command nbbo_app and some
+-- words, subcommand_of gives the subcommand with the values of its options, and fault_of what is
+-- wrong with the words.
 use Rattle.std.specs.Prelude.{◌≡◌, ◌≢◌, ◌≤◌, ◌⊎◌, [], ℕ, List, Bool, true, false, Option, Some, None, Ok, Err, codes, if◌then◌else◌, length, option_map, unwrap_or, string_bytes}
 use Rattle.std.specs.Str.{bytes_eq}
 use Rattle.std.specs.Str.Parse.{IsNumeral, digits_value, without_leading_plus}
@@ -60,8 +61,8 @@ IsWindow (Some text) window =
     let number = digits_value 10 (without_leading_plus text) in
     IsNumeral 10 (without_leading_plus text) → 1 ≤ number → number ≤ 65535 → window ≡ number
 
--- the journal, or the number of datagrams, that a text gives: the number that it is, where that is one
--- up to 4294967295
+-- the journal, or the number of datagrams, that a text gives: the number that it is, where that is
+-- one up to 4294967295
 abbrev pub IsCount : Option Text → ℕ → Type 0
 IsCount None count = count ≡ 1000000
 IsCount (Some text) count =
@@ -98,8 +99,8 @@ GivesNoSymbols rows fault =
     (sessions : List Text) × (sessions_in (list_in rows) ≡ Ok sessions)
     × HasSymbolsFault (symbol_words_in rows) fault
 
--- The values of the options of replay give no settings, since the list of sessions or the symbols are wrong,
--- or memory was refused.
+-- The values of the options of replay give no settings, since the list of sessions or the symbols
+-- are wrong, or memory was refused.
 abbrev pub GivesNone : List Row → Refusal → Type 0
 GivesNone rows BadSession = sessions_in (list_in rows) ≡ Err sessions.BadSession
 GivesNone rows TooManySessions = sessions_in (list_in rows) ≡ Err sessions.TooManySessions
@@ -130,14 +131,15 @@ pub record ListensForNoSymbols (rows : List Row) (fault : SymbolsFault) : Type 0
   pub named : NamesRequest (first_of (codes "request") rows) request
   pub symbols : HasSymbolsFault (symbol_words_in rows) fault
 
--- The values of the options of listen give no settings: the sessions are looked at first, then the lines, the
--- address for requests, and the symbols.
+-- The values of the options of listen give no settings: the sessions are looked at first, then the
+-- lines, the address for requests, and the symbols.
 abbrev pub GivesNoListening : List Row → Refusal → Type 0
 GivesNoListening rows BadSession = sessions_in (list_in rows) ≡ Err sessions.BadSession
 GivesNoListening rows TooManySessions = sessions_in (list_in rows) ≡ Err sessions.TooManySessions
 GivesNoListening rows BadLines =
     GivesVenues rows (λ venues. HasLinesFault (lines_in rows) venues lines.BadLines)
-GivesNoListening rows BadRequest = GivesLines rows × NamesNoRequest (first_of (codes "request") rows)
+GivesNoListening rows BadRequest =
+    GivesLines rows × NamesNoRequest (first_of (codes "request") rows)
 GivesNoListening rows BadSymbol = ListensForNoSymbols rows symbols.BadSymbol
 GivesNoListening rows TooManySymbols = ListensForNoSymbols rows symbols.TooManySymbols
 GivesNoListening rows DuplicateSymbol = ListensForNoSymbols rows symbols.DuplicateSymbol

@@ -117,10 +117,12 @@ pub record LeavesToListen {R W E : Type 0} (words : List Text) (settings : Liste
   pub untold : told ≡ silent
 
 -- What a run leads to: its end, or that it is left to listen.
-abbrev pub Leads : {R W E : Type 0} (reading : Reading R) (writing : Writing W) (telling : Writing E)
+abbrev pub Leads : {R W E : Type 0}
+    (reading : Reading R) (writing : Writing W) (telling : Writing E)
     (words : List Text) (at_terminal : Bool)
     (from to : R) (before after : W) (silent told : E) → Ran → Type 0
 Leads reading writing telling words at_terminal from to before after silent told (Ended status) =
     Runs reading writing telling words at_terminal from to before after silent told status
-Leads reading writing telling words at_terminal from to before after silent told (Listens settings) =
+Leads reading writing telling words at_terminal from to before after silent told
+    (Listens settings) =
     LeavesToListen words settings from to before after silent told

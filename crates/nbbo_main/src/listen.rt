@@ -90,8 +90,9 @@ fn print_heard<W: TextOut, E: TextOut>(
     u8::from(heard.stopped.is_some() || !heard.failed.is_empty())
 }
 
-/// Listens on these sockets, in the order of the settings' lines, until all have ended; then prints what they came to
-/// for a subscriber with these terms, and gives the status of the program: 0, or 1 where a line failed, the run stopped early, or nothing was printed.
+/// Listens on these sockets, in the order of the settings' lines, until all have ended; then prints
+/// what they came to for a subscriber with these terms, and gives the status of the program: 0, or 1
+/// where a line failed, the run stopped early, or nothing was printed.
 pub fn listen_with<R, C, W, E>(
     rt: &R,
     clock: &C,

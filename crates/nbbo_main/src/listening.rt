@@ -116,7 +116,8 @@ fn fault_of(fault: SettleFault) -> ListenFault {
 /// Runs the feed over these sockets until all lines have ended, with one subscriber, which wants
 /// what meets the terms and whose strategy always holds.
 ///
-/// The feed is opened here and goes nowhere else: what has its locks can be handed a stored closure.
+/// The feed is opened here and goes nowhere else: what has its locks could be handed a stored
+/// closure.
 pub fn hear<N, R, C>(
     rt: &R,
     alloc: Global,

@@ -4,11 +4,18 @@
 //! input and writes its lines to standard output. What a capture is and what its lines are is told, and proved,
 //! in `feed_text`.
 //!
-//! The contract here is that of `run::run`: of any words, over any input, output and standard error, it says what is
-//! read, what is written where, and the status (`specs/Runs.antt`). Outside of it stand, in this file, the opening of
-//! the three streams, the words as the system gives them, and the exit.
+//! `nbbo listen --sessions LIST --lines LIST [--request ADDR] [--window N] [--journal N]
+//! [--datagrams N] [SYMBOL]...` receives the lines of live venues by UDP, runs them as a live feed
+//! (`live_feed`), and prints what they came to once all have ended.
 //!
-//! Begin with `run.rt`, then `specs/CommandLine.antt` and `command_line.rt`. `ending.rt` has the texts of faults.
+//! The contract here is that of `run::run`: of any words, over any input, output and standard error,
+//! it says what is read, what is written where, and the status, or that the words ask to listen
+//! (`specs/Runs.antt`). Outside of it stand, in this file, the opening of the three streams and of
+//! the sockets, the words as the system gives them, and the exit; and listening itself
+//! (`listen.rt`), which tests show.
+//!
+//! Begin with `run.rt`, then `specs/CommandLine.antt` and `command_line.rt`; `listen.rt` and
+//! `listening.rt` for live lines. `ending.rt` has the texts of faults.
 #![tactic(auto)]
 
 ghost use Rattle.std.specs.Prelude.{◌≡◌, ◌≢◌, ◌<◌};

@@ -106,8 +106,8 @@ pub fn refuse<W: TextOut, E: TextOut>(refusal: &Refusal, output: &mut W, errors:
     }
 }
 
-/// Does what the words ask for, of which the first is the program's name, but for listening, which takes sockets
-/// and threads: then the settings for it are given.
+/// Does what the words ask for, of which the first is the program's name, but for listening, which
+/// takes sockets and threads: then the settings for it are given.
 ///
 /// The input is read only for a replay, and its lines are all that a replay writes on the output. A terminal is told
 /// on standard error that it is read.
