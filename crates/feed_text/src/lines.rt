@@ -206,7 +206,7 @@ fn place_state(room: &mut [u8], at: usize, state: NationalState) -> usize
 
 /// The line of a change of the national best.
 #[inline(never)]
-pub(crate) fn put_best(text: &mut Page, notice: &Notice) -> Result<(), AllocError>
+pub fn put_best(text: &mut Page, notice: &Notice) -> Result<(), AllocError>
     ensures line { OnOk result (text.new.items ≡ text.old.items ++ best_line notice.now) }
     ensures part { OnErr result (text.new.items ≡ text.old.items) }
 {
@@ -310,7 +310,7 @@ pub(crate) fn put_renewal(
 
 /// The last line of a venue: how many items were sent, and how many numbers came first on A, on B
 /// and by recovery.
-pub(crate) fn put_venue(
+pub fn put_venue(
     text: &mut Page,
     venue: VenueId,
     sent: u64,

@@ -7,15 +7,16 @@ use Rattle.clap.specs.Walk.{Row, Text}
 use Rattle.clap.specs.Faults.{fault_of}
 use Rattle.clap.specs.declared.error.kind.ErrorKind.{ErrorKind}
 use Rattle.clap.specs.declared.error.kind.ErrorKind.TheVariants.{DisplayHelp, DisplayVersion, OutOfMemory}
-use Rattle.nbbo_main.specs.CommandLine.{GivesNone, IsJournal, IsRefused, IsWindow, RefusesBy, list_in, nbbo_app, refusal_by, symbol_words_in, symbols_refusal_by}
+use Rattle.nbbo_main.specs.CommandLine.{GivesNone, IsCount, IsRefused, IsWindow, RefusesBy, list_in, refusal_by, symbol_words_in, symbols_refusal_by}
+use Rattle.nbbo_main.specs.Commands.{nbbo_app}
 use Rattle.nbbo_main.specs.Sessions.{sessions_in}
 use Rattle.nbbo_main.specs.declared.sessions.SessionsFault.{SessionsFault}
 use Rattle.nbbo_main.specs.declared.sessions.SessionsFault.TheVariants as sessions
 use Rattle.nbbo_main.specs.Symbols.{HasSymbolsFault}
 use Rattle.nbbo_main.specs.declared.symbols.SymbolsFault.{SymbolsFault}
 use Rattle.nbbo_main.specs.declared.symbols.SymbolsFault.TheVariants as symbols
-use Rattle.nbbo_main.specs.declared.command_line.Refusal.{Refusal}
-use Rattle.nbbo_main.specs.declared.command_line.Refusal.TheVariants.{Shown, Usage, NotText, BadSession, TooManySessions, BadSymbol, TooManySymbols, DuplicateSymbol, NoMemory}
+use Rattle.nbbo_main.specs.declared.refusal.Refusal.{Refusal}
+use Rattle.nbbo_main.specs.declared.refusal.Refusal.TheVariants.{Shown, Usage, NotText, BadSession, TooManySessions, BadLines, BadRequest, BadSymbol, TooManySymbols, DuplicateSymbol, NoMemory}
 
 not_some : {A : Type 0} (x : A) → Some x ≡ None → ⊥
 not_some x e = let bad : true ≡ false = ap is_some e in absurd (cc)
@@ -41,15 +42,15 @@ pub IsWindow-none : (text : Option Text) → ((t : Text) → text ≡ Some t →
 IsWindow-none None unread = refl
 IsWindow-none (Some t) unread = λ numeral some few. absurd (unread t refl (numeral, omega arith))
 
--- a number that was read is the journal
-pub IsJournal-read : (text : Option Text) (n : ℕ) → (text ≡ None → Some n ≡ None) → ((t : Text) → text ≡ Some t → n ≡ number_of t) → IsJournal text n
-IsJournal-read None n none value = absurd (not_some n (none refl))
-IsJournal-read (Some t) n none value = λ numeral few. value t refl
+-- a number that was read is the count
+pub IsCount-read : (text : Option Text) (n : ℕ) → (text ≡ None → Some n ≡ None) → ((t : Text) → text ≡ Some t → n ≡ number_of t) → IsCount text n
+IsCount-read None n none value = absurd (not_some n (none refl))
+IsCount-read (Some t) n none value = λ numeral few. value t refl
 
 -- and where none was read
-pub IsJournal-none : (text : Option Text) → ((t : Text) → text ≡ Some t → IsNumeral 10 (without_leading_plus t) × (number_of t < 2 ^ 32) → ⊥) → IsJournal text 1000000
-IsJournal-none None unread = refl
-IsJournal-none (Some t) unread = λ numeral few. absurd (unread t refl (numeral, omega arith))
+pub IsCount-none : (text : Option Text) → ((t : Text) → text ≡ Some t → IsNumeral 10 (without_leading_plus t) × (number_of t < 2 ^ 32) → ⊥) → IsCount text 1000000
+IsCount-none None unread = refl
+IsCount-none (Some t) unread = λ numeral few. absurd (unread t refl (numeral, omega arith))
 
 -- a fault of the symbols is the refusal, where the list of sessions is right
 pub GivesNone-symbols : (rows : List Row) (words sessions : List Text) (fault : SymbolsFault) → words ≡ symbol_words_in rows → sessions_in (list_in rows) ≡ Ok sessions → HasSymbolsFault words fault → GivesNone rows (symbols_refusal_by fault)
@@ -77,6 +78,8 @@ IsRefused-by words kind (Usage text) is (inr among) = (kind, is.0, among)
 IsRefused-by words kind NoMemory is among = tt
 IsRefused-by words kind BadSession is among = absurd is
 IsRefused-by words kind TooManySessions is among = absurd is
+IsRefused-by words kind BadLines is among = absurd is
+IsRefused-by words kind BadRequest is among = absurd is
 IsRefused-by words kind BadSymbol is among = absurd is
 IsRefused-by words kind TooManySymbols is among = absurd is
 IsRefused-by words kind DuplicateSymbol is among = absurd is

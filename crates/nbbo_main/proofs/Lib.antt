@@ -1,3 +1,4 @@
 mod Asking
 mod Listing
 mod Naming
+mod Spelling

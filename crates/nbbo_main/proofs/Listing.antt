@@ -1,5 +1,5 @@
 -- What words for symbols come to.
-use Rattle.std.proofs.Common.{◌≡◌, ◌<◌, ◌≤◌, ℕ, ◌∙◌, sym, subst, List, length, map, true, false, refl, arith}
+use Rattle.std.proofs.Common.{◌≡◌, ◌<◌, ◌≤◌, ℕ, ◌∙◌, sym, subst, List, length, map, true, false, arith}
 use Rattle.std.specs.Borrow.{Bor}
 use Rattle.std.specs.List.{IsDistinct, list_all}
 use Rattle.std.specs.Str.{bytes_eq}

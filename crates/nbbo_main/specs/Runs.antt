@@ -3,17 +3,21 @@
 --
 -- Standard input, output and error are seen by the members of the traits CaptureIn and TextOut
 -- (Reading, Writing).
-use Rattle.std.specs.Prelude.{◌≡◌, ◌≢◌, ◌⊎◌, ℕ, ◌+◌, List, [], Bool, codes, if◌then◌else◌, Result, Ok, Err}
+use Rattle.std.specs.Prelude.{◌≡◌, ◌≢◌, ◌⊎◌, ℕ, ◌+◌, List, [], Bool, codes, if◌then◌else◌, Result, Err}
 use Rattle.clap.specs.Walk.{Text}
 use Rattle.feed_text.specs.declared.fault.ReplayFault.{ReplayFault}
 use Rattle.feed_text.specs.declared.fault.ReplayFault.TheVariants.{WriteFailed}
 use Rattle.feed_text.specs.declared.replay.ReplayConfig.{ReplayConfig}
 use Rattle.feed_text.specs.Devices.{Reading, Writing, Wrote}
 use Rattle.feed_text.specs.Replays.{Replays}
-use Rattle.nbbo_main.specs.CommandLine.{Asks, IsRefused, refusal_status, refusal_text}
+use Rattle.nbbo_main.specs.CommandLine.{Asks, AsksReplay, IsRefused, refusal_status, refusal_text}
 use Rattle.nbbo_main.specs.Ending.{ending_status, ending_text}
-use Rattle.nbbo_main.specs.declared.command_line.Refusal.{Refusal}
+use Rattle.nbbo_main.specs.declared.refusal.Refusal.{Refusal}
+use Rattle.nbbo_main.specs.declared.listen_settings.ListenSettings.{ListenSettings}
 use Rattle.nbbo_main.specs.declared.replay_settings.ReplaySettings.{ReplaySettings}
+use Rattle.nbbo_main.specs.declared.run.Ran.{Ran}
+use Rattle.nbbo_main.specs.declared.run.Ran.TheVariants.{Ended, Listens}
+use Rattle.nbbo_main.specs.declared.task.Task.TheVariants.{Listen}
 
 -- The text was written, or a front of it, up to a call that failed. Of no text nothing is written.
 pub record Says {S : Type 0} (writing : Writing S) (text : List ℕ) (before after : S) : Type 0 where
@@ -84,11 +88,11 @@ pub record Replayed {R W E : Type 0}
     (words : List Text) (at_terminal : Bool)
     (from to : R) (before after : W) (silent told : E) (status : ℕ) : Type 0 where
   pub settings : ReplaySettings
-  pub asked : Asks words settings
+  pub asked : AsksReplay words settings
   pub runs : RunsReplay reading writing telling settings at_terminal
       from to before after silent told status
 
--- The words ask for no replay, and nothing was read.
+-- The words are refused, and nothing was read.
 pub record Refused {R W E : Type 0} (writing : Writing W) (telling : Writing E) (words : List Text)
     (from to : R) (before after : W) (silent told : E) (status : ℕ) : Type 0 where
   pub refusal : Refusal
@@ -103,3 +107,22 @@ abbrev pub Runs : {R W E : Type 0} (reading : Reading R) (writing : Writing W) (
 Runs reading writing telling words at_terminal from to before after silent told status =
     Replayed reading writing telling words at_terminal from to before after silent told status
     ⊎ Refused writing telling words from to before after silent told status
+
+-- The words ask to listen, and nothing was read or written.
+pub record LeavesToListen {R W E : Type 0} (words : List Text) (settings : ListenSettings)
+    (from to : R) (before after : W) (silent told : E) : Type 0 where
+  pub asked : Asks words (Listen settings)
+  pub unread : to ≡ from
+  pub unwritten : after ≡ before
+  pub untold : told ≡ silent
+
+-- What a run leads to: its end, or that it is left to listen.
+abbrev pub Leads : {R W E : Type 0}
+    (reading : Reading R) (writing : Writing W) (telling : Writing E)
+    (words : List Text) (at_terminal : Bool)
+    (from to : R) (before after : W) (silent told : E) → Ran → Type 0
+Leads reading writing telling words at_terminal from to before after silent told (Ended status) =
+    Runs reading writing telling words at_terminal from to before after silent told status
+Leads reading writing telling words at_terminal from to before after silent told
+    (Listens settings) =
+    LeavesToListen words settings from to before after silent told

@@ -1,25 +1,27 @@
 //! What the words of the command line ask for.
-ghost use Rattle.std.specs.Prelude.{◌≡◌, ◌≤◌, IfOk, IfErr, OnOk, false, codes, map, string_bytes};
+ghost use Rattle.std.specs.Prelude.{◌≡◌, ◌*◌, ◌≤◌, [], IfOk, IfErr, OnOk, codes, length, map, option_map, string_bytes, unwrap_or, vec_len};
 ghost use Rattle.clap.specs.Matches.{found_of};
-ghost use Rattle.clap.specs.Simple.{app_of, new_app, subcommand_of, subcommand_rows_of};
+ghost use Rattle.clap.specs.Simple.{subcommand_of, subcommand_rows_of};
 ghost use Rattle.clap.specs.Values.{kind_of};
-ghost use Rattle.clap.specs.Walk.{one_of, rows_of, rule_of};
-ghost use Rattle.clap.specs.declared.builder.command.Command.TheViews.{out-Command as fields_of};
-ghost use Rattle.nbbo_main.specs.CommandLine.{Asks, Gives, GivesNone, IsFlag, IsJournal, IsRefused, IsTaken, IsWindow, RefusesBy, gaps_rule, journal_rule, list_in, nbbo_app, options_app, refusal_by, refusal_status, refusal_text, replay_app, sessions_rule, symbol_words_in, symbols_refusal_by, symbols_rule, window_rule};
+ghost use Rattle.clap.specs.Walk.{first_of, one_of, rows_of};
+ghost use Rattle.nbbo_main.specs.Addresses.{HasLinesFault, NameLines, NamesNoRequest, NamesRequest};
+ghost use Rattle.nbbo_main.specs.CommandLine.{Asks, Gives, GivesListening, GivesNoListening, GivesNone, IsCount, IsFlag, IsRefused, IsTaken, IsWindow, RefusesBy, lines_in, list_in, symbol_words_in};
+ghost use Rattle.nbbo_main.specs.Commands.{nbbo_app};
 ghost use Rattle.nbbo_main.specs.Symbols.{HasSymbolsFault, NameSymbols};
-ghost use Rattle.nbbo_main.specs.declared.command_line.Refusal.TheVariants.{NoMemory};
 
-use crate::help_texts::{
-    ABOUT, EXAMPLE, GAPS_HELP, JOURNAL_HELP, REPLAY_ABOUT, REPLAY_EXAMPLE, REPLAY_LINES,
-    REPLAY_LONG_ABOUT, REPLAY_USAGE, SESSIONS_HELP, SYMBOLS_HELP, VERSION, WINDOW_HELP,
-};
+use crate::addresses::{LinesFault, read_lines, read_request};
+use crate::commands::nbbo_command;
+use crate::listen_settings::ListenSettings;
+use crate::refusal::Refusal;
 use crate::replay_settings::ReplaySettings;
-use crate::sessions::{SessionsFault, read_sessions};
+use crate::sessions::read_sessions;
 use crate::symbols::{SymbolsFault, read_symbols};
+use crate::task::Task;
 use clap::error::ErrorKind;
-use clap::{Arg, ArgAction, ArgMatches, Command, Error, value_parser};
+use clap::{ArgMatches, Error};
 use feed_types::SymbolName;
-use std::alloc::{AllocError, Global};
+use std::alloc::Global;
+use std::net::{AddrParseError, SocketAddr};
 
 /// The most messages that a window can have.
 const MAX_WINDOW: u32 = 65_535;
@@ -27,202 +29,9 @@ const MAX_WINDOW: u32 = 65_535;
 /// The window where the words give none.
 const DEFAULT_WINDOW: u32 = 4_096;
 
-/// How many entries the journal has room for where the words don't say.
-const DEFAULT_JOURNAL: u32 = 1_000_000;
-
-/// Why there are no settings.
-#[derive(Debug, Drop)]
-pub enum Refusal {
-    /// Help or the version was asked for, and this is its text.
-    Shown(String),
-    /// The words are no command line of the program. The text says what is wrong with them.
-    Usage(String),
-    /// A word isn't UTF-8.
-    NotText,
-    /// A session name is empty, has more than ten bytes, or has a byte outside of `20` to `7e`.
-    BadSession,
-    /// More than 16 sessions are named.
-    TooManySessions,
-    /// A symbol is empty, has more than eight bytes, or has a byte outside of `21` to `7e`.
-    BadSymbol,
-    /// More than 4,096 symbols are named.
-    TooManySymbols,
-    /// A symbol is named twice.
-    DuplicateSymbol,
-    /// Memory was refused.
-    NoMemory,
-}
-
-impl Refusal {
-    /// The status of the program: 0 after help or the version, 1 where memory was refused, else 2.
-    pub fn status(&self) -> u8
-        ensures { result ≡ refusal_status self.now }
-    {
-        match self {
-            Refusal::Shown(_) => 0,
-            Refusal::NoMemory => 1,
-            Refusal::Usage(_) | Refusal::NotText => 2,
-            Refusal::BadSession | Refusal::TooManySessions => 2,
-            Refusal::BadSymbol | Refusal::TooManySymbols | Refusal::DuplicateSymbol => 2,
-        }
-    }
-
-    /// What is printed, with its line ends: on standard output where the status is 0, else on standard error.
-    pub fn text(&self) -> &str
-        ensures { result.now ≡ refusal_text self.now }
-    {
-        match self {
-            Refusal::Shown(text) | Refusal::Usage(text) => text.as_str(),
-            Refusal::NotText => "nbbo: the command line is not UTF-8\n",
-            Refusal::BadSession => "nbbo: bad session\n",
-            Refusal::TooManySessions => "nbbo: too many sessions\n",
-            Refusal::BadSymbol => "nbbo: bad symbol\n",
-            Refusal::TooManySymbols => "nbbo: too many symbols\n",
-            Refusal::DuplicateSymbol => "nbbo: duplicate symbol\n",
-            Refusal::NoMemory => "nbbo: no memory\n",
-        }
-    }
-}
-
-impl From<AllocError> for Refusal {
-    ghost from_gives = { λ _ refusal. refusal ≡ NoMemory };
-
-    fn from(_error: AllocError) -> Refusal {
-        Refusal::NoMemory
-    }
-}
-
-impl From<SessionsFault> for Refusal {
-    ghost from_gives = { λ fault refusal. refusal ≡ refusal_by fault };
-
-    fn from(fault: SessionsFault) -> Refusal {
-        match fault {
-            SessionsFault::BadSession => Refusal::BadSession,
-            SessionsFault::TooManySessions => Refusal::TooManySessions,
-            SessionsFault::NoMemory => Refusal::NoMemory,
-        }
-    }
-}
-
-impl From<SymbolsFault> for Refusal {
-    ghost from_gives = { λ fault refusal. refusal ≡ symbols_refusal_by fault };
-
-    fn from(fault: SymbolsFault) -> Refusal {
-        match fault {
-            SymbolsFault::BadSymbol => Refusal::BadSymbol,
-            SymbolsFault::TooManySymbols => Refusal::TooManySymbols,
-            SymbolsFault::DuplicateSymbol => Refusal::DuplicateSymbol,
-            SymbolsFault::NoMemory => Refusal::NoMemory,
-        }
-    }
-}
-
-fn sessions_option<'a>(alloc: Global) -> Arg<'a>
-    ensures rule { rule_of result ≡ sessions_rule }
-    ensures local { result.global ≡ false }
-{
-    Arg::new(alloc, "sessions")
-        .long("sessions")
-        .value_name("LIST")
-        .required(true)
-        .help("The first session of each venue, 1 to 16 names parted by commas")
-        .long_help(SESSIONS_HELP)
-}
-
-fn window_option<'a>(alloc: Global) -> Arg<'a>
-    ensures rule { rule_of result ≡ window_rule }
-    ensures local { result.global ≡ false }
-{
-    Arg::new(alloc, "window")
-        .long("window")
-        .value_name("N")
-        .value_parser(value_parser!(u32).range(1..=65535))
-        .default_value("4096")
-        .help("How many messages a venue holds past the last item sent, 1 to 65535")
-        .long_help(WINDOW_HELP)
-}
-
-fn journal_option<'a>(alloc: Global) -> Arg<'a>
-    ensures rule { rule_of result ≡ journal_rule }
-    ensures local { result.global ≡ false }
-{
-    Arg::new(alloc, "journal")
-        .long("journal")
-        .value_name("N")
-        .value_parser(value_parser!(u32).range(0..=4294967295))
-        .default_value("1000000")
-        .help("How many items and declarations of self-help there may be, 0 to 4294967295")
-        .long_help(JOURNAL_HELP)
-}
-
-fn gaps_flag<'a>(alloc: Global) -> Arg<'a>
-    ensures rule { rule_of result ≡ gaps_rule }
-    ensures local { result.global ≡ false }
-{
-    Arg::new(alloc, "gaps")
-        .long("gaps")
-        .action(ArgAction::SetTrue)
-        .help("Prints after each datagram which messages are to be asked for, if any are missing")
-        .long_help(GAPS_HELP)
-}
-
-fn symbols_argument<'a>(alloc: Global) -> Arg<'a>
-    ensures rule { rule_of result ≡ symbols_rule }
-    ensures local { result.global ≡ false }
-{
-    Arg::new(alloc, "symbols")
-        .value_name("SYMBOL")
-        .num_args(0..)
-        .help("The symbols whose national best is printed, at most 4096")
-        .long_help(SYMBOLS_HELP)
-}
-
-/// The texts of `replay`, without its options.
-fn replay_texts<'a>(alloc: Global) -> Command<'a>
-    ensures app { app_of result ≡ new_app (codes "replay") }
-    ensures local { (fields_of result).has_globals ≡ false }
-{
-    Command::new(alloc, "replay")
-        .about(REPLAY_ABOUT)
-        .long_about(REPLAY_LONG_ABOUT)
-        .override_usage(REPLAY_USAGE)
-        .after_help(REPLAY_EXAMPLE)
-        .after_long_help(REPLAY_LINES)
-}
-
-/// `replay` with its options that have a value.
-fn options_command<'a>(alloc: Global) -> Result<Command<'a>, AllocError>
-    ensures app { IfOk result (λ c. app_of c ≡ options_app) }
-    ensures local { IfOk result (λ c. (fields_of c).has_globals ≡ false) }
-{
-    replay_texts(alloc)
-        .arg(sessions_option(alloc))?
-        .arg(window_option(alloc))?
-        .arg(journal_option(alloc))
-}
-
-fn replay_command<'a>(alloc: Global) -> Result<Command<'a>, AllocError>
-    ensures app { IfOk result (λ c. app_of c ≡ replay_app) }
-    ensures local { IfOk result (λ c. (fields_of c).has_globals ≡ false) }
-{
-    options_command(alloc)?
-        .arg(gaps_flag(alloc))?
-        .arg(symbols_argument(alloc))
-}
-
-fn nbbo_command<'a>(alloc: Global) -> Result<Command<'a>, AllocError>
-    ensures app { IfOk result (λ c. app_of c ≡ nbbo_app) }
-    ensures local { IfOk result (λ c. (fields_of c).has_globals ≡ false) }
-{
-    Command::new(alloc, "nbbo")
-        .bin_name("nbbo")?
-        .version(VERSION)
-        .about(ABOUT)
-        .after_help(EXAMPLE)
-        .subcommand_required(true)
-        .arg_required_else_help(true)
-        .subcommand(replay_command(alloc)?)
-}
+/// How many entries the journal has room for, and how many datagrams a line reads, where the words
+/// don't say.
+const DEFAULT_COUNT: u32 = 1_000_000;
 
 /// What an error of the parser comes to.
 fn refusal_of(alloc: Global, error: &Error) -> Refusal
@@ -256,46 +65,46 @@ fn parsed<'a>(alloc: Global, words: &'a [String]) -> Result<ArgMatches<'a>, Refu
 }
 
 /// The window that the option gives. The parser has refused a number that is out of range.
-fn window_of(replay: &ArgMatches<'_>) -> u32
-    ensures value { IsWindow (one_of (codes "window") (rows_of (found_of replay.now))) result }
+fn window_of(options: &ArgMatches<'_>) -> u32
+    ensures value { IsWindow (one_of (codes "window") (rows_of (found_of options.now))) result }
     ensures some { 1 ≤ result }
     ensures in_range { result ≤ 65535 }
 {
-    match replay.get_one::<u32>("window") {
+    match options.get_one::<u32>("window") {
         Some(window) if 1 <= window && window <= MAX_WINDOW => window,
         _ => DEFAULT_WINDOW,
     }
 }
 
-/// The journal that the option gives.
-fn journal_of(replay: &ArgMatches<'_>) -> u32
-    ensures { IsJournal (one_of (codes "journal") (rows_of (found_of replay.now))) result }
+/// The count that the option of this name gives.
+fn count_of(options: &ArgMatches<'_>, name: &str) -> u32
+    ensures { IsCount (one_of name.now (rows_of (found_of options.now))) result }
 {
-    match replay.get_one::<u32>("journal") {
-        Some(journal) => journal,
-        None => DEFAULT_JOURNAL,
+    match options.get_one::<u32>(name) {
+        Some(count) => count,
+        None => DEFAULT_COUNT,
     }
 }
 
 /// The symbols that the words name.
-fn symbols_of(alloc: Global, replay: &ArgMatches<'_>) -> Result<Vec<SymbolName>, SymbolsFault>
+fn symbols_of(alloc: Global, options: &ArgMatches<'_>) -> Result<Vec<SymbolName>, SymbolsFault>
     ensures ok { IfOk result (λ symbols.
-        NameSymbols (symbol_words_in (rows_of (found_of replay.now))) symbols.items) }
+        NameSymbols (symbol_words_in (rows_of (found_of options.now))) symbols.items) }
     ensures err { IfErr result (HasSymbolsFault
-        (symbol_words_in (rows_of (found_of replay.now)))) }
+        (symbol_words_in (rows_of (found_of options.now)))) }
 {
-    match replay.get_strs("symbols") {
+    match options.get_strs("symbols") {
         Some(words) => read_symbols(alloc, words),
         None => read_symbols(alloc, &[]),
     }
 }
 
-/// The list of sessions that the option gives.
-fn list_of<'a>(replay: &ArgMatches<'a>) -> &'a str
-    ensures { result.now ≡ list_in (rows_of (found_of replay.now)) }
+/// The text of the option of this name, empty where it isn't given.
+fn text_of<'a>(options: &ArgMatches<'a>, name: &str) -> &'a str
+    ensures { result.now ≡ unwrap_or (first_of name.now (rows_of (found_of options.now))) [] }
 {
-    match replay.get_str("sessions") {
-        Some(list) => list,
+    match options.get_str(name) {
+        Some(text) => text,
         None => "",
     }
 }
@@ -307,28 +116,74 @@ fn gaps_of(replay: &ArgMatches<'_>) -> bool
     replay.get_flag("gaps")
 }
 
+/// The lines that the option gives, two for each of so many venues.
+fn lines_of(
+    alloc: Global,
+    listen: &ArgMatches<'_>,
+    venues: usize,
+) -> Result<Vec<SocketAddr>, LinesFault>
+    requires { venues ≤ 16 }
+    ensures ok { IfOk result (λ lines.
+        NameLines (lines_in (rows_of (found_of listen.now))) venues lines.items) }
+    ensures err { IfErr result (HasLinesFault (lines_in (rows_of (found_of listen.now))) venues) }
+    ensures count { IfOk result (λ lines. vec_len lines ≡ 2 * venues) }
+{
+    read_lines(alloc, text_of(listen, "lines"), venues)
+}
+
+/// The address for requests that the option gives, if it is given.
+fn request_of(listen: &ArgMatches<'_>) -> Result<Option<SocketAddr>, AddrParseError>
+    ensures ok { IfOk result (NamesRequest
+        (first_of (codes "request") (rows_of (found_of listen.now)))) }
+    ensures err { IfErr result (λ _. NamesNoRequest
+        (first_of (codes "request") (rows_of (found_of listen.now)))) }
+{
+    read_request(listen.get_str("request"))
+}
+
 /// The settings that the options of `replay` give.
 fn settings_of(alloc: Global, replay: &ArgMatches<'_>) -> Result<ReplaySettings, Refusal>
     ensures ok { IfOk result (Gives (rows_of (found_of replay.now))) }
     ensures err { IfErr result (GivesNone (rows_of (found_of replay.now))) }
 {
     Ok(ReplaySettings {
-        sessions: read_sessions(alloc, list_of(replay))?,
+        sessions: read_sessions(alloc, text_of(replay, "sessions"))?,
         symbols: symbols_of(alloc, replay)?,
         window: window_of(replay),
-        journal: journal_of(replay),
+        journal: count_of(replay, "journal"),
         gaps: gaps_of(replay),
     })
 }
 
+/// The settings that the options of `listen` give.
+fn listening_of(alloc: Global, listen: &ArgMatches<'_>) -> Result<ListenSettings, Refusal>
+    ensures ok { IfOk result (GivesListening (rows_of (found_of listen.now))) }
+    ensures err { IfErr result (GivesNoListening (rows_of (found_of listen.now))) }
+{
+    let sessions = read_sessions(alloc, text_of(listen, "sessions"))?;
+    let lines = lines_of(alloc, listen, sessions.len())?;
+    Ok(ListenSettings {
+        sessions,
+        lines,
+        request: request_of(listen)?,
+        symbols: symbols_of(alloc, listen)?,
+        window: window_of(listen),
+        journal: count_of(listen, "journal"),
+        datagrams: count_of(listen, "datagrams"),
+    })
+}
+
 /// What the words ask for, of which the first is the program's name, or why they are refused.
-pub fn settings(alloc: Global, words: &[String]) -> Result<ReplaySettings, Refusal>
+pub fn settings(alloc: Global, words: &[String]) -> Result<Task, Refusal>
     ensures ok { IfOk result (Asks (map (λ word. string_bytes word) words.now)) }
     ensures err { IfErr result (IsRefused (map (λ word. string_bytes word) words.now)) }
 {
     let matches = parsed(alloc, words)?;
+    if let Some(listen) = matches.subcommand_matches("listen") {
+        return Ok(Task::Listen(listening_of(alloc, listen)?));
+    }
     match matches.subcommand_matches("replay") {
-        Some(replay) => settings_of(alloc, replay),
+        Some(replay) => Ok(Task::Replay(settings_of(alloc, replay)?)),
         // Without a command there is no list of sessions either.
         None => Err(Refusal::BadSession),
     }

@@ -14,8 +14,9 @@ pub const REPLAY_USAGE: &str = "nbbo replay [OPTIONS] --sessions <LIST> [SYMBOL]
 pub const EXAMPLE: &str = "\
 Example:
   nbbo replay --sessions NORTH,SOUTH ACME < capture
+  nbbo listen --sessions 0000000001 --lines 127.0.0.1:7001,127.0.0.1:7002 ACME
 
-'nbbo replay --help' tells what a capture is and what is printed.";
+'nbbo replay --help' and 'nbbo listen --help' tell what is read and what is printed.";
 
 /// `replay`, in a line.
 pub const REPLAY_ABOUT: &str = "Replays a capture from standard input and prints what became of it";
@@ -40,7 +41,7 @@ between: 1 to 65535. A packet that goes further is 'ahead': it is known of, not 
 
 pub const JOURNAL_HELP: &str = "\
 How many items and declarations of self-help there is room for: 0 to 4294967295. A
-replay that needs more ends there, with status 1";
+run that needs more ends there, with status 1";
 
 pub const SYMBOLS_HELP: &str = "\
 The symbols whose national best bid and offer is printed: at most 4096 words, each
@@ -124,3 +125,82 @@ Status:
      more than ten characters or one that isn't printable ASCII; 'too many sessions': more than 16;
      'bad symbol': a symbol is empty, has more than eight characters, or a space or one that isn't
      printable ASCII; 'too many symbols': more than 4096; 'duplicate symbol': one is named twice";
+
+pub const LINES_HELP: &str = "\
+Where the lines are received: two addresses for each venue, line A's and then line
+B's, venue 0's first, parted by commas. An address is an IP address of this machine
+and a port, as 127.0.0.1:7001 or [::1]:7001; with 0.0.0.0 all of its addresses. A line
+whose datagrams come by multicast needs a relay that has joined the group: see below";
+
+pub const REQUEST_HELP: &str = "\
+Where messages that are missing are asked for: the address of a retransmission server.
+A request goes there from the socket of the line that found the gap, at once and then
+every 250 ms while the gap stands, and its reply is read on that line. Without this
+option nothing is asked for";
+
+pub const DATAGRAMS_HELP: &str = "\
+How many datagrams a line reads at most: 0 to 4294967295. A line also ends after a
+datagram that is an end of session, of whichever session";
+
+/// `listen`, in a line.
+pub const LISTEN_ABOUT: &str = "Listens on the lines of live venues and prints what they came to";
+
+pub const LISTEN_LONG_ABOUT: &str = "\
+Listens on the lines of live venues and prints what they came to.
+
+Each venue sends the same MoldUDP64 packets on two lines, A and B. Each line is received by UDP,
+in a thread of its own. What either line brings is put into one sequence, and the national best
+bid and offer of each symbol is kept. A line ends after an end of session, or after as many
+datagrams as --datagrams says. Once all lines have ended, what changed is printed, and not
+before.";
+
+/// How `listen` is called.
+pub const LISTEN_USAGE: &str = "nbbo listen [OPTIONS] --sessions <LIST> --lines <LIST> [SYMBOL]...";
+
+/// An example, for the short help.
+pub const LISTEN_EXAMPLE: &str = "\
+Example, one venue whose lines are received on two ports:
+  nbbo listen --sessions 0000000001 --lines 127.0.0.1:7001,127.0.0.1:7002 ACME
+
+'--help' also has an example to try at once, and tells what is printed.";
+
+/// What the long help tells behind the options.
+pub const LISTEN_LINES: &str = "\
+Printed lines, once all lines have ended:
+  best NOTICE POSITION SYMBOL BID OFFER STATE
+                                 the journal's entry at POSITION has changed the national best bid
+                                 or offer of the symbol. BID and OFFER are none or V:PRICExSIZE;
+                                 STATE is empty, one-sided, normal, locked or crossed
+  venue V sent SENT wins A B R   for each venue: how many items came in sequence, and how many
+                                 messages each line brought first. R is 0: replies to requests
+                                 come on line A or B
+
+An example to try, from the folder of the program's sources. Start this in the background:
+  ./nbbo listen --sessions NORTH,SOUTH --lines \
+      127.0.0.1:7001,127.0.0.1:7002,127.0.0.1:7003,127.0.0.1:7004 ACME &
+Then send it a capture, each datagram to its line, and an end to each line:
+  tools/send_lines --lines \
+      127.0.0.1:7001,127.0.0.1:7002,127.0.0.1:7003,127.0.0.1:7004 --end \
+      < examples/two-venues.capture
+
+Multicast groups are not joined. A relay that has joined one can send on what it receives:
+  socat -u UDP4-RECV:26400,ip-add-membership=233.54.12.111:eth0,reuseaddr \
+      UDP4-SENDTO:127.0.0.1:7001
+
+A first interrupt from the keyboard ends the program at once, and nothing is printed: what
+was taken is not kept. To have it printed, send each line an end of session.
+
+Status:
+  0  all lines ended and what they came to was printed, or help was shown
+  1  standard error says what went wrong:
+       line V L failed  the line's socket gave a fault, and that line ended there; the others
+                        went on, and what they brought was printed
+       journal full     the next item had no room in the journal; what had room was printed
+       no thread        a thread could not be started; what was taken was printed
+       bind failed      an address of --lines isn't of this machine, or is in use; nothing was
+                        read
+       write failed     standard output can't be written
+       no memory        memory was refused
+  2  the command line was refused; standard error says why. 'bad session', 'too many sessions',
+     'bad symbol', 'too many symbols' and 'duplicate symbol' as of 'nbbo replay'; 'bad lines': not
+     two addresses for each session; 'bad request address': it is no address";

@@ -4,32 +4,54 @@
 //! input and writes its lines to standard output. What a capture is and what its lines are is told, and proved,
 //! in `feed_text`.
 //!
-//! The contract here is that of `run::run`: of any words, over any input, output and standard error, it says what is
-//! read, what is written where, and the status (`specs/Runs.antt`). Outside of it stand, in this file, the opening of
-//! the three streams, the words as the system gives them, and the exit.
+//! `nbbo listen --sessions LIST --lines LIST [--request ADDR] [--window N] [--journal N]
+//! [--datagrams N] [SYMBOL]...` receives the lines of live venues by UDP, runs them as a live feed
+//! (`live_feed`), and prints what they came to once all have ended.
 //!
-//! Begin with `run.rt`, then `specs/CommandLine.antt` and `command_line.rt`. `ending.rt` has the texts of faults.
+//! The contract here is that of `run::run`: of any words, over any input, output and standard error,
+//! it says what is read, what is written where, and the status, or that the words ask to listen
+//! (`specs/Runs.antt`). Outside of it stand, in this file, the opening of the three streams and of
+//! the sockets, the words as the system gives them, and the exit; and listening itself
+//! (`listen.rt`), which tests show.
+//!
+//! Begin with `run.rt`, then `specs/CommandLine.antt` and `command_line.rt`; `listen.rt` and
+//! `listening.rt` for live lines. `ending.rt` has the texts of faults.
 #![tactic(auto)]
 
 ghost use Rattle.std.specs.Prelude.{◌≡◌, ◌≢◌, ◌<◌};
-ghost use Rattle.nbbo_main.specs.declared.command_line.Refusal.TheVariants.{NoMemory, NotText};
+ghost use Rattle.nbbo_main.specs.declared.refusal.Refusal.TheVariants.{NoMemory, NotText};
 
+mod addresses;
 mod command_line;
+mod commands;
 mod ending;
 mod help_texts;
+mod listen;
+mod listen_settings;
+mod listening;
+mod refusal;
 mod replay_settings;
 mod run;
 mod sessions;
+mod summary;
 mod symbols;
+mod task;
+mod udp_line;
 
-use command_line::Refusal;
+use feed_text::devices::TextOut;
 use feed_text::failures::Failures;
 use feed_text::system::{StreamIn, StreamOut};
-use run::{refuse, run};
+use filter_terms::Terms;
+use listen::{bound, listen_with};
+use listen_settings::ListenSettings;
+use refusal::Refusal;
+use run::{Ran, refuse, run, say};
 use std::io::{ErrorKind, IsTerminal, Stderr, Stdin, Stdout};
 use std::marker::Brand;
 use std::process::ExitCode;
+use std::sync::Wait;
 use std::sync::ledger::{Blank, Ledger};
+use std::thread::Threads;
 use std::{env, io};
 
 /// The words of the command line, the program's name first.
@@ -50,8 +72,9 @@ fn unread(kind: ErrorKind) -> Refusal
 }
 
 /// Runs over the standard streams, whose failures the blank pages count, and gives the status of the program.
-fn run_streams<R: Ledger, W: Ledger, E: Ledger>(
+fn run_streams<H: Threads + Wait + Sync, R: Ledger, W: Ledger, E: Ledger>(
     rt: &HostRuntime,
+    threads: &H,
     of_reads: Blank,
     of_writes: Blank,
     of_errors: Blank,
@@ -70,21 +93,53 @@ fn run_streams<R: Ledger, W: Ledger, E: Ledger>(
     let mut input: StreamIn<Stdin, R> = StreamIn::new(rt.stdin(), Failures::new(of_reads));
     let mut output: StreamOut<Stdout, W> = StreamOut::new(rt.stdout(), Failures::new(of_writes));
     let mut errors: StreamOut<Stderr, E> = StreamOut::new(rt.stderr(), Failures::new(of_errors));
-    match words_of(rt) {
-        Ok(words) => run(
+    let words = match words_of(rt) {
+        Ok(words) => words,
+        Err(error) => return refuse(&unread(error.kind()), &mut output, &mut errors),
+    };
+    let ran = run(
+        rt.alloc(),
+        words.as_slice(),
+        at_terminal,
+        &mut input,
+        &mut output,
+        &mut errors,
+    );
+    match ran {
+        Ran::Ended(status) => status,
+        Ran::Listens(settings) => listen_live(rt, threads, &settings, &mut output, &mut errors),
+    }
+}
+
+/// Listens on the lines of the settings.
+fn listen_live<H: Threads + Wait + Sync, W: TextOut, E: TextOut>(
+    rt: &HostRuntime,
+    threads: &H,
+    settings: &ListenSettings,
+    output: &mut W,
+    errors: &mut E,
+) -> u8 {
+    match bound(rt, rt.alloc(), settings.lines.as_slice()) {
+        Ok(sockets) => listen_with(
+            threads,
+            rt,
             rt.alloc(),
-            words.as_slice(),
-            at_terminal,
-            &mut input,
-            &mut output,
-            &mut errors,
+            settings,
+            sockets,
+            Terms::All,
+            output,
+            errors,
         ),
-        Err(error) => refuse(&unread(error.kind()), &mut output, &mut errors),
+        Err(text) => {
+            say(text, errors);
+            1
+        }
     }
 }
 
 fn main(rt: HostRuntime) -> ExitCode {
-    ExitCode::from(run_streams::<Brand, Brand, Brand>(
+    ExitCode::from(run_streams::<HostRuntime, Brand, Brand, Brand>(
+        &rt,
         &rt,
         Blank::new(1),
         Blank::new(1),

@@ -1,11 +1,14 @@
 //! A run of the program over any input, output and standard error.
 ghost use Rattle.std.specs.Prelude.{◌≡◌, map, string_bytes};
 ghost use Rattle.feed_text.specs.Devices.{Reading, Writing};
-ghost use Rattle.nbbo_main.specs.Runs.{IsConfigOf, Runs, RunsReplay, Says, TellsRefusal, hint_text};
+ghost use Rattle.nbbo_main.specs.Runs.{IsConfigOf, Leads, RunsReplay, Says, TellsRefusal, hint_text};
 
-use crate::command_line::{Refusal, settings};
+use crate::command_line::settings;
 use crate::ending::ending;
+use crate::listen_settings::ListenSettings;
+use crate::refusal::Refusal;
 use crate::replay_settings::ReplaySettings;
+use crate::task::Task;
 use feed_text::devices::{CaptureIn, TextOut};
 use feed_text::fault::ReplayFault;
 use feed_text::output::write_all;
@@ -17,6 +20,15 @@ const MAX_TURNS: u64 = 1_000_000_000;
 
 /// What a terminal is told before it is read.
 const HINT: &str = "nbbo: reading a capture from the terminal ('nbbo replay --help' tells more)\n";
+
+/// What a run came to.
+#[derive(Debug, Drop)]
+pub enum Ran {
+    /// It is over, and this is the status of the program.
+    Ended(u8),
+    /// The words ask to listen, and nothing else was done.
+    Listens(ListenSettings),
+}
 
 /// What is asked of the replay.
 fn config_of(settings: &ReplaySettings) -> ReplayConfig<'_>
@@ -33,7 +45,7 @@ fn config_of(settings: &ReplaySettings) -> ReplayConfig<'_>
 }
 
 /// Writes a text on standard error. Where it can't be written nothing can be told.
-fn say<E: TextOut>(text: &str, errors: &mut E)
+pub fn say<E: TextOut>(text: &str, errors: &mut E)
     ensures { Says (record { adds = E.adds; failures = E.failures })
         text.now errors.old errors.new }
 {
@@ -94,7 +106,8 @@ pub fn refuse<W: TextOut, E: TextOut>(refusal: &Refusal, output: &mut W, errors:
     }
 }
 
-/// Does what the words ask for, of which the first is the program's name, and gives the status of the program.
+/// Does what the words ask for, of which the first is the program's name, but for listening, which
+/// takes sockets and threads: then the settings for it are given.
 ///
 /// The input is read only for a replay, and its lines are all that a replay writes on the output. A terminal is told
 /// on standard error that it is read.
@@ -105,8 +118,8 @@ pub fn run<R: CaptureIn, W: TextOut, E: TextOut>(
     input: &mut R,
     output: &mut W,
     errors: &mut E,
-) -> u8
-    ensures { Runs
+) -> Ran
+    ensures { Leads
         (record { gives = R.gives; ends = R.ends; failures = R.failures })
         (record { adds = W.adds; failures = W.failures })
         (record { adds = E.adds; failures = E.failures })
@@ -114,7 +127,17 @@ pub fn run<R: CaptureIn, W: TextOut, E: TextOut>(
         input.old input.new output.old output.new errors.old errors.new result }
 {
     match settings(alloc, words) {
-        Ok(settings) => run_replay(alloc, &settings, at_terminal, input, output, errors),
-        Err(refusal) => refuse(&refusal, output, errors),
+        Ok(task) => match task {
+            Task::Replay(settings) => Ran::Ended(run_replay(
+                alloc,
+                &settings,
+                at_terminal,
+                input,
+                output,
+                errors,
+            )),
+            Task::Listen(settings) => Ran::Listens(settings),
+        },
+        Err(refusal) => Ran::Ended(refuse(&refusal, output, errors)),
     }
 }

@@ -1,10 +1,10 @@
 use Rattle.nbbo_main.proofs.main.Given as goal
 
 abbrev pub ghosts-run_streams-R-Ledger : goal.ghosts-run_streams-R-Ledger
-ghosts-run_streams-R-Ledger a = record { name = a.of_reads.name; parts = a.of_reads.parts }
+ghosts-run_streams-R-Ledger g a = record { name = a.of_reads.name; parts = a.of_reads.parts }
 
 abbrev pub ghosts-run_streams-W-Ledger : goal.ghosts-run_streams-W-Ledger
-ghosts-run_streams-W-Ledger a = record { name = a.of_writes.name; parts = a.of_writes.parts }
+ghosts-run_streams-W-Ledger g a = record { name = a.of_writes.name; parts = a.of_writes.parts }
 
 abbrev pub ghosts-run_streams-E-Ledger : goal.ghosts-run_streams-E-Ledger
-ghosts-run_streams-E-Ledger a = record { name = a.of_errors.name; parts = a.of_errors.parts }
+ghosts-run_streams-E-Ledger g a = record { name = a.of_errors.name; parts = a.of_errors.parts }

@@ -1,4 +1,4 @@
-use Rattle.std.proofs.Common.{rules, ◌≡◌, ℕ, List, subst}
+use Rattle.std.proofs.Common.{rules, ℕ, List, subst}
 use Rattle.std.specs.List.{IsDistinct}
 use Rattle.std.specs.Str.{bytes_eq}
 use Rattle.nbbo_main.proofs.Listing.{symbols_named, one_is_bad, are_too_many, one_is_twice}

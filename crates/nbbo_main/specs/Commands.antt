@@ -1,0 +1,107 @@
+-- The commands of the program and their options, as the crate clap sees them.
+use Rattle.std.specs.Prelude.{◌∷◌, [], Some, codes, pos, true}
+use Rattle.clap.specs.Lexer.{usize_max}
+use Rattle.clap.specs.Walk.{Rule}
+use Rattle.clap.specs.Simple.{App, new_app, new_rule, on_top, with_rule, with_subcommand}
+use Rattle.clap.specs.declared.builder.action.ArgAction.TheVariants.{SetTrue}
+use Rattle.clap.specs.declared.builder.value_parser.ValueParser.TheVariants.{Signed}
+
+-- --sessions LIST, without which there is no replay and nothing to listen to
+abbrev pub sessions_rule : Rule
+sessions_rule = record (new_rule (codes "sessions")) {
+  long = Some (codes "sessions");
+  value_names = 1;
+  required = true;
+}
+
+-- --lines LIST, without which there is nothing to listen to
+abbrev pub lines_rule : Rule
+lines_rule = record (new_rule (codes "lines")) {
+  long = Some (codes "lines");
+  value_names = 1;
+  required = true;
+}
+
+-- --request ADDR
+abbrev pub request_rule : Rule
+request_rule = record (new_rule (codes "request")) {
+  long = Some (codes "request");
+  value_names = 1;
+}
+
+-- --window N, a number from 1 to 65535, by default 4096
+abbrev pub window_rule : Rule
+window_rule = record (new_rule (codes "window")) {
+  long = Some (codes "window");
+  value_names = 1;
+  parser = Some (Signed (pos 1) (pos 65535));
+  defaults = codes "4096" ∷ [];
+}
+
+-- --journal N, a number from 0 to 4294967295, by default 1000000
+abbrev pub journal_rule : Rule
+journal_rule = record (new_rule (codes "journal")) {
+  long = Some (codes "journal");
+  value_names = 1;
+  parser = Some (Signed (pos 0) (pos 4294967295));
+  defaults = codes "1000000" ∷ [];
+}
+
+-- --datagrams N, a number from 0 to 4294967295, by default 1000000
+abbrev pub datagrams_rule : Rule
+datagrams_rule = record (new_rule (codes "datagrams")) {
+  long = Some (codes "datagrams");
+  value_names = 1;
+  parser = Some (Signed (pos 0) (pos 4294967295));
+  defaults = codes "1000000" ∷ [];
+}
+
+-- --gaps
+abbrev pub gaps_rule : Rule
+gaps_rule = record (new_rule (codes "gaps")) { long = Some (codes "gaps"); action = Some SetTrue }
+
+-- SYMBOL.., any number of words that belong to no option
+abbrev pub symbols_rule : Rule
+symbols_rule = record (new_rule (codes "symbols")) {
+  range = Some (record { start_inclusive = 0; end_inclusive = usize_max });
+  value_names = 1;
+}
+
+-- replay with its options that have a value
+abbrev pub options_app : App
+options_app =
+    with_rule (with_rule (with_rule (new_app (codes "replay")) sessions_rule) window_rule)
+    journal_rule
+
+abbrev pub replay_app : App
+replay_app = with_rule (with_rule options_app gaps_rule) symbols_rule
+
+-- listen with its options that say where
+abbrev pub lines_app : App
+lines_app =
+    with_rule (with_rule (with_rule (new_app (codes "listen")) sessions_rule) lines_rule)
+    request_rule
+
+-- and with those that say how much
+abbrev pub counts_app : App
+counts_app = with_rule (with_rule (with_rule lines_app window_rule) journal_rule) datagrams_rule
+
+abbrev pub listen_app : App
+listen_app = with_rule counts_app symbols_rule
+
+-- the program without its subcommands, which then does nothing
+abbrev pub program_app : App
+program_app =
+    on_top
+    (λ top. record top {
+      subcommand_required = true;
+      arg_required_else_help = true;
+      has_version = true;
+    })
+    (new_app (codes "nbbo"))
+
+abbrev pub replaying_app : App
+replaying_app = with_subcommand program_app replay_app.top
+
+abbrev pub nbbo_app : App
+nbbo_app = with_subcommand replaying_app listen_app.top

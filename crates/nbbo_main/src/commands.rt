@@ -1,0 +1,218 @@
+//! The commands of the program and their options, as `clap` is told them.
+ghost use Rattle.std.specs.Prelude.{◌≡◌, IfOk, false, codes};
+ghost use Rattle.clap.specs.Simple.{app_of, new_app};
+ghost use Rattle.clap.specs.Walk.{rule_of};
+ghost use Rattle.clap.specs.declared.builder.command.Command.TheViews.{out-Command as fields_of};
+ghost use Rattle.nbbo_main.specs.Commands.{counts_app, datagrams_rule, gaps_rule, journal_rule, lines_app, lines_rule, listen_app, nbbo_app, options_app, program_app, replay_app, replaying_app, request_rule, sessions_rule, symbols_rule, window_rule};
+
+use crate::help_texts::{
+    ABOUT, DATAGRAMS_HELP, EXAMPLE, GAPS_HELP, JOURNAL_HELP, LINES_HELP, LISTEN_ABOUT,
+    LISTEN_EXAMPLE, LISTEN_LINES, LISTEN_LONG_ABOUT, LISTEN_USAGE, REPLAY_ABOUT, REPLAY_EXAMPLE,
+    REPLAY_LINES, REPLAY_LONG_ABOUT, REPLAY_USAGE, REQUEST_HELP, SESSIONS_HELP, SYMBOLS_HELP,
+    VERSION, WINDOW_HELP,
+};
+use clap::{Arg, ArgAction, Command, value_parser};
+use std::alloc::{AllocError, Global};
+
+fn sessions_option<'a>(alloc: Global) -> Arg<'a>
+    ensures rule { rule_of result ≡ sessions_rule }
+    ensures local { result.global ≡ false }
+{
+    Arg::new(alloc, "sessions")
+        .long("sessions")
+        .value_name("LIST")
+        .required(true)
+        .help("The first session of each venue, 1 to 16 names parted by commas")
+        .long_help(SESSIONS_HELP)
+}
+
+fn lines_option<'a>(alloc: Global) -> Arg<'a>
+    ensures rule { rule_of result ≡ lines_rule }
+    ensures local { result.global ≡ false }
+{
+    Arg::new(alloc, "lines")
+        .long("lines")
+        .value_name("LIST")
+        .required(true)
+        .help("Where the lines are received: an address for line A and one for B of each venue")
+        .long_help(LINES_HELP)
+}
+
+fn request_option<'a>(alloc: Global) -> Arg<'a>
+    ensures rule { rule_of result ≡ request_rule }
+    ensures local { result.global ≡ false }
+{
+    Arg::new(alloc, "request")
+        .long("request")
+        .value_name("ADDR")
+        .help("Where messages that are missing are asked for")
+        .long_help(REQUEST_HELP)
+}
+
+fn window_option<'a>(alloc: Global) -> Arg<'a>
+    ensures rule { rule_of result ≡ window_rule }
+    ensures local { result.global ≡ false }
+{
+    Arg::new(alloc, "window")
+        .long("window")
+        .value_name("N")
+        .value_parser(value_parser!(u32).range(1..=65535))
+        .default_value("4096")
+        .help("How many messages a venue holds past the last item sent, 1 to 65535")
+        .long_help(WINDOW_HELP)
+}
+
+fn journal_option<'a>(alloc: Global) -> Arg<'a>
+    ensures rule { rule_of result ≡ journal_rule }
+    ensures local { result.global ≡ false }
+{
+    Arg::new(alloc, "journal")
+        .long("journal")
+        .value_name("N")
+        .value_parser(value_parser!(u32).range(0..=4294967295))
+        .default_value("1000000")
+        .help("How many items and declarations of self-help there may be, 0 to 4294967295")
+        .long_help(JOURNAL_HELP)
+}
+
+fn datagrams_option<'a>(alloc: Global) -> Arg<'a>
+    ensures rule { rule_of result ≡ datagrams_rule }
+    ensures local { result.global ≡ false }
+{
+    Arg::new(alloc, "datagrams")
+        .long("datagrams")
+        .value_name("N")
+        .value_parser(value_parser!(u32).range(0..=4294967295))
+        .default_value("1000000")
+        .help("How many datagrams a line reads at most, 0 to 4294967295")
+        .long_help(DATAGRAMS_HELP)
+}
+
+fn gaps_flag<'a>(alloc: Global) -> Arg<'a>
+    ensures rule { rule_of result ≡ gaps_rule }
+    ensures local { result.global ≡ false }
+{
+    Arg::new(alloc, "gaps")
+        .long("gaps")
+        .action(ArgAction::SetTrue)
+        .help("Prints after each datagram which messages are to be asked for, if any are missing")
+        .long_help(GAPS_HELP)
+}
+
+fn symbols_argument<'a>(alloc: Global) -> Arg<'a>
+    ensures rule { rule_of result ≡ symbols_rule }
+    ensures local { result.global ≡ false }
+{
+    Arg::new(alloc, "symbols")
+        .value_name("SYMBOL")
+        .num_args(0..)
+        .help("The symbols whose national best is printed, at most 4096")
+        .long_help(SYMBOLS_HELP)
+}
+
+/// The texts of `replay`, without its options.
+fn replay_texts<'a>(alloc: Global) -> Command<'a>
+    ensures app { app_of result ≡ new_app (codes "replay") }
+    ensures local { (fields_of result).has_globals ≡ false }
+{
+    Command::new(alloc, "replay")
+        .about(REPLAY_ABOUT)
+        .long_about(REPLAY_LONG_ABOUT)
+        .override_usage(REPLAY_USAGE)
+        .after_help(REPLAY_EXAMPLE)
+        .after_long_help(REPLAY_LINES)
+}
+
+/// `replay` with its options that have a value.
+fn options_command<'a>(alloc: Global) -> Result<Command<'a>, AllocError>
+    ensures app { IfOk result (λ c. app_of c ≡ options_app) }
+    ensures local { IfOk result (λ c. (fields_of c).has_globals ≡ false) }
+{
+    replay_texts(alloc)
+        .arg(sessions_option(alloc))?
+        .arg(window_option(alloc))?
+        .arg(journal_option(alloc))
+}
+
+fn replay_command<'a>(alloc: Global) -> Result<Command<'a>, AllocError>
+    ensures app { IfOk result (λ c. app_of c ≡ replay_app) }
+    ensures local { IfOk result (λ c. (fields_of c).has_globals ≡ false) }
+{
+    options_command(alloc)?
+        .arg(gaps_flag(alloc))?
+        .arg(symbols_argument(alloc))
+}
+
+/// The texts of `listen`, without its options.
+fn listen_texts<'a>(alloc: Global) -> Command<'a>
+    ensures app { app_of result ≡ new_app (codes "listen") }
+    ensures local { (fields_of result).has_globals ≡ false }
+{
+    Command::new(alloc, "listen")
+        .about(LISTEN_ABOUT)
+        .long_about(LISTEN_LONG_ABOUT)
+        .override_usage(LISTEN_USAGE)
+        .after_help(LISTEN_EXAMPLE)
+        .after_long_help(LISTEN_LINES)
+}
+
+/// `listen` with its options that say where.
+fn lines_command<'a>(alloc: Global) -> Result<Command<'a>, AllocError>
+    ensures app { IfOk result (λ c. app_of c ≡ lines_app) }
+    ensures local { IfOk result (λ c. (fields_of c).has_globals ≡ false) }
+{
+    listen_texts(alloc)
+        .arg(sessions_option(alloc))?
+        .arg(lines_option(alloc))?
+        .arg(request_option(alloc))
+}
+
+/// And with those that say how much.
+fn counts_command<'a>(alloc: Global) -> Result<Command<'a>, AllocError>
+    ensures app { IfOk result (λ c. app_of c ≡ counts_app) }
+    ensures local { IfOk result (λ c. (fields_of c).has_globals ≡ false) }
+{
+    lines_command(alloc)?
+        .arg(window_option(alloc))?
+        .arg(journal_option(alloc))?
+        .arg(datagrams_option(alloc))
+}
+
+fn listen_command<'a>(alloc: Global) -> Result<Command<'a>, AllocError>
+    ensures app { IfOk result (λ c. app_of c ≡ listen_app) }
+    ensures local { IfOk result (λ c. (fields_of c).has_globals ≡ false) }
+{
+    counts_command(alloc)?.arg(symbols_argument(alloc))
+}
+
+/// The program without its subcommands.
+fn program_texts<'a>(alloc: Global) -> Result<Command<'a>, AllocError>
+    ensures app { IfOk result (λ c. app_of c ≡ program_app) }
+    ensures local { IfOk result (λ c. (fields_of c).has_globals ≡ false) }
+{
+    Ok(
+        Command::new(alloc, "nbbo")
+            .bin_name("nbbo")?
+            .version(VERSION)
+            .about(ABOUT)
+            .after_help(EXAMPLE)
+            .subcommand_required(true)
+            .arg_required_else_help(true),
+    )
+}
+
+/// The program with `replay`.
+fn replaying_command<'a>(alloc: Global) -> Result<Command<'a>, AllocError>
+    ensures app { IfOk result (λ c. app_of c ≡ replaying_app) }
+    ensures local { IfOk result (λ c. (fields_of c).has_globals ≡ false) }
+{
+    program_texts(alloc)?.subcommand(replay_command(alloc)?)
+}
+
+/// The program, which does nothing without a subcommand.
+pub fn nbbo_command<'a>(alloc: Global) -> Result<Command<'a>, AllocError>
+    ensures app { IfOk result (λ c. app_of c ≡ nbbo_app) }
+    ensures local { IfOk result (λ c. (fields_of c).has_globals ≡ false) }
+{
+    replaying_command(alloc)?.subcommand(listen_command(alloc)?)
+}

@@ -1,0 +1,169 @@
+//! Listening on live lines, until all have ended.
+ghost use Rattle.std.specs.Prelude.{◌≡◌};
+
+use crate::listen_settings::ListenSettings;
+use crate::udp_line::UdpLine;
+use feed_types::{Anything, FeedConfig, LineId, VenueId};
+use filter_terms::{Filter, Strategy, Terms};
+use live_feed::{FeedName, Line, LineEnd, LineSeat, LiveFeed, SettleFault, Settlement, Stop};
+use std::alloc::{AllocError, Global};
+use std::net::UdpSocket;
+use std::rt::Clock;
+use std::sync::Wait;
+use std::thread::Threads;
+
+/// How many items a venue's lane, and a subscriber's, holds.
+const LANE: u32 = 1_024;
+
+/// Why listening came to nothing.
+#[derive(Clone, Copy, Debug, PartialEq, Eq)]
+pub enum ListenFault {
+    /// Memory was refused.
+    NoMemory,
+    /// What the lines brought couldn't be settled. No run meets it.
+    Unsettled,
+}
+
+impl From<AllocError> for ListenFault {
+    fn from(_error: AllocError) -> ListenFault {
+        ListenFault::NoMemory
+    }
+}
+
+/// What listening came to.
+#[derive(Drop)]
+pub struct Heard {
+    /// The lines whose sockets failed, in the order of the settings.
+    pub failed: Vec<(VenueId, LineId)>,
+    /// Why the run stopped early, if it did.
+    pub stopped: Option<Stop>,
+    /// What was taken, and what became of it.
+    pub settlement: Settlement,
+}
+
+/// The configuration of the feed: a log as long as the journal.
+pub fn config_of(settings: &ListenSettings) -> FeedConfig<'_> {
+    FeedConfig {
+        sessions: settings.sessions.as_slice(),
+        symbols: settings.symbols.as_slice(),
+        window: settings.window,
+        lane: LANE,
+        journal: settings.journal,
+        log: settings.journal,
+    }
+}
+
+/// The venue and the line at a place of the settings.
+fn place_of(place: usize) -> Result<(VenueId, LineId), ListenFault> {
+    let Some(venue) = VenueId::from_index(place / 2) else {
+        return Err(ListenFault::Unsettled);
+    };
+    let line = if place % 2 == 0 { LineId::A } else { LineId::B };
+    Ok((venue, line))
+}
+
+/// The line of this seat, which the socket receives.
+fn line_over<N: FeedName, C: Clock + Drop>(
+    alloc: Global,
+    settings: &ListenSettings,
+    seat: LineSeat<Anything, N>,
+    socket: UdpSocket,
+    clock: C,
+) -> Result<Line<Anything, N, UdpLine<C>>, ListenFault> {
+    let venue = seat.venue();
+    let source = UdpLine::new(
+        alloc,
+        venue,
+        socket,
+        settings.datagrams,
+        settings.request,
+        clock,
+    )?;
+    match Line::new(seat, source) {
+        Ok(line) => Ok(line),
+        Err(_) => Err(ListenFault::Unsettled),
+    }
+}
+
+/// The seats of lines that have ended, and which of them failed.
+fn parted<N: FeedName, S: Drop>(
+    alloc: Global,
+    ends: Vec<LineEnd<Anything, N, S>>,
+) -> Result<(Vec<LineSeat<Anything, N>>, Vec<(VenueId, LineId)>), ListenFault> {
+    let mut seats = Vec::with_capacity(alloc, ends.len())?;
+    let mut failed = Vec::new(alloc);
+    for end in ends {
+        let LineEnd { seat, fault, .. } = end;
+        if fault.is_some() {
+            if failed.push((seat.venue(), seat.line())).is_err() {
+                return Err(ListenFault::NoMemory);
+            }
+        }
+        if seats.push(seat).is_err() {
+            return Err(ListenFault::NoMemory);
+        }
+    }
+    Ok((seats, failed))
+}
+
+fn fault_of(fault: SettleFault) -> ListenFault {
+    match fault {
+        SettleFault::NoMemory => ListenFault::NoMemory,
+        _ => ListenFault::Unsettled,
+    }
+}
+
+/// Runs the feed over these sockets until all lines have ended, with one subscriber, which wants
+/// what meets the terms and whose strategy always holds.
+///
+/// The feed is opened here and goes nowhere else: what has its locks could be handed a stored
+/// closure.
+pub fn hear<N, R, C>(
+    rt: &R,
+    alloc: Global,
+    feed: LiveFeed<Anything>,
+    settings: &ListenSettings,
+    sockets: Vec<UdpSocket>,
+    terms: Terms,
+    clock: &C,
+) -> Result<Heard, ListenFault>
+where
+    N: FeedName + Send + Sync,
+    R: Threads + Wait + Sync,
+    C: Clock + Clone + Drop + Send,
+    requires { feed ≡ N.lanes }
+{
+    let Ok(feed) = feed.open::<N>(alloc) else {
+        return Err(ListenFault::NoMemory);
+    };
+    let made = feed.subscribe(rt, alloc, Filter::of(terms), Strategy::holding());
+    let Ok(subscriber) = made else {
+        return Err(ListenFault::NoMemory);
+    };
+    let Ok(subscribers) = Vec::from_array(alloc, [subscriber]) else {
+        return Err(ListenFault::NoMemory);
+    };
+    let mut lines = Vec::with_capacity(alloc, sockets.len())?;
+    for (place, socket) in sockets.into_iter().enumerate() {
+        let (venue, id) = place_of(place)?;
+        let Ok(seat) = feed.line_seat(rt, venue, id) else {
+            return Err(ListenFault::Unsettled);
+        };
+        let line = line_over(alloc, settings, seat, socket, clock.clone()?)?;
+        if lines.push(line).is_err() {
+            return Err(ListenFault::NoMemory);
+        }
+    }
+    let Ok(report) = feed.run(rt, alloc, lines, subscribers) else {
+        return Err(ListenFault::NoMemory);
+    };
+    let (seats, failed) = parted(alloc, report.lines)?;
+    match feed.settle(rt, alloc, seats, report.subscribers) {
+        Ok(settlement) => Ok(Heard {
+            failed,
+            stopped: report.stopped,
+            settlement,
+        }),
+        Err(unsettled) => Err(fault_of(unsettled.fault)),
+    }
+}

@@ -1,0 +1,193 @@
+//! A line that is received by UDP.
+ghost use Rattle.std.specs.Prelude.{◌≡◌, ◌≢◌, ◌≤◌, IfOk, IfErr, false, length, vec_len};
+ghost use Rattle.nbbo_main.specs.UdpLines.{failures_of};
+ghost use Rattle.live_feed.specs.declared.source.SourceFault.TheVariants.{NoMemory};
+
+use feed_types::{Anything, VenueId};
+use live_feed::{Datagram, LineSource, SourceFault};
+use mold_packet::{Kind, Request, read_packet, write_request};
+use std::alloc::{AllocError, Global};
+use std::io::ErrorKind;
+use std::marker::Model;
+use std::net::{SocketAddr, UdpSocket};
+use std::time::{Clock, Duration};
+
+/// The most bytes that a datagram can have.
+const MAX_DATAGRAM: usize = 65_535;
+
+/// How many bytes a request has.
+const REQUEST_LEN: usize = 20;
+
+/// How many times one call asks the socket at most.
+const MAX_TURNS: u32 = 1_000_000;
+
+/// A line of a venue that is received by UDP. It ends after as many datagrams as it was made for,
+/// and after one that is an end of session, of whichever session.
+///
+/// Once its socket has failed the line has ended: it asks the socket for nothing more.
+#[derive(Drop)]
+pub struct UdpLine<C> {
+    line_venue: VenueId,
+    socket: UdpSocket,
+    requests_to: Option<SocketAddr>,
+    clock: C,
+    moment_ms: u64,
+    to_read: u32,
+    broken: bool,
+    alloc: Global,
+    buffer: Vec<u8>,
+}
+
+impl<C> Model for UdpLine<C> {
+    ghost use Rattle.nbbo_main.specs.UdpLines.{UdpLineState};
+
+    ghost Value = { UdpLineState };
+
+    ghost view = { λ l. record { venue = l.line_venue; left = l.to_read; failed = l.broken } };
+}
+
+/// Waits for a datagram, puts it at the front of the buffer, and says how many bytes it has. A call
+/// that was interrupted is made again.
+fn receive(socket: &UdpSocket, buffer: &mut [u8]) -> Result<usize, SourceFault>
+    ensures count { IfOk result (λ count. count ≤ length buffer.new) }
+    ensures fault { IfErr result (λ fault. fault ≢ NoMemory) }
+{
+    for _ in 0..MAX_TURNS {
+        match socket.recv(buffer) {
+            Ok(count) => return Ok(count),
+            Err(error) if error.kind() == ErrorKind::Interrupted => {}
+            Err(_) => return Err(SourceFault::Device),
+        }
+    }
+    Err(SourceFault::TooManyTurns)
+}
+
+/// Sends the bytes as one datagram. A call that was interrupted is made again.
+fn send(socket: &UdpSocket, bytes: &[u8], to: SocketAddr) -> Result<(), SourceFault>
+    ensures fault { IfErr result (λ fault. fault ≢ NoMemory) }
+{
+    for _ in 0..MAX_TURNS {
+        match socket.send_to(bytes, to) {
+            Ok(_) => return Ok(()),
+            Err(error) if error.kind() == ErrorKind::Interrupted => {}
+            Err(_) => return Err(SourceFault::Device),
+        }
+    }
+    Err(SourceFault::TooManyTurns)
+}
+
+/// A datagram of these bytes.
+fn datagram_of(alloc: Global, bytes: &[u8]) -> Result<Datagram, AllocError> {
+    let mut held = Vec::with_capacity(alloc, bytes.len())?;
+    held.extend_from_slice(bytes)?;
+    Ok(Datagram::new(held))
+}
+
+/// Whether the datagram reads as an end of some session.
+fn is_end(datagram: &Datagram) -> bool {
+    match read_packet(datagram.bytes()) {
+        Ok(packet) => packet.kind() == Kind::End,
+        Err(_) => false,
+    }
+}
+
+/// The whole milliseconds of a time, 2^64 - 1 at most.
+fn millis(time: Duration) -> u64 {
+    let rest = u64::from(time.subsec_millis());
+    time.as_secs().saturating_mul(1_000).saturating_add(rest)
+}
+
+impl<C: Drop> UdpLine<C> {
+    /// The line of a venue that this socket receives, for so many datagrams at most. Requests go to
+    /// the address that is given for them, from the line's socket; else they are dropped.
+    pub fn new(
+        alloc: Global,
+        venue: VenueId,
+        socket: UdpSocket,
+        datagrams: u32,
+        requests_to: Option<SocketAddr>,
+        clock: C,
+    ) -> Result<UdpLine<C>, AllocError>
+        ensures venue { IfOk result (λ line. line.venue ≡ venue) }
+        ensures left { IfOk result (λ line. line.left ≡ datagrams) }
+        ensures whole { IfOk result (λ line. line.failed ≡ false) }
+    {
+        Ok(UdpLine {
+            line_venue: venue,
+            socket,
+            requests_to,
+            clock,
+            moment_ms: 0,
+            to_read: datagrams,
+            broken: false,
+            alloc,
+            buffer: vec![in alloc; 0; MAX_DATAGRAM]?,
+        })
+    }
+}
+
+impl<C: Clock + Drop> LineSource<Anything> for UdpLine<C> {
+    ghost use Rattle.std.specs.Prelude.{◌≡◌, refl};
+    ghost use Rattle.std.proofs.Common.{◌∙◌};
+    ghost use Rattle.nbbo_main.specs.UdpLines.{failures_of};
+
+    ghost venue_of = { λ l. l.venue };
+
+    ghost failures = { λ l. failures_of l.failed };
+
+    ghost becomes = { λ l m. m.venue ≡ l.venue };
+
+    ghost becomes_itself = { λ l. refl };
+
+    ghost becomes_later = { λ l m n a b. b ∙ a };
+
+    fn venue(&self) -> VenueId {
+        self.line_venue
+    }
+
+    fn next(&mut self) -> Result<Option<Datagram>, SourceFault> {
+        if self.broken || self.to_read == 0 {
+            return Ok(None);
+        }
+        let count = match receive(&self.socket, self.buffer.as_mut_slice()) {
+            Ok(count) => count,
+            Err(fault) => {
+                self.broken = true;
+                return Err(fault);
+            }
+        };
+        let Ok(datagram) = datagram_of(self.alloc, &self.buffer[..count]) else {
+            return Err(SourceFault::NoMemory);
+        };
+        self.to_read = if is_end(&datagram) {
+            0
+        } else {
+            self.to_read - 1
+        };
+        Ok(Some(datagram))
+    }
+
+    fn now_ms(&mut self) -> u64 {
+        if let Ok(time) = self.clock.monotonic() {
+            self.moment_ms = millis(time);
+        }
+        self.moment_ms
+    }
+
+    fn request(&mut self, request: &Request) -> Result<(), SourceFault> {
+        let Some(to) = self.requests_to else {
+            return Ok(());
+        };
+        let mut bytes = [0; REQUEST_LEN];
+        if self.broken || write_request(request, &mut bytes).is_err() {
+            return Ok(());
+        }
+        match send(&self.socket, &bytes, to) {
+            Ok(()) => Ok(()),
+            Err(fault) => {
+                self.broken = true;
+                Err(fault)
+            }
+        }
+    }
+}
