@@ -16,7 +16,8 @@
 //! returned, `OpenFeed::settle` closes all lanes and gives a [`Settlement`]: per venue, what was
 //! consumed, is in the lane and is ready are the sessions' streams; per subscriber, its log, what is
 //! queued and what wasn't offered are what it wants (`specs/Settlements.antt`). `settling.rt` closes
-//! a venue's lane, `serving.rt` a subscriber's, `closing.rt` all.
+//! a venue's lane, `serving.rt` a subscriber's, `closing.rt` all. `running.rt` runs a feed by threads: a
+//! [`Line`] brings what its [`LineSource`] gives (`specs/Runs.antt`).
 #![tactic(auto)]
 
 mod advising;
