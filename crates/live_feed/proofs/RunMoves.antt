@@ -1,7 +1,6 @@
 -- How lines and subscribers go on in a run.
 use Rattle.std.proofs.Common.{◌≡◌, ℕ, MatchResult, map, List, [], ◌∷◌, ◌++◌, Option, None, Some, Result, Ok, Err, refl, sym, ◌∙◌, ap, subst, append-nil, append_assoc}
 use Rattle.feed_types.specs.declared.journal.Notice.{Notice}
-use Rattle.feed_types.specs.Prefix.{IsPrefix}
 use Rattle.feed_types.specs.Sequence.{Carries, Ends}
 use Rattle.feed_types.specs.Sessions.{SessionNames}
 use Rattle.filter_terms.specs.declared.advice.Advice.{Advice}
@@ -15,7 +14,7 @@ use Rattle.live_feed.specs.Lanes.{FeedLanes}
 use Rattle.live_feed.specs.Seats.{SeatState}
 use Rattle.live_feed.specs.Datagrams.{AreGenuineBytes, IsTakenBy}
 use Rattle.live_feed.specs.Tapes.{TapeState, Polls, logged}
-use Rattle.live_feed.specs.Runs.{HasEnded, HasPolled, Pairwise}
+use Rattle.live_feed.specs.Runs.{Taking, AreTakenBy, HasTaken, HasEnded, HasPolled, Pairwise}
 
 -- a datagram leaves a seat where it is
 pub seat_stays : (sessions : SessionNames) (carries : Carries) (ends : Ends) (lanes : FeedLanes)
@@ -28,6 +27,33 @@ seat_stays sessions carries ends lanes bytes old (Err (faults.Line fault)) new t
     (ap (λ s. s.venue) taken.seat, ap (λ s. s.line) taken.seat)
 seat_stays sessions carries ends lanes bytes old (Ok outcome) new taken =
     (ap (λ s. s.venue) taken.seat, ap (λ s. s.line) taken.seat)
+
+pub taken_itself : (sessions : SessionNames) (carries : Carries) (ends : Ends) (lanes : FeedLanes)
+    (s : SeatState) → HasTaken sessions carries ends lanes s s
+taken_itself sessions carries ends lanes s = record { takings = []; taken = refl }
+
+taking_more : (sessions : SessionNames) (carries : Carries) (ends : Ends) (lanes : FeedLanes)
+    (takings : List Taking) (first old : SeatState) (t : Taking)
+    → AreTakenBy sessions carries ends lanes first takings old
+    → IsTakenBy sessions carries ends lanes t.bytes old t.answer t.seat
+    → AreTakenBy sessions carries ends lanes first (takings ++ t ∷ []) t.seat
+taking_more sessions carries ends lanes [] first old t same one =
+    let P : SeatState → Type 0 = λ s. IsTakenBy sessions carries ends lanes t.bytes s t.answer t.seat
+    in (subst P same one, refl)
+taking_more sessions carries ends lanes (u ∷ more) first old t all one =
+    (all.0, taking_more sessions carries ends lanes more u.seat old t all.1 one)
+
+-- one datagram more
+pub taken_more : (sessions : SessionNames) (carries : Carries) (ends : Ends) (lanes : FeedLanes)
+    (bytes : List ℕ) (answer : Result Outcome TakeFault) (first old new : SeatState)
+    → HasTaken sessions carries ends lanes first old
+    → IsTakenBy sessions carries ends lanes bytes old answer new
+    → HasTaken sessions carries ends lanes first new
+taken_more sessions carries ends lanes bytes answer first old new so_far one =
+    let t : Taking = record { bytes = bytes; answer = answer; seat = new } in record {
+      takings = so_far.takings ++ t ∷ [];
+      taken = taking_more sessions carries ends lanes so_far.takings first old t so_far.taken one;
+    }
 
 -- what is genuine at a source's venue is so at its seat's
 pub genuine_at : (sessions : SessionNames) (carries : Carries) (ends : Ends) (v w : ℕ)
@@ -83,14 +109,16 @@ pub pairwise_all : {A B : Type 0} (R : A → B → Type 0) (xs all : List A) (ys
 pairwise_all R xs all ys pairs same = subst (λ zs. Pairwise R zs ys) same pairs
 
 -- the same line's end, where its seat and source are known by another name
-pub ended_of : {S : Type 0} (becomes : S → S → Type 0) (failures : S → ℕ) (seat given : SeatState)
-    (source first : S) (last_seat : SeatState) (last_source : S) (fault : Option SourceFault)
-    → seat ≡ given → source ≡ first
-    → HasEnded becomes failures seat source last_seat last_source fault
-    → HasEnded becomes failures given first last_seat last_source fault
-ended_of becomes failures seat given source first last_seat last_source fault same_seat same ended =
-    let P : SeatState → Type 0 = λ s. HasEnded becomes failures s source last_seat last_source fault
-    in let Q : _ → Type 0 = λ s. HasEnded becomes failures given s last_seat last_source fault in
+pub ended_of : {S : Type 0} (takes : SeatState → SeatState → Type 0) (becomes : S → S → Type 0)
+    (failures : S → ℕ) (seat given : SeatState) (source first : S) (last_seat : SeatState)
+    (last_source : S) (fault : Option SourceFault) → seat ≡ given → source ≡ first
+    → HasEnded takes becomes failures seat source last_seat last_source fault
+    → HasEnded takes becomes failures given first last_seat last_source fault
+ended_of takes becomes failures seat given source first last_seat last_source fault same_seat same
+    ended =
+    let P : SeatState → Type 0 = λ s. HasEnded takes becomes failures s source last_seat last_source
+    fault in
+    let Q : _ → Type 0 = λ s. HasEnded takes becomes failures given s last_seat last_source fault in
     subst Q same (subst P same_seat ended)
 
 -- what was started for each, and then joined or handed back

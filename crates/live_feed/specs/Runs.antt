@@ -1,11 +1,16 @@
 -- What a run of a feed hands back.
-use Rattle.std.specs.Prelude.{◌≡◌, ℕ, ◌+◌, List, [], ◌∷◌, Option, MatchOption}
+use Rattle.std.specs.Prelude.{◌≡◌, ℕ, ◌+◌, List, [], ◌∷◌, Option, MatchOption, Result}
 use Rattle.feed_types.specs.Prefix.{IsPrefix}
+use Rattle.feed_types.specs.Sequence.{Carries, Ends}
+use Rattle.feed_types.specs.Sessions.{SessionNames}
+use Rattle.line_arbiter.specs.declared.outcome.Outcome.{Outcome}
+use Rattle.live_feed.specs.declared.faults.TakeFault.{TakeFault}
 use Rattle.live_feed.specs.declared.source.SourceFault.{SourceFault}
 use Rattle.live_feed.specs.declared.source.SourceFault.TheVariants as faults
 use Rattle.live_feed.specs.declared.report.Stop.{Stop}
 use Rattle.live_feed.specs.declared.report.Stop.TheVariants as stops
-use Rattle.live_feed.specs.declared.logged.Logged.{Logged}
+use Rattle.live_feed.specs.Datagrams.{IsTakenBy}
+use Rattle.live_feed.specs.Lanes.{FeedLanes}
 use Rattle.live_feed.specs.Seats.{SeatState}
 use Rattle.live_feed.specs.Tapes.{TapeState}
 
@@ -32,13 +37,35 @@ Pairwise R [] (y ∷ ys) = ⊥
 Pairwise R (x ∷ xs) [] = ⊥
 Pairwise R (x ∷ xs) (y ∷ ys) = R x y × Pairwise R xs ys
 
--- A line that has ended: its seat is the one that it had, its source is what calls made of the one
--- that it had, and of these calls none failed but the last, where the line has a fault.
-pub record HasEnded {S : Type 0} (becomes : S → S → Type 0) (failures : S → ℕ)
+-- a datagram that a seat took: its bytes, the answer, and the seat then
+pub record Taking : Type 0 where
+  pub bytes : List ℕ
+  pub answer : Result Outcome TakeFault
+  pub seat : SeatState
+
+-- The seat took these datagrams, one after the other, and is the last one then.
+abbrev pub AreTakenBy : SessionNames → Carries → Ends → FeedLanes → SeatState → List Taking
+    → SeatState → Type 0
+AreTakenBy sessions carries ends lanes old [] last = last ≡ old
+AreTakenBy sessions carries ends lanes old (t ∷ more) last =
+    IsTakenBy sessions carries ends lanes t.bytes old t.answer t.seat
+    × AreTakenBy sessions carries ends lanes t.seat more last
+
+-- A seat, later on: nothing but the datagrams that it took changed it.
+pub record HasTaken (sessions : SessionNames) (carries : Carries) (ends : Ends)
+    (lanes : FeedLanes) (old last : SeatState) : Type 0 where
+  pub takings : List Taking
+  pub taken : AreTakenBy sessions carries ends lanes old takings last
+
+-- A line that has ended: its seat and its source are what calls made of those that it had, and of
+-- the source's calls none failed but the last, where the line has a fault.
+pub record HasEnded {S : Type 0} (takes : SeatState → SeatState → Type 0)
+    (becomes : S → S → Type 0) (failures : S → ℕ)
     (seat : SeatState) (source : S) (last_seat : SeatState) (last_source : S)
     (fault : Option SourceFault) : Type 0 where
   pub venue : last_seat.venue ≡ seat.venue
   pub line : last_seat.line ≡ seat.line
+  pub taken : takes seat last_seat
   pub later : becomes source last_source
   pub counted : MatchOption fault (failures last_source ≡ failures source)
       (λ fault. failures last_source ≡ failures_after (failures source) fault)

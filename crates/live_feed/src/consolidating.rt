@@ -28,15 +28,20 @@ fn feed_venue<G: Genuine, N: FeedName>(feed: &OpenFeed<G, N>, place: u8) -> Opti
     VenueId::new(place)
 }
 
-/// Journals what is in the venue's lane, and gives whether there was anything.
+/// Journals what is in the venue's lane, under the consolidator's lock taken once, and gives whether
+/// there was anything.
 fn consume_venue<G: Genuine, N: FeedName, W: Wait>(
     rt: &W,
     feed: &OpenFeed<G, N>,
     venue: VenueId,
 ) -> Result<bool, Stop> {
+    let mut hub = feed.hub.lock(rt);
     let mut moved = false;
     for _ in 0..ITEMS_A_TURN {
-        match feed.consume(rt, venue) {
+        if venue.index() >= hub.core.venue_count() {
+            break;
+        }
+        match hub.consume(rt, venue) {
             Ok(Some(_)) => moved = true,
             Ok(None) => break,
             Err(JournalFault::NoMemory) => return Err(Stop::NoMemory),
@@ -90,12 +95,13 @@ fn flush_each<G: Genuine, N: FeedName, W: Wait>(rt: &W, feed: &OpenFeed<G, N>) -
     moved
 }
 
-/// Offers the subscriber what it wants, until there is nothing more or its lane is full.
+/// Offers the subscriber what it wants, until there is nothing more or its lane is full. Gives
+/// whether anything was offered, and why no more was; None where there is no such subscriber.
 fn offer_to<G: Genuine, N: FeedName, W: Wait>(
     rt: &W,
     feed: &OpenFeed<G, N>,
     id: SubscriberId,
-) -> (bool, Unsent) {
+) -> Option<(bool, Unsent)> {
     let mut hub = feed.hub.lock(rt);
     let mut moved = false;
     for _ in rt.forever() {
@@ -104,10 +110,10 @@ fn offer_to<G: Genuine, N: FeedName, W: Wait>(
         }
         match hub.offer_one(rt, id) {
             Ok(_) => moved = true,
-            Err(unsent) => return (moved, unsent),
+            Err(unsent) => return Some((moved, unsent)),
         }
     }
-    (moved, Unsent::Nothing)
+    None
 }
 
 /// Offers each subscriber what it wants.
@@ -124,7 +130,9 @@ fn offer_each<G: Genuine, N: FeedName, W: Wait>(
         let Some(id) = SubscriberId::new(place) else {
             break;
         };
-        let (moved, unsent) = offer_to(rt, feed, id);
+        let Some((moved, unsent)) = offer_to(rt, feed, id) else {
+            break;
+        };
         turn.moved = turn.moved || moved;
         if unsent == Unsent::LaneFull && signals.is_polling(id) {
             turn.waits = true;

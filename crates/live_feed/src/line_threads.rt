@@ -1,7 +1,7 @@
 //! The threads of a run's lines.
 
 ghost use Rattle.std.specs.Prelude.{◌≡◌, ◌≤◌, [], MatchResult, vec_len, vec_capacity};
-ghost use Rattle.live_feed.specs.Runs.{Pairwise, HasEnded};
+ghost use Rattle.live_feed.specs.Runs.{Pairwise, HasTaken, HasEnded};
 
 use crate::feed_name::FeedName;
 use crate::line::{Line, LineEnd};
@@ -36,16 +36,16 @@ where
     ensures { MatchResult result
         (λ handle. (handle.promise.seat.value ≡ line.seat)
         × (handle.promise.source.value ≡ line.source))
-        (λ ended. HasEnded S.becomes S.failures line.seat line.source ended.seat ended.source
-        ended.fault) }
+        (λ ended. HasEnded (HasTaken G.sessions G.carries G.ends N.lanes) S.becomes S.failures
+        line.seat line.source ended.seat ended.source ended.fault) }
 {
     let promise = LineOf {
         seat: Snapshot::of(&line.seat),
         source: Snapshot::of(&line.source),
     };
     let job = move || -> LineEnd<G, N, S>
-        ensures { HasEnded S.becomes S.failures line.seat line.source result.seat
-            result.source result.fault }
+        ensures { HasEnded (HasTaken G.sessions G.carries G.ends N.lanes) S.becomes S.failures
+            line.seat line.source result.seat result.source result.fault }
     { work_line(rt, venues, signals, line) };
     match scope.spawn_with(promise, job) {
         Ok(handle) => Ok(handle),
@@ -77,8 +77,8 @@ where
     ensures threads { Pairwise (λ line thread. MatchResult thread
         (λ handle. (handle.promise.seat.value ≡ line.seat)
         × (handle.promise.source.value ≡ line.source))
-        (λ ended. HasEnded S.becomes S.failures line.seat line.source ended.seat ended.source
-        ended.fault))
+        (λ ended. HasEnded (HasTaken G.sessions G.carries G.ends N.lanes) S.becomes S.failures
+        line.seat line.source ended.seat ended.source ended.fault))
         lines.items result.items }
 {
     for line in lines {
@@ -96,8 +96,9 @@ where
     S: LineSource<G>,
     R: Threads,
     ensures { MatchResult thread
-        (λ handle. HasEnded S.becomes S.failures handle.promise.seat.value
-        handle.promise.source.value result.seat result.source result.fault)
+        (λ handle. HasEnded (HasTaken G.sessions G.carries G.ends N.lanes) S.becomes S.failures
+        handle.promise.seat.value handle.promise.source.value result.seat result.source
+        result.fault)
         (λ here. result ≡ here) }
 {
     match thread {
@@ -121,8 +122,8 @@ where
     requires empty { ends.items ≡ [] }
     requires room { vec_len threads ≤ vec_capacity ends }
     ensures { Pairwise (λ thread ended. MatchResult thread
-        (λ handle. HasEnded S.becomes S.failures handle.promise.seat.value
-        handle.promise.source.value ended.seat ended.source ended.fault)
+        (λ handle. HasEnded (HasTaken G.sessions G.carries G.ends N.lanes) S.becomes S.failures
+        handle.promise.seat.value handle.promise.source.value ended.seat ended.source ended.fault)
         (λ here. ended ≡ here))
         threads.items result.items }
 {

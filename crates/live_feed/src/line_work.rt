@@ -1,7 +1,7 @@
 //! The work of a line's thread.
 
 ghost use Rattle.std.specs.Prelude.{◌≡◌, IfOk, IfErr};
-ghost use Rattle.live_feed.specs.Runs.{HasEnded, failures_after};
+ghost use Rattle.live_feed.specs.Runs.{HasTaken, HasEnded, failures_after};
 
 use crate::feed_name::FeedName;
 use crate::line::{Line, LineEnd};
@@ -21,11 +21,11 @@ pub(crate) struct LineOf<G, N, S> {
     pub(crate) source: Snapshot<S>,
 }
 
-impl<G: Genuine, N, S: LineSource<G>> Promise<LineEnd<G, N, S>> for LineOf<G, N, S> {
-    ghost use Rattle.live_feed.specs.Runs.{HasEnded};
+impl<G: Genuine, N: FeedName, S: LineSource<G>> Promise<LineEnd<G, N, S>> for LineOf<G, N, S> {
+    ghost use Rattle.live_feed.specs.Runs.{HasTaken, HasEnded};
 
-    ghost kept_by = { λ p r. HasEnded S.becomes S.failures p.seat.value p.source.value
-        r.seat r.source r.fault };
+    ghost kept_by = { λ p r. HasEnded (HasTaken G.sessions G.carries G.ends N.lanes) S.becomes
+        S.failures p.seat.value p.source.value r.seat r.source r.fault };
 }
 
 /// Has the source send the request for the venue's gap that is due, if any.
@@ -56,8 +56,8 @@ pub(crate) fn work_line<G: Genuine, N: FeedName, S: LineSource<G>, W: Wait>(
     signals: &Signals,
     line: Line<G, N, S>,
 ) -> LineEnd<G, N, S>
-    ensures { HasEnded S.becomes S.failures line.seat line.source result.seat result.source
-        result.fault }
+    ensures { HasEnded (HasTaken G.sessions G.carries G.ends N.lanes) S.becomes S.failures
+        line.seat line.source result.seat result.source result.fault }
 {
     let Line {
         mut seat,

@@ -2,7 +2,7 @@
 //! one.
 
 ghost use Rattle.std.specs.Prelude.{◌≡◌, ◌≤◌, [], map, IfOk, IfErr, vec_len, vec_capacity};
-ghost use Rattle.live_feed.specs.Runs.{Pairwise, HasEnded, HasPolled};
+ghost use Rattle.live_feed.specs.Runs.{Pairwise, HasTaken, HasEnded, HasPolled};
 
 use crate::consolidating::consolidate;
 use crate::feed_name::FeedName;
@@ -113,8 +113,9 @@ where
     requires tapes { (tape_lists.threads.items ≡ []) × (tape_lists.back.items ≡ [])
         × (vec_len tapes ≤ vec_capacity tape_lists.threads)
         × (vec_len tapes ≤ vec_capacity tape_lists.back) }
-    ensures lines { Pairwise (λ line ended. HasEnded S.becomes S.failures line.seat line.source
-        ended.seat ended.source ended.fault) lines.items result.ends.items }
+    ensures lines { Pairwise (λ line ended. HasEnded (HasTaken G.sessions G.carries G.ends
+        N.lanes) S.becomes S.failures line.seat line.source ended.seat ended.source ended.fault)
+        lines.items result.ends.items }
     ensures tapes { Pairwise HasPolled tapes.items result.tapes.items }
     ensures count { vec_len result.tapes ≡ vec_len tapes }
 {
@@ -172,8 +173,9 @@ impl<G: Genuine + Send + Sync, N: FeedName + Send + Sync> OpenFeed<G, N> {
     ) -> Result<RunReport<G, N, S>, (Vec<Line<G, N, S>>, Vec<Subscriber<N>>)>
         ensures back { IfErr result (λ back. (back.0 ≡ lines) × (back.1 ≡ subscribers)) }
         ensures lines { IfOk result (λ report. Pairwise (λ line ended.
-            HasEnded S.becomes S.failures line.seat line.source ended.seat ended.source
-            ended.fault) lines.items report.lines.items) }
+            HasEnded (HasTaken G.sessions G.carries G.ends N.lanes) S.becomes S.failures
+            line.seat line.source ended.seat ended.source ended.fault)
+            lines.items report.lines.items) }
         ensures subscribers { IfOk result (λ report. Pairwise (λ given back.
             HasPolled given.tape back.tape) subscribers.items report.subscribers.items) }
     {
@@ -240,8 +242,9 @@ where
         × (tape_lists.threads.items ≡ []) × (tape_lists.back.items ≡ [])
         × (vec_len tapes ≤ vec_capacity tape_lists.threads)
         × (vec_len tapes ≤ vec_capacity tape_lists.back) }
-    ensures lines { Pairwise (λ line ended. HasEnded S.becomes S.failures line.seat line.source
-        ended.seat ended.source ended.fault) lines.items result.ends.items }
+    ensures lines { Pairwise (λ line ended. HasEnded (HasTaken G.sessions G.carries G.ends
+        N.lanes) S.becomes S.failures line.seat line.source ended.seat ended.source ended.fault)
+        lines.items result.ends.items }
     ensures tapes { Pairwise HasPolled tapes.items result.tapes.items }
     ensures count { vec_len result.tapes ≡ vec_len tapes }
 {
@@ -256,8 +259,9 @@ where
                 × (tape_lists.threads.items ≡ []) × (tape_lists.back.items ≡ [])
                 × (vec_len tapes ≤ vec_capacity tape_lists.threads)
                 × (vec_len tapes ≤ vec_capacity tape_lists.back) }
-            ensures lines { Pairwise (λ line ended. HasEnded S.becomes S.failures line.seat
-                line.source ended.seat ended.source ended.fault) lines.items result.ends.items }
+            ensures lines { Pairwise (λ line ended. HasEnded (HasTaken G.sessions G.carries
+                G.ends N.lanes) S.becomes S.failures line.seat line.source ended.seat
+                ended.source ended.fault) lines.items result.ends.items }
             ensures tapes { Pairwise HasPolled tapes.items result.tapes.items }
             ensures count { vec_len result.tapes ≡ vec_len tapes }
         {

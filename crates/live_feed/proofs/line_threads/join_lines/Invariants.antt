@@ -1,5 +1,5 @@
 use Rattle.std.proofs.Common.{◌≡◌, MatchResult, length, vec_len, vec_capacity}
-use Rattle.live_feed.specs.Runs.{Pairwise, HasEnded}
+use Rattle.live_feed.specs.Runs.{Pairwise, HasTaken, HasEnded}
 use Rattle.live_feed.proofs.line_threads.join_lines.Given as goal
 
 abbrev pub invariant-loop-thread : goal.invariant-loop-thread
@@ -7,7 +7,8 @@ invariant-loop-thread g l =
     (goal.iterator-loop-thread g).can_next l.thread-iterator
     × (goal.iterator-loop-thread g).is_finite l.thread-iterator
     × Pairwise (λ thread ended. MatchResult thread
-    (λ handle. HasEnded g.S.LineSource.becomes g.S.LineSource.failures
+    (λ handle. HasEnded (HasTaken g.G.Genuine.sessions g.G.Genuine.carries g.G.Genuine.ends
+    g.N.FeedName.lanes) g.S.LineSource.becomes g.S.LineSource.failures
     handle.promise.seat.value handle.promise.source.value ended.seat ended.source
     ended.fault)
     (λ here. ended ≡ here))

@@ -1,4 +1,4 @@
-use Rattle.std.proofs.Common.{◌≡◌, ℕ, length, map}
+use Rattle.std.proofs.Common.{◌≡◌, length, map}
 use Rattle.live_feed.specs.Rooms.{HaveVenueRooms}
 use Rattle.live_feed.proofs.rooms.venue_rooms.Given as goal
 

@@ -6,7 +6,6 @@ use Rattle.line_arbiter.specs.Packets.{Arrival}
 use Rattle.line_arbiter.specs.Streams.{stream_of}
 use Rattle.line_arbiter.specs.Fits.{Fits}
 use Rattle.line_arbiter.specs.States.{State}
-use Rattle.line_arbiter.specs.Counts.{Counts}
 use Rattle.fifo_lane.specs.Lane.{Keeps, LaneEnd}
 use Rattle.live_feed.specs.Sums.{LineSums}
 use Rattle.live_feed.specs.Hubs.{items_in}

@@ -1,4 +1,4 @@
-use Rattle.std.proofs.Common.{List, length, map, ap, subst, ◌∙◌, arith}
+use Rattle.std.proofs.Common.{List, length, map, ap, subst, arith}
 use Rattle.std.proofs.lemmas.List.{length-map}
 use Rattle.live_feed.specs.Seats.{SeatState}
 use Rattle.live_feed.specs.Settlements.{AllAgree, AreInOrder}
