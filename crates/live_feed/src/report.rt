@@ -12,7 +12,8 @@ use thiserror::Error;
 /// consumed.
 #[derive(Clone, Copy, Debug, PartialEq, Eq, Hash, Error)]
 pub enum Stop {
-    /// The journal has as many entries as configured.
+    /// The journal has as many entries as configured. The run stops then, whether or not a next item
+    /// has come.
     #[error("the journal is full")]
     JournalFull,
     /// Memory for an entry and its notices was refused.

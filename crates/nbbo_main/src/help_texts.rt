@@ -183,9 +183,13 @@ Then send it a capture, each datagram to its line, and an end to each line:
       127.0.0.1:7001,127.0.0.1:7002,127.0.0.1:7003,127.0.0.1:7004 --end \
       < examples/two-venues.capture
 
-Multicast groups are not joined. A relay that has joined one can send on what it receives:
-  socat -u UDP4-RECV:26400,ip-add-membership=233.54.12.111:eth0,reuseaddr \
+Multicast groups are not joined. A relay for each line that has joined its group can send on what
+it receives:
+  socat -u -b 65535 \
+      UDP4-RECV:26400,bind=233.54.12.111,ip-add-membership=233.54.12.111:eth0,reuseaddr \
       UDP4-SENDTO:127.0.0.1:7001
+With bind it takes its own group alone, where others use the same port; with -b it cuts no
+datagram.
 
 A first interrupt from the keyboard ends the program at once, and nothing is printed: what
 was taken is not kept. To have it printed, send each line an end of session.
@@ -195,7 +199,8 @@ Status:
   1  standard error says what went wrong:
        line V L failed  the line's socket gave a fault, and that line ended there; the others
                         went on, and what they brought was printed
-       journal full     the next item had no room in the journal; what had room was printed
+       journal full     the journal has no room for a next item, so all lines were ended; what
+                        had room was printed. Give it more room than what comes takes
        no thread        a thread could not be started; what was taken was printed
        bind failed      an address of --lines isn't of this machine, or is in use; nothing was
                         read
