@@ -39,4 +39,5 @@ is_name_filled (mark ∷ marks) = mark && is_filled marks
 -- 0 exactly where the first of eight bytes are marked, one at least, and no other
 abbrev pub IsZeroWhereFilled : ℕ → ℕ → Type 0
 IsZeroWhereFilled names wrong =
-    (marks : List Bool) → length marks ≡ 8 → names ≡ flags marks → (wrong == 0) ≡ is_name_filled marks
+    (marks : List Bool) → length marks ≡ 8 → names ≡ flags marks
+    → (wrong == 0) ≡ is_name_filled marks

@@ -67,7 +67,7 @@ fn past_tilde(above: u64) -> u64
     above.wrapping_add(0x2121_2121_2121_2121) & TOPS
 }
 
-/// The top bits of the bytes that are no space, in a word that has each byte less a space.
+/// The top bits of the bytes that are no space, in such a word.
 #[inline(always)]
 fn no_spaces(above: u64) -> u64
     ensures { Marks (nat_le 1) above result }
@@ -75,8 +75,8 @@ fn no_spaces(above: u64) -> u64
     above.wrapping_add(0x7f7f_7f7f_7f7f_7f7f) & TOPS
 }
 
-/// The top bits of the bytes that stand wrong, by those of the bytes that are no space: of each such
-/// byte behind a space, and of the first byte where it is a space.
+/// The top bits of the bytes that stand wrong, by those of the bytes that are no space: of each
+/// such byte behind a space, and of the first byte where it is a space.
 #[inline(always)]
 fn misplaced(names: u64) -> u64
     ensures { IsZeroWhereFilled names result }
@@ -84,8 +84,8 @@ fn misplaced(names: u64) -> u64
     (names & !(names << 8)) ^ 0x80
 }
 
-/// Whether the field is a symbol's. Each quotation is tested, so that all bytes are tested at once,
-/// in one word and without branches: the top bit of a byte says that the field is none. Where no top
+/// Whether the field is a symbol's. Each quotation is tested, so all bytes are tested at once, in
+/// one word and without branches: the top bit of a byte says that the field is none. Where no top
 /// bit of `above` is set, no sum carries from a byte into the next.
 #[inline(always)]
 fn is_field(field: &[u8; 8]) -> bool
