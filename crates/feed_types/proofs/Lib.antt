@@ -1,4 +1,6 @@
 pub mod Continuing
 pub mod Naming
 pub mod Fields
+pub mod FieldWords
+pub mod Lanes
 pub mod OfSessions

@@ -1,17 +1,23 @@
 //! Symbols.
 
-ghost use Rattle.std.specs.Prelude.{◌≡◌, IsTrue, Some, not, ◌||◌, length};
+ghost use Rattle.std.specs.Prelude.{◌≡◌, IsTrue, Some, length, nat_le};
 ghost use Rattle.std.specs.Int.{w64, to_be_bytes};
 ghost use Rattle.std.specs.List.{list_all};
 ghost use Rattle.std.specs.Option.{SomeIff};
 ghost use Rattle.feed_types.specs.Symbols.{is_space, is_name_byte, is_symbol_field, is_symbol_name, name_of, filled, word_of};
-ghost use Rattle.feed_types.specs.FieldTests.{may_stand, stays_filled};
+ghost use Rattle.feed_types.specs.FieldTests.{Marks, IsZeroWhereFilled};
 
 use std::fmt;
 use std::marker::Model;
 
 /// How many bytes a symbol's field has.
 const FIELD: usize = 8;
+
+/// A field of spaces, as a word.
+const SPACES: u64 = 0x2020_2020_2020_2020;
+
+/// The top bit of each byte of a word.
+const TOPS: u64 = 0x8080_8080_8080_8080;
 
 /// The name of a symbol: 1 to 8 bytes from `21` to `7e`, kept as its field, which is filled with
 /// spaces to eight bytes.
@@ -53,55 +59,41 @@ fn name_len(field: &[u8]) -> usize
     field.iter().take_while(|byte| **byte != b' ').count()
 }
 
-/// Whether the byte may stand in a field: printable, or a space.
+/// The top bits of the bytes past `~`, in a word that has each byte less a space.
 #[inline(always)]
-fn is_field_byte(byte: u8) -> bool
-    ensures { result ≡ may_stand byte }
+fn past_tilde(above: u64) -> u64
+    ensures { Marks (nat_le 95) above result }
 {
-    b' ' <= byte && byte <= 0x7e
+    above.wrapping_add(0x2121_2121_2121_2121) & TOPS
 }
 
-/// Whether one byte may follow another: behind a space there are only spaces.
+/// The top bits of the bytes that are no space, in such a word.
 #[inline(always)]
-fn may_follow(first: u8, second: u8) -> bool
-    ensures { result ≡ (not (is_space first) || is_space second) }
+fn no_spaces(above: u64) -> u64
+    ensures { Marks (nat_le 1) above result }
 {
-    first != b' ' || second == b' '
+    above.wrapping_add(0x7f7f_7f7f_7f7f_7f7f) & TOPS
 }
 
+/// The top bits of the bytes that stand wrong, by those of the bytes that are no space: of each
+/// such byte behind a space, and of the first byte where it is a space.
 #[inline(always)]
-fn are_field_bytes(field: &[u8; 8]) -> bool
-    ensures { result ≡ list_all may_stand field.now }
+fn misplaced(names: u64) -> u64
+    ensures { IsZeroWhereFilled names result }
 {
-    is_field_byte(field[0])
-        & is_field_byte(field[1])
-        & is_field_byte(field[2])
-        & is_field_byte(field[3])
-        & is_field_byte(field[4])
-        & is_field_byte(field[5])
-        & is_field_byte(field[6])
-        & is_field_byte(field[7])
+    (names & !(names << 8)) ^ 0x80
 }
 
-#[inline(always)]
-fn end_in_spaces(field: &[u8; 8]) -> bool
-    ensures { result ≡ stays_filled field.now }
-{
-    may_follow(field[0], field[1])
-        & may_follow(field[1], field[2])
-        & may_follow(field[2], field[3])
-        & may_follow(field[3], field[4])
-        & may_follow(field[4], field[5])
-        & may_follow(field[5], field[6])
-        & may_follow(field[6], field[7])
-}
-
-/// Whether the field is a symbol's. Without branches, since each quotation is tested.
+/// Whether the field is a symbol's. Each quotation is tested, so all bytes are tested at once, in
+/// one word and without branches: the top bit of a byte says that the field is none. Where no top
+/// bit of `above` is set, no sum carries from a byte into the next.
 #[inline(always)]
 fn is_field(field: &[u8; 8]) -> bool
     ensures { result ≡ is_symbol_field field.now }
 {
-    are_field_bytes(field) & end_in_spaces(field) & (field[0] != b' ')
+    let above = u64::from_le_bytes(*field).wrapping_sub(SPACES);
+    let wrong = (above & TOPS) | past_tilde(above) | misplaced(no_spaces(above));
+    wrong == 0
 }
 
 impl SymbolName {

@@ -26,6 +26,51 @@ fn fields_that_are_symbols(rt: HostRuntime) {
     }
 }
 
+/// The rule of a field, read byte by byte.
+fn is_symbol(field: &[u8; 8]) -> bool {
+    let mut ended = field[0] == b' ';
+    let mut right = !ended;
+    for byte in field.iter() {
+        ended = ended || *byte == b' ';
+        right = right && (*byte == b' ' || !ended) && b' ' <= *byte && *byte <= 0x7e;
+    }
+    right
+}
+
+/// The field that has one of four bytes at each place, by the digits of a number to base 4.
+fn field_of(bytes: [u8; 4], number: u32) -> [u8; 8] {
+    let mut field = [0; 8];
+    let mut rest = number;
+    for place in 0..8 {
+        field[place] = bytes[(rest % 4) as usize];
+        rest /= 4;
+    }
+    field
+}
+
+/// Each of these bytes at each place beside each of the others.
+#[test]
+fn bytes_at_each_place(rt: HostRuntime) {
+    for (bytes, accepted) in [
+        (
+            [b' ', b'!', b'~', 0x7f],
+            2 + 4 + 8 + 16 + 32 + 64 + 128 + 256,
+        ),
+        ([b' ', b'A', 0x1f, 0x80], 8),
+        ([b' ', b'A', 0x00, 0xff], 8),
+        ([b'~', b'A', b'a', b'!'], 65_536),
+    ] {
+        let mut count: u32 = 0;
+        for number in 0..65_536 {
+            let field = field_of(bytes, number);
+            let symbol = SymbolName::from_field(&field);
+            assert_eq!(rt; symbol.is_some(), is_symbol(&field), "{field:?}");
+            count = count.wrapping_add(u32::from(symbol.is_some()));
+        }
+        assert_eq!(rt; count, accepted, "{bytes:?}");
+    }
+}
+
 #[test]
 fn names_that_are_symbols(rt: HostRuntime) {
     for (name, field) in [
