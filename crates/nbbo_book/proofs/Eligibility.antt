@@ -1,19 +1,17 @@
 -- What is ranked is what is eligible, and ranks are a ranking.
-use Rattle.std.proofs.Common.{ℕ, zero, suc, ◌<◌, ◌≤◌, ◌≡◌, ◌+◌, List, [], ◌∷◌, Bool, true, false, not, refl, ap, sym, ◌∙◌, subst, arith, length, get_or, cond, nat_lt, Option, Some, None, rules, ◌⊎◌, inl, inr}
-use Rattle.std.specs.Prelude.{◌&&◌, IsTrue}
-use Rattle.std.specs.List.{AllByRecursion, AllPairs, Contains}
+use Rattle.std.proofs.Common.{ℕ, zero, suc, ◌<◌, ◌≡◌, List, [], ◌∷◌, Bool, true, false, not, refl, ap, ◌∙◌, subst, arith, length, get_or, cond, nat_lt, Option, Some, None, inl, inr}
+use Rattle.std.specs.Prelude.{◌&&◌}
+use Rattle.std.specs.List.{AllByRecursion, Contains}
 use Rattle.feed_types.specs.declared.journal.Entry.{Entry}
 use Rattle.feed_types.specs.declared.line.Side.{Side}
 use Rattle.feed_types.specs.declared.national.Best.{Best}
 use Rattle.nbbo_book.specs.declared.shown.Shown.{Shown}
 use Rattle.nbbo_book.specs.Sides.{side_of, age_of}
 use Rattle.nbbo_book.specs.Eligible.{IsEligible, is_protected, ranked_by, may_rank, eligible_of, is_self_helped, is_halted}
-use Rattle.nbbo_book.specs.Nationals.{beats, Beats, IsRanking}
-use Rattle.nbbo_book.specs.Ranks.{InRank, IsIn}
-use Rattle.nbbo_book.specs.Tables.{IsRankingOf}
+use Rattle.nbbo_book.specs.Nationals.{beats, IsRanking}
+use Rattle.nbbo_book.specs.Ranks.{InRank, IsIn, IsRankingOf}
 use Rattle.nbbo_book.proofs.Ranking.{some_same}
 use Rattle.nbbo_book.proofs.Said.{and_left, and_right}
-use Rattle.nbbo_book.proofs.Kept.{ranked_own}
 
 -- what a venue is ranked with is what it shows, and that counts
 record Ranked (m : Bool) (o : Option Shown) (x : Best) : Type 0 where
@@ -94,7 +92,7 @@ in_pairs b f (x ∷ xs) h zero (suc j) d l m = best_at (λ y. beats b f x y ≡ 
 in_pairs b f (x ∷ xs) h (suc i) (suc j) d l m = in_pairs b f xs h.1 i j d (omega (arith, l)) (omega (arith, m))
 
 -- ranks of the eligible sides by their ages are a ranking
-pub ranking_is : (es : List Entry) (s : List ℕ) (b : Side) (xs : List Best) → IsRankingOf b (eligible_of es s b) (λ v. age_of es v s b) xs → IsRanking es s b xs
+pub ranking_is : (es : List Entry) (s : List ℕ) (b : Side) (xs : List Best) → IsRankingOf 16 b (eligible_of es s b) (λ v. age_of es v s b) xs → IsRanking es s b xs
 ranking_is es s b xs h = record {
   members = λ x. (
     (λ c. (let k = (h.members x).0 (contains_in xs x c.0 c.1 c.2) in eligible_told es s b x k.0 k.1)),

@@ -1,19 +1,14 @@
--- The first of the ranks is the national best.
-use Rattle.std.proofs.Common.{ℕ, zero, suc, ◌<◌, ◌≤◌, ◌≡◌, ◌+◌, List, [], ◌∷◌, ◌++◌, Bool, true, false, refl, ap, sym, ◌∙◌, subst, arith, nat_eq, cond, Option, Some, None, rules, ◌⊎◌, inl, inr}
-use Rattle.std.specs.Prelude.{◌&&◌, ◌||◌, find}
-use Rattle.std.specs.List.{AllByRecursion, filter_map, list_all, cons_option, range_with_len}
-use Rattle.feed_types.specs.declared.journal.Entry.{Entry}
+-- The side that beats every other one.
+use Rattle.std.proofs.Common.{ℕ, zero, suc, ◌<◌, ◌≤◌, ◌≡◌, ◌+◌, List, [], ◌∷◌, Bool, true, false, refl, ap, sym, ◌∙◌, subst, arith, nat_eq, nat_lt, cond, add-one, Option, Some, None, ◌⊎◌, inl, inr}
+use Rattle.std.specs.Prelude.{◌&&◌, ◌||◌, find, IfSome}
+use Rattle.std.specs.List.{filter_map, list_all, cons_option, range_with_len}
 use Rattle.feed_types.specs.declared.national.Best.{Best}
 use Rattle.feed_types.specs.declared.line.Side.{Side}
-use Rattle.nbbo_book.specs.Sides.{side_of, age_of}
-use Rattle.nbbo_book.specs.Eligible.{may_rank, eligible_of}
-use Rattle.nbbo_book.specs.Nationals.{beats, all_venues, eligible_sides, beats_others, best_of}
-use Rattle.nbbo_book.specs.Ranks.{IsIn, front_of}
-use Rattle.nbbo_book.specs.Tables.{IsRankingOf}
-use Rattle.nbbo_book.proofs.Beating.{beats_one_way}
-use Rattle.nbbo_book.proofs.Ranking.{nat_same, nat_refl, some_same, in_all}
+use Rattle.nbbo_book.specs.Nationals.{beats, all_venues, beats_others}
+use Rattle.nbbo_book.specs.Ranks.{best_in, better_of}
+use Rattle.nbbo_book.proofs.Beating.{beats_chain, beats_one_way, beats_either, beats_same}
+use Rattle.nbbo_book.proofs.Ranking.{nat_same, nat_apart, nat_split, some_same}
 use Rattle.nbbo_book.proofs.Said.{and_left, and_right}
-use Rattle.nbbo_book.proofs.Kept.{ranked_own}
 
 -- among the numbers
 abbrev pub IsNumber : ℕ → List ℕ → Type 0
@@ -78,36 +73,135 @@ pub or_true : (a : Bool) → (a || true) ≡ true
 or_true true = refl
 or_true false = refl
 
--- the first of the ranks is the eligible side that beats every other one
-pub front_is_best : (es : List Entry) (s : List ℕ) (b : Side) (xs : List Best) → IsRankingOf b (eligible_of es s b) (λ v. age_of es v s b) xs → front_of xs ≡ best_of es s b
-front_is_best es s b [] h =
-    let nobody : (w : ℕ) → w < 16 → eligible_of es s b w ≡ None = λ w l.
-    (let R : Option Best → Type 0 = λ o. eligible_of es s b w ≡ o → o ≡ None in
-    (elim (eligible_of es s b w) as R [
-      | None ↦ λ e. refl
+-- each is ranked under its own number
+abbrev pub IsOwn : (ℕ → Option Best) → Type 0
+IsOwn g = (w : ℕ) (x : Best) → g w ≡ Some x → x.venue ≡ w
+
+-- no two that are ranked are of one age
+abbrev pub IsApart : (ℕ → ℕ) → (ℕ → Option Best) → Type 0
+IsApart f g = (v w : ℕ) (x y : Best) → v < 16 → w < 16 → nat_eq v w ≡ false → g v ≡ Some x → g w ≡ Some y → f v ≡ f w → ⊥
+
+-- of some venues this is the side that beats every other one, or none is ranked
+abbrev pub IsTop : (ℕ → Type 0) → Side → (ℕ → ℕ) → (ℕ → Option Best) → Option Best → Type 0
+IsTop P b f g None = (w : ℕ) → P w → g w ≡ None
+IsTop P b f g (Some x) = P x.venue × (g x.venue ≡ Some x) × ((w : ℕ) (y : Best) → P w → g w ≡ Some y → nat_eq w x.venue ≡ false → beats b f x y ≡ true)
+
+abbrev pub IsBelow : ℕ → ℕ → Type 0
+IsBelow n w = w < n
+
+-- the side that beats every other one is found
+pub top_found : (b : Side) (f : ℕ → ℕ) (g : ℕ → Option Best) (o : Option Best) → IsOwn g → IsTop (IsBelow 16) b f g o → best_in b f g ≡ o
+top_found b f g None own h = none_here (beats_others b f (filter_map g all_venues)) g all_venues (λ w i. h w (under_sixteen w i))
+top_found b f g (Some x) own h =
+    let inside : IsNumber x.venue all_venues = in_all_venues x.venue h.0 in
+    let ahead : (w : ℕ) (d : Best) → IsNumber w all_venues → g w ≡ Some d → nat_eq d.venue x.venue ≡ false → beats b f x d ≡ true = λ w d i e n. h.2 w d (under_sixteen w i) e (subst (λ (k : ℕ). nat_eq k x.venue ≡ false) (own w d e) n) in
+    find_here (beats_others b f (filter_map g all_venues)) g all_venues x.venue x inside h.1
+    (all_here (λ y. nat_eq y.venue x.venue || beats b f x y) g all_venues (λ w d i e.
+    (elim (nat_eq d.venue x.venue) as (λ t. nat_eq d.venue x.venue ≡ t → (t || beats b f x d) ≡ true) [
+      | true ↦ λ n. refl
+      | false ↦ λ n. ahead w d i e n
+    ]) refl))
+    (λ w d i e n.
+    nat_split d.venue x.venue (d ≡ x)
+    (λ same. some_same (sym (ap g (own w d e) ∙ e) ∙ ap g same ∙ h.1))
+    (λ differ.
+    let met : (nat_eq x.venue d.venue || beats b f d x) ≡ true = all_at (λ y. nat_eq y.venue d.venue || beats b f d y) g all_venues n x.venue x inside h.1 in
+    absurd (beats_one_way b f x d (ahead w d i e differ) (ap (λ t. t || beats b f d x) (sym (nat_apart d.venue x.venue differ)) ∙ met))))
+
+-- one more venue: of the side that was first and its own, the one that beats the other
+pub top_joined : (P Q : ℕ → Type 0) (b : Side) (f : ℕ → ℕ) (g : ℕ → Option Best) (v : ℕ) (o : Option Best) → ((w : ℕ) → Q w → nat_eq w v ≡ false → P w) → ((w : ℕ) → P w → Q w × (nat_eq w v ≡ false)) → ((w : ℕ) → Q w → w < 16) → Q v → IsOwn g → IsApart f g → IsTop P b f g o → IsTop Q b f g (better_of b f o (g v))
+top_joined P Q b f g v None others more few here own apart h =
+    (elim (g v) as (λ r. g v ≡ r → IsTop Q b f g r) [
+      | None ↦ λ e. λ w q. nat_split w v (g w ≡ None) (λ same. ap g same ∙ e) (λ d. h w (others w q d))
       | Some x ↦ λ e.
-          let own : x.venue ≡ w = ranked_own (may_rank es w s) w (side_of es w s b) x e in
-          absurd ((h.members x).1 (subst (λ (n : ℕ). n < 16) (sym own) l, ap (eligible_of es s b) own ∙ e))
-    ]) refl) in
-    sym (none_here (beats_others b (λ v. age_of es v s b) (eligible_sides es s b)) (eligible_of es s b) all_venues (λ w i. nobody w (under_sixteen w i)))
-front_is_best es s b (x ∷ xs) h =
-    let age : ℕ → ℕ = λ v. age_of es v s b in
-    let first = (h.members x).0 (inl refl) in
-    let inside : IsNumber x.venue all_venues = in_all_venues x.venue first.0 in
-    let member : (w : ℕ) (d : Best) → IsNumber w all_venues → eligible_of es s b w ≡ Some d → IsIn (x ∷ xs) d = λ w d i e.
-    (let own : d.venue ≡ w = ranked_own (may_rank es w s) w (side_of es w s b) d e in
-    (h.members d).1 (subst (λ (n : ℕ). n < 16) (sym own) (under_sixteen w i), ap (eligible_of es s b) own ∙ e)) in
-    let wins : beats_others b age (eligible_sides es s b) x ≡ true = all_here (λ y. nat_eq y.venue x.venue || beats b age x y) (eligible_of es s b) all_venues (λ w d i e. elim (member w d i e) [
-      | inl same ↦ ap (λ (y : Best). nat_eq y.venue x.venue || beats b age x y) (sym same) ∙ ap (λ t. t || beats b age x x) (nat_refl x.venue)
-      | inr k ↦ ap (λ t. nat_eq d.venue x.venue || t) (in_all (λ y. beats b age x y ≡ true) xs h.order.0 d k) ∙ or_true (nat_eq d.venue x.venue)
-    ]) in
-    sym (find_here (beats_others b age (eligible_sides es s b)) (eligible_of es s b) all_venues x.venue x inside first.1 wins (λ w d i e n. elim (member w d i e) [
-      | inl same ↦ sym same
-      | inr k ↦
-          let met : (nat_eq x.venue d.venue || beats b age d x) ≡ true = all_at (λ y. nat_eq y.venue d.venue || beats b age d y) (eligible_of es s b) all_venues n x.venue x inside first.1 in
-          let R : Bool → Type 0 = λ t. nat_eq x.venue d.venue ≡ t → (t || beats b age d x) ≡ true → d ≡ x in
-          (elim (nat_eq x.venue d.venue) as R [
-            | true ↦ λ v m. some_same (sym (ap (eligible_of es s b) (ranked_own (may_rank es w s) w (side_of es w s b) d e) ∙ e) ∙ ap (eligible_of es s b) (sym (nat_same x.venue d.venue v)) ∙ first.1)
-            | false ↦ λ v m. absurd (beats_one_way b age x d (in_all (λ y. beats b age x y ≡ true) xs h.order.0 d k) m)
-          ]) refl met
-    ]))
+          let at : x.venue ≡ v = own v x e in (
+            subst (λ (n : ℕ). Q n) (sym at) here,
+            ap g at ∙ e,
+            λ w y q k n. (let no : None ≡ Some y = sym (h w (others w q (subst (λ (m : ℕ). nat_eq w m ≡ false) at n))) ∙ k in cc),
+          )
+    ]) refl
+top_joined P Q b f g v (Some c) others more few here own apart h =
+    (elim (g v) as (λ r. g v ≡ r → IsTop Q b f g (better_of b f (Some c) r)) [
+      | None ↦ λ e. (
+        (more c.venue h.0).0,
+        h.1,
+        λ w y q k n. nat_split w v (beats b f c y ≡ true) (λ same. (let no : None ≡ Some y = sym e ∙ ap g (sym same) ∙ k in cc)) (λ d. h.2 w y (others w q d) k n),
+      )
+      | Some x ↦ λ e.
+          let at : x.venue ≡ v = own v x e in
+          (elim (beats b f x c) as (λ t. beats b f x c ≡ t → IsTop Q b f g (cond t (Some x) (Some c))) [
+            | true ↦ λ m. (
+              subst (λ (n : ℕ). Q n) (sym at) here,
+              ap g at ∙ e,
+              λ w y q k n. nat_split w c.venue (beats b f x y ≡ true)
+                  (λ same. subst (λ (t : Best). beats b f x t ≡ true) (some_same (sym h.1 ∙ ap g (sym same) ∙ k)) m)
+                  (λ differ. beats_chain b f x c y m (h.2 w y (others w q (subst (λ (m : ℕ). nat_eq w m ≡ false) at n)) k differ)),
+            )
+            | false ↦ λ m.
+                let in_p = more c.venue h.0 in (
+                  in_p.0,
+                  h.1,
+                  λ w y q k n. nat_split w v (beats b f c y ≡ true)
+                      (λ same. subst (λ (t : Best). beats b f c t ≡ true) (some_same (sym e ∙ ap g (sym same) ∙ k))
+                      (beats_either b f x c (λ ages. apart v c.venue x c (few v here) (few c.venue in_p.0) (nat_apart c.venue v in_p.1) e h.1 (ap f (sym at) ∙ ages)) m))
+                      (λ d. h.2 w y (others w q d) k n),
+                )
+          ]) refl
+    ]) refl
+
+-- the walk over the venues has come to one more
+pub top_more : (n : ℕ) (b : Side) (f : ℕ → ℕ) (g : ℕ → Option Best) (o : Option Best) → n < 16 → IsOwn g → IsApart f g → IsTop (IsBelow n) b f g o → IsTop (IsBelow (n + 1)) b f g (better_of b f o (g n))
+top_more n b f g o l own apart h =
+    top_joined (IsBelow n) (IsBelow (n + 1)) b f g n o
+    (λ w q d. grind (arith, q, d))
+    (λ w p. (omega (arith, p), grind (arith, p)))
+    (λ w q. omega (arith, l, q))
+    (omega arith) own apart h
+
+top_any : (n : ℕ) (b : Side) (f : ℕ → ℕ) (g : ℕ → Option Best) → n ≤ 16 → IsOwn g → IsApart f g → (o : Option Best) × IsTop (IsBelow n) b f g o
+top_any zero b f g l own apart = (None, λ w p. absurd (omega (arith, p)))
+top_any (suc n) b f g l own apart =
+    let rest = top_any n b f g (omega (arith, l)) own apart in
+    (better_of b f rest.0 (g n), subst (λ (m : ℕ). IsTop (IsBelow m) b f g (better_of b f rest.0 (g n))) (add-one n) (top_more n b f g rest.0 (omega (arith, l)) own apart rest.1))
+
+-- what is found beats every other one
+pub top_is : (b : Side) (f : ℕ → ℕ) (g : ℕ → Option Best) → IsOwn g → IsApart f g → IsTop (IsBelow 16) b f g (best_in b f g)
+top_is b f g own apart =
+    let t = top_any 16 b f g (omega arith) own apart in
+    subst (λ (o : Option Best). IsTop (IsBelow 16) b f g o) (sym (top_found b f g t.0 own t.1)) t.1
+
+-- the venues from a count on aren't ranked
+pub top_whole : (n m : ℕ) (b : Side) (f : ℕ → ℕ) (g : ℕ → Option Best) (o : Option Best) → n ≤ m → ((w : ℕ) → n ≤ w → g w ≡ None) → IsTop (IsBelow n) b f g o → IsTop (IsBelow m) b f g o
+top_whole n m b f g None few silent h = λ w p.
+    (elim (nat_lt w n) as (λ t. nat_lt w n ≡ t → g w ≡ None) [ true ↦ λ e. h w (grind (arith, e)) | false ↦ λ e. silent w (grind (arith, e)) ]) refl
+top_whole n m b f g (Some x) few silent h = (
+  (let l : x.venue < n = h.0 in omega (arith, l, few)),
+  h.1,
+  λ w y p k d.
+      (elim (nat_lt w n) as (λ t. nat_lt w n ≡ t → beats b f x y ≡ true) [
+        | true ↦ λ e. h.2 w y (grind (arith, e)) k d
+        | false ↦ λ e. (let no : None ≡ Some y = sym (silent w (grind (arith, e))) ∙ k in cc)
+      ]) refl,
+)
+
+top_below : (b : Side) (f : ℕ → ℕ) (g : ℕ → Option Best) (o : Option Best) → IsTop (IsBelow 16) b f g o → IfSome o (λ x. x.venue < 16)
+top_below b f g None t = tt
+top_below b f g (Some x) t = t.0
+
+-- the same of venues that are ranked alike, by ages alike
+pub top_same : (P Q : ℕ → Type 0) (b : Side) (f a : ℕ → ℕ) (g h : ℕ → Option Best) (o : Option Best) → ((w : ℕ) → Q w → P w × (g w ≡ h w) × (f w ≡ a w)) → IfSome o (λ x. Q x.venue) → IsOwn h → IsTop P b f g o → IsTop Q b a h o
+top_same P Q b f a g h None alike there own t = λ w q. (let k = alike w q in sym k.1 ∙ t w k.0)
+top_same P Q b f a g h (Some x) alike there own t =
+    let at = alike x.venue there in (
+      there,
+      sym at.1 ∙ t.1,
+      λ w y q e n.
+          let k = alike w q in
+          sym (beats_same b f a x y at.2 (ap f (own w y e) ∙ k.2 ∙ ap a (sym (own w y e)))) ∙ t.2 w y k.0 (k.1 ∙ e) n,
+    )
+
+-- the best of venues that are ranked alike, by ages alike
+pub best_same : (b : Side) (f a : ℕ → ℕ) (g h : ℕ → Option Best) → IsOwn g → IsApart f g → IsOwn h → ((w : ℕ) → w < 16 → g w ≡ h w) → ((w : ℕ) → w < 16 → f w ≡ a w) → best_in b f g ≡ best_in b a h
+best_same b f a g h own apart own_too ranks ages =
+    let t = top_is b f g own apart in
+    sym (top_found b a h (best_in b f g) own_too (top_same (IsBelow 16) (IsBelow 16) b f a g h (best_in b f g) (λ w q. (q, ranks w q, ages w q)) (top_below b f g (best_in b f g) t) own_too t))

@@ -1,7 +1,6 @@
 -- What the definitions mean: ages, and the one best side.
-use Rattle.std.proofs.Common.{ℕ, zero, suc, ◌<◌, ◌≤◌, ◌≡◌, ◌+◌, List, [], ◌∷◌, ◌++◌, Bool, true, false, not, refl, ap, sym, ◌∙◌, subst, arith, length, take, cond, nat_eq, Option, Some, None, unwrap_or, rules, ◌⊎◌, inl, inr, append_assoc}
-use Rattle.std.specs.Prelude.{◌&&◌, ◌||◌, IsTrue, IsSome, is_some, find, ◌≢◌, ◌↔◌}
-use Rattle.std.specs.List.{AllByRecursion, filter_map, cons_option, range_with_len}
+use Rattle.std.proofs.Common.{ℕ, zero, suc, ◌<◌, ◌≤◌, ◌≡◌, List, [], ◌∷◌, ◌++◌, true, false, refl, ap, sym, ◌∙◌, subst, arith, length, take, cond, nat_eq, Option, Some, None, unwrap_or, ◌⊎◌, inl, inr, append_assoc}
+use Rattle.std.specs.Prelude.{IsSome, is_some}
 use Rattle.feed_types.specs.declared.journal.Entry.{Entry}
 use Rattle.feed_types.specs.declared.journal.Entry.TheVariants.{Consumed, SelfHelp}
 use Rattle.feed_types.specs.declared.line.Side.{Side}
@@ -9,13 +8,13 @@ use Rattle.feed_types.specs.declared.national.Best.{Best}
 use Rattle.nbbo_book.specs.declared.shown.Shown.{Shown}
 use Rattle.nbbo_book.specs.Sides.{side_said, side_said_by, side_of, is_same_side, since, age_of}
 use Rattle.nbbo_book.specs.Eligible.{IsEligible, may_rank, eligible_of}
-use Rattle.nbbo_book.specs.Nationals.{beats, Beats, IsBest, all_venues, eligible_sides, beats_others, best_of}
+use Rattle.nbbo_book.specs.Nationals.{beats, IsBest, best_of}
 use Rattle.nbbo_book.specs.Books.{venue_of}
-use Rattle.nbbo_book.proofs.Beating.{beats_chain, beats_one_way, beats_either}
-use Rattle.nbbo_book.proofs.Ranking.{nat_same, nat_refl, some_same}
-use Rattle.nbbo_book.proofs.Said.{side_of-put, age-kept, age-new, age-≤, since-≤, same_side_sound, same_side_refl, and_left, and_right}
-use Rattle.nbbo_book.proofs.Kept.{ranked_own, ranked_shown, nat_split}
-use Rattle.nbbo_book.proofs.Firsts.{IsNumber, in_all_venues, under_sixteen, all_at, all_here, find_here, none_here, or_true}
+use Rattle.nbbo_book.proofs.Beating.{beats_either}
+use Rattle.nbbo_book.proofs.Ranking.{nat_same, nat_refl, nat_apart, nat_split, some_same}
+use Rattle.nbbo_book.proofs.Said.{side_of-put, age-kept, age-new, age-≤, since-≤, same_side_sound, same_side_refl}
+use Rattle.nbbo_book.proofs.Kept.{ranked_own, ranked_shown, apart_from}
+use Rattle.nbbo_book.proofs.Firsts.{IsOwn, IsApart, IsTop, IsBelow, top_found, top_is}
 use Rattle.nbbo_book.proofs.Eligibility.{eligible_told, eligible_is}
 
 -- an entry of another venue says nothing of a side
@@ -80,104 +79,44 @@ either_beats es s b x y h k differ =
       | false ↦ λ e. inr (beats_either b age x y (λ same. apart_all es s b x.venue y.venue (λ q. differ (sym q)) (ap is_some h.automated) (ap is_some k.automated) same) e)
     ]) refl
 
--- the first of some venues' sides, or none
-data Top (g : ℕ → Option Best) (b : Side) (f : ℕ → ℕ) (vs : List ℕ) : Type 0 where
-  Nobody : ((w : ℕ) → IsNumber w vs → g w ≡ None) → Top g b f vs
-  First : (x : Best) → IsNumber x.venue vs → g x.venue ≡ Some x → ((w : ℕ) (y : Best) → IsNumber w vs → g w ≡ Some y → (y ≡ x) ⊎ (beats b f x y ≡ true)) → Top g b f vs
+eligible_own : (es : List Entry) (s : List ℕ) (b : Side) → IsOwn (eligible_of es s b)
+eligible_own es s b = λ w x e. ranked_own (may_rank es w s) w (side_of es w s b) x e
 
-top_of : (g : ℕ → Option Best) (b : Side) (f : ℕ → ℕ) (vs : List ℕ) → ((w : ℕ) (x : Best) → g w ≡ Some x → x.venue ≡ w) → ((x y : Best) → IsNumber x.venue vs → IsNumber y.venue vs → g x.venue ≡ Some x → g y.venue ≡ Some y → (y.venue ≡ x.venue → ⊥) → (beats b f x y ≡ true) ⊎ (beats b f y x ≡ true)) → Top g b f vs
-top_of g b f [] own either = Nobody (λ w i. absurd i)
-top_of g b f (v ∷ vs) own either =
-    let rest : Top g b f vs = top_of g b f vs own (λ x y i j. either x y (inr i) (inr j)) in
-    (elim (g v) as (λ o. g v ≡ o → Top g b f (v ∷ vs)) [
-      | None ↦ λ none. elim rest [
-        | Nobody nobody ↦ Nobody (λ w i. elim i [ inl e ↦ ap g (sym e) ∙ none | inr k ↦ nobody w k ])
-        | First x i is wins ↦ First x (inr i) is (λ w y j e. elim j [ inl q ↦ (let no : None ≡ Some y = sym none ∙ ap g q ∙ e in cc) | inr k ↦ wins w y k e ])
-      ]
-      | Some c ↦ λ here.
-          let at : c.venue ≡ v = own v c here in
-          let inside : IsNumber c.venue (v ∷ vs) = inl (sym at) in
-          let told : g c.venue ≡ Some c = ap g at ∙ here in
-          let alone : (w : ℕ) (y : Best) → v ≡ w → g w ≡ Some y → y ≡ c = λ w y q e. some_same (sym e ∙ ap g (sym q) ∙ here) in
-          elim rest [
-            | Nobody nobody ↦ First c inside told (λ w y j e. elim j [ inl q ↦ inl (alone w y q e) | inr k ↦ (let none : None ≡ Some y = sym (nobody w k) ∙ e in cc) ])
-            | First x i is wins ↦ nat_split x.venue c.venue (Top g b f (v ∷ vs))
-                (λ same.
-                let one : x ≡ c = some_same (sym is ∙ ap g same ∙ told) in
-                First c inside told (λ w y j e. elim j [
-                  | inl q ↦ inl (alone w y q e)
-                  | inr k ↦ elim (wins w y k e) [ inl q ↦ inl (q ∙ one) | inr m ↦ inr (subst (λ (t : Best). beats b f t y ≡ true) one m) ]
-                ]))
-                (λ differ. elim (either c x inside (inr i) told is (λ q. (let no : true ≡ false = sym (ap (λ t. nat_eq t c.venue) q ∙ nat_refl c.venue) ∙ differ in cc))) [
-                  | inl wins_c ↦ First c inside told (λ w y j e. elim j [
-                    | inl q ↦ inl (alone w y q e)
-                    | inr k ↦ elim (wins w y k e) [ inl q ↦ inr (subst (λ (t : Best). beats b f c t ≡ true) (sym q) wins_c) | inr m ↦ inr (beats_chain b f c x y wins_c m) ]
-                  ])
-                  | inr wins_x ↦ First x (inr i) is (λ w y j e. elim j [
-                    | inl q ↦ inr (subst (λ (t : Best). beats b f x t ≡ true) (sym (alone w y q e)) wins_x)
-                    | inr k ↦ wins w y k e
-                  ])
-                ])
-          ]
-    ]) refl
-
-eligible_here : (es : List Entry) (s : List ℕ) (b : Side) (w : ℕ) (x : Best) → IsNumber w all_venues → eligible_of es s b w ≡ Some x → IsEligible es s b x
-eligible_here es s b w x i e =
-    let own : x.venue ≡ w = ranked_own (may_rank es w s) w (side_of es w s b) x e in
-    eligible_told es s b x (subst (λ (n : ℕ). n < 16) (sym own) (under_sixteen w i)) (ap (eligible_of es s b) own ∙ e)
-
-top : (es : List Entry) (s : List ℕ) (b : Side) → Top (eligible_of es s b) b (λ v. age_of es v s b) all_venues
-top es s b = top_of (eligible_of es s b) b (λ v. age_of es v s b) all_venues
-    (λ w x e. ranked_own (may_rank es w s) w (side_of es w s b) x e)
-    (λ x y i j e k differ. either_beats es s b x y (eligible_here es s b x.venue x i e) (eligible_here es s b y.venue y j k) differ)
+eligible_apart : (es : List Entry) (s : List ℕ) (b : Side) → IsApart (λ v. age_of es v s b) (eligible_of es s b)
+eligible_apart es s b = λ v w x y l m d e k same. apart_all es s b v w (apart_from v w (nat_apart v w d))
+    (ranked_shown (may_rank es v s) v (side_of es v s b) x e) (ranked_shown (may_rank es w s) w (side_of es w s b) y k) same
 
 -- the side that beats every other one is found
-best_found : (es : List Entry) (s : List ℕ) (b : Side) (x : Best) → IsBest es s b x → best_of es s b ≡ Some x
-best_found es s b x h =
-    let age : ℕ → ℕ = λ v. age_of es v s b in
-    let g = eligible_of es s b in
-    let inside : IsNumber x.venue all_venues = in_all_venues x.venue h.eligible.venue in
-    let told : g x.venue ≡ Some x = eligible_is es s b x h.eligible in
-    let ahead : (y : Best) → IsEligible es s b y → nat_eq y.venue x.venue ≡ false → beats b age x y ≡ true = λ y k n. h.first y k (λ q. (let no : true ≡ false = sym (ap (λ t. nat_eq t x.venue) q ∙ nat_refl x.venue) ∙ n in cc)) in
-    find_here (beats_others b age (eligible_sides es s b)) g all_venues x.venue x inside told
-    (all_here (λ y. nat_eq y.venue x.venue || beats b age x y) g all_venues (λ w d i e.
-    (elim (nat_eq d.venue x.venue) as (λ t. nat_eq d.venue x.venue ≡ t → (t || beats b age x d) ≡ true) [
-      | true ↦ λ n. refl
-      | false ↦ λ n. ahead d (eligible_here es s b w d i e) n
-    ]) refl))
-    (λ w d i e n.
-    let own : d.venue ≡ w = ranked_own (may_rank es w s) w (side_of es w s b) d e in
-    nat_split d.venue x.venue (d ≡ x)
-    (λ same. some_same (sym (ap g own ∙ e) ∙ ap g same ∙ told))
-    (λ differ.
-    let met : (nat_eq x.venue d.venue || beats b age d x) ≡ true = all_at (λ y. nat_eq y.venue d.venue || beats b age d y) g all_venues n x.venue x inside told in
-    nat_split x.venue d.venue (d ≡ x)
-    (λ same. some_same (sym (ap g own ∙ e) ∙ ap g (sym same) ∙ told))
-    (λ other. absurd (beats_one_way b age x d (ahead d (eligible_here es s b w d i e) differ) (ap (λ t. t || beats b age d x) (sym other) ∙ met)))))
+pub best_found : (es : List Entry) (s : List ℕ) (b : Side) (x : Best) → IsBest es s b x → best_of es s b ≡ Some x
+best_found es s b x h = top_found b (λ v. age_of es v s b) (eligible_of es s b) (Some x) (eligible_own es s b) (
+  h.eligible.venue,
+  eligible_is es s b x h.eligible,
+  λ w y l e d.
+      let own : y.venue ≡ w = eligible_own es s b w y e in
+      h.first y (eligible_told es s b y (subst (λ (n : ℕ). n < 16) (sym own) l) (ap (eligible_of es s b) own ∙ e))
+      (λ q. (let no : true ≡ false = sym (ap (λ t. nat_eq t x.venue) (sym own ∙ q) ∙ nat_refl x.venue) ∙ d in cc)),
+)
 
 -- what the walk over the venues comes to
-pub best_cases : (es : List Entry) (s : List ℕ) (b : Side) → ((best_of es s b ≡ None) × ((x : Best) → IsEligible es s b x → ⊥)) ⊎ ((x : Best) × (best_of es s b ≡ Some x) × IsBest es s b x)
-best_cases es s b = elim (top es s b) [
-  | Nobody nobody ↦ inl (
-    none_here (beats_others b (λ v. age_of es v s b) (eligible_sides es s b)) (eligible_of es s b) all_venues nobody,
-    λ x h. (let none : None ≡ Some x = sym (nobody x.venue (in_all_venues x.venue h.venue)) ∙ eligible_is es s b x h in cc),
-  )
-  | First x i is wins ↦
-      let best : IsBest es s b x = record {
-        eligible = eligible_here es s b x.venue x i is;
-        first = λ y k differ. elim (wins y.venue y (in_all_venues y.venue k.venue) (eligible_is es s b y k)) [ inl q ↦ absurd (differ (ap (λ (t : Best). t.venue) q)) | inr m ↦ m ];
-      } in
-      inr (x, best_found es s b x best, best)
-]
+cases_of : (es : List Entry) (s : List ℕ) (b : Side) (o : Option Best) → IsTop (IsBelow 16) b (λ v. age_of es v s b) (eligible_of es s b) o → ((o ≡ None) × ((x : Best) → IsEligible es s b x → ⊥)) ⊎ ((x : Best) × (o ≡ Some x) × IsBest es s b x)
+cases_of es s b None t = inl (refl, λ x h. (let none : None ≡ Some x = sym (t x.venue h.venue) ∙ eligible_is es s b x h in cc))
+cases_of es s b (Some x) t = inr (
+  x,
+  refl,
+  record {
+    eligible = eligible_told es s b x t.0 t.1;
+    first = λ y k differ. t.2 y.venue y k.venue (eligible_is es s b y k) (nat_split y.venue x.venue (nat_eq y.venue x.venue ≡ false) (λ q. absurd (differ q)) (λ d. d));
+  },
+)
+
+best_cases : (es : List Entry) (s : List ℕ) (b : Side) → ((best_of es s b ≡ None) × ((x : Best) → IsEligible es s b x → ⊥)) ⊎ ((x : Best) × (best_of es s b ≡ Some x) × IsBest es s b x)
+best_cases es s b = cases_of es s b (best_of es s b) (top_is b (λ v. age_of es v s b) (eligible_of es s b) (eligible_own es s b) (eligible_apart es s b))
 
 pub best_is : (es : List Entry) (s : List ℕ) (b : Side) (x : Best) → best_of es s b ≡ Some x → IsBest es s b x
 best_is es s b x e = elim (best_cases es s b) [
   | inl k ↦ (let no : None ≡ Some x = sym k.0 ∙ e in cc)
   | inr k ↦ subst (λ (t : Best). IsBest es s b t) (some_same (sym k.1 ∙ e)) k.2
 ]
-
-pub best_of_is : (es : List Entry) (s : List ℕ) (b : Side) (x : Best) → IsBest es s b x → best_of es s b ≡ Some x
-best_of_is = best_found
 
 pub nobody_is : (es : List Entry) (s : List ℕ) (b : Side) → best_of es s b ≡ None → (x : Best) → IsEligible es s b x → ⊥
 nobody_is es s b e = elim (best_cases es s b) [

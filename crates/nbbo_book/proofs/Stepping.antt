@@ -1,5 +1,5 @@
 -- The rows of a book, after one more entry.
-use Rattle.std.proofs.Common.{ℕ, zero, suc, ◌<◌, ◌≤◌, ◌≡◌, ◌+◌, List, [], ◌∷◌, ◌++◌, Bool, true, false, not, refl, ap, sym, ◌∙◌, subst, arith, length, map, take, drop, nat_eq, cond, Option, Some, None, set, get_or, rules, append_assoc}
+use Rattle.std.proofs.Common.{ℕ, zero, suc, ◌<◌, ◌≤◌, ◌≡◌, ◌+◌, List, [], ◌∷◌, ◌++◌, Bool, true, false, not, refl, ap, sym, ◌∙◌, arith, length, map, take, drop, nat_eq, cond, Option, Some, None, set, get_or, append_assoc}
 use Rattle.std.specs.Prelude.{◌&&◌, position, slice_index_or}
 use Rattle.std.specs.List.{AllByRecursion, IsDistinct, filter_map, cons_option}
 use Rattle.std.specs.Option.{option_to_list}
@@ -18,87 +18,68 @@ use Rattle.nbbo_book.specs.declared.shown.Standing.{Standing}
 use Rattle.nbbo_book.specs.declared.book_side.BookSide.{BookSide}
 use Rattle.nbbo_book.specs.declared.row.Row.{Row}
 use Rattle.nbbo_book.specs.declared.change.Change.{Change}
-use Rattle.nbbo_book.specs.declared.scope.Scope.{Scope}
-use Rattle.nbbo_book.specs.declared.scope.Scope.TheVariants.{Nothing, One, All}
+use Rattle.nbbo_book.specs.declared.scope.Scope.TheVariants.{Nothing, One}
 use Rattle.nbbo_book.specs.Sides.{shown_by, side_of, age_of}
 use Rattle.nbbo_book.specs.Eligible.{ranked_by, may_rank, is_self_helped, eligible_of}
 use Rattle.nbbo_book.specs.Nationals.{national_of, best_of}
 use Rattle.nbbo_book.specs.Changes.{is_same_best, is_same_national, change_of, changes_by}
-use Rattle.nbbo_book.specs.Books.{BookState, standing_at, RowFits, Fits, venue_of}
-use Rattle.nbbo_book.specs.Ranks.{front_of}
-use Rattle.nbbo_book.specs.Rows.{age_at, row_quoted, row_ended, row_halted, row_helped, row_after, row_after_item, row_change, national_at, helped_after, scope_of, scope_of_item, IsRowRanked}
-use Rattle.nbbo_book.specs.Tables.{IsSide, IsRow, may_at, rank_at, IsRankingOf, symbols_of, IsTable, IsBook, HasWord}
-use Rattle.nbbo_book.proofs.Ranking.{nat_same, nat_refl}
-use Rattle.nbbo_book.proofs.Said.{same_side_sound}
-use Rattle.nbbo_book.proofs.Kept.{set_at, set_off, apart_from, long_set, ranked_nothing, ranking_same, side_is_ranked, side_waits, side_gated-is, side_shown-is}
-use Rattle.nbbo_book.proofs.Firsts.{front_is_best}
+use Rattle.nbbo_book.specs.Books.{standing_at, SideFits, RowFits, venue_of}
+use Rattle.nbbo_book.specs.Rows.{age_at, may_at, rank_at, standings_shown, row_with, row_quoted, row_halted, row_after, row_after_item, row_change, national_at, helped_after, scope_of, scope_of_item}
+use Rattle.nbbo_book.specs.Tables.{IsStandings, IsSide, IsRow, IsBefore, symbols_of}
+use Rattle.nbbo_book.proofs.Ranking.{nat_refl}
+use Rattle.nbbo_book.proofs.Kept.{IsPast, long_set, ranked_own, rank_own, rank_apart, side_waits, standings_after}
+use Rattle.nbbo_book.proofs.Firsts.{best_same}
 use Rattle.nbbo_book.proofs.Fitting.{row_fits, helped_fits}
-use Rattle.nbbo_book.proofs.Words.{apart_at, missed_all, distinct_symbols}
+use Rattle.nbbo_book.proofs.Words.{apart_at, missed_all}
 
-row_waits : (helped : List Bool) (n : ℕ) (r : Row) → IsRow helped n r → IsRow helped (n + 1) r
-row_waits helped n r h = record {
-  bids = side_waits Bid (may_at helped r.halted) (may_at helped r.halted) n (n + 1) r.bids (omega arith) (λ w l. refl) h.bids;
-  offers = side_waits Offer (may_at helped r.halted) (may_at helped r.halted) n (n + 1) r.offers (omega arith) (λ w l. refl) h.offers;
+row_waits : (helped : List Bool) (c n : ℕ) (r : Row) → IsRow helped c n r → IsRow helped c (n + 1) r
+row_waits helped c n r h = record {
+  bids = side_waits Bid (may_at helped r.halted) c n r.bids h.bids;
+  offers = side_waits Offer (may_at helped r.halted) c n r.offers h.offers;
   count = h.count;
 }
 
-item_is : (helped : List Bool) (n v : ℕ) (i : Item) (r : Row) → v < 16 → IsRow helped n r → IsRow helped (n + 1) (row_after_item helped (n + 1) v i r)
-item_is helped n v (item.Quote q) r below h =
-    let may = may_at helped r.halted in
-    let R : Bool → Type 0 = λ t. IsRow helped (n + 1) (cond t (row_quoted helped v q (n + 1) r) r) in
-    elim (bytes_eq q.symbol r.symbol) as R [
-      | true ↦ record {
-        bids = side_shown-is Bid may may n r.bids v (Some (shown_by q Bid)) (may v) below (λ w e. refl) refl refl (same_side_sound (standing_at r.bids.standings v).shown (Some (shown_by q Bid))) h.bids;
-        offers = side_shown-is Offer may may n r.offers v (Some (shown_by q Offer)) (may v) below (λ w e. refl) refl refl (same_side_sound (standing_at r.offers.standings v).shown (Some (shown_by q Offer))) h.offers;
-        count = h.count;
-      }
-      | false ↦ row_waits helped n r h
+-- a symbol with halts and standings that every book keeps
+row_with-is : (helped : List Bool) (s : List ℕ) (halted : List Bool) (c n : ℕ) (bids offers : List Standing) → length halted ≡ 16 → IsStandings c bids × IsPast n bids → IsStandings c offers × IsPast n offers → IsRow helped c n (row_with helped s halted bids offers)
+row_with-is helped s halted c n bids offers long b o = record {
+  bids = record { standings = b.0; past = b.1; best = refl };
+  offers = record { standings = o.0; past = o.1; best = refl };
+  count = long;
+}
+
+kept_on : (b : Side) (may : ℕ → Bool) (c n : ℕ) (k : BookSide) → IsSide b may c n k → IsStandings c k.standings × IsPast (n + 1) k.standings
+kept_on b may c n k h = (h.standings, (side_waits b may c n k h).past)
+
+item_is : (helped : List Bool) (c n v : ℕ) (i : Item) (r : Row) → v < c → IsRow helped c n r → IsRow helped c (n + 1) (row_after_item helped n v i r)
+item_is helped c n v (item.Quote q) r below h =
+    elim (bytes_eq q.symbol r.symbol) as (λ t. IsRow helped c (n + 1) (cond t (row_quoted helped v q n r) r)) [
+      | true ↦ row_with-is helped r.symbol r.halted c (n + 1) (standings_shown v (Some (shown_by q Bid)) n r.bids.standings) (standings_shown v (Some (shown_by q Offer)) n r.offers.standings) h.count
+          (standings_after c n r.bids.standings v (Some (shown_by q Bid)) below h.bids.past h.bids.standings)
+          (standings_after c n r.offers.standings v (Some (shown_by q Offer)) below h.offers.past h.offers.standings)
+      | false ↦ row_waits helped c n r h
     ]
-item_is helped n v (item.Halt s x) r below h =
-    let may = may_at helped r.halted in
-    let more = may_at helped (set r.halted v x) in
-    let others : (w : ℕ) → nat_eq w v ≡ false → more w ≡ may w = λ w e. ap (λ t. not (slice_index_or helped w false) && not t) (set_off r.halted v w x false (apart_from v w e)) in
-    let here : more v ≡ (not (slice_index_or helped v false) && not x) = ap (λ t. not (slice_index_or helped v false) && not t) (set_at r.halted v x false (omega (arith, below, h.count))) in
-    let R : Bool → Type 0 = λ t. IsRow helped (n + 1) (cond t (row_halted helped v x r) r) in
-    elim (bytes_eq s r.symbol) as R [
-      | true ↦ record {
-        bids = side_gated-is Bid may more n (n + 1) r.bids v (not (slice_index_or helped v false) && not x) below (omega arith) others here h.bids;
-        offers = side_gated-is Offer may more n (n + 1) r.offers v (not (slice_index_or helped v false) && not x) below (omega arith) others here h.offers;
-        count = long_set r.halted v x ∙ h.count;
-      }
-      | false ↦ row_waits helped n r h
+item_is helped c n v (item.Halt s x) r below h =
+    elim (bytes_eq s r.symbol) as (λ t. IsRow helped c (n + 1) (cond t (row_halted helped v x r) r)) [
+      | true ↦ row_with-is helped r.symbol (set r.halted v x) c (n + 1) r.bids.standings r.offers.standings (long_set r.halted v x ∙ h.count)
+          (kept_on Bid (may_at helped r.halted) c n r.bids h.bids) (kept_on Offer (may_at helped r.halted) c n r.offers h.offers)
+      | false ↦ row_waits helped c n r h
     ]
-item_is helped n v item.Other r below h = row_waits helped n r h
-item_is helped n v item.End r below h =
-    let may = may_at helped r.halted in
-    let more = may_at helped (set r.halted v false) in
-    let others : (w : ℕ) → nat_eq w v ≡ false → more w ≡ may w = λ w e. ap (λ t. not (slice_index_or helped w false) && not t) (set_off r.halted v w false false (apart_from v w e)) in
-    record {
-      bids = side_shown-is Bid may more n r.bids v None false below others (ranked_nothing (more v) v) (ranked_nothing (may v) v ∙ sym (ranked_nothing (more v) v)) (same_side_sound (standing_at r.bids.standings v).shown None) h.bids;
-      offers = side_shown-is Offer may more n r.offers v None false below others (ranked_nothing (more v) v) (ranked_nothing (may v) v ∙ sym (ranked_nothing (more v) v)) (same_side_sound (standing_at r.offers.standings v).shown None) h.offers;
-      count = long_set r.halted v false ∙ h.count;
-    }
+item_is helped c n v item.Other r below h = row_waits helped c n r h
+item_is helped c n v item.End r below h =
+    row_with-is helped r.symbol (set r.halted v false) c (n + 1) (standings_shown v None n r.bids.standings) (standings_shown v None n r.offers.standings) (long_set r.halted v false ∙ h.count)
+    (standings_after c n r.bids.standings v None below h.bids.past h.bids.standings)
+    (standings_after c n r.offers.standings v None below h.offers.past h.offers.standings)
 
 -- what every book keeps of a symbol, after one more entry
-pub row_is : (helped : List Bool) (n : ℕ) (e : Entry) (r : Row) → venue_of e < 16 → length helped ≡ 16 → IsRow helped n r → IsRow (helped_after e helped) (n + 1) (row_after (helped_after e helped) (n + 1) e r)
-row_is helped n (Consumed v x) r below long h = item_is helped n v x.item r below h
-row_is helped n (SelfHelp v on) r below long h =
-    let may = may_at helped r.halted in
-    let more = may_at (set helped v on) r.halted in
-    let others : (w : ℕ) → nat_eq w v ≡ false → more w ≡ may w = λ w e. ap (λ t. not t && not (slice_index_or r.halted w false)) (set_off helped v w on false (apart_from v w e)) in
-    let here : more v ≡ (not on && not (slice_index_or r.halted v false)) = ap (λ t. not t && not (slice_index_or r.halted v false)) (set_at helped v on false (omega (arith, below, long))) in
-    record {
-      bids = side_gated-is Bid may more n (n + 1) r.bids v (not on && not (slice_index_or r.halted v false)) below (omega arith) others here h.bids;
-      offers = side_gated-is Offer may more n (n + 1) r.offers v (not on && not (slice_index_or r.halted v false)) below (omega arith) others here h.offers;
-      count = h.count;
-    }
+pub row_is : (helped : List Bool) (c n : ℕ) (e : Entry) (r : Row) → venue_of e < c → IsRow helped c n r → IsRow (helped_after e helped) c (n + 1) (row_after (helped_after e helped) n e r)
+row_is helped c n (Consumed v x) r below h = item_is helped c n v x.item r below h
+row_is helped c n (SelfHelp v on) r below h =
+    row_with-is (set helped v on) r.symbol r.halted c (n + 1) r.bids.standings r.offers.standings h.count
+    (kept_on Bid (may_at helped r.halted) c n r.bids h.bids) (kept_on Offer (may_at helped r.halted) c n r.offers h.offers)
 
-pub row_is_ranked : (helped : List Bool) (n : ℕ) (r : Row) → IsRow helped n r → IsRowRanked r
-row_is_ranked helped n r h = record { bids = side_is_ranked Bid (may_at helped r.halted) n r.bids h.bids; offers = side_is_ranked Offer (may_at helped r.halted) n r.offers h.offers }
-
-pub rows_are_ranked : (helped : List Bool) (n : ℕ) (rs : List Row) → AllByRecursion (IsRow helped n) rs → AllByRecursion IsRowRanked rs
-rows_are_ranked helped n [] h = tt
-rows_are_ranked helped n (r ∷ rs) h = (row_is_ranked helped n r h.0, rows_are_ranked helped n rs h.1)
+pub rows_before : (e : Entry) (helped flags : List Bool) (c n : ℕ) (rs : List Row) → flags ≡ helped_after e helped → venue_of e < c → AllByRecursion (IsRow helped c n) rs → AllByRecursion (IsBefore e flags c n) rs
+rows_before e helped flags c n [] is below h = tt
+rows_before e helped flags c n (r ∷ rs) is below h = (record { was = helped; flags = is; kept = h.0; below = below }, rows_before e helped flags c n rs is below h.1)
 
 item_keeps_symbol : (helped : List Bool) (n v : ℕ) (i : Item) (r : Row) → (row_after_item helped n v i r).symbol ≡ r.symbol
 item_keeps_symbol helped n v (item.Quote q) r = elim (bytes_eq q.symbol r.symbol) as (λ t. (cond t (row_quoted helped v q n r) r).symbol ≡ r.symbol) [ true ↦ refl | false ↦ refl ]
@@ -114,52 +95,93 @@ pub rows_keep_symbols : (helped : List Bool) (n : ℕ) (e : Entry) (rs : List Ro
 rows_keep_symbols helped n e [] = refl
 rows_keep_symbols helped n e (r ∷ rs) = ap (λ s. s ∷ symbols_of (map (row_after helped n e) rs)) (row_keeps_symbol helped n e r) ∙ ap (λ ss. r.symbol ∷ ss) (rows_keep_symbols helped n e rs)
 
--- a side's ranks are those of the entries
-pub side_ranking : (es : List Entry) (s : List ℕ) (b : Side) (helped halted : List Bool) (n : ℕ) (k : BookSide) → ((w : ℕ) → w < 16 → may_at helped halted w ≡ may_rank es w s) → ((w : ℕ) → w < 16 → standing_at k.standings w ≡ record { shown = side_of es w s b; age = age_of es w s b }) → IsSide b (may_at helped halted) n k → IsRankingOf b (eligible_of es s b) (λ w. age_of es w s b) k.ranks.items
-side_ranking es s b helped halted n k may fits h =
-    ranking_same b (rank_at (may_at helped halted) k.standings) (eligible_of es s b) (age_at k.standings) (λ w. age_of es w s b) k.ranks.items
-    (λ w l. ap (λ t. ranked_by t w (standing_at k.standings w).shown) (may w l) ∙ ap (λ (t : Standing). ranked_by (may_rank es w s) w t.shown) (fits w l))
+-- what a side's venues are ranked with is what is eligible
+pub rank_is : (es : List Entry) (s : List ℕ) (b : Side) (may : ℕ → Bool) (ss : List Standing) → ((w : ℕ) → w < 16 → may w ≡ may_rank es w s) → SideFits es s b ss → (w : ℕ) → w < 16 → rank_at may ss w ≡ eligible_of es s b w
+rank_is es s b may ss leave fits w l =
+    ap (λ t. ranked_by t w (standing_at ss w).shown) (leave w l) ∙ ap (λ (t : Standing). ranked_by (may_rank es w s) w t.shown) (fits w l)
+
+-- a side's best is that of the entries
+best_is : (es : List Entry) (s : List ℕ) (b : Side) (may : ℕ → Bool) (c n : ℕ) (k : BookSide) → ((w : ℕ) → w < 16 → may w ≡ may_rank es w s) → SideFits es s b k.standings → IsSide b may c n k → k.best ≡ best_of es s b
+best_is es s b may c n k leave fits h =
+    h.best
+    ∙ best_same b (age_at k.standings) (λ w. age_of es w s b) (rank_at may k.standings) (eligible_of es s b)
+    (rank_own may k.standings) (rank_apart may c k.standings h.standings) (λ w x e. ranked_own (may_rank es w s) w (side_of es w s b) x e)
+    (rank_is es s b may k.standings leave fits)
     (λ w l. ap (λ (t : Standing). t.age) (fits w l))
-    h.ranked
 
 pub may_is : (es : List Entry) (helped : List Bool) (r : Row) → ((w : ℕ) → w < 16 → slice_index_or helped w false ≡ is_self_helped es w) → RowFits es r → (w : ℕ) → w < 16 → may_at helped r.halted w ≡ may_rank es w r.symbol
 may_is es helped r flags fits w l = ap (λ t. not t && not (slice_index_or r.halted w false)) (flags w l) ∙ ap (λ t. not (is_self_helped es w) && not t) (fits.halted w l)
 
-pub national_is : (es : List Entry) (helped : List Bool) (n : ℕ) (r : Row) → ((w : ℕ) → w < 16 → slice_index_or helped w false ≡ is_self_helped es w) → IsRow helped n r → RowFits es r → national_at r ≡ national_of es r.symbol
-national_is es helped n r flags h fits =
-    ap (λ t. record { bid = t; offer = front_of r.offers.ranks.items }) (front_is_best es r.symbol Bid r.bids.ranks.items (side_ranking es r.symbol Bid helped r.halted n r.bids (may_is es helped r flags fits) fits.bids h.bids))
-    ∙ ap (λ t. record { bid = best_of es r.symbol Bid; offer = t }) (front_is_best es r.symbol Offer r.offers.ranks.items (side_ranking es r.symbol Offer helped r.halted n r.offers (may_is es helped r flags fits) fits.offers h.offers))
+pub national_is : (es : List Entry) (helped : List Bool) (c n : ℕ) (r : Row) → ((w : ℕ) → w < 16 → slice_index_or helped w false ≡ is_self_helped es w) → IsRow helped c n r → RowFits es r → national_at r ≡ national_of es r.symbol
+national_is es helped c n r flags h fits =
+    ap (λ t. record { bid = t; offer = r.offers.best }) (best_is es r.symbol Bid (may_at helped r.halted) c n r.bids (may_is es helped r flags fits) fits.bids h.bids)
+    ∙ ap (λ t. record { bid = best_of es r.symbol Bid; offer = t }) (best_is es r.symbol Offer (may_at helped r.halted) c n r.offers (may_is es helped r flags fits) fits.offers h.offers)
 
 -- the rows, after one more entry
-pub rows_are : (helped : List Bool) (n : ℕ) (e : Entry) (rs : List Row) → venue_of e < 16 → length helped ≡ 16 → AllByRecursion (IsRow helped n) rs → AllByRecursion (IsRow (helped_after e helped) (n + 1)) (map (row_after (helped_after e helped) (n + 1) e) rs)
-rows_are helped n e [] below long h = tt
-rows_are helped n e (r ∷ rs) below long h = (row_is helped n e r below long h.0, rows_are helped n e rs below long h.1)
+pub rows_are : (helped : List Bool) (c n : ℕ) (e : Entry) (rs : List Row) → venue_of e < c → AllByRecursion (IsRow helped c n) rs → AllByRecursion (IsRow (helped_after e helped) c (n + 1)) (map (row_after (helped_after e helped) n e) rs)
+rows_are helped c n e [] below h = tt
+rows_are helped c n e (r ∷ rs) below h = (row_is helped c n e r below h.0, rows_are helped c n e rs below h.1)
 
-pub rows_fit : (es : List Entry) (e : Entry) (helped flags : List Bool) (n m : ℕ) (rs : List Row) → venue_of e < 16 → n ≡ suc (length es) → AllByRecursion (IsRow flags m) rs → AllByRecursion (RowFits es) rs → AllByRecursion (RowFits (es ++ e ∷ [])) (map (row_after helped n e) rs)
-rows_fit es e helped flags n m [] below young h fits = tt
-rows_fit es e helped flags n m (r ∷ rs) below young h fits = (row_fits es e n m helped flags r below young h.0 fits.0, rows_fit es e helped flags n m rs below young h.1 fits.1)
+pub rows_fit : (es : List Entry) (e : Entry) (helped flags : List Bool) (n c m : ℕ) (rs : List Row) → venue_of e < 16 → n ≡ suc (length es) → AllByRecursion (IsRow flags c m) rs → AllByRecursion (RowFits es) rs → AllByRecursion (RowFits (es ++ e ∷ [])) (map (row_after helped n e) rs)
+rows_fit es e helped flags n c m [] below young h fits = tt
+rows_fit es e helped flags n c m (r ∷ rs) below young h fits = (row_fits es e n c m helped flags r below young h.0 fits.0, rows_fit es e helped flags n c m rs below young h.1 fits.1)
 
 -- the changes, too, are those of the entries
-pub changes_are : (es : List Entry) (e : Entry) (p : ℕ) (helped : List Bool) (n : ℕ) (rs : List Row) → venue_of e < 16 → length helped ≡ 16 → n ≡ length es → ((w : ℕ) → w < 16 → slice_index_or helped w false ≡ is_self_helped es w) → AllByRecursion (IsRow helped n) rs → AllByRecursion (RowFits es) rs → filter_map (row_change (helped_after e helped) (n + 1) p e) rs ≡ changes_by (symbols_of rs) es p e
-changes_are es e p helped n [] below long count flags h fits = refl
-changes_are es e p helped n (r ∷ rs) below long count flags h fits =
-    let next = row_after (helped_after e helped) (n + 1) e r in
-    let young : n + 1 ≡ suc (length es) = omega (arith, count) in
-    let rest : List Change = filter_map (row_change (helped_after e helped) (n + 1) p e) rs in
+pub changes_are : (es : List Entry) (e : Entry) (p : ℕ) (helped : List Bool) (c n : ℕ) (rs : List Row) → venue_of e < c → c ≤ 16 → length helped ≡ 16 → n ≡ suc (length es) → ((w : ℕ) → w < 16 → slice_index_or helped w false ≡ is_self_helped es w) → AllByRecursion (IsRow helped c n) rs → AllByRecursion (RowFits es) rs → filter_map (row_change (helped_after e helped) n p e) rs ≡ changes_by (symbols_of rs) es p e
+changes_are es e p helped c n [] below few long young flags h fits = refl
+changes_are es e p helped c n (r ∷ rs) below few long young flags h fits =
+    let next = row_after (helped_after e helped) n e r in
+    let under : venue_of e < 16 = omega (arith, below, few) in
+    let rest : List Change = filter_map (row_change (helped_after e helped) n p e) rs in
     let new : national_at next ≡ national_of (es ++ e ∷ []) r.symbol =
-    national_is (es ++ e ∷ []) (helped_after e helped) (n + 1) next (helped_fits es e helped long below flags) (row_is helped n e r below long h.0) (row_fits es e (n + 1) n (helped_after e helped) helped r below young h.0 fits.0)
-    ∙ ap (national_of (es ++ e ∷ [])) (row_keeps_symbol (helped_after e helped) (n + 1) e r) in
-    ap (λ t. cons_option (change_of p r.symbol t (national_at next)) rest) (national_is es helped n r flags h.0 fits.0)
+    national_is (es ++ e ∷ []) (helped_after e helped) c (n + 1) next (helped_fits es e helped long under flags) (row_is helped c n e r below h.0) (row_fits es e n c n (helped_after e helped) helped r under young h.0 fits.0)
+    ∙ ap (national_of (es ++ e ∷ [])) (row_keeps_symbol (helped_after e helped) n e r) in
+    ap (λ t. cons_option (change_of p r.symbol t (national_at next)) rest) (national_is es helped c n r flags h.0 fits.0)
     ∙ ap (λ t. cons_option (change_of p r.symbol (national_of es r.symbol) t) rest) new
-    ∙ ap (cons_option (change_of p r.symbol (national_of es r.symbol) (national_of (es ++ e ∷ []) r.symbol))) (changes_are es e p helped n rs below long count flags h.1 fits.1)
+    ∙ ap (cons_option (change_of p r.symbol (national_of es r.symbol) (national_of (es ++ e ∷ []) r.symbol))) (changes_are es e p helped c n rs below few long young flags h.1 fits.1)
 
 -- no change where nothing changed
-same_best_refl : (o : Option Best) → is_same_best o o ≡ true
+pub same_best_refl : (o : Option Best) → is_same_best o o ≡ true
 same_best_refl None = refl
 same_best_refl (Some x) = ap (λ t. t && ((nat_eq x.price x.price) && (nat_eq x.size x.size))) (nat_refl x.venue) ∙ ap (λ t. t && (nat_eq x.size x.size)) (nat_refl x.price) ∙ nat_refl x.size
 
+pub same_national_refl : (x : National) → is_same_national x x ≡ true
+same_national_refl x = ap (λ t. t && is_same_best x.offer x.offer) (same_best_refl x.bid) ∙ same_best_refl x.offer
+
 unchanged : (p : ℕ) (s : List ℕ) (x : National) → change_of p s x x ≡ None
-unchanged p s x = ap (λ t. cond (t && is_same_best x.offer x.offer) None (Some (record { position = p; symbol = s; national = x }))) (same_best_refl x.bid) ∙ ap (λ t. cond t None (Some (record { position = p; symbol = s; national = x }))) (same_best_refl x.offer)
+unchanged p s x = ap (λ t. cond t None (Some (record { position = p; symbol = s; national = x }))) (same_national_refl x)
+
+-- a national best is another one where one of its sides is
+pub first_moved : (r p q : Bool) → r ≡ true → r ≡ not p → r ≡ not (p && q)
+first_moved r true q t m = (let no : true ≡ false = sym t ∙ m in cc)
+first_moved r false q t m = t
+
+pub second_moved : (r s p q : Bool) → r ≡ false → r ≡ not p → s ≡ not q → s ≡ not (p && q)
+second_moved r s true q f m n = n
+second_moved r s false q f m n = (let no : false ≡ true = sym f ∙ m in cc)
+
+not_is : (b : Bool) → not b ≡ true → b ≡ false
+not_is true h = sym h
+not_is false h = refl
+
+not_isnt : (b : Bool) → not b ≡ false → b ≡ true
+not_isnt true h = refl
+not_isnt false h = sym h
+
+-- what is appended where the national best is another one, and where it is not
+pub change_told : (helped : List Bool) (n p : ℕ) (e : Entry) (r next : Row) (moved : Bool) (x : National) → next ≡ row_after helped n e r → moved ≡ not (is_same_national (national_at r) (national_at next)) → moved ≡ true → x ≡ national_at next → record { position = p; symbol = next.symbol; national = x } ∷ [] ≡ option_to_list (row_change helped n p e r)
+change_told helped n p e r next moved x is says true_now told =
+    let differs : is_same_national (national_at r) (national_at (row_after helped n e r)) ≡ false =
+    ap (λ (t : Row). is_same_national (national_at r) (national_at t)) (sym is) ∙ not_is (is_same_national (national_at r) (national_at next)) (sym says ∙ true_now) in
+    ap (λ (s : List ℕ). record { position = p; symbol = s; national = x } ∷ []) (ap (λ (t : Row). t.symbol) is ∙ row_keeps_symbol helped n e r)
+    ∙ ap (λ (y : National). record { position = p; symbol = r.symbol; national = y } ∷ []) (told ∙ ap national_at is)
+    ∙ ap (λ t. option_to_list (cond t None (Some (record { position = p; symbol = r.symbol; national = national_at (row_after helped n e r) })))) (sym differs)
+
+pub change_untold : (helped : List Bool) (n p : ℕ) (e : Entry) (r next : Row) (moved : Bool) → next ≡ row_after helped n e r → moved ≡ not (is_same_national (national_at r) (national_at next)) → moved ≡ false → [] ≡ option_to_list (row_change helped n p e r)
+change_untold helped n p e r next moved is says false_now =
+    let same : is_same_national (national_at r) (national_at (row_after helped n e r)) ≡ true =
+    ap (λ (t : Row). is_same_national (national_at r) (national_at t)) (sym is) ∙ not_isnt (is_same_national (national_at r) (national_at next)) (sym says ∙ false_now) in
+    ap (λ t. option_to_list (cond t None (Some (record { position = p; symbol = r.symbol; national = national_at (row_after helped n e r) })))) (sym same)
 
 quiet : (helped : List Bool) (n p : ℕ) (e : Entry) (r : Row) → row_after helped n e r ≡ r → row_change helped n p e r ≡ None
 quiet helped n p e r h = ap (λ (t : Row). change_of p r.symbol (national_at r) (national_at t)) h ∙ unchanged p r.symbol (national_at r)

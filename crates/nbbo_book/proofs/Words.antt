@@ -1,5 +1,5 @@
 -- A symbol is found by its word.
-use Rattle.std.proofs.Common.{ℕ, zero, suc, ◌<◌, ◌≤◌, ◌≡◌, ◌+◌, List, [], ◌∷◌, ◌++◌, Bool, true, false, not, refl, ap, sym, ◌∙◌, subst, arith, length, map, take, get_or, nat_eq, nat_lt, cond, Option, Some, None, IsTrue, rules, ◌⊎◌, inl, inr}
+use Rattle.std.proofs.Common.{ℕ, zero, suc, ◌<◌, ◌≡◌, ◌+◌, List, [], ◌∷◌, Bool, true, false, not, refl, ap, sym, ◌∙◌, subst, arith, length, map, take, get_or, nat_eq, nat_lt, cond, Some, None}
 use Rattle.std.specs.Prelude.{◌||◌, position}
 use Rattle.std.specs.List.{AllByRecursion, IsDistinct, list_any, prefix_len}
 use Rattle.std.specs.Int.{w64, to_be_bytes}
@@ -9,7 +9,7 @@ use Rattle.std.proofs.lemmas.List.Quantifiers.{position-Some}
 use Rattle.feed_types.specs.Symbols.{word_of}
 use Rattle.nbbo_book.specs.Books.{is_configured}
 use Rattle.nbbo_book.specs.Tables.{HasWord, IsTable}
-use Rattle.nbbo_book.proofs.Ranking.{nat_same, nat_refl, nat_apart}
+use Rattle.nbbo_book.proofs.Ranking.{nat_same, nat_refl}
 
 one_word : (s t : List ℕ) → HasWord s → HasWord t → word_of s ≡ word_of t → s ≡ t
 one_word s t h k e = sym h.told ∙ ap (to_be_bytes w64) e ∙ k.told

@@ -1,6 +1,6 @@
 -- Who shows the best bid and the best offer (17 CFR 242.600(b): identical bids or offers rank first
 -- by size, the largest highest, and then by time, the first received highest).
-use Rattle.std.specs.Prelude.{◌≡◌, ◌≢◌, ◌↔◌, ℕ, ◌<◌, nat_lt, ◌==◌, Bool, ◌&&◌, ◌||◌, IsTrue, List, Option, Some, None, find}
+use Rattle.std.specs.Prelude.{◌≢◌, ◌↔◌, ℕ, nat_lt, ◌==◌, Bool, ◌&&◌, ◌||◌, IsTrue, List, Option, find}
 use Rattle.std.specs.List.{filter_map, list_all, range_with_len, AllPairs, Contains}
 use Rattle.feed_types.specs.declared.journal.Entry.{Entry}
 use Rattle.feed_types.specs.declared.line.Side.{Side}

@@ -1,9 +1,26 @@
--- Cited by private clauses alone: the ranks of one side of a symbol, best first.
-use Rattle.std.specs.Prelude.{◌≡◌, ℕ, ◌⊎◌, List, [], ◌∷◌, ◌==◌, false, true, Option, Some, None, ⊤, if◌then◌else◌}
-use Rattle.std.specs.List.{AllByRecursion}
+-- Cited by private clauses alone: the best of what the venues of one side are ranked with, and all
+-- of it in order.
+use Rattle.std.specs.Prelude.{◌≡◌, ℕ, ◌<◌, ◌⊎◌, ◌↔◌, nat_lt, ◌==◌, ◌&&◌, ◌||◌, Bool, List, [], ◌∷◌, true, Option, Some, None, ⊤, find, if◌then◌else◌}
+use Rattle.std.specs.List.{AllByRecursion, filter_map}
 use Rattle.feed_types.specs.declared.line.Side.{Side}
 use Rattle.feed_types.specs.declared.national.Best.{Best}
-use Rattle.nbbo_book.specs.Nationals.{beats}
+use Rattle.nbbo_book.specs.Nationals.{is_better_price, beats, beats_others, all_venues}
+
+-- the one that beats every other: `best_of` is this of the eligible sides by their ages
+abbrev pub best_in : Side → (ℕ → ℕ) → (ℕ → Option Best) → Option Best
+best_in side age rank =
+    find (beats_others side age (filter_map rank all_venues)) (filter_map rank all_venues)
+
+-- the first of two that ranks before the other
+abbrev pub better_of : Side → (ℕ → ℕ) → Option Best → Option Best → Option Best
+better_of side age None rank = rank
+better_of side age (Some best) None = Some best
+better_of side age (Some best) (Some x) = if beats side age x best then Some x else Some best
+
+-- by price, or at equal price by size, whatever the ages
+abbrev pub is_better : Side → Best → Best → Bool
+is_better side x y =
+    is_better_price side x.price y.price || ((x.price == y.price) && nat_lt y.size x.size)
 
 -- each beats those after it
 abbrev pub InRank : Side → (ℕ → ℕ) → List Best → Type 0
@@ -15,25 +32,14 @@ abbrev pub IsIn : List Best → Best → Type 0
 IsIn [] x = ⊥
 IsIn (y ∷ ys) x = (y ≡ x) ⊎ IsIn ys x
 
--- none of them is the venue's
-abbrev pub HasNone : ℕ → List Best → Type 0
-HasNone venue xs = AllByRecursion (λ (x : Best). (x.venue == venue) ≡ false) xs
-
--- without the first that is the venue's
-abbrev pub without : ℕ → List Best → List Best
-without venue [] = []
-without venue (x ∷ xs) = if x.venue == venue then xs else x ∷ without venue xs
-
 -- with x before the first that it beats
 abbrev pub with_rank : Side → (ℕ → ℕ) → Best → List Best → List Best
 with_rank side age x [] = x ∷ []
 with_rank side age x (y ∷ ys) =
     if beats side age x y then x ∷ y ∷ ys else y ∷ with_rank side age x ys
 
-abbrev pub placed : Side → (ℕ → ℕ) → Option Best → List Best → List Best
-placed side age None xs = xs
-placed side age (Some x) xs = with_rank side age x xs
-
-abbrev pub front_of : List Best → Option Best
-front_of [] = None
-front_of (x ∷ xs) = Some x
+-- these are what the venues below this one are ranked with, best first
+pub record IsRankingOf
+    (below : ℕ) (side : Side) (rank : ℕ → Option Best) (age : ℕ → ℕ) (xs : List Best) : Type 0 where
+  pub members : (x : Best) → IsIn xs x ↔ ((x.venue < below) × (rank x.venue ≡ Some x))
+  pub order : InRank side age xs

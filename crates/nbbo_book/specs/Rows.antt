@@ -1,5 +1,5 @@
 -- Cited by private clauses alone: what a book keeps of a symbol, and how an entry changes it.
-use Rattle.std.specs.Prelude.{◌≡◌, ℕ, ◌<◌, List, [], ◌∷◌, Bool, false, not, ◌&&◌, Option, Some, None, slice_index_or, slice_set, length, replicate, if◌then◌else◌}
+use Rattle.std.specs.Prelude.{ℕ, List, Bool, false, not, ◌&&◌, Option, Some, None, slice_index_or, slice_set, replicate, if◌then◌else◌}
 use Rattle.std.specs.Str.{bytes_eq}
 use Rattle.feed_types.specs.declared.journal.Entry.{Entry}
 use Rattle.feed_types.specs.declared.journal.Entry.TheVariants.{Consumed, SelfHelp}
@@ -21,81 +21,63 @@ use Rattle.nbbo_book.specs.Sides.{shown_by, is_same_side}
 use Rattle.nbbo_book.specs.Eligible.{ranked_by}
 use Rattle.nbbo_book.specs.Changes.{change_of}
 use Rattle.nbbo_book.specs.Books.{standing_at}
-use Rattle.nbbo_book.specs.Ranks.{InRank, HasNone, without, placed, front_of}
+use Rattle.nbbo_book.specs.Ranks.{best_in}
 
 abbrev pub age_at : List Standing → ℕ → ℕ
 age_at standings venue = (standing_at standings venue).age
 
--- a venue's side and its age are these from now on
-abbrev pub side_set : Side → ℕ → Standing → Bool → BookSide → BookSide
-side_set side venue standing may kept =
-    record {
-      standings = slice_set kept.standings venue standing;
-      ranks = record {
-        items = placed side (age_at (slice_set kept.standings venue standing))
-            (ranked_by may venue standing.shown) (without venue kept.ranks.items);
-      };
-    }
+abbrev pub may_at : List Bool → List Bool → ℕ → Bool
+may_at helped halted venue =
+    not (slice_index_or helped venue false) && not (slice_index_or halted venue false)
+
+abbrev pub rank_at : (ℕ → Bool) → List Standing → ℕ → Option Best
+rank_at may standings venue = ranked_by (may venue) venue (standing_at standings venue).shown
+
+-- the best of the venues that may be ranked
+abbrev pub best_at : Side → (ℕ → Bool) → List Standing → Option Best
+best_at side may standings = best_in side (age_at standings) (rank_at may standings)
 
 -- a venue shows this, or nothing, from now on; where it did already nothing changes
-abbrev pub side_shown : Side → ℕ → Option Shown → ℕ → Bool → BookSide → BookSide
-side_shown side venue shown age may kept =
-    if is_same_side (standing_at kept.standings venue).shown shown
-    then kept else side_set side venue (record { shown = shown; age = age }) may kept
+abbrev pub standings_shown : ℕ → Option Shown → ℕ → List Standing → List Standing
+standings_shown venue shown age standings =
+    if is_same_side (standing_at standings venue).shown shown
+    then standings else slice_set standings venue (record { shown = shown; age = age })
 
--- a venue may be ranked, or may not, from now on
-abbrev pub side_gated : Side → ℕ → Bool → BookSide → BookSide
-side_gated side venue may kept =
+abbrev pub side_with : Side → (ℕ → Bool) → List Standing → BookSide
+side_with side may standings =
+    record { best = best_at side may standings; standings = standings }
+
+-- a symbol with these halts and standings
+abbrev pub row_with :
+    List Bool → List ℕ → List Bool → List Standing → List Standing → Row
+row_with helped symbol halted bids offers =
     record {
-      standings = kept.standings;
-      ranks = record {
-        items = placed side (age_at kept.standings)
-            (ranked_by may venue (standing_at kept.standings venue).shown)
-            (without venue kept.ranks.items);
-      };
+      symbol = symbol;
+      halted = halted;
+      bids = side_with Bid (may_at helped halted) bids;
+      offers = side_with Offer (may_at helped halted) offers;
     }
 
 abbrev pub row_quoted : List Bool → ℕ → Quote → ℕ → Row → Row
 row_quoted helped venue quote age row =
-    record {
-      symbol = row.symbol;
-      bids = side_shown Bid venue (Some (shown_by quote Bid)) age
-          (not (slice_index_or helped venue false) && not (slice_index_or row.halted venue false))
-          row.bids;
-      offers = side_shown Offer venue (Some (shown_by quote Offer)) age
-          (not (slice_index_or helped venue false) && not (slice_index_or row.halted venue false))
-          row.offers;
-      halted = row.halted;
-    }
+    row_with helped row.symbol row.halted
+    (standings_shown venue (Some (shown_by quote Bid)) age row.bids.standings)
+    (standings_shown venue (Some (shown_by quote Offer)) age row.offers.standings)
 
-abbrev pub row_ended : ℕ → ℕ → Row → Row
-row_ended venue age row =
-    record {
-      symbol = row.symbol;
-      bids = side_shown Bid venue None age false row.bids;
-      offers = side_shown Offer venue None age false row.offers;
-      halted = slice_set row.halted venue false;
-    }
+abbrev pub row_ended : List Bool → ℕ → ℕ → Row → Row
+row_ended helped venue age row =
+    row_with helped row.symbol (slice_set row.halted venue false)
+    (standings_shown venue None age row.bids.standings)
+    (standings_shown venue None age row.offers.standings)
 
 abbrev pub row_halted : List Bool → ℕ → Bool → Row → Row
 row_halted helped venue halted row =
-    record {
-      symbol = row.symbol;
-      bids = side_gated Bid venue (not (slice_index_or helped venue false) && not halted) row.bids;
-      offers = side_gated Offer venue (not (slice_index_or helped venue false) && not halted)
-          row.offers;
-      halted = slice_set row.halted venue halted;
-    }
+    row_with helped row.symbol (slice_set row.halted venue halted)
+    row.bids.standings row.offers.standings
 
-abbrev pub row_helped : ℕ → Bool → Row → Row
-row_helped venue on row =
-    record {
-      symbol = row.symbol;
-      bids = side_gated Bid venue (not on && not (slice_index_or row.halted venue false)) row.bids;
-      offers = side_gated Offer venue (not on && not (slice_index_or row.halted venue false))
-          row.offers;
-      halted = row.halted;
-    }
+abbrev pub row_helped : List Bool → Row → Row
+row_helped helped row =
+    row_with helped row.symbol row.halted row.bids.standings row.offers.standings
 
 abbrev pub row_after_item : List Bool → ℕ → ℕ → Item → Row → Row
 row_after_item helped age venue (item.Quote quote) row =
@@ -103,13 +85,13 @@ row_after_item helped age venue (item.Quote quote) row =
 row_after_item helped age venue (item.Halt symbol halted) row =
     if bytes_eq symbol row.symbol then row_halted helped venue halted row else row
 row_after_item helped age venue item.Other row = row
-row_after_item helped age venue item.End row = row_ended venue age row
+row_after_item helped age venue item.End row = row_ended helped venue age row
 
 -- a symbol after one more entry, of this age, with these flags of self-help after it
 abbrev pub row_after : List Bool → ℕ → Entry → Row → Row
 row_after helped age (Consumed venue numbered) row =
     row_after_item helped age venue numbered.item row
-row_after helped age (SelfHelp venue on) row = row_helped venue on row
+row_after helped age (SelfHelp venue on) row = row_helped helped row
 
 abbrev pub helped_after : Entry → List Bool → List Bool
 helped_after (Consumed venue numbered) helped = helped
@@ -117,29 +99,16 @@ helped_after (SelfHelp venue on) helped = slice_set helped venue on
 
 abbrev pub national_at : Row → National
 national_at row =
-    record { bid = front_of row.bids.ranks.items; offer = front_of row.offers.ranks.items }
+    record { bid = row.bids.best; offer = row.offers.best }
 
-abbrev pub ranks_at : Side → Row → List Best
-ranks_at Bid row = row.bids.ranks.items
-ranks_at Offer row = row.offers.ranks.items
+abbrev pub side_at : Side → Row → BookSide
+side_at Bid row = row.bids
+side_at Offer row = row.offers
 
 abbrev pub row_change : List Bool → ℕ → ℕ → Entry → Row → Option Change
 row_change helped age position entry row =
     change_of position row.symbol
     (national_at row) (national_at (row_after helped age entry row))
-
--- What code asks of a side: its ranks are in order, a venue has at most one and where it shows
--- nothing none, and there is room for each venue's.
-pub record IsRanked (side : Side) (kept : BookSide) : Type 0 where
-  pub order : InRank side (age_at kept.standings) kept.ranks.items
-  pub once : (venue : ℕ) → HasNone venue (without venue kept.ranks.items)
-  pub absent : (venue : ℕ) → (standing_at kept.standings venue).shown ≡ None
-      → without venue kept.ranks.items ≡ kept.ranks.items
-  pub room : (venue : ℕ) → venue < 16 → length (without venue kept.ranks.items) < 16
-
-pub record IsRowRanked (row : Row) : Type 0 where
-  pub bids : IsRanked Bid row.bids
-  pub offers : IsRanked Offer row.offers
 
 -- which symbols an entry may change: none, one, or all
 abbrev pub scope_of_item : Item → Scope
@@ -157,7 +126,7 @@ abbrev pub empty_side : BookSide
 empty_side =
     record {
       standings = replicate 16 (record { shown = None; age = 0 });
-      ranks = record { items = [] };
+      best = None;
     }
 
 abbrev pub empty_row : List ℕ → Row

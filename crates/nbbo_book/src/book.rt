@@ -9,30 +9,36 @@ ghost use Rattle.nbbo_book.specs.Books.{Fits, venue_of, is_configured};
 ghost use Rattle.nbbo_book.specs.Eligible.{is_self_helped as self_helped};
 ghost use Rattle.nbbo_book.specs.Nationals.{national_of, IsRanking};
 ghost use Rattle.nbbo_book.specs.Changes.{changes_by};
-ghost use Rattle.nbbo_book.specs.Rows.{empty_side as no_side, empty_row};
+ghost use Rattle.nbbo_book.specs.Rows.{empty_row};
 
 use crate::book_side::BookSide;
 use crate::change::Change;
 use crate::fault::BookFault;
+use crate::ranks::{Ranks, ranks_of};
 use crate::row::Row;
 use crate::shown::Standing;
-use crate::steps::{Step, apply_step, take_self_help};
+use crate::steps::{Step, apply_step};
 use crate::table::{Table, find, symbol_table};
-use arrayvec::ArrayVec;
-use feed_types::{Best, Entry, National, Side, SymbolName, VenueId};
+use crate::venues::Venues;
+use feed_types::{Entry, National, Side, SymbolName, VenueId};
 use std::alloc::{AllocError, Global};
 use std::marker::Model;
 
 /// How many venues there are at most.
 const MAX_VENUES: usize = 16;
 
-/// The protected sides of the configured symbols, ranked.
+/// What stands of a venue before it says anything.
+const UNKNOWN: Standing = Standing {
+    shown: None,
+    age: 0,
+};
+
+/// The protected sides of the configured symbols, and the best of them.
 #[derive(Drop)]
 pub struct Book {
     table: Table,
     rows: Vec<Row>,
-    helped: [bool; 16],
-    venues: usize,
+    venues: Venues,
     last: u64,
     applied: u64,
 }
@@ -43,22 +49,10 @@ impl Model for Book {
 
     ghost Value = { BookState };
 
-    ghost view = { λ b. state_of b.rows.items b.venues b.last b.applied b.helped };
+    ghost view = { λ b. state_of b.rows.items b.venues.count b.last b.applied b.venues.helped };
 
     ghost invariant = { λ b. IsBook b.table.keys
-        (state_of b.rows.items b.venues b.last b.applied b.helped) };
-}
-
-fn empty_side() -> BookSide
-    ensures { result ≡ no_side }
-{
-    BookSide {
-        standings: [Standing {
-            shown: None,
-            age: 0,
-        }; 16],
-        ranks: ArrayVec::new(),
-    }
+        (state_of b.rows.items b.venues.count b.last b.applied b.venues.helped) };
 }
 
 fn empty_rows(alloc: Global, symbols: &[SymbolName]) -> Result<Vec<Row>, AllocError>
@@ -68,9 +62,15 @@ fn empty_rows(alloc: Global, symbols: &[SymbolName]) -> Result<Vec<Row>, AllocEr
     for symbol in symbols {
         rows.push(Row {
             symbol: *symbol,
-            bids: empty_side(),
-            offers: empty_side(),
             halted: [false; 16],
+            bids: BookSide {
+                best: None,
+                standings: [UNKNOWN; 16],
+            },
+            offers: BookSide {
+                best: None,
+                standings: [UNKNOWN; 16],
+            },
         })?;
     }
     Ok(rows)
@@ -108,8 +108,10 @@ impl Book {
         Ok(Book {
             table,
             rows,
-            helped: [false; 16],
-            venues: venue_count,
+            venues: Venues {
+                count: venue_count,
+                helped: [false; 16],
+            },
             last: 0,
             applied: 0,
         })
@@ -136,11 +138,11 @@ impl Book {
         ensures venues { self.new.venues ≡ self.old.venues }
         ensures last { self.new.last ≡ position }
     {
-        take_self_help(&mut self.helped, entry);
+        self.venues.take_self_help(entry);
         let age = self.applied + 1;
         let step = Step { age, position };
         let rows = self.rows.as_mut_slice();
-        apply_step(&self.table, rows, &self.helped, entry, step, out);
+        apply_step(&self.table, rows, &self.venues, entry, step, out);
         self.applied = age;
         self.last = position;
     }
@@ -156,14 +158,16 @@ impl Book {
     }
 
     /// The eligible sides of the symbol, best first: each stands before those that it beats. `None`
-    /// exactly where the symbol isn't configured.
-    pub fn ranked(&self, symbol: &SymbolName, side: Side) -> Option<&[Best]>
+    /// exactly where the symbol isn't configured. They are put in order at each call.
+    pub fn ranked(&self, symbol: &SymbolName, side: Side) -> Option<Ranks>
         ensures configured { IsSome result ↔ IsTrue (is_configured self.now.symbols symbol.now) }
         ensures ranking { (entries : List Entry) → Fits self.now entries
-            → IfSome result (λ ranks. IsRanking entries symbol.now side ranks.now) }
+            → IfSome result (λ ranks. IsRanking entries symbol.now side ranks.items) }
     {
         let place = find(&self.table, *symbol)?;
-        Some(self.rows[place].ranks(side))
+        let row = &self.rows[place];
+        let standings = &row.side(side).standings;
+        Some(ranks_of(side, standings, &self.venues, &row.halted))
     }
 
     /// Whether self-help stands on the venue.
@@ -171,14 +175,14 @@ impl Book {
         ensures { (entries : List Entry) → Fits self.now entries
             → result ≡ self_helped entries venue }
     {
-        self.helped[venue.index()]
+        self.venues.helped[venue.index()]
     }
 
     /// How many venues there are: `apply` takes entries of those below.
     pub fn venue_count(&self) -> usize
         ensures { result ≡ self.now.venues }
     {
-        self.venues
+        self.venues.count
     }
 
     /// The position of the last entry, 0 before any: that of the next one is greater.

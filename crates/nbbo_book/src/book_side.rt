@@ -1,126 +1,138 @@
-//! One side of a symbol: each venue's standing, and the ranks of those that are eligible.
+//! One side of a symbol: each venue's standing, and the best of those that are eligible.
 
-ghost use Rattle.std.specs.Prelude.{◌≡◌, not, false, None};
+ghost use Rattle.std.specs.Prelude.{◌≡◌, ◌<◌, not, None};
 ghost use Rattle.nbbo_book.specs.Changes.{is_same_best};
-ghost use Rattle.nbbo_book.specs.Ranks.{front_of};
-ghost use Rattle.nbbo_book.specs.Rows.{IsRanked, side_set, side_shown, side_gated};
+ghost use Rattle.nbbo_book.specs.Rows.{may_at, standings_shown, side_with};
+ghost use Rattle.nbbo_book.specs.Tables.{IsSide, IsSideBut, IsStale};
 
-use crate::ranks::{Ranks, differs, front, rerank};
-use crate::shown::{Shown, Standing, is_same, rank_of};
+use crate::best::{differs, next_best};
+use crate::shown::{Shown, Standing, is_same};
+use crate::venues::Venues;
 use feed_types::{Best, Side, VenueId};
 
 /// One side of a symbol.
 #[derive(Drop)]
 pub struct BookSide {
+    pub best: Option<Best>,
     /// By venue.
     pub standings: [Standing; 16],
-    /// Best first.
-    pub ranks: Ranks,
 }
 
 impl BookSide {
-    /// The venue's side and its age are these from now on. Whether the best side is another one
-    /// then.
+    /// Notes the best again. Whether it is another one then.
     #[inline(always)]
-    fn set(&mut self, side: Side, venue: VenueId, standing: Standing, may: bool) -> bool
-        requires { IsRanked side self.old }
-        ensures side { self.new ≡ side_set side venue standing may self.old }
-        ensures moved { result
-            ≡ not (is_same_best
-            (front_of self.old.ranks.items) (front_of self.new.ranks.items)) }
+    fn renew(&mut self, side: Side, venue: VenueId, venues: &Venues, halted: &[bool; 16]) -> bool
+        requires { IsStale
+            side (may_at venues.now.helped halted.now) venues.now.count venue self.old }
+        ensures side { self.new
+            ≡ side_with side (may_at venues.now.helped halted.now) self.old.standings }
+        ensures moved { result ≡ not (is_same_best self.old.best self.new.best) }
     {
-        let before = front(&self.ranks);
-        self.standings[venue.index()] = standing;
-        let rank = rank_of(may, venue, standing.shown);
-        rerank(&mut self.ranks, side, &self.standings, venue, rank);
-        differs(before, front(&self.ranks))
+        let best = next_best(side, &self.standings, self.best, venue, venues, halted);
+        let moved = differs(&self.best, &best);
+        self.best = best;
+        moved
     }
 
-    /// The venue shows this, or nothing, from now on; `may` is whether it may be ranked. Whether
-    /// the best side is another one then.
+    /// The venue shows this, or nothing, from now on. Whether the best side is another one then.
     #[inline(always)]
     pub fn show(
         &mut self,
         side: Side,
         venue: VenueId,
-        shown: Option<Shown>,
-        age: u64,
-        may: bool,
+        standing: Standing,
+        venues: &Venues,
+        halted: &[bool; 16],
     ) -> bool
-        requires { IsRanked side self.old }
-        ensures side { self.new ≡ side_shown side venue shown age may self.old }
-        ensures moved { result
-            ≡ not (is_same_best
-            (front_of self.old.ranks.items) (front_of self.new.ranks.items)) }
+        requires kept { IsSide side (may_at venues.now.helped halted.now)
+            venues.now.count standing.age self.old }
+        requires venue { venue < venues.now.count }
+        ensures side { self.new ≡ side_with side (may_at venues.now.helped halted.now)
+            (standings_shown venue standing.shown standing.age self.old.standings) }
+        ensures moved { result ≡ not (is_same_best self.old.best self.new.best) }
     {
-        if is_same(self.standings[venue.index()].shown, shown) {
+        if is_same(self.standings[venue.index()].shown, standing.shown) {
             return false;
         }
-        self.set(side, venue, Standing { shown, age }, may)
+        self.standings[venue.index()] = standing;
+        self.renew(side, venue, venues, halted)
     }
 
     /// The venue shows nothing from now on. Whether the best side is another one then.
     #[inline(always)]
-    pub fn hide(&mut self, side: Side, venue: VenueId, age: u64) -> bool
-        requires { IsRanked side self.old }
-        ensures side { self.new ≡ side_shown side venue None age false self.old }
-        ensures moved { result
-            ≡ not (is_same_best
-            (front_of self.old.ranks.items) (front_of self.new.ranks.items)) }
+    pub fn hide(
+        &mut self,
+        side: Side,
+        venue: VenueId,
+        age: u64,
+        venues: &Venues,
+        halted: &[bool; 16],
+    ) -> bool
+        requires { IsSideBut side (may_at venues.now.helped halted.now)
+            venues.now.count venue self.old }
+        ensures side { self.new ≡ side_with side (may_at venues.now.helped halted.now)
+            (standings_shown venue None age self.old.standings) }
+        ensures moved { result ≡ not (is_same_best self.old.best self.new.best) }
     {
         match self.standings[venue.index()].shown {
             None => false,
-            Some(_) => self.hide_shown(side, venue, age),
+            Some(_) => self.hide_shown(side, venue, age, venues, halted),
         }
     }
 
     /// The same, whether or not the venue shows a side.
     #[inline(never)]
-    fn hide_shown(&mut self, side: Side, venue: VenueId, age: u64) -> bool
-        requires { IsRanked side self.old }
-        ensures side { self.new ≡ side_shown side venue None age false self.old }
-        ensures moved { result
-            ≡ not (is_same_best
-            (front_of self.old.ranks.items) (front_of self.new.ranks.items)) }
+    fn hide_shown(
+        &mut self,
+        side: Side,
+        venue: VenueId,
+        age: u64,
+        venues: &Venues,
+        halted: &[bool; 16],
+    ) -> bool
+        requires { IsSideBut side (may_at venues.now.helped halted.now)
+            venues.now.count venue self.old }
+        ensures side { self.new ≡ side_with side (may_at venues.now.helped halted.now)
+            (standings_shown venue None age self.old.standings) }
+        ensures moved { result ≡ not (is_same_best self.old.best self.new.best) }
     {
-        self.show(side, venue, None, age, false)
+        if is_same(self.standings[venue.index()].shown, None) {
+            return false;
+        }
+        self.standings[venue.index()] = Standing { shown: None, age };
+        self.renew(side, venue, venues, halted)
     }
 
     /// The venue may be ranked, or may not, from now on. Whether the best side is another one then.
     #[inline(always)]
-    pub fn gate(&mut self, side: Side, venue: VenueId, may: bool) -> bool
-        requires { IsRanked side self.old }
-        ensures side { self.new ≡ side_gated side venue may self.old }
-        ensures moved { result
-            ≡ not (is_same_best
-            (front_of self.old.ranks.items) (front_of self.new.ranks.items)) }
+    pub fn gate(&mut self, side: Side, venue: VenueId, venues: &Venues, halted: &[bool; 16]) -> bool
+        requires { IsSideBut side (may_at venues.now.helped halted.now)
+            venues.now.count venue self.old }
+        ensures side { self.new
+            ≡ side_with side (may_at venues.now.helped halted.now) self.old.standings }
+        ensures moved { result ≡ not (is_same_best self.old.best self.new.best) }
     {
         match self.standings[venue.index()].shown {
             None => false,
-            Some(_) => self.gate_shown(side, venue, may),
+            Some(_) => self.gate_shown(side, venue, venues, halted),
         }
     }
 
     /// The same, whether or not the venue shows a side.
     #[inline(never)]
-    fn gate_shown(&mut self, side: Side, venue: VenueId, may: bool) -> bool
-        requires { IsRanked side self.old }
-        ensures side { self.new ≡ side_gated side venue may self.old }
-        ensures moved { result
-            ≡ not (is_same_best
-            (front_of self.old.ranks.items) (front_of self.new.ranks.items)) }
+    fn gate_shown(
+        &mut self,
+        side: Side,
+        venue: VenueId,
+        venues: &Venues,
+        halted: &[bool; 16],
+    ) -> bool
+        requires { IsSideBut side (may_at venues.now.helped halted.now)
+            venues.now.count venue self.old }
+        ensures side { self.new
+            ≡ side_with side (may_at venues.now.helped halted.now) self.old.standings }
+        ensures moved { result ≡ not (is_same_best self.old.best self.new.best) }
     {
-        let before = front(&self.ranks);
-        let rank = rank_of(may, venue, self.standings[venue.index()].shown);
-        rerank(&mut self.ranks, side, &self.standings, venue, rank);
-        differs(before, front(&self.ranks))
-    }
-
-    /// The best side.
-    #[inline(always)]
-    pub fn best(&self) -> Option<Best>
-        ensures { result ≡ front_of self.now.ranks.items }
-    {
-        front(&self.ranks)
+        self.renew(side, venue, venues, halted)
     }
 }

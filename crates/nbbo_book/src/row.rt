@@ -1,23 +1,25 @@
 //! What a book keeps of one symbol.
 
-ghost use Rattle.std.specs.Prelude.{◌≡◌, not, ◌&&◌, false, slice_index_or};
+ghost use Rattle.std.specs.Prelude.{◌≡◌, ◌<◌, not};
 ghost use Rattle.std.specs.Str.{bytes_eq};
 ghost use Rattle.feed_types.specs.declared.line.Side.TheVariants.{Bid, Offer};
 ghost use Rattle.nbbo_book.specs.Changes.{is_same_national};
-ghost use Rattle.nbbo_book.specs.Rows.{IsRowRanked, row_quoted, row_ended, row_halted, row_helped, side_gated, row_after_item, row_after, national_at, ranks_at};
+ghost use Rattle.nbbo_book.specs.Rows.{may_at, row_quoted, row_ended, row_halted, row_helped, row_after_item, row_after, national_at, side_at};
+ghost use Rattle.nbbo_book.specs.Tables.{IsRow, IsRowBut, IsSideBut, IsBefore};
 
 use crate::book_side::BookSide;
-use crate::shown::{bid_of, offer_of};
+use crate::shown::{Standing, bid_of, offer_of};
+use crate::venues::Venues;
 use feed_types::{Best, Entry, Item, National, Quote, Side, SymbolName, VenueId};
 
-/// What a book keeps of one symbol.
+/// What a book keeps of one symbol. What each entry reads stands first.
 #[derive(Drop)]
 pub struct Row {
     pub symbol: SymbolName,
-    pub bids: BookSide,
-    pub offers: BookSide,
     /// The venues that halt the symbol.
     pub halted: [bool; 16],
+    pub bids: BookSide,
+    pub offers: BookSide,
 }
 
 impl Row {
@@ -30,106 +32,108 @@ impl Row {
     }
 
     #[inline(always)]
-    fn quote(&mut self, helped: &[bool; 16], venue: VenueId, quote: &Quote, age: u64) -> bool
-        requires { IsRowRanked self.old }
-        ensures row { self.new ≡ row_quoted helped.now venue quote.now age self.old }
+    fn quote(&mut self, venues: &Venues, venue: VenueId, quote: &Quote, age: u64) -> bool
+        requires kept { IsRow venues.now.helped venues.now.count age self.old }
+        requires venue { venue < venues.now.count }
+        ensures row { self.new ≡ row_quoted venues.now.helped venue quote.now age self.old }
         ensures changed { result
             ≡ not (is_same_national (national_at self.old) (national_at self.new)) }
     {
-        let may = !helped[venue.index()] && !self.halted[venue.index()];
-        let bid = self
-            .bids
-            .show(Side::Bid, venue, Some(bid_of(quote)), age, may);
+        let shown = Some(bid_of(quote));
+        let bid = Standing { shown, age };
+        let shown = Some(offer_of(quote));
+        let offer = Standing { shown, age };
+        let bid = self.bids.show(Side::Bid, venue, bid, venues, &self.halted);
         let offer = self
             .offers
-            .show(Side::Offer, venue, Some(offer_of(quote)), age, may);
+            .show(Side::Offer, venue, offer, venues, &self.halted);
         bid || offer
     }
 
     #[inline(always)]
-    fn end(&mut self, venue: VenueId, age: u64) -> bool
-        requires { IsRowRanked self.old }
-        ensures row { self.new ≡ row_ended venue age self.old }
+    fn end(&mut self, venues: &Venues, venue: VenueId, age: u64) -> bool
+        requires { IsRowBut venues.now.helped venues.now.count venue self.old }
+        ensures row { self.new ≡ row_ended venues.now.helped venue age self.old }
         ensures changed { result
             ≡ not (is_same_national (national_at self.old) (national_at self.new)) }
     {
         self.halted[venue.index()] = false;
-        let bid = self.bids.hide(Side::Bid, venue, age);
-        let offer = self.offers.hide(Side::Offer, venue, age);
+        let bid = self.bids.hide(Side::Bid, venue, age, venues, &self.halted);
+        let offer = self
+            .offers
+            .hide(Side::Offer, venue, age, venues, &self.halted);
         bid || offer
     }
 
     #[inline(always)]
-    fn gate(&mut self, venue: VenueId, may: bool) -> bool
-        requires { IsRowRanked self.old }
-        ensures symbol { self.new.symbol ≡ self.old.symbol }
-        ensures bids { self.new.bids ≡ side_gated Bid venue may self.old.bids }
-        ensures offers { self.new.offers ≡ side_gated Offer venue may self.old.offers }
-        ensures halted { self.new.halted ≡ self.old.halted }
+    fn gate(&mut self, venues: &Venues, venue: VenueId) -> bool
+        requires bids { IsSideBut Bid (may_at venues.now.helped self.old.halted)
+            venues.now.count venue self.old.bids }
+        requires offers { IsSideBut Offer (may_at venues.now.helped self.old.halted)
+            venues.now.count venue self.old.offers }
+        ensures row { self.new ≡ row_helped venues.now.helped self.old }
         ensures changed { result
             ≡ not (is_same_national (national_at self.old) (national_at self.new)) }
     {
-        let bid = self.bids.gate(Side::Bid, venue, may);
-        let offer = self.offers.gate(Side::Offer, venue, may);
+        let bid = self.bids.gate(Side::Bid, venue, venues, &self.halted);
+        let offer = self.offers.gate(Side::Offer, venue, venues, &self.halted);
         bid || offer
     }
 
-    fn halt(&mut self, helped: &[bool; 16], venue: VenueId, halted: bool) -> bool
-        requires { IsRowRanked self.old }
-        ensures row { self.new ≡ row_halted helped.now venue halted self.old }
+    fn halt(&mut self, venues: &Venues, venue: VenueId, halted: bool) -> bool
+        requires { IsRowBut venues.now.helped venues.now.count venue self.old }
+        ensures row { self.new ≡ row_halted venues.now.helped venue halted self.old }
         ensures changed { result
             ≡ not (is_same_national (national_at self.old) (national_at self.new)) }
     {
         self.halted[venue.index()] = halted;
-        self.gate(venue, !helped[venue.index()] && !halted)
+        self.gate(venues, venue)
     }
 
     #[inline(always)]
-    fn take_item(&mut self, helped: &[bool; 16], venue: VenueId, item: &Item, age: u64) -> bool
-        requires { IsRowRanked self.old }
-        ensures row { self.new ≡ row_after_item helped.now age venue item.now self.old }
+    fn take_item(&mut self, venues: &Venues, venue: VenueId, item: &Item, age: u64) -> bool
+        requires kept { IsRow venues.now.helped venues.now.count age self.old }
+        requires venue { venue < venues.now.count }
+        ensures row { self.new ≡ row_after_item venues.now.helped age venue item.now self.old }
         ensures changed { result
             ≡ not (is_same_national (national_at self.old) (national_at self.new)) }
     {
         match item {
             Item::Quote(quote) => {
-                self.is_of(quote.symbol) && self.quote(helped, venue, quote, age)
+                self.is_of(quote.symbol) && self.quote(venues, venue, quote, age)
             }
             Item::Halt { symbol, halted } => {
-                self.is_of(*symbol) && self.halt(helped, venue, *halted)
+                self.is_of(*symbol) && self.halt(venues, venue, *halted)
             }
             Item::Other => false,
-            Item::End => self.end(venue, age),
+            Item::End => self.end(venues, venue, age),
         }
     }
 
-    /// Takes one more entry, of this age; `helped` are the venues that self-help stands on after
-    /// it. Whether the national best is another one then.
+    /// Takes one more entry, of this age; the flags of self-help are those after it. Whether the
+    /// national best is another one then.
     #[inline(always)]
-    pub fn take_entry(&mut self, helped: &[bool; 16], entry: &Entry, age: u64) -> bool
-        requires { IsRowRanked self.old }
-        ensures row { self.new ≡ row_after helped.now age entry.now self.old }
+    pub fn take_entry(&mut self, venues: &Venues, entry: &Entry, age: u64) -> bool
+        requires { IsBefore entry.now venues.now.helped venues.now.count age self.old }
+        ensures row { self.new ≡ row_after venues.now.helped age entry.now self.old }
         ensures changed { result
             ≡ not (is_same_national (national_at self.old) (national_at self.new)) }
     {
         match entry {
             Entry::Consumed { venue, numbered } => {
-                self.take_item(helped, *venue, &numbered.item, age)
+                self.take_item(venues, *venue, &numbered.item, age)
             }
-            Entry::SelfHelp { venue, on } => {
-                let may = !*on && !self.halted[venue.index()];
-                self.gate(*venue, may)
-            }
+            Entry::SelfHelp { venue, on: _ } => self.gate(venues, *venue),
         }
     }
 
-    /// The ranks of a side, best first.
-    pub fn ranks(&self, side: Side) -> &[Best]
-        ensures { result.now ≡ ranks_at side self.now }
+    /// A side of the symbol.
+    pub fn side(&self, side: Side) -> &BookSide
+        ensures { result.now ≡ side_at side self.now }
     {
         match side {
-            Side::Bid => self.bids.ranks.as_slice(),
-            Side::Offer => self.offers.ranks.as_slice(),
+            Side::Bid => &self.bids,
+            Side::Offer => &self.offers,
         }
     }
 
@@ -139,8 +143,8 @@ impl Row {
         ensures { result ≡ national_at self.now }
     {
         National {
-            bid: self.bids.best(),
-            offer: self.offers.best(),
+            bid: self.bids.best,
+            offer: self.offers.best,
         }
     }
 }

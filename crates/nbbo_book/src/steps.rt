@@ -4,13 +4,14 @@ ghost use Rattle.std.specs.Prelude.{◌≡◌, ◌++◌, ◌∷◌, [], ◌+◌,
 ghost use Rattle.std.specs.List.{AllByRecursion, filter_map};
 ghost use Rattle.std.specs.Vec.{vec_len, vec_capacity};
 ghost use Rattle.std.specs.Option.{option_to_list};
-ghost use Rattle.nbbo_book.specs.Rows.{IsRowRanked, row_after, row_change, helped_after as flags_after};
-ghost use Rattle.nbbo_book.specs.Tables.{IsTable, symbols_of};
+ghost use Rattle.nbbo_book.specs.Rows.{row_after, row_change};
+ghost use Rattle.nbbo_book.specs.Tables.{IsBefore, IsTable, symbols_of};
 
 use crate::change::Change;
 use crate::row::Row;
 use crate::scope::{Scope, scope_of};
 use crate::table::{Table, find};
+use crate::venues::Venues;
 use feed_types::{Best, Entry, National, SymbolName};
 
 /// Where one more entry stands: its place in the order of all, and its position.
@@ -39,61 +40,57 @@ fn append(out: &mut Vec<Change>, position: u64, symbol: SymbolName, national: Na
 }
 
 #[inline(always)]
-fn step_row(row: &mut Row, helped: &[bool; 16], entry: &Entry, step: Step, out: &mut Vec<Change>)
-    requires ranked { IsRowRanked row.old }
+fn step_row(row: &mut Row, venues: &Venues, entry: &Entry, step: Step, out: &mut Vec<Change>)
+    requires before { IsBefore entry.now venues.now.helped venues.now.count step.age row.old }
     requires room { vec_len out.old < vec_capacity out.old }
-    ensures row { row.new ≡ row_after helped.now step.age entry.now row.old }
+    ensures row { row.new ≡ row_after venues.now.helped step.age entry.now row.old }
     ensures items { out.new.items
         ≡ out.old.items ++ option_to_list (row_change
-        helped.now step.age step.position entry.now row.old) }
+        venues.now.helped step.age step.position entry.now row.old) }
     ensures len { vec_len out.new ≤ vec_len out.old + 1 }
     ensures capacity { vec_capacity out.new ≡ vec_capacity out.old }
 {
-    if row.take_entry(helped, entry, step.age) {
+    if row.take_entry(venues, entry, step.age) {
         append(out, step.position, row.symbol, row.national());
     }
 }
 
 #[inline(never)]
-fn step_rows(
-    rows: &mut [Row],
-    helped: &[bool; 16],
-    entry: &Entry,
-    step: Step,
-    out: &mut Vec<Change>,
-)
-    requires ranked { AllByRecursion IsRowRanked rows.old }
+fn step_rows(rows: &mut [Row], venues: &Venues, entry: &Entry, step: Step, out: &mut Vec<Change>)
+    requires before { AllByRecursion
+        (IsBefore entry.now venues.now.helped venues.now.count step.age) rows.old }
     requires room { vec_len out.old + length rows.old ≤ vec_capacity out.old }
-    ensures rows { rows.new ≡ map (row_after helped.now step.age entry.now) rows.old }
+    ensures rows { rows.new ≡ map (row_after venues.now.helped step.age entry.now) rows.old }
     ensures items { out.new.items
         ≡ out.old.items ++ filter_map (row_change
-        helped.now step.age step.position entry.now) rows.old }
+        venues.now.helped step.age step.position entry.now) rows.old }
     ensures len { vec_len out.new ≤ vec_len out.old + length rows.old }
     ensures capacity { vec_capacity out.new ≡ vec_capacity out.old }
 {
     for i in 0..rows.len() {
-        step_row(&mut rows[i], helped, entry, step, out);
+        step_row(&mut rows[i], venues, entry, step, out);
     }
 }
 
-/// Applies the entry to the symbols that it concerns, and appends their changes in order; `helped`
-/// are the venues that self-help stands on after it.
+/// Applies the entry to the symbols that it concerns, and appends their changes in order; the
+/// flags of self-help are those after it.
 #[inline(always)]
 pub fn apply_step(
     table: &Table,
     rows: &mut [Row],
-    helped: &[bool; 16],
+    venues: &Venues,
     entry: &Entry,
     step: Step,
     out: &mut Vec<Change>,
 )
     requires table { IsTable (symbols_of rows.old) table.now.keys }
-    requires ranked { AllByRecursion IsRowRanked rows.old }
+    requires before { AllByRecursion
+        (IsBefore entry.now venues.now.helped venues.now.count step.age) rows.old }
     requires room { vec_len out.old + length rows.old ≤ vec_capacity out.old }
-    ensures rows { rows.new ≡ map (row_after helped.now step.age entry.now) rows.old }
+    ensures rows { rows.new ≡ map (row_after venues.now.helped step.age entry.now) rows.old }
     ensures items { out.new.items
         ≡ out.old.items ++ filter_map (row_change
-        helped.now step.age step.position entry.now) rows.old }
+        venues.now.helped step.age step.position entry.now) rows.old }
     ensures len { vec_len out.new ≤ vec_len out.old + length rows.old }
     ensures capacity { vec_capacity out.new ≡ vec_capacity out.old }
 {
@@ -101,25 +98,9 @@ pub fn apply_step(
         Scope::Nothing => {}
         Scope::One(symbol) => {
             if let Some(i) = find(table, symbol) {
-                step_row(&mut rows[i], helped, entry, step, out);
+                step_row(&mut rows[i], venues, entry, step, out);
             }
         }
-        Scope::All => step_rows(rows, helped, entry, step, out),
-    }
-}
-
-/// Notes which venues self-help stands on after one more entry.
-#[inline(always)]
-pub fn take_self_help(helped: &mut [bool; 16], entry: &Entry)
-    ensures { helped.new ≡ flags_after entry.now helped.old }
-{
-    match entry {
-        Entry::Consumed {
-            venue: _,
-            numbered: _,
-        } => {}
-        Entry::SelfHelp { venue, on } => {
-            helped[venue.index()] = *on;
-        }
+        Scope::All => step_rows(rows, venues, entry, step, out),
     }
 }

@@ -1,6 +1,5 @@
-use Rattle.std.proofs.Common.{ℕ, List, ◌≡◌, ◌∙◌, ap, sym, subst, refl, true, false, Some, None}
-use Rattle.std.specs.Prelude.{position, is_some}
-use Rattle.std.specs.Str.{bytes_eq}
+use Rattle.std.proofs.Common.{◌≡◌, ◌∙◌, ap, sym, subst, refl, true, false, Some, None}
+use Rattle.std.specs.Prelude.{is_some}
 use Rattle.nbbo_book.specs.Books.{BookState, Fits, is_configured}
 use Rattle.nbbo_book.specs.Rows.{national_at}
 use Rattle.nbbo_book.specs.Tables.{symbols_of}
@@ -27,7 +26,7 @@ returns-clause-configured c =
 pub returns-clause-value : goal.returns-clause-value
 returns-clause-value c = λ entries fits.
     let was : c.find.result ≡ Some c.in_ok-place.place = c.in_ok-place.was in
-    let b : BookState = record { symbols = symbols_of c.self.inside.rows.items; venues = c.self.inside.venues; last = c.self.inside.last; applied = c.self.inside.applied; helped = c.self.inside.helped; rows = c.self.inside.rows.items } in
+    let b : BookState = record { symbols = symbols_of c.self.inside.rows.items; venues = c.self.inside.venues.count; last = c.self.inside.last; applied = c.self.inside.applied; helped = c.self.inside.venues.helped; rows = c.self.inside.rows.items } in
     let here : Fits b entries = subst (λ (t : BookState). Fits t entries) (sym c.self.view_is) fits in
     c.national.ensures ∙ ap national_at c.index.ensures
     ∙ national_found c.self.inside.table.keys b entries c.args.symbol.now c.in_ok-place.place c.index.result.now c.self.invariant here (sym (c.find.ensures (symbols_of c.self.inside.rows.items) c.self.invariant.table) ∙ was)

@@ -1,4 +1,4 @@
-use Rattle.std.proofs.Common.{ℕ, ◌≤◌, ◌∙◌, ap, arith}
+use Rattle.std.proofs.Common.{◌≤◌, ◌∙◌, ap, arith}
 use Rattle.nbbo_book.specs.Tables.{symbols_of}
 use Rattle.nbbo_book.proofs.Whole.{empty_is, empty_fits, empty_symbols}
 use Rattle.nbbo_book.proofs.book.Book.new.Goals as goal

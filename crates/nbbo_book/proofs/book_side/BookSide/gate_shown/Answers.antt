@@ -1,5 +1,6 @@
-use Rattle.nbbo_book.proofs.Kept.{others_in_order}
+use Rattle.nbbo_book.specs.Rows.{may_at}
+use Rattle.nbbo_book.proofs.Kept.{stale_gated}
 use Rattle.nbbo_book.proofs.book_side.BookSide.gate_shown.Goals as goal
 
-pub rerank-requires-clause-order : goal.rerank-requires-clause-order
-rerank-requires-clause-order c = others_in_order c.args.side c.args.self.now c.args.venue c.requires
+pub renew-requires : goal.renew-requires
+renew-requires c = stale_gated c.args.side (may_at c.args.venues.now.helped c.args.halted.now) c.args.venues.now.count c.args.venue c.args.self.now c.requires

@@ -1,4 +1,4 @@
-use Rattle.std.proofs.Common.{ℕ, List, ◌∙◌, ap, sym, nat_eq}
+use Rattle.std.proofs.Common.{ℕ, ◌∙◌, ap, sym, nat_eq}
 use Rattle.std.specs.Int.{w64, to_be_bytes}
 use Rattle.feed_types.specs.Symbols.{word_of}
 use Rattle.nbbo_book.specs.Tables.{HasWord}

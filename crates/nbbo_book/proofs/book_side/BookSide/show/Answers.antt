@@ -1,0 +1,29 @@
+use Rattle.std.proofs.Common.{ℕ, ◌∙◌, ap, sym, subst, Bool, set, not}
+use Rattle.nbbo_book.specs.Books.{standing_at}
+use Rattle.nbbo_book.specs.Sides.{is_same_side}
+use Rattle.nbbo_book.specs.Rows.{may_at, side_with}
+use Rattle.nbbo_book.specs.Tables.{IsStale}
+use Rattle.nbbo_book.proofs.Stepping.{same_best_refl}
+use Rattle.nbbo_book.proofs.Kept.{but_itself, stale_set, standings_shown-are, shown_new}
+use Rattle.nbbo_book.proofs.book_side.BookSide.show.Goals as goal
+
+pub returns-then-is_same-clause-moved : goal.returns-then-is_same-clause-moved
+returns-then-is_same-clause-moved c = sym (ap not (same_best_refl c.args.self.now.best))
+
+pub renew-requires : goal.renew-requires
+renew-requires c =
+    let may : ℕ → Bool = may_at c.args.venues.now.helped c.args.halted.now in
+    let k = c.args.self.now in
+    subst (λ (n : ℕ). IsStale c.args.side may c.args.venues.now.count c.args.venue (record { best = k.best; standings = set k.standings n c.args.standing })) (sym c.index-2.ensures.value)
+    (stale_set c.args.side may c.args.venues.now.count c.args.venue k c.args.standing
+    (but_itself c.args.side may c.args.venues.now.count c.args.standing.age c.args.venue k c.requires.venue c.requires.kept)
+    (standings_shown-are c.args.venues.now.count c.args.standing.age k.standings c.args.venue c.args.standing.shown c.requires.venue c.requires.kept.past c.requires.kept.standings))
+
+pub returns-clause-side : goal.returns-clause-side
+returns-clause-side c =
+    let may : ℕ → Bool = may_at c.args.venues.now.helped c.args.halted.now in
+    let ss = c.args.self.now.standings in
+    c.renew.ensures.side
+    ∙ ap (λ (n : ℕ). side_with c.args.side may (set ss n c.args.standing)) c.index-2.ensures.value
+    ∙ shown_new c.args.side may c.args.standing.age c.args.venue c.args.standing.shown ss
+    (ap (λ (n : ℕ). is_same_side (standing_at ss n).shown c.args.standing.shown) (sym c.index.ensures.value) ∙ sym c.is_same.ensures ∙ c.if-is_same.false)

@@ -1,0 +1,18 @@
+use Rattle.std.proofs.Common.{List, ◌++◌, ◌∙◌, ap, sym}
+use Rattle.nbbo_book.specs.declared.change.Change.{Change}
+use Rattle.nbbo_book.proofs.Stepping.{alone, change_told, change_untold}
+use Rattle.nbbo_book.proofs.steps.step_row.Goals as goal
+
+pub returns-then-take_entry-clause-items : goal.returns-then-take_entry-clause-items
+returns-then-take_entry-clause-items c =
+    c.append.ensures.items
+    ∙ ap (λ (t : List Change). c.args.out.now.items ++ t)
+    (change_told c.args.venues.now.helped c.args.step.age c.args.step.position c.args.entry.now c.args.row.now c.take_entry.new.self c.take_entry.result c.national.result
+    c.take_entry.ensures.row c.take_entry.ensures.changed c.if-take_entry.true c.national.ensures)
+
+pub returns-else-take_entry-clause-items : goal.returns-else-take_entry-clause-items
+returns-else-take_entry-clause-items c =
+    sym (alone c.args.out.now.items)
+    ∙ ap (λ (t : List Change). c.args.out.now.items ++ t)
+    (change_untold c.args.venues.now.helped c.args.step.age c.args.step.position c.args.entry.now c.args.row.now c.take_entry.new.self c.take_entry.result
+    c.take_entry.ensures.row c.take_entry.ensures.changed c.if-take_entry.false)

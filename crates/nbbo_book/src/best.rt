@@ -1,0 +1,141 @@
+//! Which of the venues' sides is the best.
+
+ghost use Rattle.std.specs.Prelude.{◌≡◌, not};
+ghost use Rattle.nbbo_book.specs.Nationals.{beats};
+ghost use Rattle.nbbo_book.specs.Changes.{is_same_best};
+ghost use Rattle.nbbo_book.specs.Ranks.{better_of as first_of_two, is_better as is_better_side};
+ghost use Rattle.nbbo_book.specs.Rows.{age_at, may_at, rank_at as rank_at_venue, best_at};
+ghost use Rattle.nbbo_book.specs.Tables.{IsStandings, IsStale};
+
+use crate::shown::{Standing, rank_of};
+use crate::venues::Venues;
+use feed_types::{Best, Side, VenueId};
+
+/// Whether x ranks before y. Ages are read on ties alone.
+#[inline(always)]
+pub fn is_ahead(side: Side, standings: &[Standing; 16], x: &Best, y: &Best) -> bool
+    ensures { result ≡ beats side (age_at standings.now) x.now y.now }
+{
+    if x.price != y.price {
+        return match side {
+            Side::Bid => x.price > y.price,
+            Side::Offer => x.price < y.price,
+        };
+    }
+    x.size > y.size
+        || x.size == y.size && standings[x.venue.index()].age < standings[y.venue.index()].age
+}
+
+/// Whether x is ahead of y by its price or its size.
+#[inline(always)]
+pub fn is_better(side: Side, x: &Best, y: &Best) -> bool
+    ensures { result ≡ is_better_side side x.now y.now }
+{
+    if x.price != y.price {
+        return match side {
+            Side::Bid => x.price > y.price,
+            Side::Offer => x.price < y.price,
+        };
+    }
+    x.size > y.size
+}
+
+/// The best so far, or x where that ranks before it.
+#[inline(always)]
+pub fn better_of(
+    side: Side,
+    standings: &[Standing; 16],
+    best: Option<Best>,
+    x: Option<Best>,
+) -> Option<Best>
+    ensures { result ≡ first_of_two side (age_at standings.now) best x }
+{
+    match (best, x) {
+        (Some(first), Some(second)) => {
+            if is_ahead(side, standings, &second, &first) {
+                x
+            } else {
+                best
+            }
+        }
+        (Some(_), None) => best,
+        (None, _) => x,
+    }
+}
+
+/// What the venue is ranked with in a symbol that these venues halt.
+#[inline(always)]
+pub fn rank_at(
+    standings: &[Standing; 16],
+    venues: &Venues,
+    halted: &[bool; 16],
+    venue: VenueId,
+) -> Option<Best>
+    ensures { result
+        ≡ rank_at_venue (may_at venues.now.helped halted.now) standings.now venue }
+{
+    rank_of(
+        venues.may_rank(halted, venue),
+        venue,
+        standings[venue.index()].shown,
+    )
+}
+
+/// Looks through all venues for the best.
+#[inline(never)]
+pub fn best_of(
+    side: Side,
+    standings: &[Standing; 16],
+    venues: &Venues,
+    halted: &[bool; 16],
+) -> Option<Best>
+    requires { IsStandings venues.now.count standings.now }
+    ensures { result ≡ best_at side (may_at venues.now.helped halted.now) standings.now }
+{
+    let mut best = None;
+    for place in 0..venues.count {
+        if let Some(venue) = VenueId::from_index(place) {
+            let x = rank_at(standings, venues, halted, venue);
+            best = better_of(side, standings, best, x);
+        }
+    }
+    best
+}
+
+/// The best, where only this venue's standing, or its leave to be ranked, is another one than when
+/// `before` was the best. All venues are looked through only where that was the venue's own and it
+/// has none now that is ahead by its price or its size.
+#[inline(always)]
+pub fn next_best(
+    side: Side,
+    standings: &[Standing; 16],
+    before: Option<Best>,
+    venue: VenueId,
+    venues: &Venues,
+    halted: &[bool; 16],
+) -> Option<Best>
+    requires { IsStale side (may_at venues.now.helped halted.now) venues.now.count venue
+        (record { best = before; standings = standings.now }) }
+    ensures { result ≡ best_at side (may_at venues.now.helped halted.now) standings.now }
+{
+    let x = rank_at(standings, venues, halted, venue);
+    match before {
+        Some(best) if best.venue == venue => match x {
+            Some(own) if is_better(side, &own, &best) => Some(own),
+            _ => best_of(side, standings, venues, halted),
+        },
+        _ => better_of(side, standings, before, x),
+    }
+}
+
+/// Whether the best side is another one.
+#[inline(always)]
+pub fn differs(x: &Option<Best>, y: &Option<Best>) -> bool
+    ensures { result ≡ not (is_same_best x.now y.now) }
+{
+    match (x, y) {
+        (None, None) => false,
+        (Some(x), Some(y)) => x.venue != y.venue || x.price != y.price || x.size != y.size,
+        (Some(_), None) | (None, Some(_)) => true,
+    }
+}

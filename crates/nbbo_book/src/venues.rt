@@ -1,0 +1,40 @@
+//! The venues of a book.
+
+ghost use Rattle.std.specs.Prelude.{◌≡◌};
+ghost use Rattle.nbbo_book.specs.Rows.{may_at, helped_after as flags_after};
+
+use feed_types::{Entry, VenueId};
+
+/// The venues of a book: how many there are, and on which of them self-help stands.
+#[derive(Clone, Copy)]
+pub struct Venues {
+    pub count: usize,
+    pub helped: [bool; 16],
+}
+
+impl Venues {
+    /// Whether the venue may be ranked in a symbol that these venues halt.
+    #[inline(always)]
+    pub fn may_rank(&self, halted: &[bool; 16], venue: VenueId) -> bool
+        ensures { result ≡ may_at self.now.helped halted.now venue }
+    {
+        !self.helped[venue.index()] && !halted[venue.index()]
+    }
+
+    /// Notes which venues self-help stands on after one more entry.
+    #[inline(always)]
+    pub fn take_self_help(&mut self, entry: &Entry)
+        ensures helped { self.new.helped ≡ flags_after entry.now self.old.helped }
+        ensures count { self.new.count ≡ self.old.count }
+    {
+        match entry {
+            Entry::Consumed {
+                venue: _,
+                numbered: _,
+            } => {}
+            Entry::SelfHelp { venue, on } => {
+                self.helped[venue.index()] = *on;
+            }
+        }
+    }
+}
