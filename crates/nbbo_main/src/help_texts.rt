@@ -191,6 +191,10 @@ it receives:
 With bind it takes its own group alone, where others use the same port; with -b it cuts no
 datagram.
 
+A line's socket has the system's default buffer, often with room for some 250 small datagrams;
+more are dropped while its thread waits for a processor. For more room, as root, beforehand:
+  sysctl -w net.core.rmem_default=4194304
+
 A first interrupt from the keyboard ends the program at once, and nothing is printed: what
 was taken is not kept. To have it printed, send each line an end of session.
 
