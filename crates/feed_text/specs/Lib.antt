@@ -11,3 +11,4 @@ pub mod Following
 pub mod Replays
 pub mod Placing
 pub mod Pages
+pub mod Keeping
