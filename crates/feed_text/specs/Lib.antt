@@ -11,4 +11,3 @@ pub mod Following
 pub mod Replays
 pub mod Placing
 pub mod Pages
-pub mod Keeping

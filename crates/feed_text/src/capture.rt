@@ -1,5 +1,5 @@
 //! The records of a capture.
-ghost use Rattle.std.specs.Prelude.{◌≡◌, ◌≢◌, ℕ, ◌<◌, ◌≤◌, ◌++◌, ◌+◌, List, MatchOption, length, drop, take};
+ghost use Rattle.std.specs.Prelude.{◌≡◌, ℕ, ◌<◌, ◌≤◌, ◌++◌, ◌+◌, List, MatchOption, length, drop, take};
 ghost use Rattle.std.specs.Option.{SomeIff};
 ghost use Rattle.feed_text.specs.Capture.{IsKind, StandsAtFront, record_of, spelling};
 ghost use Rattle.feed_text.specs.Kind.{IsKindOf};
@@ -50,27 +50,13 @@ enum Kind {
     SelfHelp(bool),
 }
 
-/// The kind of a byte and a length, where there is one. Most records are of the two lines, which
-/// two comparisons tell.
-#[inline(always)]
+/// The kind of a byte and a length, where there is one.
 fn kind_from(byte: u8, len: usize) -> Option<Kind>
     ensures { MatchOption result (IsKind byte len → ⊥) (IsKindOf byte len) }
 {
     match byte {
         b'A' => Some(Kind::Line(LineId::A)),
         b'B' => Some(Kind::Line(LineId::B)),
-        _ => seldom_kind(byte, len),
-    }
-}
-
-/// A kind that few records have.
-#[inline(never)]
-fn seldom_kind(byte: u8, len: usize) -> Option<Kind>
-    requires no_a { byte ≢ 65 }
-    requires no_b { byte ≢ 66 }
-    ensures { MatchOption result (IsKind byte len → ⊥) (IsKindOf byte len) }
-{
-    match byte {
         b'R' => Some(Kind::Line(LineId::Recovery)),
         b'N' if len == 10 => Some(Kind::Renewal),
         b'H' if len == 0 => Some(Kind::SelfHelp(true)),

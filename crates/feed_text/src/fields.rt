@@ -56,7 +56,7 @@ pub(crate) fn place_word(room: &mut [u8], at: usize, word: [u8; 8], len: usize) 
 /// Two digits, of which the first may be 0.
 #[inline(always)]
 #[tactic(auto, using(crate::proofs::Digits::pairs_at))]
-pub(crate) fn place_pair(room: &mut [u8], at: usize, number: u32) -> usize
+fn place_pair(room: &mut [u8], at: usize, number: u32) -> usize
     requires small { number < 100 }
     requires fits { at + 2 ≤ length room.old }
     ensures { let pair = (48 + number / 10) ∷ (48 + number % 10) ∷ [] in
@@ -97,7 +97,7 @@ fn place_four(room: &mut [u8], at: usize, number: u32) -> usize
 
 /// A number of one to eight digits.
 #[inline(always)]
-pub(crate) fn place_eight(room: &mut [u8], at: usize, number: u32) -> usize
+fn place_eight(room: &mut [u8], at: usize, number: u32) -> usize
     requires small { number < 100000000 }
     requires fits { at + 8 ≤ length room.old }
     ensures placed { Placed room.old room.new at (decimal number) result }

@@ -29,7 +29,6 @@ pub mod devices;
 pub mod failures;
 pub mod fault;
 mod fields;
-mod hundreds;
 mod input;
 pub mod laws;
 pub mod lines;

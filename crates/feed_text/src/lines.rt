@@ -90,31 +90,9 @@ fn place_outcome(room: &mut [u8], at: usize, outcome: &Result<Outcome, LineFault
     }
 }
 
-/// The line of a datagram whose packet was taken.
+/// The line of a datagram whose packet was answered.
 #[inline(always)]
-fn put_taken(
-    text: &mut Page,
-    venue: VenueId,
-    line: LineId,
-    new: u16,
-    repeated: u16,
-) -> Result<(), AllocError>
-    ensures line { let answer = Ok (Outcome.Taken new repeated) in
-        OnOk result (text.new.items ≡ text.old.items ++ packet_line venue line answer) }
-    ensures part { OnErr result (text.new.items ≡ text.old.items) }
-{
-    text.make_room(LINE)?;
-    let at = text.end;
-    let room = text.bytes.as_mut_slice();
-    let at = place_packet_head(room, at, venue, line);
-    let at = place_taken(room, at, new, repeated);
-    text.end = at;
-    Ok(())
-}
-
-/// The line of a datagram whose packet was answered in any way.
-#[inline(never)]
-fn put_answered(
+pub(crate) fn put_packet(
     text: &mut Page,
     venue: VenueId,
     line: LineId,
@@ -131,24 +109,6 @@ fn put_answered(
     let at = place_outcome(room, at, outcome);
     text.end = at;
     Ok(())
-}
-
-/// The line of a datagram whose packet was answered. Most packets are taken.
-#[inline(always)]
-pub(crate) fn put_packet(
-    text: &mut Page,
-    venue: VenueId,
-    line: LineId,
-    outcome: &Result<Outcome, LineFault>,
-) -> Result<(), AllocError>
-    ensures line { OnOk result
-        (text.new.items ≡ text.old.items ++ packet_line venue line outcome.now) }
-    ensures part { OnErr result (text.new.items ≡ text.old.items) }
-{
-    match *outcome {
-        Ok(Outcome::Taken { new, repeated }) => put_taken(text, venue, line, new, repeated),
-        _ => put_answered(text, venue, line, outcome),
-    }
 }
 
 /// The line of a datagram that is no packet.
@@ -193,11 +153,10 @@ pub(crate) fn put_item(text: &mut Page, venue: VenueId, item: &Numbered) -> Resu
 {
     text.make_room(LINE)?;
     let at = text.end;
-    let hundreds = &mut text.of_items[venue.index()];
     let room = text.bytes.as_mut_slice();
     let at = place(room, at, *b"item");
     let at = place_venue(room, at, venue);
-    let at = hundreds.place_field(room, at, item.number);
+    let at = place_field(room, at, item.number);
     let at = place_item_word(room, at, &item.item);
     text.end = at;
     Ok(())
@@ -255,8 +214,8 @@ pub fn put_best(text: &mut Page, notice: &Notice) -> Result<(), AllocError>
     let at = text.end;
     let room = text.bytes.as_mut_slice();
     let at = place(room, at, *b"best");
-    let at = text.of_notices.place_field(room, at, notice.number);
-    let at = text.of_positions.place_field(room, at, notice.position);
+    let at = place_field(room, at, notice.number);
+    let at = place_field(room, at, notice.position);
     let at = place(room, at, *b" ");
     let at = place_name(room, at, notice.symbol);
     let at = place_side(room, at, &notice.national.bid);

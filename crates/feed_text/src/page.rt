@@ -1,7 +1,6 @@
 //! Text that waits to be written, and room for a line behind it.
 ghost use Rattle.std.specs.Prelude.{◌≡◌, ◌≤◌, [], length, take, OnOk};
 
-use crate::hundreds::Hundreds;
 use std::alloc::{AllocError, Global};
 use std::marker::Model;
 
@@ -16,11 +15,6 @@ pub struct Page {
     pub(crate) bytes: Vec<u8>,
     /// Where the text ends.
     pub(crate) end: usize,
-    /// For each venue the digits that its next item's number may share with the last one.
-    pub(crate) of_items: [Hundreds; 16],
-    /// Likewise of the notices' numbers, and of their positions.
-    pub(crate) of_notices: Hundreds,
-    pub(crate) of_positions: Hundreds,
 }
 
 impl Model for Page {
@@ -47,9 +41,6 @@ impl Page {
         Page {
             bytes: Vec::new(alloc),
             end: 0,
-            of_items: [Hundreds::new(); 16],
-            of_notices: Hundreds::new(),
-            of_positions: Hundreds::new(),
         }
     }
 

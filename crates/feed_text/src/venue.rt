@@ -77,17 +77,6 @@ fn take_ready(
     }
 }
 
-/// The item of this number. Apart, so that it is written once, where it is read from.
-#[inline(never)]
-fn read_numbered(number: u64, message: &[u8]) -> Numbered
-    ensures { result ≡ record { number = number; item = item_of message.now } }
-{
-    Numbered {
-        number,
-        item: read_item(message),
-    }
-}
-
 /// Takes the items that a packet's messages are.
 #[inline(always)]
 fn take_messages(venue: VenueId, packet: &Packet<'_>, report: &mut Report) -> Result<(), Stop>
@@ -101,7 +90,10 @@ fn take_messages(venue: VenueId, packet: &Packet<'_>, report: &mut Report) -> Re
     let mut messages = packet.messages();
     let mut place: u64 = 0;
     while let Some(message) = messages.next() {
-        let item = read_numbered(first + place, message);
+        let item = Numbered {
+            number: first + place,
+            item: read_item(message),
+        };
         report.take_item(venue, &item)?;
         place += 1;
     }

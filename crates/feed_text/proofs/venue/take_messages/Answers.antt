@@ -1,6 +1,6 @@
 use Rattle.std.proofs.Common.{◌≡◌, ◌+◌, List, length, ap, refl, subst, ◌∙◌, arith}
 use Rattle.std.specs.Prelude.{ℕ, ◌∷◌, [], map, Err}
-use Rattle.feed_types.specs.declared.item.Numbered.{Numbered}
+use Rattle.feed_types.specs.declared.item.Item.{Item}
 use Rattle.std.proofs.lemmas.Result.{err_from_is_err_and}
 use Rattle.feed_types.specs.Sessions.{numbered_from}
 use Rattle.quote_payload.specs.Payload.{item_of}
@@ -23,8 +23,8 @@ loop-message-init c =
       told = rw (e, c.messages-messages.ensures.value) (took_none _ (tale_of c.args.report.now));
     }
 
-pub overflow_add-first : goal.overflow_add-first
-overflow_add-first c = let s = ap length c.in-Some.ensures.steps in let r = c.loop-message.invariant.room in omega arith
+pub overflow_add-item : goal.overflow_add-item
+overflow_add-item c = let s = ap length c.in-Some.ensures.steps in let r = c.loop-message.invariant.room in omega arith
 
 pub overflow_add-place : goal.overflow_add-place
 overflow_add-place c = let s = ap length c.in-Some.ensures.steps in let r = c.loop-message.invariant.room in omega arith
@@ -34,7 +34,7 @@ loop-message-preserved c =
     let s = ap length c.in-Some.ensures.steps in
     let r = c.loop-message.invariant.room in
     let n = c.loop-message.invariant.count in
-    let one = rw c.read_numbered-item.ensures at c.in_ok-take_item.ensures in
+    let one = rw c.read_item.ensures.value at c.in_ok-take_item.ensures in
     record {
       room = omega arith;
       count = omega arith;
@@ -54,4 +54,4 @@ returns-in_err-take_item c =
     rw (p.1, p.2)
     (took_stop (tale_of c.take_item.new.self) _ _ c.in_err-take_item.field-0.0
     (one_more c.args.venue (c.number-first.result + c.loop-message.place) (c.number-first.result + (c.loop-message.place + 1)) c.in-Some.message.now c.loop-message.messages c.next.new.self (omega arith) c.in-Some.ensures.steps)
-    c.loop-message.invariant.told (subst (λ (n : Numbered). TellsBy (tale_of c.loop-message.report) (item_taken c.args.venue n ∷ []) (tale_of c.take_item.new.self) (Err c.in_err-take_item.field-0.0)) c.read_numbered-item.ensures c.in_err-take_item.ensures))
+    c.loop-message.invariant.told (subst (λ (i : Item). TellsBy (tale_of c.loop-message.report) (item_taken c.args.venue (record { number = c.number-first.result + c.loop-message.place; item = i }) ∷ []) (tale_of c.take_item.new.self) (Err c.in_err-take_item.field-0.0)) c.read_item.ensures.value c.in_err-take_item.ensures))
