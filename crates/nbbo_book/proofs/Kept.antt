@@ -230,12 +230,6 @@ but_helped b helped was halted v n next k others below h = record {
   below = below;
 }
 
-pub row_itself : (helped : List Bool) (n next v : ℕ) (r : Row) → v < n → IsRow helped n next r → IsRowBut helped n v r
-row_itself helped n next v r below h = record { was = helped; others = λ w d. refl; next = next; kept = h; below = below }
-
-pub consumed_row : (v : ℕ) (x : Numbered) (helped : List Bool) (n next : ℕ) (r : Row) → IsBefore (Consumed v x) helped n next r → IsRow helped n next r
-consumed_row v x helped n next r h = subst (λ (t : List Bool). IsRow t n next r) (sym h.flags) h.kept
-
 pub helped_row : (v : ℕ) (on : Bool) (helped : List Bool) (n next : ℕ) (r : Row) → IsBefore (SelfHelp v on) helped n next r → IsRowBut helped n v r
 helped_row v on helped n next r h = record {
   was = h.was;
