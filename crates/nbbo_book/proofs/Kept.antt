@@ -17,7 +17,7 @@ use Rattle.nbbo_book.specs.Rows.{age_at, may_at, rank_at, best_at, standings_sho
 use Rattle.nbbo_book.specs.Tables.{IsStandings, IsSide, IsSideBut, IsStale, IsRow, IsRowBut, IsBefore}
 use Rattle.nbbo_book.proofs.Beating.{better_beats}
 use Rattle.nbbo_book.proofs.Ranking.{nat_apart, nat_split, some_same}
-use Rattle.nbbo_book.proofs.Firsts.{IsOwn, IsApart, IsTop, IsBelow, top_found, top_joined, top_is, top_same, best_same}
+use Rattle.nbbo_book.proofs.Firsts.{IsOwn, IsApart, IsTop, IsBelow, top_found, top_joined, top_more, top_whole, top_is, top_same, best_same}
 
 pub set_at : {X : Type 0} (xs : List X) (i : ℕ) (x d : X) → i < length xs → get_or (set xs i x) i d ≡ x
 set_at [] i x d h = absurd (omega (arith, h))
@@ -173,6 +173,17 @@ best_is_own b may n v k c x h was own here better =
           let off : nat_eq w v ≡ false = subst (λ (m : ℕ). nat_eq w m ≡ false) at d in
           better_beats b (age_at h.was.standings) f x c y better (t.2 w y q (stale_rank b may n v k h w off ∙ e) (subst (λ (m : ℕ). nat_eq w m ≡ false) (sym own) off)),
     ))
+
+-- of one venue alone
+pub best_alone : (b : Side) (may : ℕ → Bool) (ss : List Standing) (v : ℕ) → v < 1 → IsStandings 1 ss → rank_at may ss v ≡ best_at b may ss
+best_alone b may ss v below h =
+    let f = age_at ss in
+    let g = rank_at may ss in
+    let own : IsOwn g = rank_own may ss in
+    let first : v ≡ 0 = omega (arith, below) in
+    ap g first
+    ∙ sym (top_found b f g (g 0) own (top_whole 1 16 b f g (g 0) (omega arith) (rank_silent may 1 ss h)
+    (top_more 0 b f g None (omega arith) own (rank_apart may 1 ss h) (λ w p. absurd (omega (arith, p))))))
 
 -- a side before one venue's leave, or its standing, was another
 pub but_itself : (b : Side) (may : ℕ → Bool) (n next v : ℕ) (k : BookSide) → v < n → IsSide b may n next k → IsSideBut b may n v k
