@@ -1,8 +1,7 @@
 -- What a book keeps of a side, after a venue's standing was set or its leave to be ranked changed.
 use Rattle.std.proofs.Common.{ℕ, zero, suc, ◌<◌, ◌≤◌, ◌≡◌, ◌+◌, List, [], ◌∷◌, Bool, true, false, not, refl, ap, sym, ◌∙◌, subst, arith, length, cond, nat_eq, Option, Some, None, set, get_or}
 use Rattle.std.specs.Prelude.{◌&&◌, IsSome, IfSome, is_some}
-use Rattle.feed_types.specs.declared.journal.Entry.TheVariants.{Consumed, SelfHelp}
-use Rattle.feed_types.specs.declared.item.Numbered.{Numbered}
+use Rattle.feed_types.specs.declared.journal.Entry.TheVariants.{SelfHelp}
 use Rattle.feed_types.specs.declared.line.Side.{Side}
 use Rattle.feed_types.specs.declared.national.Best.{Best}
 use Rattle.nbbo_book.specs.declared.shown.Shown.{Shown}
@@ -14,7 +13,7 @@ use Rattle.nbbo_book.specs.Eligible.{ranked_by, is_protected}
 use Rattle.nbbo_book.specs.Books.{standing_at}
 use Rattle.nbbo_book.specs.Ranks.{better_of, is_better}
 use Rattle.nbbo_book.specs.Rows.{age_at, may_at, rank_at, best_at, standings_shown, side_with}
-use Rattle.nbbo_book.specs.Tables.{IsStandings, IsSide, IsSideBut, IsStale, IsRow, IsRowBut, IsBefore}
+use Rattle.nbbo_book.specs.Tables.{IsStandings, IsSide, IsSideBut, IsStale, IsRowBut, IsBefore}
 use Rattle.nbbo_book.proofs.Beating.{better_beats}
 use Rattle.nbbo_book.proofs.Ranking.{nat_apart, nat_split, some_same}
 use Rattle.nbbo_book.proofs.Firsts.{IsOwn, IsApart, IsTop, IsBelow, top_found, top_joined, top_more, top_whole, top_is, top_same, best_same}
