@@ -1,8 +1,7 @@
 -- What a book keeps of a side, after a venue's standing was set or its leave to be ranked changed.
 use Rattle.std.proofs.Common.{ℕ, zero, suc, ◌<◌, ◌≤◌, ◌≡◌, ◌+◌, List, [], ◌∷◌, Bool, true, false, not, refl, ap, sym, ◌∙◌, subst, arith, length, cond, nat_eq, Option, Some, None, set, get_or}
 use Rattle.std.specs.Prelude.{◌&&◌, IsSome, IfSome, is_some}
-use Rattle.feed_types.specs.declared.journal.Entry.TheVariants.{Consumed, SelfHelp}
-use Rattle.feed_types.specs.declared.item.Numbered.{Numbered}
+use Rattle.feed_types.specs.declared.journal.Entry.TheVariants.{SelfHelp}
 use Rattle.feed_types.specs.declared.line.Side.{Side}
 use Rattle.feed_types.specs.declared.national.Best.{Best}
 use Rattle.nbbo_book.specs.declared.shown.Shown.{Shown}
@@ -14,10 +13,10 @@ use Rattle.nbbo_book.specs.Eligible.{ranked_by, is_protected}
 use Rattle.nbbo_book.specs.Books.{standing_at}
 use Rattle.nbbo_book.specs.Ranks.{better_of, is_better}
 use Rattle.nbbo_book.specs.Rows.{age_at, may_at, rank_at, best_at, standings_shown, side_with}
-use Rattle.nbbo_book.specs.Tables.{IsStandings, IsSide, IsSideBut, IsStale, IsRow, IsRowBut, IsBefore}
+use Rattle.nbbo_book.specs.Tables.{IsStandings, IsSide, IsSideBut, IsStale, IsRowBut, IsBefore}
 use Rattle.nbbo_book.proofs.Beating.{better_beats}
 use Rattle.nbbo_book.proofs.Ranking.{nat_apart, nat_split, some_same}
-use Rattle.nbbo_book.proofs.Firsts.{IsOwn, IsApart, IsTop, IsBelow, top_found, top_joined, top_is, top_same, best_same}
+use Rattle.nbbo_book.proofs.Firsts.{IsOwn, IsApart, IsTop, IsBelow, top_found, top_joined, top_more, top_whole, top_is, top_same, best_same}
 
 pub set_at : {X : Type 0} (xs : List X) (i : ℕ) (x d : X) → i < length xs → get_or (set xs i x) i d ≡ x
 set_at [] i x d h = absurd (omega (arith, h))
@@ -174,6 +173,17 @@ best_is_own b may n v k c x h was own here better =
           better_beats b (age_at h.was.standings) f x c y better (t.2 w y q (stale_rank b may n v k h w off ∙ e) (subst (λ (m : ℕ). nat_eq w m ≡ false) (sym own) off)),
     ))
 
+-- of one venue alone
+pub best_alone : (b : Side) (may : ℕ → Bool) (ss : List Standing) (v : ℕ) → v < 1 → IsStandings 1 ss → rank_at may ss v ≡ best_at b may ss
+best_alone b may ss v below h =
+    let f = age_at ss in
+    let g = rank_at may ss in
+    let own : IsOwn g = rank_own may ss in
+    let first : v ≡ 0 = omega (arith, below) in
+    ap g first
+    ∙ sym (top_found b f g (g 0) own (top_whole 1 16 b f g (g 0) (omega arith) (rank_silent may 1 ss h)
+    (top_more 0 b f g None (omega arith) own (rank_apart may 1 ss h) (λ w p. absurd (omega (arith, p))))))
+
 -- a side before one venue's leave, or its standing, was another
 pub but_itself : (b : Side) (may : ℕ → Bool) (n next v : ℕ) (k : BookSide) → v < n → IsSide b may n next k → IsSideBut b may n v k
 but_itself b may n next v k below h = record { leave = may; others = λ w d. refl; standings = h.standings; best = h.best; below = below }
@@ -229,12 +239,6 @@ but_helped b helped was halted v n next k others below h = record {
   best = h.best;
   below = below;
 }
-
-pub row_itself : (helped : List Bool) (n next v : ℕ) (r : Row) → v < n → IsRow helped n next r → IsRowBut helped n v r
-row_itself helped n next v r below h = record { was = helped; others = λ w d. refl; next = next; kept = h; below = below }
-
-pub consumed_row : (v : ℕ) (x : Numbered) (helped : List Bool) (n next : ℕ) (r : Row) → IsBefore (Consumed v x) helped n next r → IsRow helped n next r
-consumed_row v x helped n next r h = subst (λ (t : List Bool). IsRow t n next r) (sym h.flags) h.kept
 
 pub helped_row : (v : ℕ) (on : Bool) (helped : List Bool) (n next : ℕ) (r : Row) → IsBefore (SelfHelp v on) helped n next r → IsRowBut helped n v r
 helped_row v on helped n next r h = record {

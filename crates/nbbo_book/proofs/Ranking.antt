@@ -65,10 +65,6 @@ InRank-with b f x (y ∷ ys) either h =
       )
     ]) refl
 
--- before the first venue there is none
-pub ranking_empty : (b : Side) (g : ℕ → Option Best) (f : ℕ → ℕ) → IsRankingOf 0 b g f []
-ranking_empty b g f = record { members = λ x. (λ i. absurd i, λ k. absurd (omega (arith, k.0))); order = tt }
-
 -- one more venue has nothing to be ranked
 pub ranking_passed : (n : ℕ) (b : Side) (g : ℕ → Option Best) (f : ℕ → ℕ) (xs : List Best) → g n ≡ None → IsRankingOf n b g f xs → IsRankingOf (n + 1) b g f xs
 ranking_passed n b g f xs none h = record {

@@ -104,7 +104,7 @@ pub fn best_of(
 
 /// The best, where only this venue's standing, or its leave to be ranked, is another one than when
 /// `before` was the best. All venues are looked through only where that was the venue's own and it
-/// has none now that is ahead by its price or its size.
+/// has none now that is ahead by its price or its size, and there are others.
 #[inline(always)]
 pub fn next_best(
     side: Side,
@@ -122,6 +122,7 @@ pub fn next_best(
     match before {
         Some(best) if best.venue == venue => match x {
             Some(own) if is_better(side, &own, &best) => Some(own),
+            _ if venues.count == 1 => x,
             _ => best_of(side, standings, venues, halted),
         },
         _ => better_of(side, standings, before, x),

@@ -39,10 +39,14 @@ impl Row {
         ensures changed { result
             ≡ not (is_same_national (national_at self.old) (national_at self.new)) }
     {
-        let shown = Some(bid_of(quote));
-        let bid = Standing { shown, age };
-        let shown = Some(offer_of(quote));
-        let offer = Standing { shown, age };
+        let bid = Standing {
+            shown: Some(bid_of(quote)),
+            age,
+        };
+        let offer = Standing {
+            shown: Some(offer_of(quote)),
+            age,
+        };
         let bid = self.bids.show(Side::Bid, venue, bid, venues, &self.halted);
         let offer = self
             .offers
