@@ -111,7 +111,7 @@ top_found b f g (Some x) own h =
 -- one more venue: of the side that was first and its own, the one that beats the other
 pub top_joined : (P Q : ℕ → Type 0) (b : Side) (f : ℕ → ℕ) (g : ℕ → Option Best) (v : ℕ) (o : Option Best) → ((w : ℕ) → Q w → nat_eq w v ≡ false → P w) → ((w : ℕ) → P w → Q w × (nat_eq w v ≡ false)) → ((w : ℕ) → Q w → w < 16) → Q v → IsOwn g → IsApart f g → IsTop P b f g o → IsTop Q b f g (better_of b f o (g v))
 top_joined P Q b f g v None others more few here own apart h =
-    (elim (g v) as (λ r. g v ≡ r → IsTop Q b f g r) [
+    (elim (g v) as (λ r. g v ≡ r → IsTop Q b f g (better_of b f None r)) [
       | None ↦ λ e. λ w q. nat_split w v (g w ≡ None) (λ same. ap g same ∙ e) (λ d. h w (others w q d))
       | Some x ↦ λ e.
           let at : x.venue ≡ v = own v x e in (

@@ -3,6 +3,7 @@ use Rattle.std.proofs.Common.{ℕ, zero, suc, ◌<◌, ◌≤◌, ◌≡◌, ◌
 use Rattle.std.specs.Prelude.{◌&&◌, IsSome, IfSome, is_some}
 use Rattle.feed_types.specs.declared.journal.Entry.TheVariants.{SelfHelp}
 use Rattle.feed_types.specs.declared.line.Side.{Side}
+use Rattle.feed_types.specs.declared.line.Side.TheVariants.{Bid, Offer}
 use Rattle.feed_types.specs.declared.national.Best.{Best}
 use Rattle.nbbo_book.specs.declared.shown.Shown.{Shown}
 use Rattle.nbbo_book.specs.declared.shown.Standing.{Standing}
@@ -11,11 +12,12 @@ use Rattle.nbbo_book.specs.declared.row.Row.{Row}
 use Rattle.nbbo_book.specs.Sides.{is_same_side}
 use Rattle.nbbo_book.specs.Eligible.{ranked_by, is_protected}
 use Rattle.nbbo_book.specs.Books.{standing_at}
-use Rattle.nbbo_book.specs.Ranks.{better_of, is_better}
+use Rattle.nbbo_book.specs.Changes.{is_same_best}
+use Rattle.nbbo_book.specs.Ranks.{better_of, is_better, is_improved, is_of}
 use Rattle.nbbo_book.specs.Rows.{age_at, may_at, rank_at, best_at, standings_shown, side_with}
 use Rattle.nbbo_book.specs.Tables.{IsStandings, IsSide, IsSideBut, IsStale, IsRowBut, IsBefore}
 use Rattle.nbbo_book.proofs.Beating.{better_beats}
-use Rattle.nbbo_book.proofs.Ranking.{nat_apart, nat_split, some_same}
+use Rattle.nbbo_book.proofs.Ranking.{nat_apart, nat_same, nat_split, some_same}
 use Rattle.nbbo_book.proofs.Firsts.{IsOwn, IsApart, IsTop, IsBelow, top_found, top_joined, top_more, top_whole, top_is, top_same, best_same}
 
 pub set_at : {X : Type 0} (xs : List X) (i : ℕ) (x d : X) → i < length xs → get_or (set xs i x) i d ≡ x
@@ -173,6 +175,37 @@ best_is_own b may n v k c x h was own here better =
           better_beats b (age_at h.was.standings) f x c y better (t.2 w y q (stale_rank b may n v k h w off ∙ e) (subst (λ (m : ℕ). nat_eq w m ≡ false) (sym own) off)),
     ))
 
+pub improved_is_best : (b : Side) (may : ℕ → Bool) (n v : ℕ) (k : BookSide) (o r : Option Best) → IsStale b may n v k → k.best ≡ o → is_of v o ≡ true → rank_at may k.standings v ≡ r → is_improved b o r ≡ true → r ≡ best_at b may k.standings
+improved_is_best b may n v k None r h was own here better = cc
+improved_is_best b may n v k (Some c) None h was own here better = cc
+improved_is_best b may n v k (Some c) (Some x) h was own here better = best_is_own b may n v k c x h was (nat_same c.venue v own) here better
+
+improved_bid : (x y : Best) → is_better Bid x y ≡ true → is_same_best (Some y) (Some x) ≡ false
+improved_bid x y p = grind (arith, p)
+
+improved_offer : (x y : Best) → is_better Offer x y ≡ true → is_same_best (Some y) (Some x) ≡ false
+improved_offer x y p = grind (arith, p)
+
+-- what is ahead by its price or size is another one
+pub improved_moves : (b : Side) (o r : Option Best) → is_improved b o r ≡ true → is_same_best o r ≡ false
+improved_moves b None r p = cc
+improved_moves b (Some y) None p = cc
+improved_moves Bid (Some y) (Some x) p = improved_bid x y p
+improved_moves Offer (Some y) (Some x) p = improved_offer x y p
+
+-- the best is another venue's, or there is none
+pub best_of_another : (v : ℕ) (o : Option Best) → is_of v o ≡ false → IfSome o (λ c. nat_eq c.venue v ≡ false)
+best_of_another v None p = tt
+best_of_another v (Some c) p = p
+
+pub rank_of_another : (v : ℕ) (o r : Option Best) → is_of v o ≡ false → ((x : Best) → r ≡ Some x → x.venue ≡ v) → IfSome r (λ x. is_of x.venue o ≡ false)
+rank_of_another v o None p own = tt
+rank_of_another v o (Some x) p own = subst (λ (w : ℕ). is_of w o ≡ false) (sym (own x refl)) p
+
+first_of_none : (b : Side) (f : ℕ → ℕ) (r : Option Best) → better_of b f None r ≡ r
+first_of_none b f None = refl
+first_of_none b f (Some x) = refl
+
 -- of one venue alone
 pub best_alone : (b : Side) (may : ℕ → Bool) (ss : List Standing) (v : ℕ) → v < 1 → IsStandings 1 ss → rank_at may ss v ≡ best_at b may ss
 best_alone b may ss v below h =
@@ -182,7 +215,8 @@ best_alone b may ss v below h =
     let first : v ≡ 0 = omega (arith, below) in
     ap g first
     ∙ sym (top_found b f g (g 0) own (top_whole 1 16 b f g (g 0) (omega arith) (rank_silent may 1 ss h)
-    (top_more 0 b f g None (omega arith) own (rank_apart may 1 ss h) (λ w p. absurd (omega (arith, p))))))
+    (subst (λ (o : Option Best). IsTop (IsBelow 1) b f g o) (first_of_none b f (g 0))
+    (top_more 0 b f g None (omega arith) own (rank_apart may 1 ss h) (λ w p. absurd (omega (arith, p)))))))
 
 -- a side before one venue's leave, or its standing, was another
 pub but_itself : (b : Side) (may : ℕ → Bool) (n next v : ℕ) (k : BookSide) → v < n → IsSide b may n next k → IsSideBut b may n v k

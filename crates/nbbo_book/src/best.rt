@@ -3,9 +3,9 @@
 ghost use Rattle.std.specs.Prelude.{◌≡◌, not};
 ghost use Rattle.nbbo_book.specs.Nationals.{beats};
 ghost use Rattle.nbbo_book.specs.Changes.{is_same_best};
-ghost use Rattle.nbbo_book.specs.Ranks.{better_of as first_of_two, is_better as is_better_side};
+ghost use Rattle.nbbo_book.specs.Ranks.{better_of as first_of_two, comes_first as first_comes, is_better as is_better_side, is_improved as is_improved_side, is_of as is_of_venue};
 ghost use Rattle.nbbo_book.specs.Rows.{age_at, may_at, rank_at as rank_at_venue, best_at};
-ghost use Rattle.nbbo_book.specs.Tables.{IsStandings, IsStale};
+ghost use Rattle.nbbo_book.specs.Tables.{IsStandings};
 
 use crate::shown::{Standing, rank_of};
 use crate::venues::Venues;
@@ -26,9 +26,26 @@ pub fn is_ahead(side: Side, standings: &[Standing; 16], x: &Best, y: &Best) -> b
         || x.size == y.size && standings[x.venue.index()].age < standings[y.venue.index()].age
 }
 
+/// Whether there is an x that ranks before the best, or before none.
+#[inline(always)]
+pub fn comes_first(
+    side: Side,
+    standings: &[Standing; 16],
+    best: &Option<Best>,
+    x: &Option<Best>,
+) -> bool
+    ensures { result ≡ first_comes side (age_at standings.now) best.now x.now }
+{
+    match (best, x) {
+        (Some(best), Some(x)) => is_ahead(side, standings, x, best),
+        (None, Some(_)) => true,
+        (None, None) | (Some(_), None) => false,
+    }
+}
+
 /// Whether x is ahead of y by its price or its size.
 #[inline(always)]
-pub fn is_better(side: Side, x: &Best, y: &Best) -> bool
+fn is_better(side: Side, x: &Best, y: &Best) -> bool
     ensures { result ≡ is_better_side side x.now y.now }
 {
     if x.price != y.price {
@@ -38,6 +55,17 @@ pub fn is_better(side: Side, x: &Best, y: &Best) -> bool
         };
     }
     x.size > y.size
+}
+
+/// Whether there is an x now that is ahead of what was before, by its price or its size.
+#[inline(always)]
+pub fn is_improved(side: Side, before: &Option<Best>, x: &Option<Best>) -> bool
+    ensures { result ≡ is_improved_side side before.now x.now }
+{
+    match (before, x) {
+        (Some(before), Some(x)) => is_better(side, x, before),
+        (None, _) | (Some(_), None) => false,
+    }
 }
 
 /// The best so far, or x where that ranks before it.
@@ -50,16 +78,10 @@ pub fn better_of(
 ) -> Option<Best>
     ensures { result ≡ first_of_two side (age_at standings.now) best x }
 {
-    match (best, x) {
-        (Some(first), Some(second)) => {
-            if is_ahead(side, standings, &second, &first) {
-                x
-            } else {
-                best
-            }
-        }
-        (Some(_), None) => best,
-        (None, _) => x,
+    if comes_first(side, standings, &best, &x) {
+        x
+    } else {
+        best
     }
 }
 
@@ -102,30 +124,14 @@ pub fn best_of(
     best
 }
 
-/// The best, where only this venue's standing, or its leave to be ranked, is another one than when
-/// `before` was the best. All venues are looked through only where that was the venue's own and it
-/// has none now that is ahead by its price or its size, and there are others.
+/// Whether the best is this venue's.
 #[inline(always)]
-pub fn next_best(
-    side: Side,
-    standings: &[Standing; 16],
-    before: Option<Best>,
-    venue: VenueId,
-    venues: &Venues,
-    halted: &[bool; 16],
-) -> Option<Best>
-    requires { IsStale side (may_at venues.now.helped halted.now) venues.now.count venue
-        (record { best = before; standings = standings.now }) }
-    ensures { result ≡ best_at side (may_at venues.now.helped halted.now) standings.now }
+pub fn is_of(best: &Option<Best>, venue: VenueId) -> bool
+    ensures { result ≡ is_of_venue venue best.now }
 {
-    let x = rank_at(standings, venues, halted, venue);
-    match before {
-        Some(best) if best.venue == venue => match x {
-            Some(own) if is_better(side, &own, &best) => Some(own),
-            _ if venues.count == 1 => x,
-            _ => best_of(side, standings, venues, halted),
-        },
-        _ => better_of(side, standings, before, x),
+    match best {
+        Some(best) => best.venue == venue,
+        None => false,
     }
 }
 

@@ -1,11 +1,12 @@
 //! One side of a symbol: each venue's standing, and the best of those that are eligible.
 
-ghost use Rattle.std.specs.Prelude.{◌≡◌, ◌<◌, not, None};
+ghost use Rattle.std.specs.Prelude.{◌≡◌, ◌<◌, not, true, false, None, IfSome};
 ghost use Rattle.nbbo_book.specs.Changes.{is_same_best};
-ghost use Rattle.nbbo_book.specs.Rows.{may_at, standings_shown, side_with};
+ghost use Rattle.nbbo_book.specs.Ranks.{better_of, is_of as is_of_venue};
+ghost use Rattle.nbbo_book.specs.Rows.{age_at, may_at, rank_at as rank_at_venue, standings_shown, side_with};
 ghost use Rattle.nbbo_book.specs.Tables.{IsSide, IsSideBut, IsStale};
 
-use crate::best::{differs, next_best};
+use crate::best::{best_of, comes_first, differs, is_improved, is_of, rank_at};
 use crate::shown::{Shown, Standing, is_same};
 use crate::venues::Venues;
 use feed_types::{Best, Side, VenueId};
@@ -19,6 +20,56 @@ pub struct BookSide {
 }
 
 impl BookSide {
+    /// Notes the best again, where it was another venue's, or none. Whether it is another one then.
+    #[inline(always)]
+    fn renew_other(&mut self, side: Side, rank: Option<Best>) -> bool
+        requires { IfSome rank (λ x. is_of_venue x.venue self.old.best ≡ false) }
+        ensures best { self.new.best
+            ≡ better_of side (age_at self.old.standings) self.old.best rank }
+        ensures standings { self.new.standings ≡ self.old.standings }
+        ensures moved { result ≡ not (is_same_best self.old.best self.new.best) }
+    {
+        let moved = comes_first(side, &self.standings, &self.best, &rank);
+        if moved {
+            self.best = rank;
+        }
+        moved
+    }
+
+    /// Notes the best again, where it was this venue's. All venues are looked through only where
+    /// the venue isn't ahead of that now by its price or its size, and there are others.
+    #[inline(always)]
+    fn renew_own(
+        &mut self,
+        side: Side,
+        venue: VenueId,
+        rank: Option<Best>,
+        venues: &Venues,
+        halted: &[bool; 16],
+    ) -> bool
+        requires stale { IsStale
+            side (may_at venues.now.helped halted.now) venues.now.count venue self.old }
+        requires rank { rank
+            ≡ rank_at_venue (may_at venues.now.helped halted.now) self.old.standings venue }
+        requires own { is_of_venue venue self.old.best ≡ true }
+        ensures side { self.new
+            ≡ side_with side (may_at venues.now.helped halted.now) self.old.standings }
+        ensures moved { result ≡ not (is_same_best self.old.best self.new.best) }
+    {
+        if is_improved(side, &self.best, &rank) {
+            self.best = rank;
+            return true;
+        }
+        let best = if venues.count == 1 {
+            rank
+        } else {
+            best_of(side, &self.standings, venues, halted)
+        };
+        let moved = differs(&self.best, &best);
+        self.best = best;
+        moved
+    }
+
     /// Notes the best again. Whether it is another one then.
     #[inline(always)]
     fn renew(&mut self, side: Side, venue: VenueId, venues: &Venues, halted: &[bool; 16]) -> bool
@@ -28,10 +79,12 @@ impl BookSide {
             ≡ side_with side (may_at venues.now.helped halted.now) self.old.standings }
         ensures moved { result ≡ not (is_same_best self.old.best self.new.best) }
     {
-        let best = next_best(side, &self.standings, self.best, venue, venues, halted);
-        let moved = differs(&self.best, &best);
-        self.best = best;
-        moved
+        let rank = rank_at(&self.standings, venues, halted, venue);
+        if is_of(&self.best, venue) {
+            self.renew_own(side, venue, rank, venues, halted)
+        } else {
+            self.renew_other(side, rank)
+        }
     }
 
     /// The venue shows this, or nothing, from now on. Whether the best side is another one then.

@@ -1,0 +1,27 @@
+use Rattle.std.proofs.Common.{ℕ, ◌≡◌, ◌∙◌, ap, sym, Bool, Option, false, List}
+use Rattle.feed_types.specs.declared.national.Best.{Best}
+use Rattle.nbbo_book.specs.declared.shown.Standing.{Standing}
+use Rattle.nbbo_book.specs.declared.book_side.BookSide.{BookSide}
+use Rattle.nbbo_book.specs.Ranks.{better_of, is_of}
+use Rattle.nbbo_book.specs.Rows.{age_at, may_at, best_at}
+use Rattle.nbbo_book.proofs.Kept.{rank_own, best_of_two, best_of_another, rank_of_another}
+use Rattle.nbbo_book.proofs.book_side.BookSide.renew.Goals as goal
+
+pub renew_other-requires : goal.renew_other-requires
+renew_other-requires c =
+    let may : ℕ → Bool = may_at c.args.venues.now.helped c.args.halted.now in
+    let k = c.args.self.now in
+    rank_of_another c.args.venue k.best c.rank_at-rank.result (sym c.is_of.ensures ∙ c.if-is_of.false)
+    (λ x e. rank_own may k.standings c.args.venue x (sym c.rank_at-rank.ensures ∙ e))
+
+pub returns-else-is_of-clause-side : goal.returns-else-is_of-clause-side
+returns-else-is_of-clause-side c =
+    let may : ℕ → Bool = may_at c.args.venues.now.helped c.args.halted.now in
+    let k = c.args.self.now in
+    let best : c.renew_other.new.self.best ≡ best_at c.args.side may k.standings =
+    c.renew_other.ensures.best
+    ∙ ap (better_of c.args.side (age_at k.standings) k.best) c.rank_at-rank.ensures
+    ∙ best_of_two c.args.side may c.args.venues.now.count c.args.venue k c.requires
+    (best_of_another c.args.venue k.best (sym c.is_of.ensures ∙ c.if-is_of.false)) in
+    ap (λ (o : Option Best). record { best = o; standings = c.renew_other.new.self.standings }) best
+    ∙ ap (λ (ss : List Standing). record { best = best_at c.args.side may k.standings; standings = ss }) c.renew_other.ensures.standings

@@ -1,0 +1,35 @@
+use Rattle.std.proofs.Common.{ℕ, ◌≡◌, ◌<◌, ◌∙◌, ap, sym, subst, rules, Bool, Option, not, refl}
+use Rattle.feed_types.specs.declared.national.Best.{Best}
+use Rattle.nbbo_book.specs.declared.book_side.BookSide.{BookSide}
+use Rattle.nbbo_book.specs.Rows.{may_at, best_at}
+use Rattle.nbbo_book.specs.Tables.{IsStandings}
+use Rattle.nbbo_book.proofs.Kept.{improved_is_best, improved_moves, best_alone}
+use Rattle.nbbo_book.proofs.book_side.BookSide.renew_own.Goals.{then-venues-eq1, else-venues-eq1}
+use Rattle.nbbo_book.proofs.book_side.BookSide.renew_own.Goals as goal
+
+pub returns-then-is_improved-clause-side : goal.returns-then-is_improved-clause-side
+returns-then-is_improved-clause-side c =
+    let may : ℕ → Bool = may_at c.args.venues.now.helped c.args.halted.now in
+    let k = c.args.self.now in
+    ap (λ (o : Option Best). record { best = o; standings = k.standings })
+    (improved_is_best c.args.side may c.args.venues.now.count c.args.venue k k.best c.args.rank c.requires.stale refl c.requires.own (sym c.requires.rank)
+    (sym c.is_improved.ensures ∙ c.if-is_improved.true))
+
+pub returns-then-is_improved-clause-moved : goal.returns-then-is_improved-clause-moved
+returns-then-is_improved-clause-moved c =
+    sym (ap not (improved_moves c.args.side c.args.self.now.best c.args.rank (sym c.is_improved.ensures ∙ c.if-is_improved.true)))
+
+pub returns-clause-side : goal.returns-clause-side
+returns-clause-side c =
+    let may : ℕ → Bool = may_at c.args.venues.now.helped c.args.halted.now in
+    let k = c.args.self.now in
+    let best : c.if-venues-eq1.best ≡ best_at c.args.side may k.standings =
+    elim c.if-venues-eq1.branch [
+      | then-venues-eq1 w ↦
+        let one : c.args.venues.now.count ≡ 1 = search rules in
+        let below : c.args.venue < 1 = subst (λ (n : ℕ). c.args.venue < n) one c.requires.stale.before.below in
+        let standings : IsStandings 1 k.standings = subst (λ (n : ℕ). IsStandings n k.standings) one c.requires.stale.standings in
+        w.best-is ∙ c.requires.rank ∙ best_alone c.args.side may k.standings c.args.venue below standings
+      | else-venues-eq1 w ↦ w.best-is ∙ w.best_of-best.ensures
+    ] in
+    ap (λ (o : Option Best). record { best = o; standings = k.standings }) best
