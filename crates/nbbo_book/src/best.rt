@@ -103,9 +103,8 @@ pub fn rank_at(
     )
 }
 
-/// Looks through all venues for the best.
-#[inline(never)]
-pub fn best_of(
+#[inline(always)]
+fn best_through(
     side: Side,
     standings: &[Standing; 16],
     venues: &Venues,
@@ -122,6 +121,23 @@ pub fn best_of(
         }
     }
     best
+}
+
+/// Looks through all venues for the best; the loop is compiled once for each side.
+#[inline(never)]
+pub fn best_of(
+    side: Side,
+    standings: &[Standing; 16],
+    venues: &Venues,
+    halted: &[bool; 16],
+) -> Option<Best>
+    requires { IsStandings venues.now.count standings.now }
+    ensures { result ≡ best_at side (may_at venues.now.helped halted.now) standings.now }
+{
+    match side {
+        Side::Bid => best_through(Side::Bid, standings, venues, halted),
+        Side::Offer => best_through(Side::Offer, standings, venues, halted),
+    }
 }
 
 /// Whether the best is this venue's.

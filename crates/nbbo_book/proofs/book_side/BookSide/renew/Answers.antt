@@ -1,8 +1,7 @@
-use Rattle.std.proofs.Common.{ℕ, ◌≡◌, ◌∙◌, ap, sym, Bool, Option, false, List}
+use Rattle.std.proofs.Common.{ℕ, ◌≡◌, ◌∙◌, ap, sym, Bool, Option, List}
 use Rattle.feed_types.specs.declared.national.Best.{Best}
 use Rattle.nbbo_book.specs.declared.shown.Standing.{Standing}
-use Rattle.nbbo_book.specs.declared.book_side.BookSide.{BookSide}
-use Rattle.nbbo_book.specs.Ranks.{better_of, is_of}
+use Rattle.nbbo_book.specs.Ranks.{better_of}
 use Rattle.nbbo_book.specs.Rows.{age_at, may_at, best_at}
 use Rattle.nbbo_book.proofs.Kept.{rank_own, best_of_two, best_of_another, rank_of_another}
 use Rattle.nbbo_book.proofs.book_side.BookSide.renew.Goals as goal

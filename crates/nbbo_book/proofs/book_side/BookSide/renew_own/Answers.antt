@@ -1,6 +1,5 @@
 use Rattle.std.proofs.Common.{ℕ, ◌≡◌, ◌<◌, ◌∙◌, ap, sym, subst, rules, Bool, Option, not, refl}
 use Rattle.feed_types.specs.declared.national.Best.{Best}
-use Rattle.nbbo_book.specs.declared.book_side.BookSide.{BookSide}
 use Rattle.nbbo_book.specs.Rows.{may_at, best_at}
 use Rattle.nbbo_book.specs.Tables.{IsStandings}
 use Rattle.nbbo_book.proofs.Kept.{improved_is_best, improved_moves, best_alone}

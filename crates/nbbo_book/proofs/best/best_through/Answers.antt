@@ -4,8 +4,8 @@ use Rattle.nbbo_book.specs.Ranks.{better_of}
 use Rattle.nbbo_book.specs.Rows.{age_at, may_at, rank_at}
 use Rattle.nbbo_book.proofs.Firsts.{IsTop, IsBelow, top_found, top_more, top_whole}
 use Rattle.nbbo_book.proofs.Kept.{rank_own, rank_apart, rank_silent}
-use Rattle.nbbo_book.proofs.best.best_of.Goals.{in-Some, in_default}
-use Rattle.nbbo_book.proofs.best.best_of.Goals as goal
+use Rattle.nbbo_book.proofs.best.best_through.Goals.{in-Some, in_default}
+use Rattle.nbbo_book.proofs.best.best_through.Goals as goal
 
 pub loop-place-preserved : goal.loop-place-preserved
 loop-place-preserved c =
