@@ -10,6 +10,7 @@ use Rattle.feed_types.specs.declared.journal.Entry.{Entry}
 use Rattle.feed_types.specs.declared.journal.Entry.TheVariants.{Consumed, SelfHelp}
 use Rattle.feed_types.specs.declared.item.Item.{Item}
 use Rattle.feed_types.specs.declared.item.Item.TheVariants as item
+use Rattle.feed_types.specs.declared.item.Numbered.{Numbered}
 use Rattle.feed_types.specs.declared.line.Side.{Side}
 use Rattle.feed_types.specs.declared.line.Side.TheVariants.{Bid, Offer}
 use Rattle.feed_types.specs.declared.national.Best.{Best}
@@ -18,13 +19,12 @@ use Rattle.nbbo_book.specs.declared.shown.Standing.{Standing}
 use Rattle.nbbo_book.specs.declared.book_side.BookSide.{BookSide}
 use Rattle.nbbo_book.specs.declared.row.Row.{Row}
 use Rattle.nbbo_book.specs.declared.change.Change.{Change}
-use Rattle.nbbo_book.specs.declared.scope.Scope.TheVariants.{Nothing, One}
 use Rattle.nbbo_book.specs.Sides.{shown_by, side_of, age_of}
 use Rattle.nbbo_book.specs.Eligible.{ranked_by, may_rank, is_self_helped, eligible_of}
 use Rattle.nbbo_book.specs.Nationals.{national_of, best_of}
 use Rattle.nbbo_book.specs.Changes.{is_same_best, is_same_national, change_of, changes_by}
 use Rattle.nbbo_book.specs.Books.{standing_at, SideFits, RowFits, venue_of}
-use Rattle.nbbo_book.specs.Rows.{age_at, may_at, rank_at, standings_shown, row_with, row_quoted, row_halted, row_after, row_after_item, row_change, national_at, helped_after, scope_of, scope_of_item}
+use Rattle.nbbo_book.specs.Rows.{age_at, may_at, rank_at, standings_shown, row_with, row_quoted, row_halted, row_after, row_after_item, row_change, national_at, helped_after, symbol_in, symbol_in_item}
 use Rattle.nbbo_book.specs.Tables.{IsStandings, IsSide, IsRow, IsBefore, symbols_of}
 use Rattle.nbbo_book.proofs.Ranking.{nat_refl}
 use Rattle.nbbo_book.proofs.Kept.{IsPast, long_set, ranked_own, rank_own, rank_apart, side_waits, standings_after}
@@ -186,29 +186,19 @@ change_untold helped n p e r next moved is says false_now =
 quiet : (helped : List Bool) (n p : ℕ) (e : Entry) (r : Row) → row_after helped n e r ≡ r → row_change helped n p e r ≡ None
 quiet helped n p e r h = ap (λ (t : Row). change_of p r.symbol (national_at r) (national_at t)) h ∙ unchanged p r.symbol (national_at r)
 
-one_same : {s t : List ℕ} → One s ≡ One t → s ≡ t
+one_same : {s t : List ℕ} → Some s ≡ Some t → s ≡ t
 one_same e = cc
 
 -- an entry that concerns one symbol leaves the others as they are
-other_item : (helped : List Bool) (n v : ℕ) (i : Item) (s : List ℕ) (r : Row) → scope_of_item i ≡ One s → bytes_eq s r.symbol ≡ false → row_after_item helped n v i r ≡ r
+other_item : (helped : List Bool) (n v : ℕ) (i : Item) (s : List ℕ) (r : Row) → symbol_in_item i ≡ Some s → bytes_eq s r.symbol ≡ false → row_after_item helped n v i r ≡ r
 other_item helped n v (item.Quote q) s r c e = (let same : q.symbol ≡ s = one_same c in ap (λ t. cond (bytes_eq t r.symbol) (row_quoted helped v q n r) r) same ∙ ap (λ t. cond t (row_quoted helped v q n r) r) e)
 other_item helped n v (item.Halt t x) s r c e = (let same : t ≡ s = one_same c in ap (λ u. cond (bytes_eq u r.symbol) (row_halted helped v x r) r) same ∙ ap (λ u. cond u (row_halted helped v x r) r) e)
 other_item helped n v item.Other s r c e = refl
 other_item helped n v item.End s r c e = cc
 
-other_row : (helped : List Bool) (n : ℕ) (e : Entry) (s : List ℕ) (r : Row) → scope_of e ≡ One s → bytes_eq s r.symbol ≡ false → row_after helped n e r ≡ r
+other_row : (helped : List Bool) (n : ℕ) (e : Entry) (s : List ℕ) (r : Row) → symbol_in e ≡ Some s → bytes_eq s r.symbol ≡ false → row_after helped n e r ≡ r
 other_row helped n (Consumed v x) s r c h = other_item helped n v x.item s r c h
 other_row helped n (SelfHelp v on) s r c h = cc
-
-no_item : (helped : List Bool) (n v : ℕ) (i : Item) (r : Row) → scope_of_item i ≡ Nothing → row_after_item helped n v i r ≡ r
-no_item helped n v (item.Quote q) r c = cc
-no_item helped n v (item.Halt t x) r c = cc
-no_item helped n v item.Other r c = refl
-no_item helped n v item.End r c = cc
-
-no_row : (helped : List Bool) (n : ℕ) (e : Entry) (r : Row) → scope_of e ≡ Nothing → row_after helped n e r ≡ r
-no_row helped n (Consumed v x) r c = no_item helped n v x.item r c
-no_row helped n (SelfHelp v on) r c = cc
 
 -- where no row changes
 still : (helped : List Bool) (n p : ℕ) (e : Entry) (rs : List Row) → AllByRecursion (λ r. row_after helped n e r ≡ r) rs → (map (row_after helped n e) rs ≡ rs) × (filter_map (row_change helped n p e) rs ≡ [])
@@ -219,18 +209,19 @@ still helped n p e (r ∷ rs) h =
       ap (λ o. cons_option o (filter_map (row_change helped n p e) rs)) (quiet helped n p e r h.0) ∙ k.1,
     )
 
-no_rows : (helped : List Bool) (n : ℕ) (e : Entry) (rs : List Row) → scope_of e ≡ Nothing → AllByRecursion (λ r. row_after helped n e r ≡ r) rs
-no_rows helped n e [] c = tt
-no_rows helped n e (r ∷ rs) c = (no_row helped n e r c, no_rows helped n e rs c)
+-- an item that says nothing changes no symbol
+no_rows : (helped : List Bool) (n v : ℕ) (x : Numbered) (rs : List Row) → x.item ≡ item.Other → AllByRecursion (λ r. row_after helped n (Consumed v x) r ≡ r) rs
+no_rows helped n v x [] c = tt
+no_rows helped n v x (r ∷ rs) c = (ap (λ t. row_after_item helped n v t r) c, no_rows helped n v x rs c)
 
-pub nothing_steps : (helped : List Bool) (n p : ℕ) (e : Entry) (rs : List Row) → scope_of e ≡ Nothing → (map (row_after helped n e) rs ≡ rs) × (filter_map (row_change helped n p e) rs ≡ [])
-nothing_steps helped n p e rs c = still helped n p e rs (no_rows helped n e rs c)
+pub nothing_steps : (helped : List Bool) (n p v : ℕ) (x : Numbered) (rs : List Row) → x.item ≡ item.Other → (map (row_after helped n (Consumed v x)) rs ≡ rs) × (filter_map (row_change helped n p (Consumed v x)) rs ≡ [])
+nothing_steps helped n p v x rs c = still helped n p (Consumed v x) rs (no_rows helped n v x rs c)
 
-missed_rows : (helped : List Bool) (n : ℕ) (e : Entry) (s : List ℕ) (rs : List Row) → scope_of e ≡ One s → AllByRecursion (λ t. bytes_eq s t ≡ false) (symbols_of rs) → AllByRecursion (λ r. row_after helped n e r ≡ r) rs
+missed_rows : (helped : List Bool) (n : ℕ) (e : Entry) (s : List ℕ) (rs : List Row) → symbol_in e ≡ Some s → AllByRecursion (λ t. bytes_eq s t ≡ false) (symbols_of rs) → AllByRecursion (λ r. row_after helped n e r ≡ r) rs
 missed_rows helped n e s [] c h = tt
 missed_rows helped n e s (r ∷ rs) c h = (other_row helped n e s r c h.0, missed_rows helped n e s rs c h.1)
 
-pub missed_steps : (helped : List Bool) (n p : ℕ) (e : Entry) (s : List ℕ) (rs : List Row) → scope_of e ≡ One s → position (bytes_eq s) (symbols_of rs) ≡ None → (map (row_after helped n e) rs ≡ rs) × (filter_map (row_change helped n p e) rs ≡ [])
+pub missed_steps : (helped : List Bool) (n p : ℕ) (e : Entry) (s : List ℕ) (rs : List Row) → symbol_in e ≡ Some s → position (bytes_eq s) (symbols_of rs) ≡ None → (map (row_after helped n e) rs ≡ rs) × (filter_map (row_change helped n p e) rs ≡ [])
 missed_steps helped n p e s rs c h = still helped n p e rs (missed_rows helped n e s rs c (missed_all s (symbols_of rs) h))
 
 option_list : {X : Type 0} (o : Option X) (xs : List X) → cons_option o xs ≡ option_to_list o ++ xs
@@ -275,7 +266,7 @@ found_symbol rs s i d e =
     let k = position-Some (bytes_eq s) (symbols_of rs) i d.symbol e in
     (omega (arith, k.0, long_symbols rs), sym ((bytes_decides s (get_or (symbols_of rs) i d.symbol)).0 k.1 ∙ symbol_at rs i d))
 
-pub found_steps : (helped : List Bool) (n p : ℕ) (e : Entry) (s : List ℕ) (rs : List Row) (i : ℕ) (d : Row) → scope_of e ≡ One s → IsDistinct bytes_eq (symbols_of rs) → position (bytes_eq s) (symbols_of rs) ≡ Some i → (map (row_after helped n e) rs ≡ set rs i (row_after helped n e (get_or rs i d))) × (filter_map (row_change helped n p e) rs ≡ option_to_list (row_change helped n p e (get_or rs i d)))
+pub found_steps : (helped : List Bool) (n p : ℕ) (e : Entry) (s : List ℕ) (rs : List Row) (i : ℕ) (d : Row) → symbol_in e ≡ Some s → IsDistinct bytes_eq (symbols_of rs) → position (bytes_eq s) (symbols_of rs) ≡ Some i → (map (row_after helped n e) rs ≡ set rs i (row_after helped n e (get_or rs i d))) × (filter_map (row_change helped n p e) rs ≡ option_to_list (row_change helped n p e (get_or rs i d)))
 found_steps helped n p e s rs i d c distinct at =
     let found = found_symbol rs s i d at in
     one_moves helped n p e rs i d found.0 (λ j l q. other_row helped n e s (get_or rs j d) c

@@ -15,8 +15,6 @@ use Rattle.nbbo_book.specs.declared.shown.Standing.{Standing}
 use Rattle.nbbo_book.specs.declared.book_side.BookSide.{BookSide}
 use Rattle.nbbo_book.specs.declared.row.Row.{Row}
 use Rattle.nbbo_book.specs.declared.change.Change.{Change}
-use Rattle.nbbo_book.specs.declared.scope.Scope.{Scope}
-use Rattle.nbbo_book.specs.declared.scope.Scope.TheVariants.{Nothing, One, All}
 use Rattle.nbbo_book.specs.Sides.{shown_by, is_same_side}
 use Rattle.nbbo_book.specs.Eligible.{ranked_by}
 use Rattle.nbbo_book.specs.Changes.{change_of}
@@ -110,16 +108,16 @@ row_change helped age position entry row =
     change_of position row.symbol
     (national_at row) (national_at (row_after helped age entry row))
 
--- which symbols an entry may change: none, one, or all
-abbrev pub scope_of_item : Item → Scope
-scope_of_item (item.Quote quote) = One quote.symbol
-scope_of_item (item.Halt symbol halted) = One symbol
-scope_of_item item.Other = Nothing
-scope_of_item item.End = All
+-- the symbol that a quotation or a halt is of
+abbrev pub symbol_in_item : Item → Option (List ℕ)
+symbol_in_item (item.Quote quote) = Some quote.symbol
+symbol_in_item (item.Halt symbol halted) = Some symbol
+symbol_in_item item.Other = None
+symbol_in_item item.End = None
 
-abbrev pub scope_of : Entry → Scope
-scope_of (Consumed venue numbered) = scope_of_item numbered.item
-scope_of (SelfHelp venue on) = All
+abbrev pub symbol_in : Entry → Option (List ℕ)
+symbol_in (Consumed venue numbered) = symbol_in_item numbered.item
+symbol_in (SelfHelp venue on) = None
 
 -- nothing is known of the symbol yet
 abbrev pub empty_side : BookSide

@@ -17,7 +17,6 @@ mod fault;
 mod laws;
 mod ranks;
 mod row;
-mod scope;
 mod shown;
 mod steps;
 mod table;

@@ -1,18 +1,17 @@
 //! One more entry, applied to what is kept of the symbols.
 
-ghost use Rattle.std.specs.Prelude.{◌≡◌, ◌++◌, ◌∷◌, [], ◌+◌, ◌<◌, ◌≤◌, length, map};
+ghost use Rattle.std.specs.Prelude.{◌≡◌, ◌++◌, ◌∷◌, [], ◌+◌, ◌<◌, ◌≤◌, length, map, Some};
 ghost use Rattle.std.specs.List.{AllByRecursion, filter_map};
 ghost use Rattle.std.specs.Vec.{vec_len, vec_capacity};
 ghost use Rattle.std.specs.Option.{option_to_list};
-ghost use Rattle.nbbo_book.specs.Rows.{row_after, row_change};
+ghost use Rattle.nbbo_book.specs.Rows.{row_after, row_change, symbol_in};
 ghost use Rattle.nbbo_book.specs.Tables.{IsBefore, IsTable, symbols_of};
 
 use crate::change::Change;
 use crate::row::Row;
-use crate::scope::{Scope, scope_of};
 use crate::table::{Table, find};
 use crate::venues::Venues;
-use feed_types::{Best, Entry, National, SymbolName};
+use feed_types::{Best, Entry, Item, National, SymbolName};
 
 /// Where one more entry stands: its place in the order of all, and its position.
 #[derive(Clone, Copy)]
@@ -72,6 +71,34 @@ fn step_rows(rows: &mut [Row], venues: &Venues, entry: &Entry, step: Step, out: 
     }
 }
 
+/// Applies a quotation or a halt to its symbol, where that is configured.
+#[inline(always)]
+fn step_symbol(
+    table: &Table,
+    rows: &mut [Row],
+    venues: &Venues,
+    symbol: SymbolName,
+    entry: &Entry,
+    step: Step,
+    out: &mut Vec<Change>,
+)
+    requires symbol { symbol_in entry.now ≡ Some symbol }
+    requires table { IsTable (symbols_of rows.old) table.now.keys }
+    requires before { AllByRecursion
+        (IsBefore entry.now venues.now.helped venues.now.count step.age) rows.old }
+    requires room { vec_len out.old + length rows.old ≤ vec_capacity out.old }
+    ensures rows { rows.new ≡ map (row_after venues.now.helped step.age entry.now) rows.old }
+    ensures items { out.new.items
+        ≡ out.old.items ++ filter_map (row_change
+        venues.now.helped step.age step.position entry.now) rows.old }
+    ensures len { vec_len out.new ≤ vec_len out.old + length rows.old }
+    ensures capacity { vec_capacity out.new ≡ vec_capacity out.old }
+{
+    if let Some(i) = find(table, symbol) {
+        step_row(&mut rows[i], venues, entry, step, out);
+    }
+}
+
 /// Applies the entry to the symbols that it concerns, and appends their changes in order; the
 /// flags of self-help are those after it.
 #[inline(always)]
@@ -94,13 +121,17 @@ pub fn apply_step(
     ensures len { vec_len out.new ≤ vec_len out.old + length rows.old }
     ensures capacity { vec_capacity out.new ≡ vec_capacity out.old }
 {
-    match scope_of(entry) {
-        Scope::Nothing => {}
-        Scope::One(symbol) => {
-            if let Some(i) = find(table, symbol) {
-                step_row(&mut rows[i], venues, entry, step, out);
+    match entry {
+        Entry::Consumed { venue: _, numbered } => match &numbered.item {
+            Item::Quote(quote) => {
+                step_symbol(table, rows, venues, quote.symbol, entry, step, out);
             }
-        }
-        Scope::All => step_rows(rows, venues, entry, step, out),
+            Item::Halt { symbol, halted: _ } => {
+                step_symbol(table, rows, venues, *symbol, entry, step, out);
+            }
+            Item::Other => {}
+            Item::End => step_rows(rows, venues, entry, step, out),
+        },
+        Entry::SelfHelp { venue: _, on: _ } => step_rows(rows, venues, entry, step, out),
     }
 }

@@ -1,47 +1,21 @@
-use Rattle.std.proofs.Common.{List, ◌∙◌, ◌++◌, ap, sym, set}
-use Rattle.nbbo_book.specs.declared.row.Row.{Row}
+use Rattle.std.proofs.Common.{List, ◌∙◌, ◌++◌, ap, sym, map}
+use Rattle.std.specs.List.{filter_map}
+use Rattle.feed_types.specs.declared.journal.Entry.{Entry}
 use Rattle.nbbo_book.specs.declared.change.Change.{Change}
-use Rattle.nbbo_book.specs.Tables.{IsBefore, symbols_of}
-use Rattle.nbbo_book.proofs.Words.{symbols_apart}
-use Rattle.nbbo_book.proofs.Stepping.{all_rows_at, found_symbol, nothing_steps, missed_steps, found_steps, alone}
+use Rattle.nbbo_book.specs.Rows.{row_after, row_change}
+use Rattle.nbbo_book.proofs.Stepping.{nothing_steps, alone}
 use Rattle.nbbo_book.proofs.steps.apply_step.Goals as goal
 
-pub step_row-requires-clause-before : goal.step_row-requires-clause-before
-step_row-requires-clause-before c =
-    let rows : List Row = c.args.rows.now in
-    let venues = c.args.venues.now in
-    all_rows_at (IsBefore c.args.entry.now venues.helped venues.count c.args.step.age) rows c.in-Some.i c.index-rows-i.result
-    (found_symbol rows c.in-One.symbol c.in-Some.i c.index-rows-i.result (sym (c.find.ensures (symbols_of rows) c.requires.table) ∙ c.in-Some.is)).0
-    c.requires.before
+pub returns-in-Other-clause-rows : goal.returns-in-Other-clause-rows
+returns-in-Other-clause-rows c =
+    let helped = c.args.venues.now.helped in
+    sym (ap (λ (e : Entry). map (row_after helped c.args.step.age e) c.args.rows.now) c.in-Consumed.is
+    ∙ (nothing_steps helped c.args.step.age c.args.step.position c.in-Consumed.venue c.in-Consumed.numbered c.args.rows.now c.in-Other.is).0)
 
-pub returns-in-Nothing-clause-rows : goal.returns-in-Nothing-clause-rows
-returns-in-Nothing-clause-rows c =
-    sym (nothing_steps c.args.venues.now.helped c.args.step.age c.args.step.position c.args.entry.now c.args.rows.now (sym c.scope_of.ensures ∙ c.in-Nothing.is)).0
-
-pub returns-in-Nothing-clause-items : goal.returns-in-Nothing-clause-items
-returns-in-Nothing-clause-items c =
+pub returns-in-Other-clause-items : goal.returns-in-Other-clause-items
+returns-in-Other-clause-items c =
+    let helped = c.args.venues.now.helped in
     sym (alone c.args.out.now.items)
-    ∙ ap (λ (t : List Change). c.args.out.now.items ++ t) (sym (nothing_steps c.args.venues.now.helped c.args.step.age c.args.step.position c.args.entry.now c.args.rows.now (sym c.scope_of.ensures ∙ c.in-Nothing.is)).1)
-
-pub returns-in-Some-clause-rows : goal.returns-in-Some-clause-rows
-returns-in-Some-clause-rows c =
-    let k = found_steps c.args.venues.now.helped c.args.step.age c.args.step.position c.args.entry.now c.in-One.symbol c.args.rows.now c.in-Some.i c.index-rows-i.result
-    (sym c.scope_of.ensures ∙ c.in-One.is) (symbols_apart (symbols_of c.args.rows.now) c.args.table.now.keys c.requires.table) (sym (c.find.ensures (symbols_of c.args.rows.now) c.requires.table) ∙ c.in-Some.is) in
-    ap (λ (t : Row). set c.args.rows.now c.in-Some.i t) c.step_row.ensures.row ∙ sym k.0
-
-pub returns-in-Some-clause-items : goal.returns-in-Some-clause-items
-returns-in-Some-clause-items c =
-    let k = found_steps c.args.venues.now.helped c.args.step.age c.args.step.position c.args.entry.now c.in-One.symbol c.args.rows.now c.in-Some.i c.index-rows-i.result
-    (sym c.scope_of.ensures ∙ c.in-One.is) (symbols_apart (symbols_of c.args.rows.now) c.args.table.now.keys c.requires.table) (sym (c.find.ensures (symbols_of c.args.rows.now) c.requires.table) ∙ c.in-Some.is) in
-    c.step_row.ensures.items ∙ ap (λ (t : List Change). c.args.out.now.items ++ t) (sym k.1)
-
-pub returns-in_default-clause-rows : goal.returns-in_default-clause-rows
-returns-in_default-clause-rows c =
-    sym (missed_steps c.args.venues.now.helped c.args.step.age c.args.step.position c.args.entry.now c.in-One.symbol c.args.rows.now
-    (sym c.scope_of.ensures ∙ c.in-One.is) (sym (c.find.ensures (symbols_of c.args.rows.now) c.requires.table) ∙ c.in_default.is)).0
-
-pub returns-in_default-clause-items : goal.returns-in_default-clause-items
-returns-in_default-clause-items c =
-    sym (alone c.args.out.now.items)
-    ∙ ap (λ (t : List Change). c.args.out.now.items ++ t) (sym (missed_steps c.args.venues.now.helped c.args.step.age c.args.step.position c.args.entry.now c.in-One.symbol c.args.rows.now
-    (sym c.scope_of.ensures ∙ c.in-One.is) (sym (c.find.ensures (symbols_of c.args.rows.now) c.requires.table) ∙ c.in_default.is)).1)
+    ∙ ap (λ (t : List Change). c.args.out.now.items ++ t)
+    (sym (ap (λ (e : Entry). filter_map (row_change helped c.args.step.age c.args.step.position e) c.args.rows.now) c.in-Consumed.is
+    ∙ (nothing_steps helped c.args.step.age c.args.step.position c.in-Consumed.venue c.in-Consumed.numbered c.args.rows.now c.in-Other.is).1))

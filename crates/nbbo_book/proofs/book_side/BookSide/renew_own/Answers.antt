@@ -25,10 +25,10 @@ returns-clause-side c =
     let best : c.if-venues-eq1.best ≡ best_at c.args.side may k.standings =
     elim c.if-venues-eq1.branch [
       | then-venues-eq1 w ↦
-        let one : c.args.venues.now.count ≡ 1 = search rules in
-        let below : c.args.venue < 1 = subst (λ (n : ℕ). c.args.venue < n) one c.requires.stale.before.below in
-        let standings : IsStandings 1 k.standings = subst (λ (n : ℕ). IsStandings n k.standings) one c.requires.stale.standings in
-        w.best-is ∙ c.requires.rank ∙ best_alone c.args.side may k.standings c.args.venue below standings
+          let one : c.args.venues.now.count ≡ 1 = search rules in
+          let below : c.args.venue < 1 = subst (λ (n : ℕ). c.args.venue < n) one c.requires.stale.before.below in
+          let standings : IsStandings 1 k.standings = subst (λ (n : ℕ). IsStandings n k.standings) one c.requires.stale.standings in
+          w.best-is ∙ c.requires.rank ∙ best_alone c.args.side may k.standings c.args.venue below standings
       | else-venues-eq1 w ↦ w.best-is ∙ w.best_of-best.ensures
     ] in
     ap (λ (o : Option Best). record { best = o; standings = k.standings }) best
