@@ -16,14 +16,13 @@ use feed_types::{Best, Side, VenueId};
 pub fn is_ahead(side: Side, standings: &[Standing; 16], x: &Best, y: &Best) -> bool
     ensures { result ≡ beats side (age_at standings.now) x.now y.now }
 {
-    if x.price != y.price {
-        return match side {
-            Side::Bid => x.price > y.price,
-            Side::Offer => x.price < y.price,
-        };
-    }
-    x.size > y.size
-        || x.size == y.size && standings[x.venue.index()].age < standings[y.venue.index()].age
+    let is_better = match side {
+        Side::Bid => x.price > y.price,
+        Side::Offer => x.price < y.price,
+    };
+    let is_older = standings[x.venue.index()].age < standings[y.venue.index()].age;
+    is_better
+        | (x.price == y.price) & ((x.size > y.size) | (x.size == y.size) & is_older)
 }
 
 /// Whether there is an x that ranks before the best, or before none.
