@@ -1,7 +1,7 @@
 //! Which of the venues' sides is the best.
 
 ghost use Rattle.std.specs.Prelude.{◌≡◌, not};
-ghost use Rattle.nbbo_book.specs.Nationals.{beats};
+ghost use Rattle.nbbo_book.specs.Nationals.{beats, is_better_price};
 ghost use Rattle.nbbo_book.specs.Changes.{is_same_best};
 ghost use Rattle.nbbo_book.specs.Ranks.{better_of as first_of_two, comes_first as first_comes, is_better as is_better_side, is_improved as is_improved_side, is_of as is_of_venue};
 ghost use Rattle.nbbo_book.specs.Rows.{age_at, may_at, rank_at as rank_at_venue, best_at};
@@ -11,18 +11,34 @@ use crate::shown::{Standing, rank_of};
 use crate::venues::Venues;
 use feed_types::{Best, Side, VenueId};
 
-/// Whether x ranks before y. Ages are read on ties alone.
+/// A higher bid, a lower offer.
+#[inline(always)]
+fn has_better_price(side: Side, x: &Best, y: &Best) -> bool
+    ensures { result ≡ is_better_price side x.now.price y.now.price }
+{
+    match side {
+        Side::Bid => x.price > y.price,
+        Side::Offer => x.price < y.price,
+    }
+}
+
+/// Whether x is ahead of y by its price or its size.
+#[inline(always)]
+fn is_better(side: Side, x: &Best, y: &Best) -> bool
+    ensures { result ≡ is_better_side side x.now y.now }
+{
+    has_better_price(side, x, y) | (x.price == y.price) & (x.size > y.size)
+}
+
+/// Whether x ranks before y. Which of two sides does is a coin's toss, so that all is compared and
+/// nothing branches.
 #[inline(always)]
 pub fn is_ahead(side: Side, standings: &[Standing; 16], x: &Best, y: &Best) -> bool
     ensures { result ≡ beats side (age_at standings.now) x.now y.now }
 {
-    let is_better = match side {
-        Side::Bid => x.price > y.price,
-        Side::Offer => x.price < y.price,
-    };
     let is_older = standings[x.venue.index()].age < standings[y.venue.index()].age;
-    is_better
-        | (x.price == y.price) & ((x.size > y.size) | (x.size == y.size) & is_older)
+    let is_equal = (x.price == y.price) & (x.size == y.size);
+    is_better(side, x, y) | is_equal & is_older
 }
 
 /// Whether there is an x that ranks before the best, or before none.
@@ -40,20 +56,6 @@ pub fn comes_first(
         (None, Some(_)) => true,
         (None, None) | (Some(_), None) => false,
     }
-}
-
-/// Whether x is ahead of y by its price or its size.
-#[inline(always)]
-fn is_better(side: Side, x: &Best, y: &Best) -> bool
-    ensures { result ≡ is_better_side side x.now y.now }
-{
-    if x.price != y.price {
-        return match side {
-            Side::Bid => x.price > y.price,
-            Side::Offer => x.price < y.price,
-        };
-    }
-    x.size > y.size
 }
 
 /// Whether there is an x now that is ahead of what was before, by its price or its size.
