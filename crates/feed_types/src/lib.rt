@@ -34,6 +34,3 @@ pub use line::{LineId, Side};
 pub use national::{Best, National, NationalState};
 pub use price::Price;
 pub use symbol::SymbolName;
-
-#[cfg(test)]
-mod tests;

@@ -20,8 +20,6 @@ mod laws;
 mod packet;
 mod reading;
 mod request;
-#[cfg(test)]
-mod tests;
 mod writing;
 
 pub use blocks::Messages;
