@@ -1,5 +1,6 @@
 -- Cited by private clauses alone: what a book keeps of a symbol, and how an entry changes it.
-use Rattle.std.specs.Prelude.{ℕ, List, Bool, false, not, ◌&&◌, Option, Some, None, slice_index_or, slice_set, replicate, if◌then◌else◌}
+use Rattle.std.specs.Prelude.{ℕ, List, Bool, false, not, ◌≡◌, ◌&&◌, ◌++◌, map, Option, Some, None, slice_index_or, slice_set, replicate, if◌then◌else◌}
+use Rattle.std.specs.List.{filter_map}
 use Rattle.std.specs.Str.{bytes_eq}
 use Rattle.feed_types.specs.declared.journal.Entry.{Entry}
 use Rattle.feed_types.specs.declared.journal.Entry.TheVariants.{Consumed, SelfHelp}
@@ -17,7 +18,7 @@ use Rattle.nbbo_book.specs.declared.row.Row.{Row}
 use Rattle.nbbo_book.specs.declared.change.Change.{Change}
 use Rattle.nbbo_book.specs.Sides.{shown_by, is_same_side}
 use Rattle.nbbo_book.specs.Eligible.{ranked_by}
-use Rattle.nbbo_book.specs.Changes.{change_of}
+use Rattle.nbbo_book.specs.Changes.{change_of, is_same_best}
 use Rattle.nbbo_book.specs.Books.{standing_at}
 use Rattle.nbbo_book.specs.Ranks.{best_in}
 
@@ -44,6 +45,13 @@ standings_shown venue shown age standings =
 abbrev pub side_with : Side → (ℕ → Bool) → List Standing → BookSide
 side_with side may standings =
     record { best = best_at side may standings; standings = standings }
+
+-- a side is the one with these standings, and this tells whether its best is another one now
+pub record Renews
+    (side : Side) (may : ℕ → Bool) (standings : List Standing)
+    (old new : BookSide) (is_other : Bool) : Type 0 where
+  pub kept : new ≡ side_with side may standings
+  pub moved : is_other ≡ not (is_same_best old.best new.best)
 
 -- a symbol with these halts and standings
 abbrev pub row_with :
@@ -107,6 +115,13 @@ abbrev pub row_change : List Bool → ℕ → ℕ → Entry → Row → Option C
 row_change helped age position entry row =
     change_of position row.symbol
     (national_at row) (national_at (row_after helped age entry row))
+
+-- every symbol is as after one more entry, and its changes are told behind those before
+pub record Applies
+    (helped : List Bool) (age position : ℕ) (entry : Entry)
+    (old new : List Row) (told telling : List Change) : Type 0 where
+  pub rows : new ≡ map (row_after helped age entry) old
+  pub items : telling ≡ told ++ filter_map (row_change helped age position entry) old
 
 -- the symbol that a quotation or a halt is of
 abbrev pub symbol_in_item : Item → Option (List ℕ)

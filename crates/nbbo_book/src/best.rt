@@ -30,8 +30,8 @@ fn is_better(side: Side, x: &Best, y: &Best) -> bool
     has_better_price(side, x, y) | (x.price == y.price) & (x.size > y.size)
 }
 
-/// Whether x ranks before y. Which of two sides does is a coin's toss, so that all is compared and
-/// nothing branches.
+/// Whether x ranks before y. Which of two sides does is a coin's toss: price, size and age are
+/// compared at once, so that few branches hang on it.
 #[inline(always)]
 pub fn is_ahead(side: Side, standings: &[Standing; 16], x: &Best, y: &Best) -> bool
     ensures { result ≡ beats side (age_at standings.now) x.now y.now }

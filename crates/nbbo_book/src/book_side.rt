@@ -3,7 +3,7 @@
 ghost use Rattle.std.specs.Prelude.{◌≡◌, ◌<◌, not, true, false, None, IfSome};
 ghost use Rattle.nbbo_book.specs.Changes.{is_same_best};
 ghost use Rattle.nbbo_book.specs.Ranks.{better_of, is_of as is_of_venue};
-ghost use Rattle.nbbo_book.specs.Rows.{age_at, may_at, rank_at as rank_at_venue, standings_shown, side_with};
+ghost use Rattle.nbbo_book.specs.Rows.{age_at, may_at, rank_at as rank_at_venue, standings_shown, Renews};
 ghost use Rattle.nbbo_book.specs.Tables.{IsSide, IsSideBut, IsStale};
 
 use crate::best::{best_of, comes_first, differs, is_improved, is_of, rank_at};
@@ -52,9 +52,8 @@ impl BookSide {
         requires rank { rank
             ≡ rank_at_venue (may_at venues.now.helped halted.now) self.old.standings venue }
         requires own { is_of_venue venue self.old.best ≡ true }
-        ensures side { self.new
-            ≡ side_with side (may_at venues.now.helped halted.now) self.old.standings }
-        ensures moved { result ≡ not (is_same_best self.old.best self.new.best) }
+        ensures { Renews side (may_at venues.now.helped halted.now) self.old.standings
+            self.old self.new result }
     {
         if is_improved(side, &self.best, &rank) {
             self.best = rank;
@@ -75,9 +74,8 @@ impl BookSide {
     fn renew(&mut self, side: Side, venue: VenueId, venues: &Venues, halted: &[bool; 16]) -> bool
         requires { IsStale
             side (may_at venues.now.helped halted.now) venues.now.count venue self.old }
-        ensures side { self.new
-            ≡ side_with side (may_at venues.now.helped halted.now) self.old.standings }
-        ensures moved { result ≡ not (is_same_best self.old.best self.new.best) }
+        ensures { Renews side (may_at venues.now.helped halted.now) self.old.standings
+            self.old self.new result }
     {
         let rank = rank_at(&self.standings, venues, halted, venue);
         if is_of(&self.best, venue) {
@@ -100,9 +98,9 @@ impl BookSide {
         requires kept { IsSide side (may_at venues.now.helped halted.now)
             venues.now.count standing.age self.old }
         requires venue { venue < venues.now.count }
-        ensures side { self.new ≡ side_with side (may_at venues.now.helped halted.now)
-            (standings_shown venue standing.shown standing.age self.old.standings) }
-        ensures moved { result ≡ not (is_same_best self.old.best self.new.best) }
+        ensures { Renews side (may_at venues.now.helped halted.now)
+            (standings_shown venue standing.shown standing.age self.old.standings)
+            self.old self.new result }
     {
         if is_same(self.standings[venue.index()].shown, standing.shown) {
             return false;
@@ -123,9 +121,8 @@ impl BookSide {
     ) -> bool
         requires { IsSideBut side (may_at venues.now.helped halted.now)
             venues.now.count venue self.old }
-        ensures side { self.new ≡ side_with side (may_at venues.now.helped halted.now)
-            (standings_shown venue None age self.old.standings) }
-        ensures moved { result ≡ not (is_same_best self.old.best self.new.best) }
+        ensures { Renews side (may_at venues.now.helped halted.now)
+            (standings_shown venue None age self.old.standings) self.old self.new result }
     {
         match self.standings[venue.index()].shown {
             None => false,
@@ -145,9 +142,8 @@ impl BookSide {
     ) -> bool
         requires { IsSideBut side (may_at venues.now.helped halted.now)
             venues.now.count venue self.old }
-        ensures side { self.new ≡ side_with side (may_at venues.now.helped halted.now)
-            (standings_shown venue None age self.old.standings) }
-        ensures moved { result ≡ not (is_same_best self.old.best self.new.best) }
+        ensures { Renews side (may_at venues.now.helped halted.now)
+            (standings_shown venue None age self.old.standings) self.old self.new result }
     {
         if is_same(self.standings[venue.index()].shown, None) {
             return false;
@@ -161,9 +157,8 @@ impl BookSide {
     pub fn gate(&mut self, side: Side, venue: VenueId, venues: &Venues, halted: &[bool; 16]) -> bool
         requires { IsSideBut side (may_at venues.now.helped halted.now)
             venues.now.count venue self.old }
-        ensures side { self.new
-            ≡ side_with side (may_at venues.now.helped halted.now) self.old.standings }
-        ensures moved { result ≡ not (is_same_best self.old.best self.new.best) }
+        ensures { Renews side (may_at venues.now.helped halted.now) self.old.standings
+            self.old self.new result }
     {
         match self.standings[venue.index()].shown {
             None => false,
@@ -182,9 +177,8 @@ impl BookSide {
     ) -> bool
         requires { IsSideBut side (may_at venues.now.helped halted.now)
             venues.now.count venue self.old }
-        ensures side { self.new
-            ≡ side_with side (may_at venues.now.helped halted.now) self.old.standings }
-        ensures moved { result ≡ not (is_same_best self.old.best self.new.best) }
+        ensures { Renews side (may_at venues.now.helped halted.now) self.old.standings
+            self.old self.new result }
     {
         self.renew(side, venue, venues, halted)
     }

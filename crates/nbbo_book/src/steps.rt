@@ -4,7 +4,7 @@ ghost use Rattle.std.specs.Prelude.{◌≡◌, ◌++◌, ◌∷◌, [], ◌+◌,
 ghost use Rattle.std.specs.List.{AllByRecursion, filter_map};
 ghost use Rattle.std.specs.Vec.{vec_len, vec_capacity};
 ghost use Rattle.std.specs.Option.{option_to_list};
-ghost use Rattle.nbbo_book.specs.Rows.{row_after, row_change, symbol_in};
+ghost use Rattle.nbbo_book.specs.Rows.{row_after, row_change, symbol_in, Applies};
 ghost use Rattle.nbbo_book.specs.Tables.{IsBefore, IsTable, symbols_of};
 
 use crate::change::Change;
@@ -59,10 +59,8 @@ fn step_rows(rows: &mut [Row], venues: &Venues, entry: &Entry, step: Step, out: 
     requires before { AllByRecursion
         (IsBefore entry.now venues.now.helped venues.now.count step.age) rows.old }
     requires room { vec_len out.old + length rows.old ≤ vec_capacity out.old }
-    ensures rows { rows.new ≡ map (row_after venues.now.helped step.age entry.now) rows.old }
-    ensures items { out.new.items
-        ≡ out.old.items ++ filter_map (row_change
-        venues.now.helped step.age step.position entry.now) rows.old }
+    ensures applies { Applies venues.now.helped step.age step.position entry.now
+        rows.old rows.new out.old.items out.new.items }
     ensures len { vec_len out.new ≤ vec_len out.old + length rows.old }
     ensures capacity { vec_capacity out.new ≡ vec_capacity out.old }
 {
@@ -87,10 +85,8 @@ fn step_symbol(
     requires before { AllByRecursion
         (IsBefore entry.now venues.now.helped venues.now.count step.age) rows.old }
     requires room { vec_len out.old + length rows.old ≤ vec_capacity out.old }
-    ensures rows { rows.new ≡ map (row_after venues.now.helped step.age entry.now) rows.old }
-    ensures items { out.new.items
-        ≡ out.old.items ++ filter_map (row_change
-        venues.now.helped step.age step.position entry.now) rows.old }
+    ensures applies { Applies venues.now.helped step.age step.position entry.now
+        rows.old rows.new out.old.items out.new.items }
     ensures len { vec_len out.new ≤ vec_len out.old + length rows.old }
     ensures capacity { vec_capacity out.new ≡ vec_capacity out.old }
 {
@@ -114,10 +110,8 @@ pub fn apply_step(
     requires before { AllByRecursion
         (IsBefore entry.now venues.now.helped venues.now.count step.age) rows.old }
     requires room { vec_len out.old + length rows.old ≤ vec_capacity out.old }
-    ensures rows { rows.new ≡ map (row_after venues.now.helped step.age entry.now) rows.old }
-    ensures items { out.new.items
-        ≡ out.old.items ++ filter_map (row_change
-        venues.now.helped step.age step.position entry.now) rows.old }
+    ensures applies { Applies venues.now.helped step.age step.position entry.now
+        rows.old rows.new out.old.items out.new.items }
     ensures len { vec_len out.new ≤ vec_len out.old + length rows.old }
     ensures capacity { vec_capacity out.new ≡ vec_capacity out.old }
 {

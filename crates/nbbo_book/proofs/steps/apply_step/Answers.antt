@@ -6,16 +6,14 @@ use Rattle.nbbo_book.specs.Rows.{row_after, row_change}
 use Rattle.nbbo_book.proofs.Stepping.{nothing_steps, alone}
 use Rattle.nbbo_book.proofs.steps.apply_step.Goals as goal
 
-pub returns-in-Other-clause-rows : goal.returns-in-Other-clause-rows
-returns-in-Other-clause-rows c =
+pub returns-in-Other-clause-applies : goal.returns-in-Other-clause-applies
+returns-in-Other-clause-applies c =
     let helped = c.args.venues.now.helped in
-    sym (ap (λ (e : Entry). map (row_after helped c.args.step.age e) c.args.rows.now) c.in-Consumed.is
-    ∙ (nothing_steps helped c.args.step.age c.args.step.position c.in-Consumed.venue c.in-Consumed.numbered c.args.rows.now c.in-Other.is).0)
-
-pub returns-in-Other-clause-items : goal.returns-in-Other-clause-items
-returns-in-Other-clause-items c =
-    let helped = c.args.venues.now.helped in
-    sym (alone c.args.out.now.items)
-    ∙ ap (λ (t : List Change). c.args.out.now.items ++ t)
-    (sym (ap (λ (e : Entry). filter_map (row_change helped c.args.step.age c.args.step.position e) c.args.rows.now) c.in-Consumed.is
-    ∙ (nothing_steps helped c.args.step.age c.args.step.position c.in-Consumed.venue c.in-Consumed.numbered c.args.rows.now c.in-Other.is).1))
+    let k = nothing_steps helped c.args.step.age c.args.step.position c.in-Consumed.venue c.in-Consumed.numbered c.args.rows.now c.in-Other.is in
+    record {
+      rows = sym (ap (λ (e : Entry). map (row_after helped c.args.step.age e) c.args.rows.now) c.in-Consumed.is ∙ k.0);
+      items =
+          sym (alone c.args.out.now.items)
+          ∙ ap (λ (t : List Change). c.args.out.now.items ++ t)
+          (sym (ap (λ (e : Entry). filter_map (row_change helped c.args.step.age c.args.step.position e) c.args.rows.now) c.in-Consumed.is ∙ k.1));
+    }

@@ -28,7 +28,7 @@ invariant_of-self c =
     let helped = c.take_self_help.ensures.helped in
     let rows =
     with_items_is c.self.inside.rows c.apply_step.new.rows (c.apply_step.auto.rows ∙ c.as_mut_slice-rows.ensures.len)
-    ∙ c.apply_step.ensures.rows
+    ∙ c.apply_step.ensures.applies.rows
     ∙ ap (λ (t : List Row). map (row_after c.take_self_help.new.self.helped (c.self.inside.applied + 1) c.args.entry.now) t) c.as_mut_slice-rows.ensures.value
     ∙ ap (λ (t : List Bool). map (row_after t (c.self.inside.applied + 1) c.args.entry.now) c.self.inside.rows.items) helped in
     let items : List Row = (with_items c.self.inside.rows c.apply_step.new.rows).items in
@@ -45,7 +45,7 @@ returns-clause-fits c = λ entries fits.
     let helped = c.take_self_help.ensures.helped in
     let rows =
     with_items_is c.self.inside.rows c.apply_step.new.rows (c.apply_step.auto.rows ∙ c.as_mut_slice-rows.ensures.len)
-    ∙ c.apply_step.ensures.rows
+    ∙ c.apply_step.ensures.applies.rows
     ∙ ap (λ (t : List Row). map (row_after c.take_self_help.new.self.helped (c.self.inside.applied + 1) c.args.entry.now) t) c.as_mut_slice-rows.ensures.value
     ∙ ap (λ (t : List Bool). map (row_after t (c.self.inside.applied + 1) c.args.entry.now) c.self.inside.rows.items) helped in
     let items : List Row = (with_items c.self.inside.rows c.apply_step.new.rows).items in
@@ -59,7 +59,7 @@ returns-clause-changes c = λ entries fits.
     let b : BookState = record { symbols = symbols_of c.self.inside.rows.items; venues = c.self.inside.venues.count; last = c.self.inside.last; applied = c.self.inside.applied; helped = c.self.inside.venues.helped; rows = c.self.inside.rows.items } in
     let here : Fits b entries = subst (λ (t : BookState). Fits t entries) (sym c.self.view_is) fits in
     let below : venue_of c.args.entry.now < b.venues = subst (λ (t : BookState). venue_of c.args.entry.now < t.venues) (sym c.self.view_is) c.requires.venue in
-    c.apply_step.ensures.items
+    c.apply_step.ensures.applies.items
     ∙ ap (λ (t : List Change). c.args.out.now.items ++ t)
     (ap (λ (t : List Row). filter_map (row_change c.take_self_help.new.self.helped (c.self.inside.applied + 1) c.args.position c.args.entry.now) t) c.as_mut_slice-rows.ensures.value
     ∙ ap (λ (t : List Bool). filter_map (row_change t (c.self.inside.applied + 1) c.args.position c.args.entry.now) c.self.inside.rows.items) c.take_self_help.ensures.helped
@@ -70,7 +70,7 @@ pub returns-clause-symbols : goal.returns-clause-symbols
 returns-clause-symbols c =
     ap symbols_of
     (with_items_is c.self.inside.rows c.apply_step.new.rows (c.apply_step.auto.rows ∙ c.as_mut_slice-rows.ensures.len)
-    ∙ c.apply_step.ensures.rows
+    ∙ c.apply_step.ensures.applies.rows
     ∙ ap (λ (t : List Row). map (row_after c.take_self_help.new.self.helped (c.self.inside.applied + 1) c.args.entry.now) t) c.as_mut_slice-rows.ensures.value)
     ∙ rows_keep_symbols c.take_self_help.new.self.helped (c.self.inside.applied + 1) c.args.entry.now c.self.inside.rows.items
     ∙ ap (λ (t : BookState). t.symbols) c.self.view_is

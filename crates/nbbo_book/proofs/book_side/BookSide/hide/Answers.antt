@@ -5,10 +5,10 @@ use Rattle.nbbo_book.proofs.Stepping.{same_best_refl}
 use Rattle.nbbo_book.proofs.Kept.{hidden_absent}
 use Rattle.nbbo_book.proofs.book_side.BookSide.hide.Goals as goal
 
-pub returns-in-None-clause-moved : goal.returns-in-None-clause-moved
-returns-in-None-clause-moved c = sym (ap not (same_best_refl c.args.self.now.best))
-
-pub returns-in-None-clause-side : goal.returns-in-None-clause-side
-returns-in-None-clause-side c =
+pub returns-in-None : goal.returns-in-None
+returns-in-None c =
     let none : (standing_at c.args.self.now.standings c.args.venue).shown ≡ None = subst (λ (n : ℕ). (standing_at c.args.self.now.standings n).shown ≡ None) c.index.ensures.value c.in-None.is in
-    hidden_absent c.args.side (may_at c.args.venues.now.helped c.args.halted.now) c.args.venues.now.count c.args.venue c.args.age c.args.self.now c.requires none
+    record {
+      kept = hidden_absent c.args.side (may_at c.args.venues.now.helped c.args.halted.now) c.args.venues.now.count c.args.venue c.args.age c.args.self.now c.requires none;
+      moved = sym (ap not (same_best_refl c.args.self.now.best));
+    }

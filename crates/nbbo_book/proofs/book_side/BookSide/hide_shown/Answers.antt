@@ -9,15 +9,15 @@ use Rattle.nbbo_book.proofs.Stepping.{same_best_refl}
 use Rattle.nbbo_book.proofs.Kept.{stale_set, standings_hidden-are, hidden_absent, shown_new}
 use Rattle.nbbo_book.proofs.book_side.BookSide.hide_shown.Goals as goal
 
-pub returns-then-is_same-clause-moved : goal.returns-then-is_same-clause-moved
-returns-then-is_same-clause-moved c = sym (ap not (same_best_refl c.args.self.now.best))
-
-pub returns-then-is_same-clause-side : goal.returns-then-is_same-clause-side
-returns-then-is_same-clause-side c =
+pub returns-then-is_same : goal.returns-then-is_same
+returns-then-is_same c =
     let ss = c.args.self.now.standings in
-    hidden_absent c.args.side (may_at c.args.venues.now.helped c.args.halted.now) c.args.venues.now.count c.args.venue c.args.age c.args.self.now c.requires
-    (same_side_sound (standing_at ss c.args.venue).shown None
-    (ap (λ (n : ℕ). is_same_side (standing_at ss n).shown None) (sym c.index.ensures.value) ∙ sym c.is_same.ensures ∙ c.if-is_same.true))
+    record {
+      kept = hidden_absent c.args.side (may_at c.args.venues.now.helped c.args.halted.now) c.args.venues.now.count c.args.venue c.args.age c.args.self.now c.requires
+          (same_side_sound (standing_at ss c.args.venue).shown None
+          (ap (λ (n : ℕ). is_same_side (standing_at ss n).shown None) (sym c.index.ensures.value) ∙ sym c.is_same.ensures ∙ c.if-is_same.true));
+      moved = sym (ap not (same_best_refl c.args.self.now.best));
+    }
 
 pub renew-requires : goal.renew-requires
 renew-requires c =
@@ -28,11 +28,15 @@ renew-requires c =
     (stale_set c.args.side may c.args.venues.now.count c.args.venue k hidden c.requires
     (standings_hidden-are c.args.venues.now.count c.args.age k.standings c.args.venue c.requires.below c.requires.standings))
 
-pub returns-clause-side : goal.returns-clause-side
-returns-clause-side c =
+pub returns : goal.returns
+returns c =
     let may : ℕ → Bool = may_at c.args.venues.now.helped c.args.halted.now in
     let ss = c.args.self.now.standings in
-    c.renew.ensures.side
-    ∙ ap (λ (n : ℕ). side_with c.args.side may (set ss n (record { shown = None; age = c.args.age }))) c.index-2.ensures.value
-    ∙ shown_new c.args.side may c.args.age c.args.venue None ss
-    (ap (λ (n : ℕ). is_same_side (standing_at ss n).shown None) (sym c.index.ensures.value) ∙ sym c.is_same.ensures ∙ c.if-is_same.false)
+    record {
+      kept =
+          c.renew.ensures.kept
+          ∙ ap (λ (n : ℕ). side_with c.args.side may (set ss n (record { shown = None; age = c.args.age }))) c.index-2.ensures.value
+          ∙ shown_new c.args.side may c.args.age c.args.venue None ss
+          (ap (λ (n : ℕ). is_same_side (standing_at ss n).shown None) (sym c.index.ensures.value) ∙ sym c.is_same.ensures ∙ c.if-is_same.false);
+      moved = c.renew.ensures.moved;
+    }

@@ -13,8 +13,8 @@ renew_other-requires c =
     rank_of_another c.args.venue k.best c.rank_at-rank.result (sym c.is_of.ensures ∙ c.if-is_of.false)
     (λ x e. rank_own may k.standings c.args.venue x (sym c.rank_at-rank.ensures ∙ e))
 
-pub returns-else-is_of-clause-side : goal.returns-else-is_of-clause-side
-returns-else-is_of-clause-side c =
+pub returns-else-is_of : goal.returns-else-is_of
+returns-else-is_of c =
     let may : ℕ → Bool = may_at c.args.venues.now.helped c.args.halted.now in
     let k = c.args.self.now in
     let best : c.renew_other.new.self.best ≡ best_at c.args.side may k.standings =
@@ -22,5 +22,9 @@ returns-else-is_of-clause-side c =
     ∙ ap (better_of c.args.side (age_at k.standings) k.best) c.rank_at-rank.ensures
     ∙ best_of_two c.args.side may c.args.venues.now.count c.args.venue k c.requires
     (best_of_another c.args.venue k.best (sym c.is_of.ensures ∙ c.if-is_of.false)) in
-    ap (λ (o : Option Best). record { best = o; standings = c.renew_other.new.self.standings }) best
-    ∙ ap (λ (ss : List Standing). record { best = best_at c.args.side may k.standings; standings = ss }) c.renew_other.ensures.standings
+    record {
+      kept =
+          ap (λ (o : Option Best). record { best = o; standings = c.renew_other.new.self.standings }) best
+          ∙ ap (λ (ss : List Standing). record { best = best_at c.args.side may k.standings; standings = ss }) c.renew_other.ensures.standings;
+      moved = c.renew_other.ensures.moved;
+    }

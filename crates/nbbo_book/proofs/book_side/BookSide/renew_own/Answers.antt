@@ -6,20 +6,20 @@ use Rattle.nbbo_book.proofs.Kept.{improved_is_best, improved_moves, best_alone}
 use Rattle.nbbo_book.proofs.book_side.BookSide.renew_own.Goals.{then-venues-eq1, else-venues-eq1}
 use Rattle.nbbo_book.proofs.book_side.BookSide.renew_own.Goals as goal
 
-pub returns-then-is_improved-clause-side : goal.returns-then-is_improved-clause-side
-returns-then-is_improved-clause-side c =
+pub returns-then-is_improved : goal.returns-then-is_improved
+returns-then-is_improved c =
     let may : ℕ → Bool = may_at c.args.venues.now.helped c.args.halted.now in
     let k = c.args.self.now in
-    ap (λ (o : Option Best). record { best = o; standings = k.standings })
-    (improved_is_best c.args.side may c.args.venues.now.count c.args.venue k k.best c.args.rank c.requires.stale refl c.requires.own (sym c.requires.rank)
-    (sym c.is_improved.ensures ∙ c.if-is_improved.true))
+    record {
+      kept =
+          ap (λ (o : Option Best). record { best = o; standings = k.standings })
+          (improved_is_best c.args.side may c.args.venues.now.count c.args.venue k k.best c.args.rank c.requires.stale refl c.requires.own (sym c.requires.rank)
+          (sym c.is_improved.ensures ∙ c.if-is_improved.true));
+      moved = sym (ap not (improved_moves c.args.side k.best c.args.rank (sym c.is_improved.ensures ∙ c.if-is_improved.true)));
+    }
 
-pub returns-then-is_improved-clause-moved : goal.returns-then-is_improved-clause-moved
-returns-then-is_improved-clause-moved c =
-    sym (ap not (improved_moves c.args.side c.args.self.now.best c.args.rank (sym c.is_improved.ensures ∙ c.if-is_improved.true)))
-
-pub returns-clause-side : goal.returns-clause-side
-returns-clause-side c =
+pub returns : goal.returns
+returns c =
     let may : ℕ → Bool = may_at c.args.venues.now.helped c.args.halted.now in
     let k = c.args.self.now in
     let best : c.if-venues-eq1.best ≡ best_at c.args.side may k.standings =
@@ -31,4 +31,7 @@ returns-clause-side c =
           w.best-is ∙ c.requires.rank ∙ best_alone c.args.side may k.standings c.args.venue below standings
       | else-venues-eq1 w ↦ w.best-is ∙ w.best_of-best.ensures
     ] in
-    ap (λ (o : Option Best). record { best = o; standings = k.standings }) best
+    record {
+      kept = ap (λ (o : Option Best). record { best = o; standings = k.standings }) best;
+      moved = c.differs-moved.ensures;
+    }

@@ -4,11 +4,19 @@ use Rattle.nbbo_book.specs.Sides.{is_same_side}
 use Rattle.nbbo_book.specs.Rows.{may_at, side_with}
 use Rattle.nbbo_book.specs.Tables.{IsStale}
 use Rattle.nbbo_book.proofs.Stepping.{same_best_refl}
-use Rattle.nbbo_book.proofs.Kept.{but_itself, stale_set, standings_shown-are, shown_new}
+use Rattle.nbbo_book.proofs.Kept.{but_itself, stale_set, standings_shown-are, shown_same, shown_new}
 use Rattle.nbbo_book.proofs.book_side.BookSide.show.Goals as goal
 
-pub returns-then-is_same-clause-moved : goal.returns-then-is_same-clause-moved
-returns-then-is_same-clause-moved c = sym (ap not (same_best_refl c.args.self.now.best))
+pub returns-then-is_same : goal.returns-then-is_same
+returns-then-is_same c =
+    let may : ℕ → Bool = may_at c.args.venues.now.helped c.args.halted.now in
+    let standing = c.args.standing in
+    let ss = c.args.self.now.standings in
+    record {
+      kept = shown_same c.args.side may c.args.venues.now.count standing.age c.args.venue standing.shown c.args.self.now c.requires.kept
+          (ap (λ (n : ℕ). is_same_side (standing_at ss n).shown standing.shown) (sym c.index.ensures.value) ∙ sym c.is_same.ensures ∙ c.if-is_same.true);
+      moved = sym (ap not (same_best_refl c.args.self.now.best));
+    }
 
 pub renew-requires : goal.renew-requires
 renew-requires c =
@@ -19,11 +27,15 @@ renew-requires c =
     (but_itself c.args.side may c.args.venues.now.count c.args.standing.age c.args.venue k c.requires.venue c.requires.kept)
     (standings_shown-are c.args.venues.now.count c.args.standing.age k.standings c.args.venue c.args.standing.shown c.requires.venue c.requires.kept.past c.requires.kept.standings))
 
-pub returns-clause-side : goal.returns-clause-side
-returns-clause-side c =
+pub returns : goal.returns
+returns c =
     let may : ℕ → Bool = may_at c.args.venues.now.helped c.args.halted.now in
     let ss = c.args.self.now.standings in
-    c.renew.ensures.side
-    ∙ ap (λ (n : ℕ). side_with c.args.side may (set ss n c.args.standing)) c.index-2.ensures.value
-    ∙ shown_new c.args.side may c.args.standing.age c.args.venue c.args.standing.shown ss
-    (ap (λ (n : ℕ). is_same_side (standing_at ss n).shown c.args.standing.shown) (sym c.index.ensures.value) ∙ sym c.is_same.ensures ∙ c.if-is_same.false)
+    record {
+      kept =
+          c.renew.ensures.kept
+          ∙ ap (λ (n : ℕ). side_with c.args.side may (set ss n c.args.standing)) c.index-2.ensures.value
+          ∙ shown_new c.args.side may c.args.standing.age c.args.venue c.args.standing.shown ss
+          (ap (λ (n : ℕ). is_same_side (standing_at ss n).shown c.args.standing.shown) (sym c.index.ensures.value) ∙ sym c.is_same.ensures ∙ c.if-is_same.false);
+      moved = c.renew.ensures.moved;
+    }
