@@ -1,5 +1,6 @@
 -- What a book keeps of a side, after a venue's standing was set or its leave to be ranked changed.
-use Rattle.std.proofs.Common.{ℕ, zero, suc, ◌<◌, ◌≤◌, ◌≡◌, ◌+◌, List, [], ◌∷◌, Bool, true, false, not, refl, ap, sym, ◌∙◌, subst, arith, length, cond, nat_eq, Option, Some, None, set, get_or}
+use Rattle.std.proofs.Common.{ℕ, zero, suc, ◌<◌, ◌≤◌, ◌≡◌, ◌+◌, List, [], ◌∷◌, Bool, true, false, not, refl, ap, sym, ◌∙◌, subst, arith, length, cond, nat_eq, nat_lt, Option, Some, None, set, get_or}
+use Rattle.std.proofs.lemmas.List.{get_or_past}
 use Rattle.std.specs.Prelude.{◌&&◌, IsSome, IfSome, is_some}
 use Rattle.feed_types.specs.declared.journal.Entry.TheVariants.{SelfHelp}
 use Rattle.feed_types.specs.declared.line.Side.{Side}
@@ -15,7 +16,7 @@ use Rattle.nbbo_book.specs.Books.{standing_at}
 use Rattle.nbbo_book.specs.Changes.{is_same_best}
 use Rattle.nbbo_book.specs.Ranks.{better_of, is_better, is_improved, is_of}
 use Rattle.nbbo_book.specs.Rows.{age_at, may_at, rank_at, best_at, standings_shown, side_with}
-use Rattle.nbbo_book.specs.Tables.{IsStandings, IsSide, IsSideBut, IsStale, IsRowBut, IsBefore}
+use Rattle.nbbo_book.specs.Tables.{IsStandings, IsNewest, IsSide, IsSideBut, IsStale, IsRowBut, IsBefore}
 use Rattle.nbbo_book.proofs.Beating.{better_beats}
 use Rattle.nbbo_book.proofs.Ranking.{nat_apart, nat_same, nat_split, some_same}
 use Rattle.nbbo_book.proofs.Firsts.{IsOwn, IsApart, IsTop, IsBelow, top_found, top_joined, top_more, top_whole, top_is, top_same, best_same}
@@ -98,10 +99,29 @@ standings_set n ss v st below own_age h =
 abbrev pub IsPast : ℕ → List Standing → Type 0
 IsPast next ss = (w : ℕ) → w < 16 → age_at ss w < next
 
+age_at_most : (next : ℕ) (ss : List Standing) (w : ℕ) → IsPast next ss → length ss ≡ 16 → age_at ss w ≤ next
+age_at_most next ss w past count =
+    (elim (nat_lt w 16) as (λ t. nat_lt w 16 ≡ t → age_at ss w ≤ next) [
+      | true ↦ λ e. (let p = past w (grind (arith, e)) in omega (arith, p))
+      | false ↦ λ e. subst (λ (t : Standing). t.age ≤ next) (sym (get_or_past ss w _ (grind (arith, e, count)))) (omega arith)
+    ]) refl
+
 -- as of an entry that comes after all of them
 pub standings_shown-are : (n next : ℕ) (ss : List Standing) (v : ℕ) (o : Option Shown) → v < n → IsPast next ss → IsStandings n ss → IsStandings n (set ss v (record { shown = o; age = next }))
 standings_shown-are n next ss v o below past h =
     standings_set n ss v (record { shown = o; age = next }) below (λ there w c same. (let p = past w c in omega (arith, p, same))) h
+
+-- and no standing is younger then
+pub shown_newest : (n next : ℕ) (ss : List Standing) (v : ℕ) (o : Option Shown) → v < n → IsPast next ss → IsStandings n ss → IsNewest v (set ss v (record { shown = o; age = next }))
+shown_newest n next ss v o below past h w =
+    let st : Standing = record { shown = o; age = next } in
+    let under : v < length ss = (let few = h.few in omega (arith, below, few, h.count)) in
+    let own : age_at (set ss v st) v ≡ next = ap (λ (t : Standing). t.age) (standing_set ss v st under) in
+    let at_most : age_at (set ss v st) w ≤ next =
+    nat_split w v (age_at (set ss v st) w ≤ next)
+    (λ e. subst (λ (k : ℕ). age_at (set ss v st) k ≤ next) (sym e) (omega (arith, own)))
+    (λ d. subst (λ (k : ℕ). k ≤ next) (sym (ap (λ (t : Standing). t.age) (standing_off ss v w st d))) (age_at_most next ss w past h.count)) in
+    grind (arith, own, at_most)
 
 pub standings_hidden-are : (n age : ℕ) (ss : List Standing) (v : ℕ) → v < n → IsStandings n ss → IsStandings n (set ss v (record { shown = None; age = age }))
 standings_hidden-are n age ss v below h =
@@ -201,6 +221,10 @@ best_of_another v (Some c) p = p
 pub rank_of_another : (v : ℕ) (o r : Option Best) → is_of v o ≡ false → ((x : Best) → r ≡ Some x → x.venue ≡ v) → IfSome r (λ x. is_of x.venue o ≡ false)
 rank_of_another v o None p own = tt
 rank_of_another v o (Some x) p own = subst (λ (w : ℕ). is_of w o ≡ false) (sym (own x refl)) p
+
+pub rank_newest : (v : ℕ) (ss : List Standing) (r : Option Best) → IsNewest v ss → ((x : Best) → r ≡ Some x → x.venue ≡ v) → IfSome r (λ x. IsNewest x.venue ss)
+rank_newest v ss None h own = tt
+rank_newest v ss (Some x) h own = subst (λ (w : ℕ). IsNewest w ss) (sym (own x refl)) h
 
 first_of_none : (b : Side) (f : ℕ → ℕ) (r : Option Best) → better_of b f None r ≡ r
 first_of_none b f None = refl

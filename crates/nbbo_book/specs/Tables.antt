@@ -1,5 +1,5 @@
 -- Cited by private clauses alone: the table of the symbols, and what every book keeps.
-use Rattle.std.specs.Prelude.{◌≡◌, ◌≢◌, ℕ, ◌<◌, ◌≤◌, ◌+◌, nat_eq, List, Bool, false, None, IsSome, slice_index_or, length, map}
+use Rattle.std.specs.Prelude.{◌≡◌, ◌≢◌, ℕ, ◌<◌, ◌≤◌, ◌+◌, nat_eq, nat_lt, List, Bool, false, None, IsSome, slice_index_or, length, map}
 use Rattle.std.specs.Int.{w64, to_be_bytes}
 use Rattle.std.specs.List.{AllByRecursion, IsDistinct}
 use Rattle.feed_types.specs.Symbols.{word_of}
@@ -33,6 +33,11 @@ pub record IsStandings (venues : ℕ) (standings : List Standing) : Type 0 where
       → IsSome (standing_at standings v).shown → IsSome (standing_at standings w).shown
       → age_at standings v ≢ age_at standings w
   pub silent : (venue : ℕ) → venues ≤ venue → (standing_at standings venue).shown ≡ None
+
+-- no venue's standing is younger than this one's
+abbrev pub IsNewest : ℕ → List Standing → Type 0
+IsNewest venue standings =
+    (w : ℕ) → nat_lt (age_at standings venue) (age_at standings w) ≡ false
 
 -- the ages are those of entries before the next one, and the best is that of the standings
 pub record IsSide

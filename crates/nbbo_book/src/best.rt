@@ -1,11 +1,11 @@
 //! Which of the venues' sides is the best.
 
-ghost use Rattle.std.specs.Prelude.{◌≡◌, not};
+ghost use Rattle.std.specs.Prelude.{◌≡◌, not, true, IfSome};
 ghost use Rattle.nbbo_book.specs.Nationals.{beats, is_better_price};
 ghost use Rattle.nbbo_book.specs.Changes.{is_same_best};
 ghost use Rattle.nbbo_book.specs.Ranks.{better_of as first_of_two, comes_first as first_comes, is_better as is_better_side, is_improved as is_improved_side, is_of as is_of_venue};
 ghost use Rattle.nbbo_book.specs.Rows.{age_at, may_at, rank_at as rank_at_venue, best_at};
-ghost use Rattle.nbbo_book.specs.Tables.{IsStandings};
+ghost use Rattle.nbbo_book.specs.Tables.{IsStandings, IsNewest};
 
 use crate::shown::{Standing, rank_of};
 use crate::venues::Venues;
@@ -41,18 +41,27 @@ pub fn is_ahead(side: Side, standings: &[Standing; 16], x: &Best, y: &Best) -> b
     is_better(side, x, y) | is_equal & is_older
 }
 
-/// Whether there is an x that ranks before the best, or before none.
+/// Whether there is an x that ranks before the best, or before none. The newest of all standings
+/// ranks before none by its age, so that no age is read then.
 #[inline(always)]
 pub fn comes_first(
     side: Side,
+    newest: bool,
     standings: &[Standing; 16],
     best: &Option<Best>,
     x: &Option<Best>,
 ) -> bool
+    requires { newest ≡ true → IfSome x.now (λ x. IsNewest x.venue standings.now) }
     ensures { result ≡ first_comes side (age_at standings.now) best.now x.now }
 {
     match (best, x) {
-        (Some(best), Some(x)) => is_ahead(side, standings, x, best),
+        (Some(best), Some(x)) => {
+            if newest {
+                is_better(side, x, best)
+            } else {
+                is_ahead(side, standings, x, best)
+            }
+        }
         (None, Some(_)) => true,
         (None, None) | (Some(_), None) => false,
     }
@@ -79,7 +88,7 @@ pub fn better_of(
 ) -> Option<Best>
     ensures { result ≡ first_of_two side (age_at standings.now) best x }
 {
-    if comes_first(side, standings, &best, &x) {
+    if comes_first(side, false, standings, &best, &x) {
         x
     } else {
         best

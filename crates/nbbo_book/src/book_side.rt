@@ -4,7 +4,7 @@ ghost use Rattle.std.specs.Prelude.{◌≡◌, ◌<◌, not, true, false, None, 
 ghost use Rattle.nbbo_book.specs.Changes.{is_same_best};
 ghost use Rattle.nbbo_book.specs.Ranks.{better_of, is_of as is_of_venue};
 ghost use Rattle.nbbo_book.specs.Rows.{age_at, may_at, rank_at as rank_at_venue, standings_shown, Renews};
-ghost use Rattle.nbbo_book.specs.Tables.{IsSide, IsSideBut, IsStale};
+ghost use Rattle.nbbo_book.specs.Tables.{IsNewest, IsSide, IsSideBut, IsStale};
 
 use crate::best::{best_of, comes_first, differs, is_improved, is_of, rank_at};
 use crate::shown::{Shown, Standing, is_same};
@@ -22,14 +22,16 @@ pub struct BookSide {
 impl BookSide {
     /// Notes the best again, where it was another venue's, or none. Whether it is another one then.
     #[inline(always)]
-    fn renew_other(&mut self, side: Side, rank: Option<Best>) -> bool
-        requires { IfSome rank (λ x. is_of_venue x.venue self.old.best ≡ false) }
+    fn renew_other(&mut self, side: Side, newest: bool, rank: Option<Best>) -> bool
+        requires other { IfSome rank (λ x. is_of_venue x.venue self.old.best ≡ false) }
+        requires newest { newest ≡ true
+            → IfSome rank (λ x. IsNewest x.venue self.old.standings) }
         ensures best { self.new.best
             ≡ better_of side (age_at self.old.standings) self.old.best rank }
         ensures standings { self.new.standings ≡ self.old.standings }
         ensures moved { result ≡ not (is_same_best self.old.best self.new.best) }
     {
-        let moved = comes_first(side, &self.standings, &self.best, &rank);
+        let moved = comes_first(side, newest, &self.standings, &self.best, &rank);
         if moved {
             self.best = rank;
         }
@@ -69,11 +71,20 @@ impl BookSide {
         moved
     }
 
-    /// Notes the best again. Whether it is another one then.
+    /// Notes the best again, where the venue's standing is another one, and then the newest of all,
+    /// or its leave to be ranked. Whether the best is another one then.
     #[inline(always)]
-    fn renew(&mut self, side: Side, venue: VenueId, venues: &Venues, halted: &[bool; 16]) -> bool
-        requires { IsStale
+    fn renew(
+        &mut self,
+        side: Side,
+        venue: VenueId,
+        newest: bool,
+        venues: &Venues,
+        halted: &[bool; 16],
+    ) -> bool
+        requires stale { IsStale
             side (may_at venues.now.helped halted.now) venues.now.count venue self.old }
+        requires newest { newest ≡ true → IsNewest venue self.old.standings }
         ensures { Renews side (may_at venues.now.helped halted.now) self.old.standings
             self.old self.new result }
     {
@@ -81,7 +92,7 @@ impl BookSide {
         if is_of(&self.best, venue) {
             self.renew_own(side, venue, rank, venues, halted)
         } else {
-            self.renew_other(side, rank)
+            self.renew_other(side, newest, rank)
         }
     }
 
@@ -106,7 +117,7 @@ impl BookSide {
             return false;
         }
         self.standings[venue.index()] = standing;
-        self.renew(side, venue, venues, halted)
+        self.renew(side, venue, true, venues, halted)
     }
 
     /// The venue shows nothing from now on. Whether the best side is another one then.
@@ -149,7 +160,7 @@ impl BookSide {
             return false;
         }
         self.standings[venue.index()] = Standing { shown: None, age };
-        self.renew(side, venue, venues, halted)
+        self.renew(side, venue, false, venues, halted)
     }
 
     /// The venue may be ranked, or may not, from now on. Whether the best side is another one then.
@@ -180,6 +191,6 @@ impl BookSide {
         ensures { Renews side (may_at venues.now.helped halted.now) self.old.standings
             self.old self.new result }
     {
-        self.renew(side, venue, venues, halted)
+        self.renew(side, venue, false, venues, halted)
     }
 }

@@ -19,8 +19,8 @@ returns-then-is_same c =
       moved = sym (ap not (same_best_refl c.args.self.now.best));
     }
 
-pub renew-requires : goal.renew-requires
-renew-requires c =
+pub renew-requires-clause-stale : goal.renew-requires-clause-stale
+renew-requires-clause-stale c =
     let may : ℕ → Bool = may_at c.args.venues.now.helped c.args.halted.now in
     let k = c.args.self.now in
     let hidden : Standing = record { shown = None; age = c.args.age } in

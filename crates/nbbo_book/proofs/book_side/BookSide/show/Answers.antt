@@ -2,9 +2,9 @@ use Rattle.std.proofs.Common.{ℕ, ◌∙◌, ap, sym, subst, Bool, set, not}
 use Rattle.nbbo_book.specs.Books.{standing_at}
 use Rattle.nbbo_book.specs.Sides.{is_same_side}
 use Rattle.nbbo_book.specs.Rows.{may_at, side_with}
-use Rattle.nbbo_book.specs.Tables.{IsStale}
+use Rattle.nbbo_book.specs.Tables.{IsNewest, IsStale}
 use Rattle.nbbo_book.proofs.Stepping.{same_best_refl}
-use Rattle.nbbo_book.proofs.Kept.{but_itself, stale_set, standings_shown-are, shown_same, shown_new}
+use Rattle.nbbo_book.proofs.Kept.{but_itself, stale_set, standings_shown-are, shown_newest, shown_same, shown_new}
 use Rattle.nbbo_book.proofs.book_side.BookSide.show.Goals as goal
 
 pub returns-then-is_same : goal.returns-then-is_same
@@ -18,8 +18,14 @@ returns-then-is_same c =
       moved = sym (ap not (same_best_refl c.args.self.now.best));
     }
 
-pub renew-requires : goal.renew-requires
-renew-requires c =
+pub renew-requires-clause-newest : goal.renew-requires-clause-newest
+renew-requires-clause-newest c = λ _.
+    let k = c.args.self.now in
+    subst (λ (n : ℕ). IsNewest c.args.venue (set k.standings n c.args.standing)) (sym c.index-2.ensures.value)
+    (shown_newest c.args.venues.now.count c.args.standing.age k.standings c.args.venue c.args.standing.shown c.requires.venue c.requires.kept.past c.requires.kept.standings)
+
+pub renew-requires-clause-stale : goal.renew-requires-clause-stale
+renew-requires-clause-stale c =
     let may : ℕ → Bool = may_at c.args.venues.now.helped c.args.halted.now in
     let k = c.args.self.now in
     subst (λ (n : ℕ). IsStale c.args.side may c.args.venues.now.count c.args.venue (record { best = k.best; standings = set k.standings n c.args.standing })) (sym c.index-2.ensures.value)
