@@ -5,18 +5,19 @@ use crate::symbol::SymbolName;
 /// A venue's quotation of one symbol, both sides at once. Prices are in ten-thousandths of a
 /// dollar, sizes in shares. A side whose price or size is 0 isn't there.
 ///
-/// The fields stand in the order that leaves no holes between them: a journal keeps many.
+/// The fields stand in an order that needs 40 bytes, since a journal keeps many, and has the symbol
+/// and a flag where a halt has them.
 #[derive(Clone, Copy, Debug, PartialEq, Eq, Hash)]
 pub struct Quote {
-    pub bid_size: u64,
-    pub offer_size: u64,
-    pub bid_price: u32,
-    pub offer_price: u32,
     pub symbol: SymbolName,
     /// Whether the bid is an automated quotation. Only those are protected.
     pub bid_auto: bool,
     /// Whether the offer is an automated quotation.
     pub offer_auto: bool,
+    pub bid_price: u32,
+    pub bid_size: u64,
+    pub offer_size: u64,
+    pub offer_price: u32,
 }
 
 /// What one sequence number of a session stands for.

@@ -24,19 +24,22 @@ const TOPS: u64 = 0x8080_8080_8080_8080;
 #[derive(Clone, Copy, Debug, PartialEq, Eq, PartialOrd, Ord, Hash)]
 pub struct SymbolName {
     bytes: [u8; 8],
+    /// It has no bytes, and makes a symbol begin at a multiple of eight: in a halt where it does in
+    /// a quotation, so that an item is copied by whole words.
+    aligned: [u64; 0],
 }
 
 impl Model for SymbolName {
-    ghost use Rattle.std.specs.Prelude.{ℕ, List, IsTrue};
+    ghost use Rattle.std.specs.Prelude.{◌≡◌, ℕ, List, [], IsTrue};
     ghost use Rattle.feed_types.specs.Symbols.{is_symbol_field};
 
     ghost Value = { List ℕ };
 
     ghost view = { λ s. s.bytes };
 
-    ghost invariant = { λ s. IsTrue (is_symbol_field s.bytes) };
+    ghost invariant = { λ s. IsTrue (is_symbol_field s.bytes) × (s.aligned ≡ []) };
 
-    ghost inverse = { λ field. record { bytes = field } };
+    ghost inverse = { λ field. record { bytes = field; aligned = [] } };
 }
 
 fn is_all_name_bytes(bytes: &[u8]) -> bool
@@ -104,7 +107,10 @@ impl SymbolName {
         ensures { SomeIff result (IsTrue (is_symbol_field field.now)) field.now }
     {
         if is_field(field) {
-            Some(SymbolName { bytes: *field })
+            Some(SymbolName {
+                bytes: *field,
+                aligned: [],
+            })
         } else {
             None
         }
@@ -119,7 +125,7 @@ impl SymbolName {
         }
         let mut bytes = [b' '; FIELD];
         bytes[..name.len()].copy_from_slice(name);
-        Some(SymbolName { bytes })
+        Some(SymbolName { bytes, aligned: [] })
     }
 
     /// The field of eight bytes, filled with spaces, as quotations carry it.

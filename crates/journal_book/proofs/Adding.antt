@@ -1,5 +1,5 @@
 -- What room for one more entry means.
-use Rattle.std.proofs.Common.{ℕ, ◌<◌, ◌+◌, ◌≤◌, arith}
+use Rattle.std.proofs.Common.{ℕ, ◌<◌, arith}
 use Rattle.std.specs.Prelude.{IsTrue}
 use Rattle.std.proofs.lemmas.Bool.Decides.{nat_tests}
 use Rattle.journal_book.specs.Keeping.{has_room}

@@ -1,12 +1,12 @@
 -- Cursors, and what they have been past.
-use Rattle.std.proofs.Common.{ℕ, zero, suc, ◌≡◌, ◌+◌, ◌<◌, ◌≤◌, List, [], ◌∷◌, ◌++◌, ap, ◌∙◌, sym, refl, subst, length, take, arith, map, filter}
+use Rattle.std.proofs.Common.{ℕ, zero, suc, ◌≡◌, ◌≤◌, List, [], ◌∷◌, ◌++◌, ap, refl, subst, length, arith, map, filter}
 use Rattle.filter_terms.specs.Terms.{meets}
-use Rattle.std.specs.Prelude.{slice_get, slice_set, Option, Some, None}
+use Rattle.std.specs.Prelude.{slice_get, slice_set, Some}
 use Rattle.std.specs.List.{AllByRecursion}
 use Rattle.std.proofs.lemmas.List.{length-append, take-append-le}
 use Rattle.feed_types.specs.declared.journal.Notice.{Notice}
 use Rattle.journal_book.specs.declared.cursor.Cursor.{Cursor}
-use Rattle.journal_book.specs.Journals.{offered_of, subscription_of}
+use Rattle.journal_book.specs.Journals.{subscription_of}
 
 pub all_put : {X : Type 0} (P : X → Type 0) (xs : List X) (x : X) → AllByRecursion P xs → P x → AllByRecursion P (xs ++ x ∷ [])
 all_put P [] x h k = (k, tt)

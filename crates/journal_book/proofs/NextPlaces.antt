@@ -1,5 +1,5 @@
 -- The place of the next wanted notice.
-use Rattle.std.proofs.Common.{ℕ, zero, suc, ◌≡◌, ◌+◌, ◌<◌, ◌≤◌, List, [], ◌∷◌, ◌++◌, Bool, true, false, cond, ap, ◌∙◌, sym, refl, length, take, filter, get_or, None, Some, Option, arith}
+use Rattle.std.proofs.Common.{ℕ, zero, suc, ◌≡◌, ◌+◌, ◌<◌, ◌≤◌, List, [], ◌∷◌, Bool, true, false, cond, ap, ◌∙◌, sym, refl, length, take, filter, get_or, None, arith}
 use Rattle.std.specs.Prelude.{slice_get}
 use Rattle.std.proofs.lemmas.List.{take_all}
 use Rattle.feed_types.specs.declared.journal.Notice.{Notice}

@@ -1,5 +1,5 @@
 -- What moving a subscriber's cursor does to what was offered.
-use Rattle.std.proofs.Common.{ℕ, zero, suc, ◌≡◌, ◌+◌, ◌<◌, ◌≤◌, List, [], ◌∷◌, ◌++◌, Bool, true, false, ap, ◌∙◌, sym, refl, subst, length, take, filter, map, get_or, None, Some, Option, arith}
+use Rattle.std.proofs.Common.{ℕ, zero, suc, ◌≡◌, ◌+◌, ◌<◌, ◌≤◌, List, [], ◌∷◌, ◌++◌, Bool, ap, ◌∙◌, sym, refl, subst, length, map, get_or, None, Some, Option, arith}
 use Rattle.std.specs.Prelude.{slice_get, slice_set, IsSome, MatchOption, option_and_then}
 use Rattle.std.specs.Option.{option_map}
 use Rattle.std.proofs.lemmas.Option.{slice_get_read}

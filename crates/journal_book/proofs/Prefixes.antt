@@ -1,5 +1,5 @@
 -- What was offered stays a prefix of what is wanted.
-use Rattle.std.proofs.Common.{ℕ, ◌≡◌, Bool, List, ◌++◌, ap, ◌∙◌, filter}
+use Rattle.std.proofs.Common.{ℕ, Bool, List, ◌++◌, ap, ◌∙◌, filter}
 use Rattle.std.proofs.lemmas.List.Elements.{filter-append}
 use Rattle.std.proofs.lemmas.List.{append_assoc}
 use Rattle.feed_types.specs.declared.journal.Entry.{Entry}

@@ -1,6 +1,6 @@
 -- Cited by private clauses alone: where the next wanted notice stands, and that filters and
 -- cursors agree.
-use Rattle.std.specs.Prelude.{◌≡◌, ℕ, ◌+◌, ◌<◌, ◌≤◌, Bool, List, Option, MatchOption, filter, length, take, slice_get}
+use Rattle.std.specs.Prelude.{◌≡◌, ℕ, ◌+◌, ◌<◌, ◌≤◌, Bool, List, MatchOption, filter, length, take, slice_get}
 use Rattle.std.specs.Option.{option_map}
 use Rattle.std.specs.Coded.{Coded-set, coded_option, coded_bool, Π_prop}
 use Rattle.feed_types.specs.declared.journal.Notice.{Notice}

@@ -1,5 +1,5 @@
 -- What a subscriber is offered of a journal's changes.
-use Rattle.std.specs.Prelude.{ℕ, List, Option, option_and_then, filter, length, take, slice_get}
+use Rattle.std.specs.Prelude.{ℕ, List, filter}
 use Rattle.feed_types.specs.declared.journal.Entry.{Entry}
 use Rattle.feed_types.specs.declared.journal.Notice.{Notice}
 use Rattle.filter_terms.specs.declared.terms.Terms.{Terms}

@@ -9,6 +9,7 @@ ghost use Rattle.journal_book.specs.Keeping.{Keeps, CursorMoves};
 use crate::cursor::Cursor;
 use crate::fault::JournalFault;
 use crate::notices::push_notices;
+use crate::room::make_room;
 use feed_types::{
     Entry, Item, National, Notice, Numbered, Quote, SubscriberId, SymbolName, VenueId,
 };
@@ -131,10 +132,24 @@ impl Journal {
         if self.entries.len() >= self.limit as usize {
             return Err(JournalFault::JournalFull);
         }
-        if self.entries.reserve(1).is_err() {
+        if self.has_room() {
+            return Ok(());
+        }
+        self.grow()
+    }
+
+    /// The same, where the journal may hold one more entry and there is no room for it.
+    #[inline(never)]
+    fn grow(&mut self) -> Result<(), JournalFault>
+        requires more { length self.old.entries < self.old.journal }
+        requires full { self.old.ready ≡ false }
+        ensures { Reserves self.old result self.new }
+    {
+        let enough = self.limit as usize;
+        if make_room(&mut self.entries, 1, enough).is_err() {
             return Err(JournalFault::NoMemory);
         }
-        if self.notices.reserve(self.book.symbol_count()).is_err() {
+        if make_room(&mut self.notices, self.book.symbol_count(), enough).is_err() {
             return Err(JournalFault::NoMemory);
         }
         Ok(())

@@ -17,6 +17,7 @@ mod journal;
 mod laws;
 mod notices;
 mod places;
+mod room;
 
 pub use consolidator::Consolidator;
 pub use cursor::Cursor;

@@ -17,13 +17,12 @@ fn push_notice(notices: &mut Vec<Notice>, change: &Change)
     ensures capacity { vec_capacity notices.new ≡ vec_capacity notices.old }
 {
     let number = notices.len() as u64 + 1;
-    let bid: Option<Best> = change.national.bid;
-    let offer: Option<Best> = change.national.offer;
+    let national = National::copied(&change.national.bid, &change.national.offer);
     notices.push_reserved(Notice {
         number,
         position: change.position,
         symbol: change.symbol,
-        national: National { bid, offer },
+        national,
     });
 }
 

@@ -146,9 +146,6 @@ impl Row {
     pub fn national(&self) -> National
         ensures { result ≡ national_at self.now }
     {
-        National {
-            bid: self.bids.best,
-            offer: self.offers.best,
-        }
+        National::copied(&self.bids.best, &self.offers.best)
     }
 }

@@ -1,4 +1,4 @@
-use Rattle.std.proofs.Common.{rules, ◌≡◌, List, ℕ, ◌++◌, ◌∷◌, [], length, drop, replicate, ap, ◌∙◌, sym, subst, true}
+use Rattle.std.proofs.Common.{rules, ◌≡◌, List, ℕ, ◌++◌, ◌∷◌, [], length, drop, replicate, ap, ◌∙◌, sym, subst, true, refl}
 use Rattle.std.specs.Prelude.{IsTrue}
 use Rattle.std.proofs.lemmas.List.{drop-replicate}
 use Rattle.feed_types.specs.Symbols.{filled, is_symbol_name, is_symbol_field}
@@ -15,7 +15,7 @@ is_named : (c : After-copy_from_slice) → is_symbol_name c.args.name.now ≡ tr
 is_named c = search rules
 
 pub invariant_of-result : goal.invariant_of-result
-invariant_of-result c = subst (λ (x : List ℕ). IsTrue (is_symbol_field x)) (sym (kept (goal.at.invariant_of-result c).After-copy_from_slice)) (is_symbol_field-filled c.args.name.now (is_named (goal.at.invariant_of-result c).After-copy_from_slice))
+invariant_of-result c = (subst (λ (x : List ℕ). IsTrue (is_symbol_field x)) (sym (kept (goal.at.invariant_of-result c).After-copy_from_slice)) (is_symbol_field-filled c.args.name.now (is_named (goal.at.invariant_of-result c).After-copy_from_slice)), refl)
 
 pub returns : goal.returns
 returns c = (is_named (goal.at.returns c).After-copy_from_slice, kept (goal.at.returns c).After-copy_from_slice)

@@ -1,4 +1,4 @@
-use Rattle.std.proofs.Common.{ap, subst, ◌≡◌, ◌<◌, length, arith, List}
+use Rattle.std.proofs.Common.{subst, ◌<◌, length, arith, List}
 use Rattle.feed_types.specs.declared.journal.Notice.{Notice}
 use Rattle.filter_terms.specs.Terms.{meets}
 use Rattle.filter_terms.specs.Filters.{terms_of}

@@ -1,9 +1,7 @@
-use Rattle.std.proofs.Common.{sym, ap, ◌∙◌, subst, ◌≡◌, ◌+◌, ◌++◌, ◌∷◌, [], length, arith}
+use Rattle.std.proofs.Common.{sym, ap, ◌∙◌, subst, ◌+◌, ◌++◌, ◌∷◌, []}
 use Rattle.std.proofs.lemmas.List.{length-append}
 use Rattle.filter_terms.specs.declared.terms.Terms.{Terms}
 use Rattle.filter_terms.specs.Copies.{IsCopy}
-use Rattle.journal_book.specs.Journals.{JournalState}
-use Rattle.journal_book.specs.Places.{SameAnswers}
 use Rattle.journal_book.proofs.Offering.{tied_put}
 use Rattle.journal_book.proofs.consolidator.Consolidator.subscribe.Goals as goal
 

@@ -1,11 +1,11 @@
 use Rattle.std.proofs.Math.Seq.{get_or-append_seam}
 use Rattle.feed_types.specs.declared.journal.Entry.{Entry}
 use Rattle.journal_book.proofs.journal.Journal.add.Goals.{After-apply}
-use Rattle.std.proofs.Common.{get_or, List, ℕ, arith, ap, ◌∙◌, sym, ◌≡◌, ◌≤◌, ◌<◌, ◌++◌, ◌∷◌, [], length, ◌+◌, map, vec_len}
+use Rattle.std.proofs.Common.{get_or, List, ℕ, arith, ap, ◌∙◌, sym, ◌≡◌, ◌<◌, ◌++◌, ◌∷◌, [], length, ◌+◌, map, vec_len}
 use Rattle.std.proofs.lemmas.List.{length-append}
 use Rattle.nbbo_book.specs.declared.change.Change.{Change}
 use Rattle.nbbo_book.specs.Changes.{changes_by}
-use Rattle.journal_book.specs.Changes.{changes_of, notices_from}
+use Rattle.journal_book.specs.Changes.{notices_from}
 use Rattle.journal_book.specs.Journals.{subscription_of}
 use Rattle.journal_book.proofs.Growth.{notices-put}
 use Rattle.journal_book.proofs.CursorMoving.{still_seen, same_offered}
