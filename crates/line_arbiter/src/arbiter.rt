@@ -192,7 +192,7 @@ impl<G: Genuine> Arbiter<G> {
     }
 
     /// Takes a packet of messages that were all sent, as on the line that comes second.
-    #[inline]
+    #[inline(always)]
     fn take_sent(&mut self, line: LineId, packet: &Packet<'_>, last: u64) -> Outcome
         requires last { last ≡ last_of packet.now }
         requires sent { last_of packet.now ≤ self.old.sent }
@@ -231,6 +231,7 @@ impl<G: Genuine> Arbiter<G> {
         Ok(Outcome::Taken { new, repeated })
     }
 
+    #[inline(always)]
     fn take_messages(&mut self, line: LineId, packet: &Packet<'_>) -> Result<Outcome, LineFault>
         requires { packet.now.kind ≡ Kind.Messages }
         ensures { MessagesStep line self.old self.new packet.now result }
@@ -279,6 +280,7 @@ impl<G: Genuine> Arbiter<G> {
         Some(Outcome::Taken { new, repeated: 0 })
     }
 
+    #[inline(never)]
     fn take_heartbeat(&mut self, number: u64) -> Result<Outcome, LineFault>
         ensures { HeartbeatStep self.old self.new number result }
     {
@@ -291,6 +293,7 @@ impl<G: Genuine> Arbiter<G> {
         Ok(Outcome::Heartbeat)
     }
 
+    #[inline(never)]
     fn take_end(&mut self, number: u64) -> Result<Outcome, LineFault>
         requires { 1 ≤ number }
         ensures { EndStep self.old self.new number result }
@@ -310,6 +313,7 @@ impl<G: Genuine> Arbiter<G> {
         Ok(Outcome::Ended)
     }
 
+    #[inline(always)]
     fn take_any(&mut self, line: LineId, packet: &Packet<'_>) -> Result<Outcome, LineFault>
         ensures step { PacketStep line self.old self.new packet.now result }
         ensures content { IsContent packet.now }
@@ -332,6 +336,7 @@ impl<G: Genuine> Arbiter<G> {
     /// nothing. The refusals, in this order: another session's packet; messages at the announced
     /// end or past it; a held message that reads otherwise; a heartbeat past the end; an end that
     /// differs from the announced one, or lies at a message that was taken or before it.
+    #[inline(always)]
     pub fn take(&mut self, line: LineId, packet: &Packet<'_>) -> Result<Outcome, LineFault>
         ensures outcome { (packets : List Arrival) → Fits self.old packets
             → IsOutcome self.old.session self.old.window self.old.sent packets packet.now result }
