@@ -101,7 +101,8 @@ fn close<W: TextOut>(venues: &Venues, mut text: Page, writer: &mut W) -> Result<
 /// come, and before a fault of the input, of the journal or of memory is answered. Every call of
 /// the reader is a turn, also one that was interrupted. Memory is taken for the venues' windows,
 /// the symbols, the bytes of a read and a text of about a page, and for the journal and its
-/// notices, which grow by doubling.
+/// notices: they have room for a million or for what the journal holds at first, of which a system
+/// gives what is written, and grow by doubling.
 #[inline(never)]
 pub fn replay<R: CaptureIn, W: TextOut>(
     alloc: Global,
