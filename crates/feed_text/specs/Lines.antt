@@ -49,8 +49,8 @@ fault_line venue line code = packet_head venue line ++ refused_tail code
 
 abbrev pub item_word : Item → List ℕ
 item_word (items.Quote quote) = codes " quote"
-item_word (items.Halt true symbol) = codes " halt"
-item_word (items.Halt false symbol) = codes " trading"
+item_word (items.Halt symbol true) = codes " halt"
+item_word (items.Halt symbol false) = codes " trading"
 item_word items.Other = codes " other"
 item_word items.End = codes " end"
 

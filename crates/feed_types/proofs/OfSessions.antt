@@ -75,9 +75,9 @@ one venue all names place number items.Other xs e may more =
 one venue all names place number (items.Quote quote) xs e may more =
     let at = (names.carried place.ordinal place.number (items.Quote quote)).0 may in
     front_same _ (record { number = place.number; item = items.Quote quote }) xs _ _ (rw e refl) (message_at all at.0 place (items.Quote quote) at.1 at.2) more
-one venue all names place number (items.Halt halted symbol) xs e may more =
-    let at = (names.carried place.ordinal place.number (items.Halt halted symbol)).0 may in
-    front_same _ (record { number = place.number; item = items.Halt halted symbol }) xs _ _ (rw e refl) (message_at all at.0 place (items.Halt halted symbol) at.1 at.2) more
+one venue all names place number (items.Halt symbol halted) xs e may more =
+    let at = (names.carried place.ordinal place.number (items.Halt symbol halted)).0 may in
+    front_same _ (record { number = place.number; item = items.Halt symbol halted }) xs _ _ (rw e refl) (message_at all at.0 place (items.Halt symbol halted) at.1 at.2) more
 
 pub goes_along : {sessions : SessionNames} {carries : Carries} {ends : Ends} (venue : ℕ) (all : List Session) → Names sessions carries ends venue all
     → (place : Place) (xs : List Numbered) → Continues carries ends venue place xs → IsPrefix xs (to_come all place)

@@ -25,7 +25,7 @@ abbrev pub place_after : Place → Item → Place
 place_after place End = record { ordinal = place.ordinal + 1; number = 1 }
 place_after place Other = record { ordinal = place.ordinal; number = place.number + 1 }
 place_after place (Quote quote) = record { ordinal = place.ordinal; number = place.number + 1 }
-place_after place (Halt halted symbol) =
+place_after place (Halt symbol halted) =
     record { ordinal = place.ordinal; number = place.number + 1 }
 
 -- the place after a list of items
@@ -39,8 +39,8 @@ MayCarry carries ends venue place End = ends venue place.ordinal place.number
 MayCarry carries ends venue place Other = carries venue place.ordinal place.number Other
 MayCarry carries ends venue place (Quote quote) =
     carries venue place.ordinal place.number (Quote quote)
-MayCarry carries ends venue place (Halt halted symbol) =
-    carries venue place.ordinal place.number (Halt halted symbol)
+MayCarry carries ends venue place (Halt symbol halted) =
+    carries venue place.ordinal place.number (Halt symbol halted)
 
 -- each item has the number of its place and may be carried there
 abbrev pub Continues : Carries → Ends → ℕ → Place → List Numbered → Type 0

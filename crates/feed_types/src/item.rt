@@ -5,8 +5,8 @@ use crate::symbol::SymbolName;
 /// A venue's quotation of one symbol, both sides at once. Prices are in ten-thousandths of a
 /// dollar, sizes in shares. A side whose price or size is 0 isn't there.
 ///
-/// The fields stand in an order that needs 40 bytes, since a journal keeps many. The symbol comes
-/// first, so that a halt has it at the same place, and items are copied by whole words.
+/// The fields stand in an order that needs 40 bytes, since a journal keeps many, and has the symbol
+/// and a flag where a halt has them.
 #[derive(Clone, Copy, Debug, PartialEq, Eq, Hash)]
 pub struct Quote {
     pub symbol: SymbolName,
@@ -25,7 +25,7 @@ pub struct Quote {
 pub enum Item {
     Quote(Quote),
     /// The venue halts trading in the symbol, or trades it again.
-    Halt { halted: bool, symbol: SymbolName },
+    Halt { symbol: SymbolName, halted: bool },
     /// A message that is none of these. It takes its number and changes no quotation.
     Other,
     /// The end of the session, which has the number after the last message's.

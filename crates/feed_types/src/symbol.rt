@@ -24,8 +24,8 @@ const TOPS: u64 = 0x8080_8080_8080_8080;
 #[derive(Clone, Copy, Debug, PartialEq, Eq, PartialOrd, Ord, Hash)]
 pub struct SymbolName {
     bytes: [u8; 8],
-    /// It has no bytes, and makes a symbol begin at a multiple of eight, in a halt where it does in
-    /// a quotation.
+    /// It has no bytes, and makes a symbol begin at a multiple of eight: in a halt where it does in
+    /// a quotation, so that an item is copied by whole words.
     aligned: [u64; 0],
 }
 

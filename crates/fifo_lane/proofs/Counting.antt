@@ -11,7 +11,7 @@ number_after : (place : Place) (item : Item) → item ≢ End → (place_after p
 number_after place End more = absurd (more refl)
 number_after place Other more = refl
 number_after place (Quote quote) more = refl
-number_after place (Halt halted symbol) more = refl
+number_after place (Halt symbol halted) more = refl
 
 module _ (carries : ℕ → ℕ → ℕ → Item → Type 0) (ends : ℕ → ℕ → ℕ → Type 0) (venue : ℕ) where
   pub next_number : (place : Place) (xs : List Numbered) (x y : Numbered) (ys : List Numbered) → Continues carries ends venue place (xs ++ x ∷ y ∷ ys) → x.item ≢ End → y.number ≡ x.number + 1

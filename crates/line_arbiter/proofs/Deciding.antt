@@ -51,27 +51,27 @@ cases_quote a b =
 quote_is : (a b : Quote) → items.Quote a ≡ items.Quote b → a ≡ b
 quote_is a b e = cc
 
-halt_is : (s t : List ℕ) (on off : Bool) → items.Halt on s ≡ items.Halt off t → (s ≡ t) × (on ≡ off)
+halt_is : (s t : List ℕ) (on off : Bool) → items.Halt s on ≡ items.Halt t off → (s ≡ t) × (on ≡ off)
 halt_is s t on off e = (cc, cc)
 
 pub cases_item : (a b : Item) → (a ≡ b) ⊎ (a ≢ b)
 cases_item (items.Quote a) (items.Quote b) = elim (cases_quote a b) [ inl same ↦ inl (ap items.Quote same) | inr other ↦ inr (λ e. other (quote_is a b e)) ]
-cases_item (items.Quote a) (items.Halt off t) = inr (λ e. cc)
+cases_item (items.Quote a) (items.Halt t off) = inr (λ e. cc)
 cases_item (items.Quote a) items.Other = inr (λ e. cc)
 cases_item (items.Quote a) items.End = inr (λ e. cc)
-cases_item (items.Halt on s) (items.Quote b) = inr (λ e. cc)
-cases_item (items.Halt on s) (items.Halt off t) = elim (cases_bytes s t) [
-  | inl symbol ↦ elim (cases_flag on off) [ inl flag ↦ inl (λ i. items.Halt (flag i) (symbol i)) | inr other ↦ inr (λ e. other (halt_is s t on off e).1) ]
+cases_item (items.Halt s on) (items.Quote b) = inr (λ e. cc)
+cases_item (items.Halt s on) (items.Halt t off) = elim (cases_bytes s t) [
+  | inl symbol ↦ elim (cases_flag on off) [ inl flag ↦ inl (λ i. items.Halt (symbol i) (flag i)) | inr other ↦ inr (λ e. other (halt_is s t on off e).1) ]
   | inr other ↦ inr (λ e. other (halt_is s t on off e).0)
 ]
-cases_item (items.Halt on s) items.Other = inr (λ e. cc)
-cases_item (items.Halt on s) items.End = inr (λ e. cc)
+cases_item (items.Halt s on) items.Other = inr (λ e. cc)
+cases_item (items.Halt s on) items.End = inr (λ e. cc)
 cases_item items.Other (items.Quote b) = inr (λ e. cc)
-cases_item items.Other (items.Halt off t) = inr (λ e. cc)
+cases_item items.Other (items.Halt t off) = inr (λ e. cc)
 cases_item items.Other items.Other = inl refl
 cases_item items.Other items.End = inr (λ e. cc)
 cases_item items.End (items.Quote b) = inr (λ e. cc)
-cases_item items.End (items.Halt off t) = inr (λ e. cc)
+cases_item items.End (items.Halt t off) = inr (λ e. cc)
 cases_item items.End items.Other = inr (λ e. cc)
 cases_item items.End items.End = inl refl
 

@@ -54,7 +54,7 @@ carried_never_end (a ∷ packets) m item is h = by_test (λ k. carried_never_end
 -- a message's item that may be carried is allowed at its place
 allowed_item : (carries : ℕ → ℕ → ℕ → Item → Type 0) (ends : ℕ → ℕ → ℕ → Type 0) (venue ordinal m : ℕ) (item : Item) → carries venue ordinal m item → (item ≡ items.End → ⊥) → MayCarry carries ends venue (record { ordinal = ordinal; number = m }) item
 allowed_item carries ends venue ordinal m (items.Quote quote) may never = may
-allowed_item carries ends venue ordinal m (items.Halt halted symbol) may never = may
+allowed_item carries ends venue ordinal m (items.Halt symbol halted) may never = may
 allowed_item carries ends venue ordinal m items.Other may never = may
 allowed_item carries ends venue ordinal m items.End may never = absurd (never refl)
 

@@ -24,7 +24,7 @@ place_after_message : (ordinal n : ℕ) (item : Item) → (item ≡ items.End �
 place_after_message ordinal n items.End never = absurd (never refl)
 place_after_message ordinal n items.Other never = refl
 place_after_message ordinal n (items.Quote quote) never = refl
-place_after_message ordinal n (items.Halt halted symbol) never = refl
+place_after_message ordinal n (items.Halt symbol halted) never = refl
 
 place_after_append : (place : Place) (xs ys : List Numbered) → place_after_all place (xs ++ ys) ≡ place_after_all (place_after_all place xs) ys
 place_after_append place [] ys = refl
@@ -35,7 +35,7 @@ module _ (carries : ℕ → ℕ → ℕ → Item → Type 0) (ends : ℕ → ℕ
   message_allowed ordinal n items.End never may = absurd (never refl)
   message_allowed ordinal n items.Other never may = may
   message_allowed ordinal n (items.Quote quote) never may = may
-  message_allowed ordinal n (items.Halt halted symbol) never may = may
+  message_allowed ordinal n (items.Halt symbol halted) never may = may
 
   module _ (ordinal : ℕ) (packets : List Arrival) (genuine : AreGenuine carries ends venue ordinal packets) where
     -- what was taken at a number isn't End, may be carried there, and the next number follows

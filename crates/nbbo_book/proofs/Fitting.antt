@@ -97,8 +97,8 @@ item_fits es v number n c m (item.Quote q) helped flags r below young is h =
       }
       | false ↦ λ k. row_waits es e r (λ w b. ap (λ t. cond (nat_eq v w) (cond t (Some (Some (shown_by q b))) None) None) k ∙ cond_same (nat_eq v w) None) (λ w. cond_same (nat_eq v w) None) h
     ]) refl
-item_fits es v number n c m (item.Halt x s) helped flags r below young is h =
-    let e : Entry = Consumed v (record { number = number; item = item.Halt x s }) in
+item_fits es v number n c m (item.Halt s x) helped flags r below young is h =
+    let e : Entry = Consumed v (record { number = number; item = item.Halt s x }) in
     let R : Bool → Type 0 = λ t. bytes_eq s r.symbol ≡ t → RowFits (es ++ e ∷ []) (cond t (row_halted helped v x r) r) in
     (elim (bytes_eq s r.symbol) as R [
       | true ↦ λ k. record {

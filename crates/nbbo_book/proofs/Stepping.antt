@@ -58,7 +58,7 @@ item_is helped c n v (item.Quote q) r below h =
           (standings_after c n r.offers.standings v (Some (shown_by q Offer)) below h.offers.past h.offers.standings)
       | false ↦ row_waits helped c n r h
     ]
-item_is helped c n v (item.Halt x s) r below h =
+item_is helped c n v (item.Halt s x) r below h =
     elim (bytes_eq s r.symbol) as (λ t. IsRow helped c (n + 1) (cond t (row_halted helped v x r) r)) [
       | true ↦ row_with-is helped r.symbol (set r.halted v x) c (n + 1) r.bids.standings r.offers.standings (long_set r.halted v x ∙ h.count)
           (kept_on Bid (may_at helped r.halted) c n r.bids h.bids) (kept_on Offer (may_at helped r.halted) c n r.offers h.offers)
@@ -83,7 +83,7 @@ rows_before e helped flags c n (r ∷ rs) is below h = (record { was = helped; f
 
 item_keeps_symbol : (helped : List Bool) (n v : ℕ) (i : Item) (r : Row) → (row_after_item helped n v i r).symbol ≡ r.symbol
 item_keeps_symbol helped n v (item.Quote q) r = elim (bytes_eq q.symbol r.symbol) as (λ t. (cond t (row_quoted helped v q n r) r).symbol ≡ r.symbol) [ true ↦ refl | false ↦ refl ]
-item_keeps_symbol helped n v (item.Halt x s) r = elim (bytes_eq s r.symbol) as (λ t. (cond t (row_halted helped v x r) r).symbol ≡ r.symbol) [ true ↦ refl | false ↦ refl ]
+item_keeps_symbol helped n v (item.Halt s x) r = elim (bytes_eq s r.symbol) as (λ t. (cond t (row_halted helped v x r) r).symbol ≡ r.symbol) [ true ↦ refl | false ↦ refl ]
 item_keeps_symbol helped n v item.Other r = refl
 item_keeps_symbol helped n v item.End r = refl
 
@@ -192,7 +192,7 @@ one_same e = cc
 -- an entry that concerns one symbol leaves the others as they are
 other_item : (helped : List Bool) (n v : ℕ) (i : Item) (s : List ℕ) (r : Row) → symbol_in_item i ≡ Some s → bytes_eq s r.symbol ≡ false → row_after_item helped n v i r ≡ r
 other_item helped n v (item.Quote q) s r c e = (let same : q.symbol ≡ s = one_same c in ap (λ t. cond (bytes_eq t r.symbol) (row_quoted helped v q n r) r) same ∙ ap (λ t. cond t (row_quoted helped v q n r) r) e)
-other_item helped n v (item.Halt x t) s r c e = (let same : t ≡ s = one_same c in ap (λ u. cond (bytes_eq u r.symbol) (row_halted helped v x r) r) same ∙ ap (λ u. cond u (row_halted helped v x r) r) e)
+other_item helped n v (item.Halt t x) s r c e = (let same : t ≡ s = one_same c in ap (λ u. cond (bytes_eq u r.symbol) (row_halted helped v x r) r) same ∙ ap (λ u. cond u (row_halted helped v x r) r) e)
 other_item helped n v item.Other s r c e = refl
 other_item helped n v item.End s r c e = cc
 

@@ -26,7 +26,7 @@ IsSelfHelped entries venue = IsTrue (is_self_helped entries venue)
 -- what a venue's item says of a halt in a symbol: an end of session says that there is none
 abbrev pub halt_said_by : List ℕ → Item → Option Bool
 halt_said_by symbol (item.Quote quote) = None
-halt_said_by symbol (item.Halt halted halting) =
+halt_said_by symbol (item.Halt halting halted) =
     if bytes_eq halting symbol then Some halted else None
 halt_said_by symbol item.Other = None
 halt_said_by symbol item.End = Some false

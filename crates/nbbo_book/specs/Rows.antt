@@ -88,7 +88,7 @@ row_helped helped row =
 abbrev pub row_after_item : List Bool → ℕ → ℕ → Item → Row → Row
 row_after_item helped age venue (item.Quote quote) row =
     if bytes_eq quote.symbol row.symbol then row_quoted helped venue quote age row else row
-row_after_item helped age venue (item.Halt halted symbol) row =
+row_after_item helped age venue (item.Halt symbol halted) row =
     if bytes_eq symbol row.symbol then row_halted helped venue halted row else row
 row_after_item helped age venue item.Other row = row
 row_after_item helped age venue item.End row = row_ended helped venue age row
@@ -126,7 +126,7 @@ pub record Applies
 -- the symbol that a quotation or a halt is of
 abbrev pub symbol_in_item : Item → Option (List ℕ)
 symbol_in_item (item.Quote quote) = Some quote.symbol
-symbol_in_item (item.Halt halted symbol) = Some symbol
+symbol_in_item (item.Halt symbol halted) = Some symbol
 symbol_in_item item.Other = None
 symbol_in_item item.End = None
 

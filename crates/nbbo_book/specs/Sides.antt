@@ -33,7 +33,7 @@ shown_by quote Offer =
 abbrev pub side_said_by : List ℕ → Side → Item → Option (Option Shown)
 side_said_by symbol side (item.Quote quote) =
     if bytes_eq quote.symbol symbol then Some (Some (shown_by quote side)) else None
-side_said_by symbol side (item.Halt halted halting) = None
+side_said_by symbol side (item.Halt halting halted) = None
 side_said_by symbol side item.Other = None
 side_said_by symbol side item.End = Some None
 

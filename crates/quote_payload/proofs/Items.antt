@@ -5,7 +5,7 @@ use Rattle.feed_types.specs.declared.item.Quote.{Quote}
 use Rattle.feed_types.specs.declared.item.Item.TheVariants as item
 use Rattle.quote_payload.specs.Payload.{symbol_at, is_version1, version1_of, is_version2, version2_of, is_halt, state_at, item_of}
 
-not_end : (a b c : Bool) (q r : Quote) (s : List ℕ) (h : Bool) → (if a then item.Quote q else (if b then item.Quote r else (if c then item.Halt h s else item.Other))) ≡ item.End → ⊥
+not_end : (a b c : Bool) (q r : Quote) (s : List ℕ) (h : Bool) → (if a then item.Quote q else (if b then item.Quote r else (if c then item.Halt s h else item.Other))) ≡ item.End → ⊥
 not_end true b c q r s h e = cc
 not_end false true c q r s h e = cc
 not_end false false true q r s h e = cc

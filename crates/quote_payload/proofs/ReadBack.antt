@@ -76,7 +76,7 @@ unfolding item_of version1_rest
 item_of-version1 q good bp bs op os =
     let message = 0x51 ∷ (q.symbol ++ version1_rest q) in
     ap item_of (seven_parts (0x51 ∷ []) q.symbol (to_be_bytes w32 q.bid_price) (to_be_bytes w32 q.bid_size) (to_be_bytes w32 q.offer_price) (to_be_bytes w32 q.offer_size) (flags_of q ∷ []))
-    ∙ ap (λ (b : Bool). if b then item.Quote (version1_of message) else (if is_version2 message then item.Quote (version2_of message) else (if is_halt message then item.Halt (state_at message == 1) (symbol_at message) else item.Other))) (has_form-is 0x51 26 q.symbol (version1_rest q) (eight_bytes q.symbol good) good refl)
+    ∙ ap (λ (b : Bool). if b then item.Quote (version1_of message) else (if is_version2 message then item.Quote (version2_of message) else (if is_halt message then item.Halt (symbol_at message) (state_at message == 1) else item.Other))) (has_form-is 0x51 26 q.symbol (version1_rest q) (eight_bytes q.symbol good) good refl)
     ∙ ap item.Quote (version1_of-rest q good bp bs op os)
 
 version2_rest : Quote → List ℕ
@@ -102,7 +102,7 @@ unfolding item_of version2_rest
 item_of-version2 q good bp bs op os =
     let message = 0x71 ∷ (q.symbol ++ version2_rest q) in
     ap item_of (seven_parts (0x71 ∷ []) q.symbol (to_be_bytes w32 q.bid_price) (to_be_bytes w64 q.bid_size) (to_be_bytes w32 q.offer_price) (to_be_bytes w64 q.offer_size) (flags_of q ∷ []))
-    ∙ ap (λ (b : Bool). if b then item.Quote (version2_of message) else (if is_halt message then item.Halt (state_at message == 1) (symbol_at message) else item.Other)) (has_form-is 0x71 34 q.symbol (version2_rest q) (eight_bytes q.symbol good) good refl)
+    ∙ ap (λ (b : Bool). if b then item.Quote (version2_of message) else (if is_halt message then item.Halt (symbol_at message) (state_at message == 1) else item.Other)) (has_form-is 0x71 34 q.symbol (version2_rest q) (eight_bytes q.symbol good) good refl)
     ∙ ap item.Quote (version2_of-rest q good bp bs op os)
 
 abbrev state_rest : Bool → List ℕ
@@ -117,15 +117,15 @@ reads true = refl
 reads false = refl
 
 -- what was written as a halt reads back
-pub item_of-halt : (symbol : List ℕ) (halted : Bool) → is_symbol_field symbol ≡ true → item_of (halt_bytes symbol halted) ≡ item.Halt halted symbol
+pub item_of-halt : (symbol : List ℕ) (halted : Bool) → is_symbol_field symbol ≡ true → item_of (halt_bytes symbol halted) ≡ item.Halt symbol halted
 unfolding item_of
 item_of-halt symbol halted good =
     let eight = eight_bytes symbol good in
     let rest = state_rest halted in
     let message = 0x48 ∷ (symbol ++ rest) in
     let state = byte_past_symbol symbol rest 0 eight in
-    ap (λ (b : Bool). if b then item.Halt (state_at message == 1) (symbol_at message) else item.Other)
+    ap (λ (b : Bool). if b then item.Halt (symbol_at message) (state_at message == 1) else item.Other)
     (ap (λ (b : Bool). b && nat_le (state_at message) 1) (has_form-is 0x48 10 symbol rest eight good refl) ∙ ap (λ (n : ℕ). nat_le n 1) state ∙ small halted)
-    ∙ ap (λ (n : ℕ). item.Halt (n == 1) (symbol_at message)) state
-    ∙ ap (λ (s : List ℕ). item.Halt (get_or rest 0 0 == 1) s) (take_at symbol rest 8 eight)
-    ∙ ap (λ (b : Bool). item.Halt b symbol) (reads halted)
+    ∙ ap (λ (n : ℕ). item.Halt (symbol_at message) (n == 1)) state
+    ∙ ap (λ (s : List ℕ). item.Halt s (get_or rest 0 0 == 1)) (take_at symbol rest 8 eight)
+    ∙ ap (item.Halt symbol) (reads halted)

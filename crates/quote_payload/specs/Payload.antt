@@ -72,4 +72,4 @@ unfoldable pub item_of : List ℕ → Item
 item_of message =
     if is_version1 message then item.Quote (version1_of message) else
     (if is_version2 message then item.Quote (version2_of message) else
-    (if is_halt message then item.Halt (state_at message == 1) (symbol_at message) else item.Other))
+    (if is_halt message then item.Halt (symbol_at message) (state_at message == 1) else item.Other))

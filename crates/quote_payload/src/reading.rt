@@ -85,7 +85,7 @@ fn read_halt(message: &[u8]) -> Item
     requires { length message.now ≡ 10 }
     ensures { let symbol = symbol_at message.now in let state = state_at message.now in
         result ≡ (if is_symbol_field symbol && nat_le state 1
-        then Item.Halt (state == 1) symbol else Item.Other) }
+        then Item.Halt symbol (state == 1) else Item.Other) }
 {
     match (read_symbol(message), message[9]) {
         (Some(symbol), TRADING) => Item::Halt {

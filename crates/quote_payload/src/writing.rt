@@ -99,7 +99,7 @@ fn state(halted: bool) -> u8
 /// The form is that of [`read_item`](crate::read_item).
 pub fn write_halt(symbol: SymbolName, halted: bool) -> [u8; 10]
     ensures bytes { result ≡ halt_bytes symbol halted }
-    ensures item { item_of result ≡ Item.Halt halted symbol }
+    ensures item { item_of result ≡ Item.Halt symbol halted }
 {
     let mut message = [0; HALT_LEN];
     put(&mut message, 0, [HALT]);
