@@ -1,7 +1,9 @@
 -- The digits of a number, two at a time.
-use Rattle.std.proofs.Common.{◌≡◌, ap, sym, ◌∙◌, ℕ, zero, suc, ◌+◌, ◌-◌, ◌*◌, ◌/◌, ◌%◌, ◌^◌, ◌<◌, ◌≤◌, Bool, true, ◌&&◌, T, eqb, List, [], ◌∷◌, ◌++◌, get_or, inl, inr, arith, eq-zero-or-pos, eqb→eq, append_assoc}
+use Rattle.std.proofs.Common.{◌≡◌, ap, sym, ◌∙◌, ℕ, zero, suc, ◌+◌, ◌-◌, ◌/◌, ◌%◌, ◌^◌, ◌<◌, ◌≤◌, Bool, true, false, ◌&&◌, T, refl, List, [], ◌∷◌, ◌++◌, get_or, inl, inr, arith, eq-zero-or-pos, append_assoc}
 use Rattle.std.proofs.lemmas.Fmt.{decimal_digit, decimal_step}
 use Rattle.std.specs.Fmt.{decimal}
+use Rattle.std.specs.Str.{bytes_eq}
+use Rattle.std.proofs.lemmas.Slice.Eq.{bytes_eq-Decides}
 use lib.Ieee.Fits.{and_l, and_r}
 use Rattle.feed_text.specs.declared.fields.TheConstants.{PAIRS}
 
@@ -11,18 +13,22 @@ pair n = (48 + n / 10) ∷ (48 + n % 10) ∷ []
 
 abbrev are_pairs : ℕ → Bool
 are_pairs zero = true
-are_pairs (suc p) = (eqb (get_or PAIRS (p * 2) 0) (48 + p / 10) && eqb (get_or PAIRS (p * 2 + 1) 0) (48 + p % 10)) && are_pairs p
+are_pairs (suc p) = bytes_eq (get_or PAIRS p []) (pair p) && are_pairs p
 
-below : (n p : ℕ) → T (are_pairs n) → p < n → (get_or PAIRS (p * 2) 0 ≡ 48 + p / 10) × (get_or PAIRS (p * 2 + 1) 0 ≡ 48 + p % 10)
+is_true : (b : Bool) → T b → b ≡ true
+is_true true t = refl
+is_true false t = absurd t
+
+below : (n p : ℕ) → T (are_pairs n) → p < n → get_or PAIRS p [] ≡ pair p
 below zero p t h = absurd (omega arith)
 below (suc n) p t h =
     elim (eq-zero-or-pos (n - p)) [
-      | inl z ↦ let e : p ≡ n = omega arith in let a = and_l _ (are_pairs n) t in rw e (eqb→eq _ _ (and_l _ _ a), eqb→eq _ _ (and_r _ _ a))
+      | inl z ↦ let e : p ≡ n = omega arith in rw e ((bytes_eq-Decides (get_or PAIRS n []) (pair n)).0 (is_true _ (and_l _ (are_pairs n) t)))
       | inr g ↦ below n p (and_r _ (are_pairs n) t) (omega arith)
     ]
 
 -- the table has them
-pub pairs_at : (p : ℕ) → p < 100 → (get_or PAIRS (p * 2) 0 ≡ 48 + p / 10) × (get_or PAIRS (p * 2 + 1) 0 ≡ 48 + p % 10)
+pub pairs_at : (p : ℕ) → p < 100 → get_or PAIRS p [] ≡ pair p
 pairs_at p h = below 100 p tt h
 
 pub decimal_two : (n : ℕ) → 10 ≤ n → n < 100 → decimal n ≡ pair n

@@ -24,13 +24,12 @@ use Rattle.line_arbiter.specs.States.{State, KeepsItsPlace, KeepsItsSession, Kee
 use Rattle.line_arbiter.specs.Fits.{Fits}
 use Rattle.line_arbiter.specs.Histories.{History}
 use Rattle.feed_text.specs.declared.report.Stop.{Stop}
-use Rattle.feed_text.specs.declared.report.Stop.TheVariants.{NoMemory}
 use Rattle.feed_text.specs.Capture.{datagram_record, renewal_record}
 use Rattle.feed_text.specs.Lines.{venue_line, wins_by}
 use Rattle.feed_text.specs.Happenings.{Happening, packet_answered, packet_refused, item_taken, renewal_answered}
 use Rattle.feed_text.specs.Told.{sent_of, items_told, gap_happening, gap_told, after_answer, TellsAt}
 use Rattle.feed_text.specs.Texts.{all_wins_of, last_line}
-use Rattle.feed_text.specs.Tales.{Tale, Grows, GoesOn, TellsBy}
+use Rattle.feed_text.specs.Tales.{Tale, TellsBy}
 use Rattle.feed_text.specs.Following.{Venue, Follows, TellsOutcome, TellsOne, Renews}
 use Rattle.feed_text.proofs.Tales.{tells_more, tells_stop, tells_as}
 
@@ -230,23 +229,21 @@ outcome_told width place h v new line p answer t0 t1 done f outcome tells left =
       follows = on_ok_weaker done (left_follows width place h v new (arrival_of line p answer) f) left;
     }
 
--- a packet was taken, and then all that is ready was told
-pub taken_told : (width place : ℕ) (h : History) (v : Venue) (mid new : State) (line : LineId) (p : Content) (answer : Result Outcome LineFault) (t0 t1 t2 : Tale) (done : Result (Unit {0}) Stop)
+-- a packet was answered, and then all that is ready was told
+pub answered_told : (width place : ℕ) (h : History) (v : Venue) (mid new : State) (line : LineId) (p : Content) (answer : Result Outcome LineFault) (t0 t1 : Tale) (done : Result (Unit {0}) Stop)
     → Follows width place v h
     → ((packets : List Arrival) → Fits v.arbiter packets → IsOutcome v.arbiter.session v.arbiter.window v.arbiter.sent packets p answer)
     → ((packets : List Arrival) → Fits v.arbiter packets → Fits mid (packets ++ arrival_of line p answer ∷ []))
     → KeepsItsPlace v.arbiter mid
-    → GoesOn t0 (packet_answered place line answer ∷ []) t1
-    → ((packets : List Arrival) → Fits mid packets → TellsBy t1 (map (item_taken place) (drop mid.sent (stream_of packets))) t2 done)
+    → ((packets : List Arrival) → Fits mid packets → TellsBy t0 (packet_answered place line answer ∷ map (item_taken place) (drop mid.sent (stream_of packets))) t1 done)
     → OnOk done ((packets : List Arrival) → Fits mid packets → Fits new packets × (new.sent ≡ length (stream_of packets)))
     → OnOk done (KeepsAllButSent mid new)
-    → TellsOutcome width place line p h t0 t2 (record { arbiter = new; sent_before = v.sent_before }) done
-taken_told width place h v mid new line p answer t0 t1 t2 done f outcome fits kept head items left stays =
+    → TellsOutcome width place line p h t0 t1 (record { arbiter = new; sent_before = v.sent_before }) done
+answered_told width place h v mid new line p answer t0 t1 done f outcome fits kept tells left stays =
     let Q = h.present.packets ++ arrival_of line p answer ∷ [] in
-    let fits_mid : Fits mid Q = fits h.present.packets f.fits in
-    outcome_told width place h v new line p answer t0 t2 done f (outcome h.present.packets f.fits)
-    (tells_as t0 t2 done (ap (λ (n : ℕ). packet_answered place line answer ∷ map (item_taken place) (drop n (stream_of Q))) kept.sent)
-    (tells_more t2 (packet_answered place line answer ∷ []) (map (item_taken place) (drop mid.sent (stream_of Q))) done head (items Q fits_mid)))
+    outcome_told width place h v new line p answer t0 t1 done f (outcome h.present.packets f.fits)
+    (tells_as t0 t1 done (ap (λ (n : ℕ). packet_answered place line answer ∷ map (item_taken place) (drop n (stream_of Q))) kept.sent)
+    (tells Q (fits h.present.packets f.fits)))
     (both done left stays)
   where
     both : (r : Result (Unit {0}) Stop)
@@ -257,15 +254,6 @@ taken_told width place h v mid new line p answer t0 t1 t2 done f outcome fits ke
         let x = a (h.present.packets ++ arrival_of line p answer ∷ []) (fits h.present.packets f.fits) in
         record { fits = x.0; sent = x.1; stays = stays_taken v.arbiter mid new kept b }
     both (Err e) a b = tt
-
--- there was no memory for the packet's line
-pub untold : (width place : ℕ) (h : History) (v : Venue) (new : State) (line : LineId) (p : Content) (answer : Result Outcome LineFault) (t0 t1 : Tale)
-    → Follows width place v h
-    → ((packets : List Arrival) → Fits v.arbiter packets → IsOutcome v.arbiter.session v.arbiter.window v.arbiter.sent packets p answer)
-    → Grows t0.text t1.text
-    → TellsOutcome width place line p h t0 t1 (record { arbiter = new; sent_before = v.sent_before }) (Err NoMemory)
-untold width place h v new line p answer t0 t1 f outcome grows =
-    outcome_told width place h v new line p answer t0 t1 (Err NoMemory) f (outcome h.present.packets f.fits) grows tt
 
 -- the next session began
 pub renewed_follows : (width place : ℕ) (h : History) (v : Venue) (new : State) (name : List ℕ) (ordinal sent : ℕ)

@@ -1,5 +1,5 @@
 //! The records of a capture.
-ghost use Rattle.std.specs.Prelude.{◌≡◌, ℕ, ◌<◌, ◌≤◌, ◌++◌, ◌+◌, List, MatchOption, length, drop, take};
+ghost use Rattle.std.specs.Prelude.{◌≡◌, ◌≢◌, ℕ, ◌<◌, ◌≤◌, ◌++◌, ◌+◌, List, MatchOption, length, drop, take};
 ghost use Rattle.std.specs.Option.{SomeIff};
 ghost use Rattle.feed_text.specs.Capture.{IsKind, StandsAtFront, record_of, spelling};
 ghost use Rattle.feed_text.specs.Kind.{IsKindOf};
@@ -50,7 +50,23 @@ enum Kind {
     SelfHelp(bool),
 }
 
+/// The kind of a byte that is no line's letter and a length, where there is one. Few records have
+/// such a byte.
+#[inline(never)]
+fn other_kind(byte: u8, len: usize) -> Option<Kind>
+    requires { (byte ≢ 65) × (byte ≢ 66) × (byte ≢ 82) }
+    ensures { MatchOption result (IsKind byte len → ⊥) (IsKindOf byte len) }
+{
+    match byte {
+        b'N' if len == 10 => Some(Kind::Renewal),
+        b'H' if len == 0 => Some(Kind::SelfHelp(true)),
+        b'W' if len == 0 => Some(Kind::SelfHelp(false)),
+        _ => None,
+    }
+}
+
 /// The kind of a byte and a length, where there is one.
+#[inline(always)]
 fn kind_from(byte: u8, len: usize) -> Option<Kind>
     ensures { MatchOption result (IsKind byte len → ⊥) (IsKindOf byte len) }
 {
@@ -58,10 +74,7 @@ fn kind_from(byte: u8, len: usize) -> Option<Kind>
         b'A' => Some(Kind::Line(LineId::A)),
         b'B' => Some(Kind::Line(LineId::B)),
         b'R' => Some(Kind::Line(LineId::Recovery)),
-        b'N' if len == 10 => Some(Kind::Renewal),
-        b'H' if len == 0 => Some(Kind::SelfHelp(true)),
-        b'W' if len == 0 => Some(Kind::SelfHelp(false)),
-        _ => None,
+        _ => other_kind(byte, len),
     }
 }
 

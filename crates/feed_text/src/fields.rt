@@ -11,11 +11,19 @@ ghost use Rattle.feed_text.specs.Placing.{Placed};
 use feed_types::SymbolName;
 use itoa::write_digits;
 
-/// The two digits of each number below 100, one number after the other.
-static PAIRS: [u8; 200] =
-    *b"00010203040506070809101112131415161718192021222324252627282930313233343536373839\
-    40414243444546474849505152535455565758596061626364656667686970717273747576777879\
-    8081828384858687888990919293949596979899";
+/// The two digits of each number below 100.
+static PAIRS: [[u8; 2]; 100] = [
+    *b"00", *b"01", *b"02", *b"03", *b"04", *b"05", *b"06", *b"07", *b"08", *b"09",
+    *b"10", *b"11", *b"12", *b"13", *b"14", *b"15", *b"16", *b"17", *b"18", *b"19",
+    *b"20", *b"21", *b"22", *b"23", *b"24", *b"25", *b"26", *b"27", *b"28", *b"29",
+    *b"30", *b"31", *b"32", *b"33", *b"34", *b"35", *b"36", *b"37", *b"38", *b"39",
+    *b"40", *b"41", *b"42", *b"43", *b"44", *b"45", *b"46", *b"47", *b"48", *b"49",
+    *b"50", *b"51", *b"52", *b"53", *b"54", *b"55", *b"56", *b"57", *b"58", *b"59",
+    *b"60", *b"61", *b"62", *b"63", *b"64", *b"65", *b"66", *b"67", *b"68", *b"69",
+    *b"70", *b"71", *b"72", *b"73", *b"74", *b"75", *b"76", *b"77", *b"78", *b"79",
+    *b"80", *b"81", *b"82", *b"83", *b"84", *b"85", *b"86", *b"87", *b"88", *b"89",
+    *b"90", *b"91", *b"92", *b"93", *b"94", *b"95", *b"96", *b"97", *b"98", *b"99",
+];
 
 /// How many bytes the longest number has.
 const LONGEST_NUMBER: usize = 20;
@@ -57,15 +65,13 @@ pub(crate) fn place_word(room: &mut [u8], at: usize, word: [u8; 8], len: usize) 
 
 /// Two digits, of which the first may be 0.
 #[inline(always)]
-#[tactic(auto, using(crate::proofs::Digits::pairs_at))]
 fn place_pair(room: &mut [u8], at: usize, number: u32) -> usize
     requires small { number < 100 }
     requires fits { at + 2 ≤ length room.old }
     ensures { let pair = (48 + number / 10) ∷ (48 + number % 10) ∷ [] in
         Placed room.old room.new at pair result }
 {
-    let from = number as usize * 2;
-    place(room, at, [PAIRS[from], PAIRS[from + 1]])
+    place(room, at, PAIRS[number as usize])
 }
 
 /// A number of one or two digits.

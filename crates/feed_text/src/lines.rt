@@ -3,8 +3,8 @@
 //! Room for a whole line is made behind the text, its parts are placed there, and then the text
 //! ends behind them. So a line takes memory at most once, and where that is refused the text is as
 //! it was.
-ghost use Rattle.std.specs.Prelude.{◌≡◌, ◌+◌, ◌≤◌, ◌++◌, codes, decimal, length, take, vec_len, IfOk, OnOk, OnErr};
-ghost use Rattle.feed_text.specs.Lines.{line_end, packet_head, packet_line, fault_line, refused_tail, outcome_tail, item_word, item_line, side_field, state_tail, best_line, gap_line, renew_line, on_word, position_tail, declare_line, venue_line, wins_by};
+ghost use Rattle.std.specs.Prelude.{◌≡◌, ◌+◌, ◌<◌, ◌≤◌, ◌++◌, codes, decimal, length, take, vec_len, IfOk, IsTrue, Ok, OnOk, OnErr};
+ghost use Rattle.feed_text.specs.Lines.{field, line_end, packet_head, packet_line, fault_line, refused_tail, outcome_tail, item_word, item_line, side_field, state_tail, best_line, gap_line, renew_line, on_word, position_tail, declare_line, venue_line, wins_by};
 ghost use Rattle.feed_types.specs.Text.{best_text};
 ghost use Rattle.feed_text.specs.Placing.{Placed};
 
@@ -90,6 +90,64 @@ fn place_outcome(room: &mut [u8], at: usize, outcome: &Result<Outcome, LineFault
     }
 }
 
+/// Whether the venue and both counts have one digit: looked at all at once, so that not each such
+/// line is known for one.
+#[inline(always)]
+#[tactic(auto, using(std::proofs::lemmas::Nat::le_or_l, std::proofs::lemmas::Nat::le_or_r))]
+fn are_digits(venue: VenueId, new: u16, repeated: u16) -> bool
+    ensures { IsTrue result → (venue < 10) × (new < 10) × (repeated < 10) }
+{
+    let all = venue.index() as u16 | new | repeated;
+    all < 10
+}
+
+/// The line of a taken packet whose venue and counts have one digit, as most have: its parts have
+/// their places.
+#[inline(always)]
+fn place_digits(
+    room: &mut [u8],
+    at: usize,
+    venue: VenueId,
+    line: LineId,
+    new: u16,
+    repeated: u16,
+) -> usize
+    requires room { at + 24 ≤ length room.old }
+    requires digits { (venue < 10) × (new < 10) × (repeated < 10) }
+    ensures { let line = packet_line venue line (Ok (Outcome.Taken new repeated)) in
+        Placed room.old room.new at line result }
+{
+    let venue = b'0' + venue.index() as u8;
+    let (new, repeated) = (b'0' + new as u8, b'0' + repeated as u8);
+    let at = place(room, at, [b'p', b'a', b'c', b'k', b'e', b't', b' ', venue]);
+    let at = place(room, at, [b' ', line.letter()]);
+    let at = place_word(room, at, *b" taken  ", 6);
+    place_word(room, at, [b' ', new, b' ', repeated, b'\n', 0, 0, 0], 5)
+}
+
+/// The line of any datagram whose packet was answered.
+#[inline(always)]
+fn place_packet(
+    room: &mut [u8],
+    at: usize,
+    venue: VenueId,
+    line: LineId,
+    outcome: &Result<Outcome, LineFault>,
+) -> usize
+    requires { at + 42 ≤ length room.old }
+    ensures { Placed room.old room.new at (packet_line venue line outcome.now) result }
+{
+    match *outcome {
+        Ok(Outcome::Taken { new, repeated }) if are_digits(venue, new, repeated) => {
+            place_digits(room, at, venue, line, new, repeated)
+        }
+        _ => {
+            let at = place_packet_head(room, at, venue, line);
+            place_outcome(room, at, outcome)
+        }
+    }
+}
+
 /// The line of a datagram whose packet was answered.
 #[inline(always)]
 pub(crate) fn put_packet(
@@ -105,9 +163,7 @@ pub(crate) fn put_packet(
     text.make_room(LINE)?;
     let at = text.end;
     let room = text.bytes.as_mut_slice();
-    let at = place_packet_head(room, at, venue, line);
-    let at = place_outcome(room, at, outcome);
-    text.end = at;
+    text.end = place_packet(room, at, venue, line, outcome);
     Ok(())
 }
 
@@ -145,6 +201,23 @@ fn place_item_word(room: &mut [u8], at: usize, item: &Item) -> usize
     }
 }
 
+/// The head of an item's line: its venue.
+#[inline(always)]
+#[tactic(auto, using(std::proofs::lemmas::Fmt::decimal_digit))]
+fn place_item_head(room: &mut [u8], at: usize, venue: VenueId) -> usize
+    requires { at + 14 ≤ length room.old }
+    ensures placed { Placed room.old room.new at (codes "item" ++ field venue ++ codes " ") result }
+    ensures short { result ≤ at + 14 }
+{
+    if venue.index() < 10 {
+        let venue = b'0' + venue.index() as u8;
+        return place_word(room, at, [b'i', b't', b'e', b'm', b' ', venue, b' ', 0], 7);
+    }
+    let at = place(room, at, *b"item");
+    let at = place_venue(room, at, venue);
+    place(room, at, [b' '])
+}
+
 /// The line of an item that was ready.
 #[inline(always)]
 pub(crate) fn put_item(text: &mut Page, venue: VenueId, item: &Numbered) -> Result<(), AllocError>
@@ -154,12 +227,27 @@ pub(crate) fn put_item(text: &mut Page, venue: VenueId, item: &Numbered) -> Resu
     text.make_room(LINE)?;
     let at = text.end;
     let room = text.bytes.as_mut_slice();
-    let at = place(room, at, *b"item");
-    let at = place_venue(room, at, venue);
-    let at = place_field(room, at, item.number);
+    let at = place_item_head(room, at, venue);
+    let at = place_number(room, at, item.number);
     let at = place_item_word(room, at, &item.item);
     text.end = at;
     Ok(())
+}
+
+/// The head of a side of a national best: its venue.
+#[inline(always)]
+#[tactic(auto, using(std::proofs::lemmas::Fmt::decimal_digit))]
+fn place_best_head(room: &mut [u8], at: usize, venue: VenueId) -> usize
+    requires { at + 10 ≤ length room.old }
+    ensures placed { Placed room.old room.new at (field venue ++ codes ":") result }
+    ensures short { result ≤ at + 10 }
+{
+    if venue.index() < 10 {
+        let venue = b'0' + venue.index() as u8;
+        return place_word(room, at, [b' ', venue, b':', 0, 0, 0, 0, 0], 3);
+    }
+    let at = place_venue(room, at, venue);
+    place(room, at, *b":")
 }
 
 /// A side of a national best: the venue, the price and the size.
@@ -169,8 +257,7 @@ fn place_best(room: &mut [u8], at: usize, best: &Best) -> usize
     ensures placed { Placed room.old room.new at (codes " " ++ best_text best.now) result }
     ensures short { result ≤ at + 44 }
 {
-    let at = place_venue(room, at, best.venue);
-    let at = place(room, at, *b":");
+    let at = place_best_head(room, at, best.venue);
     let at = place_price(room, at, best.price);
     let at = place(room, at, *b"x");
     place_number(room, at, best.size)

@@ -4,8 +4,8 @@ ghost use Rattle.std.specs.Prelude.{◌≡◌, ◌≤◌, [], length, take, OnOk
 use std::alloc::{AllocError, Global};
 use std::marker::Model;
 
-/// How many bytes more a page has each time that it grows.
-const STEP: usize = 65_536;
+/// The bytes by which a page grows.
+static MORE: [u8; 2048] = [0; 2048];
 
 /// A text that grows by lines. A line's room is made before it is placed, so that its parts need no
 /// test.
@@ -93,6 +93,6 @@ impl Page {
         ensures kept { self.new.items ≡ self.old.items }
         ensures room { OnOk result (1024 ≤ self.new.room) }
     {
-        self.bytes.resize(self.end.saturating_add(STEP), 0)
+        self.bytes.extend_from_slice(&MORE)
     }
 }

@@ -20,7 +20,7 @@ use crate::lines::{put_fault, put_gap, put_packet, put_renewal, put_venue};
 use crate::page::Page;
 use crate::report::{Report, Stop};
 use feed_types::{Anything, LineId, Numbered, VenueId};
-use line_arbiter::{Arbiter, Outcome, RenewFault};
+use line_arbiter::{Arbiter, LineFault, Outcome, RenewFault};
 use mold_packet::{Packet, read_packet};
 use quote_payload::read_item;
 use std::alloc::{AllocError, Global};
@@ -126,6 +126,29 @@ fn take_passed(
     take_ready(arbiter, venue, report)
 }
 
+/// Tells of a packet that was answered, and takes what is ready then.
+#[inline(always)]
+fn tell_answer(
+    arbiter: &mut Arbiter<Anything>,
+    venue: VenueId,
+    line: LineId,
+    answer: &Result<Outcome, LineFault>,
+    report: &mut Report,
+) -> Result<(), Stop>
+    requires { venue < report.old.journal.venues }
+    ensures tells { (packets : List Arrival) → Fits arbiter.old packets
+        → TellsBy (tale_of report.old)
+        (packet_answered venue line answer.now
+        ∷ map (item_taken venue) (drop arbiter.old.sent (stream_of packets)))
+        (tale_of report.new) result }
+    ensures fits { OnOk result ((packets : List Arrival) → Fits arbiter.old packets
+        → Fits arbiter.new packets × (arbiter.new.sent ≡ length (stream_of packets))) }
+    ensures kept { OnOk result (KeepsAllButSent arbiter.old arbiter.new) }
+{
+    put_packet(&mut report.text, venue, line, answer)?;
+    take_ready(arbiter, venue, report)
+}
+
 impl VenueReplay {
     /// A venue to which nothing came. It takes the memory of its window here, and none later.
     pub fn new(
@@ -155,8 +178,26 @@ impl VenueReplay {
         self.sent_before.saturating_add(self.arbiter.status().sent)
     }
 
-    /// Takes a packet, past the window where it may, and tells what became of it and each item that
-    /// is ready then.
+    /// Takes any packet, and tells what became of it and each item that is ready then.
+    #[inline(never)]
+    fn take_any(
+        &mut self,
+        venue: VenueId,
+        line: LineId,
+        packet: &Packet<'_>,
+        report: &mut Report,
+    ) -> Result<(), Stop>
+        requires { venue < report.old.journal.venues }
+        ensures { (width : ℕ) (h : History) → Follows width venue self.old h
+            → TellsOutcome width venue line packet.now h
+            (tale_of report.old) (tale_of report.new) self.new result }
+    {
+        let answer = self.arbiter.take(line, packet);
+        tell_answer(&mut self.arbiter, venue, line, &answer, report)
+    }
+
+    /// Takes a packet, and tells what became of it and each item that is ready then. Most go past
+    /// the window, and most of the others bring nothing that wasn't sent.
     #[inline(always)]
     fn take_packet(
         &mut self,
@@ -173,9 +214,10 @@ impl VenueReplay {
         if let Some(outcome) = self.arbiter.take_through(line, packet) {
             return take_passed(&mut self.arbiter, venue, line, packet, outcome, report);
         }
-        let answer = self.arbiter.take(line, packet);
-        put_packet(&mut report.text, venue, line, &answer)?;
-        take_ready(&mut self.arbiter, venue, report)
+        if let Some(outcome) = self.arbiter.take_sent(line, packet) {
+            return tell_answer(&mut self.arbiter, venue, line, &Ok(outcome), report);
+        }
+        self.take_any(venue, line, &packet.copied(), report)
     }
 
     /// Takes a datagram of a line, and tells what became of it and each item that is ready then.

@@ -10,7 +10,7 @@ use Rattle.feed_types.specs.declared.item.Item.{Item}
 use Rattle.mold_packet.specs.Content.{Content}
 use Rattle.line_arbiter.specs.Packets.{item_at, message_item}
 use Rattle.line_arbiter.specs.Holding.{Held, fresh_to, held_at, put_one, put_to}
-use Rattle.line_arbiter.proofs.Counting.{count_more, count_none}
+use Rattle.line_arbiter.proofs.Counting.{count_more}
 
 same_place : (p : Content) (n m : ℕ) → m ≡ p.number + n → item_at p m ≡ message_item p n
 same_place p n m e = ap (message_item p) (let k : m - p.number ≡ n = omega arith in k)
@@ -65,11 +65,6 @@ fresh_more b n sent held p told =
 
 pub fresh_most : (n sent : ℕ) (held : Held) (p : Content) → fresh_to n sent held p ≤ n
 fresh_most n sent held p = omega (arith, count_by-le-length (λ m. nat_lt sent m && is_none (held_at held m)) (range_with_len p.number n), length-range_with_len p.number n)
-
--- none is new where all were sent
-pub none_fresh : (n sent : ℕ) (held : Held) (p : Content) → 1 ≤ p.number → n ≤ sent - (p.number - 1) → 0 ≡ fresh_to n sent held p
-none_fresh n sent held p from_one past =
-    sym (count_none (λ m. nat_lt sent m && is_none (held_at held m)) p.number n (λ m low high. let below : m ≤ sent = omega arith in grind (arith, nat_tests)))
 
 -- at its own number nothing was put in before
 pub own_place : (n sent : ℕ) (p : Content) (found : Option Item) → put_to n sent p found (p.number + n) ≡ found

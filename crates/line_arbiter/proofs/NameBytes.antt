@@ -1,5 +1,5 @@
 -- Names of ten bytes, by their first eight and the last two.
-use Rattle.std.proofs.Common.{◌≡◌, ℕ, List, [], ◌∷◌, ◌++◌, length, take, get_or, refl, sym, ap, ◌∙◌, arith, inl, inr, ◌<◌}
+use Rattle.std.proofs.Common.{◌≡◌, ℕ, List, [], ◌∷◌, ◌++◌, ◌+◌, length, drop, take, take-append-drop, get_or, refl, sym, ap, ◌∙◌, arith, inl, inr, ◌<◌}
 use Rattle.std.proofs.lemmas.Bool.{cases_lt}
 use Rattle.std.proofs.lemmas.Grind.{common_steps}
 
@@ -7,12 +7,13 @@ pub eight_of : (xs : List ℕ) → length xs ≡ 10 → get_or xs 0 0 ∷ get_or
 eight_of (a ∷ b ∷ c ∷ d ∷ e ∷ f ∷ g ∷ h ∷ i ∷ j ∷ []) n = refl
 eight_of xs n = absurd (omega arith)
 
-pub ten_of : (xs : List ℕ) → length xs ≡ 10 → take 8 xs ++ get_or xs 8 0 ∷ get_or xs 9 0 ∷ [] ≡ xs
-ten_of (a ∷ b ∷ c ∷ d ∷ e ∷ f ∷ g ∷ h ∷ i ∷ j ∷ []) n = refl
-ten_of xs n = absurd (omega arith)
+pub two_of : (xs : List ℕ) → length xs ≡ 10 → get_or xs 8 0 ∷ get_or xs 9 0 ∷ [] ≡ drop 8 xs
+two_of (a ∷ b ∷ c ∷ d ∷ e ∷ f ∷ g ∷ h ∷ i ∷ j ∷ []) n = refl
+two_of xs n = absurd (omega arith)
 
-pub same_name : (xs ys : List ℕ) → length xs ≡ 10 → length ys ≡ 10 → take 8 xs ≡ take 8 ys → get_or xs 8 0 ≡ get_or ys 8 0 → get_or xs 9 0 ≡ get_or ys 9 0 → xs ≡ ys
-same_name xs ys m n e f g = sym (ten_of xs m) ∙ ap (λ (t : List ℕ). t ++ get_or xs 8 0 ∷ get_or xs 9 0 ∷ []) e ∙ ap (λ (k : ℕ). take 8 ys ++ k ∷ get_or xs 9 0 ∷ []) f ∙ ap (λ (k : ℕ). take 8 ys ++ get_or ys 8 0 ∷ k ∷ []) g ∙ ten_of ys n
+pub same_name : (xs ys : List ℕ) → take 8 xs ≡ take 8 ys → drop 8 xs ≡ drop 8 ys → xs ≡ ys
+same_name xs ys first last =
+    sym (take-append-drop 8 xs) ∙ ap (λ (t : List ℕ). t ++ drop 8 xs) first ∙ ap (λ (t : List ℕ). take 8 ys ++ t) last ∙ take-append-drop 8 ys
 
 pub fit_eight : (xs : List ℕ) → length xs ≡ 10 → ((i : ℕ) → get_or xs i 0 < 256) → (i : ℕ) → get_or (take 8 xs) i 0 < 256
 fit_eight xs n h i = elim (cases_lt i 8) [
@@ -22,3 +23,9 @@ fit_eight xs n h i = elim (cases_lt i 8) [
 
 pub eight_long : (xs : List ℕ) → length xs ≡ 10 → length (take 8 xs) ≡ 8
 eight_long xs n = grind (arith, common_steps)
+
+pub fit_two : (xs : List ℕ) → ((i : ℕ) → get_or xs i 0 < 256) → (i : ℕ) → get_or (drop 8 xs) i 0 < 256
+fit_two xs h i = let f = h (8 + i) in grind (arith, common_steps)
+
+pub two_long : (xs : List ℕ) → length xs ≡ 10 → length (drop 8 xs) ≡ 2
+two_long xs n = grind (arith, common_steps)

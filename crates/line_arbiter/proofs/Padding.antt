@@ -1,5 +1,5 @@
 -- Slots that weren't needed yet read as blank ones.
-use Rattle.std.proofs.Common.{◌≡◌, ℕ, suc, ◌+◌, ◌-◌, ◌<◌, ◌≤◌, List, [], ◌∷◌, ◌++◌, length, set, sym, ap, ◌∙◌, arith, append_assoc, length-append}
+use Rattle.std.proofs.Common.{◌≡◌, ℕ, suc, ◌+◌, ◌-◌, ◌<◌, ◌≤◌, List, [], ◌∷◌, ◌++◌, length, set, refl, sym, ap, ◌∙◌, arith, append_assoc, length-append}
 use Rattle.std.specs.Prelude.{replicate}
 use Rattle.std.proofs.lemmas.List.{length-replicate, set-append_left, length-set}
 use Rattle.feed_types.specs.declared.item.Item.{Item}
@@ -22,3 +22,15 @@ pub padded_set : (width slot : ℕ) (item : Item) (slots : List Item) → slot <
 padded_set width slot item slots lt =
     ap (λ (n : ℕ). set slots slot item ++ replicate (width - n) items.Other) (length-set slots slot item)
     ∙ sym (set-append_left slots (replicate (width - length slots) items.Other) slot item lt)
+
+set_last : (slots : List Item) (blank item : Item) → set (slots ++ blank ∷ []) (length slots) item ≡ slots ++ item ∷ []
+set_last [] blank item = refl
+set_last (x ∷ xs) blank item = ap (λ (rest : List Item). x ∷ rest) (set_last xs blank item)
+
+-- the next slot that is written
+pub padded_next : (width : ℕ) (item : Item) (slots : List Item) → length slots < width → padded width (slots ++ item ∷ []) ≡ set (padded width slots) (length slots) item
+padded_next width item slots lt =
+    let there : length slots < length (slots ++ items.Other ∷ []) = omega (arith, length-append slots (items.Other ∷ [])) in
+    ap (padded width) (sym (set_last slots items.Other item))
+    ∙ padded_set width (length slots) item (slots ++ items.Other ∷ []) there
+    ∙ ap (λ (xs : List Item). set xs (length slots) item) (padded_push width slots lt)

@@ -1,32 +1,86 @@
--- A packet whose messages were all sent: nothing of it is held, and the front stays.
-use Rattle.std.proofs.Common.{◌≡◌, ℕ, ◌+◌, ◌≤◌, length, Option, Some, None, Ok, refl, sym, arith}
+-- A packet whose messages were all sent or are held: nothing of it is new, and the front stays.
+use Rattle.std.proofs.Common.{◌≡◌, ℕ, ◌+◌, ◌-◌, ◌<◌, ◌≤◌, List, [], ◌∷◌, ◌++◌, length, Option, Some, None, Ok, refl, sym, subst, arith, false, inl, inr}
+use Rattle.std.specs.Prelude.{◌↔◌, IfSome, IsSome, nat_lt, ◌&&◌, is_none}
+use Rattle.std.proofs.lemmas.Bool.{cases_lt}
 use Rattle.std.proofs.lemmas.Bool.Decides.{nat_tests}
 use Rattle.feed_types.specs.declared.item.Item.{Item}
 use Rattle.feed_types.specs.declared.line.LineId.{LineId}
-use Rattle.mold_packet.specs.Content.{Content}
+use Rattle.mold_packet.specs.declared.packet.Kind.{Kind}
+use Rattle.mold_packet.specs.declared.packet.Kind.TheVariants as kinds
+use Rattle.mold_packet.specs.Content.{Content, IsContent}
+use Rattle.line_arbiter.specs.declared.outcome.Outcome.{Outcome}
 use Rattle.line_arbiter.specs.declared.outcome.Outcome.TheVariants.{Taken}
-use Rattle.line_arbiter.specs.Packets.{last_of}
-use Rattle.line_arbiter.specs.Outcomes.{IsBefore}
+use Rattle.line_arbiter.specs.Packets.{Arrival, arrival_of, last_of}
+use Rattle.line_arbiter.specs.Outcomes.{IsBefore, IsOutcome}
+use Rattle.line_arbiter.specs.Through.{WasSent}
 use Rattle.line_arbiter.specs.Counts.{Counts}
-use Rattle.line_arbiter.specs.Holding.{Held, held_at, put_all, HeldAgrees}
+use Rattle.line_arbiter.specs.Holding.{Held, fresh_to, held_at, put_all, HeldAgrees}
+use Rattle.line_arbiter.specs.Comparing.{AreThere, IsThere}
 use Rattle.line_arbiter.specs.States.{State, held_of}
-use Rattle.line_arbiter.specs.Steps.{MessagesStep, counted, raised}
-use Rattle.line_arbiter.proofs.Filling.{none_fresh}
+use Rattle.line_arbiter.specs.Steps.{KindStep, MessagesStep, PacketStep, SentStep, counted, raised}
+use Rattle.line_arbiter.specs.Fits.{Fits}
+use Rattle.line_arbiter.proofs.Answering.{packet_answer}
+use Rattle.line_arbiter.proofs.Counting.{count_none}
+use Rattle.line_arbiter.proofs.PacketSteps.{packet_fits}
+use Rattle.line_arbiter.proofs.Standing.{fits_of, stands_of}
 use Rattle.line_arbiter.proofs.Windows.{before_base}
 
-none_put : (sent : ℕ) (p : Content) (found : Option Item) (m : ℕ) → last_of p ≤ sent → put_all sent p found m ≡ found
-none_put sent p None m gone = grind (arith, nat_tests)
-none_put sent p (Some x) m gone = refl
+-- a message that was sent is there, and nothing else is held at its number
+pub sent_there : (held : Held) (p : Content) → last_of p ≤ held.base → AreThere held p
+sent_there held p gone k within = inl (omega arith)
 
-agrees : (held : Held) (p : Content) → last_of p ≤ held.base → HeldAgrees held p
-agrees held p gone k within found is = let none = before_base held (p.number + k) (omega arith) in absurd cc
+pub sent_agrees : (held : Held) (p : Content) → last_of p ≤ held.base → HeldAgrees held p
+sent_agrees held p gone k within found is = let none = before_base held (p.number + k) (omega arith) in absurd cc
 
-pub repeats : (line : LineId) (old : State) (p : Content) (known : ℕ) (wins : Counts) → 1 ≤ p.number → held_at (held_of old) (old.front + 1) ≡ None → last_of p ≤ old.sent → IsBefore old.end (last_of p)
+-- at the packet's numbers past the base something is held
+held_past : (held : Held) (p : Content) (m : ℕ) → AreThere held p → held.base < m → p.number ≤ m → m < p.number + length p.messages → IsSome (held_at held m)
+held_past held p m there past low high =
+    let at : p.number + (m - p.number) ≡ m = omega arith in
+    elim (subst (λ (k : ℕ). IsThere held k) at (there (m - p.number) (omega arith))) [
+      | inl sent ↦ absurd (omega arith)
+      | inr some ↦ some
+    ]
+
+put_as : (held : Held) (p : Content) (m : ℕ) (found : Option Item) → AreThere held p → held_at held m ≡ found → put_all held.base p found m ≡ found
+put_as held p m (Some x) there is = refl
+put_as held p m None there is =
+    elim (cases_lt held.base m) [
+      | inr sent ↦ grind (arith, nat_tests)
+      | inl past ↦ elim (cases_lt m p.number) [
+          | inl below ↦ grind (arith, nat_tests)
+          | inr low ↦ elim (cases_lt m (p.number + length p.messages)) [
+              | inl high ↦ let some = held_past held p m there past low high in absurd cc
+              | inr above ↦ grind (arith, nat_tests)
+            ]
+        ]
+    ]
+
+none_put : (held : Held) (p : Content) (m : ℕ) → AreThere held p → put_all held.base p (held_at held m) m ≡ held_at held m
+none_put held p m there = put_as held p m (held_at held m) there refl
+
+is_some_then : (o : Option Item) → IsSome o → is_none o ≡ false
+is_some_then None some = absurd cc
+is_some_then (Some x) some = refl
+
+not_new : (held : Held) (m : ℕ) → (held.base < m → IsSome (held_at held m)) → (nat_lt held.base m && is_none (held_at held m)) ≡ false
+not_new held m some =
+    elim (cases_lt held.base m) [
+      | inl past ↦ let none = is_some_then (held_at held m) (some past) in grind (arith, nat_tests)
+      | inr sent ↦ grind (arith, nat_tests)
+    ]
+
+none_fresh : (held : Held) (p : Content) → AreThere held p → 0 ≡ fresh_to (length p.messages) held.base held p
+none_fresh held p there =
+    sym (count_none (λ m. nat_lt held.base m && is_none (held_at held m)) p.number (length p.messages)
+    (λ m low high. not_new held m (λ past. held_past held p m there past low high)))
+
+pub repeats : (line : LineId) (old : State) (p : Content) (known : ℕ) (wins : Counts) → held_at (held_of old) (old.front + 1) ≡ None
+    → AreThere (held_of old) p → HeldAgrees (held_of old) p → last_of p ≤ old.sent + old.window → IsBefore old.end (last_of p)
     → known ≡ raised old.known old.end (last_of p) → wins ≡ counted line 0 old.wins
     → MessagesStep line old (record old { known = known; wins = wins }) p (Ok (Taken 0 (length p.messages)))
-repeats line old p known wins one stop sent before known_is wins_is = (
+repeats line old p known wins stop there agrees within before known_is wins_is = (
   record {
-    held = λ m. sym (none_put old.sent p (held_at (held_of old) m) m sent);
+    held = λ m. sym (none_put (held_of old) p m there);
     from = omega arith;
     run = λ m past within. absurd (omega arith);
     stop = stop;
@@ -35,8 +89,38 @@ repeats line old p known wins one stop sent before known_is wins_is = (
     others = refl;
   },
   before,
-  omega arith,
-  agrees (held_of old) p sent,
-  none_fresh (length p.messages) old.sent (held_of old) p one (omega arith),
+  within,
+  agrees,
+  none_fresh (held_of old) p there,
   omega arith,
 )
+
+-- a packet of messages of the session that may all have been sent
+module _ (line : LineId) (old new : State) (p : Content) (name : p.session ≡ old.session) (kind : p.kind ≡ kinds.Messages) where
+  step_of : (o : Outcome) → SentStep line old new p (Some o) → PacketStep line old new p (Ok o)
+  step_of o h = inr (name, subst (λ (k : Kind). KindStep k line old new p (Ok o)) (sym kind) h.0)
+
+  pub sent_iff : (result : Option Outcome) → SentStep line old new p result → (packets : List Arrival) → Fits old packets → IsSome result ↔ WasSent old.session old.sent packets p
+  sent_iff None h packets fits = (
+    λ some. absurd cc,
+    λ was. absurd (h.1 was.all (subst (λ (end : Option ℕ). IsBefore end (last_of p)) (sym fits.end) was.before)),
+  )
+  sent_iff (Some o) h packets fits = (
+    λ some. record {
+      name = name;
+      kind = kind;
+      all = h.1;
+      before = subst (λ (end : Option ℕ). IsBefore end (last_of p)) fits.end h.2;
+    },
+    λ was. refl,
+  )
+
+  pub sent_outcome : IsContent p → (result : Option Outcome) → SentStep line old new p result → (packets : List Arrival) → Fits old packets
+      → IfSome result (λ o. IsOutcome old.session old.window old.sent packets p (Ok o))
+  sent_outcome content None h packets fits = tt
+  sent_outcome content (Some o) h packets fits = packet_answer line old new packets p (Ok o) content (stands_of fits) (step_of o h)
+
+  pub sent_fits : IsContent p → (result : Option Outcome) → SentStep line old new p result → (packets : List Arrival) → Fits old packets
+      → IfSome result (λ o. Fits new (packets ++ arrival_of line p (Ok o) ∷ []))
+  sent_fits content None h packets fits = tt
+  sent_fits content (Some o) h packets fits = fits_of (packet_fits old new packets line p (Ok o) content (stands_of fits) (step_of o h))

@@ -12,6 +12,7 @@ pub mod Through
 pub mod Counts
 pub mod Marks
 pub mod Holding
+pub mod Comparing
 pub mod States
 pub mod Fits
 pub mod Steps

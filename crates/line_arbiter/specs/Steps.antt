@@ -149,3 +149,10 @@ abbrev pub ThroughStep : LineId → State → State → Content → Option Outco
 ThroughStep line old new p None = (new ≡ old) × (IsNext old p → ⊥)
 ThroughStep line old new p (Some answer) =
     IsNext old p × GoesPast line old new p × (answer ≡ Taken (length p.messages) 0)
+
+-- the answer to a packet of messages of the session that may all have been sent
+abbrev pub SentStep : LineId → State → State → Content → Option Outcome → Type 0
+SentStep line old new p None =
+    (new ≡ old) × (last_of p ≤ old.sent → IsBefore old.end (last_of p) → ⊥)
+SentStep line old new p (Some answer) =
+    MessagesStep line old new p (Ok answer) × (last_of p ≤ old.sent) × IsBefore old.end (last_of p)

@@ -1,4 +1,4 @@
--- Which packets pass through an arbiter, and what one sends.
+-- Which packets pass through an arbiter, what one sends, and which come after all that they bring.
 use Rattle.std.specs.Prelude.{◌≡◌, ℕ, ◌+◌, ◌<◌, ◌≤◌, List, ◌++◌, None, drop, length, map}
 use Rattle.feed_types.specs.Sessions.{numbered_from}
 use Rattle.mold_packet.specs.declared.packet.Kind.TheVariants as kinds
@@ -24,3 +24,11 @@ abbrev pub SendsPacket : ℕ → ℕ → Content → List Arrival → Type 0
 SendsPacket from to p packets =
     drop from (stream_of packets)
     ≡ numbered_from p.number (map item_of p.messages) ++ drop to (stream_of packets)
+
+-- A packet of messages of the session, all of which were sent, before the end.
+pub record WasSent (session : List ℕ) (sent : ℕ) (packets : List Arrival) (p : Content)
+    : Type 0 where
+  pub name : p.session ≡ session
+  pub kind : p.kind ≡ kinds.Messages
+  pub all : last_of p ≤ sent
+  pub before : IsBefore (end_of packets) (last_of p)

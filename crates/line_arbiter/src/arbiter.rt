@@ -8,14 +8,16 @@ ghost use Rattle.line_arbiter.specs.Streams.{IsComplete, stream_of, gap_of, wins
 ghost use Rattle.line_arbiter.specs.Outcomes.{IsBefore, IsOutcome, IsPast};
 ghost use Rattle.line_arbiter.specs.Renewals.{HasEnded, IsRenewal};
 ghost use Rattle.line_arbiter.specs.Genuine.{AreGenuine, IsGenuineItem};
-ghost use Rattle.line_arbiter.specs.Through.{PassesThrough, SendsPacket};
+ghost use Rattle.line_arbiter.specs.Through.{PassesThrough, SendsPacket, WasSent};
 ghost use Rattle.line_arbiter.specs.Counts.{count_on, shown};
-ghost use Rattle.line_arbiter.specs.States.{ordinal_of, next_of, ShowsCursors, IsNew, KeepsItsPlace, KeepsItsSession, IsAdvanced, IsRenewed};
+ghost use Rattle.line_arbiter.specs.States.{held_of, ordinal_of, next_of, ShowsCursors, IsNew, KeepsItsPlace, KeepsItsSession, IsAdvanced, IsRenewed};
+ghost use Rattle.line_arbiter.specs.Holding.{HeldAgrees};
+ghost use Rattle.line_arbiter.specs.Comparing.{AreThere};
 ghost use Rattle.line_arbiter.specs.Fits.{Fits, cursors_of};
-ghost use Rattle.line_arbiter.specs.Steps.{IsSound, IsNext, DropsNext, ThroughStep, MessagesStep, HeartbeatStep, EndStep, PacketStep, raised as raised_to};
+ghost use Rattle.line_arbiter.specs.Steps.{IsSound, IsNext, DropsNext, ThroughStep, SentStep, MessagesStep, HeartbeatStep, EndStep, PacketStep, raised as raised_to};
 
 use crate::faults::{ArbiterFault, RenewFault};
-use crate::intake::{disagrees, fill};
+use crate::intake::{Comparison, compare, fill, run_after};
 use crate::names::is_same_name;
 use crate::outcome::{LineFault, Outcome};
 use crate::window::Window;
@@ -191,12 +193,14 @@ impl<G: Genuine> Arbiter<G> {
         self.held.pass();
     }
 
-    /// Takes a packet of messages that were all sent, as on the line that comes second.
+    /// Takes a packet of messages that were all sent or are held, as on the line that comes second.
     #[inline(always)]
-    fn take_sent(&mut self, line: LineId, packet: &Packet<'_>, last: u64) -> Outcome
+    fn take_repeat(&mut self, line: LineId, packet: &Packet<'_>, last: u64) -> Outcome
         requires last { last ≡ last_of packet.now }
-        requires sent { last_of packet.now ≤ self.old.sent }
         requires before { IsBefore self.old.end (last_of packet.now) }
+        requires within { last_of packet.now ≤ self.old.sent + self.old.window }
+        requires there { AreThere (held_of self.old) packet.now }
+        requires agrees { HeldAgrees (held_of self.old) packet.now }
         ensures { MessagesStep line self.old self.new packet.now (Ok result) }
     {
         self.known_to = raised(self.known_to, self.end_number, last);
@@ -207,8 +211,25 @@ impl<G: Genuine> Arbiter<G> {
         }
     }
 
-    /// Takes a packet of messages into the window, in which all of them have a place or were sent.
-    #[inline(never)]
+    /// Takes a packet of messages that all have a place in the window or were sent, and of which
+    /// those that are held read the same.
+    fn take_new(&mut self, line: LineId, packet: &Packet<'_>, last: u64) -> Outcome
+        requires last { last ≡ last_of packet.now }
+        requires before { IsBefore self.old.end (last_of packet.now) }
+        requires within { last_of packet.now ≤ self.old.sent + self.old.window }
+        requires agrees { HeldAgrees (held_of self.old) packet.now }
+        ensures { MessagesStep line self.old self.new packet.now (Ok result) }
+    {
+        let new = fill(&mut self.held, packet);
+        self.run_to = run_after(&self.held, self.run_to, packet.number());
+        self.known_to = raised(self.known_to, self.end_number, last);
+        let repeated = packet.count() - new;
+        self.won.add(line, new);
+        Outcome::Taken { new, repeated }
+    }
+
+    /// Takes a packet of messages that all have a place in the window or were sent.
+    #[inline(always)]
     fn take_in(
         &mut self,
         line: LineId,
@@ -220,15 +241,11 @@ impl<G: Genuine> Arbiter<G> {
         requires within { last_of packet.now ≤ self.old.sent + self.old.window }
         ensures { MessagesStep line self.old self.new packet.now result }
     {
-        if disagrees(&self.held, packet) {
-            return Err(LineFault::Conflict);
+        match compare(&self.held, packet) {
+            Comparison::Differs => Err(LineFault::Conflict),
+            Comparison::Repeats => Ok(self.take_repeat(line, packet, last)),
+            Comparison::Agrees => Ok(self.take_new(line, packet, last)),
         }
-        let new = fill(&mut self.held, packet);
-        self.run_to = self.held.run_end(self.run_to);
-        self.known_to = raised(self.known_to, self.end_number, last);
-        let repeated = packet.count() - new;
-        self.won.add(line, new);
-        Ok(Outcome::Taken { new, repeated })
     }
 
     #[inline(always)]
@@ -241,7 +258,7 @@ impl<G: Genuine> Arbiter<G> {
             return Err(LineFault::PastEnd);
         }
         if last <= self.held.base() {
-            return Ok(self.take_sent(line, packet, last));
+            return Ok(self.take_repeat(line, packet, last));
         }
         if last.saturating_sub(self.held.base()) > u64::from(self.held.width()) {
             self.known_to = raised(self.known_to, self.end_number, last);
@@ -278,6 +295,18 @@ impl<G: Genuine> Arbiter<G> {
         self.known_to = raised(self.known_to, self.end_number, last);
         self.won.add(line, new);
         Some(Outcome::Taken { new, repeated: 0 })
+    }
+
+    #[inline(always)]
+    fn pass_sent(&mut self, line: LineId, packet: &Packet<'_>) -> Option<Outcome>
+        requires { packet.now.kind ≡ Kind.Messages }
+        ensures { SentStep line self.old self.new packet.now result }
+    {
+        let last = last_number(packet);
+        if last > self.held.base() || is_past(self.end_number, last) {
+            return None;
+        }
+        Some(self.take_repeat(line, packet, last))
     }
 
     #[inline(never)]
@@ -376,6 +405,30 @@ impl<G: Genuine> Arbiter<G> {
         }
         match packet.kind() {
             Kind::Messages => self.pass_messages(line, packet),
+            Kind::Heartbeat | Kind::End => None,
+        }
+    }
+
+    /// Takes a packet of messages that were all sent, as on the line that comes second. The answer is
+    /// that of `take`. `None` for any other packet, which changes nothing: then `take` it.
+    #[inline(always)]
+    pub fn take_sent(&mut self, line: LineId, packet: &Packet<'_>) -> Option<Outcome>
+        ensures sent { (packets : List Arrival) → Fits self.old packets
+            → (IsSome result ↔ WasSent self.old.session self.old.sent packets packet.now) }
+        ensures outcome { (packets : List Arrival) → Fits self.old packets
+            → IfSome result (λ o. IsOutcome self.old.session self.old.window self.old.sent packets
+            packet.now (Ok o)) }
+        ensures fits { (packets : List Arrival) → Fits self.old packets
+            → IfSome result (λ o. Fits self.new
+            (packets ++ arrival_of line packet.now (Ok o) ∷ [])) }
+        ensures kept { KeepsItsPlace self.old self.new }
+        ensures none { IfNone result (self.new ≡ self.old) }
+    {
+        if !is_same_name(&packet.session(), &self.session_name) {
+            return None;
+        }
+        match packet.kind() {
+            Kind::Messages => self.pass_sent(line, packet),
             Kind::Heartbeat | Kind::End => None,
         }
     }

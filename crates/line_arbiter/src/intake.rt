@@ -2,7 +2,8 @@
 
 ghost use Rattle.std.specs.Prelude.{◌≡◌, ◌≢◌, ◌↔◌, ℕ, ◌+◌, ◌^◌, ◌<◌, ◌≤◌, None, IsSome, IsTrue, ◌⊎◌, length, MatchBool};
 ghost use Rattle.quote_payload.specs.Payload.{item_of};
-ghost use Rattle.line_arbiter.specs.Holding.{held_at, put_one, put_all, fresh_to, HoldsOther, HoldsNoOther, HeldAgrees, HeldDisagrees};
+ghost use Rattle.line_arbiter.specs.Holding.{held_at, put_one, put_all, fresh_to};
+ghost use Rattle.line_arbiter.specs.Comparing.{Compares, ComparesOne};
 
 use crate::window::Window;
 use feed_types::Item;
@@ -17,38 +18,58 @@ fn differ(a: &Item, b: &Item) -> bool
     a != b
 }
 
-/// Whether another item is held at the number than the message reads as. A message is read only
-/// where an item is held.
-fn is_other(window: &Window, number: u64, message: &[u8]) -> bool
-    ensures { MatchBool result (HoldsOther window.now number (item_of message.now))
-        (HoldsNoOther window.now number (item_of message.now)) }
+/// What a packet's messages are beside those that are held.
+#[derive(Clone, Copy, Debug, PartialEq, Eq)]
+pub(crate) enum Comparison {
+    /// A held one reads otherwise.
+    Differs,
+    /// Each was sent, or is held and reads the same.
+    Repeats,
+    /// Those that are held read the same.
+    Agrees,
+}
+
+/// What the message is beside the one that is held at the number. It is read only where one is.
+fn compare_one(window: &Window, number: u64, message: &[u8]) -> Comparison
+    ensures { ComparesOne window.now number (item_of message.now) result }
 {
     match window.get(number) {
-        Some(found) => differ(&found, &read_item(message)),
-        None => false,
+        Some(found) if differ(&found, &read_item(message)) => Comparison::Differs,
+        Some(_) => Comparison::Repeats,
+        None if number <= window.base() => Comparison::Repeats,
+        None => Comparison::Agrees,
     }
 }
 
-fn some_is_other(window: &Window, packet: &Packet<'_>) -> bool
-    ensures { MatchBool result (HeldDisagrees window.now packet.now)
-        (HeldAgrees window.now packet.now) }
+fn compare_each(window: &Window, packet: &Packet<'_>) -> Comparison
+    ensures { Compares window.now packet.now result }
 {
     let first = packet.number();
+    let mut all_there = true;
     for (i, message) in packet.messages().enumerate() {
-        if is_other(window, first + i as u64, message) {
-            return true;
+        match compare_one(window, first + i as u64, message) {
+            Comparison::Differs => return Comparison::Differs,
+            Comparison::Repeats => {}
+            Comparison::Agrees => all_there = false,
         }
     }
-    false
+    if all_there {
+        Comparison::Repeats
+    } else {
+        Comparison::Agrees
+    }
 }
 
-/// Whether a held message reads otherwise in the packet. Where all that is held lies below the
-/// packet, as most often, its messages aren't walked.
-pub(crate) fn disagrees(window: &Window, packet: &Packet<'_>) -> bool
-    ensures { MatchBool result (HeldDisagrees window.now packet.now)
-        (HeldAgrees window.now packet.now) }
+/// What the packet's messages are beside those that are held. Where these all lie below the packet,
+/// as most often, its messages aren't walked.
+pub(crate) fn compare(window: &Window, packet: &Packet<'_>) -> Comparison
+    ensures { Compares window.now packet.now result }
 {
-    window.holds_from(packet.number()) && some_is_other(window, packet)
+    if window.holds_from(packet.number()) {
+        compare_each(window, packet)
+    } else {
+        Comparison::Agrees
+    }
 }
 
 /// Holds the message where its number is past the base and free, and tells whether it did.
@@ -86,4 +107,19 @@ pub(crate) fn fill(window: &mut Window, packet: &Packet<'_>) -> u16
         count += u16::from(is_new);
     }
     count
+}
+
+/// The last number of the run of held numbers that goes on past `front`, where those that came last
+/// are this one and greater ones.
+pub(crate) fn run_after(window: &Window, front: u64, number: u64) -> u64
+    requires one { 1 ≤ number }
+    requires stays { front + 1 < number → held_at window.now (front + 1) ≡ None }
+    ensures from { front ≤ result }
+    ensures run { (m : ℕ) → front < m → m ≤ result → IsSome (held_at window.now m) }
+    ensures stop { held_at window.now (result + 1) ≡ None }
+{
+    if number - 1 > front {
+        return front;
+    }
+    window.run_end(front)
 }

@@ -1,7 +1,7 @@
 //! Session names, compared by words.
 
-ghost use Rattle.std.specs.Prelude.{◌≡◌, ◌≢◌, take, MatchBool};
-ghost use Rattle.std.specs.Int.{w64, to_le_bytes, from_le_bytes};
+ghost use Rattle.std.specs.Prelude.{◌≡◌, ◌≢◌, drop, take, MatchBool};
+ghost use Rattle.std.specs.Int.{w16, w64, to_le_bytes, from_le_bytes};
 
 /// The first eight bytes of a name, in a word.
 #[inline(always)]
@@ -14,6 +14,15 @@ fn first_eight(name: [u8; 10]) -> u64
     ])
 }
 
+/// The last two bytes of a name, in a word.
+#[inline(always)]
+fn last_two(name: [u8; 10]) -> u16
+    ensures is { result ≡ from_le_bytes w16 (drop 8 name) }
+    ensures back { to_le_bytes w16 result ≡ drop 8 name }
+{
+    u16::from_le_bytes([name[8], name[9]])
+}
+
 /// Whether the names are the same: their first eight bytes at once, and then the last two.
 #[inline(always)]
 pub(crate) fn is_same_name(a: &[u8; 10], b: &[u8; 10]) -> bool
@@ -22,7 +31,7 @@ pub(crate) fn is_same_name(a: &[u8; 10], b: &[u8; 10]) -> bool
     if first_eight(*a) != first_eight(*b) {
         return false;
     }
-    if a[8] != b[8] || a[9] != b[9] {
+    if last_two(*a) != last_two(*b) {
         return false;
     }
     true

@@ -8,7 +8,7 @@ ghost use Rattle.line_arbiter.specs.Marks.{is_marked};
 ghost use Rattle.line_arbiter.specs.Holding.{count_held, held_at, item_in, padded, put_one, slot_of as slot_of_place, IsEmpty, IsFree};
 
 use crate::marks::{first_slot, has_mark, mark, unmark};
-use feed_types::Item;
+use feed_types::{Item, Quote};
 use std::alloc::{AllocError, Global};
 use std::marker::Model;
 
@@ -66,12 +66,38 @@ fn slot_after(slot: usize, width: usize) -> usize
     if slot + 1 < width { slot + 1 } else { 0 }
 }
 
+/// The same item, copied part by part: a copy of the whole would be taken apart where it is used, in
+/// pieces that overlap, and each wait for the one before it.
+#[inline(always)]
+fn by_parts(item: &Item) -> Item
+    ensures { result ≡ item.now }
+{
+    match item {
+        Item::Quote(quote) => Item::Quote(Quote {
+            symbol: quote.symbol,
+            bid_auto: quote.bid_auto,
+            offer_auto: quote.offer_auto,
+            bid_price: quote.bid_price,
+            bid_size: quote.bid_size,
+            offer_size: quote.offer_size,
+            offer_price: quote.offer_price,
+        }),
+        Item::Halt { symbol, halted } => Item::Halt {
+            symbol: *symbol,
+            halted: *halted,
+        },
+        Item::Other => Item::Other,
+        Item::End => Item::End,
+    }
+}
+
 /// The item in the slot: Other where it wasn't needed yet.
+#[inline(always)]
 fn item_at(slots: &[Item], slot: usize) -> Item
     ensures { (width : ℕ) → result ≡ get_or (padded width slots.now) slot items.Other }
 {
     match slots.get(slot) {
-        Some(item) => *item,
+        Some(item) => by_parts(item),
         None => Item::Other,
     }
 }
@@ -96,8 +122,12 @@ fn set(slots: &mut Vec<Item>, slot: usize, item: Item)
         → padded width slots.new.items ≡ slice_set (padded width slots.old.items) slot item }
     ensures capacity { vec_capacity slots.new ≡ vec_capacity slots.old }
 {
-    reach(slots, slot);
-    slots[slot] = item;
+    if slot == slots.len() {
+        slots.push_reserved(item);
+    } else {
+        reach(slots, slot);
+        slots[slot] = item;
+    }
 }
 
 /// The first place from this one on, below the end, that holds an item, or holds none, as asked;

@@ -1,18 +1,23 @@
+use Rattle.std.proofs.Common.{◌≡◌, ap, sym, ◌∙◌}
+use Rattle.mold_packet.specs.declared.packet.Kind.TheVariants as kinds
 use Rattle.line_arbiter.specs.States.{State}
-use Rattle.line_arbiter.proofs.Repeating.{repeats}
+use Rattle.line_arbiter.proofs.Repeating.{sent_iff, sent_outcome, sent_fits}
 use Rattle.line_arbiter.proofs.arbiter.Arbiter.take_sent.Given.{Over}
 use Rattle.line_arbiter.proofs.arbiter.Arbiter.take_sent.Goals as goal
-use Rattle.line_arbiter.proofs.arbiter.Arbiter.take_sent.Goals.{After-count}
+use Rattle.line_arbiter.proofs.arbiter.Arbiter.take_sent.Goals.{After-pass_sent}
 
-old : (g : Over) → After-count g → State
-old g c =
-    let i = c.self.inside in
-    record { venue = i.venue_id; sessions = i.names.items; session = i.session_name; window = i.held.width; sent = i.held.base; front = i.run_to; known = i.known_to; end = i.end_number; ring = i.held.ring; wins = i.won; earlier = i.won_before }
+module _ (g : Over) (c : After-pass_sent g) where
+  name : c.args.packet.now.session ≡ c.args.self.now.session
+  name = sym c.session.ensures.value ∙ c.if-not-is_same_name.ensures ∙ ap (λ (s : State). s.session) c.self.view_is
 
-pub returns : goal.returns
-unfolding old
-returns g c =
-    let sent = rw (← c.self.view_is) at c.requires.sent in
-    let before = rw (← c.self.view_is) at c.requires.before in
-    let known = rw c.requires.last at c.raised-self-inside.ensures in
-    rw (← c.self.view_is, c.count.ensures.value) (repeats c.args.line (old g (goal.at.returns g c).After-count) c.args.packet.now _ _ c.count.ensures.content.from_one c.self.invariant.stop sent before known c.add.ensures)
+  kind : c.args.packet.now.kind ≡ kinds.Messages
+  kind = sym c.in-Messages.ensures.value
+
+pub returns-in-Messages-clause-sent : goal.returns-in-Messages-clause-sent
+returns-in-Messages-clause-sent g c = sent_iff _ _ _ _ (name g c) (kind g c) _ c.pass_sent.ensures
+
+pub returns-in-Messages-clause-outcome : goal.returns-in-Messages-clause-outcome
+returns-in-Messages-clause-outcome g c = sent_outcome _ _ _ _ (name g c) (kind g c) c.session.ensures.content _ c.pass_sent.ensures
+
+pub returns-in-Messages-clause-fits : goal.returns-in-Messages-clause-fits
+returns-in-Messages-clause-fits g c = sent_fits _ _ _ _ (name g c) (kind g c) c.session.ensures.content _ c.pass_sent.ensures

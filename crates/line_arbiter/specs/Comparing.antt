@@ -1,0 +1,27 @@
+-- Cited by private clauses alone. What a packet's messages are beside those that are held.
+use Rattle.std.specs.Prelude.{ℕ, ◌+◌, ◌<◌, ◌≤◌, ◌⊎◌, IsSome, length}
+use Rattle.feed_types.specs.declared.item.Item.{Item}
+use Rattle.mold_packet.specs.Content.{Content}
+use Rattle.line_arbiter.specs.declared.intake.Comparison.{Comparison}
+use Rattle.line_arbiter.specs.declared.intake.Comparison.TheVariants.{Differs, Repeats, Agrees}
+use Rattle.line_arbiter.specs.Holding.{Held, held_at, HoldsOther, HoldsNoOther, HeldAgrees, HeldDisagrees}
+
+-- the number was sent, or an item is held at it
+abbrev pub IsThere : Held → ℕ → Type 0
+IsThere held m = (m ≤ held.base) ⊎ IsSome (held_at held m)
+
+-- all of the packet's messages are there
+abbrev pub AreThere : Held → Content → Type 0
+AreThere held p = (k : ℕ) → k < length p.messages → IsThere held (p.number + k)
+
+-- what the comparison says of one message
+abbrev pub ComparesOne : Held → ℕ → Item → Comparison → Type 0
+ComparesOne held m item Differs = HoldsOther held m item
+ComparesOne held m item Repeats = IsThere held m × HoldsNoOther held m item
+ComparesOne held m item Agrees = HoldsNoOther held m item
+
+-- what it says of the packet's
+abbrev pub Compares : Held → Content → Comparison → Type 0
+Compares held p Differs = HeldDisagrees held p
+Compares held p Repeats = AreThere held p × HeldAgrees held p
+Compares held p Agrees = HeldAgrees held p
