@@ -213,6 +213,7 @@ impl<G: Genuine> Arbiter<G> {
 
     /// Takes a packet of messages that all have a place in the window or were sent, and of which
     /// those that are held read the same.
+    #[inline(always)]
     fn take_new(&mut self, line: LineId, packet: &Packet<'_>, last: u64) -> Outcome
         requires last { last ≡ last_of packet.now }
         requires before { IsBefore self.old.end (last_of packet.now) }

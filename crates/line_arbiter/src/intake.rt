@@ -41,6 +41,7 @@ fn compare_one(window: &Window, number: u64, message: &[u8]) -> Comparison
     }
 }
 
+#[inline(never)]
 fn compare_each(window: &Window, packet: &Packet<'_>) -> Comparison
     ensures { Compares window.now packet.now result }
 {
@@ -62,6 +63,7 @@ fn compare_each(window: &Window, packet: &Packet<'_>) -> Comparison
 
 /// What the packet's messages are beside those that are held. Where these all lie below the packet,
 /// as most often, its messages aren't walked.
+#[inline(always)]
 pub(crate) fn compare(window: &Window, packet: &Packet<'_>) -> Comparison
     ensures { Compares window.now packet.now result }
 {
