@@ -47,12 +47,12 @@ put_as held p m None there is =
     elim (cases_lt held.base m) [
       | inr sent ↦ grind (arith, nat_tests)
       | inl past ↦ elim (cases_lt m p.number) [
-          | inl below ↦ grind (arith, nat_tests)
-          | inr low ↦ elim (cases_lt m (p.number + length p.messages)) [
-              | inl high ↦ let some = held_past held p m there past low high in absurd cc
-              | inr above ↦ grind (arith, nat_tests)
-            ]
+        | inl below ↦ grind (arith, nat_tests)
+        | inr low ↦ elim (cases_lt m (p.number + length p.messages)) [
+          | inl high ↦ let some = held_past held p m there past low high in absurd cc
+          | inr above ↦ grind (arith, nat_tests)
         ]
+      ]
     ]
 
 none_put : (held : Held) (p : Content) (m : ℕ) → AreThere held p → put_all held.base p (held_at held m) m ≡ held_at held m
