@@ -22,7 +22,9 @@ pub(crate) fn consume(
         (intake_of state.old.lane journal.old))
         (intake_of state.old.lane journal.old) d (intake_of state.new.lane journal.new)) }
     ensures state { OnOk result (state.new
-        ≡ record state.old { lane = record state.old.lane { received = state.new.lane.received } }) }
+        ≡ record state.old {
+          lane = record state.old.lane { received = state.new.lane.received };
+        }) }
     ensures kept { KeepsJournal journal.old journal.new }
 {
     match journal.reserve_one() {

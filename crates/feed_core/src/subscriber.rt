@@ -98,7 +98,9 @@ impl SubscriberState {
         ensures comes { ComesTo (dequeued (next_out self.old.lane) self.old.lane.received)
             self.old.lane.received result self.new.lane.received }
         ensures others { self.new
-            ≡ record self.old { lane = record self.old.lane { received = self.new.lane.received } } }
+            ≡ record self.old {
+              lane = record self.old.lane { received = self.new.lane.received };
+            } }
     {
         match self.notices.next() {
             Some(notice) => Done::Dequeued(notice.number),

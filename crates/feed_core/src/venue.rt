@@ -34,7 +34,9 @@ impl Model for VenueState {
 
 fn put(lane: &mut Lane<Numbered>, number: u64, item: Item) -> Result<(), AllocError>
     ensures ok { OnOk result (lane.new
-        ≡ record lane.old { sent = lane.old.sent ++ record { number = number; item = item } ∷ [] }) }
+        ≡ record lane.old {
+          sent = lane.old.sent ++ record { number = number; item = item } ∷ [];
+        }) }
     ensures err { OnErr result (lane.new ≡ lane.old) }
 {
     lane.put(Numbered { number, item })

@@ -71,7 +71,8 @@ pub record ReplaysFront {R W : Type 0} (reading : Reading R) (writing : Writing 
 
 -- What a replay came to, by its answer.
 abbrev pub Replays : {R W : Type 0} (reading : Reading R) (writing : Writing W)
-    (config : ReplayConfig) (from to : R) (before after : W) → Result (Unit {0}) ReplayFault → Type 0
+    (config : ReplayConfig) (from to : R) (before after : W)
+    → Result (Unit {0}) ReplayFault → Type 0
 Replays reading writing config from to before after (Ok done) =
     ReplaysAll reading writing config from to before after
 Replays reading writing config from to before after (Err BadRecord) =

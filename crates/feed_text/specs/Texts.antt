@@ -36,7 +36,8 @@ notices_since symbols old new = drop (length (changes_of symbols old)) (changes_
 -- the lines of a happening: its own, and then the best lines of the notices that it made
 abbrev pub lines_of : List (List ℕ) → List Entry → Happening → List ℕ
 lines_of symbols entries h =
-    line_of entries h ++ flat_map best_line (notices_since symbols entries (entries_after entries h))
+    line_of entries h
+    ++ flat_map best_line (notices_since symbols entries (entries_after entries h))
 
 -- the lines of happenings, one after another
 abbrev pub text_of : List (List ℕ) → List Entry → List Happening → List ℕ

@@ -47,7 +47,8 @@ impl<R: Read, L: Ledger> CaptureIn for StreamIn<R, L> {
     ghost gives_none = { λ s. Consumes-nil (R.remaining s.inner) };
 
     ghost gives_more = { λ s t u _ _ xs ys a b.
-        Consumes-trans (R.remaining s.inner) (R.remaining t.inner) (R.remaining u.inner) xs ys a b };
+        Consumes-trans (R.remaining s.inner) (R.remaining t.inner) (R.remaining u.inner)
+        xs ys a b };
 
     fn read(&mut self, buf: &mut [u8]) -> Result<usize, ReadStop> {
         match self.reader.read(buf) {

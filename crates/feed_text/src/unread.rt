@@ -50,7 +50,8 @@ fn make_room(bytes: &mut Vec<u8>, start: usize, end: usize) -> (usize, usize)
     requires not_full { end - start < length bytes.old.items }
     ensures order { result.0 ≤ result.1 }
     ensures room { result.1 < length bytes.new.items }
-    ensures same { slice_range bytes.new.items result.0 result.1 ≡ slice_range bytes.old.items start end }
+    ensures same { slice_range bytes.new.items result.0 result.1
+        ≡ slice_range bytes.old.items start end }
     ensures len { length bytes.new.items ≡ length bytes.old.items }
 {
     if start < end && bytes.len() - end >= LEAST_ROOM {
@@ -74,8 +75,10 @@ fn read_behind<R: CaptureIn>(
         0 < n → R.gives reader.old 1 (slice_range bytes.new.items end (end + n)) reader.new) }
     ensures end { result ≡ Ok 0 → R.ends reader.old reader.new }
     ensures interrupted { result ≡ Err ReadStop.Interrupted → R.gives reader.old 1 [] reader.new }
-    ensures failed { result ≡ Err ReadStop.Failed → R.failures reader.new ≡ R.failures reader.old + 1 }
-    ensures kept { (result ≡ Err ReadStop.Failed → ⊥) → R.failures reader.new ≡ R.failures reader.old }
+    ensures failed { result ≡ Err ReadStop.Failed
+        → R.failures reader.new ≡ R.failures reader.old + 1 }
+    ensures kept { (result ≡ Err ReadStop.Failed → ⊥)
+        → R.failures reader.new ≡ R.failures reader.old }
 {
     reader.read(&mut bytes.as_mut_slice()[end..])
 }

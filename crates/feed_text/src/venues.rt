@@ -51,7 +51,8 @@ impl Venues {
         requires few { length sessions.now ≤ 16 }
         requires least { 1 ≤ window }
         requires most { window ≤ 65535 }
-        ensures follow { IfOk result (λ v. FollowAll window v.items (map new_history sessions.now)) }
+        ensures follow { IfOk result (λ v.
+            FollowAll window v.items (map new_history sessions.now)) }
         ensures gaps { IfOk result (λ v. v.gaps ≡ gaps) }
     {
         let mut venues = Vec::new(alloc);

@@ -124,7 +124,8 @@ impl<G: Genuine, N: FeedName> OpenFeed<G, N> {
     ) -> Result<u64, RenewalFault>
         requires { G.sessions venue ordinal session }
         ensures ordinal { IfOk result (λ begun. begun ≡ ordinal) }
-        ensures unknown { IsErrOf result RenewalFault.UnknownVenue ↔ (length N.lanes.venues ≤ venue) }
+        ensures unknown { IsErrOf result RenewalFault.UnknownVenue
+            ↔ (length N.lanes.venues ≤ venue) }
     {
         let Some(lock) = self.venues.get(venue) else {
             return Err(RenewalFault::UnknownVenue);
@@ -142,7 +143,8 @@ impl<G: Genuine, N: FeedName> OpenFeed<G, N> {
     /// Journals the next item of the venue's lane, and gives its position; None where nothing was
     /// inside. UnknownVenue, JournalFull or NoMemory come before an item is taken out of the lane.
     pub fn consume<W: Wait>(&self, rt: &W, venue: VenueId) -> Result<Option<u64>, JournalFault>
-        ensures unknown { IsErrOf result JournalFault.UnknownVenue ↔ (length N.lanes.venues ≤ venue) }
+        ensures unknown { IsErrOf result JournalFault.UnknownVenue
+            ↔ (length N.lanes.venues ≤ venue) }
     {
         let mut hub = self.hub.lock(rt);
         if venue.index() >= hub.core.venue_count() {
@@ -155,7 +157,8 @@ impl<G: Genuine, N: FeedName> OpenFeed<G, N> {
     /// refused as UnknownVenue, AlreadySo (the venue's self-help is in that state), JournalFull or
     /// NoMemory: the first of these that fits. A refused call changes nothing.
     pub fn declare<W: Wait>(&self, rt: &W, venue: VenueId, on: bool) -> Result<u64, JournalFault>
-        ensures unknown { IsErrOf result JournalFault.UnknownVenue ↔ (length N.lanes.venues ≤ venue) }
+        ensures unknown { IsErrOf result JournalFault.UnknownVenue
+            ↔ (length N.lanes.venues ≤ venue) }
     {
         self.hub.lock(rt).declare(venue, on)
     }

@@ -20,7 +20,8 @@ pub type Table = IndexSet<u64>;
 pub fn symbol_table(alloc: Global, symbols: &[SymbolName]) -> Result<Table, BookFault>
     ensures table { IfOk result (λ table. IsTable symbols.now table.keys) }
     ensures distinct { OnOk result (IsDistinct bytes_eq symbols.now) }
-    ensures duplicate { IsErrOf result BookFault.DuplicateSymbol → ¬ IsDistinct bytes_eq symbols.now }
+    ensures duplicate { IsErrOf result BookFault.DuplicateSymbol
+        → ¬ IsDistinct bytes_eq symbols.now }
     ensures many { IsErrOf result BookFault.TooManySymbols ↔ (4096 < length symbols.now) }
     ensures count { ¬ IsErrOf result BookFault.BadVenueCount }
 {
