@@ -1,5 +1,6 @@
 -- How lines and subscribers go on in a run.
 use Rattle.std.proofs.Common.{◌≡◌, ℕ, MatchResult, map, List, [], ◌∷◌, ◌++◌, Option, None, Some, Result, Ok, Err, refl, sym, ◌∙◌, ap, subst, append-nil, append_assoc}
+use Rattle.std.proofs.lemmas.List.{map-append}
 use Rattle.feed_types.specs.declared.journal.Notice.{Notice}
 use Rattle.feed_types.specs.Sequence.{Carries, Ends}
 use Rattle.feed_types.specs.Sessions.{SessionNames}
@@ -29,8 +30,8 @@ seat_stays sessions carries ends lanes bytes old (Ok outcome) new taken =
     (ap (λ s. s.venue) taken.seat, ap (λ s. s.line) taken.seat)
 
 pub taken_itself : (sessions : SessionNames) (carries : Carries) (ends : Ends) (lanes : FeedLanes)
-    (s : SeatState) → HasTaken sessions carries ends lanes s s
-taken_itself sessions carries ends lanes s = record { takings = []; taken = refl }
+    (s : SeatState) → HasTaken sessions carries ends lanes s [] s
+taken_itself sessions carries ends lanes s = record { takings = []; bytes = refl; taken = refl }
 
 taking_more : (sessions : SessionNames) (carries : Carries) (ends : Ends) (lanes : FeedLanes)
     (takings : List Taking) (first old : SeatState) (t : Taking)
@@ -45,15 +46,25 @@ taking_more sessions carries ends lanes (u ∷ more) first old t all one =
 
 -- one datagram more
 pub taken_more : (sessions : SessionNames) (carries : Carries) (ends : Ends) (lanes : FeedLanes)
-    (bytes : List ℕ) (answer : Result Outcome TakeFault) (first old new : SeatState)
-    → HasTaken sessions carries ends lanes first old
+    (brought : List (List ℕ)) (bytes : List ℕ) (answer : Result Outcome TakeFault)
+    (first old new : SeatState)
+    → HasTaken sessions carries ends lanes first brought old
     → IsTakenBy sessions carries ends lanes bytes old answer new
-    → HasTaken sessions carries ends lanes first new
-taken_more sessions carries ends lanes bytes answer first old new so_far one =
+    → HasTaken sessions carries ends lanes first (brought ++ bytes ∷ []) new
+taken_more sessions carries ends lanes brought bytes answer first old new so_far one =
     let t : Taking = record { bytes = bytes; answer = answer; seat = new } in record {
       takings = so_far.takings ++ t ∷ [];
+      bytes = map-append (λ u. u.bytes) so_far.takings (t ∷ []) ∙ ap (λ bs. bs ++ bytes ∷ []) so_far.bytes;
       taken = taking_more sessions carries ends lanes so_far.takings first old t so_far.taken one;
     }
+
+-- a call that brings nothing more
+pub brings_still : {S : Type 0} (brings : S → List (List ℕ) → S → Type 0)
+    → ((s t u : S) (xs ys : List (List ℕ)) → brings s xs t → brings t ys u → brings s (xs ++ ys) u)
+    → (s t u : S) (brought : List (List ℕ)) → brings s brought t → brings t [] u
+    → brings s brought u
+brings_still brings more s t u brought so_far still =
+    subst (λ xs. brings s xs u) (append-nil brought) (more s t u brought [] so_far still)
 
 -- what is genuine at a source's venue is so at its seat's
 pub genuine_at : (sessions : SessionNames) (carries : Carries) (ends : Ends) (v w : ℕ)
@@ -109,16 +120,16 @@ pub pairwise_all : {A B : Type 0} (R : A → B → Type 0) (xs all : List A) (ys
 pairwise_all R xs all ys pairs same = subst (λ zs. Pairwise R zs ys) same pairs
 
 -- the same line's end, where its seat and source are known by another name
-pub ended_of : {S : Type 0} (takes : SeatState → SeatState → Type 0) (becomes : S → S → Type 0)
-    (failures : S → ℕ) (seat given : SeatState) (source first : S) (last_seat : SeatState)
+pub ended_of : {S : Type 0} (takes : SeatState → List (List ℕ) → SeatState → Type 0)
+    (brings : S → List (List ℕ) → S → Type 0) (failures : S → ℕ) (seat given : SeatState) (source first : S) (last_seat : SeatState)
     (last_source : S) (fault : Option SourceFault) → seat ≡ given → source ≡ first
-    → HasEnded takes becomes failures seat source last_seat last_source fault
-    → HasEnded takes becomes failures given first last_seat last_source fault
-ended_of takes becomes failures seat given source first last_seat last_source fault same_seat same
+    → HasEnded takes brings failures seat source last_seat last_source fault
+    → HasEnded takes brings failures given first last_seat last_source fault
+ended_of takes brings failures seat given source first last_seat last_source fault same_seat same
     ended =
-    let P : SeatState → Type 0 = λ s. HasEnded takes becomes failures s source last_seat last_source
+    let P : SeatState → Type 0 = λ s. HasEnded takes brings failures s source last_seat last_source
     fault in
-    let Q : _ → Type 0 = λ s. HasEnded takes becomes failures given s last_seat last_source fault in
+    let Q : _ → Type 0 = λ s. HasEnded takes brings failures given s last_seat last_source fault in
     subst Q same (subst P same_seat ended)
 
 -- what was started for each, and then joined or handed back

@@ -1,5 +1,5 @@
 -- What a datagram is, and the answer to it.
-use Rattle.std.specs.Prelude.{◌≡◌, ◌⊎◌, ℕ, List, Result, Ok, Err, IsOk}
+use Rattle.std.specs.Prelude.{◌≡◌, ◌⊎◌, ℕ, List, [], ◌∷◌, Option, Some, None, Result, Ok, Err, IsOk}
 use Rattle.feed_types.specs.Sequence.{Carries, Ends}
 use Rattle.feed_types.specs.Sessions.{Session, SessionNames, IsSessionAt, Names}
 use Rattle.mold_packet.specs.Content.{Content, Spells}
@@ -10,6 +10,7 @@ use Rattle.line_arbiter.specs.declared.outcome.LineFault.TheVariants.{OtherSessi
 use Rattle.line_arbiter.specs.Genuine.{IsGenuine}
 use Rattle.line_arbiter.specs.OfSession.{IsOfSession}
 use Rattle.live_feed.specs.declared.datagram.Datagram.{Datagram}
+use Rattle.live_feed.specs.declared.source.SourceFault.{SourceFault}
 use Rattle.live_feed.specs.declared.faults.TakeFault.{TakeFault}
 use Rattle.live_feed.specs.declared.faults.TakeFault.TheVariants as faults
 use Rattle.live_feed.specs.Lanes.{FeedLanes}
@@ -18,6 +19,12 @@ use Rattle.live_feed.specs.Sections.{IsAnsweredBy}
 
 abbrev pub bytes_of : Datagram → List ℕ
 bytes_of datagram = datagram.all.items
+
+-- the datagram that a source gave, if it gave one, as a list of such bytes
+abbrev pub brought_by : Result (Option Datagram) SourceFault → List (List ℕ)
+brought_by (Ok (Some datagram)) = bytes_of datagram ∷ []
+brought_by (Ok None) = []
+brought_by (Err fault) = []
 
 -- whatever packet the bytes are is genuine at the venue
 abbrev pub AreGenuineBytes : SessionNames → Carries → Ends → ℕ → List ℕ → Type 0

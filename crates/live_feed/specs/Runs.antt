@@ -1,5 +1,5 @@
 -- What a run of a feed hands back.
-use Rattle.std.specs.Prelude.{◌≡◌, ℕ, ◌+◌, List, [], ◌∷◌, Option, MatchOption, Result}
+use Rattle.std.specs.Prelude.{◌≡◌, ℕ, ◌+◌, List, [], ◌∷◌, map, Option, MatchOption, Result}
 use Rattle.feed_types.specs.Prefix.{IsPrefix}
 use Rattle.feed_types.specs.Sequence.{Carries, Ends}
 use Rattle.feed_types.specs.Sessions.{SessionNames}
@@ -51,22 +51,25 @@ AreTakenBy sessions carries ends lanes old (t ∷ more) last =
     IsTakenBy sessions carries ends lanes t.bytes old t.answer t.seat
     × AreTakenBy sessions carries ends lanes t.seat more last
 
--- A seat, later on: nothing but the datagrams that it took changed it.
+-- A seat, later on: it took the datagrams of these bytes, in order, and nothing else changed it.
 pub record HasTaken (sessions : SessionNames) (carries : Carries) (ends : Ends)
-    (lanes : FeedLanes) (old last : SeatState) : Type 0 where
+    (lanes : FeedLanes) (old : SeatState) (brought : List (List ℕ)) (last : SeatState)
+    : Type 0 where
   pub takings : List Taking
+  pub bytes : map (λ t. t.bytes) takings ≡ brought
   pub taken : AreTakenBy sessions carries ends lanes old takings last
 
--- A line that has ended: its seat and its source are what calls made of those that it had, and of
--- the source's calls none failed but the last, where the line has a fault.
-pub record HasEnded {S : Type 0} (takes : SeatState → SeatState → Type 0)
-    (becomes : S → S → Type 0) (failures : S → ℕ)
+-- A line that has ended: its seat took each datagram that its source brought, in order and once,
+-- and of the source's calls none failed but the last, where the line has a fault.
+pub record HasEnded {S : Type 0} (takes : SeatState → List (List ℕ) → SeatState → Type 0)
+    (brings : S → List (List ℕ) → S → Type 0) (failures : S → ℕ)
     (seat : SeatState) (source : S) (last_seat : SeatState) (last_source : S)
     (fault : Option SourceFault) : Type 0 where
   pub venue : last_seat.venue ≡ seat.venue
   pub line : last_seat.line ≡ seat.line
-  pub taken : takes seat last_seat
-  pub later : becomes source last_source
+  pub brought : List (List ℕ)
+  pub taken : takes seat brought last_seat
+  pub later : brings source brought last_source
   pub counted : MatchOption fault (failures last_source ≡ failures source)
       (λ fault. failures last_source ≡ failures_after (failures source) fault)
 

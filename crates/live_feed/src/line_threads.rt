@@ -36,7 +36,7 @@ where
     ensures { MatchResult result
         (λ handle. (handle.promise.seat.value ≡ line.seat)
         × (handle.promise.source.value ≡ line.source))
-        (λ ended. HasEnded (HasTaken G.sessions G.carries G.ends N.lanes) S.becomes S.failures
+        (λ ended. HasEnded (HasTaken G.sessions G.carries G.ends N.lanes) S.brings S.failures
         line.seat line.source ended.seat ended.source ended.fault) }
 {
     let promise = LineOf {
@@ -44,7 +44,7 @@ where
         source: Snapshot::of(&line.source),
     };
     let job = move || -> LineEnd<G, N, S>
-        ensures { HasEnded (HasTaken G.sessions G.carries G.ends N.lanes) S.becomes S.failures
+        ensures { HasEnded (HasTaken G.sessions G.carries G.ends N.lanes) S.brings S.failures
             line.seat line.source result.seat result.source result.fault }
     { work_line(rt, venues, signals, line) };
     match scope.spawn_with(promise, job) {
@@ -77,7 +77,7 @@ where
     ensures threads { Pairwise (λ line thread. MatchResult thread
         (λ handle. (handle.promise.seat.value ≡ line.seat)
         × (handle.promise.source.value ≡ line.source))
-        (λ ended. HasEnded (HasTaken G.sessions G.carries G.ends N.lanes) S.becomes S.failures
+        (λ ended. HasEnded (HasTaken G.sessions G.carries G.ends N.lanes) S.brings S.failures
         line.seat line.source ended.seat ended.source ended.fault))
         lines.items result.items }
 {
@@ -96,7 +96,7 @@ where
     S: LineSource<G>,
     R: Threads,
     ensures { MatchResult thread
-        (λ handle. HasEnded (HasTaken G.sessions G.carries G.ends N.lanes) S.becomes S.failures
+        (λ handle. HasEnded (HasTaken G.sessions G.carries G.ends N.lanes) S.brings S.failures
         handle.promise.seat.value handle.promise.source.value result.seat result.source
         result.fault)
         (λ here. result ≡ here) }
@@ -122,7 +122,7 @@ where
     requires empty { ends.items ≡ [] }
     requires room { vec_len threads ≤ vec_capacity ends }
     ensures { Pairwise (λ thread ended. MatchResult thread
-        (λ handle. HasEnded (HasTaken G.sessions G.carries G.ends N.lanes) S.becomes S.failures
+        (λ handle. HasEnded (HasTaken G.sessions G.carries G.ends N.lanes) S.brings S.failures
         handle.promise.seat.value handle.promise.source.value ended.seat ended.source ended.fault)
         (λ here. ended ≡ here))
         threads.items result.items }

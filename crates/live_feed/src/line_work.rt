@@ -1,6 +1,6 @@
 //! The work of a line's thread.
 
-ghost use Rattle.std.specs.Prelude.{◌≡◌, IfOk, IfErr};
+ghost use Rattle.std.specs.Prelude.{◌≡◌, [], IfOk, IfErr};
 ghost use Rattle.live_feed.specs.Runs.{HasTaken, HasEnded, failures_after};
 
 use crate::feed_name::FeedName;
@@ -24,7 +24,7 @@ pub(crate) struct LineOf<G, N, S> {
 impl<G: Genuine, N: FeedName, S: LineSource<G>> Promise<LineEnd<G, N, S>> for LineOf<G, N, S> {
     ghost use Rattle.live_feed.specs.Runs.{HasTaken, HasEnded};
 
-    ghost kept_by = { λ p r. HasEnded (HasTaken G.sessions G.carries G.ends N.lanes) S.becomes
+    ghost kept_by = { λ p r. HasEnded (HasTaken G.sessions G.carries G.ends N.lanes) S.brings
         S.failures p.seat.value p.source.value r.seat r.source r.fault };
 }
 
@@ -36,7 +36,7 @@ fn request_due<G: Genuine, N: FeedName, S: LineSource<G>, W: Wait>(
     source: &mut S,
 ) -> Result<(), SourceFault>
     ensures venue { S.venue_of source.new ≡ S.venue_of source.old }
-    ensures becomes { S.becomes source.old source.new }
+    ensures brings { S.brings source.old [] source.new }
     ensures sound { IfOk result (λ _. S.failures source.new ≡ S.failures source.old) }
     ensures failed { IfErr result (λ fault. S.failures source.new
         ≡ failures_after (S.failures source.old) fault) }
@@ -56,7 +56,7 @@ pub(crate) fn work_line<G: Genuine, N: FeedName, S: LineSource<G>, W: Wait>(
     signals: &Signals,
     line: Line<G, N, S>,
 ) -> LineEnd<G, N, S>
-    ensures { HasEnded (HasTaken G.sessions G.carries G.ends N.lanes) S.becomes S.failures
+    ensures { HasEnded (HasTaken G.sessions G.carries G.ends N.lanes) S.brings S.failures
         line.seat line.source result.seat result.source result.fault }
 {
     let Line {

@@ -114,7 +114,7 @@ where
         × (vec_len tapes ≤ vec_capacity tape_lists.threads)
         × (vec_len tapes ≤ vec_capacity tape_lists.back) }
     ensures lines { Pairwise (λ line ended. HasEnded (HasTaken G.sessions G.carries G.ends
-        N.lanes) S.becomes S.failures line.seat line.source ended.seat ended.source ended.fault)
+        N.lanes) S.brings S.failures line.seat line.source ended.seat ended.source ended.fault)
         lines.items result.ends.items }
     ensures tapes { Pairwise HasPolled tapes.items result.tapes.items }
     ensures count { vec_len result.tapes ≡ vec_len tapes }
@@ -173,7 +173,7 @@ impl<G: Genuine + Send + Sync, N: FeedName + Send + Sync> OpenFeed<G, N> {
     ) -> Result<RunReport<G, N, S>, (Vec<Line<G, N, S>>, Vec<Subscriber<N>>)>
         ensures back { IfErr result (λ back. (back.0 ≡ lines) × (back.1 ≡ subscribers)) }
         ensures lines { IfOk result (λ report. Pairwise (λ line ended.
-            HasEnded (HasTaken G.sessions G.carries G.ends N.lanes) S.becomes S.failures
+            HasEnded (HasTaken G.sessions G.carries G.ends N.lanes) S.brings S.failures
             line.seat line.source ended.seat ended.source ended.fault)
             lines.items report.lines.items) }
         ensures subscribers { IfOk result (λ report. Pairwise (λ given back.
@@ -243,7 +243,7 @@ where
         × (vec_len tapes ≤ vec_capacity tape_lists.threads)
         × (vec_len tapes ≤ vec_capacity tape_lists.back) }
     ensures lines { Pairwise (λ line ended. HasEnded (HasTaken G.sessions G.carries G.ends
-        N.lanes) S.becomes S.failures line.seat line.source ended.seat ended.source ended.fault)
+        N.lanes) S.brings S.failures line.seat line.source ended.seat ended.source ended.fault)
         lines.items result.ends.items }
     ensures tapes { Pairwise HasPolled tapes.items result.tapes.items }
     ensures count { vec_len result.tapes ≡ vec_len tapes }
@@ -260,7 +260,7 @@ where
                 × (vec_len tapes ≤ vec_capacity tape_lists.threads)
                 × (vec_len tapes ≤ vec_capacity tape_lists.back) }
             ensures lines { Pairwise (λ line ended. HasEnded (HasTaken G.sessions G.carries
-                G.ends N.lanes) S.becomes S.failures line.seat line.source ended.seat
+                G.ends N.lanes) S.brings S.failures line.seat line.source ended.seat
                 ended.source ended.fault) lines.items result.ends.items }
             ensures tapes { Pairwise HasPolled tapes.items result.tapes.items }
             ensures count { vec_len result.tapes ≡ vec_len tapes }

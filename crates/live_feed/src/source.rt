@@ -3,8 +3,8 @@
 //! A feed can't know what a device brings, so the trait speaks of a source by relations between its
 //! states, with laws.
 
-ghost use Rattle.std.specs.Prelude.{◌≡◌, Ok, Some, IfOk, IfErr};
-ghost use Rattle.live_feed.specs.Datagrams.{AreGenuineBytes, bytes_of};
+ghost use Rattle.std.specs.Prelude.{◌≡◌, [], ◌++◌, Ok, Some, IfOk, IfErr};
+ghost use Rattle.live_feed.specs.Datagrams.{AreGenuineBytes, brought_by, bytes_of};
 ghost use Rattle.live_feed.specs.Runs.{failures_after, source_fault_code};
 
 use crate::datagram::Datagram;
@@ -42,7 +42,7 @@ impl SourceFault {
 /// What brings a line's datagrams, and takes requests for those that were lost. A line's thread
 /// calls it under no lock, so each call may wait.
 pub trait LineSource<G: Genuine>: Drop {
-    ghost use Rattle.std.specs.Prelude.{ℕ};
+    ghost use Rattle.std.specs.Prelude.{ℕ, List, [], ◌++◌};
 
     /// The number of the venue whose datagrams it brings.
     ghost venue_of: { Self → ℕ };
@@ -50,8 +50,9 @@ pub trait LineSource<G: Genuine>: Drop {
     /// How many calls failed.
     ghost failures: { Self → ℕ };
 
-    /// Calls make the one state of the other: it is the same source, later on.
-    ghost becomes: { Self → Self → Type 0 };
+    /// Calls that bring the datagrams of these bytes, in order, make the one state of the other: it is
+    /// the same source, later on.
+    ghost brings: { Self → List (List ℕ) → Self → Type 0 };
 
     /// The venue whose datagrams it brings.
     fn venue(&self) -> VenueId
@@ -64,7 +65,7 @@ pub trait LineSource<G: Genuine>: Drop {
     /// none.
     fn next(&mut self) -> Result<Option<Datagram>, SourceFault>
         ensures venue { venue_of self.new ≡ venue_of self.old }
-        ensures becomes { becomes self.old self.new }
+        ensures brings { brings self.old (brought_by result) self.new }
         ensures genuine { (datagram : Datagram) → result ≡ Ok (Some datagram)
             → AreGenuineBytes G.sessions G.carries G.ends (venue_of self.old) (bytes_of datagram) }
         ensures sound { IfOk result (λ _. failures self.new ≡ failures self.old) }
@@ -74,21 +75,22 @@ pub trait LineSource<G: Genuine>: Drop {
     /// The milliseconds of a clock that the source has, from any moment on. It needn't go on.
     fn now_ms(&mut self) -> u64
         ensures venue { venue_of self.new ≡ venue_of self.old }
-        ensures becomes { becomes self.old self.new }
+        ensures brings { brings self.old [] self.new }
         ensures sound { failures self.new ≡ failures self.old };
 
     /// Sends a request for messages that were lost, or drops it where there is nobody to ask. The
     /// faults are those of `next`.
     fn request(&mut self, request: &Request) -> Result<(), SourceFault>
         ensures venue { venue_of self.new ≡ venue_of self.old }
-        ensures becomes { becomes self.old self.new }
+        ensures brings { brings self.old [] self.new }
         ensures sound { IfOk result (λ _. failures self.new ≡ failures self.old) }
         ensures failed { IfErr result (λ fault. failures self.new
             ≡ failures_after (failures self.old) fault) };
 
-    /// By no call it is what it was.
-    ghost becomes_itself: { (s : Self) → becomes s s };
+    /// By no call it is what it was, and nothing is brought.
+    ghost brings_nothing: { (s : Self) → brings s [] s };
 
-    /// Calls after calls are calls.
-    ghost becomes_later: { (s t u : Self) → becomes s t → becomes t u → becomes s u };
+    /// Calls after calls are calls, and bring what those bring and then what these do.
+    ghost brings_more: { (s t u : Self) (xs ys : List (List ℕ))
+        → brings s xs t → brings t ys u → brings s (xs ++ ys) u };
 }

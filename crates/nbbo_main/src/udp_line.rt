@@ -135,11 +135,11 @@ impl<C: Clock + Drop> LineSource<Anything> for UdpLine<C> {
 
     ghost failures = { λ l. failures_of l.failed };
 
-    ghost becomes = { λ l m. m.venue ≡ l.venue };
+    ghost brings = { λ l _ m. m.venue ≡ l.venue };
 
-    ghost becomes_itself = { λ l. refl };
+    ghost brings_nothing = { λ l. refl };
 
-    ghost becomes_later = { λ l m n a b. b ∙ a };
+    ghost brings_more = { λ l m n _ _ a b. b ∙ a };
 
     fn venue(&self) -> VenueId {
         self.line_venue

@@ -8,7 +8,7 @@ invariant-loop-thread g l =
     × (goal.iterator-loop-thread g).is_finite l.thread-iterator
     × Pairwise (λ thread ended. MatchResult thread
     (λ handle. HasEnded (HasTaken g.G.Genuine.sessions g.G.Genuine.carries g.G.Genuine.ends
-    g.N.FeedName.lanes) g.S.LineSource.becomes g.S.LineSource.failures
+    g.N.FeedName.lanes) g.S.LineSource.brings g.S.LineSource.failures
     handle.promise.seat.value handle.promise.source.value ended.seat ended.source
     ended.fault)
     (λ here. ended ≡ here))

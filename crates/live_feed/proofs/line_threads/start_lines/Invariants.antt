@@ -10,7 +10,7 @@ invariant-loop-line g l =
     (λ handle. (handle.promise.seat.value ≡ line.seat)
     × (handle.promise.source.value ≡ line.source))
     (λ ended. HasEnded (HasTaken g.G.Genuine.sessions g.G.Genuine.carries g.G.Genuine.ends
-    g.N.FeedName.lanes) g.S.LineSource.becomes g.S.LineSource.failures line.seat line.source
+    g.N.FeedName.lanes) g.S.LineSource.brings g.S.LineSource.failures line.seat line.source
     ended.seat ended.source ended.fault))
     l.yielded l.threads.items
     × (vec_len l.threads ≡ length l.yielded)

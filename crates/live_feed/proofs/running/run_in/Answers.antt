@@ -7,15 +7,15 @@ pub returns-clause-lines : goal.returns-clause-lines
 returns-clause-lines g c =
     let takes = HasTaken g.G.Genuine.sessions g.G.Genuine.carries g.G.Genuine.ends
     g.N.FeedName.lanes in
-    let becomes = g.S.LineSource.becomes in let failures = g.S.LineSource.failures in
+    let brings = g.S.LineSource.brings in let failures = g.S.LineSource.failures in
     joined
     (λ line handle. (handle.promise.seat.value ≡ line.seat)
     × (handle.promise.source.value ≡ line.source))
-    (λ line ended. HasEnded takes becomes failures line.seat line.source ended.seat ended.source
+    (λ line ended. HasEnded takes brings failures line.seat line.source ended.seat ended.source
     ended.fault)
-    (λ handle ended. HasEnded takes becomes failures handle.promise.seat.value
+    (λ handle ended. HasEnded takes brings failures handle.promise.seat.value
     handle.promise.source.value ended.seat ended.source ended.fault)
-    (λ line handle ended made kept. ended_of takes becomes failures handle.promise.seat.value line.seat
+    (λ line handle ended made kept. ended_of takes brings failures handle.promise.seat.value line.seat
     handle.promise.source.value line.source ended.seat ended.source ended.fault made.0 made.1
     kept)
     c.args.lines.items c.start_lines-line_threads.result.items c.join_lines-ends.result.items
