@@ -1,5 +1,6 @@
 pub mod Symbols
 pub mod FieldTests
+pub mod Sides
 pub mod Nationals
 pub mod Text
 pub mod Prefix

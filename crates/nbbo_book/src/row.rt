@@ -146,6 +146,6 @@ impl Row {
     pub fn national(&self) -> National
         ensures { result ≡ national_at self.now }
     {
-        National::copied(&self.bids.best, &self.offers.best)
+        National::new(self.bids.best, self.offers.best)
     }
 }
