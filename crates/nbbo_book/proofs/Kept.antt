@@ -33,6 +33,15 @@ set_off (y ∷ xs) zero (suc j) x d h = refl
 set_off (y ∷ xs) (suc i) zero x d h = refl
 set_off (y ∷ xs) (suc i) (suc j) x d h = set_off xs i j x d (λ e. h (ap suc e))
 
+or_any : {X : Type 0} (xs : List X) (i : ℕ) (d e : X) → i < length xs → get_or xs i d ≡ get_or xs i e
+or_any [] i d e h = absurd (omega (arith, h))
+or_any (x ∷ xs) zero d e h = refl
+or_any (x ∷ xs) (suc i) d e h = or_any xs i d e (omega (arith, h))
+
+-- what stands at a place that there is, whatever would stand past the end
+pub standing_found : (n : ℕ) (ss : List Standing) (i : ℕ) (d : Standing) → IsStandings n ss → i < 16 → standing_at ss i ≡ get_or ss i d
+standing_found n ss i d h l = or_any ss i _ d (omega (arith, l, h.count))
+
 pub apart_from : (i j : ℕ) → nat_eq j i ≡ false → i ≡ j → ⊥
 apart_from i j h e = grind (arith, h, e)
 

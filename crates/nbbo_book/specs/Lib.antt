@@ -1,3 +1,4 @@
+pub mod Standings
 pub mod Sides
 pub mod Eligible
 pub mod Nationals

@@ -36,7 +36,7 @@ fn is_better(side: Side, x: &Best, y: &Best) -> bool
 pub fn is_ahead(side: Side, standings: &[Standing; 16], x: &Best, y: &Best) -> bool
     ensures { result ≡ beats side (age_at standings.now) x.now y.now }
 {
-    let is_older = standings[x.venue.index()].age < standings[y.venue.index()].age;
+    let is_older = standings[x.venue.index()].age() < standings[y.venue.index()].age();
     let is_equal = (x.price == y.price) & (x.size == y.size);
     is_better(side, x, y) | is_equal & is_older
 }
@@ -109,7 +109,7 @@ pub fn rank_at(
     rank_of(
         venues.may_rank(halted, venue),
         venue,
-        standings[venue.index()].shown,
+        standings[venue.index()].shown(),
     )
 }
 

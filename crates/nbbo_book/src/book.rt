@@ -27,12 +27,6 @@ use std::marker::Model;
 /// How many venues there are at most.
 const MAX_VENUES: usize = 16;
 
-/// What stands of a venue before it says anything.
-const UNKNOWN: Standing = Standing {
-    shown: None,
-    age: 0,
-};
-
 /// The protected sides of the configured symbols, and the best of them.
 #[derive(Drop)]
 pub struct Book {
@@ -58,6 +52,7 @@ impl Model for Book {
 fn empty_rows(alloc: Global, symbols: &[SymbolName]) -> Result<Vec<Row>, AllocError>
     ensures { IfOk result (λ rows. rows.items ≡ map empty_row symbols.now) }
 {
+    let unknown = Standing::new(None, 0);
     let mut rows = Vec::with_capacity(alloc, symbols.len())?;
     for symbol in symbols {
         rows.push(Row {
@@ -65,11 +60,11 @@ fn empty_rows(alloc: Global, symbols: &[SymbolName]) -> Result<Vec<Row>, AllocEr
             halted: [false; 16],
             bids: BookSide {
                 best: None,
-                standings: [UNKNOWN; 16],
+                standings: [unknown; 16],
             },
             offers: BookSide {
                 best: None,
-                standings: [UNKNOWN; 16],
+                standings: [unknown; 16],
             },
         })?;
     }

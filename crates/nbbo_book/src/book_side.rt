@@ -113,7 +113,7 @@ impl BookSide {
             (standings_shown venue standing.shown standing.age self.old.standings)
             self.old self.new result }
     {
-        if is_same(self.standings[venue.index()].shown, standing.shown) {
+        if is_same(self.standings[venue.index()].shown(), standing.shown()) {
             return false;
         }
         self.standings[venue.index()] = standing;
@@ -135,7 +135,7 @@ impl BookSide {
         ensures { Renews side (may_at venues.now.helped halted.now)
             (standings_shown venue None age self.old.standings) self.old self.new result }
     {
-        match self.standings[venue.index()].shown {
+        match self.standings[venue.index()].shown() {
             None => false,
             Some(_) => self.hide_shown(side, venue, age, venues, halted),
         }
@@ -156,10 +156,10 @@ impl BookSide {
         ensures { Renews side (may_at venues.now.helped halted.now)
             (standings_shown venue None age self.old.standings) self.old self.new result }
     {
-        if is_same(self.standings[venue.index()].shown, None) {
+        if is_same(self.standings[venue.index()].shown(), None) {
             return false;
         }
-        self.standings[venue.index()] = Standing { shown: None, age };
+        self.standings[venue.index()] = Standing::new(None, age);
         self.renew(side, venue, false, venues, halted)
     }
 
@@ -171,7 +171,7 @@ impl BookSide {
         ensures { Renews side (may_at venues.now.helped halted.now) self.old.standings
             self.old self.new result }
     {
-        match self.standings[venue.index()].shown {
+        match self.standings[venue.index()].shown() {
             None => false,
             Some(_) => self.gate_shown(side, venue, venues, halted),
         }

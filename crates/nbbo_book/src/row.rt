@@ -39,14 +39,8 @@ impl Row {
         ensures changed { result
             ≡ not (is_same_national (national_at self.old) (national_at self.new)) }
     {
-        let bid = Standing {
-            shown: Some(bid_of(quote)),
-            age,
-        };
-        let offer = Standing {
-            shown: Some(offer_of(quote)),
-            age,
-        };
+        let bid = Standing::new(Some(bid_of(quote)), age);
+        let offer = Standing::new(Some(offer_of(quote)), age);
         let bid = self.bids.show(Side::Bid, venue, bid, venues, &self.halted);
         let offer = self
             .offers

@@ -6,6 +6,7 @@ ghost use Rattle.nbbo_book.specs.Sides.{is_same_side, shown_by};
 ghost use Rattle.nbbo_book.specs.Eligible.{is_protected, ranked_by};
 
 use feed_types::{Best, Quote, VenueId};
+use std::marker::Model;
 
 /// One side of a quotation: the price in ten-thousandths of a dollar, the size in shares, and
 /// whether it is automated.
@@ -17,11 +18,83 @@ pub struct Shown {
 }
 
 /// What a venue shows, if anything, and its age: how many entries there were when it took its
-/// present value.
-#[derive(Clone, Copy, Debug, PartialEq, Eq)]
+/// present value. It takes 24 bytes, since a book keeps 32 of them for each symbol.
+#[derive(Clone, Copy)]
 pub struct Standing {
-    pub shown: Option<Shown>,
-    pub age: u64,
+    size: u64,
+    age: u64,
+    price: u32,
+    automated: bool,
+    is_shown: bool,
+}
+
+impl Model for Standing {
+    ghost use Rattle.nbbo_book.specs.Standings.{StandingState, shown_of, IsKept, is_shown_by, size_of, price_of, automated_of};
+
+    ghost Value = { StandingState };
+
+    ghost view = { λ s. record {
+      shown = shown_of s.is_shown s.size s.price s.automated;
+      age = s.age;
+    } };
+
+    ghost invariant = { λ s. IsKept s.is_shown s.size s.price s.automated };
+
+    ghost inverse = { λ s. record {
+      size = size_of s.shown;
+      age = s.age;
+      price = price_of s.shown;
+      automated = automated_of s.shown;
+      is_shown = is_shown_by s.shown;
+    } };
+}
+
+impl Standing {
+    /// A venue shows this, or nothing, since that age.
+    #[inline(always)]
+    pub fn new(shown: Option<Shown>, age: u64) -> Standing
+        ensures { result ≡ record { shown = shown; age = age } }
+    {
+        match shown {
+            Some(shown) => Standing {
+                size: shown.size,
+                age,
+                price: shown.price,
+                automated: shown.automated,
+                is_shown: true,
+            },
+            None => Standing {
+                size: 0,
+                age,
+                price: 0,
+                automated: false,
+                is_shown: false,
+            },
+        }
+    }
+
+    /// What the venue shows.
+    #[inline(always)]
+    pub fn shown(self) -> Option<Shown>
+        ensures { result ≡ self.shown }
+    {
+        if !self.is_shown {
+            return None;
+        }
+        Some(Shown {
+            size: self.size,
+            price: self.price,
+            automated: self.automated,
+        })
+    }
+
+    /// Since when.
+    #[inline(always)]
+    pub fn age(self) -> u64
+        ensures { result ≡ self.age }
+    {
+        self.age
+    }
 }
 
 #[inline(always)]
