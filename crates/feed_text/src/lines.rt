@@ -305,8 +305,8 @@ pub fn put_best(text: &mut Page, notice: &Notice) -> Result<(), AllocError>
     let at = place_field(room, at, notice.position);
     let at = place(room, at, *b" ");
     let at = place_name(room, at, notice.symbol);
-    let at = place_side(room, at, &notice.national.bid());
-    let at = place_side(room, at, &notice.national.offer());
+    let at = place_side(room, at, &notice.national.bid);
+    let at = place_side(room, at, &notice.national.offer);
     let at = place_state(room, at, notice.national.state());
     text.end = at;
     Ok(())

@@ -1,6 +1,5 @@
 pub mod Symbols
 pub mod FieldTests
-pub mod Sides
 pub mod Nationals
 pub mod Text
 pub mod Prefix

@@ -54,8 +54,8 @@ impl Terms {
             Terms::Symbol(symbol) => *symbol == notice.symbol,
             Terms::AnyOf(symbols) => is_among(symbols, &notice.symbol),
             Terms::MinSize(size) => {
-                side_has_size(notice.national.bid(), *size)
-                    && side_has_size(notice.national.offer(), *size)
+                side_has_size(notice.national.bid, *size)
+                    && side_has_size(notice.national.offer, *size)
             }
             Terms::StateIs(state) => *state == notice.national.state(),
             Terms::Both(first, second) => first.meets(notice) && second.meets(notice),

@@ -4,7 +4,7 @@ ghost use Rattle.std.specs.Prelude.{◌≡◌, ◌<◌, ◌≤◌, ◌+◌, ◌+
 ghost use Rattle.std.specs.Vec.{vec_len, vec_capacity};
 ghost use Rattle.journal_book.specs.Changes.{notice_of, notices_from};
 
-use feed_types::Notice;
+use feed_types::{Best, National, Notice};
 use nbbo_book::Change;
 
 /// Appends the change under the next number.
@@ -17,11 +17,12 @@ fn push_notice(notices: &mut Vec<Notice>, change: &Change)
     ensures capacity { vec_capacity notices.new ≡ vec_capacity notices.old }
 {
     let number = notices.len() as u64 + 1;
+    let national = National::copied(&change.national.bid, &change.national.offer);
     notices.push_reserved(Notice {
         number,
         position: change.position,
         symbol: change.symbol,
-        national: change.national,
+        national,
     });
 }
 

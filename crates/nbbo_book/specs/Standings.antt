@@ -1,5 +1,5 @@
--- What contracts see of a venue's standing, and how it is kept in 24 bytes: the parts of a side that
--- isn't shown are 0.
+-- What contracts see of a venue's standing; and, cited by private clauses alone, how it is kept in
+-- 24 bytes.
 use Rattle.std.specs.Prelude.{◌≡◌, ℕ, Bool, true, false, Option, Some, None}
 use Rattle.nbbo_book.specs.declared.shown.Shown.{Shown}
 
@@ -14,10 +14,12 @@ shown_of false size price automated = None
 shown_of true size price automated =
     Some (record { size = size; price = price; automated = automated })
 
+-- the parts of a side that isn't shown are 0
 abbrev pub IsKept : Bool → ℕ → ℕ → Bool → Type 0
 IsKept false size price automated = (size ≡ 0) × (price ≡ 0) × (automated ≡ false)
 IsKept true size price automated = Unit {0}
 
+-- the parts that a side is kept in
 abbrev pub is_shown_by : Option Shown → Bool
 is_shown_by None = false
 is_shown_by (Some shown) = true

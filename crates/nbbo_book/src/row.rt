@@ -140,6 +140,6 @@ impl Row {
     pub fn national(&self) -> National
         ensures { result ≡ national_at self.now }
     {
-        National::new(self.bids.best, self.offers.best)
+        National::copied(&self.bids.best, &self.offers.best)
     }
 }

@@ -11,7 +11,7 @@ use crate::change::Change;
 use crate::row::Row;
 use crate::table::{Table, find};
 use crate::venues::Venues;
-use feed_types::{Entry, Item, National, SymbolName};
+use feed_types::{Best, Entry, Item, National, SymbolName};
 
 /// Where one more entry stands: its place in the order of all, and its position.
 #[derive(Clone, Copy)]
@@ -29,10 +29,12 @@ fn append(out: &mut Vec<Change>, position: u64, symbol: SymbolName, national: Na
     ensures len { vec_len out.new ≡ vec_len out.old + 1 }
     ensures capacity { vec_capacity out.new ≡ vec_capacity out.old }
 {
+    let bid: Option<Best> = national.bid;
+    let offer: Option<Best> = national.offer;
     out.push_reserved(Change {
         position,
         symbol,
-        national,
+        national: National { bid, offer },
     });
 }
 
