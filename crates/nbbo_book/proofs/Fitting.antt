@@ -80,8 +80,8 @@ halts_set es e v x s xs below long says h = λ w l. nat_split w v (get_or (set x
 
 row_waits : (es : List Entry) (e : Entry) (r : Row) → ((w : ℕ) (b : Side) → side_said w r.symbol b e ≡ None) → ((w : ℕ) → halt_said w r.symbol e ≡ None) → RowFits es r → RowFits (es ++ e ∷ []) r
 row_waits es e r sides halts h = record {
-  bids = fits_stay es e r.symbol Bid r.bids.standings (λ w l. unsaid es e w r.symbol Bid (sides w Bid)) h.bids;
-  offers = fits_stay es e r.symbol Offer r.offers.standings (λ w l. unsaid es e w r.symbol Offer (sides w Offer)) h.offers;
+  bids = fits_stay es e r.symbol Bid r.standings.bids (λ w l. unsaid es e w r.symbol Bid (sides w Bid)) h.bids;
+  offers = fits_stay es e r.symbol Offer r.standings.offers (λ w l. unsaid es e w r.symbol Offer (sides w Offer)) h.offers;
   halted = halts_stay es e r.symbol r.halted halts h.halted;
 }
 
@@ -91,8 +91,8 @@ item_fits es v number n c m (item.Quote q) helped flags r below young is h =
     let R : Bool → Type 0 = λ t. bytes_eq q.symbol r.symbol ≡ t → RowFits (es ++ e ∷ []) (cond t (row_quoted helped v q n r) r) in
     (elim (bytes_eq q.symbol r.symbol) as R [
       | true ↦ λ k. record {
-        bids = fits_shown es e v (Some (shown_by q Bid)) r.symbol Bid r.bids.standings n below is.bids.standings.count young (λ w. ap (λ t. cond (nat_eq v w) (cond t (Some (Some (shown_by q Bid))) None) None) k) h.bids;
-        offers = fits_shown es e v (Some (shown_by q Offer)) r.symbol Offer r.offers.standings n below is.offers.standings.count young (λ w. ap (λ t. cond (nat_eq v w) (cond t (Some (Some (shown_by q Offer))) None) None) k) h.offers;
+        bids = fits_shown es e v (Some (shown_by q Bid)) r.symbol Bid r.standings.bids n below is.bids.standings.count young (λ w. ap (λ t. cond (nat_eq v w) (cond t (Some (Some (shown_by q Bid))) None) None) k) h.bids;
+        offers = fits_shown es e v (Some (shown_by q Offer)) r.symbol Offer r.standings.offers n below is.offers.standings.count young (λ w. ap (λ t. cond (nat_eq v w) (cond t (Some (Some (shown_by q Offer))) None) None) k) h.offers;
         halted = halts_stay es e r.symbol r.halted (λ w. cond_same (nat_eq v w) None) h.halted;
       }
       | false ↦ λ k. row_waits es e r (λ w b. ap (λ t. cond (nat_eq v w) (cond t (Some (Some (shown_by q b))) None) None) k ∙ cond_same (nat_eq v w) None) (λ w. cond_same (nat_eq v w) None) h
@@ -102,8 +102,8 @@ item_fits es v number n c m (item.Halt s x) helped flags r below young is h =
     let R : Bool → Type 0 = λ t. bytes_eq s r.symbol ≡ t → RowFits (es ++ e ∷ []) (cond t (row_halted helped v x r) r) in
     (elim (bytes_eq s r.symbol) as R [
       | true ↦ λ k. record {
-        bids = fits_stay es e r.symbol Bid r.bids.standings (λ w l. unsaid es e w r.symbol Bid (cond_same (nat_eq v w) None)) h.bids;
-        offers = fits_stay es e r.symbol Offer r.offers.standings (λ w l. unsaid es e w r.symbol Offer (cond_same (nat_eq v w) None)) h.offers;
+        bids = fits_stay es e r.symbol Bid r.standings.bids (λ w l. unsaid es e w r.symbol Bid (cond_same (nat_eq v w) None)) h.bids;
+        offers = fits_stay es e r.symbol Offer r.standings.offers (λ w l. unsaid es e w r.symbol Offer (cond_same (nat_eq v w) None)) h.offers;
         halted = halts_set es e v x r.symbol r.halted below is.count (λ w. ap (λ t. cond (nat_eq v w) (cond t (Some x) None) None) k) h.halted;
       }
       | false ↦ λ k. row_waits es e r (λ w b. cond_same (nat_eq v w) None) (λ w. ap (λ t. cond (nat_eq v w) (cond t (Some x) None) None) k ∙ cond_same (nat_eq v w) None) h
@@ -113,8 +113,8 @@ item_fits es v number n c m item.Other helped flags r below young is h =
 item_fits es v number n c m item.End helped flags r below young is h =
     let e : Entry = Consumed v (record { number = number; item = item.End }) in
     record {
-      bids = fits_shown es e v None r.symbol Bid r.bids.standings n below is.bids.standings.count young (λ w. refl) h.bids;
-      offers = fits_shown es e v None r.symbol Offer r.offers.standings n below is.offers.standings.count young (λ w. refl) h.offers;
+      bids = fits_shown es e v None r.symbol Bid r.standings.bids n below is.bids.standings.count young (λ w. refl) h.bids;
+      offers = fits_shown es e v None r.symbol Offer r.standings.offers n below is.offers.standings.count young (λ w. refl) h.offers;
       halted = halts_set es e v false r.symbol r.halted below is.count (λ w. refl) h.halted;
     }
 
@@ -122,8 +122,8 @@ item_fits es v number n c m item.End helped flags r below young is h =
 pub row_fits : (es : List Entry) (e : Entry) (n c m : ℕ) (helped flags : List Bool) (r : Row) → venue_of e < 16 → n ≡ suc (length es) → IsRow flags c m r → RowFits es r → RowFits (es ++ e ∷ []) (row_after helped n e r)
 row_fits es (Consumed v x) n c m helped flags r below young is h = item_fits es v x.number n c m x.item helped flags r below young is h
 row_fits es (SelfHelp v on) n c m helped flags r below young is h = record {
-  bids = fits_stay es (SelfHelp v on) r.symbol Bid r.bids.standings (λ w l. unsaid es (SelfHelp v on) w r.symbol Bid refl) h.bids;
-  offers = fits_stay es (SelfHelp v on) r.symbol Offer r.offers.standings (λ w l. unsaid es (SelfHelp v on) w r.symbol Offer refl) h.offers;
+  bids = fits_stay es (SelfHelp v on) r.symbol Bid r.standings.bids (λ w l. unsaid es (SelfHelp v on) w r.symbol Bid refl) h.bids;
+  offers = fits_stay es (SelfHelp v on) r.symbol Offer r.standings.offers (λ w l. unsaid es (SelfHelp v on) w r.symbol Offer refl) h.offers;
   halted = halts_stay es (SelfHelp v on) r.symbol r.halted (λ w. refl) h.halted;
 }
 

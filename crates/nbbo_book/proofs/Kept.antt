@@ -8,14 +8,15 @@ use Rattle.feed_types.specs.declared.line.Side.TheVariants.{Bid, Offer}
 use Rattle.feed_types.specs.declared.national.Best.{Best}
 use Rattle.nbbo_book.specs.declared.shown.Shown.{Shown}
 use Rattle.nbbo_book.specs.declared.shown.Standing.{Standing}
-use Rattle.nbbo_book.specs.declared.book_side.BookSide.{BookSide}
+use Rattle.nbbo_book.specs.declared.standings.Standings.{Standings}
 use Rattle.nbbo_book.specs.declared.row.Row.{Row}
 use Rattle.nbbo_book.specs.Sides.{is_same_side}
 use Rattle.nbbo_book.specs.Eligible.{ranked_by, is_protected}
 use Rattle.nbbo_book.specs.Books.{standing_at}
 use Rattle.nbbo_book.specs.Changes.{is_same_best}
 use Rattle.nbbo_book.specs.Ranks.{better_of, is_better, is_improved, is_of}
-use Rattle.nbbo_book.specs.Rows.{age_at, may_at, rank_at, best_at, standings_shown, side_with}
+use Rattle.nbbo_book.specs.Rows.{BookSide, age_at, may_at, rank_at, best_at, standings_shown}
+use Rattle.nbbo_book.specs.Standings.{standings_on, with_standings}
 use Rattle.nbbo_book.specs.Tables.{IsStandings, IsNewest, IsSide, IsSideBut, IsStale, IsRowBut, IsBefore}
 use Rattle.nbbo_book.proofs.Beating.{better_beats}
 use Rattle.nbbo_book.proofs.Ranking.{nat_apart, nat_same, nat_split, some_same}
@@ -32,15 +33,6 @@ set_off (y ∷ xs) zero zero x d h = absurd (h refl)
 set_off (y ∷ xs) zero (suc j) x d h = refl
 set_off (y ∷ xs) (suc i) zero x d h = refl
 set_off (y ∷ xs) (suc i) (suc j) x d h = set_off xs i j x d (λ e. h (ap suc e))
-
-or_any : {X : Type 0} (xs : List X) (i : ℕ) (d e : X) → i < length xs → get_or xs i d ≡ get_or xs i e
-or_any [] i d e h = absurd (omega (arith, h))
-or_any (x ∷ xs) zero d e h = refl
-or_any (x ∷ xs) (suc i) d e h = or_any xs i d e (omega (arith, h))
-
--- what stands at a place that there is, whatever would stand past the end
-pub standing_found : (n : ℕ) (ss : List Standing) (i : ℕ) (d : Standing) → IsStandings n ss → i < 16 → standing_at ss i ≡ get_or ss i d
-standing_found n ss i d h l = or_any ss i _ d (omega (arith, l, h.count))
 
 pub apart_from : (i j : ℕ) → nat_eq j i ≡ false → i ≡ j → ⊥
 apart_from i j h e = grind (arith, h, e)
@@ -261,32 +253,31 @@ stale_gated b may n v k h = record { was = k; before = h; best = refl; others = 
 pub stale_set : (b : Side) (may : ℕ → Bool) (n v : ℕ) (k : BookSide) (st : Standing) → IsSideBut b may n v k → IsStandings n (set k.standings v st) → IsStale b may n v (record { best = k.best; standings = set k.standings v st })
 stale_set b may n v k st h standings = record { was = k; before = h; best = refl; others = λ w d. standing_off k.standings v w st d; standings = standings }
 
+-- one side's standings, after they were set
+pub standings_now : (b : Side) (ss : List Standing) (old new : Standings) → new ≡ with_standings b ss old → standings_on b new ≡ ss
+standings_now Bid ss old new is = ap (standings_on Bid) is
+standings_now Offer ss old new is = ap (standings_on Offer) is
+
 -- leave to rank changes nothing where the venue shows nothing
-pub gated_absent : (b : Side) (may : ℕ → Bool) (n v : ℕ) (k : BookSide) → IsSideBut b may n v k → (standing_at k.standings v).shown ≡ None → k ≡ side_with b may k.standings
+pub gated_absent : (b : Side) (may : ℕ → Bool) (n v : ℕ) (k : BookSide) → IsSideBut b may n v k → (standing_at k.standings v).shown ≡ None → k.best ≡ best_at b may k.standings
 gated_absent b may n v k h none =
-    ap (λ o. record { best = o; standings = k.standings })
-    (h.best
+    h.best
     ∙ best_same b (age_at k.standings) (age_at k.standings) (rank_at h.leave k.standings) (rank_at may k.standings)
     (rank_own h.leave k.standings) (rank_apart h.leave n k.standings h.standings) (rank_own may k.standings)
     (λ w l. nat_split w v (rank_at h.leave k.standings w ≡ rank_at may k.standings w)
     (λ e. subst (λ (u : ℕ). rank_at h.leave k.standings u ≡ rank_at may k.standings u) (sym e)
     (ap (ranked_by (h.leave v) v) none ∙ ranked_nothing (h.leave v) v ∙ sym (ranked_nothing (may v) v) ∙ ap (ranked_by (may v) v) (sym none)))
     (λ d. ap (λ t. ranked_by t w (standing_at k.standings w).shown) (sym (h.others w d))))
-    (λ w l. refl))
+    (λ w l. refl)
 
-pub hidden_absent : (b : Side) (may : ℕ → Bool) (n v age : ℕ) (k : BookSide) → IsSideBut b may n v k → (standing_at k.standings v).shown ≡ None → k ≡ side_with b may (standings_shown v None age k.standings)
+pub hidden_absent : (b : Side) (may : ℕ → Bool) (n v age : ℕ) (k : BookSide) → IsSideBut b may n v k → (standing_at k.standings v).shown ≡ None → k.best ≡ best_at b may (standings_shown v None age k.standings)
 hidden_absent b may n v age k h none =
     gated_absent b may n v k h none
-    ∙ ap (λ o. side_with b may (cond (is_same_side o None) k.standings (set k.standings v (record { shown = None; age = age })))) (sym none)
+    ∙ ap (λ o. best_at b may (cond (is_same_side o None) k.standings (set k.standings v (record { shown = None; age = age })))) (sym none)
 
 -- where a venue shows what it did already
-pub shown_same : (b : Side) (may : ℕ → Bool) (n next v : ℕ) (o : Option Shown) (k : BookSide) → IsSide b may n next k → is_same_side (standing_at k.standings v).shown o ≡ true → k ≡ side_with b may (standings_shown v o next k.standings)
-shown_same b may n next v o k h same =
-    ap (λ t. record { best = t; standings = k.standings }) h.best
-    ∙ ap (λ t. side_with b may (cond t k.standings (set k.standings v (record { shown = o; age = next })))) (sym same)
-
-pub shown_new : (b : Side) (may : ℕ → Bool) (age v : ℕ) (o : Option Shown) (ss : List Standing) → is_same_side (standing_at ss v).shown o ≡ false → side_with b may (set ss v (record { shown = o; age = age })) ≡ side_with b may (standings_shown v o age ss)
-shown_new b may age v o ss differs = ap (λ t. side_with b may (cond t ss (set ss v (record { shown = o; age = age })))) (sym differs)
+pub shown_same : (b : Side) (may : ℕ → Bool) (n next v : ℕ) (o : Option Shown) (k : BookSide) → IsSide b may n next k → is_same_side (standing_at k.standings v).shown o ≡ true → k.best ≡ best_at b may (standings_shown v o next k.standings)
+shown_same b may n next v o k h same = h.best ∙ ap (λ t. best_at b may (cond t k.standings (set k.standings v (record { shown = o; age = next })))) (sym same)
 
 -- a symbol before one venue's halt and self-help were others
 pub but_halted : (b : Side) (helped was halted : List Bool) (v : ℕ) (x : Bool) (n next : ℕ) (k : BookSide) → ((w : ℕ) → nat_eq w v ≡ false → get_or helped w false ≡ get_or was w false) → v < n → IsSide b (may_at was halted) n next k → IsSideBut b (may_at helped (set halted v x)) n v k

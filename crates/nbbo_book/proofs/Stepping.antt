@@ -16,7 +16,7 @@ use Rattle.feed_types.specs.declared.line.Side.TheVariants.{Bid, Offer}
 use Rattle.feed_types.specs.declared.national.Best.{Best}
 use Rattle.feed_types.specs.declared.national.National.{National}
 use Rattle.nbbo_book.specs.declared.shown.Standing.{Standing}
-use Rattle.nbbo_book.specs.declared.book_side.BookSide.{BookSide}
+use Rattle.nbbo_book.specs.Rows.{BookSide, side_at}
 use Rattle.nbbo_book.specs.declared.row.Row.{Row}
 use Rattle.nbbo_book.specs.declared.change.Change.{Change}
 use Rattle.nbbo_book.specs.Sides.{shown_by, side_of, age_of}
@@ -34,8 +34,8 @@ use Rattle.nbbo_book.proofs.Words.{apart_at, missed_all}
 
 row_waits : (helped : List Bool) (c n : ℕ) (r : Row) → IsRow helped c n r → IsRow helped c (n + 1) r
 row_waits helped c n r h = record {
-  bids = side_waits Bid (may_at helped r.halted) c n r.bids h.bids;
-  offers = side_waits Offer (may_at helped r.halted) c n r.offers h.offers;
+  bids = side_waits Bid (may_at helped r.halted) c n (side_at Bid r) h.bids;
+  offers = side_waits Offer (may_at helped r.halted) c n (side_at Offer r) h.offers;
   count = h.count;
 }
 
@@ -53,29 +53,29 @@ kept_on b may c n k h = (h.standings, (side_waits b may c n k h).past)
 item_is : (helped : List Bool) (c n v : ℕ) (i : Item) (r : Row) → v < c → IsRow helped c n r → IsRow helped c (n + 1) (row_after_item helped n v i r)
 item_is helped c n v (item.Quote q) r below h =
     elim (bytes_eq q.symbol r.symbol) as (λ t. IsRow helped c (n + 1) (cond t (row_quoted helped v q n r) r)) [
-      | true ↦ row_with-is helped r.symbol r.halted c (n + 1) (standings_shown v (Some (shown_by q Bid)) n r.bids.standings) (standings_shown v (Some (shown_by q Offer)) n r.offers.standings) h.count
-          (standings_after c n r.bids.standings v (Some (shown_by q Bid)) below h.bids.past h.bids.standings)
-          (standings_after c n r.offers.standings v (Some (shown_by q Offer)) below h.offers.past h.offers.standings)
+      | true ↦ row_with-is helped r.symbol r.halted c (n + 1) (standings_shown v (Some (shown_by q Bid)) n r.standings.bids) (standings_shown v (Some (shown_by q Offer)) n r.standings.offers) h.count
+          (standings_after c n r.standings.bids v (Some (shown_by q Bid)) below h.bids.past h.bids.standings)
+          (standings_after c n r.standings.offers v (Some (shown_by q Offer)) below h.offers.past h.offers.standings)
       | false ↦ row_waits helped c n r h
     ]
 item_is helped c n v (item.Halt s x) r below h =
     elim (bytes_eq s r.symbol) as (λ t. IsRow helped c (n + 1) (cond t (row_halted helped v x r) r)) [
-      | true ↦ row_with-is helped r.symbol (set r.halted v x) c (n + 1) r.bids.standings r.offers.standings (long_set r.halted v x ∙ h.count)
-          (kept_on Bid (may_at helped r.halted) c n r.bids h.bids) (kept_on Offer (may_at helped r.halted) c n r.offers h.offers)
+      | true ↦ row_with-is helped r.symbol (set r.halted v x) c (n + 1) r.standings.bids r.standings.offers (long_set r.halted v x ∙ h.count)
+          (kept_on Bid (may_at helped r.halted) c n (side_at Bid r) h.bids) (kept_on Offer (may_at helped r.halted) c n (side_at Offer r) h.offers)
       | false ↦ row_waits helped c n r h
     ]
 item_is helped c n v item.Other r below h = row_waits helped c n r h
 item_is helped c n v item.End r below h =
-    row_with-is helped r.symbol (set r.halted v false) c (n + 1) (standings_shown v None n r.bids.standings) (standings_shown v None n r.offers.standings) (long_set r.halted v false ∙ h.count)
-    (standings_after c n r.bids.standings v None below h.bids.past h.bids.standings)
-    (standings_after c n r.offers.standings v None below h.offers.past h.offers.standings)
+    row_with-is helped r.symbol (set r.halted v false) c (n + 1) (standings_shown v None n r.standings.bids) (standings_shown v None n r.standings.offers) (long_set r.halted v false ∙ h.count)
+    (standings_after c n r.standings.bids v None below h.bids.past h.bids.standings)
+    (standings_after c n r.standings.offers v None below h.offers.past h.offers.standings)
 
 -- what every book keeps of a symbol, after one more entry
 pub row_is : (helped : List Bool) (c n : ℕ) (e : Entry) (r : Row) → venue_of e < c → IsRow helped c n r → IsRow (helped_after e helped) c (n + 1) (row_after (helped_after e helped) n e r)
 row_is helped c n (Consumed v x) r below h = item_is helped c n v x.item r below h
 row_is helped c n (SelfHelp v on) r below h =
-    row_with-is (set helped v on) r.symbol r.halted c (n + 1) r.bids.standings r.offers.standings h.count
-    (kept_on Bid (may_at helped r.halted) c n r.bids h.bids) (kept_on Offer (may_at helped r.halted) c n r.offers h.offers)
+    row_with-is (set helped v on) r.symbol r.halted c (n + 1) r.standings.bids r.standings.offers h.count
+    (kept_on Bid (may_at helped r.halted) c n (side_at Bid r) h.bids) (kept_on Offer (may_at helped r.halted) c n (side_at Offer r) h.offers)
 
 pub rows_before : (e : Entry) (helped flags : List Bool) (c n : ℕ) (rs : List Row) → flags ≡ helped_after e helped → venue_of e < c → AllByRecursion (IsRow helped c n) rs → AllByRecursion (IsBefore e flags c n) rs
 rows_before e helped flags c n [] is below h = tt
@@ -114,8 +114,8 @@ may_is es helped r flags fits w l = ap (λ t. not t && not (slice_index_or r.hal
 
 pub national_is : (es : List Entry) (helped : List Bool) (c n : ℕ) (r : Row) → ((w : ℕ) → w < 16 → slice_index_or helped w false ≡ is_self_helped es w) → IsRow helped c n r → RowFits es r → national_at r ≡ national_of es r.symbol
 national_is es helped c n r flags h fits =
-    ap (λ t. record { bid = t; offer = r.offers.best }) (best_is es r.symbol Bid (may_at helped r.halted) c n r.bids (may_is es helped r flags fits) fits.bids h.bids)
-    ∙ ap (λ t. record { bid = best_of es r.symbol Bid; offer = t }) (best_is es r.symbol Offer (may_at helped r.halted) c n r.offers (may_is es helped r flags fits) fits.offers h.offers)
+    ap (λ t. record { bid = t; offer = r.offer }) (best_is es r.symbol Bid (may_at helped r.halted) c n (side_at Bid r) (may_is es helped r flags fits) fits.bids h.bids)
+    ∙ ap (λ t. record { bid = best_of es r.symbol Bid; offer = t }) (best_is es r.symbol Offer (may_at helped r.halted) c n (side_at Offer r) (may_is es helped r flags fits) fits.offers h.offers)
 
 -- the rows, after one more entry
 pub rows_are : (helped : List Bool) (c n : ℕ) (e : Entry) (rs : List Row) → venue_of e < c → AllByRecursion (IsRow helped c n) rs → AllByRecursion (IsRow (helped_after e helped) c (n + 1)) (map (row_after (helped_after e helped) n e) rs)

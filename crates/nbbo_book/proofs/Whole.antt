@@ -16,7 +16,7 @@ use Rattle.nbbo_book.specs.Nationals.{national_of, IsRanking}
 use Rattle.nbbo_book.specs.Changes.{changes_by}
 use Rattle.nbbo_book.specs.Books.{BookState, standing_at, SideFits, RowFits, Fits, venue_of}
 use Rattle.nbbo_book.specs.Ranks.{IsRankingOf}
-use Rattle.nbbo_book.specs.Rows.{age_at, may_at, rank_at, side_at, row_after, row_change, national_at, helped_after, empty_side, empty_row}
+use Rattle.nbbo_book.specs.Rows.{age_at, may_at, rank_at, side_at, row_after, row_change, national_at, helped_after, empty_standings, empty_row}
 use Rattle.nbbo_book.specs.Tables.{IsStandings, IsSide, IsRow, IsBook, IsTable, symbols_of}
 use Rattle.nbbo_book.proofs.Ranking.{ranking_same}
 use Rattle.nbbo_book.proofs.Firsts.{top_found}
@@ -83,8 +83,8 @@ side_ranking es s side may ss xs leave fits h =
     (λ w l. ap (λ (t : Standing). t.age) (fits w l)) h)
 
 row_ranking : (es : List Entry) (side : Side) (helped : List Bool) (r : Row) (xs : List Best) → ((w : ℕ) → w < 16 → slice_index_or helped w false ≡ is_self_helped es w) → RowFits es r → IsRankingOf 16 side (rank_at (may_at helped r.halted) (side_at side r).standings) (age_at (side_at side r).standings) xs → IsRanking es r.symbol side xs
-row_ranking es Bid helped r xs flags fits h = side_ranking es r.symbol Bid (may_at helped r.halted) r.bids.standings xs (may_is es helped r flags fits) fits.bids h
-row_ranking es Offer helped r xs flags fits h = side_ranking es r.symbol Offer (may_at helped r.halted) r.offers.standings xs (may_is es helped r flags fits) fits.offers h
+row_ranking es Bid helped r xs flags fits h = side_ranking es r.symbol Bid (may_at helped r.halted) r.standings.bids xs (may_is es helped r flags fits) fits.bids h
+row_ranking es Offer helped r xs flags fits h = side_ranking es r.symbol Offer (may_at helped r.halted) r.standings.offers xs (may_is es helped r flags fits) fits.offers h
 
 -- ranks of the row at the place that a symbol was found
 pub ranking_found : (b : BookState) (es : List Entry) (s : List ℕ) (side : Side) (i : ℕ) (d : Row) (xs : List Best) → Fits b es → position (bytes_eq s) (symbols_of b.rows) ≡ Some i → IsRankingOf 16 side (rank_at (may_at b.helped (get_or b.rows i d).halted) (side_at side (get_or b.rows i d)).standings) (age_at (side_at side (get_or b.rows i d)).standings) xs → IsRanking es s side xs
@@ -106,22 +106,22 @@ all_alike (suc n) (suc v) x = all_alike n v x
 abbrev unknown : Standing
 unknown = record { shown = None; age = 0 }
 
-nothing_stands : (v : ℕ) → standing_at empty_side.standings v ≡ unknown
+nothing_stands : (v : ℕ) → standing_at empty_standings v ≡ unknown
 nothing_stands v = all_alike 16 v unknown
 
-empty_standings : (c : ℕ) → c ≤ 16 → IsStandings c empty_side.standings
-empty_standings c few = record {
+empty_standings_are : (c : ℕ) → c ≤ 16 → IsStandings c empty_standings
+empty_standings_are c few = record {
   count = refl;
   few = few;
   apart = λ v w l m n there too same. (let no : false ≡ true = sym (ap (λ (t : Standing). is_some t.shown) (nothing_stands v)) ∙ there in cc);
   silent = λ w l. ap (λ (t : Standing). t.shown) (nothing_stands w);
 }
 
-empty_side_is : (b : Side) (may : ℕ → Bool) (c : ℕ) → c ≤ 16 → IsSide b may c 1 empty_side
+empty_side_is : (b : Side) (may : ℕ → Bool) (c : ℕ) → c ≤ 16 → IsSide b may c 1 (record { best = None; standings = empty_standings })
 empty_side_is b may c few = record {
-  standings = empty_standings c few;
+  standings = empty_standings_are c few;
   past = λ v l. subst (λ (t : ℕ). t < 1) (sym (ap (λ (t : Standing). t.age) (nothing_stands v))) (omega arith);
-  best = sym (top_found b (age_at empty_side.standings) (rank_at may empty_side.standings) None (rank_own may empty_side.standings)
+  best = sym (top_found b (age_at empty_standings) (rank_at may empty_standings) None (rank_own may empty_standings)
       (λ w l. ap (λ (t : Standing). ranked_by (may w) w t.shown) (nothing_stands w) ∙ ranked_nothing (may w) w));
 }
 

@@ -36,8 +36,8 @@ SideFits entries symbol side standings =
 
 -- a symbol's sides and halts are those of the entries
 pub record RowFits (entries : List Entry) (row : Row) : Type 0 where
-  pub bids : SideFits entries row.symbol Bid row.bids.standings
-  pub offers : SideFits entries row.symbol Offer row.offers.standings
+  pub bids : SideFits entries row.symbol Bid row.standings.bids
+  pub offers : SideFits entries row.symbol Offer row.standings.offers
   pub halted : (venue : ℕ) → venue < 16
       → slice_index_or row.halted venue false ≡ is_halted entries venue row.symbol
 

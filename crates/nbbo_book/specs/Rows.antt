@@ -13,10 +13,10 @@ use Rattle.feed_types.specs.declared.national.Best.{Best}
 use Rattle.feed_types.specs.declared.national.National.{National}
 use Rattle.nbbo_book.specs.declared.shown.Shown.{Shown}
 use Rattle.nbbo_book.specs.declared.shown.Standing.{Standing}
-use Rattle.nbbo_book.specs.declared.book_side.BookSide.{BookSide}
 use Rattle.nbbo_book.specs.declared.row.Row.{Row}
 use Rattle.nbbo_book.specs.declared.change.Change.{Change}
 use Rattle.nbbo_book.specs.Sides.{shown_by, is_same_side}
+use Rattle.nbbo_book.specs.Standings.{standings_on}
 use Rattle.nbbo_book.specs.Eligible.{ranked_by}
 use Rattle.nbbo_book.specs.Changes.{change_of, is_same_best}
 use Rattle.nbbo_book.specs.Books.{standing_at}
@@ -42,16 +42,12 @@ standings_shown venue shown age standings =
     if is_same_side (standing_at standings venue).shown shown
     then standings else slice_set standings venue (record { shown = shown; age = age })
 
-abbrev pub side_with : Side → (ℕ → Bool) → List Standing → BookSide
-side_with side may standings =
-    record { best = best_at side may standings; standings = standings }
-
--- a side is the one with these standings, and this tells whether its best is another one now
+-- the best is that of these standings, and this tells whether it is another one now
 pub record Renews
     (side : Side) (may : ℕ → Bool) (standings : List Standing)
-    (old new : BookSide) (is_other : Bool) : Type 0 where
-  pub kept : new ≡ side_with side may standings
-  pub moved : is_other ≡ not (is_same_best old.best new.best)
+    (old new : Option Best) (is_other : Bool) : Type 0 where
+  pub best : new ≡ best_at side may standings
+  pub moved : is_other ≡ not (is_same_best old new)
 
 -- a symbol with these halts and standings
 abbrev pub row_with :
@@ -60,30 +56,31 @@ row_with helped symbol halted bids offers =
     record {
       symbol = symbol;
       halted = halted;
-      bids = side_with Bid (may_at helped halted) bids;
-      offers = side_with Offer (may_at helped halted) offers;
+      bid = best_at Bid (may_at helped halted) bids;
+      offer = best_at Offer (may_at helped halted) offers;
+      standings = record { bids = bids; offers = offers };
     }
 
 abbrev pub row_quoted : List Bool → ℕ → Quote → ℕ → Row → Row
 row_quoted helped venue quote age row =
     row_with helped row.symbol row.halted
-    (standings_shown venue (Some (shown_by quote Bid)) age row.bids.standings)
-    (standings_shown venue (Some (shown_by quote Offer)) age row.offers.standings)
+    (standings_shown venue (Some (shown_by quote Bid)) age row.standings.bids)
+    (standings_shown venue (Some (shown_by quote Offer)) age row.standings.offers)
 
 abbrev pub row_ended : List Bool → ℕ → ℕ → Row → Row
 row_ended helped venue age row =
     row_with helped row.symbol (slice_set row.halted venue false)
-    (standings_shown venue None age row.bids.standings)
-    (standings_shown venue None age row.offers.standings)
+    (standings_shown venue None age row.standings.bids)
+    (standings_shown venue None age row.standings.offers)
 
 abbrev pub row_halted : List Bool → ℕ → Bool → Row → Row
 row_halted helped venue halted row =
     row_with helped row.symbol (slice_set row.halted venue halted)
-    row.bids.standings row.offers.standings
+    row.standings.bids row.standings.offers
 
 abbrev pub row_helped : List Bool → Row → Row
 row_helped helped row =
-    row_with helped row.symbol row.halted row.bids.standings row.offers.standings
+    row_with helped row.symbol row.halted row.standings.bids row.standings.offers
 
 abbrev pub row_after_item : List Bool → ℕ → ℕ → Item → Row → Row
 row_after_item helped age venue (item.Quote quote) row =
@@ -105,11 +102,20 @@ helped_after (SelfHelp venue on) helped = slice_set helped venue on
 
 abbrev pub national_at : Row → National
 national_at row =
-    record { bid = row.bids.best; offer = row.offers.best }
+    record { bid = row.bid; offer = row.offer }
+
+-- one side of a symbol: the best of it, and each venue's standing
+pub record BookSide : Type 0 where
+  pub best : Option Best
+  pub standings : List Standing
+
+abbrev pub best_on : Side → Row → Option Best
+best_on Bid row = row.bid
+best_on Offer row = row.offer
 
 abbrev pub side_at : Side → Row → BookSide
-side_at Bid row = row.bids
-side_at Offer row = row.offers
+side_at side row =
+    record { best = best_on side row; standings = standings_on side row.standings }
 
 abbrev pub row_change : List Bool → ℕ → ℕ → Entry → Row → Option Change
 row_change helped age position entry row =
@@ -135,13 +141,15 @@ symbol_in (Consumed venue numbered) = symbol_in_item numbered.item
 symbol_in (SelfHelp venue on) = None
 
 -- nothing is known of the symbol yet
-abbrev pub empty_side : BookSide
-empty_side =
-    record {
-      standings = replicate 16 (record { shown = None; age = 0 });
-      best = None;
-    }
+abbrev pub empty_standings : List Standing
+empty_standings = replicate 16 (record { shown = None; age = 0 })
 
 abbrev pub empty_row : List ℕ → Row
 empty_row symbol =
-    record { symbol = symbol; bids = empty_side; offers = empty_side; halted = replicate 16 false }
+    record {
+      symbol = symbol;
+      halted = replicate 16 false;
+      bid = None;
+      offer = None;
+      standings = record { bids = empty_standings; offers = empty_standings };
+    }

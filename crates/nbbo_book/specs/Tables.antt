@@ -7,10 +7,9 @@ use Rattle.feed_types.specs.declared.journal.Entry.{Entry}
 use Rattle.feed_types.specs.declared.line.Side.{Side}
 use Rattle.feed_types.specs.declared.line.Side.TheVariants.{Bid, Offer}
 use Rattle.nbbo_book.specs.declared.shown.Standing.{Standing}
-use Rattle.nbbo_book.specs.declared.book_side.BookSide.{BookSide}
 use Rattle.nbbo_book.specs.declared.row.Row.{Row}
 use Rattle.nbbo_book.specs.Books.{BookState, standing_at, venue_of}
-use Rattle.nbbo_book.specs.Rows.{age_at, may_at, best_at, helped_after}
+use Rattle.nbbo_book.specs.Rows.{BookSide, age_at, may_at, best_at, side_at, helped_after}
 
 abbrev pub symbols_of : List Row → List (List ℕ)
 symbols_of rows = map (λ (row : Row). row.symbol) rows
@@ -47,8 +46,8 @@ pub record IsSide
   pub best : kept.best ≡ best_at side may kept.standings
 
 pub record IsRow (helped : List Bool) (venues next : ℕ) (row : Row) : Type 0 where
-  pub bids : IsSide Bid (may_at helped row.halted) venues next row.bids
-  pub offers : IsSide Offer (may_at helped row.halted) venues next row.offers
+  pub bids : IsSide Bid (may_at helped row.halted) venues next (side_at Bid row)
+  pub offers : IsSide Offer (may_at helped row.halted) venues next (side_at Offer row)
   pub count : length row.halted ≡ 16
 
 -- a side before one venue's leave to be ranked was another

@@ -5,9 +5,11 @@ ghost use Rattle.nbbo_book.specs.Nationals.{beats, is_better_price};
 ghost use Rattle.nbbo_book.specs.Changes.{is_same_best};
 ghost use Rattle.nbbo_book.specs.Ranks.{better_of as first_of_two, comes_first as first_comes, is_better as is_better_side, is_improved as is_improved_side, is_of as is_of_venue};
 ghost use Rattle.nbbo_book.specs.Rows.{age_at, may_at, rank_at as rank_at_venue, best_at};
+ghost use Rattle.nbbo_book.specs.Standings.{standings_on};
 ghost use Rattle.nbbo_book.specs.Tables.{IsStandings, IsNewest};
 
-use crate::shown::{Standing, rank_of};
+use crate::shown::rank_of;
+use crate::standings::Standings;
 use crate::venues::Venues;
 use feed_types::{Best, Side, VenueId};
 
@@ -33,10 +35,10 @@ fn is_better(side: Side, x: &Best, y: &Best) -> bool
 /// Whether x ranks before y. Which of two sides does is a coin's toss: price, size and age are
 /// compared at once, so that few branches hang on it.
 #[inline(always)]
-pub fn is_ahead(side: Side, standings: &[Standing; 16], x: &Best, y: &Best) -> bool
-    ensures { result ≡ beats side (age_at standings.now) x.now y.now }
+pub fn is_ahead(side: Side, standings: &Standings, x: &Best, y: &Best) -> bool
+    ensures { result ≡ beats side (age_at (standings_on side standings.now)) x.now y.now }
 {
-    let is_older = standings[x.venue.index()].age() < standings[y.venue.index()].age();
+    let is_older = standings.at(side, x.venue).age() < standings.at(side, y.venue).age();
     let is_equal = (x.price == y.price) & (x.size == y.size);
     is_better(side, x, y) | is_equal & is_older
 }
@@ -47,12 +49,12 @@ pub fn is_ahead(side: Side, standings: &[Standing; 16], x: &Best, y: &Best) -> b
 pub fn comes_first(
     side: Side,
     newest: bool,
-    standings: &[Standing; 16],
+    standings: &Standings,
     best: &Option<Best>,
     x: &Option<Best>,
 ) -> bool
-    requires { newest ≡ true → IfSome x.now (λ x. IsNewest x.venue standings.now) }
-    ensures { result ≡ first_comes side (age_at standings.now) best.now x.now }
+    requires { newest ≡ true → IfSome x.now (λ x. IsNewest x.venue (standings_on side standings.now)) }
+    ensures { result ≡ first_comes side (age_at (standings_on side standings.now)) best.now x.now }
 {
     match (best, x) {
         (Some(best), Some(x)) => {
@@ -82,11 +84,11 @@ pub fn is_improved(side: Side, before: &Option<Best>, x: &Option<Best>) -> bool
 #[inline(always)]
 pub fn better_of(
     side: Side,
-    standings: &[Standing; 16],
+    standings: &Standings,
     best: Option<Best>,
     x: Option<Best>,
 ) -> Option<Best>
-    ensures { result ≡ first_of_two side (age_at standings.now) best x }
+    ensures { result ≡ first_of_two side (age_at (standings_on side standings.now)) best x }
 {
     if comes_first(side, false, standings, &best, &x) {
         x
@@ -98,35 +100,36 @@ pub fn better_of(
 /// What the venue is ranked with in a symbol that these venues halt.
 #[inline(always)]
 pub fn rank_at(
-    standings: &[Standing; 16],
+    side: Side,
+    standings: &Standings,
     venues: &Venues,
     halted: &[bool; 16],
     venue: VenueId,
 ) -> Option<Best>
     ensures { result
-        ≡ rank_at_venue (may_at venues.now.helped halted.now) standings.now venue }
+        ≡ rank_at_venue (may_at venues.now.helped halted.now) (standings_on side standings.now) venue }
 {
     rank_of(
         venues.may_rank(halted, venue),
         venue,
-        standings[venue.index()].shown(),
+        standings.at(side, venue).shown(),
     )
 }
 
 #[inline(always)]
 fn best_through(
     side: Side,
-    standings: &[Standing; 16],
+    standings: &Standings,
     venues: &Venues,
     halted: &[bool; 16],
 ) -> Option<Best>
-    requires { IsStandings venues.now.count standings.now }
-    ensures { result ≡ best_at side (may_at venues.now.helped halted.now) standings.now }
+    requires { IsStandings venues.now.count (standings_on side standings.now) }
+    ensures { result ≡ best_at side (may_at venues.now.helped halted.now) (standings_on side standings.now) }
 {
     let mut best = None;
     for place in 0..venues.count {
         if let Some(venue) = VenueId::from_index(place) {
-            let x = rank_at(standings, venues, halted, venue);
+            let x = rank_at(side, standings, venues, halted, venue);
             best = better_of(side, standings, best, x);
         }
     }
@@ -137,12 +140,12 @@ fn best_through(
 #[inline(never)]
 pub fn best_of(
     side: Side,
-    standings: &[Standing; 16],
+    standings: &Standings,
     venues: &Venues,
     halted: &[bool; 16],
 ) -> Option<Best>
-    requires { IsStandings venues.now.count standings.now }
-    ensures { result ≡ best_at side (may_at venues.now.helped halted.now) standings.now }
+    requires { IsStandings venues.now.count (standings_on side standings.now) }
+    ensures { result ≡ best_at side (may_at venues.now.helped halted.now) (standings_on side standings.now) }
 {
     match side {
         Side::Bid => best_through(Side::Bid, standings, venues, halted),

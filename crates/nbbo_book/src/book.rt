@@ -11,12 +11,11 @@ ghost use Rattle.nbbo_book.specs.Nationals.{national_of, IsRanking};
 ghost use Rattle.nbbo_book.specs.Changes.{changes_by};
 ghost use Rattle.nbbo_book.specs.Rows.{empty_row};
 
-use crate::book_side::BookSide;
 use crate::change::Change;
 use crate::fault::BookFault;
 use crate::ranks::{Ranks, ranks_of};
 use crate::row::Row;
-use crate::shown::Standing;
+use crate::standings::Standings;
 use crate::steps::{Step, apply_step};
 use crate::table::{Table, find, symbol_table};
 use crate::venues::Venues;
@@ -52,20 +51,14 @@ impl Model for Book {
 fn empty_rows(alloc: Global, symbols: &[SymbolName]) -> Result<Vec<Row>, AllocError>
     ensures { IfOk result (λ rows. rows.items ≡ map empty_row symbols.now) }
 {
-    let unknown = Standing::new(None, 0);
     let mut rows = Vec::with_capacity(alloc, symbols.len())?;
     for symbol in symbols {
         rows.push(Row {
-            symbol: *symbol,
             halted: [false; 16],
-            bids: BookSide {
-                best: None,
-                standings: [unknown; 16],
-            },
-            offers: BookSide {
-                best: None,
-                standings: [unknown; 16],
-            },
+            symbol: *symbol,
+            bid: None,
+            offer: None,
+            standings: Standings::new(),
         })?;
     }
     Ok(rows)
@@ -161,8 +154,7 @@ impl Book {
     {
         let place = find(&self.table, *symbol)?;
         let row = &self.rows[place];
-        let standings = &row.side(side).standings;
-        Some(ranks_of(side, standings, &self.venues, &row.halted))
+        Some(ranks_of(side, &row.standings, &self.venues, &row.halted))
     }
 
     /// Whether self-help stands on the venue.

@@ -18,6 +18,7 @@ mod laws;
 mod ranks;
 mod row;
 mod shown;
+mod standings;
 mod steps;
 mod table;
 mod venues;

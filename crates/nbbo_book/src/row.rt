@@ -7,19 +7,23 @@ ghost use Rattle.nbbo_book.specs.Changes.{is_same_national};
 ghost use Rattle.nbbo_book.specs.Rows.{may_at, row_quoted, row_ended, row_halted, row_helped, row_after_item, row_after, national_at, side_at};
 ghost use Rattle.nbbo_book.specs.Tables.{IsRow, IsRowBut, IsSideBut, IsBefore};
 
-use crate::book_side::BookSide;
+use crate::book_side::{gate, hide, show};
 use crate::shown::{Standing, bid_of, offer_of};
+use crate::standings::Standings;
 use crate::venues::Venues;
 use feed_types::{Best, Entry, Item, National, Quote, Side, SymbolName, VenueId};
 
-/// What a book keeps of one symbol. What each entry reads stands first.
+/// What a book keeps of one symbol. What each entry reads stands first, and beside each other.
 #[derive(Drop)]
 pub struct Row {
-    pub symbol: SymbolName,
     /// The venues that halt the symbol.
     pub halted: [bool; 16],
-    pub bids: BookSide,
-    pub offers: BookSide,
+    pub symbol: SymbolName,
+    /// The best of the bids that are eligible.
+    pub bid: Option<Best>,
+    /// The best of the offers that are eligible.
+    pub offer: Option<Best>,
+    pub standings: Standings,
 }
 
 impl Row {
@@ -41,10 +45,26 @@ impl Row {
     {
         let bid = Standing::new(Some(bid_of(quote)), age);
         let offer = Standing::new(Some(offer_of(quote)), age);
-        let bid = self.bids.show(Side::Bid, venue, bid, venues, &self.halted);
-        let offer = self
-            .offers
-            .show(Side::Offer, venue, offer, venues, &self.halted);
+        let standings = &mut self.standings;
+        let halted = &self.halted;
+        let bid = show(
+            Side::Bid,
+            venue,
+            bid,
+            standings,
+            &mut self.bid,
+            venues,
+            halted,
+        );
+        let offer = show(
+            Side::Offer,
+            venue,
+            offer,
+            standings,
+            &mut self.offer,
+            venues,
+            halted,
+        );
         bid || offer
     }
 
@@ -56,25 +76,50 @@ impl Row {
             ≡ not (is_same_national (national_at self.old) (national_at self.new)) }
     {
         self.halted[venue.index()] = false;
-        let bid = self.bids.hide(Side::Bid, venue, age, venues, &self.halted);
-        let offer = self
-            .offers
-            .hide(Side::Offer, venue, age, venues, &self.halted);
+        let standings = &mut self.standings;
+        let halted = &self.halted;
+        let bid = hide(
+            Side::Bid,
+            venue,
+            age,
+            standings,
+            &mut self.bid,
+            venues,
+            halted,
+        );
+        let offer = hide(
+            Side::Offer,
+            venue,
+            age,
+            standings,
+            &mut self.offer,
+            venues,
+            halted,
+        );
         bid || offer
     }
 
     #[inline(always)]
     fn gate(&mut self, venues: &Venues, venue: VenueId) -> bool
         requires bids { IsSideBut Bid (may_at venues.now.helped self.old.halted)
-            venues.now.count venue self.old.bids }
+            venues.now.count venue (side_at Bid self.old) }
         requires offers { IsSideBut Offer (may_at venues.now.helped self.old.halted)
-            venues.now.count venue self.old.offers }
+            venues.now.count venue (side_at Offer self.old) }
         ensures row { self.new ≡ row_helped venues.now.helped self.old }
         ensures changed { result
             ≡ not (is_same_national (national_at self.old) (national_at self.new)) }
     {
-        let bid = self.bids.gate(Side::Bid, venue, venues, &self.halted);
-        let offer = self.offers.gate(Side::Offer, venue, venues, &self.halted);
+        let standings = &self.standings;
+        let halted = &self.halted;
+        let bid = gate(Side::Bid, venue, standings, &mut self.bid, venues, halted);
+        let offer = gate(
+            Side::Offer,
+            venue,
+            standings,
+            &mut self.offer,
+            venues,
+            halted,
+        );
         bid || offer
     }
 
@@ -125,21 +170,11 @@ impl Row {
         }
     }
 
-    /// A side of the symbol.
-    pub fn side(&self, side: Side) -> &BookSide
-        ensures { result.now ≡ side_at side self.now }
-    {
-        match side {
-            Side::Bid => &self.bids,
-            Side::Offer => &self.offers,
-        }
-    }
-
     /// The national best.
     #[inline(always)]
     pub fn national(&self) -> National
         ensures { result ≡ national_at self.now }
     {
-        National::copied(&self.bids.best, &self.offers.best)
+        National::copied(&self.bid, &self.offer)
     }
 }

@@ -5,7 +5,6 @@ use Rattle.nbbo_book.specs.Books.{BookState, Fits, is_configured}
 use Rattle.nbbo_book.specs.Rows.{side_at, may_at, rank_at, age_at}
 use Rattle.nbbo_book.specs.Tables.{IsStandings, symbols_of}
 use Rattle.nbbo_book.specs.Ranks.{IsRankingOf}
-use Rattle.nbbo_book.specs.declared.book_side.BookSide.{BookSide}
 use Rattle.nbbo_book.specs.declared.row.Row.{Row}
 use Rattle.nbbo_book.proofs.Words.{found_configured, missed_configured}
 use Rattle.nbbo_book.proofs.Whole.{ranking_found, row_found, side_stands}
@@ -34,9 +33,8 @@ returns-clause-ranking c = λ entries fits.
     let here : Fits b entries = subst (λ (t : BookState). Fits t entries) (sym c.self.view_is) fits in
     let at : position (bytes_eq c.args.symbol.now) (symbols_of c.self.inside.rows.items) ≡ Some c.in_ok-place.place = sym (c.find.ensures (symbols_of c.self.inside.rows.items) c.self.invariant.table) ∙ was in
     let ranks = c.ranks_of.result.items in
-    let of_side = subst (λ (t : BookSide). IsRankingOf 16 c.args.side (rank_at (may_at b.helped c.index-row.result.now.halted) t.standings) (age_at t.standings) ranks) c.side.ensures c.ranks_of.ensures in
     ranking_found b entries c.args.symbol.now c.args.side c.in_ok-place.place c.index-row.result.now ranks here at
-    (subst (λ (t : Row). IsRankingOf 16 c.args.side (rank_at (may_at b.helped t.halted) (side_at c.args.side t).standings) (age_at (side_at c.args.side t).standings) ranks) c.index-row.ensures of_side)
+    (subst (λ (t : Row). IsRankingOf 16 c.args.side (rank_at (may_at b.helped t.halted) (side_at c.args.side t).standings) (age_at (side_at c.args.side t).standings) ranks) c.index-row.ensures c.ranks_of.ensures)
 
 pub ranks_of-requires : goal.ranks_of-requires
 ranks_of-requires c =
@@ -44,6 +42,6 @@ ranks_of-requires c =
     let venues = c.self.inside.venues in
     let b : BookState = record { symbols = symbols_of c.self.inside.rows.items; venues = venues.count; last = c.self.inside.last; applied = c.self.inside.applied; helped = venues.helped; rows = c.self.inside.rows.items } in
     let at : position (bytes_eq c.args.symbol.now) (symbols_of c.self.inside.rows.items) ≡ Some c.in_ok-place.place = sym (c.find.ensures (symbols_of c.self.inside.rows.items) c.self.invariant.table) ∙ was in
-    subst (λ (t : BookSide). IsStandings venues.count t.standings) (sym (c.side.ensures ∙ ap (side_at c.args.side) c.index-row.ensures))
+    subst (λ (t : Row). IsStandings venues.count (side_at c.args.side t).standings) (sym c.index-row.ensures)
     (side_stands c.args.side venues.helped venues.count (c.self.inside.applied + 1) (get_or c.self.inside.rows.items c.in_ok-place.place c.index-row.result.now)
     (row_found c.self.inside.table.keys b c.args.symbol.now c.in_ok-place.place c.index-row.result.now c.self.invariant at))

@@ -1,3 +1,4 @@
+use Rattle.nbbo_book.specs.Rows.{side_at}
 use Rattle.std.proofs.Common.{subst}
 use Rattle.feed_types.specs.declared.journal.Entry.{Entry}
 use Rattle.feed_types.specs.declared.line.Side.TheVariants.{Bid, Offer}
@@ -11,7 +12,7 @@ gate-requires-clause-bids c =
     let row = c.args.self.now in
     let h = helped_row c.in-SelfHelp.venue c.in-SelfHelp.on venues.helped venues.count c.args.age row
     (subst (λ (e : Entry). IsBefore e venues.helped venues.count c.args.age row) c.in-SelfHelp.is c.requires) in
-    but_helped Bid venues.helped h.was row.halted c.in-SelfHelp.venue venues.count h.next row.bids h.others h.below h.kept.bids
+    but_helped Bid venues.helped h.was row.halted c.in-SelfHelp.venue venues.count h.next (side_at Bid row) h.others h.below h.kept.bids
 
 pub gate-requires-clause-offers : goal.gate-requires-clause-offers
 gate-requires-clause-offers c =
@@ -19,4 +20,4 @@ gate-requires-clause-offers c =
     let row = c.args.self.now in
     let h = helped_row c.in-SelfHelp.venue c.in-SelfHelp.on venues.helped venues.count c.args.age row
     (subst (λ (e : Entry). IsBefore e venues.helped venues.count c.args.age row) c.in-SelfHelp.is c.requires) in
-    but_helped Offer venues.helped h.was row.halted c.in-SelfHelp.venue venues.count h.next row.offers h.others h.below h.kept.offers
+    but_helped Offer venues.helped h.was row.halted c.in-SelfHelp.venue venues.count h.next (side_at Offer row) h.others h.below h.kept.offers
