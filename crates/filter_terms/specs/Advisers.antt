@@ -1,5 +1,5 @@
 -- What a strategy's closure may answer, call after call.
-use Rattle.std.specs.Prelude.{◌≡◌, List, [], ◌∷◌, Option, Some, None}
+use Rattle.std.specs.Prelude.{List, [], ◌∷◌, Option, Some, None}
 use Rattle.std.specs.Coded.{Π_prop, →_prop, ×_prop, Unit-prop}
 use Rattle.std.specs.Fn.{Called, Mut, AlwaysReturns, ReturnsEach}
 use Rattle.std.specs.Borrow.{Bor}

@@ -1,5 +1,5 @@
 -- Which notices meet which terms (this project's subscriptions).
-use Rattle.std.specs.Prelude.{ℕ, ◌≡◌, List, Bool, true, false, Option, Some, None, nat_le, ◌==◌, ◌&&◌}
+use Rattle.std.specs.Prelude.{ℕ, Bool, true, false, Option, Some, None, nat_le, ◌&&◌}
 use Rattle.std.specs.List.{list_any}
 use Rattle.std.specs.Str.{bytes_eq}
 use Rattle.feed_types.specs.declared.national.Best.{Best}

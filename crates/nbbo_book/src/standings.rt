@@ -1,7 +1,8 @@
 //! What the venues show of a symbol, on both sides.
 
-ghost use Rattle.std.specs.Prelude.{◌≡◌, replicate, slice_set, None};
+ghost use Rattle.std.specs.Prelude.{◌≡◌, slice_set};
 ghost use Rattle.nbbo_book.specs.Books.{standing_at};
+ghost use Rattle.nbbo_book.specs.Rows.{empty_standings};
 ghost use Rattle.nbbo_book.specs.Standings.{standings_on, with_standings};
 
 use crate::shown::Standing;
@@ -38,10 +39,7 @@ impl Model for Standings {
 impl Standings {
     /// No venue shows anything yet.
     pub fn new() -> Standings
-        ensures { result ≡ record {
-          bids = replicate 16 (record { shown = None; age = 0 });
-          offers = replicate 16 (record { shown = None; age = 0 });
-        } }
+        ensures { result ≡ record { bids = empty_standings; offers = empty_standings } }
     {
         let unknown = Standing::new(None, 0);
         Standings {
