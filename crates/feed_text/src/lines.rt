@@ -300,8 +300,8 @@ pub fn put_best(text: &mut Page, notice: &Notice) -> Result<(), AllocError>
     text.make_room(BEST_LINE)?;
     let at = text.end;
     let room = text.bytes.as_mut_slice();
-    let at = place(room, at, *b"best");
-    let at = place_field(room, at, notice.number);
+    let at = place_word(room, at, *b"best    ", 5);
+    let at = place_number(room, at, notice.number);
     let at = place_field(room, at, notice.position);
     let at = place(room, at, *b" ");
     let at = place_name(room, at, notice.symbol);

@@ -1,11 +1,12 @@
 -- A field's bytes tested one by one and by what they mark, and a field as a number.
-use Rattle.std.proofs.Common.{◌≡◌, ℕ, zero, suc, ◌+◌, ◌<◌, ◌≤◌, Bool, true, false, ◌&&◌, not, List, [], ◌∷◌, map, length, get_or, refl, sym, ap, ◌∙◌, arith}
+use Rattle.std.proofs.Common.{◌≡◌, ℕ, zero, suc, ◌+◌, ◌-◌, ◌<◌, ◌≤◌, Bool, true, false, ◌&&◌, not, List, [], ◌∷◌, map, length, get_or, refl, sym, ap, ◌∙◌, arith, true≢false, inl, inr, get_or-drop, length-drop}
 use Rattle.std.specs.Prelude.{nat_le}
 use Rattle.std.specs.List.{list_all, prefix_len}
 use Rattle.std.proofs.Math.Bool.{and_assoc}
 use Rattle.std.proofs.lemmas.Bool.Decides.{nat_tests}
 use Rattle.std.proofs.lemmas.Grind.{common_steps}
-use Rattle.std.proofs.lemmas.Bool.{and_parts}
+use Rattle.std.proofs.lemmas.Bool.{and_parts, cases_lt}
+use Rattle.std.proofs.lemmas.List.Folds.{list_all_at}
 use Rattle.std.proofs.lemmas.Nat.{be_bytes_8}
 use Rattle.std.specs.Int.{w64, to_be_bytes}
 use Rattle.feed_types.specs.FieldTests.{is_filled, is_name_filled}
@@ -104,3 +105,19 @@ bytes_of_word field h = be_bytes_8 field (word_of field) (len_eight field h) (by
 
 pub same_symbol : (a b : List ℕ) → is_symbol_field a ≡ true → is_symbol_field b ≡ true → word_of a ≡ word_of b → a ≡ b
 same_symbol a b ha hb e = sym (bytes_of_word a ha) ∙ ap (λ (w : ℕ). to_be_bytes w64 w) e ∙ bytes_of_word b hb
+
+spaced : (field : List ℕ) → is_symbol_field field ≡ true → list_all is_space (filling_of field) ≡ true
+spaced field h = grind (arith, nat_tests)
+
+-- a byte that is no space stands in the name
+pub goes_on : (field : List ℕ) → is_symbol_field field ≡ true → (i : ℕ) → i < 8 → is_space (get_or field i 0) ≡ false → i < length (name_of field)
+goes_on field h i below other =
+    let n = length (name_of field) in
+    elim (cases_lt i n) [
+      | inl l ↦ l
+      | inr past ↦
+          let back : n + (i - n) ≡ i = omega (arith, past) in
+          let inside : i - n < length (filling_of field) = omega (arith, length-drop n field, len_eight field h, past, below) in
+          let at : is_space (get_or (filling_of field) (i - n) 0) ≡ false = ap is_space (get_or-drop n field (i - n) 0 ∙ ap (λ (k : ℕ). get_or field k 0) back) ∙ other in
+          absurd (true≢false (sym (spaced field h) ∙ list_all_at is_space (filling_of field) (i - n) 0 inside at))
+    ]

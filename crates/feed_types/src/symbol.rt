@@ -1,11 +1,11 @@
 //! Symbols.
 
-ghost use Rattle.std.specs.Prelude.{◌≡◌, IsTrue, Some, length, nat_le};
+ghost use Rattle.std.specs.Prelude.{◌*◌, ◌≡◌, IsTrue, Some, length, nat_le};
 ghost use Rattle.std.specs.Int.{w64, to_be_bytes};
 ghost use Rattle.std.specs.List.{list_all};
 ghost use Rattle.std.specs.Option.{SomeIff};
 ghost use Rattle.feed_types.specs.Symbols.{is_space, is_name_byte, is_symbol_field, is_symbol_name, name_of, filled, word_of};
-ghost use Rattle.feed_types.specs.FieldTests.{Marks, IsZeroWhereFilled};
+ghost use Rattle.feed_types.specs.FieldTests.{EndsWithin, IsZeroWhereFilled, Marks};
 
 use std::fmt;
 use std::marker::Model;
@@ -55,11 +55,30 @@ fn is_name(bytes: &[u8]) -> bool
     !bytes.is_empty() && bytes.len() <= FIELD && is_all_name_bytes(bytes)
 }
 
-/// How many bytes stand before the first space.
-fn name_len(field: &[u8]) -> usize
+/// Where a name that ends within twice so many bytes from there ends within so many: a byte that is
+/// no space has the name up to it.
+#[inline(always)]
+fn half_of(field: &[u8; 8], at: usize, size: usize) -> usize
+    requires symbol { IsTrue (is_symbol_field field.now) }
+    requires part { EndsWithin at (2 * size) (name_of field.now) }
+    ensures { EndsWithin result size (name_of field.now) }
+{
+    if field[at + size] == b' ' {
+        at
+    } else {
+        at + size
+    }
+}
+
+/// How many bytes stand before the first space. Each best line prints a name, so its end is looked
+/// for by halves of the field.
+fn name_len(field: &[u8; 8]) -> usize
+    requires { IsTrue (is_symbol_field field.now) }
     ensures { result ≡ length (name_of field.now) }
 {
-    field.iter().take_while(|byte| **byte != b' ').count()
+    let four = half_of(field, 0, 4);
+    let two = half_of(field, four, 2);
+    half_of(field, two, 1) + 1
 }
 
 /// The top bits of the bytes past `~`, in a word that has each byte less a space.

@@ -97,6 +97,25 @@ fn renew(
     }
 }
 
+/// The same, where nothing newer is shown: behind an end, a halt and self-help. These are rare, so it
+/// is one call for all of them.
+#[inline(never)]
+fn renew_old(
+    side: Side,
+    venue: VenueId,
+    standings: &Standings,
+    best: &mut Option<Best>,
+    venues: &Venues,
+    halted: &[bool; 16],
+) -> bool
+    requires { IsStale side (may_at venues.now.helped halted.now) venues.now.count venue
+        (record { best = best.old; standings = standings_on side standings.now }) }
+    ensures { Renews side (may_at venues.now.helped halted.now)
+        (standings_on side standings.now) best.old best.new result }
+{
+    renew(side, venue, false, standings, best, venues, halted)
+}
+
 /// The venue shows this, or nothing, from now on. Whether the best side is another one then.
 #[inline(always)]
 pub fn show(
@@ -147,34 +166,11 @@ pub fn hide(
 {
     match standings.at(side, venue).shown() {
         None => false,
-        Some(_) => hide_shown(side, venue, age, standings, best, venues, halted),
+        Some(_) => {
+            standings.set(side, venue, Standing::new(None, age));
+            renew_old(side, venue, standings, best, venues, halted)
+        }
     }
-}
-
-/// The same, whether or not the venue shows a side.
-#[inline(never)]
-fn hide_shown(
-    side: Side,
-    venue: VenueId,
-    age: u64,
-    standings: &mut Standings,
-    best: &mut Option<Best>,
-    venues: &Venues,
-    halted: &[bool; 16],
-) -> bool
-    requires { IsSideBut side (may_at venues.now.helped halted.now) venues.now.count venue
-        (record { best = best.old; standings = standings_on side standings.old }) }
-    ensures standings { standings.new ≡ with_standings side
-        (standings_shown venue None age (standings_on side standings.old)) standings.old }
-    ensures best { Renews side (may_at venues.now.helped halted.now)
-        (standings_shown venue None age (standings_on side standings.old))
-        best.old best.new result }
-{
-    if is_same(standings.at(side, venue).shown(), None) {
-        return false;
-    }
-    standings.set(side, venue, Standing::new(None, age));
-    renew(side, venue, false, standings, best, venues, halted)
 }
 
 /// The venue may be ranked, or may not, from now on. Whether the best side is another one then.
@@ -194,24 +190,6 @@ pub fn gate(
 {
     match standings.at(side, venue).shown() {
         None => false,
-        Some(_) => gate_shown(side, venue, standings, best, venues, halted),
+        Some(_) => renew_old(side, venue, standings, best, venues, halted),
     }
-}
-
-/// The same, whether or not the venue shows a side.
-#[inline(never)]
-fn gate_shown(
-    side: Side,
-    venue: VenueId,
-    standings: &Standings,
-    best: &mut Option<Best>,
-    venues: &Venues,
-    halted: &[bool; 16],
-) -> bool
-    requires { IsSideBut side (may_at venues.now.helped halted.now) venues.now.count venue
-        (record { best = best.old; standings = standings_on side standings.now }) }
-    ensures { Renews side (may_at venues.now.helped halted.now)
-        (standings_on side standings.now) best.old best.new result }
-{
-    renew(side, venue, false, standings, best, venues, halted)
 }
