@@ -1,5 +1,5 @@
 -- What the machine keeps, and that it stands for a world: private clauses alone cite this.
-use Rattle.std.specs.Prelude.{◌≡◌, ℕ, ◌≤◌, ◌<◌, List, [], length, filter, take, map, slice_get, Some}
+use Rattle.std.specs.Prelude.{◌≡◌, ℕ, ◌≤◌, ◌<◌, List, length, filter, take, map, slice_get, Some}
 use Rattle.feed_types.specs.declared.item.Numbered.{Numbered}
 use Rattle.feed_types.specs.declared.line.LineId.{LineId}
 use Rattle.mold_packet.specs.declared.fault.PacketFault.{PacketFault}
@@ -21,7 +21,6 @@ use Rattle.filter_terms.specs.Filters.{terms_of}
 use Rattle.feed_core.specs.declared.event.Event.{Event}
 use Rattle.feed_core.specs.VenueHalf.{waiting}
 use Rattle.feed_core.specs.Headline.{ShownVenue, ShownSubscriber, Shown}
-use Rattle.feed_types.specs.declared.config.FeedConfig.{FeedConfig}
 use Rattle.feed_types.specs.declared.journal.Entry.{Entry}
 use Rattle.feed_types.specs.declared.journal.Notice.{Notice}
 use Rattle.filter_terms.specs.Terms.{meets}

@@ -1,6 +1,6 @@
 -- A packet that goes on where nothing is held passes through: its items are the next of the stream.
 use Rattle.std.proofs.Common.{◌≡◌, ℕ, zero, suc, ◌+◌, ◌-◌, ◌<◌, ◌≤◌, Bool, true, List, [], ◌∷◌, ◌++◌, length, drop, map, Option, Some, None, Ok, refl, sym, ap, subst, ◌∙◌, arith, inl, inr, append_assoc, length-append}
-use Rattle.std.specs.Prelude.{◌↔◌, nat_le, IsSome, is_none, IfSome, slice_index_or, count_by, if◌then◌else◌}
+use Rattle.std.specs.Prelude.{◌↔◌, nat_le, IsSome, is_none, IfSome, slice_get, slice_index_or, count_by, if◌then◌else◌}
 use Rattle.std.specs.List.{range_with_len}
 use Rattle.std.specs.Option.{option_or, unwrap_or}
 use Rattle.std.proofs.lemmas.Bool.{cases_lt, lt-leb, le-leb, lt-ltb, false≢true}
@@ -10,6 +10,7 @@ use Rattle.feed_types.specs.declared.item.Item.{Item}
 use Rattle.feed_types.specs.declared.item.Item.TheVariants as items
 use Rattle.feed_types.specs.declared.item.Numbered.{Numbered}
 use Rattle.feed_types.specs.declared.line.LineId.{LineId}
+use Rattle.feed_types.specs.Prefix.{IsPrefix}
 use Rattle.feed_types.specs.Sessions.{numbered_from}
 use Rattle.mold_packet.specs.declared.packet.Kind.{Kind}
 use Rattle.mold_packet.specs.declared.packet.Kind.TheVariants as kinds
@@ -20,20 +21,21 @@ use Rattle.line_arbiter.specs.declared.outcome.Outcome.TheVariants.{Taken}
 use Rattle.line_arbiter.specs.Packets.{Arrival, arrival_of, carried, end_of, has_number, item_at, known_of, last_of, message_item}
 use Rattle.line_arbiter.specs.Streams.{end_at, front_of, item_numbered, stream_of, stream_to, wins_of}
 use Rattle.line_arbiter.specs.Outcomes.{Agrees, IsOutcome, ToKind, new_count}
-use Rattle.line_arbiter.specs.Through.{PassesThrough, SendsPacket}
+use Rattle.line_arbiter.specs.Through.{BringsNext, PassesThrough, SendsPacket}
 use Rattle.line_arbiter.specs.Counts.{count_on, shown}
-use Rattle.line_arbiter.specs.Holding.{IsEmpty, held_at}
+use Rattle.line_arbiter.specs.Holding.{IsEmpty}
 use Rattle.line_arbiter.specs.States.{State, held_of}
-use Rattle.line_arbiter.specs.Steps.{IsNext, GoesPast, ThroughStep, raised}
+use Rattle.line_arbiter.specs.Steps.{IsNext, IsNextIn, IsNextMessage, GoesPast, ThroughStep, raised}
 use Rattle.line_arbiter.specs.Fits.{Fits}
 use Rattle.line_arbiter.proofs.Standing.{Stands, stands_of, fits_of}
 use Rattle.line_arbiter.proofs.Answering.{before_is}
 use Rattle.line_arbiter.proofs.Bringing.{carried_more, end_same, known-push}
 use Rattle.line_arbiter.proofs.Counting.{count_first, count_same}
 use Rattle.line_arbiter.proofs.Cursors.{cursor, held_is, length-stream}
-use Rattle.line_arbiter.proofs.Fronts.{not_in, not_none}
+use Rattle.line_arbiter.proofs.Fronts.{IsFront, front_is, front_unique, not_in, not_none}
 use Rattle.line_arbiter.proofs.LineCounts.{wins_counted}
 use Rattle.line_arbiter.proofs.Options.{IsSome-or}
+use Rattle.line_arbiter.proofs.StreamGrowth.{stream_grows}
 
 count_all : (a n : ℕ) → count_by (λ (m : ℕ). true) (range_with_len a n) ≡ n
 count_all a zero = refl
@@ -60,7 +62,7 @@ numbered_is f a (x ∷ xs) h =
     let first = rw z at (h 0 (omega arith)) in
     rw first (ap (λ (ys : List Numbered). record { number = a; item = item_of x } ∷ ys) (numbered_is f (a + 1) xs (λ k lt. let e : a + 1 + k ≡ a + suc k = omega arith in rw e (h (suc k) (omega arith)))))
 
-module _ (line : LineId) (old new : State) (p : Content) (packets : List Arrival) (content : IsContent p) (next : IsNext old p) (past : GoesPast line old new p) (name : p.session ≡ old.session) (kind : p.kind ≡ kinds.Messages) (fits : Stands old packets) where
+module _ (line : LineId) (old : State) (p : Content) (packets : List Arrival) (content : IsContent p) (next : IsNext old p) (name : p.session ≡ old.session) (kind : p.kind ≡ kinds.Messages) (fits : Stands old packets) where
   abbrev a : Arrival
   a = record { line = line; packet = p; answer = Ok (Taken (length p.messages) 0) }
 
@@ -70,11 +72,8 @@ module _ (line : LineId) (old new : State) (p : Content) (packets : List Arrival
   last_is : last_of p ≡ old.sent + length p.messages
   last_is = let f = next.first in let n = some in omega arith
 
-  none_held : (m : ℕ) → held_at (held_of old) m ≡ None
-  none_held m = next.empty m
-
   fresh : (m : ℕ) → old.sent < m → carried packets m ≡ None
-  fresh m past = sym (held_is old packets fits m past) ∙ none_held m
+  fresh m past = sym (held_is old packets fits m past) ∙ next.empty m
 
   is_fresh : length p.messages ≡ new_count packets p
   is_fresh = sym (count_same (λ m. is_none (carried packets m)) (λ m. true) p.number (length p.messages) (λ m low high. let f = next.first in ap (λ (x : Option Item). is_none x) (fresh m (omega arith))) ∙ count_all p.number (length p.messages))
@@ -94,36 +93,17 @@ module _ (line : LineId) (old new : State) (p : Content) (packets : List Arrival
       ∙ ap (λ (x : Option Item). option_or x (if has_number p m then Some (item_at p m) else None)) (fresh m (omega arith))
       ∙ ap (λ (b : Bool). if b then Some (item_at p m) else None) (not_in p m high)
 
-  at_sent : new.sent ≡ last_of p
-  at_sent = past.sent
-
-  at_front : new.front ≡ last_of p
-  at_front = ap (λ (x : State). x.front) past.after
-
-  gone : (m : ℕ) → (if nat_le m (last_of p) then None else carried (packets ++ a ∷ []) m) ≡ None
-  gone m = elim (cases_lt (last_of p) m) [
-    | inl lt ↦ ap (λ (b : Bool). if b then None else carried (packets ++ a ∷ []) m) (lt-leb m (last_of p) lt) ∙ carried_past m lt
-    | inr le ↦ ap (λ (b : Bool). if b then None else carried (packets ++ a ∷ []) m) (le-leb m (last_of p) le)
-  ]
-
-  stands_passed : Stands new (packets ++ a ∷ [])
-  stands_passed = record {
-    front = record {
-      all = λ m one most. elim (cases_lt old.sent m) [
-        | inl lt ↦ subst (λ (x : Option Item). IsSome x) (sym (carried_in m lt (let f = at_front in omega arith))) refl
-        | inr le ↦ rw (carried_more packets a m refl) (IsSome-or (carried packets m) _ (fits.front.all m one (let w = next.whole in omega arith)))
-      ];
-      next = rw at_front (carried_past (last_of p + 1) (omega arith));
-    };
-    known = ap (λ (x : State). x.known) past.after ∙ ap (λ (k : ℕ). raised k old.end (last_of p)) fits.known ∙ ap (λ (x : Option ℕ). raised (known_of packets) x (last_of p)) fits.end ∙ sym (known-push packets a refl);
-    end = ap (λ (x : State). x.end) past.after ∙ fits.end ∙ sym (end_same packets a refl);
-    sent = rw (at_front, at_sent) (let l = length-stream (packets ++ a ∷ []) (last_of p) in omega arith);
-    held = λ m. past.empty m ∙ sym (ap (λ (k : ℕ). if nat_le m k then None else carried (packets ++ a ∷ []) m) at_sent ∙ gone m);
-    wins = λ each. ap (λ (x : State). count_on each x.wins) past.after ∙ wins_counted packets a (length p.messages) old.wins old.earlier refl content.from_one is_fresh fits.wins each ∙ ap (λ (x : State). shown (count_on each x.earlier + wins_of (packets ++ a ∷ []) each)) (sym past.after);
+  last_is_front : IsFront (packets ++ a ∷ []) (last_of p)
+  last_is_front = record {
+    all = λ m one most. elim (cases_lt old.sent m) [
+      | inl lt ↦ subst (λ (x : Option Item). IsSome x) (sym (carried_in m lt most)) refl
+      | inr le ↦ rw (carried_more packets a m refl) (IsSome-or (carried packets m) _ (fits.front.all m one (let w = next.whole in omega arith)))
+    ];
+    next = carried_past (last_of p + 1) (omega arith);
   }
 
-  pub passing_fits : Fits new (packets ++ a ∷ [])
-  passing_fits = fits_of stands_passed
+  front : front_of (packets ++ a ∷ []) ≡ last_of p
+  front = front_unique (packets ++ a ∷ []) (front_of (packets ++ a ∷ [])) (last_of p) (front_is (packets ++ a ∷ [])) last_is_front
 
   agrees : Agrees packets old.sent p
   agrees k item lt past is = let none = fresh (p.number + k) past in absurd cc
@@ -137,6 +117,10 @@ module _ (line : LineId) (old new : State) (p : Content) (packets : List Arrival
             (before_is old packets (last_of p) fits next.before, omega arith, agrees, is_fresh, omega arith),
       )
 
+  -- the stream goes on
+  pub passing_grows : IsPrefix (stream_of packets) (stream_of (packets ++ a ∷ []))
+  passing_grows = stream_grows packets a (λ e is. subst (λ (n : ℕ). n < e) (sym front) (before_is old packets (last_of p) fits next.before e (sym (end_same packets a refl) ∙ is)))
+
   numbered_in : (k : ℕ) → k < length p.messages → item_numbered (packets ++ a ∷ []) (p.number + k) ≡ record { number = p.number + k; item = message_item p k }
   numbered_in k lt =
       let f = next.first in let l = last_is in
@@ -145,12 +129,10 @@ module _ (line : LineId) (old new : State) (p : Content) (packets : List Arrival
       ∙ ap (λ (j : ℕ). record { number = p.number + k; item = message_item p j }) e
 
   -- what is sent with it, and what is ready behind it
-  pub passing_items : drop old.sent (stream_of (packets ++ a ∷ [])) ≡ numbered_from p.number (map item_of p.messages) ++ drop new.sent (stream_of (packets ++ a ∷ []))
+  pub passing_items : drop old.sent (stream_of (packets ++ a ∷ [])) ≡ numbered_from p.number (map item_of p.messages) ++ drop (last_of p) (stream_of (packets ++ a ∷ []))
   passing_items =
       let Q = packets ++ a ∷ [] in
       let n = length p.messages in
-      let front : front_of Q ≡ last_of p = sym passing_fits.front ∙ at_front in
-      let sent : new.sent ≡ last_of p = at_sent in
       let f = next.first in
       let one : 1 + old.sent ≡ p.number = omega arith in
       let E = end_at (end_of Q) (last_of p + 1) in
@@ -163,12 +145,33 @@ module _ (line : LineId) (old new : State) (p : Content) (packets : List Arrival
       ∙ ap (λ (xs : List Numbered). xs ++ E) (map-append (item_numbered Q) (range_with_len 1 old.sent) (range_with_len p.number n))
       ∙ append_assoc before here E in
       let long : length (before ++ here) ≡ last_of p = length-append before here ∙ (let x = length-map-range_with_len (item_numbered Q) 1 old.sent in let y = length-map-range_with_len (item_numbered Q) p.number n in let l = last_is in omega arith) in
-      let rest : drop new.sent (stream_of Q) ≡ E =
-      ap (λ (k : ℕ). drop k (stream_of Q)) sent ∙ ap (λ (xs : List Numbered). drop (last_of p) xs) (stream ∙ sym (append_assoc before here E)) ∙ drop_at (before ++ here) E (last_of p) long in
+      let rest : drop (last_of p) (stream_of Q) ≡ E =
+      ap (λ (xs : List Numbered). drop (last_of p) xs) (stream ∙ sym (append_assoc before here E)) ∙ drop_at (before ++ here) E (last_of p) long in
       ap (λ (xs : List Numbered). drop old.sent xs) stream
       ∙ drop_at before (here ++ E) old.sent (length-map-range_with_len (item_numbered Q) 1 old.sent)
       ∙ ap (λ (xs : List Numbered). xs ++ E) (numbered_is (item_numbered Q) p.number p.messages numbered_in)
       ∙ ap (λ (xs : List Numbered). numbered_from p.number (map item_of p.messages) ++ xs) (sym rest)
+
+  -- what the arbiter is behind it
+  module _ (new : State) (past : GoesPast line old new p) where
+    gone : (m : ℕ) → (if nat_le m (last_of p) then None else carried (packets ++ a ∷ []) m) ≡ None
+    gone m = elim (cases_lt (last_of p) m) [
+      | inl lt ↦ ap (λ (b : Bool). if b then None else carried (packets ++ a ∷ []) m) (lt-leb m (last_of p) lt) ∙ carried_past m lt
+      | inr le ↦ ap (λ (b : Bool). if b then None else carried (packets ++ a ∷ []) m) (le-leb m (last_of p) le)
+    ]
+
+    stands_passed : Stands new (packets ++ a ∷ [])
+    stands_passed = record {
+      front = subst (λ (n : ℕ). IsFront (packets ++ a ∷ []) n) (sym (ap (λ (x : State). x.front) past.after)) last_is_front;
+      known = ap (λ (x : State). x.known) past.after ∙ ap (λ (k : ℕ). raised k old.end (last_of p)) fits.known ∙ ap (λ (x : Option ℕ). raised (known_of packets) x (last_of p)) fits.end ∙ sym (known-push packets a refl);
+      end = ap (λ (x : State). x.end) past.after ∙ fits.end ∙ sym (end_same packets a refl);
+      sent = rw (ap (λ (x : State). x.front) past.after, past.sent) (let l = length-stream (packets ++ a ∷ []) (last_of p) in omega arith);
+      held = λ m. past.empty m ∙ sym (ap (λ (k : ℕ). if nat_le m k then None else carried (packets ++ a ∷ []) m) past.sent ∙ gone m);
+      wins = λ each. ap (λ (x : State). count_on each x.wins) past.after ∙ wins_counted packets a (length p.messages) old.wins old.earlier refl content.from_one is_fresh fits.wins each ∙ ap (λ (x : State). shown (count_on each x.earlier + wins_of (packets ++ a ∷ []) each)) (sym past.after);
+    }
+
+    pub passing_fits : Fits new (packets ++ a ∷ [])
+    passing_fits = fits_of stands_passed
 
 -- the packet passes through exactly where it is the next one in the arbiter's state
 pub next_of_packets : (s : State) (packets : List Arrival) (p : Content) → Stands s packets → IsContent p → PassesThrough s.session s.window s.sent packets p → IsNext s p
@@ -211,12 +214,51 @@ module _ (line : LineId) (old new : State) (p : Content) (content : IsContent p)
 
   pub outcome_some : (r : Option Outcome) → ThroughStep line old new p r → (packets : List Arrival) → Fits old packets → IfSome r (λ o. IsOutcome old.session old.window old.sent packets p (Ok o))
   outcome_some None step packets fits = tt
-  outcome_some (Some o) step packets fits = rw step.2 (passing_answer line old new p packets content step.0 step.1 name kind (stands_of fits))
+  outcome_some (Some o) step packets fits = rw step.2 (passing_answer line old p packets content step.0 name kind (stands_of fits))
 
   pub fits_some : (r : Option Outcome) → ThroughStep line old new p r → (packets : List Arrival) → Fits old packets → IfSome r (λ o. Fits new (packets ++ arrival_of line p (Ok o) ∷ []))
   fits_some None step packets fits = tt
-  fits_some (Some o) step packets fits = rw step.2 (passing_fits line old new p packets content step.0 step.1 name kind (stands_of fits))
+  fits_some (Some o) step packets fits = rw step.2 (passing_fits line old p packets content step.0 name kind (stands_of fits) new step.1)
 
   pub items_some : (r : Option Outcome) → ThroughStep line old new p r → (packets : List Arrival) → Fits old packets → IfSome r (λ o. SendsPacket old.sent new.sent p (packets ++ arrival_of line p (Ok o) ∷ []))
   items_some None step packets fits = tt
-  items_some (Some o) step packets fits = rw step.2 (passing_items line old new p packets content step.0 step.1 name kind (stands_of fits))
+  items_some (Some o) step packets fits = rw (step.2, step.1.sent) (passing_items line old p packets content step.0 name kind (stands_of fits))
+
+-- ---- a packet of one message
+
+get_drop : {X : Type 0} (n : ℕ) (xs ys : List X) (x : X) → drop n xs ≡ x ∷ ys → Some x ≡ slice_get xs n
+get_drop zero [] ys x e = absurd cc
+get_drop zero (z ∷ zs) ys x e = cc
+get_drop (suc n) [] ys x e = absurd cc
+get_drop (suc n) (z ∷ zs) ys x e = get_drop n zs ys x e
+
+first_number : (n : ℕ) (x : Numbered) (xs : List Item) → x ∷ [] ≡ numbered_from n xs → x.number ≡ n
+first_number n x [] e = absurd cc
+first_number n x (y ∷ ys) e = cc
+
+module _ (s : State) (p : Content) (content : IsContent p) (name : p.session ≡ s.session) (kind : p.kind ≡ kinds.Messages) (one : length p.messages ≡ 1) where
+  pub next_iff : (r : Option Numbered) → IsNextIn s p r → (packets : List Arrival) → Fits s packets → IsSome r ↔ (PassesThrough s.session s.window s.sent packets p × (length p.messages ≡ 1))
+  next_iff None step packets fits = (λ some. absurd (false≢true some), λ by. absurd (step (next_of_packets s packets p (stands_of fits) content by.0)))
+  next_iff (Some x) step packets fits = (λ some. (through_next s packets p (stands_of fits) name kind step.0, one), λ by. refl)
+
+  pub brings_some : (r : Option Numbered) → IsNextIn s p r → (packets : List Arrival) (line : LineId) → Fits s packets → IfSome r (λ x. BringsNext s.session s.window s.sent packets line p x)
+  brings_some None step packets line fits = tt
+  brings_some (Some x) step packets line fits =
+      let stands = stands_of fits in
+      let added : ℕ → List Arrival = λ n. packets ++ arrival_of line p (Ok (Taken n 0)) ∷ [] in
+      let S = stream_of (added (length p.messages)) in
+      record {
+        answer = subst (λ (n : ℕ). IsOutcome s.session s.window s.sent packets p (Ok (Taken n 0))) one (passing_answer line s p packets content step.0 name kind stands);
+        grows = subst (λ (n : ℕ). IsPrefix (stream_of packets) (stream_of (added n))) one (passing_grows line s p packets content step.0 name kind stands);
+        item = subst (λ (n : ℕ). Some x ≡ slice_get (stream_of (added n)) s.sent) one
+            (get_drop s.sent S (drop (last_of p) S) x (passing_items line s p packets content step.0 name kind stands ∙ ap (λ (xs : List Numbered). xs ++ drop (last_of p) S) (sym step.1)));
+      }
+
+  pub number_some : (r : Option Numbered) → IsNextIn s p r → IfSome r (λ x. x.number ≡ p.number)
+  number_some None step = tt
+  number_some (Some x) step = first_number p.number x (map item_of p.messages) step.1
+
+-- the arbiter behind it
+pub passed_one : (line : LineId) (old new : State) (p : Content) (packets : List Arrival) (o : Outcome) → IsContent p → IsNextMessage old p → GoesPast line old new p → o ≡ Taken (length p.messages) 0 → Fits old packets
+    → Fits new (packets ++ arrival_of line p (Ok o) ∷ [])
+passed_one line old new p packets o content by past is fits = rw is (passing_fits line old p packets content by.next by.name by.kind (stands_of fits) new past)

@@ -1,12 +1,15 @@
 -- What one packet changes in an arbiter, said of its state alone. Only private clauses cite this
 -- file.
-use Rattle.std.specs.Prelude.{◌≡◌, ◌≢◌, ℕ, ◌+◌, ◌-◌, ◌^◌, ◌<◌, nat_eq, ◌⊎◌, Option, Some, None, IsSome, length, max, Result, Ok, Err, ◌≤◌, if◌then◌else◌}
+use Rattle.std.specs.Prelude.{◌≡◌, ◌≢◌, ℕ, ◌+◌, ◌-◌, ◌^◌, ◌<◌, nat_eq, ◌⊎◌, Option, Some, None, IsSome, [], ◌∷◌, length, map, max, Result, Ok, Err, ◌≤◌, if◌then◌else◌}
 use Rattle.feed_types.specs.declared.item.Item.{Item}
+use Rattle.feed_types.specs.declared.item.Numbered.{Numbered}
 use Rattle.feed_types.specs.declared.line.LineId.{LineId}
 use Rattle.feed_types.specs.declared.line.LineId.TheVariants.{A, B, Recovery}
 use Rattle.mold_packet.specs.declared.packet.Kind.{Kind}
 use Rattle.mold_packet.specs.declared.packet.Kind.TheVariants as kinds
+use Rattle.feed_types.specs.Sessions.{numbered_from}
 use Rattle.mold_packet.specs.Content.{Content}
+use Rattle.quote_payload.specs.Payload.{item_of}
 use Rattle.line_arbiter.specs.declared.outcome.Outcome.{Outcome}
 use Rattle.line_arbiter.specs.declared.outcome.Outcome.TheVariants.{Taken, Heartbeat, Ended, Ahead}
 use Rattle.line_arbiter.specs.declared.outcome.LineFault.{LineFault}
@@ -132,6 +135,13 @@ pub record IsNext (s : State) (p : Content) : Type 0 where
   pub before : IsBefore s.end (last_of p)
   pub within : length p.messages ≤ s.window
 
+-- the same of a packet of the session that has one message
+pub record IsNextMessage (s : State) (p : Content) : Type 0 where
+  pub name : p.session ≡ s.session
+  pub kind : p.kind ≡ kinds.Messages
+  pub one : length p.messages ≡ 1
+  pub next : IsNext s p
+
 -- the cursors have gone past the packet, and still nothing is held
 pub record GoesPast (line : LineId) (old new : State) (p : Content) : Type 0 where
   pub empty : IsEmpty (held_of new)
@@ -149,6 +159,12 @@ abbrev pub ThroughStep : LineId → State → State → Content → Option Outco
 ThroughStep line old new p None = (new ≡ old) × (IsNext old p → ⊥)
 ThroughStep line old new p (Some answer) =
     IsNext old p × GoesPast line old new p × (answer ≡ Taken (length p.messages) 0)
+
+-- the item of a packet of one message of the session, where it is the next one
+abbrev pub IsNextIn : State → Content → Option Numbered → Type 0
+IsNextIn s p None = IsNext s p → ⊥
+IsNextIn s p (Some next) =
+    IsNext s p × (next ∷ [] ≡ numbered_from p.number (map item_of p.messages))
 
 -- the answer to a packet of messages of the session that may all have been sent
 abbrev pub SentStep : LineId → State → State → Content → Option Outcome → Type 0

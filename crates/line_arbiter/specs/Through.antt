@@ -1,12 +1,16 @@
 -- Which packets pass through an arbiter, what one sends, and which come after all that they bring.
-use Rattle.std.specs.Prelude.{◌≡◌, ℕ, ◌+◌, ◌<◌, ◌≤◌, List, ◌++◌, None, drop, length, map}
+use Rattle.std.specs.Prelude.{◌≡◌, ℕ, ◌+◌, ◌<◌, ◌≤◌, List, [], ◌∷◌, ◌++◌, Ok, Some, None, drop, length, map, slice_get}
+use Rattle.feed_types.specs.declared.item.Numbered.{Numbered}
+use Rattle.feed_types.specs.declared.line.LineId.{LineId}
+use Rattle.feed_types.specs.Prefix.{IsPrefix}
 use Rattle.feed_types.specs.Sessions.{numbered_from}
 use Rattle.mold_packet.specs.declared.packet.Kind.TheVariants as kinds
 use Rattle.mold_packet.specs.Content.{Content}
 use Rattle.quote_payload.specs.Payload.{item_of}
-use Rattle.line_arbiter.specs.Packets.{Arrival, carried, end_of, last_of}
+use Rattle.line_arbiter.specs.declared.outcome.Outcome.TheVariants.{Taken}
+use Rattle.line_arbiter.specs.Packets.{Arrival, arrival_of, carried, end_of, last_of}
 use Rattle.line_arbiter.specs.Streams.{stream_of}
-use Rattle.line_arbiter.specs.Outcomes.{IsBefore}
+use Rattle.line_arbiter.specs.Outcomes.{IsBefore, IsOutcome}
 
 -- A packet of messages of the session goes on where all that was taken was sent: its first number
 -- is the next one, its last lies before the end, and it is no longer than the window.
@@ -32,3 +36,13 @@ pub record WasSent (session : List ℕ) (sent : ℕ) (packets : List Arrival) (p
   pub kind : p.kind ≡ kinds.Messages
   pub all : last_of p ≤ sent
   pub before : IsBefore (end_of packets) (last_of p)
+
+-- What a packet of one message that passes through brings, on whichever line it comes: it is
+-- answered as new, the stream stays as it is up to there, and there stands its item.
+pub record BringsNext (session : List ℕ) (window sent : ℕ) (packets : List Arrival)
+    (line : LineId) (p : Content) (next : Numbered) : Type 0 where
+  pub answer : IsOutcome session window sent packets p (Ok (Taken 1 0))
+  pub grows : IsPrefix (stream_of packets)
+      (stream_of (packets ++ arrival_of line p (Ok (Taken 1 0)) ∷ []))
+  pub item : Some next
+      ≡ slice_get (stream_of (packets ++ arrival_of line p (Ok (Taken 1 0)) ∷ [])) sent

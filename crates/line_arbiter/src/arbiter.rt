@@ -8,13 +8,13 @@ ghost use Rattle.line_arbiter.specs.Streams.{IsComplete, stream_of, gap_of, wins
 ghost use Rattle.line_arbiter.specs.Outcomes.{IsBefore, IsOutcome, IsPast};
 ghost use Rattle.line_arbiter.specs.Renewals.{HasEnded, IsRenewal};
 ghost use Rattle.line_arbiter.specs.Genuine.{AreGenuine, IsGenuineItem};
-ghost use Rattle.line_arbiter.specs.Through.{PassesThrough, SendsPacket, WasSent};
+ghost use Rattle.line_arbiter.specs.Through.{BringsNext, PassesThrough, SendsPacket, WasSent};
 ghost use Rattle.line_arbiter.specs.Counts.{count_on, shown};
 ghost use Rattle.line_arbiter.specs.States.{held_of, ordinal_of, next_of, ShowsCursors, IsNew, KeepsItsPlace, KeepsItsSession, IsAdvanced, IsRenewed};
 ghost use Rattle.line_arbiter.specs.Holding.{HeldAgrees};
 ghost use Rattle.line_arbiter.specs.Comparing.{AreThere};
 ghost use Rattle.line_arbiter.specs.Fits.{Fits, cursors_of};
-ghost use Rattle.line_arbiter.specs.Steps.{IsSound, IsNext, DropsNext, ThroughStep, SentStep, MessagesStep, HeartbeatStep, EndStep, PacketStep, raised as raised_to};
+ghost use Rattle.line_arbiter.specs.Steps.{IsSound, IsNext, DropsNext, GoesPast, IsNextIn, IsNextMessage, ThroughStep, SentStep, MessagesStep, HeartbeatStep, EndStep, PacketStep, raised as raised_to};
 
 use crate::faults::{ArbiterFault, RenewFault};
 use crate::intake::{Comparison, compare, fill, run_after};
@@ -25,6 +25,7 @@ use crate::wins::Wins;
 use arrayvec::ArrayVec;
 use feed_types::{Genuine, Item, LineId, Numbered, VenueId};
 use mold_packet::{Kind, Packet, Request};
+use quote_payload::read_item;
 use std::alloc::Global;
 use std::marker::{Model, PhantomData};
 
@@ -282,6 +283,22 @@ impl<G: Genuine> Arbiter<G> {
             && !is_past(self.end_number, last)
     }
 
+    /// Goes past a packet of messages that are the next ones.
+    #[inline(always)]
+    fn pass(&mut self, line: LineId, packet: &Packet<'_>, last: u64) -> Outcome
+        requires last { last ≡ last_of packet.now }
+        requires next { IsNext self.old packet.now }
+        ensures past { GoesPast line self.old self.new packet.now }
+        ensures outcome { result ≡ Outcome.Taken (length packet.now.messages) 0 }
+    {
+        let new = packet.count();
+        self.held.move_to(last);
+        self.run_to = last;
+        self.known_to = raised(self.known_to, self.end_number, last);
+        self.won.add(line, new);
+        Outcome::Taken { new, repeated: 0 }
+    }
+
     fn pass_messages(&mut self, line: LineId, packet: &Packet<'_>) -> Option<Outcome>
         requires { packet.now.kind ≡ Kind.Messages }
         ensures { ThroughStep line self.old self.new packet.now result }
@@ -290,12 +307,24 @@ impl<G: Genuine> Arbiter<G> {
         if !self.is_next(packet, last) {
             return None;
         }
-        let new = packet.count();
-        self.held.move_to(last);
-        self.run_to = last;
-        self.known_to = raised(self.known_to, self.end_number, last);
-        self.won.add(line, new);
-        Some(Outcome::Taken { new, repeated: 0 })
+        Some(self.pass(line, packet, last))
+    }
+
+    /// The item of the packet's one message, where it is the next one and nothing is held.
+    fn next_message(&self, packet: &Packet<'_>) -> Option<Numbered>
+        requires kind { packet.now.kind ≡ Kind.Messages }
+        requires one { length packet.now.messages ≡ 1 }
+        ensures { IsNextIn self.now packet.now result }
+    {
+        let number = packet.number();
+        if !self.is_next(packet, number) {
+            return None;
+        }
+        let message = packet.messages().next()?;
+        Some(Numbered {
+            number,
+            item: read_item(message),
+        })
     }
 
     #[inline(always)]
@@ -408,6 +437,42 @@ impl<G: Genuine> Arbiter<G> {
             Kind::Messages => self.pass_messages(line, packet),
             Kind::Heartbeat | Kind::End => None,
         }
+    }
+
+    /// The item of a packet of one message that goes on where nothing is held: the next one of the
+    /// stream. It can be sent on first, and the packet be taken then, by `pass_next`. `None` for any
+    /// other packet.
+    pub fn next_in(&self, packet: &Packet<'_>) -> Option<Numbered>
+        ensures through { (packets : List Arrival) → Fits self.now packets
+            → (IsSome result ↔ (PassesThrough self.now.session self.now.window self.now.sent packets
+            packet.now × (length packet.now.messages ≡ 1))) }
+        ensures brings { (packets : List Arrival) (line : LineId) → Fits self.now packets
+            → IfSome result (BringsNext self.now.session self.now.window self.now.sent packets line
+            packet.now) }
+        ensures number { IfSome result (λ next. next.number ≡ packet.now.number) }
+        ensures passes { IfSome result (λ _. IsNextMessage self.now packet.now) }
+        ensures content { IsContent packet.now }
+    {
+        if packet.count() != 1 || !is_same_name(&packet.session(), &self.session_name) {
+            return None;
+        }
+        match packet.kind() {
+            Kind::Messages => self.next_message(packet),
+            Kind::Heartbeat | Kind::End => None,
+        }
+    }
+
+    /// Takes a packet of one message whose item `next_in` gave and that was sent on: all of it is
+    /// new, and the arbiter has gone past it. The answer is that of `take`.
+    pub fn pass_next(&mut self, line: LineId, packet: &Packet<'_>) -> Outcome
+        requires { IsNextMessage self.old packet.now }
+        ensures outcome { result ≡ Outcome.Taken 1 0 }
+        ensures fits { (packets : List Arrival) → Fits self.old packets
+            → Fits self.new (packets ++ arrival_of line packet.now (Ok result) ∷ []) }
+        ensures sent { self.new.sent ≡ self.old.sent + 1 }
+        ensures kept { KeepsItsSession self.old self.new }
+    {
+        self.pass(line, packet, packet.number())
     }
 
     /// Takes a packet of messages that were all sent, as on the line that comes second. The answer is

@@ -1,5 +1,5 @@
 -- What a packet, a push and a renewal leave of a venue's cell, said of plain states.
-use Rattle.std.proofs.Common.{◌≡◌, ℕ, ◌+◌, true, false, List, [], ◌∷◌, ◌++◌, length, map, take, drop, Option, Some, None, Result, Ok, Err, refl, sym, ap, subst, ◌∙◌, arith, append_assoc, append-nil, length-append}
+use Rattle.std.proofs.Common.{◌≡◌, ℕ, ◌+◌, ◌≤◌, true, false, List, [], ◌∷◌, ◌++◌, length, map, take, drop, Option, Some, None, Result, Ok, Err, refl, sym, ap, subst, ◌∙◌, arith, append_assoc, append-nil, length-append}
 use Rattle.std.specs.Prelude.{slice_get, if◌then◌else◌}
 use Rattle.std.proofs.lemmas.List.{take-append-drop}
 use Rattle.std.proofs.lemmas.List.Sums.{fold-append, sum_by-append}
@@ -12,21 +12,23 @@ use Rattle.feed_types.specs.SequenceLaws.{prefix_in_sequence}
 use Rattle.feed_types.specs.Sessions.{SessionNames}
 use Rattle.mold_packet.specs.Content.{Content, IsContent}
 use Rattle.line_arbiter.specs.declared.outcome.Outcome.{Outcome}
+use Rattle.line_arbiter.specs.declared.outcome.Outcome.TheVariants.{Taken}
 use Rattle.line_arbiter.specs.declared.outcome.LineFault.{LineFault}
 use Rattle.line_arbiter.specs.Packets.{Arrival, arrival_of}
 use Rattle.line_arbiter.specs.Streams.{IsComplete, is_same_line, stream_of, wins_of}
 use Rattle.line_arbiter.specs.Outcomes.{IsOutcome}
 use Rattle.line_arbiter.specs.Genuine.{IsGenuine}
+use Rattle.line_arbiter.specs.Through.{BringsNext}
 use Rattle.line_arbiter.specs.Histories.{Begun, History, all_begun, items_of, new_history, new_session, streams_of, after_arrival}
 use Rattle.line_arbiter.specs.Counts.{count_on, no_counts, shown}
-use Rattle.line_arbiter.specs.States.{State, ordinal_of, KeepsItsPlace, IsAdvanced, IsNew, IsRenewed}
+use Rattle.line_arbiter.specs.States.{State, ordinal_of, KeepsItsPlace, KeepsItsSession, IsAdvanced, IsNew, IsRenewed}
 use Rattle.line_arbiter.specs.Fits.{Fits}
 use Rattle.fifo_lane.specs.Lane.{LaneEnd, with_items, WasFull}
 use Rattle.feed_core.proofs.VenueHalfLaw.{items_push}
 use Rattle.live_feed.specs.Lanes.{FeedLanes}
 use Rattle.live_feed.specs.Sums.{Sums, no_sums, sums_after, accepted_on, sums_on, line_sums_after, LineSums}
 use Rattle.live_feed.specs.Cells.{CellState, FitsCell, AreGivenFrom, IsKept, arrivals_of, new_cell, wins_in}
-use Rattle.live_feed.specs.Sections.{TakesPacket, IsAnsweredBy, PushesOne, RenewsSession}
+use Rattle.live_feed.specs.Sections.{TakesPacket, IsAnsweredBy, PassesPacket, PushesOne, RenewsSession}
 use Rattle.line_arbiter.specs.Renewals.{IsRenewal}
 use Rattle.live_feed.specs.declared.unsent.Unsent.TheVariants as unsent
 use Rattle.live_feed.proofs.Histories.{take_same, take_next, get_sent, names_same, names_length, arrivals_push, arrivals_more, given_more, present_more, next_given, streams_sequence}
@@ -51,6 +53,16 @@ no_more A s p fault = refl
 no_more B s p fault = refl
 no_more Recovery s p fault = refl
 
+-- with one packet more they are those of all packets
+sums_more : (old : CellState) (sums : LineSums) (h : History) (line : LineId) (p : Content) (answer : Result Outcome LineFault) → FitsCell old h → sums ≡ line_sums_after line p answer old.accepted
+    → (l : LineId) → sums_on l sums ≡ accepted_on l (arrivals_of (all_begun (after_arrival h (arrival_of line p answer))))
+sums_more old sums h line p answer f is l =
+    ap (sums_on l) is
+    ∙ adds_on line l old.accepted p answer
+    ∙ ap (λ (s : Sums). if is_same_line line l then sums_after s p answer else s) (f.accepted l)
+    ∙ sym (fold-append (λ (s : Sums) (x : Arrival). if is_same_line x.line l then sums_after s x.packet x.answer else s) no_sums (arrivals_of (all_begun h)) (arrival_of line p answer ∷ []))
+    ∙ ap (accepted_on l) (sym (arrivals_more h (arrival_of line p answer)))
+
 -- ---- a packet
 
 module _ (old new : CellState) (h : History) (line : LineId) (p : Content) (answer : Result Outcome LineFault) (f : FitsCell old h) (lane : new.lane ≡ old.lane) (kept : KeepsItsPlace old.arbiter new.arbiter)
@@ -58,14 +70,6 @@ module _ (old new : CellState) (h : History) (line : LineId) (p : Content) (answ
     (sums : new.accepted ≡ line_sums_after line p answer old.accepted) where
   abbrev a : Arrival
   a = arrival_of line p answer
-
-  packet_sums : (l : LineId) → sums_on l new.accepted ≡ accepted_on l (arrivals_of (all_begun (after_arrival h a)))
-  packet_sums l =
-      ap (sums_on l) sums
-      ∙ adds_on line l old.accepted p answer
-      ∙ ap (λ (s : Sums). if is_same_line line l then sums_after s p answer else s) (f.accepted l)
-      ∙ sym (fold-append (λ (s : Sums) (x : Arrival). if is_same_line x.line l then sums_after s x.packet x.answer else s) no_sums (arrivals_of (all_begun h)) (a ∷ []))
-      ∙ ap (accepted_on l) (sym (arrivals_more h a))
 
   pub packet_fits : FitsCell new (after_arrival h a)
   packet_fits = record {
@@ -77,7 +81,7 @@ module _ (old new : CellState) (h : History) (line : LineId) (p : Content) (answ
         ∙ ap (λ (xs : List Numbered). items_of h.earlier ++ xs)
         (sym (take_same (stream_of h.present.packets) (stream_of (h.present.packets ++ a ∷ [])) old.arbiter.sent grows f.fits.sent) ∙ ap (λ (n : ℕ). take n (stream_of (h.present.packets ++ a ∷ []))) (sym kept.sent));
     earlier = λ l. ap (count_on l) kept.earlier ∙ f.earlier l;
-    accepted = packet_sums;
+    accepted = sums_more old new.accepted h line p answer f sums;
   }
 
   right_at : IsOutcome old.arbiter.session old.arbiter.window old.arbiter.sent h.present.packets p answer → IsOutcome h.present.name old.arbiter.window old.arbiter.sent h.present.packets p answer
@@ -93,10 +97,11 @@ answered sessions carries ends lanes old new venue line p answer k venue_is take
 pub ordinal_is : (c : CellState) (h : History) → FitsCell c h → ordinal_of c.arbiter ≡ 1 + length h.earlier
 ordinal_is c h f = ap length f.names ∙ names_length h
 
-pub packet_kept : (sessions : SessionNames) (carries : Carries) (ends : Ends) (lanes : FeedLanes) (old new : CellState) (line : LineId) (p : Content) (answer : Result Outcome LineFault) (k : IsKept sessions carries ends lanes old)
-    → new.lane ≡ old.lane → KeepsItsPlace old.arbiter new.arbiter → FitsCell new (after_arrival k.history (arrival_of line p answer)) → IsContent p
-    → IsOutcome old.arbiter.session old.arbiter.window old.arbiter.sent k.history.present.packets p answer → IsGenuine sessions carries ends old.arbiter.venue p → IsKept sessions carries ends lanes new
-packet_kept sessions carries ends lanes old new line p answer k lane kept fits content o genuine =
+-- what was given, with one packet more
+pub given_after : (sessions : SessionNames) (carries : Carries) (ends : Ends) (lanes : FeedLanes) (old : CellState) (line : LineId) (p : Content) (answer : Result Outcome LineFault) (k : IsKept sessions carries ends lanes old) → IsContent p
+    → IsOutcome old.arbiter.session old.arbiter.window old.arbiter.sent k.history.present.packets p answer → IsGenuine sessions carries ends old.arbiter.venue p
+    → AreGivenFrom carries ends old.arbiter.venue old.arbiter.window 1 k.history.earlier (after_arrival k.history (arrival_of line p answer)).present
+given_after sessions carries ends lanes old line p answer k content o genuine =
     let h = k.history in
     let f = k.fits in
     let venue = old.arbiter.venue in
@@ -104,45 +109,62 @@ packet_kept sessions carries ends lanes old new line p answer k lane kept fits c
     let right = subst (λ (n : List ℕ). IsOutcome n window old.arbiter.sent h.present.packets p answer) f.session o in
     let ordinal : ordinal_of old.arbiter ≡ 1 + length h.earlier = ordinal_is old h f in
     let named : sessions venue (1 + length h.earlier) h.present.name = subst (λ (x : ℕ × List ℕ). sessions venue x.0 x.1) (λ i. (ordinal i, f.session i)) k.named in
-    let given = present_more carries ends venue window 1 h.earlier h.present (after_arrival h (arrival_of line p answer)).present
+    present_more carries ends venue window 1 h.earlier h.present (after_arrival h (arrival_of line p answer)).present
     (given_more carries ends venue window (1 + length h.earlier) h.present (arrival_of line p answer) (λ same. genuine (1 + length h.earlier) (subst (λ (n : List ℕ). sessions venue (1 + length h.earlier) n) (sym same) named)) (record { content = content; sent = old.arbiter.sent; outcome = right }))
-    k.given in
-    record {
-      history = after_arrival h (arrival_of line p answer);
-      fits = fits;
-      given = subst (λ (x : ℕ × ℕ). AreGivenFrom carries ends x.0 x.1 1 h.earlier (after_arrival h (arrival_of line p answer)).present) (λ i. (sym kept.venue i, sym kept.window i)) given;
-      named = subst (λ (x : ℕ × (List (List ℕ) × List ℕ)). sessions x.0 (length x.1.0) x.1.1) (λ i. (sym kept.venue i, (sym kept.sessions i, sym kept.session i))) k.named;
-      tag = ap (λ (e : LaneEnd Numbered). e.tag) lane ∙ k.tag ∙ sym kept.venue;
-      lane = ap (slice_get lanes.venues) kept.venue ∙ k.lane ∙ ap (λ (e : LaneEnd Numbered). Some e.lane) (sym lane);
-    }
+    k.given
+
+-- a cell of the same session, which was given one packet more
+module _ (sessions : SessionNames) (carries : Carries) (ends : Ends) (lanes : FeedLanes) (old new : CellState) (line : LineId) (p : Content) (answer : Result Outcome LineFault) (k : IsKept sessions carries ends lanes old)
+    (kept : KeepsItsSession old.arbiter new.arbiter) (tag : new.lane.tag ≡ old.lane.tag) (lane : new.lane.lane ≡ old.lane.lane) (fits : FitsCell new (after_arrival k.history (arrival_of line p answer))) (content : IsContent p)
+    (o : IsOutcome old.arbiter.session old.arbiter.window old.arbiter.sent k.history.present.packets p answer) (genuine : IsGenuine sessions carries ends old.arbiter.venue p) where
+  pub more_kept : IsKept sessions carries ends lanes new
+  more_kept = record {
+    history = after_arrival k.history (arrival_of line p answer);
+    fits = fits;
+    given = subst (λ (x : ℕ × ℕ). AreGivenFrom carries ends x.0 x.1 1 k.history.earlier (after_arrival k.history (arrival_of line p answer)).present) (λ i. (sym kept.venue i, sym kept.window i))
+        (given_after sessions carries ends lanes old line p answer k content o genuine);
+    named = subst (λ (x : ℕ × (List (List ℕ) × List ℕ)). sessions x.0 (length x.1.0) x.1.1) (λ i. (sym kept.venue i, (sym kept.sessions i, sym kept.session i))) k.named;
+    tag = tag ∙ k.tag ∙ sym kept.venue;
+    lane = ap (slice_get lanes.venues) kept.venue ∙ k.lane ∙ ap Some (sym lane);
+  }
+
+pub packet_kept : (sessions : SessionNames) (carries : Carries) (ends : Ends) (lanes : FeedLanes) (old new : CellState) (line : LineId) (p : Content) (answer : Result Outcome LineFault) (k : IsKept sessions carries ends lanes old)
+    → new.lane ≡ old.lane → KeepsItsPlace old.arbiter new.arbiter → FitsCell new (after_arrival k.history (arrival_of line p answer)) → IsContent p
+    → IsOutcome old.arbiter.session old.arbiter.window old.arbiter.sent k.history.present.packets p answer → IsGenuine sessions carries ends old.arbiter.venue p → IsKept sessions carries ends lanes new
+packet_kept sessions carries ends lanes old new line p answer k lane kept fits content o genuine =
+    let same : KeepsItsSession old.arbiter new.arbiter = record { venue = kept.venue; sessions = kept.sessions; session = kept.session; window = kept.window; earlier = kept.earlier } in
+    more_kept sessions carries ends lanes old new line p answer k same (ap (λ (e : LaneEnd Numbered). e.tag) lane) (ap (λ (e : LaneEnd Numbered). e.lane) lane) fits content o genuine
 
 -- ---- a push
 
-module _ (c : CellState) (h : History) (f : FitsCell c h) where
+-- the items that were sent are the first so many of the streams
+module _ (items : List Numbered) (sent : ℕ) (h : History) (is : items ≡ items_of h.earlier ++ take sent (stream_of h.present.packets)) where
   -- the next item of all streams is that of the present one
-  pub next_is : slice_get (streams_of h) (length c.lane.items) ≡ slice_get (stream_of h.present.packets) c.arbiter.sent
-  next_is =
-      ap (λ (xs : List Numbered). slice_get xs (length c.lane.items)) (items_push h.earlier h.present)
-      ∙ get_sent (items_of h.earlier) (stream_of h.present.packets) c.lane.items c.arbiter.sent f.sent f.fits.sent
+  pub next_is : sent ≤ length (stream_of h.present.packets) → slice_get (streams_of h) (length items) ≡ slice_get (stream_of h.present.packets) sent
+  next_is le =
+      ap (λ (xs : List Numbered). slice_get xs (length items)) (items_push h.earlier h.present)
+      ∙ get_sent (items_of h.earlier) (stream_of h.present.packets) items sent is le
 
-  sent_more : (x : Numbered) (n : ℕ) → n ≡ c.arbiter.sent + 1 → Some x ≡ slice_get (stream_of h.present.packets) c.arbiter.sent
-      → c.lane.items ++ x ∷ [] ≡ items_of h.earlier ++ take n (stream_of h.present.packets)
-  sent_more x n is e =
-      ap (λ (xs : List Numbered). xs ++ x ∷ []) f.sent
-      ∙ append_assoc (items_of h.earlier) (take c.arbiter.sent (stream_of h.present.packets)) (x ∷ [])
-      ∙ ap (λ (xs : List Numbered). items_of h.earlier ++ xs) (sym (take_next (stream_of h.present.packets) c.arbiter.sent n x is e))
+  sent_more : (x : Numbered) (n : ℕ) → n ≡ sent + 1 → Some x ≡ slice_get (stream_of h.present.packets) sent → items ++ x ∷ [] ≡ items_of h.earlier ++ take n (stream_of h.present.packets)
+  sent_more x n one e =
+      ap (λ (xs : List Numbered). xs ++ x ∷ []) is
+      ∙ append_assoc (items_of h.earlier) (take sent (stream_of h.present.packets)) (x ∷ [])
+      ∙ ap (λ (xs : List Numbered). items_of h.earlier ++ xs) (sym (take_next (stream_of h.present.packets) sent n x one e))
 
   -- it may be sent
-  pub may_push : (carries : Carries) (ends : Ends) (venue window : ℕ) (x : Numbered) → AreGivenFrom carries ends venue window 1 h.earlier h.present → Some x ≡ slice_get (stream_of h.present.packets) c.arbiter.sent
-      → IsInSequence carries ends venue (c.lane.items ++ x ∷ [])
+  pub may_push : (carries : Carries) (ends : Ends) (venue window : ℕ) (x : Numbered) → AreGivenFrom carries ends venue window 1 h.earlier h.present → Some x ≡ slice_get (stream_of h.present.packets) sent → IsInSequence carries ends venue (items ++ x ∷ [])
   may_push carries ends venue window x given e =
       let stream = stream_of h.present.packets in
-      let n = c.arbiter.sent + 1 in
+      let n = sent + 1 in
       let whole : streams_of h ≡ (items_of h.earlier ++ take n stream) ++ drop n stream =
       items_push h.earlier h.present ∙ ap (λ (xs : List Numbered). items_of h.earlier ++ xs) (sym (take-append-drop n stream)) ∙ sym (append_assoc (items_of h.earlier) (take n stream) (drop n stream)) in
       let all : IsInSequence carries ends venue ((items_of h.earlier ++ take n stream) ++ drop n stream) =
       subst (λ (xs : List Numbered). IsInSequence carries ends venue xs) whole (streams_sequence carries ends venue window h given) in
       subst (λ (xs : List Numbered). IsInSequence carries ends venue xs) (sym (sent_more x n refl e)) (prefix_in_sequence carries ends venue (items_of h.earlier ++ take n stream) (drop n stream) all)
+
+module _ (c : CellState) (h : History) (f : FitsCell c h) where
+  next_of_cell : slice_get (streams_of h) (length c.lane.items) ≡ slice_get (stream_of h.present.packets) c.arbiter.sent
+  next_of_cell = next_is c.lane.items c.arbiter.sent h f.sent f.fits.sent
 
   pub push_fits : (new : CellState) (x : Numbered) → Some x ≡ slice_get (stream_of h.present.packets) c.arbiter.sent → new.lane ≡ with_items c.lane (c.lane.items ++ x ∷ []) → new.accepted ≡ c.accepted
       → IsAdvanced c.arbiter new.arbiter → Fits new.arbiter h.present.packets → FitsCell new h
@@ -150,7 +172,7 @@ module _ (c : CellState) (h : History) (f : FitsCell c h) where
     fits = fits;
     names = advanced.kept.sessions ∙ f.names;
     session = advanced.kept.session ∙ f.session;
-    sent = ap (λ (e : LaneEnd Numbered). e.items) lane ∙ sent_more x new.arbiter.sent advanced.sent e;
+    sent = ap (λ (e : LaneEnd Numbered). e.items) lane ∙ sent_more c.lane.items c.arbiter.sent h f.sent x new.arbiter.sent advanced.sent e;
     earlier = λ l. ap (count_on l) advanced.kept.earlier ∙ f.earlier l;
     accepted = λ l. ap (sums_on l) sums ∙ f.accepted l;
   }
@@ -160,7 +182,7 @@ module _ (c : CellState) (h : History) (f : FitsCell c h) where
   pushes may_send new x number e is lane fits = record {
     full = false;
     was_full = λ t. absurd cc;
-    comes = rw (next_is, ← e, is) (refl, ap (λ (e : LaneEnd Numbered). e.items) lane);
+    comes = rw (next_of_cell, ← e, is) (refl, ap (λ (e : LaneEnd Numbered). e.items) lane);
     fits = fits;
   }
 
@@ -168,7 +190,7 @@ module _ (c : CellState) (h : History) (f : FitsCell c h) where
   push_nothing may_send e = record {
     full = false;
     was_full = λ t. absurd cc;
-    comes = rw (next_is, ← e) (refl, refl);
+    comes = rw (next_of_cell, ← e) (refl, refl);
     fits = f;
   }
 
@@ -176,7 +198,7 @@ module _ (c : CellState) (h : History) (f : FitsCell c h) where
   push_full may_send x e was = record {
     full = true;
     was_full = λ t. was;
-    comes = rw (next_is, ← e) (refl, refl);
+    comes = rw (next_of_cell, ← e) (refl, refl);
     fits = f;
   }
 
@@ -190,6 +212,56 @@ push_kept sessions carries ends lanes old new x k lane advanced fits = record {
   tag = ap (λ (e : LaneEnd Numbered). e.tag) lane ∙ k.tag ∙ sym advanced.kept.venue;
   lane = ap (slice_get lanes.venues) advanced.kept.venue ∙ k.lane ∙ ap (λ (e : LaneEnd Numbered). Some e.lane) (sym lane);
 }
+
+-- ---- a packet whose message is the next item, and its push
+
+module _ (old : CellState) (h : History) (line : LineId) (p : Content) (x : Numbered) (f : FitsCell old h) (brings : BringsNext old.arbiter.session old.arbiter.window old.arbiter.sent h.present.packets line p x) where
+  abbrev passed : Arrival
+  passed = arrival_of line p (Ok (Taken 1 0))
+
+  abbrev more : List Numbered
+  more = stream_of (h.present.packets ++ passed ∷ [])
+
+  -- what was sent are the first so many with the packet, too
+  sent_before : old.lane.items ≡ items_of h.earlier ++ take old.arbiter.sent more
+  sent_before = f.sent ∙ ap (λ (xs : List Numbered). items_of h.earlier ++ xs) (sym (take_same (stream_of h.present.packets) more old.arbiter.sent brings.grows f.fits.sent))
+
+  is_there : old.arbiter.sent ≤ length more
+  is_there =
+      let le : old.arbiter.sent ≤ length (stream_of h.present.packets) = f.fits.sent in
+      let e : length more ≡ length (stream_of h.present.packets) + length brings.grows.rest = ap length brings.grows.is ∙ length-append (stream_of h.present.packets) brings.grows.rest in
+      omega arith
+
+  pub may_pass : (carries : Carries) (ends : Ends) (venue window : ℕ) → AreGivenFrom carries ends venue window 1 h.earlier (after_arrival h passed).present → IsInSequence carries ends venue (old.lane.items ++ x ∷ [])
+  may_pass carries ends venue window given = may_push old.lane.items old.arbiter.sent (after_arrival h passed) sent_before carries ends venue window x given brings.item
+
+  module _ (new : CellState) (outcome : Outcome) (one : outcome ≡ Taken 1 0) (lane : new.lane ≡ with_items old.lane (old.lane.items ++ x ∷ [])) (sent : new.arbiter.sent ≡ old.arbiter.sent + 1) (kept : KeepsItsSession old.arbiter new.arbiter)
+      (fits : Fits new.arbiter (h.present.packets ++ arrival_of line p (Ok outcome) ∷ [])) (sums : new.accepted ≡ line_sums_after line p (Ok outcome) old.accepted) where
+    pub pass_fits : FitsCell new (after_arrival h passed)
+    pass_fits = record {
+      fits = subst (λ (o : Outcome). Fits new.arbiter (h.present.packets ++ arrival_of line p (Ok o) ∷ [])) one fits;
+      names = kept.sessions ∙ f.names ∙ names_same h passed;
+      session = kept.session ∙ f.session;
+      sent = ap (λ (e : LaneEnd Numbered). e.items) lane ∙ sent_more old.lane.items old.arbiter.sent (after_arrival h passed) sent_before x new.arbiter.sent sent brings.item;
+      earlier = λ l. ap (count_on l) kept.earlier ∙ f.earlier l;
+      accepted = sums_more old new.accepted h line p (Ok (Taken 1 0)) f (subst (λ (o : Outcome). new.accepted ≡ line_sums_after line p (Ok o) old.accepted) one sums);
+    }
+
+    abbrev takes_one : TakesPacket line p (Ok (Taken 1 0)) h old new
+    takes_one = record {
+      after = after_arrival h passed;
+      taken = record { right = subst (λ (n : List ℕ). IsOutcome n old.arbiter.window old.arbiter.sent h.present.packets p (Ok (Taken 1 0))) f.session brings.answer; is = refl };
+      fits = pass_fits;
+    }
+
+    pub pass_takes : TakesPacket line p (Ok outcome) h old new
+    pass_takes = subst (λ (o : Outcome). TakesPacket line p (Ok o) h old new) (sym one) takes_one
+
+    pub passes : x.number ≡ p.number → PassesPacket line p outcome h old new
+    passes number = subst (λ (o : Outcome). PassesPacket line p o h old new) (sym one) (record {
+      takes = takes_one;
+      comes = rw (next_is old.lane.items old.arbiter.sent (after_arrival h passed) sent_before is_there, ← brings.item, ← number) (refl, ap (λ (e : LaneEnd Numbered). e.items) lane);
+    })
 
 -- ---- a cell where nothing came yet
 

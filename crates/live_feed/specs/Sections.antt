@@ -1,6 +1,6 @@
 -- Each section under a lock is one event of the machine (feed_core), on the part that the lock
 -- keeps.
-use Rattle.std.specs.Prelude.{◌≡◌, ◌⊎◌, ℕ, Bool, true, List, length, slice_get, Result, Ok, Err, IsOk}
+use Rattle.std.specs.Prelude.{◌≡◌, ◌⊎◌, ℕ, Bool, true, false, List, length, slice_get, Result, Ok, Err, IsOk}
 use Rattle.feed_types.specs.declared.item.Numbered.{Numbered}
 use Rattle.feed_types.specs.declared.line.LineId.{LineId}
 use Rattle.feed_types.specs.Sequence.{Carries, Ends}
@@ -12,7 +12,7 @@ use Rattle.line_arbiter.specs.declared.outcome.LineFault.TheVariants.{OtherSessi
 use Rattle.line_arbiter.specs.declared.faults.RenewFault.{RenewFault}
 use Rattle.line_arbiter.specs.Histories.{History, streams_of}
 use Rattle.line_arbiter.specs.OfSession.{IsOfSession}
-use Rattle.line_arbiter.specs.States.{KeepsItsPlace, KeepsAllButSent}
+use Rattle.line_arbiter.specs.States.{KeepsItsPlace, KeepsItsSession, KeepsAllButSent}
 use Rattle.fifo_lane.specs.Lane.{WasFull, with_items}
 use Rattle.feed_core.specs.declared.event.Done.{Done}
 use Rattle.feed_core.specs.declared.event.Done.TheVariants as done
@@ -76,6 +76,25 @@ pub record KeepsButSent (old new : CellState) : Type 0 where
   pub arbiter : KeepsAllButSent old.arbiter new.arbiter
   pub lane : new.lane ≡ with_items old.lane new.lane.items
   pub others : new ≡ record old { arbiter = new.arbiter; lane = new.lane }
+
+-- Packet and then Push, in one section: what came to the venue has grown by the packet, the next item
+-- of its streams was sent, and the cell stands for both.
+pub record PassesPacket (line : LineId) (p : Content) (outcome : Outcome) (h : History)
+    (old new : CellState) : Type 0 where
+  pub takes : TakesPacket line p (Ok outcome) h old new
+  pub comes : ComesTo
+      (pushed false (slice_get (streams_of takes.after) (length old.lane.items)) old.lane.items)
+      old.lane.items (done.Pushed p.number) new.lane.items
+
+-- and nothing else has changed
+pub record KeepsButPassed (old new : CellState) : Type 0 where
+  pub arbiter : KeepsItsSession old.arbiter new.arbiter
+  pub lane : new.lane ≡ with_items old.lane new.lane.items
+  pub others : new ≡ record old {
+    arbiter = new.arbiter;
+    lane = new.lane;
+    accepted = new.accepted;
+  }
 
 -- Renew: the present session is over and the next one begins, or nothing changes.
 pub record RenewsSession (name : List ℕ) (answer : Result ℕ RenewFault) (h : History)

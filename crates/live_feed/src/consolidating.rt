@@ -35,20 +35,11 @@ fn consume_venue<G: Genuine, N: FeedName, W: Wait>(
     feed: &OpenFeed<G, N>,
     venue: VenueId,
 ) -> Result<bool, Stop> {
-    let mut hub = feed.hub.lock(rt);
-    let mut moved = false;
-    for _ in 0..ITEMS_A_TURN {
-        if venue.index() >= hub.core.venue_count() {
-            break;
-        }
-        match hub.consume(rt, venue) {
-            Ok(Some(_)) => moved = true,
-            Ok(None) => break,
-            Err(JournalFault::NoMemory) => return Err(Stop::NoMemory),
-            Err(_) => return Err(Stop::JournalFull),
-        }
+    match feed.consume_up_to(rt, venue, ITEMS_A_TURN) {
+        Ok(count) => Ok(count > 0),
+        Err(JournalFault::NoMemory) => Err(Stop::NoMemory),
+        Err(_) => Err(Stop::JournalFull),
     }
-    Ok(moved)
 }
 
 /// Pushes what is ready of the venue, and gives whether there was anything that had room.

@@ -153,6 +153,33 @@ impl<G: Genuine, N: FeedName> OpenFeed<G, N> {
         hub.consume(rt, venue)
     }
 
+    /// Journals the next items of the venue's lane as `consume` does, at most so many, under the
+    /// consolidator's lock taken once, and gives how many there were. A refusal is answered where it
+    /// comes before any of them; else the next call answers it.
+    pub fn consume_up_to<W: Wait>(
+        &self,
+        rt: &W,
+        venue: VenueId,
+        most: u32,
+    ) -> Result<u32, JournalFault>
+        ensures unknown { IsErrOf result JournalFault.UnknownVenue
+            ↔ (length N.lanes.venues ≤ venue) }
+        ensures most { IfOk result (λ count. count ≤ most) }
+    {
+        let mut hub = self.hub.lock(rt);
+        if venue.index() >= hub.core.venue_count() {
+            return Err(JournalFault::UnknownVenue);
+        }
+        for count in 0..most {
+            match hub.consume(rt, venue) {
+                Ok(Some(_)) => {}
+                Err(fault) if count == 0 => return Err(fault),
+                Ok(None) | Err(_) => return Ok(count),
+            }
+        }
+        Ok(most)
+    }
+
     /// Declares self-help on the venue, or withdraws it, and gives the entry's position. It is
     /// refused as UnknownVenue, AlreadySo (the venue's self-help is in that state), JournalFull or
     /// NoMemory: the first of these that fits. A refused call changes nothing.

@@ -30,8 +30,9 @@ fn push_ready<G: Genuine, N: FeedName, W: Wait>(rt: &W, cell: &mut VenueCell<G, 
     pushed
 }
 
-/// Takes the packet where the cell is of the seat's venue.
-fn take_in<G: Genuine, N: FeedName>(
+/// Takes the packet where the cell is of the seat's venue. Most bring the next message alone.
+fn take_in<G: Genuine, N: FeedName, W: Wait>(
+    rt: &W,
     cell: &mut VenueCell<G, N>,
     seat: &mut LineSeat<G, N>,
     packet: &Packet<'_>,
@@ -44,6 +45,9 @@ fn take_in<G: Genuine, N: FeedName>(
 {
     if cell.venue() != seat.venue() {
         return Err(LineFault::OtherSession);
+    }
+    if let Some(outcome) = cell.pass_one(rt, seat, packet) {
+        return Ok(outcome);
     }
     cell.take(seat, packet)
 }
@@ -99,7 +103,7 @@ impl<G: Genuine, N: FeedName> VenueLocks<G, N> {
             return Err(LineFault::OtherSession);
         };
         let mut guarded = lock.lock(rt);
-        let answer = take_in(&mut guarded.cell, seat, packet);
+        let answer = take_in(rt, &mut guarded.cell, seat, packet);
         push_ready(rt, &mut guarded.cell);
         answer
     }

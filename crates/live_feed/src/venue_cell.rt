@@ -1,6 +1,6 @@
 //! What stands behind a venue's lock.
 
-ghost use Rattle.std.specs.Prelude.{◌≡◌, ◌≤◌, ◌+◌, [], Some, OnOk, OnErr, IfOk, IfSome, slice_get};
+ghost use Rattle.std.specs.Prelude.{◌≡◌, ◌≤◌, ◌+◌, [], Some, Ok, OnOk, OnErr, IfOk, IfSome, IfNone, slice_get};
 ghost use Rattle.feed_types.specs.declared.item.Numbered.{Numbered};
 ghost use Rattle.line_arbiter.specs.Genuine.{IsGenuine};
 ghost use Rattle.line_arbiter.specs.Histories.{History};
@@ -12,7 +12,7 @@ ghost use Rattle.line_arbiter.specs.Counts.{count_on};
 ghost use Rattle.live_feed.specs.Seats.{seat_after};
 ghost use Rattle.live_feed.specs.Sums.{sums_on};
 ghost use Rattle.live_feed.specs.Cells.{FitsCell, IsKept, new_cell};
-ghost use Rattle.live_feed.specs.Sections.{TakesPacket, IsAnsweredBy, AcceptsTheirPacket, KeepsButPackets, PushesOne, KeepsButSent, RenewsSession, BeginsNext};
+ghost use Rattle.live_feed.specs.Sections.{TakesPacket, IsAnsweredBy, AcceptsTheirPacket, KeepsButPackets, PassesPacket, KeepsButPassed, PushesOne, KeepsButSent, RenewsSession, BeginsNext};
 
 use crate::feed_name::FeedName;
 use crate::seat::LineSeat;
@@ -173,6 +173,38 @@ impl<G: Genuine, N: FeedName> VenueCell<G, N> {
             }
             Err(fault) => Err(fault),
         }
+    }
+
+    /// Takes a packet of one message, which is the next one where nothing is held, and pushes its
+    /// item, which needn't be held first: what `take` and then `push_one` do. `None` for any other
+    /// packet, and where the lane is full; then nothing has changed, and `take` takes it.
+    pub fn pass_one<W: Wait>(
+        &mut self,
+        rt: &W,
+        seat: &mut LineSeat<G, N>,
+        packet: &Packet<'_>,
+    ) -> Option<Outcome>
+        requires venue { seat.old.venue ≡ self.old.arbiter.venue }
+        requires genuine { IsGenuine G.sessions G.carries G.ends seat.old.venue packet.now }
+        ensures packet { (h : History) → FitsCell self.old h
+            → IfSome result (λ outcome. PassesPacket seat.old.line packet.now outcome h
+            self.old self.new) }
+        ensures kept { IfSome result (λ _. KeepsButPassed self.old self.new) }
+        ensures seat { IfSome result (λ outcome. seat.new
+            ≡ seat_after seat.old packet.now (Ok outcome)) }
+        ensures answered { IfSome result (λ outcome. IsAnsweredBy G.sessions G.carries G.ends
+            N.lanes seat.old.venue seat.old.line packet.now (Ok outcome)) }
+        ensures none { IfNone result ((self.new ≡ self.old) × (seat.new ≡ seat.old)) }
+    {
+        let next = self.lines.next_in(packet)?;
+        let Ok(()) = self.items.push(rt, next) else {
+            return None;
+        };
+        let line = seat.line();
+        let outcome = self.lines.pass_next(line, packet);
+        self.sums.add(line, packet, outcome);
+        seat.count(packet, outcome);
+        Some(outcome)
     }
 
     /// Pushes the next item of the venue, where one is ready and the lane has room.

@@ -19,7 +19,7 @@ pub push-requires : goal.push-requires
 push-requires g c =
     let k = c.self.invariant in
     subst (λ (t : ℕ). IsInSequence g.G.Genuine.carries g.G.Genuine.ends t (c.self.inside.items.items ++ c.in-Some.ready ∷ [])) (sym k.tag)
-    (may_push _ k.history k.fits g.G.Genuine.carries g.G.Genuine.ends c.self.inside.lines.venue c.self.inside.lines.window c.in-Some.ready k.given
+    (may_push c.self.inside.items.items c.self.inside.lines.sent k.history k.fits.sent g.G.Genuine.carries g.G.Genuine.ends c.self.inside.lines.venue c.self.inside.lines.window c.in-Some.ready k.given
     (c.in-Some.ensures.stream k.history.present.packets k.fits.fits))
 
 pub invariant_of-self : goal.invariant_of-self
