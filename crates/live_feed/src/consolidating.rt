@@ -1,6 +1,7 @@
 //! The work of the consolidator's thread.
 
 use crate::feed_name::FeedName;
+use crate::hub_calls::offer_some;
 use crate::open_feed::OpenFeed;
 use crate::report::Stop;
 use crate::signals::Signals;
@@ -94,17 +95,8 @@ fn offer_to<G: Genuine, N: FeedName, W: Wait>(
     id: SubscriberId,
 ) -> Option<(bool, Unsent)> {
     let mut hub = feed.hub.lock(rt);
-    let mut moved = false;
-    for _ in rt.forever() {
-        if !hub.core.has(id) {
-            break;
-        }
-        match hub.offer_one(rt, id) {
-            Ok(_) => moved = true,
-            Err(unsent) => return Some((moved, unsent)),
-        }
-    }
-    None
+    let (pushed, unsent) = offer_some(rt, &mut hub, id)?;
+    Some((pushed > 0, unsent))
 }
 
 /// Offers each subscriber what it wants.

@@ -7,6 +7,7 @@ ghost use Rattle.live_feed.specs.Datagrams.{AreGenuineBytes, AcceptsTheirs, IsTa
 use crate::datagram::Datagram;
 use crate::faults::{FeedFault, RenewalFault, TakeFault};
 use crate::feed_name::FeedName;
+use crate::hub_calls::{Consolidated, consume_some, offer_each, offer_some};
 use crate::hub_cell::HubCell;
 use crate::seat::LineSeat;
 use crate::subscriber::Subscriber;
@@ -170,14 +171,33 @@ impl<G: Genuine, N: FeedName> OpenFeed<G, N> {
         if venue.index() >= hub.core.venue_count() {
             return Err(JournalFault::UnknownVenue);
         }
-        for count in 0..most {
-            match hub.consume(rt, venue) {
-                Ok(Some(_)) => {}
-                Err(fault) if count == 0 => return Err(fault),
-                Ok(None) | Err(_) => return Ok(count),
-            }
+        consume_some(rt, &mut hub, venue, most)
+    }
+
+    /// Journals the next items of the venue's lane as `consume_up_to` does, and then offers each
+    /// subscriber what it wants, as `offer` does, under the consolidator's lock taken once. A refused
+    /// call offers nothing.
+    pub fn consolidate<W: Wait>(
+        &self,
+        rt: &W,
+        venue: VenueId,
+        most: u32,
+    ) -> Result<Consolidated, JournalFault>
+        ensures unknown { IsErrOf result JournalFault.UnknownVenue
+            ↔ (length N.lanes.venues ≤ venue) }
+        ensures most { IfOk result (λ done. done.consumed ≤ most) }
+    {
+        let mut hub = self.hub.lock(rt);
+        if venue.index() >= hub.core.venue_count() {
+            return Err(JournalFault::UnknownVenue);
         }
-        Ok(most)
+        match consume_some(rt, &mut hub, venue, most) {
+            Ok(consumed) => {
+                let offered = offer_each(rt, &mut hub);
+                Ok(Consolidated { consumed, offered })
+            }
+            Err(fault) => Err(fault),
+        }
     }
 
     /// Declares self-help on the venue, or withdraws it, and gives the entry's position. It is
@@ -219,16 +239,9 @@ impl<G: Genuine, N: FeedName> OpenFeed<G, N> {
     /// gives how many were pushed.
     pub fn offer<W: Wait>(&self, rt: &W, id: SubscriberId) -> Result<u64, FeedFault> {
         let mut hub = self.hub.lock(rt);
-        let mut pushed: u64 = 0;
-        for _ in rt.forever() {
-            if !hub.core.has(id) {
-                return Err(FeedFault::UnknownSubscriber);
-            }
-            if hub.offer_one(rt, id).is_err() {
-                break;
-            }
-            pushed = pushed.saturating_add(1);
+        match offer_some(rt, &mut hub, id) {
+            Some((pushed, _)) => Ok(pushed),
+            None => Err(FeedFault::UnknownSubscriber),
         }
-        Ok(pushed)
     }
 }

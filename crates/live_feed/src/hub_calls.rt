@@ -1,0 +1,79 @@
+//! What the calls of a feed do under the consolidator's lock.
+
+ghost use Rattle.std.specs.Prelude.{◌≡◌, ◌≤◌, ◌<◌, IfOk, IsErrOf, OnErr};
+
+use crate::feed_name::FeedName;
+use crate::hub_cell::HubCell;
+use crate::unsent::Unsent;
+use feed_types::{Genuine, SubscriberId, VenueId};
+use journal_book::JournalFault;
+use std::sync::Wait;
+
+/// What `OpenFeed::consolidate` did.
+#[derive(Clone, Copy, Debug, PartialEq, Eq)]
+pub struct Consolidated {
+    /// How many items were journaled.
+    pub consumed: u32,
+    /// How many notices were offered, to all subscribers.
+    pub offered: u64,
+}
+
+/// Journals the next items of the venue's lane, at most so many, and gives how many there were. A
+/// refusal is answered where it comes before any of them.
+pub(crate) fn consume_some<G: Genuine, N: FeedName, W: Wait>(
+    rt: &W,
+    hub: &mut HubCell<G, N>,
+    venue: VenueId,
+    most: u32,
+) -> Result<u32, JournalFault>
+    requires { venue < hub.old.core.journal.venues }
+    ensures most { IfOk result (λ count. count ≤ most) }
+    ensures known { IsErrOf result JournalFault.UnknownVenue → ⊥ }
+{
+    for count in 0..most {
+        match hub.consume(rt, venue) {
+            Ok(Some(_)) => {}
+            Err(fault) if count == 0 => return Err(fault),
+            Ok(None) | Err(_) => return Ok(count),
+        }
+    }
+    Ok(most)
+}
+
+/// Offers the subscriber what it wants, until there is nothing more or its lane is full. Gives how
+/// many notices were pushed, and why no more were; None where there is no such subscriber.
+pub(crate) fn offer_some<G: Genuine, N: FeedName, W: Wait>(
+    rt: &W,
+    hub: &mut HubCell<G, N>,
+    id: SubscriberId,
+) -> Option<(u64, Unsent)> {
+    let mut pushed: u64 = 0;
+    for _ in rt.forever() {
+        if !hub.core.has(id) {
+            break;
+        }
+        match hub.offer_one(rt, id) {
+            Ok(_) => pushed = pushed.saturating_add(1),
+            Err(unsent) => return Some((pushed, unsent)),
+        }
+    }
+    None
+}
+
+/// Offers each subscriber what it wants, and gives how many notices were pushed.
+pub(crate) fn offer_each<G: Genuine, N: FeedName, W: Wait>(
+    rt: &W,
+    hub: &mut HubCell<G, N>,
+) -> u64 {
+    let mut offered: u64 = 0;
+    for place in 0..32u8 {
+        let Some(id) = SubscriberId::new(place) else {
+            break;
+        };
+        let Some((pushed, _)) = offer_some(rt, hub, id) else {
+            break;
+        };
+        offered = offered.saturating_add(pushed);
+    }
+    offered
+}
