@@ -42,6 +42,7 @@ pub(crate) fn consume_some<G: Genuine, N: FeedName, W: Wait>(
 
 /// Offers the subscriber what it wants, until there is nothing more or its lane is full. Gives how
 /// many notices were pushed, and why no more were; None where there is no such subscriber.
+#[inline(always)]
 pub(crate) fn offer_some<G: Genuine, N: FeedName, W: Wait>(
     rt: &W,
     hub: &mut HubCell<G, N>,
