@@ -42,8 +42,12 @@ module _ {T : Type 0} where
       (inside : List T) × (length inside ≡ e.capacity)
       × ((received : List T) × Keeps may_send e.tag e.capacity e.items received inside)
 
-  -- at a moment, nothing was inside the lane of this receiving end
-  abbrev pub WasEmpty : (ℕ → List T → Type 0) → LaneEnd T → Type 0
-  WasEmpty may_send e =
-      (inside : List T) × (length inside ≡ 0)
+  -- at a moment, so many items were inside the lane of this receiving end
+  abbrev pub HadInside : (ℕ → List T → Type 0) → LaneEnd T → ℕ → Type 0
+  HadInside may_send e count =
+      (inside : List T) × (length inside ≡ count)
       × ((sent : List T) × Keeps may_send e.tag e.capacity sent e.items inside)
+
+  -- at a moment, nothing was
+  abbrev pub WasEmpty : (ℕ → List T → Type 0) → LaneEnd T → Type 0
+  WasEmpty may_send e = HadInside may_send e 0

@@ -3,7 +3,7 @@
 ghost use Rattle.std.specs.Prelude.{◌≡◌, ◌++◌, ◌∷◌, [], true, MatchOption};
 ghost use Rattle.std.specs.Arc.{arc_value};
 ghost use Rattle.crossbeam_queue.specs.Passes.{view, IsPassOf, ruled_capacity};
-ghost use Rattle.fifo_lane.specs.Lane.{lane_end, with_items, WasEmpty};
+ghost use Rattle.fifo_lane.specs.Lane.{lane_end, with_items, HadInside, WasEmpty};
 ghost use Rattle.fifo_lane.specs.Passes.{receiving};
 
 use crate::known::{LanePass, Queue};
@@ -72,6 +72,14 @@ impl<T, R: LaneRule<T>> Receiver<T, R> {
         ensures { result ≡ self.now.tag }
     {
         self.tag
+    }
+
+    /// How many items were inside at a moment of the call. There are no fewer until `pop`.
+    pub fn len<W: Wait>(&mut self, rt: &W) -> usize
+        ensures value { HadInside R.may_send self.old result }
+        ensures kept { self.new ≡ self.old }
+    {
+        self.queue.len_as::<Popped<R>, W>(rt, &mut self.pass)
     }
 
     /// Receives the front item, or `None` where nothing is inside. What was received so far always

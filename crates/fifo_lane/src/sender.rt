@@ -84,6 +84,7 @@ impl<T, R: LaneRule<T>> Sender<T, R> {
 
     /// Sends an item, which the lane's rule has to allow after all that was sent. Where the lane is
     /// full it is handed back, and nothing was sent.
+    #[inline(always)]
     pub fn push<W: Wait>(&mut self, rt: &W, item: T) -> Result<(), T>
         requires { R.may_send self.old.tag (self.old.items ++ item ∷ []) }
         ensures { MatchResult result

@@ -18,8 +18,8 @@ pub struct Consolidated {
     pub offered: u64,
 }
 
-/// Journals the next items of the venue's lane, at most so many, and gives how many there were. A
-/// refusal is answered where it comes before any of them.
+/// Journals the items that are in the venue's lane, at most so many, and gives how many there were. A
+/// refusal is answered where it comes before any of them, whether or not there is one.
 pub(crate) fn consume_some<G: Genuine, N: FeedName, W: Wait>(
     rt: &W,
     hub: &mut HubCell<G, N>,
@@ -30,6 +30,8 @@ pub(crate) fn consume_some<G: Genuine, N: FeedName, W: Wait>(
     ensures most { IfOk result (λ count. count ≤ most) }
     ensures known { IsErrOf result JournalFault.UnknownVenue → ⊥ }
 {
+    let waiting = u32::try_from(hub.core.waiting(rt, venue)).unwrap_or(most);
+    let most = most.min(waiting.max(1));
     for count in 0..most {
         match hub.consume(rt, venue) {
             Ok(Some(_)) => {}

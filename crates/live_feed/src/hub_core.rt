@@ -153,6 +153,14 @@ impl<G: Genuine, N: FeedName> HubCore<G, N> {
         self.kept.has(id)
     }
 
+    /// How many items were in the venue's lane at a moment of the call.
+    pub(crate) fn waiting<W: Wait>(&mut self, rt: &W, venue: VenueId) -> usize
+        requires { venue < self.old.journal.venues }
+        ensures { self.new ≡ self.old }
+    {
+        self.from_venues[venue.index()].len(rt)
+    }
+
     /// Journals the next item of the venue's lane. All room is made before it is popped.
     pub(crate) fn consume<W: Wait>(
         &mut self,
