@@ -64,10 +64,7 @@ pub(crate) fn offer_some<G: Genuine, N: FeedName, W: Wait>(
 }
 
 /// Offers each subscriber what it wants, and gives how many notices were pushed.
-pub(crate) fn offer_each<G: Genuine, N: FeedName, W: Wait>(
-    rt: &W,
-    hub: &mut HubCell<G, N>,
-) -> u64 {
+pub(crate) fn offer_each<G: Genuine, N: FeedName, W: Wait>(rt: &W, hub: &mut HubCell<G, N>) -> u64 {
     let mut offered: u64 = 0;
     for place in 0..32u8 {
         let Some(id) = SubscriberId::new(place) else {

@@ -81,6 +81,7 @@ impl<G: Genuine, N: FeedName> HubCell<G, N> {
 
     /// Pushes the next notice that the subscriber wants, and gives its number. The id is of this
     /// feed.
+    #[inline(always)]
     pub fn offer_one<W: Wait>(&mut self, rt: &W, id: SubscriberId) -> Result<u64, Unsent>
         requires { id < length self.old.core.journal.cursors }
         ensures offer { OffersOne ⟦<RisingNotices as LaneRule<Notice>>⟧.may_send id result

@@ -51,6 +51,7 @@ impl PacketSums {
     }
 
     /// One packet more, with its outcome.
+    #[inline(always)]
     pub(crate) fn add(&mut self, packet: &Packet<'_>, outcome: Outcome)
         ensures { self.new ≡ sums_after self.old packet.now (Ok outcome) }
     {
@@ -129,6 +130,7 @@ impl VenueSums {
     }
 
     /// One packet more on the line, with its outcome.
+    #[inline(always)]
     pub(crate) fn add(&mut self, line: LineId, packet: &Packet<'_>, outcome: Outcome)
         ensures { self.new ≡ line_sums_after line packet.now (Ok outcome) self.old }
     {

@@ -48,12 +48,13 @@ impl<N: FeedName> Model for Tape<N> {
 }
 
 /// What the strategy advises, where its limits are these; another one, which no subscriber has, is
-/// asked and holds.
+/// asked and holds. It is shown a copy, so that the notice itself goes into the log as it was read.
 fn advised(strategy: &mut Strategy, bounds: Limits, notice: &Notice) -> Advice
     ensures { IsAllowed bounds notice.now result }
 {
     let same = strategy.limits == bounds;
-    let advice = advise(strategy, notice);
+    let shown = *notice;
+    let advice = advise(strategy, &shown);
     if same { advice } else { Advice::Hold }
 }
 
