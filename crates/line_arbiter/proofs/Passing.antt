@@ -21,11 +21,11 @@ use Rattle.line_arbiter.specs.declared.outcome.Outcome.TheVariants.{Taken}
 use Rattle.line_arbiter.specs.Packets.{Arrival, arrival_of, carried, end_of, has_number, item_at, known_of, last_of, message_item}
 use Rattle.line_arbiter.specs.Streams.{end_at, front_of, item_numbered, stream_of, stream_to, wins_of}
 use Rattle.line_arbiter.specs.Outcomes.{Agrees, IsOutcome, ToKind, new_count}
-use Rattle.line_arbiter.specs.Through.{BringsNext, PassesThrough, SendsPacket}
+use Rattle.line_arbiter.specs.Through.{BringsNext, IsNext, IsNextMessage, PassesThrough, SendsPacket}
 use Rattle.line_arbiter.specs.Counts.{count_on, shown}
 use Rattle.line_arbiter.specs.Holding.{IsEmpty}
 use Rattle.line_arbiter.specs.States.{State, held_of}
-use Rattle.line_arbiter.specs.Steps.{IsNext, IsNextIn, IsNextMessage, GoesPast, ThroughStep, raised}
+use Rattle.line_arbiter.specs.Steps.{IsNextIn, GoesPast, ThroughStep, raised}
 use Rattle.line_arbiter.specs.Fits.{Fits}
 use Rattle.line_arbiter.proofs.Standing.{Stands, stands_of, fits_of}
 use Rattle.line_arbiter.proofs.Answering.{before_is}

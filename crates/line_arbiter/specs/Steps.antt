@@ -19,6 +19,7 @@ use Rattle.line_arbiter.specs.Outcomes.{IsBefore, IsPast}
 use Rattle.line_arbiter.specs.Counts.{Counts, shown}
 use Rattle.line_arbiter.specs.Holding.{IsEmpty, held_at, put_all, fresh_to, HeldAgrees, HeldDisagrees}
 use Rattle.line_arbiter.specs.States.{State, held_of}
+use Rattle.line_arbiter.specs.Through.{IsNext}
 
 -- What every arbiter keeps: what is held, and the front, lie below the announced end; and nothing
 -- is held right behind the front.
@@ -126,21 +127,6 @@ abbrev pub PacketStep : LineId → State → State → Content → Result Outcom
 PacketStep line old new p answer =
     ((p.session ≢ old.session) × (answer ≡ Err OtherSession) × (new ≡ old))
     ⊎ ((p.session ≡ old.session) × KindStep p.kind line old new p answer)
-
--- the packet goes on where nothing is held
-pub record IsNext (s : State) (p : Content) : Type 0 where
-  pub first : p.number ≡ s.sent + 1
-  pub whole : s.front ≡ s.sent
-  pub empty : IsEmpty (held_of s)
-  pub before : IsBefore s.end (last_of p)
-  pub within : length p.messages ≤ s.window
-
--- the same of a packet of the session that has one message
-pub record IsNextMessage (s : State) (p : Content) : Type 0 where
-  pub name : p.session ≡ s.session
-  pub kind : p.kind ≡ kinds.Messages
-  pub one : length p.messages ≡ 1
-  pub next : IsNext s p
 
 -- the cursors have gone past the packet, and still nothing is held
 pub record GoesPast (line : LineId) (old new : State) (p : Content) : Type 0 where

@@ -11,6 +11,8 @@ use Rattle.line_arbiter.specs.declared.outcome.Outcome.TheVariants.{Taken}
 use Rattle.line_arbiter.specs.Packets.{Arrival, arrival_of, carried, end_of, last_of}
 use Rattle.line_arbiter.specs.Streams.{stream_of}
 use Rattle.line_arbiter.specs.Outcomes.{IsBefore, IsOutcome}
+use Rattle.line_arbiter.specs.Holding.{IsEmpty}
+use Rattle.line_arbiter.specs.States.{State, held_of}
 
 -- A packet of messages of the session goes on where all that was taken was sent: its first number
 -- is the next one, its last lies before the end, and it is no longer than the window.
@@ -46,3 +48,19 @@ pub record BringsNext (session : List ℕ) (window sent : ℕ) (packets : List A
       (stream_of (packets ++ arrival_of line p (Ok (Taken 1 0)) ∷ []))
   pub item : Some next
       ≡ slice_get (stream_of (packets ++ arrival_of line p (Ok (Taken 1 0)) ∷ [])) sent
+
+-- The same, seen in an arbiter's state: a packet's first message is the next one where nothing is
+-- held, its last lies before the end, and it is no longer than the window.
+pub record IsNext (s : State) (p : Content) : Type 0 where
+  pub first : p.number ≡ s.sent + 1
+  pub whole : s.front ≡ s.sent
+  pub empty : IsEmpty (held_of s)
+  pub before : IsBefore s.end (last_of p)
+  pub within : length p.messages ≤ s.window
+
+-- and it is a packet of the session that has one message
+pub record IsNextMessage (s : State) (p : Content) : Type 0 where
+  pub name : p.session ≡ s.session
+  pub kind : p.kind ≡ kinds.Messages
+  pub one : length p.messages ≡ 1
+  pub next : IsNext s p

@@ -8,13 +8,13 @@ ghost use Rattle.line_arbiter.specs.Streams.{IsComplete, stream_of, gap_of, wins
 ghost use Rattle.line_arbiter.specs.Outcomes.{IsBefore, IsOutcome, IsPast};
 ghost use Rattle.line_arbiter.specs.Renewals.{HasEnded, IsRenewal};
 ghost use Rattle.line_arbiter.specs.Genuine.{AreGenuine, IsGenuineItem};
-ghost use Rattle.line_arbiter.specs.Through.{BringsNext, PassesThrough, SendsPacket, WasSent};
+ghost use Rattle.line_arbiter.specs.Through.{BringsNext, IsNext, IsNextMessage, PassesThrough, SendsPacket, WasSent};
 ghost use Rattle.line_arbiter.specs.Counts.{count_on, shown};
 ghost use Rattle.line_arbiter.specs.States.{held_of, ordinal_of, next_of, ShowsCursors, IsNew, KeepsItsPlace, KeepsItsSession, IsAdvanced, IsRenewed};
 ghost use Rattle.line_arbiter.specs.Holding.{HeldAgrees};
 ghost use Rattle.line_arbiter.specs.Comparing.{AreThere};
 ghost use Rattle.line_arbiter.specs.Fits.{Fits, cursors_of};
-ghost use Rattle.line_arbiter.specs.Steps.{IsSound, IsNext, DropsNext, GoesPast, IsNextIn, IsNextMessage, ThroughStep, SentStep, MessagesStep, HeartbeatStep, EndStep, PacketStep, raised as raised_to};
+ghost use Rattle.line_arbiter.specs.Steps.{IsSound, DropsNext, GoesPast, IsNextIn, ThroughStep, SentStep, MessagesStep, HeartbeatStep, EndStep, PacketStep, raised as raised_to};
 
 use crate::faults::{ArbiterFault, RenewFault};
 use crate::intake::{Comparison, compare, fill, run_after};

@@ -12,6 +12,7 @@ use Rattle.line_arbiter.specs.declared.outcome.LineFault.TheVariants.{OtherSessi
 use Rattle.line_arbiter.specs.declared.faults.RenewFault.{RenewFault}
 use Rattle.line_arbiter.specs.Histories.{History, streams_of}
 use Rattle.line_arbiter.specs.OfSession.{IsOfSession}
+use Rattle.line_arbiter.specs.Through.{PassesThrough}
 use Rattle.line_arbiter.specs.States.{KeepsItsPlace, KeepsItsSession, KeepsAllButSent}
 use Rattle.fifo_lane.specs.Lane.{WasFull, with_items}
 use Rattle.feed_core.specs.declared.event.Done.{Done}
@@ -95,6 +96,15 @@ pub record KeepsButPassed (old new : CellState) : Type 0 where
     lane = new.lane;
     accepted = new.accepted;
   }
+
+-- A packet that isn't passed so: the lane was full at a moment of the call, or the packet doesn't
+-- pass through, or hasn't one message.
+abbrev pub IsLeft : (ℕ → List Numbered → Type 0) → Content → CellState → Type 0
+IsLeft may_send p c =
+    WasFull may_send c.lane
+    ⊎ ((h : History) → FitsCell c h
+    → PassesThrough c.arbiter.session c.arbiter.window c.arbiter.sent h.present.packets p
+    → length p.messages ≡ 1 → ⊥)
 
 -- Renew: the present session is over and the next one begins, or nothing changes.
 pub record RenewsSession (name : List ℕ) (answer : Result ℕ RenewFault) (h : History)

@@ -1,6 +1,6 @@
 //! What the calls of a feed do under the consolidator's lock.
 
-ghost use Rattle.std.specs.Prelude.{◌≡◌, ◌≤◌, ◌<◌, IfOk, IsErrOf, OnErr};
+ghost use Rattle.std.specs.Prelude.{◌≡◌, ◌≤◌, ◌↔◌, length, IfOk, IsErrOf, OnErr};
 
 use crate::feed_name::FeedName;
 use crate::hub_cell::HubCell;
@@ -18,18 +18,22 @@ pub struct Consolidated {
     pub offered: u64,
 }
 
-/// Journals the items that are in the venue's lane, at most so many, and gives how many there were. A
-/// refusal is answered where it comes before any of them, whether or not there is one.
+/// Journals the items that are in the venue's lane, at most so many, and gives how many there were.
+/// UnknownVenue, else a refusal where it comes before any of them, whether or not there is one; then
+/// nothing has changed.
 pub(crate) fn consume_some<G: Genuine, N: FeedName, W: Wait>(
     rt: &W,
     hub: &mut HubCell<G, N>,
     venue: VenueId,
     most: u32,
 ) -> Result<u32, JournalFault>
-    requires { venue < hub.old.core.journal.venues }
+    ensures unknown { IsErrOf result JournalFault.UnknownVenue ↔ (length N.lanes.venues ≤ venue) }
     ensures most { IfOk result (λ count. count ≤ most) }
-    ensures known { IsErrOf result JournalFault.UnknownVenue → ⊥ }
+    ensures refused { OnErr result (hub.new.core ≡ hub.old.core) }
 {
+    if venue.index() >= hub.core.venue_count() {
+        return Err(JournalFault::UnknownVenue);
+    }
     let waiting = u32::try_from(hub.core.waiting(rt, venue)).unwrap_or(most);
     let most = most.min(waiting.max(1));
     for count in 0..most {

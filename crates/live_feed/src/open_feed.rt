@@ -168,9 +168,6 @@ impl<G: Genuine, N: FeedName> OpenFeed<G, N> {
         ensures most { IfOk result (λ count. count ≤ most) }
     {
         let mut hub = self.hub.lock(rt);
-        if venue.index() >= hub.core.venue_count() {
-            return Err(JournalFault::UnknownVenue);
-        }
         consume_some(rt, &mut hub, venue, most)
     }
 
@@ -188,16 +185,9 @@ impl<G: Genuine, N: FeedName> OpenFeed<G, N> {
         ensures most { IfOk result (λ done. done.consumed ≤ most) }
     {
         let mut hub = self.hub.lock(rt);
-        if venue.index() >= hub.core.venue_count() {
-            return Err(JournalFault::UnknownVenue);
-        }
-        match consume_some(rt, &mut hub, venue, most) {
-            Ok(consumed) => {
-                let offered = offer_each(rt, &mut hub);
-                Ok(Consolidated { consumed, offered })
-            }
-            Err(fault) => Err(fault),
-        }
+        let consumed = consume_some(rt, &mut hub, venue, most)?;
+        let offered = offer_each(rt, &mut hub);
+        Ok(Consolidated { consumed, offered })
     }
 
     /// Declares self-help on the venue, or withdraws it, and gives the entry's position. It is

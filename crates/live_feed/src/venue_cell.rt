@@ -12,7 +12,7 @@ ghost use Rattle.line_arbiter.specs.Counts.{count_on};
 ghost use Rattle.live_feed.specs.Seats.{seat_after};
 ghost use Rattle.live_feed.specs.Sums.{sums_on};
 ghost use Rattle.live_feed.specs.Cells.{FitsCell, IsKept, new_cell};
-ghost use Rattle.live_feed.specs.Sections.{TakesPacket, IsAnsweredBy, AcceptsTheirPacket, KeepsButPackets, PassesPacket, KeepsButPassed, PushesOne, KeepsButSent, RenewsSession, BeginsNext};
+ghost use Rattle.live_feed.specs.Sections.{TakesPacket, IsAnsweredBy, AcceptsTheirPacket, KeepsButPackets, PassesPacket, KeepsButPassed, IsLeft, PushesOne, KeepsButSent, RenewsSession, BeginsNext};
 
 use crate::feed_name::FeedName;
 use crate::seat::LineSeat;
@@ -194,6 +194,8 @@ impl<G: Genuine, N: FeedName> VenueCell<G, N> {
             ≡ seat_after seat.old packet.now (Ok outcome)) }
         ensures answered { IfSome result (λ outcome. IsAnsweredBy G.sessions G.carries G.ends
             N.lanes seat.old.venue seat.old.line packet.now (Ok outcome)) }
+        ensures left { IfNone result
+            (IsLeft ⟦<VenueItems<G> as LaneRule<Numbered>>⟧.may_send packet.now self.old) }
         ensures none { IfNone result ((self.new ≡ self.old) × (seat.new ≡ seat.old)) }
     {
         let next = self.lines.next_in(packet)?;
