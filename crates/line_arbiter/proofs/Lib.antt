@@ -13,6 +13,7 @@ pub mod Padding
 pub mod Windows
 pub mod Turns
 pub mod Filling
+pub mod Single
 -- an arbiter that fits its packets
 pub mod Standing
 pub mod Cursors

@@ -61,20 +61,50 @@ fn compare_each(window: &Window, packet: &Packet<'_>) -> Comparison
     }
 }
 
+/// What the packet's one message is beside the one that is held at its number.
+#[inline(never)]
+fn compare_held(window: &Window, packet: &Packet<'_>) -> Comparison
+    requires { length packet.now.messages ≡ 1 }
+    ensures { Compares window.now packet.now result }
+{
+    match packet.messages().next() {
+        Some(message) => compare_one(window, packet.number(), message),
+        None => Comparison::Agrees,
+    }
+}
+
+/// The same, where often nothing is held at its number: then the message isn't read.
+#[inline(always)]
+fn compare_only(window: &Window, packet: &Packet<'_>) -> Comparison
+    requires one { length packet.now.messages ≡ 1 }
+    requires within { packet.now.number ≤ window.now.base + window.now.width }
+    ensures { Compares window.now packet.now result }
+{
+    match window.free_slot(packet.number()) {
+        Some(_) => Comparison::Agrees,
+        None => compare_held(window, packet),
+    }
+}
+
 /// What the packet's messages are beside those that are held. Where these all lie below the packet,
 /// as most often, its messages aren't walked.
 #[inline(always)]
 pub(crate) fn compare(window: &Window, packet: &Packet<'_>) -> Comparison
+    requires { packet.now.number + length packet.now.messages
+        ≤ window.now.base + window.now.width + 1 }
     ensures { Compares window.now packet.now result }
 {
-    if window.holds_from(packet.number()) {
-        compare_each(window, packet)
-    } else {
+    if !window.holds_from(packet.number()) {
         Comparison::Agrees
+    } else if packet.count() == 1 {
+        compare_only(window, packet)
+    } else {
+        compare_each(window, packet)
     }
 }
 
 /// Holds the message where its number is past the base and free, and tells whether it did.
+#[inline(never)]
 fn put(window: &mut Window, number: u64, message: &[u8]) -> bool
     requires { number ≤ window.old.base + window.old.width }
     ensures after { (m : ℕ) → held_at window.new m
@@ -91,8 +121,27 @@ fn put(window: &mut Window, number: u64, message: &[u8]) -> bool
     true
 }
 
+/// Holds the packet's one message where it is past the base and free, and tells how many it held.
+#[inline(always)]
+fn fill_only(window: &mut Window, packet: &Packet<'_>) -> u16
+    requires one { length packet.now.messages ≡ 1 }
+    requires within { packet.now.number ≤ window.old.base + window.old.width }
+    ensures after { (m : ℕ) → held_at window.new m
+        ≡ put_all window.old.base packet.now (held_at window.old m) m }
+    ensures count { result
+        ≡ fresh_to (length packet.now.messages) window.old.base window.old packet.now }
+    ensures base { window.new.base ≡ window.old.base }
+    ensures width { window.new.width ≡ window.old.width }
+{
+    match packet.messages().next() {
+        Some(message) => u16::from(put(window, packet.number(), message)),
+        None => 0,
+    }
+}
+
 /// Holds the packet's messages past the base where nothing is held, and tells how many it held.
-pub(crate) fn fill(window: &mut Window, packet: &Packet<'_>) -> u16
+#[inline(never)]
+fn fill_each(window: &mut Window, packet: &Packet<'_>) -> u16
     requires { packet.now.number + length packet.now.messages
         ≤ window.old.base + window.old.width + 1 }
     ensures after { (m : ℕ) → held_at window.new m
@@ -109,6 +158,25 @@ pub(crate) fn fill(window: &mut Window, packet: &Packet<'_>) -> u16
         count += u16::from(is_new);
     }
     count
+}
+
+/// Holds the packet's messages past the base where nothing is held, and tells how many it held.
+#[inline(always)]
+pub(crate) fn fill(window: &mut Window, packet: &Packet<'_>) -> u16
+    requires { packet.now.number + length packet.now.messages
+        ≤ window.old.base + window.old.width + 1 }
+    ensures after { (m : ℕ) → held_at window.new m
+        ≡ put_all window.old.base packet.now (held_at window.old m) m }
+    ensures count { result
+        ≡ fresh_to (length packet.now.messages) window.old.base window.old packet.now }
+    ensures base { window.new.base ≡ window.old.base }
+    ensures width { window.new.width ≡ window.old.width }
+{
+    if packet.count() == 1 {
+        fill_only(window, packet)
+    } else {
+        fill_each(window, packet)
+    }
 }
 
 /// The last number of the run of held numbers that goes on past `front`, where those that came last

@@ -219,6 +219,17 @@ impl Window {
         }
     }
 
+    /// The item in the first place, whose slot is known.
+    fn item_in_front(&self) -> Option<Item>
+        ensures { result ≡ item_in self.now.width self.now.ring 0 }
+    {
+        if has_mark(self.marks.as_slice(), self.first) {
+            Some(item_at(self.slots.as_slice(), self.first))
+        } else {
+            None
+        }
+    }
+
     /// The item that is held at the number.
     pub(crate) fn get(&self, number: u64) -> Option<Item>
         ensures { result ≡ held_at self.now number }
@@ -238,7 +249,7 @@ impl Window {
             return None;
         }
         let _base = self.base_number;
-        self.item_in(0)
+        self.item_in_front()
     }
 
     /// Whether nothing is held.
