@@ -19,7 +19,6 @@ use std::sync::Wait;
 
 /// Pushes what is ready of the venue, until nothing is or the lane is full, and gives how many
 /// items were pushed.
-#[inline(always)]
 fn push_ready<G: Genuine, N: FeedName, W: Wait>(rt: &W, cell: &mut VenueCell<G, N>) -> u64 {
     let mut pushed: u64 = 0;
     for _ in rt.forever() {
