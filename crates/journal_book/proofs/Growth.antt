@@ -64,7 +64,7 @@ numbered-append n (x ∷ xs) ys =
     let here : length xs + (n + 1) ≡ suc (length xs) + n = omega arith in
     ap (λ t. notice_of n x ∷ t) (numbered-append (n + 1) xs ys ∙ ap (λ k. notices_from (n + 1) xs ++ notices_from k ys) here)
 
-length-numbered : (n : ℕ) (xs : List Change) → length (notices_from n xs) ≡ length xs
+pub length-numbered : (n : ℕ) (xs : List Change) → length (notices_from n xs) ≡ length xs
 length-numbered n [] = refl
 length-numbered n (x ∷ xs) = ap suc (length-numbered (n + 1) xs)
 

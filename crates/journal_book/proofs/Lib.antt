@@ -1,3 +1,4 @@
+pub mod LastEntry
 pub mod Growth
 pub mod Rising
 pub mod Prefixes

@@ -4,4 +4,5 @@ pub mod Journals
 pub mod Consolidators
 pub mod Keeping
 pub mod Places
+pub mod Running
 pub mod Codes

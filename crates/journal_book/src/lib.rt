@@ -16,11 +16,14 @@ mod fault;
 mod journal;
 mod laws;
 mod notices;
+mod past;
 mod places;
 mod room;
+mod running;
 
 pub use consolidator::Consolidator;
 pub use cursor::Cursor;
 pub use fault::JournalFault;
 pub use journal::Journal;
 pub use laws::{changes_grow_at_their_end, wanted_grow_at_their_end, wanted_numbers_rise};
+pub use running::{Latest, RunningJournal};

@@ -1,0 +1,195 @@
+//! A journal that is told while it runs, and not kept.
+
+ghost use Rattle.std.specs.Prelude.{◌≡◌, ◌<◌, ◌≤◌, ◌↔◌, ◌⊎◌, ◌∷◌, [], ◌++◌, length, IsTrue, IsSome, IfSome, IfOk, OnOk, IsErrOf};
+ghost use Rattle.std.specs.List.{IsDistinct};
+ghost use Rattle.std.specs.Str.{bytes_eq};
+ghost use Rattle.std.specs.Vec.{vec_len, vec_capacity};
+ghost use Rattle.feed_types.specs.declared.journal.Entry.{Entry};
+ghost use Rattle.nbbo_book.specs.Books.{venue_of, is_configured};
+ghost use Rattle.nbbo_book.specs.Eligible.{is_self_helped};
+ghost use Rattle.nbbo_book.specs.Nationals.{national_of};
+ghost use Rattle.journal_book.specs.Changes.{notices_from};
+
+use crate::fault::JournalFault;
+use crate::past::Past;
+use feed_types::{Entry, National, Numbered, SymbolName, VenueId};
+use nbbo_book::{Book, BookFault, Change};
+use std::alloc::Global;
+use std::marker::Model;
+
+/// The changes that one entry made, in the order of the symbols, and the number of the first of
+/// them: the others count on from it.
+#[derive(Clone, Copy, Debug)]
+pub struct Latest<'a> {
+    pub first: u64,
+    pub changes: &'a [Change],
+}
+
+/// A journal that keeps no entry and no notice: it knows what the next entry changes, and shows
+/// what the last one changed.
+///
+/// Take it where what is journaled is written elsewhere, as a replay prints it. It takes all its
+/// memory when it is made, however many entries come.
+#[derive(Drop)]
+pub struct RunningJournal {
+    book: Book,
+    venue_count: usize,
+    limit: u32,
+    count: u64,
+    earlier: u64,
+    latest: Vec<Change>,
+    past: Past,
+}
+
+impl Model for RunningJournal {
+    ghost use Rattle.std.specs.Vec.{vec_capacity};
+    ghost use Rattle.journal_book.specs.Running.{RunningState, Runs};
+
+    ghost Value = { RunningState };
+
+    ghost view = { λ j. record {
+      symbols = j.book.symbols;
+      venues = j.venue_count;
+      journal = j.limit;
+      entries = j.past.entries;
+    } };
+
+    ghost invariant = { λ j. Runs j.book j.venue_count j.limit (vec_capacity j.latest) j.count
+        j.earlier j.latest.items j.past.entries };
+}
+
+impl RunningJournal {
+    ghost use Rattle.journal_book.specs.Running.{RunningState, new_running, latest_of, GoesOnBy, DeclaresNext};
+
+    /// A journal of no entries over so many venues, 1 to 16, and these symbols, at most 4,096 and
+    /// each once. It takes as many entries as `journal` says.
+    ///
+    /// The refusals are those of [`Book::new`], in its order.
+    pub fn new(
+        alloc: Global,
+        symbols: &[SymbolName],
+        venue_count: usize,
+        journal: u32,
+    ) -> Result<RunningJournal, BookFault>
+        ensures new { IfOk result (λ made. made ≡ new_running symbols.now venue_count journal) }
+        ensures distinct { OnOk result (IsDistinct bytes_eq symbols.now) }
+        ensures bad_venue_count { IsErrOf result BookFault.BadVenueCount
+            ↔ ((venue_count ≡ 0) ⊎ (16 < venue_count)) }
+        ensures too_many_symbols { IsErrOf result BookFault.TooManySymbols
+            ↔ ((0 < venue_count) × (venue_count ≤ 16) × (4096 < length symbols.now)) }
+        ensures duplicate_symbol { IsErrOf result BookFault.DuplicateSymbol
+            → (0 < venue_count) × (venue_count ≤ 16) × (length symbols.now ≤ 4096)
+            × (¬ IsDistinct bytes_eq symbols.now) }
+    {
+        let book = Book::new(alloc, symbols, venue_count)?;
+        let Ok(latest) = Vec::with_capacity(alloc, symbols.len()) else {
+            return Err(BookFault::NoMemory);
+        };
+        Ok(RunningJournal {
+            book,
+            venue_count,
+            limit: journal,
+            count: 0,
+            earlier: 0,
+            latest,
+            past: Past::new(),
+        })
+    }
+
+    /// Whether one entry more may be journaled.
+    #[inline(always)]
+    pub fn has_room(&self) -> bool
+        ensures { IsTrue result ↔ (length self.now.entries < self.now.journal) }
+    {
+        self.count < u64::from(self.limit)
+    }
+
+    /// Journals the entry, and gives its position.
+    #[inline(always)]
+    fn add(&mut self, entry: &Entry) -> u64
+        requires room { length self.old.entries < self.old.journal }
+        requires venue { venue_of entry.now < self.old.venues }
+        ensures goes_on { GoesOnBy self.old entry.now self.new }
+        ensures position { result ≡ length self.new.entries }
+    {
+        let position = self.count + 1;
+        self.earlier += self.latest.len() as u64;
+        self.latest.clear();
+        self.book.apply(position, entry, &mut self.latest);
+        self.count = position;
+        self.past = self.past.with(entry);
+        position
+    }
+
+    /// Journals the venue's item, and gives its position, which counts from 1. There is room, and
+    /// the venue is below the count.
+    #[inline(always)]
+    pub fn record(&mut self, venue: VenueId, numbered: Numbered) -> u64
+        requires room { length self.old.entries < self.old.journal }
+        requires venue { venue < self.old.venues }
+        ensures goes_on { GoesOnBy self.old (Entry.Consumed venue numbered) self.new }
+        ensures position { result ≡ length self.new.entries }
+    {
+        self.add(&Entry::Consumed { venue, numbered })
+    }
+
+    /// Declares self-help on the venue, or withdraws it, and gives the entry's position. It is
+    /// refused as UnknownVenue, AlreadySo where the venue's self-help is in that state (off at
+    /// first), or JournalFull: the first of these that fits.
+    pub fn declare(&mut self, venue: VenueId, on: bool) -> Result<u64, JournalFault>
+        ensures { DeclaresNext self.old venue on result self.new }
+    {
+        if venue.index() >= self.venue_count {
+            return Err(JournalFault::UnknownVenue);
+        }
+        if self.book.is_self_helped(venue) == on {
+            return Err(JournalFault::AlreadySo);
+        }
+        if !self.has_room() {
+            return Err(JournalFault::JournalFull);
+        }
+        Ok(self.add(&Entry::SelfHelp { venue, on }))
+    }
+
+    /// The changes that the last entry made; none before there is one.
+    #[inline(always)]
+    pub fn latest(&self) -> Latest<'_>
+        ensures { notices_from result.first result.changes.now
+            ≡ latest_of self.now.symbols self.now.entries }
+    {
+        Latest {
+            first: self.earlier + 1,
+            changes: self.latest.as_slice(),
+        }
+    }
+
+    /// How many entries were journaled.
+    pub fn entry_count(&self) -> u64
+        ensures { result ≡ length self.now.entries }
+    {
+        self.count
+    }
+
+    /// How many venues there are: items and declarations are of those below.
+    pub fn venue_count(&self) -> usize
+        ensures { result ≡ self.now.venues }
+    {
+        self.venue_count
+    }
+
+    /// Whether self-help stands on the venue.
+    pub fn is_self_helped(&self, venue: VenueId) -> bool
+        ensures { result ≡ is_self_helped self.now.entries venue }
+    {
+        self.book.is_self_helped(venue)
+    }
+
+    /// The national best of the symbol after all entries, `None` exactly where it isn't configured.
+    pub fn national(&self, symbol: &SymbolName) -> Option<National>
+        ensures configured { IsSome result ↔ IsTrue (is_configured self.now.symbols symbol.now) }
+        ensures value { IfSome result
+            (λ national. national ≡ national_of self.now.entries symbol.now) }
+    {
+        self.book.national(symbol)
+    }
+}
