@@ -1,6 +1,9 @@
 -- A list from a place on, and the text of its items.
 use Rattle.std.proofs.Common.{◌≡◌, ℕ, zero, suc, ◌+◌, ◌≤◌, List, [], ◌∷◌, ◌++◌, length, drop, Some, None, refl, sym, ap, ◌∙◌, add-one, append_assoc, append-nil, arith}
 use Rattle.std.specs.Prelude.{slice_get, flat_map}
+use Rattle.nbbo_book.specs.declared.change.Change.{Change}
+use Rattle.journal_book.specs.Changes.{notices_from, notice_of}
+use Rattle.feed_text.specs.Lines.{best_line}
 
 pub rest_at : {X : Type 0} (xs : List X) (n : ℕ) (x : X) → Some x ≡ slice_get xs n → drop n xs ≡ x ∷ drop (n + 1) xs
 rest_at [] n x e = absurd cc
@@ -28,3 +31,16 @@ text_more f xs n x old new all e step is =
 -- and then there is none
 pub text_done : {X : Type 0} (f : X → List ℕ) (xs : List X) (n : ℕ) (text all : List ℕ) → None ≡ slice_get xs n → text ++ flat_map f (drop n xs) ≡ all → text ≡ all
 text_done f xs n text all e is = sym (append-nil text) ∙ ap (λ (t : List ℕ). text ++ t) (sym (ap (flat_map f) (rest_end xs n e))) ∙ is
+
+-- one change more's line, under the next number
+pub numbered_more : (changes : List Change) (n number : ℕ) (change : Change) (old new all : List ℕ)
+    → Some change ≡ slice_get changes n → new ≡ old ++ best_line (notice_of number change)
+    → old ++ flat_map best_line (notices_from number (drop n changes)) ≡ all
+    → new ++ flat_map best_line (notices_from (number + 1) (drop (n + 1) changes)) ≡ all
+numbered_more changes n number change old new all e step is =
+    let L = best_line (notice_of number change) in
+    let D = flat_map best_line (notices_from (number + 1) (drop (n + 1) changes)) in
+    ap (λ (t : List ℕ). t ++ D) step
+    ∙ append_assoc old L D
+    ∙ ap (λ (l : List Change). old ++ flat_map best_line (notices_from number l)) (sym (rest_at changes n change e))
+    ∙ is

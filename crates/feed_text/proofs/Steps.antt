@@ -17,7 +17,7 @@ use Rattle.feed_text.specs.Texts.{text_of, new_histories, TellsAll, HasRoom, lin
 use Rattle.feed_text.specs.Tales.{Tale, IsWithin, GoesOn}
 use Rattle.feed_text.specs.Following.{VenueList, FollowAll, TakesRecord, PrintsLast}
 use Rattle.feed_text.specs.Replays.{venues_in, HasRead, ReplaysAll, ReplaysTo, ReplaysUntil, ReplaysFront}
-use Rattle.journal_book.specs.Journals.{JournalState, new_journal}
+use Rattle.journal_book.specs.Running.{RunningState, new_running}
 use Rattle.feed_text.proofs.Tales.{entries_more, text_more, tale_with, tale_from}
 
 -- the laws of a reader and a writer
@@ -39,7 +39,7 @@ pub record Told (config : ReplayConfig) (told : List Happening) (shown : List �
   pub all : shown ++ tale.text ≡ lines_told config told
 
 -- a journal without entries and no text
-pub told_none : {config : ReplayConfig} (j : JournalState) (text : List ℕ) → j ≡ new_journal config.symbols.now (venues_in config) config.journal → text ≡ [] → Told config [] [] (tale_from j text)
+pub told_none : {config : ReplayConfig} (j : RunningState) (text : List ℕ) → j ≡ new_running config.symbols.now (venues_in config) config.journal → text ≡ [] → Told config [] [] (tale_from j text)
 told_none j text e none = rw (e, none) (record { symbols = refl; venues = refl; journal = refl; entries = refl; within = omega arith; all = refl })
 
 -- By so many calls these records and then this rest were read, the venues follow the histories that the records

@@ -7,6 +7,7 @@ ghost use Rattle.std.specs.Prelude.{◌≡◌, ◌+◌, ◌<◌, ◌≤◌, ◌+
 ghost use Rattle.feed_text.specs.Lines.{field, line_end, packet_head, packet_line, fault_line, refused_tail, outcome_tail, item_word, item_line, side_field, state_tail, best_line, gap_line, renew_line, on_word, position_tail, declare_line, venue_line, wins_by};
 ghost use Rattle.feed_types.specs.Text.{best_text};
 ghost use Rattle.feed_text.specs.Placing.{Placed};
+ghost use Rattle.journal_book.specs.Changes.{notice_of};
 
 use crate::fields::{
     place, place_field, place_name, place_number, place_price, place_short_field, place_word,
@@ -15,6 +16,7 @@ use crate::page::Page;
 use feed_types::{Best, Item, LineId, NationalState, Notice, Numbered, VenueId};
 use line_arbiter::{LineFault, Outcome, RenewFault};
 use mold_packet::Request;
+use nbbo_book::Change;
 use std::alloc::AllocError;
 
 /// Room for any line but a best line and a venue's last one.
@@ -291,25 +293,39 @@ fn place_state(room: &mut [u8], at: usize, state: NationalState) -> usize
     }
 }
 
-/// The line of a change of the national best.
+/// The line of a change of the national best, under this number.
 #[inline(never)]
-pub fn put_best(text: &mut Page, notice: &Notice) -> Result<(), AllocError>
-    ensures line { OnOk result (text.new.items ≡ text.old.items ++ best_line notice.now) }
+pub(crate) fn put_change(text: &mut Page, number: u64, change: &Change) -> Result<(), AllocError>
+    ensures line { OnOk result
+        (text.new.items ≡ text.old.items ++ best_line (notice_of number change.now)) }
     ensures part { OnErr result (text.new.items ≡ text.old.items) }
 {
     text.make_room(BEST_LINE)?;
     let at = text.end;
     let room = text.bytes.as_mut_slice();
     let at = place_word(room, at, *b"best    ", 5);
-    let at = place_number(room, at, notice.number);
-    let at = place_field(room, at, notice.position);
+    let at = place_number(room, at, number);
+    let at = place_field(room, at, change.position);
     let at = place(room, at, *b" ");
-    let at = place_name(room, at, notice.symbol);
-    let at = place_side(room, at, &notice.national.bid);
-    let at = place_side(room, at, &notice.national.offer);
-    let at = place_state(room, at, notice.national.state());
+    let at = place_name(room, at, change.symbol);
+    let at = place_side(room, at, &change.national.bid);
+    let at = place_side(room, at, &change.national.offer);
+    let at = place_state(room, at, change.national.state());
     text.end = at;
     Ok(())
+}
+
+/// The line of a notice.
+pub fn put_best(text: &mut Page, notice: &Notice) -> Result<(), AllocError>
+    ensures line { OnOk result (text.new.items ≡ text.old.items ++ best_line notice.now) }
+    ensures part { OnErr result (text.new.items ≡ text.old.items) }
+{
+    let change = Change {
+        position: notice.position,
+        symbol: notice.symbol,
+        national: notice.national,
+    };
+    put_change(text, notice.number, &change)
 }
 
 /// The line of the run of messages to ask for.

@@ -2,7 +2,7 @@
 ghost use Rattle.std.specs.Prelude.{◌≡◌, ◌≤◌, [], length, IfOk};
 ghost use Rattle.std.specs.List.{IsDistinct};
 ghost use Rattle.std.specs.Str.{bytes_eq};
-ghost use Rattle.journal_book.specs.Journals.{new_journal};
+ghost use Rattle.journal_book.specs.Running.{new_running};
 ghost use Rattle.feed_text.specs.Devices.{Reading, Writing};
 ghost use Rattle.feed_text.specs.Following.{Closes, Stops, fault_by, left_by};
 ghost use Rattle.feed_text.specs.Replays.{Replays};
@@ -17,7 +17,7 @@ use crate::report::{Report, Stop};
 use crate::unread::Unread;
 use crate::venues::Venues;
 use feed_types::SymbolName;
-use journal_book::Journal;
+use journal_book::RunningJournal;
 use std::alloc::{AllocError, Global};
 
 /// What a replay is asked for.
@@ -31,7 +31,7 @@ pub struct ReplayConfig<'a> {
     pub symbols: &'a [SymbolName],
     /// How many messages past the last item sent are held, in each venue: 1 to 65,535.
     pub window: u32,
-    /// How many entries the journal holds. An item is one, and so is a declaration that changes
+    /// How many entries may be journaled. An item is one, and so is a declaration that changes
     /// something.
     pub journal: u32,
     /// Whether a gap line is printed where a datagram leaves a gap.
@@ -74,10 +74,10 @@ fn new_report(alloc: Global, config: &ReplayConfig<'_>) -> Result<Report, AllocE
     requires symbols { length config.now.symbols.now ≤ 4096 }
     requires distinct { IsDistinct bytes_eq config.now.symbols.now }
     ensures journal { IfOk result (λ report. report.journal
-        ≡ new_journal config.now.symbols.now (length config.now.sessions.now) config.now.journal) }
+        ≡ new_running config.now.symbols.now (length config.now.sessions.now) config.now.journal) }
     ensures text { IfOk result (λ report. report.text.items ≡ []) }
 {
-    match Journal::new(alloc, config.symbols, config.sessions.len(), config.journal) {
+    match RunningJournal::new(alloc, config.symbols, config.sessions.len(), config.journal) {
         Ok(journal) => Ok(Report {
             journal,
             text: Page::new(alloc),
@@ -100,9 +100,8 @@ fn close<W: TextOut>(venues: &Venues, mut text: Page, writer: &mut W) -> Result<
 /// What is ready is written before the reader is called again, so that a pipe shows lines as they
 /// come, and before a fault of the input, of the journal or of memory is answered. Every call of
 /// the reader is a turn, also one that was interrupted. Memory is taken for the venues' windows,
-/// the symbols, the bytes of a read and a text of about a page, and for the journal and its
-/// notices: they have room for a million or for what the journal holds at first, of which a system
-/// gives what is written, and grow by doubling.
+/// the symbols, the bytes of a read and a text of about a page. What was journaled is counted and
+/// printed and not kept, so that a capture of a whole day takes no more than a short one.
 #[inline(never)]
 pub fn replay<R: CaptureIn, W: TextOut>(
     alloc: Global,

@@ -1,17 +1,16 @@
 //! What happens, journaled and printed.
-ghost use Rattle.std.specs.Prelude.{◌≡◌, ◌<◌, ◌≤◌, ◌∷◌, [], ◌++◌, length, drop, flat_map, IfOk, OnOk};
-ghost use Rattle.std.specs.List.{IsDistinct};
-ghost use Rattle.std.specs.Str.{bytes_eq};
+ghost use Rattle.std.specs.Prelude.{◌≡◌, ◌<◌, ◌≤◌, ◌∷◌, [], ◌+◌, ◌++◌, length, flat_map, OnOk};
+ghost use Rattle.journal_book.specs.Changes.{notices_from};
 ghost use Rattle.feed_text.specs.Happenings.{item_taken, self_help_declared};
 ghost use Rattle.feed_text.specs.Lines.{best_line};
 ghost use Rattle.feed_text.specs.Tales.{Grows, TellsBy, tale_of};
 ghost use Rattle.feed_text.specs.declared.report.Stop.TheVariants.{NoMemory};
 
-use crate::lines::{put_best, put_declared, put_item};
+use crate::lines::{put_change, put_declared, put_item};
 use crate::page::Page;
-use feed_types::{Notice, Numbered, SymbolName, VenueId};
-use journal_book::{Journal, JournalFault};
-use std::alloc::{AllocError, Global};
+use feed_types::{Numbered, VenueId};
+use journal_book::{JournalFault, Latest, RunningJournal};
+use std::alloc::AllocError;
 
 /// Why what happens was not told to its end.
 #[derive(Clone, Copy, Debug, PartialEq, Eq)]
@@ -33,59 +32,62 @@ impl From<AllocError> for Stop {
 /// The journal of a replay, and the text that waits to be written.
 #[derive(Drop)]
 pub struct Report {
-    pub journal: Journal,
+    pub journal: RunningJournal,
     pub text: Page,
 }
 
-/// Prints the notices from this place on.
+/// Prints the changes that the last entry made.
 #[inline(always)]
-fn put_bests(text: &mut Page, notices: &[Notice], from: usize) -> Result<(), AllocError>
-    ensures lines { OnOk result
-        (text.new.items ≡ text.old.items ++ flat_map best_line (drop from notices.now)) }
+fn put_bests(text: &mut Page, latest: Latest<'_>) -> Result<(), AllocError>
+    requires { latest.first + length latest.changes.now ≤ 18446744073709551615 }
+    ensures lines { OnOk result (text.new.items ≡ text.old.items
+        ++ flat_map best_line (notices_from latest.entry.first latest.entry.changes.now)) }
     ensures grows { Grows text.old.items text.new.items }
 {
-    for place in from..notices.len() {
-        put_best(text, &notices[place])?;
+    let mut number = latest.first;
+    for change in latest.changes {
+        put_change(text, number, change)?;
+        number += 1;
     }
     Ok(())
 }
 
 impl Report {
-    /// Journals the venue's next item, and prints its line and those of the notices that it makes.
+    /// Journals the venue's next item, and prints its line and those of the changes that it makes.
     #[inline(always)]
     pub fn take_item(&mut self, venue: VenueId, numbered: &Numbered) -> Result<(), Stop>
         requires { venue < self.old.journal.venues }
         ensures { TellsBy (tale_of self.old) (item_taken venue numbered.now ∷ [])
             (tale_of self.new) result }
     {
-        match self.journal.reserve_one() {
-            Ok(()) => {}
-            Err(JournalFault::JournalFull) => return Err(Stop::JournalFull),
-            Err(_) => return Err(Stop::NoMemory),
+        if !self.journal.has_room() {
+            return Err(Stop::JournalFull);
         }
         put_item(&mut self.text, venue, numbered)?;
-        let from = self.journal.changes().len();
         self.journal.record(venue, *numbered);
-        put_bests(&mut self.text, self.journal.changes(), from)?;
+        put_bests(&mut self.text, self.journal.latest())?;
         Ok(())
     }
 
     /// Journals a declaration, unless it is so already, and prints its line and those of the
-    /// notices that it makes.
+    /// changes that it makes.
     pub fn declare(&mut self, venue: VenueId, on: bool) -> Result<(), Stop>
         requires { venue < self.old.journal.venues }
         ensures { TellsBy (tale_of self.old) (self_help_declared venue on ∷ [])
             (tale_of self.new) result }
     {
-        let from = self.journal.changes().len();
-        let position = match self.journal.declare(venue, on) {
-            Ok(position) => Some(position),
-            Err(JournalFault::AlreadySo) => None,
-            Err(JournalFault::JournalFull) => return Err(Stop::JournalFull),
-            Err(_) => return Err(Stop::NoMemory),
-        };
-        put_declared(&mut self.text, venue, on, position)?;
-        put_bests(&mut self.text, self.journal.changes(), from)?;
-        Ok(())
+        match self.journal.declare(venue, on) {
+            Ok(position) => {
+                put_declared(&mut self.text, venue, on, Some(position))?;
+                put_bests(&mut self.text, self.journal.latest())?;
+                Ok(())
+            }
+            Err(JournalFault::AlreadySo) => {
+                put_declared(&mut self.text, venue, on, None)?;
+                Ok(())
+            }
+            Err(JournalFault::JournalFull) => Err(Stop::JournalFull),
+            Err(_) => Err(Stop::NoMemory),
+        }
     }
 }

@@ -1,6 +1,6 @@
 //! A journal that is told while it runs, and not kept.
 
-ghost use Rattle.std.specs.Prelude.{◌≡◌, ◌<◌, ◌≤◌, ◌↔◌, ◌⊎◌, ◌∷◌, [], ◌++◌, length, IsTrue, IsSome, IfSome, IfOk, OnOk, IsErrOf};
+ghost use Rattle.std.specs.Prelude.{◌≡◌, ◌+◌, ◌<◌, ◌≤◌, ◌↔◌, ◌⊎◌, ◌∷◌, [], ◌++◌, length, IsTrue, IsSome, IfSome, IfOk, OnOk, IsErrOf};
 ghost use Rattle.std.specs.List.{IsDistinct};
 ghost use Rattle.std.specs.Str.{bytes_eq};
 ghost use Rattle.std.specs.Vec.{vec_len, vec_capacity};
@@ -154,8 +154,9 @@ impl RunningJournal {
     /// The changes that the last entry made; none before there is one.
     #[inline(always)]
     pub fn latest(&self) -> Latest<'_>
-        ensures { notices_from result.first result.changes.now
+        ensures notices { notices_from result.first result.changes.now
             ≡ latest_of self.now.symbols self.now.entries }
+        ensures numbers { result.first + length result.changes.now ≤ 18446744073709551615 }
     {
         Latest {
             first: self.earlier + 1,
