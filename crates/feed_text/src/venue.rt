@@ -196,6 +196,23 @@ impl VenueReplay {
         tell_answer(&mut self.arbiter, venue, line, &answer, report)
     }
 
+    /// The same from a copy, which is made here, so that no other packet has to lie in memory.
+    #[inline(always)]
+    fn take_copied(
+        &mut self,
+        venue: VenueId,
+        line: LineId,
+        packet: &Packet<'_>,
+        report: &mut Report,
+    ) -> Result<(), Stop>
+        requires { venue < report.old.journal.venues }
+        ensures { (width : ℕ) (h : History) → Follows width venue self.old h
+            → TellsOutcome width venue line packet.now h
+            (tale_of report.old) (tale_of report.new) self.new result }
+    {
+        self.take_any(venue, line, &packet.copied(), report)
+    }
+
     /// Takes a packet, and tells what became of it and each item that is ready then. Most go past
     /// the window, and most of the others bring nothing that wasn't sent.
     #[inline(always)]
@@ -217,7 +234,7 @@ impl VenueReplay {
         if let Some(outcome) = self.arbiter.take_sent(line, packet) {
             return tell_answer(&mut self.arbiter, venue, line, &Ok(outcome), report);
         }
-        self.take_any(venue, line, &packet.copied(), report)
+        self.take_copied(venue, line, packet, report)
     }
 
     /// Takes a datagram of a line, and tells what became of it and each item that is ready then.
