@@ -192,8 +192,10 @@ impl VenueReplay {
             → TellsOutcome width venue line packet.now h
             (tale_of report.old) (tale_of report.new) self.new result }
     {
-        let answer = self.arbiter.take(line, packet);
-        tell_answer(&mut self.arbiter, venue, line, &answer, report)
+        match self.arbiter.take(line, packet) {
+            Ok(outcome) => tell_answer(&mut self.arbiter, venue, line, &Ok(outcome), report),
+            Err(fault) => tell_answer(&mut self.arbiter, venue, line, &Err(fault), report),
+        }
     }
 
     /// The same from a copy, which is made here, so that no other packet has to lie in memory.
@@ -292,11 +294,12 @@ impl VenueReplay {
             → TellsOne width gaps (datagram_record venue line bytes.now) h
             (tale_of report.old) (tale_of report.new) self.new result }
     {
-        self.take_datagram(venue, line, bytes, report)?;
-        if gaps {
-            return self.tell_gap(venue, report);
+        let told = self.take_datagram(venue, line, bytes, report);
+        if !gaps {
+            return told;
         }
-        Ok(())
+        told?;
+        self.tell_gap(venue, report)
     }
 
     /// Begins the next session, where it may begin.
