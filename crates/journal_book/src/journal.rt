@@ -26,7 +26,7 @@ const MAX_SUBSCRIBERS: usize = 32;
 ///
 /// Take a [`Journal`] where the filters are kept beside it, as behind a lock whose contract names
 /// more than this crate does; take a [`Consolidator`](crate::Consolidator) where one value is to
-/// keep both.
+/// keep both, and a [`RunningJournal`](crate::RunningJournal) where nothing of it is read later.
 #[derive(Drop)]
 pub struct Journal {
     book: Book,

@@ -2,7 +2,8 @@
 //! each subscriber has come in them.
 //!
 //! A [`Consolidator`] keeps a [`Journal`] and the subscribers' filters. The journal alone holds no
-//! closure: whoever keeps the filters elsewhere holds the two side by side.
+//! closure: whoever keeps the filters elsewhere holds the two side by side. A [`RunningJournal`]
+//! has no subscribers and keeps no entry, for whoever writes what happens elsewhere.
 //!
 //! Contract: the entries are what was recorded and declared, the changes are `changes_of` the
 //! entries (`specs/Changes.antt`), a definition over the whole list, and a subscriber is offered
