@@ -27,6 +27,9 @@ static PAIRS: [[u8; 2]; 100] = [
 /// How many bytes the longest number has.
 const LONGEST_NUMBER: usize = 20;
 
+/// From here on a number has more than four digits.
+const FIVE_DIGITS: u64 = 10_000;
+
 /// From here on a number has more than eight digits.
 const NINE_DIGITS: u64 = 100_000_000;
 
@@ -102,6 +105,21 @@ fn place_four(room: &mut [u8], at: usize, number: u32) -> usize
     place_pair(room, at, number % 100)
 }
 
+/// A number of five to eight digits.
+#[inline(always)]
+fn place_many(room: &mut [u8], at: usize, number: u32) -> usize
+    requires least { 10000 ≤ number }
+    requires small { number < 100000000 }
+    requires fits { at + 8 ≤ length room.old }
+    ensures placed { Placed room.old room.new at (decimal number) result }
+    ensures short { result ≤ at + 8 }
+{
+    let at = place_four(room, at, number / 10_000);
+    let four = number % 10_000;
+    let at = place_pair(room, at, four / 100);
+    place_pair(room, at, four % 100)
+}
+
 /// A number of one to eight digits.
 #[inline(always)]
 fn place_eight(room: &mut [u8], at: usize, number: u32) -> usize
@@ -113,10 +131,7 @@ fn place_eight(room: &mut [u8], at: usize, number: u32) -> usize
     if number < 10_000 {
         return place_four(room, at, number);
     }
-    let at = place_four(room, at, number / 10_000);
-    let four = number % 10_000;
-    let at = place_pair(room, at, four / 100);
-    place_pair(room, at, four % 100)
+    place_many(room, at, number)
 }
 
 /// A number of any length.
@@ -139,8 +154,10 @@ pub(crate) fn place_number(room: &mut [u8], at: usize, number: u64) -> usize
     ensures placed { Placed room.old room.new at (decimal number) result }
     ensures short { result ≤ at + 20 }
 {
-    if number < NINE_DIGITS {
-        place_eight(room, at, number as u32)
+    if number < FIVE_DIGITS {
+        place_four(room, at, number as u32)
+    } else if number < NINE_DIGITS {
+        place_many(room, at, number as u32)
     } else {
         place_long(room, at, number)
     }

@@ -1,7 +1,7 @@
 use Rattle.std.proofs.Common.{sym, arith}
 use Rattle.feed_text.proofs.Digits.{decimal_four}
 use Rattle.feed_text.proofs.Places.{placed_as, placed_more}
-use Rattle.feed_text.proofs.fields.place_eight.Goals as goal
+use Rattle.feed_text.proofs.fields.place_many.Goals as goal
 
 pub returns-clause-placed : goal.returns-clause-placed
 returns-clause-placed c =
