@@ -1,5 +1,6 @@
 -- Lists that begin alike, and places in lists.
 use Rattle.std.proofs.Common.{◌≡◌, ℕ, zero, suc, ◌<◌, ◌≤◌, List, [], ◌∷◌, ◌++◌, length, drop, Some, refl, sym, ap, ◌∙◌, arith, append_assoc, append-nil, length-append, inl, inr}
+use Rattle.std.proofs.Math.Seq.{drop-append_seam}
 use Rattle.std.specs.Prelude.{slice_get, slice_set, ◌⊎◌}
 use Rattle.std.specs.List.{AllByRecursion}
 use Rattle.feed_types.specs.Prefix.{IsPrefix}
@@ -32,12 +33,8 @@ begins_next xs ys x a e =
     let f = first xs a.rest x (ap (λ (l : List _). slice_get l (length xs)) (sym a.is) ∙ e) in
     record { rest = f.rest; is = a.is ∙ ap (λ (l : List _). xs ++ l) f.is ∙ sym (append_assoc xs (x ∷ []) f.rest) }
 
-drop_front : {X : Type 0} (xs ys : List X) → drop (length xs) (xs ++ ys) ≡ ys
-drop_front [] ys = refl
-drop_front (x ∷ xs) ys = drop_front xs ys
-
 pub begins_drop : {X : Type 0} {xs ys : List X} → IsPrefix xs ys → xs ++ drop (length xs) ys ≡ ys
-begins_drop {xs = xs} a = ap (λ (l : List _). xs ++ drop (length xs) l) a.is ∙ ap (λ (l : List _). xs ++ l) (drop_front xs a.rest) ∙ sym a.is
+begins_drop {xs = xs} a = ap (λ (l : List _). xs ++ drop (length xs) l) a.is ∙ ap (λ (l : List _). xs ++ l) (drop-append_seam xs a.rest) ∙ sym a.is
 
 -- what is read after a write: what was written at its place, and what was there elsewhere
 pub get_set : {X : Type 0} (xs : List X) (i j : ℕ) (x y : X) → slice_get (slice_set xs i x) j ≡ Some y → ((j ≡ i) × (y ≡ x)) ⊎ (slice_get xs j ≡ Some y)

@@ -6,7 +6,7 @@ use Rattle.feed_types.specs.declared.item.Numbered.{Numbered}
 use Rattle.feed_types.specs.declared.journal.Entry.{Entry}
 use Rattle.feed_types.specs.declared.journal.Entry.TheVariants.{Consumed, SelfHelp}
 use Rattle.nbbo_book.specs.Eligible.{is_self_helped}
-use Rattle.journal_book.specs.Changes.{changes_of}
+use Rattle.journal_book.specs.Changes.{changes_of, notices_since}
 use Rattle.journal_book.specs.Running.{RunningState, latest_of, GoesOnBy}
 use Rattle.journal_book.proofs.LastEntry.{before-put}
 use Rattle.feed_types.specs.declared.journal.Notice.{Notice}
@@ -16,7 +16,7 @@ use Rattle.feed_text.specs.Happenings.{Happening, item_taken, gap_left, self_hel
 use Rattle.mold_packet.specs.declared.request.Request.{Request}
 use Rattle.feed_text.specs.Told.{gap_happening}
 use Rattle.feed_text.specs.Lines.{best_line, gap_line, item_line, declare_line}
-use Rattle.feed_text.specs.Texts.{line_of, lines_of, notices_since, text_of}
+use Rattle.feed_text.specs.Texts.{line_of, lines_of, text_of}
 use Rattle.feed_text.specs.Tales.{Tale, tale_after, IsWithin, Grows, GoesOn, GoesToFull, TellsBy}
 
 -- a running journal and a text

@@ -1,13 +1,12 @@
 -- The text of a capture: the lines of what its records tell, and at the end a line for each venue.
-use Rattle.std.specs.Prelude.{◌≡◌, ℕ, ◌+◌, ◌<◌, ◌≤◌, Bool, List, [], ◌∷◌, ◌++◌, length, drop, flat_map, map, sum_by, Option, Some, None, if◌then◌else◌}
+use Rattle.std.specs.Prelude.{◌≡◌, ℕ, ◌+◌, ◌<◌, ◌≤◌, Bool, List, [], ◌∷◌, ◌++◌, length, flat_map, map, sum_by, Option, Some, None, if◌then◌else◌}
 use Rattle.feed_types.specs.declared.journal.Entry.{Entry}
-use Rattle.feed_types.specs.declared.journal.Notice.{Notice}
 use Rattle.feed_types.specs.declared.line.LineId.{LineId}
 use Rattle.mold_packet.specs.Faults.{code_of}
 use Rattle.line_arbiter.specs.Streams.{wins_of}
 use Rattle.line_arbiter.specs.Histories.{History, new_history, all_begun, streams_of}
 use Rattle.line_arbiter.specs.Counts.{shown}
-use Rattle.journal_book.specs.Changes.{changes_of}
+use Rattle.journal_book.specs.Changes.{notices_since}
 use Rattle.feed_text.specs.declared.replay.ReplayConfig.{ReplayConfig}
 use Rattle.feed_text.specs.Capture.{CaptureRecord}
 use Rattle.feed_text.specs.Happenings.{Happening, packet_answered, packet_refused, item_taken, gap_left, renewal_answered, self_help_declared, is_so, entries_after, entries_of}
@@ -28,10 +27,6 @@ line_of entries (gap_left venue request) = gap_line venue request
 line_of entries (renewal_answered venue answer) = renew_line venue answer
 line_of entries (self_help_declared venue on) =
     declare_line venue on (position_of entries venue on)
-
--- the notices that came with the entries behind the old ones
-abbrev pub notices_since : List (List ℕ) → List Entry → List Entry → List Notice
-notices_since symbols old new = drop (length (changes_of symbols old)) (changes_of symbols new)
 
 -- the lines of a happening: its own, and then the best lines of the notices that it made
 abbrev pub lines_of : List (List ℕ) → List Entry → Happening → List ℕ

@@ -1,17 +1,13 @@
 -- What the last entry of a journal made.
-use Rattle.std.proofs.Common.{ℕ, ◌≡◌, ◌+◌, ◌-◌, List, [], ◌∷◌, ◌++◌, ap, ◌∙◌, refl, length, take, drop, arith}
+use Rattle.std.proofs.Common.{ℕ, ◌≡◌, ◌+◌, ◌-◌, List, [], ◌∷◌, ◌++◌, ap, ◌∙◌, length, take, drop, arith}
 use Rattle.std.proofs.lemmas.List.{length-append, take-append-le, take_all}
+use Rattle.std.proofs.Math.Seq.{drop-append_seam}
 use Rattle.feed_types.specs.declared.journal.Entry.{Entry}
 use Rattle.feed_types.specs.declared.journal.Notice.{Notice}
 use Rattle.nbbo_book.specs.Changes.{changes_by}
 use Rattle.journal_book.specs.Changes.{changes_of, notices_from}
 use Rattle.journal_book.specs.Running.{before_last, latest_of}
 use Rattle.journal_book.proofs.Growth.{changes-put, length-numbered}
-
--- behind a whole list stands what was put there
-drop-seam : (xs ys : List Notice) → drop (length xs) (xs ++ ys) ≡ ys
-drop-seam [] ys = refl
-drop-seam (x ∷ xs) ys = drop-seam xs ys
 
 -- the entries before the one that was put
 pub before-put : (es : List Entry) (e : Entry) → before_last (es ++ e ∷ []) ≡ es
@@ -28,7 +24,7 @@ latest-put symbols es e =
     let made = notices_from (length (changes_of symbols es) + 1) (changes_by symbols es (length es + 1) e) in
     ap (λ (l : List Entry). drop (length (changes_of symbols l)) (changes_of symbols (es ++ e ∷ []))) (before-put es e)
     ∙ ap (λ (l : List Notice). drop (length (changes_of symbols es)) l) (changes-put symbols es e)
-    ∙ drop-seam (changes_of symbols es) made
+    ∙ drop-append_seam (changes_of symbols es) made
 
 -- and how many notices there are then
 pub count-put : (symbols : List (List ℕ)) (es : List Entry) (e : Entry)

@@ -1,5 +1,5 @@
 -- The numbered changes of the national best over a journal.
-use Rattle.std.specs.Prelude.{ℕ, ◌+◌, ◌-◌, ◌<◌, List, [], ◌∷◌, length, take}
+use Rattle.std.specs.Prelude.{ℕ, ◌+◌, ◌-◌, ◌<◌, List, [], ◌∷◌, length, take, drop}
 use Rattle.std.specs.List.{filter_map, flat_map, range_with_len}
 use Rattle.feed_types.specs.declared.journal.Entry.{Entry}
 use Rattle.feed_types.specs.declared.journal.Notice.{Notice}
@@ -41,6 +41,10 @@ notices_from number (change ∷ changes) =
 -- the changes of the national best over a journal of these entries, numbered from 1
 abbrev pub changes_of : List (List ℕ) → List Entry → List Notice
 changes_of symbols entries = notices_from 1 (all_changes symbols entries)
+
+-- the notices that came with the entries behind the old ones
+abbrev pub notices_since : List (List ℕ) → List Entry → List Entry → List Notice
+notices_since symbols old new = drop (length (changes_of symbols old)) (changes_of symbols new)
 
 -- the numbers of the notices rise strictly, from past this one
 abbrev pub RisesPast : ℕ → List Notice → Type 0

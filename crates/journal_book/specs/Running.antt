@@ -1,5 +1,5 @@
 -- What contracts see of a journal that is told while it runs, and not kept.
-use Rattle.std.specs.Prelude.{◌≡◌, ℕ, ◌+◌, ◌*◌, ◌-◌, ◌<◌, ◌≤◌, List, [], ◌∷◌, ◌++◌, Bool, length, take, drop, Result, Ok, Err}
+use Rattle.std.specs.Prelude.{◌≡◌, ℕ, ◌+◌, ◌*◌, ◌-◌, ◌<◌, ◌≤◌, List, [], ◌∷◌, ◌++◌, Bool, length, take, Result, Ok, Err}
 use Rattle.feed_types.specs.declared.journal.Entry.{Entry}
 use Rattle.feed_types.specs.declared.journal.Entry.TheVariants.{SelfHelp}
 use Rattle.feed_types.specs.declared.journal.Notice.{Notice}
@@ -8,7 +8,7 @@ use Rattle.nbbo_book.specs.Books.{BookState, Fits}
 use Rattle.nbbo_book.specs.Eligible.{is_self_helped}
 use Rattle.journal_book.specs.declared.fault.JournalFault.{JournalFault}
 use Rattle.journal_book.specs.declared.fault.JournalFault.TheVariants.{NoMemory, JournalFull, UnknownVenue, AlreadySo, TooManySubscribers}
-use Rattle.journal_book.specs.Changes.{changes_of, notices_from}
+use Rattle.journal_book.specs.Changes.{changes_of, notices_from, notices_since}
 
 -- The configured symbols, the number of venues, how many entries may be journaled, and the entries
 -- that were: they are known to proofs alone.
@@ -31,10 +31,9 @@ new_running symbols venues journal = record {
 abbrev pub before_last : List Entry → List Entry
 before_last entries = take (length entries - 1) entries
 
--- the notices that the last entry made: the journal's changes past those of the entries before it
+-- the notices that the last entry made
 abbrev pub latest_of : List (List ℕ) → List Entry → List Notice
-latest_of symbols entries =
-    drop (length (changes_of symbols (before_last entries))) (changes_of symbols entries)
+latest_of symbols entries = notices_since symbols (before_last entries) entries
 
 -- one entry more, and nothing else
 abbrev pub GoesOnBy : RunningState → Entry → RunningState → Type 0
@@ -57,16 +56,15 @@ DeclaresNext old venue on (Ok position) new =
 
 -- Cited by private clauses alone: the book, the counts and the last entry's changes are those of the
 -- entries.
-pub record Runs (book : BookState) (venues limit scratch count earlier : ℕ)
-    (latest : List Change) (entries : List Entry) : Type 0 where
+pub record Runs (book : BookState) (limit scratch earlier : ℕ) (latest : List Change)
+    (entries : List Entry) : Type 0 where
   pub fits : Fits book entries
   pub last : book.last ≡ length entries
-  pub venues_same : book.venues ≡ venues
-  pub counted : count ≡ length entries
   pub within : length entries ≤ limit
   pub limited : limit ≤ 4294967295
   pub few : length book.symbols ≤ 4096
   pub room : length book.symbols ≤ scratch
+  pub before : earlier ≡ length (changes_of book.symbols (before_last entries))
   pub all : earlier + length latest ≡ length (changes_of book.symbols entries)
   pub bounded : earlier + length latest ≤ length entries * 4096
   pub made : notices_from (earlier + 1) latest ≡ latest_of book.symbols entries

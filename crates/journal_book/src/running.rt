@@ -8,7 +8,7 @@ ghost use Rattle.feed_types.specs.declared.journal.Entry.{Entry};
 ghost use Rattle.nbbo_book.specs.Books.{venue_of, is_configured};
 ghost use Rattle.nbbo_book.specs.Eligible.{is_self_helped};
 ghost use Rattle.nbbo_book.specs.Nationals.{national_of};
-ghost use Rattle.journal_book.specs.Changes.{notices_from};
+ghost use Rattle.journal_book.specs.Changes.{changes_of, notices_from};
 
 use crate::fault::JournalFault;
 use crate::past::Past;
@@ -33,9 +33,7 @@ pub struct Latest<'a> {
 #[derive(Drop)]
 pub struct RunningJournal {
     book: Book,
-    venue_count: usize,
     limit: u32,
-    count: u64,
     earlier: u64,
     latest: Vec<Change>,
     past: Past,
@@ -49,17 +47,17 @@ impl Model for RunningJournal {
 
     ghost view = { λ j. record {
       symbols = j.book.symbols;
-      venues = j.venue_count;
+      venues = j.book.venues;
       journal = j.limit;
       entries = j.past.entries;
     } };
 
-    ghost invariant = { λ j. Runs j.book j.venue_count j.limit (vec_capacity j.latest) j.count
-        j.earlier j.latest.items j.past.entries };
+    ghost invariant = { λ j. Runs j.book j.limit (vec_capacity j.latest) j.earlier j.latest.items
+        j.past.entries };
 }
 
 impl RunningJournal {
-    ghost use Rattle.journal_book.specs.Running.{RunningState, new_running, latest_of, GoesOnBy, DeclaresNext};
+    ghost use Rattle.journal_book.specs.Running.{RunningState, new_running, before_last, latest_of, GoesOnBy, DeclaresNext};
 
     /// A journal of no entries over so many venues, 1 to 16, and these symbols, at most 4,096 and
     /// each once. It takes as many entries as `journal` says.
@@ -87,9 +85,7 @@ impl RunningJournal {
         };
         Ok(RunningJournal {
             book,
-            venue_count,
             limit: journal,
-            count: 0,
             earlier: 0,
             latest,
             past: Past::new(),
@@ -101,7 +97,7 @@ impl RunningJournal {
     pub fn has_room(&self) -> bool
         ensures { IsTrue result ↔ (length self.now.entries < self.now.journal) }
     {
-        self.count < u64::from(self.limit)
+        self.book.last_position() < u64::from(self.limit)
     }
 
     /// Journals the entry, and gives its position.
@@ -112,11 +108,10 @@ impl RunningJournal {
         ensures goes_on { GoesOnBy self.old entry.now self.new }
         ensures position { result ≡ length self.new.entries }
     {
-        let position = self.count + 1;
+        let position = self.book.last_position() + 1;
         self.earlier += self.latest.len() as u64;
         self.latest.clear();
         self.book.apply(position, entry, &mut self.latest);
-        self.count = position;
         self.past = self.past.with(entry);
         position
     }
@@ -139,7 +134,7 @@ impl RunningJournal {
     pub fn declare(&mut self, venue: VenueId, on: bool) -> Result<u64, JournalFault>
         ensures { DeclaresNext self.old venue on result self.new }
     {
-        if venue.index() >= self.venue_count {
+        if venue.index() >= self.book.venue_count() {
             return Err(JournalFault::UnknownVenue);
         }
         if self.book.is_self_helped(venue) == on {
@@ -154,6 +149,8 @@ impl RunningJournal {
     /// The changes that the last entry made; none before there is one.
     #[inline(always)]
     pub fn latest(&self) -> Latest<'_>
+        ensures first { result.first
+            ≡ length (changes_of self.now.symbols (before_last self.now.entries)) + 1 }
         ensures notices { notices_from result.first result.changes.now
             ≡ latest_of self.now.symbols self.now.entries }
         ensures numbers { result.first + length result.changes.now ≤ 18446744073709551615 }
@@ -168,14 +165,14 @@ impl RunningJournal {
     pub fn entry_count(&self) -> u64
         ensures { result ≡ length self.now.entries }
     {
-        self.count
+        self.book.last_position()
     }
 
     /// How many venues there are: items and declarations are of those below.
     pub fn venue_count(&self) -> usize
         ensures { result ≡ self.now.venues }
     {
-        self.venue_count
+        self.book.venue_count()
     }
 
     /// Whether self-help stands on the venue.
