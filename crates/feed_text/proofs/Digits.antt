@@ -1,38 +1,66 @@
 -- The digits of a number, two at a time.
-use Rattle.std.proofs.Common.{◌≡◌, ap, sym, ◌∙◌, ℕ, zero, suc, ◌+◌, ◌-◌, ◌/◌, ◌%◌, ◌^◌, ◌<◌, ◌≤◌, Bool, true, false, ◌&&◌, T, refl, List, [], ◌∷◌, ◌++◌, get_or, inl, inr, arith, eq-zero-or-pos, append_assoc}
+use Rattle.std.proofs.Common.{◌≡◌, ap, sym, subst, ◌∙◌, ℕ, zero, suc, ◌+◌, ◌-◌, ◌/◌, ◌%◌, ◌^◌, ◌<◌, ◌≤◌, Bool, true, false, ◌&&◌, T, refl, List, [], ◌∷◌, ◌++◌, length, take, get_or, inl, inr, arith, eq-zero-or-pos, append_assoc}
 use Rattle.std.proofs.lemmas.Fmt.{decimal_digit, decimal_step}
 use Rattle.std.specs.Fmt.{decimal}
 use Rattle.std.specs.Str.{bytes_eq}
 use Rattle.std.proofs.lemmas.Slice.Eq.{bytes_eq-Decides}
 use lib.Ieee.Fits.{and_l, and_r}
-use Rattle.feed_text.specs.declared.fields.TheConstants.{PAIRS}
+use Rattle.feed_text.specs.declared.fields.TheConstants.{PAIRS, VENUES}
+use Rattle.feed_text.specs.Lines.{field}
 
 -- two digits, of which the first may be 0
 abbrev pub pair : ℕ → List ℕ
 pair n = (48 + n / 10) ∷ (48 + n % 10) ∷ []
 
-abbrev are_pairs : ℕ → Bool
-are_pairs zero = true
-are_pairs (suc p) = bytes_eq (get_or PAIRS p []) (pair p) && are_pairs p
+-- whether it holds of each number below
+abbrev holds_below : (ℕ → Bool) → ℕ → Bool
+holds_below f zero = true
+holds_below f (suc p) = f p && holds_below f p
 
 is_true : (b : Bool) → T b → b ≡ true
 is_true true t = refl
 is_true false t = absurd t
 
-below : (n p : ℕ) → T (are_pairs n) → p < n → get_or PAIRS p [] ≡ pair p
-below zero p t h = absurd (omega arith)
-below (suc n) p t h =
+below : (f : ℕ → Bool) (n p : ℕ) → T (holds_below f n) → p < n → f p ≡ true
+below f zero p t h = absurd (omega arith)
+below f (suc n) p t h =
     elim (eq-zero-or-pos (n - p)) [
-      | inl z ↦ let e : p ≡ n = omega arith in rw e ((bytes_eq-Decides (get_or PAIRS n []) (pair n)).0 (is_true _ (and_l _ (are_pairs n) t)))
-      | inr g ↦ below n p (and_r _ (are_pairs n) t) (omega arith)
+      | inl z ↦ let e : p ≡ n = omega arith in rw e (is_true _ (and_l _ (holds_below f n) t))
+      | inr g ↦ below f n p (and_r _ (holds_below f n) t) (omega arith)
     ]
 
--- the table has them
+-- the table of pairs has them
 pub pairs_at : (p : ℕ) → p < 100 → get_or PAIRS p [] ≡ pair p
-pairs_at p h = below 100 p tt h
+pairs_at p h = (bytes_eq-Decides (get_or PAIRS p []) (pair p)).0 (below (λ (n : ℕ). bytes_eq (get_or PAIRS n []) (pair n)) 100 p tt h)
+
+abbrev is_venue : ℕ → List ℕ → Bool
+is_venue v bytes = bytes_eq (take (length bytes) (get_or VENUES v [])) bytes
+
+stands : (v : ℕ) (bytes : List ℕ) → is_venue v bytes ≡ true → take (length bytes) (get_or VENUES v []) ≡ bytes
+stands v bytes e = (bytes_eq-Decides (take (length bytes) (get_or VENUES v [])) bytes).0 e
 
 pub decimal_two : (n : ℕ) → 10 ≤ n → n < 100 → decimal n ≡ pair n
 decimal_two n low high = rw (decimal_step n low (omega arith), decimal_digit (n / 10) (omega arith))
+
+-- the table of venues has them: ten of one digit, and six of two
+venue_short : (v : ℕ) → v < 10 → take 2 (get_or VENUES v []) ≡ 32 ∷ (48 + v) ∷ []
+venue_short v h = stands v (32 ∷ (48 + v) ∷ []) (below (λ (n : ℕ). is_venue n (32 ∷ (48 + n) ∷ [])) 10 v tt h)
+
+venue_long : (k : ℕ) → k < 6 → take 3 (get_or VENUES (k + 10) []) ≡ 32 ∷ pair (k + 10)
+venue_long k h = stands (k + 10) (32 ∷ pair (k + 10)) (below (λ (n : ℕ). is_venue (n + 10) (32 ∷ pair (n + 10))) 6 k tt h)
+
+pub venue_at : (v : ℕ) → v < 16 → take (length (field v)) (get_or VENUES v []) ≡ field v
+venue_at v h =
+    elim (eq-zero-or-pos (10 - v)) [
+      | inl z ↦
+          let f : field v ≡ 32 ∷ pair v = ap (λ (d : List ℕ). 32 ∷ d) (decimal_two v (omega arith) (omega arith)) in
+          let e : v - 10 + 10 ≡ v = omega arith in
+          ap (λ (d : List ℕ). take (length d) (get_or VENUES v [])) f
+          ∙ subst (λ (n : ℕ). take 3 (get_or VENUES n []) ≡ 32 ∷ pair n) e (venue_long (v - 10) (omega arith)) ∙ sym f
+      | inr g ↦
+          let f : field v ≡ 32 ∷ (48 + v) ∷ [] = ap (λ (d : List ℕ). 32 ∷ d) (decimal_digit v (omega arith)) in
+          ap (λ (d : List ℕ). take (length d) (get_or VENUES v [])) f ∙ venue_short v (omega arith) ∙ sym f
+    ]
 
 -- one pair more
 pub decimal_pair : (n : ℕ) → 100 ≤ n → n < 2 ^ 64 → decimal n ≡ decimal (n / 100) ++ pair (n % 100)

@@ -8,7 +8,7 @@ ghost use Rattle.feed_types.specs.Text.{price_text};
 ghost use Rattle.feed_text.specs.Lines.{field};
 ghost use Rattle.feed_text.specs.Placing.{Placed};
 
-use feed_types::SymbolName;
+use feed_types::{SymbolName, VenueId};
 use itoa::write_digits;
 
 /// The two digits of each number below 100.
@@ -22,6 +22,12 @@ static PAIRS: [[u8; 2]; 100] = [
     *b"72", *b"73", *b"74", *b"75", *b"76", *b"77", *b"78", *b"79", *b"80", *b"81", *b"82", *b"83",
     *b"84", *b"85", *b"86", *b"87", *b"88", *b"89", *b"90", *b"91", *b"92", *b"93", *b"94", *b"95",
     *b"96", *b"97", *b"98", *b"99",
+];
+
+/// The number of each venue after a space; what stands behind it is 0.
+static VENUES: [[u8; 4]; 16] = [
+    *b" 0\0\0", *b" 1\0\0", *b" 2\0\0", *b" 3\0\0", *b" 4\0\0", *b" 5\0\0", *b" 6\0\0", *b" 7\0\0",
+    *b" 8\0\0", *b" 9\0\0", *b" 10\0", *b" 11\0", *b" 12\0", *b" 13\0", *b" 14\0", *b" 15\0",
 ];
 
 /// How many bytes the longest number has.
@@ -56,10 +62,16 @@ pub(crate) fn place<const N: usize>(room: &mut [u8], at: usize, bytes: [u8; N]) 
 
 /// The first `len` of these bytes, which are stored as one word.
 #[inline(always)]
-pub(crate) fn place_word(room: &mut [u8], at: usize, word: [u8; 8], len: usize) -> usize
-    requires part { len ≤ 8 }
-    requires fits { at + 8 ≤ length room.old }
-    ensures { Placed room.old room.new at (take len word) result }
+pub(crate) fn place_word<const N: usize>(
+    room: &mut [u8],
+    at: usize,
+    word: [u8; N],
+    len: usize,
+) -> usize
+    requires few { N ≤ 64 }
+    requires part { len ≤ N }
+    requires fits { at + N ≤ length room.old }
+    ensures { Placed room.old room.new at (take len word.entry) result }
 {
     place(room, at, word);
     at + len
@@ -172,6 +184,26 @@ pub(crate) fn place_field(room: &mut [u8], at: usize, number: u64) -> usize
 {
     let at = place(room, at, [b' ']);
     place_number(room, at, number)
+}
+
+/// How many bytes a venue's number and the space before it have.
+#[inline(always)]
+fn venue_len(venue: VenueId) -> usize
+    ensures value { result ≡ length (field venue) }
+    ensures short { result ≤ 3 }
+{
+    if venue.index() < 10 { 2 } else { 3 }
+}
+
+/// A venue's number after a space. One or two digits: which of them is a coin's toss where there are
+/// 16 venues, so that no branch hangs on it.
+#[inline(always)]
+pub(crate) fn place_venue(room: &mut [u8], at: usize, venue: VenueId) -> usize
+    requires { at + 4 ≤ length room.old }
+    ensures placed { Placed room.old room.new at (field venue) result }
+    ensures short { result ≤ at + 3 }
+{
+    place_word(room, at, VENUES[venue.index()], venue_len(venue))
 }
 
 /// A price: its dollars, a point and four digits.

@@ -10,7 +10,8 @@ ghost use Rattle.feed_text.specs.Placing.{Placed};
 ghost use Rattle.journal_book.specs.Changes.{notice_of};
 
 use crate::fields::{
-    place, place_field, place_name, place_number, place_price, place_short_field, place_word,
+    place, place_field, place_name, place_number, place_price, place_short_field, place_venue,
+    place_word,
 };
 use crate::page::Page;
 use feed_types::{Best, Item, LineId, NationalState, Notice, Numbered, VenueId};
@@ -27,16 +28,6 @@ const BEST_LINE: usize = 192;
 
 /// Room for a venue's last line.
 const VENUE_LINE: usize = 128;
-
-/// A venue's number after a space.
-#[inline(always)]
-fn place_venue(room: &mut [u8], at: usize, venue: VenueId) -> usize
-    requires { at + 9 ≤ length room.old }
-    ensures placed { Placed room.old room.new at (codes " " ++ decimal venue) result }
-    ensures short { result ≤ at + 9 }
-{
-    place_short_field(room, at, venue.index() as u16)
-}
 
 /// The head of a datagram's line: its venue and its line.
 #[inline(always)]
@@ -62,6 +53,30 @@ fn place_refused(room: &mut [u8], at: usize, code: u8) -> usize
     place(room, at, *b"\n")
 }
 
+/// Whether both counts have one digit.
+#[inline(always)]
+#[tactic(auto, using(std::proofs::lemmas::Nat::le_or_l, std::proofs::lemmas::Nat::le_or_r))]
+fn are_digits(new: u16, repeated: u16) -> bool
+    ensures { IsTrue result → (new < 10) × (repeated < 10) }
+{
+    new | repeated < 10
+}
+
+/// The tail of a taken packet's line whose counts have one digit, as most have: its parts have their
+/// places.
+#[inline(always)]
+fn place_digits(room: &mut [u8], at: usize, new: u16, repeated: u16) -> usize
+    requires room { at + 14 ≤ length room.old }
+    requires digits { (new < 10) × (repeated < 10) }
+    ensures placed { let tail = outcome_tail (Ok (Outcome.Taken new repeated)) in
+        Placed room.old room.new at tail result }
+    ensures short { result ≤ at + 11 }
+{
+    let (new, repeated) = (b'0' + new as u8, b'0' + repeated as u8);
+    let at = place_word(room, at, *b" taken  ", 6);
+    place_word(room, at, [b' ', new, b' ', repeated, b'\n', 0, 0, 0], 5)
+}
+
 /// The tail of a taken packet's line: how many messages are new, and how many came before.
 #[inline(always)]
 fn place_taken(room: &mut [u8], at: usize, new: u16, repeated: u16) -> usize
@@ -70,6 +85,9 @@ fn place_taken(room: &mut [u8], at: usize, new: u16, repeated: u16) -> usize
         Placed room.old room.new at tail result }
     ensures short { result ≤ at + 25 }
 {
+    if are_digits(new, repeated) {
+        return place_digits(room, at, new, repeated);
+    }
     let at = place_word(room, at, *b" taken  ", 6);
     let at = place_short_field(room, at, new);
     let at = place_short_field(room, at, repeated);
@@ -92,41 +110,6 @@ fn place_outcome(room: &mut [u8], at: usize, outcome: &Result<Outcome, LineFault
     }
 }
 
-/// Whether the venue and both counts have one digit: looked at all at once, so that not each such
-/// line is known for one.
-#[inline(always)]
-#[tactic(auto, using(std::proofs::lemmas::Nat::le_or_l, std::proofs::lemmas::Nat::le_or_r))]
-fn are_digits(venue: VenueId, new: u16, repeated: u16) -> bool
-    ensures { IsTrue result → (venue < 10) × (new < 10) × (repeated < 10) }
-{
-    let all = venue.index() as u16 | new | repeated;
-    all < 10
-}
-
-/// The line of a taken packet whose venue and counts have one digit, as most have: its parts have
-/// their places.
-#[inline(always)]
-fn place_digits(
-    room: &mut [u8],
-    at: usize,
-    venue: VenueId,
-    line: LineId,
-    new: u16,
-    repeated: u16,
-) -> usize
-    requires room { at + 24 ≤ length room.old }
-    requires digits { (venue < 10) × (new < 10) × (repeated < 10) }
-    ensures { let line = packet_line venue line (Ok (Outcome.Taken new repeated)) in
-        Placed room.old room.new at line result }
-{
-    let venue = b'0' + venue.index() as u8;
-    let (new, repeated) = (b'0' + new as u8, b'0' + repeated as u8);
-    let at = place(room, at, [b'p', b'a', b'c', b'k', b'e', b't', b' ', venue]);
-    let at = place(room, at, [b' ', line.letter()]);
-    let at = place_word(room, at, *b" taken  ", 6);
-    place_word(room, at, [b' ', new, b' ', repeated, b'\n', 0, 0, 0], 5)
-}
-
 /// The line of any datagram whose packet was answered.
 #[inline(always)]
 fn place_packet(
@@ -139,15 +122,8 @@ fn place_packet(
     requires { at + 42 ≤ length room.old }
     ensures { Placed room.old room.new at (packet_line venue line outcome.now) result }
 {
-    match *outcome {
-        Ok(Outcome::Taken { new, repeated }) if are_digits(venue, new, repeated) => {
-            place_digits(room, at, venue, line, new, repeated)
-        }
-        _ => {
-            let at = place_packet_head(room, at, venue, line);
-            place_outcome(room, at, outcome)
-        }
-    }
+    let at = place_packet_head(room, at, venue, line);
+    place_outcome(room, at, outcome)
 }
 
 /// The line of a datagram whose packet was answered.
@@ -205,16 +181,11 @@ fn place_item_word(room: &mut [u8], at: usize, item: &Item) -> usize
 
 /// The head of an item's line: its venue.
 #[inline(always)]
-#[tactic(auto, using(std::proofs::lemmas::Fmt::decimal_digit))]
 fn place_item_head(room: &mut [u8], at: usize, venue: VenueId) -> usize
     requires { at + 14 ≤ length room.old }
     ensures placed { Placed room.old room.new at (codes "item" ++ field venue ++ codes " ") result }
     ensures short { result ≤ at + 14 }
 {
-    if venue.index() < 10 {
-        let venue = b'0' + venue.index() as u8;
-        return place_word(room, at, [b'i', b't', b'e', b'm', b' ', venue, b' ', 0], 7);
-    }
     let at = place(room, at, *b"item");
     let at = place_venue(room, at, venue);
     place(room, at, [b' '])
@@ -238,16 +209,11 @@ pub(crate) fn put_item(text: &mut Page, venue: VenueId, item: &Numbered) -> Resu
 
 /// The head of a side of a national best: its venue.
 #[inline(always)]
-#[tactic(auto, using(std::proofs::lemmas::Fmt::decimal_digit))]
 fn place_best_head(room: &mut [u8], at: usize, venue: VenueId) -> usize
     requires { at + 10 ≤ length room.old }
     ensures placed { Placed room.old room.new at (field venue ++ codes ":") result }
     ensures short { result ≤ at + 10 }
 {
-    if venue.index() < 10 {
-        let venue = b'0' + venue.index() as u8;
-        return place_word(room, at, [b' ', venue, b':', 0, 0, 0, 0, 0], 3);
-    }
     let at = place_venue(room, at, venue);
     place(room, at, *b":")
 }

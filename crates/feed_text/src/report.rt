@@ -63,8 +63,9 @@ impl Report {
         if !self.journal.has_room() {
             return Err(Stop::JournalFull);
         }
-        put_item(&mut self.text, venue, numbered)?;
+        // Journaled before its line is placed: what the book keeps of the symbol comes meanwhile.
         self.journal.record(venue, *numbered);
+        put_item(&mut self.text, venue, numbered)?;
         put_bests(&mut self.text, self.journal.latest())?;
         Ok(())
     }

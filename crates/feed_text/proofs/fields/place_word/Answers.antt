@@ -3,4 +3,4 @@ use Rattle.feed_text.proofs.Places.{placed_front}
 use Rattle.feed_text.proofs.fields.place_word.Goals as goal
 
 pub returns : goal.returns
-returns c = placed_front _ _ _ _ _ c.args.len c.place.ensures (omega arith) (omega arith)
+returns g c = placed_front _ _ _ _ _ c.args.len c.place.ensures (omega arith) (omega arith)
