@@ -17,7 +17,7 @@ ghost use Rattle.line_arbiter.specs.Fits.{Fits, cursors_of};
 ghost use Rattle.line_arbiter.specs.Steps.{IsSound, DropsNext, GoesPast, IsNextIn, ThroughStep, SentStep, MessagesStep, HeartbeatStep, EndStep, PacketStep, raised as raised_to};
 
 use crate::faults::{ArbiterFault, RenewFault};
-use crate::intake::{Comparison, compare, fill, run_after};
+use crate::intake::{Intake, run_after, take_all};
 use crate::names::is_same_name;
 use crate::outcome::{LineFault, Outcome};
 use crate::window::Window;
@@ -212,24 +212,6 @@ impl<G: Genuine> Arbiter<G> {
         }
     }
 
-    /// Takes a packet of messages that all have a place in the window or were sent, and of which
-    /// those that are held read the same.
-    #[inline(always)]
-    fn take_new(&mut self, line: LineId, packet: &Packet<'_>, last: u64) -> Outcome
-        requires last { last ≡ last_of packet.now }
-        requires before { IsBefore self.old.end (last_of packet.now) }
-        requires within { last_of packet.now ≤ self.old.sent + self.old.window }
-        requires agrees { HeldAgrees (held_of self.old) packet.now }
-        ensures { MessagesStep line self.old self.new packet.now (Ok result) }
-    {
-        let new = fill(&mut self.held, packet);
-        self.run_to = run_after(&self.held, self.run_to, packet.number());
-        self.known_to = raised(self.known_to, self.end_number, last);
-        let repeated = packet.count() - new;
-        self.won.add(line, new);
-        Outcome::Taken { new, repeated }
-    }
-
     /// Takes a packet of messages that all have a place in the window or were sent.
     #[inline(always)]
     fn take_in(
@@ -243,11 +225,16 @@ impl<G: Genuine> Arbiter<G> {
         requires within { last_of packet.now ≤ self.old.sent + self.old.window }
         ensures { MessagesStep line self.old self.new packet.now result }
     {
-        match compare(&self.held, packet) {
-            Comparison::Differs => Err(LineFault::Conflict),
-            Comparison::Repeats => Ok(self.take_repeat(line, packet, last)),
-            Comparison::Agrees => Ok(self.take_new(line, packet, last)),
-        }
+        let new = match take_all(&mut self.held, packet) {
+            Intake::Differs => return Err(LineFault::Conflict),
+            Intake::Repeats => return Ok(self.take_repeat(line, packet, last)),
+            Intake::Holds(new) => new,
+        };
+        self.run_to = run_after(&self.held, self.run_to, packet.number());
+        self.known_to = raised(self.known_to, self.end_number, last);
+        let repeated = packet.count() - new;
+        self.won.add(line, new);
+        Ok(Outcome::Taken { new, repeated })
     }
 
     #[inline(always)]

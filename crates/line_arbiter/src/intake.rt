@@ -1,9 +1,9 @@
 //! A packet's messages against a window, and into it.
 
-ghost use Rattle.std.specs.Prelude.{◌≡◌, ◌≢◌, ◌↔◌, ℕ, ◌+◌, ◌^◌, ◌<◌, ◌≤◌, None, IsSome, IsTrue, ◌⊎◌, length, MatchBool};
+ghost use Rattle.std.specs.Prelude.{◌≡◌, ◌≢◌, ◌↔◌, ℕ, ◌+◌, ◌^◌, ◌<◌, ◌≤◌, None, IsSome, IsTrue, ◌⊎◌, length, MatchBool, false};
 ghost use Rattle.quote_payload.specs.Payload.{item_of};
-ghost use Rattle.line_arbiter.specs.Holding.{held_at, put_one, put_all, fresh_to};
-ghost use Rattle.line_arbiter.specs.Comparing.{Compares, ComparesOne};
+ghost use Rattle.line_arbiter.specs.Holding.{held_at, put_one, put_all, fresh_to, HeldAgrees};
+ghost use Rattle.line_arbiter.specs.Comparing.{Compares, ComparesOne, AreThere, HoldsAll, TakesAll};
 
 use crate::window::Window;
 use feed_types::Item;
@@ -73,31 +73,16 @@ fn compare_held(window: &Window, packet: &Packet<'_>) -> Comparison
     }
 }
 
-/// The same, where often nothing is held at its number: then the message isn't read.
-#[inline(always)]
-fn compare_only(window: &Window, packet: &Packet<'_>) -> Comparison
-    requires one { length packet.now.messages ≡ 1 }
-    requires within { packet.now.number ≤ window.now.base + window.now.width }
-    ensures { Compares window.now packet.now result }
-{
-    match window.free_slot(packet.number()) {
-        Some(_) => Comparison::Agrees,
-        None => compare_held(window, packet),
-    }
-}
-
 /// What the packet's messages are beside those that are held. Where these all lie below the packet,
 /// as most often, its messages aren't walked.
 #[inline(always)]
-pub(crate) fn compare(window: &Window, packet: &Packet<'_>) -> Comparison
+fn compare(window: &Window, packet: &Packet<'_>) -> Comparison
     requires { packet.now.number + length packet.now.messages
         ≤ window.now.base + window.now.width + 1 }
     ensures { Compares window.now packet.now result }
 {
     if !window.holds_from(packet.number()) {
         Comparison::Agrees
-    } else if packet.count() == 1 {
-        compare_only(window, packet)
     } else {
         compare_each(window, packet)
     }
@@ -113,6 +98,7 @@ fn put(window: &mut Window, number: u64, message: &[u8]) -> bool
         × (held_at window.old number ≡ None)) }
     ensures base { window.new.base ≡ window.old.base }
     ensures width { window.new.width ≡ window.old.width }
+    ensures same { result ≡ false → window.new ≡ window.old }
 {
     let Some(slot) = window.free_slot(number) else {
         return false;
@@ -121,21 +107,17 @@ fn put(window: &mut Window, number: u64, message: &[u8]) -> bool
     true
 }
 
-/// Holds the packet's one message where it is past the base and free, and tells how many it held.
+/// Holds the packet's one message where it is past the base and free, and tells whether it did.
 #[inline(always)]
-fn fill_only(window: &mut Window, packet: &Packet<'_>) -> u16
+fn fill_only(window: &mut Window, packet: &Packet<'_>) -> bool
     requires one { length packet.now.messages ≡ 1 }
     requires within { packet.now.number ≤ window.old.base + window.old.width }
-    ensures after { (m : ℕ) → held_at window.new m
-        ≡ put_all window.old.base packet.now (held_at window.old m) m }
-    ensures count { result
-        ≡ fresh_to (length packet.now.messages) window.old.base window.old packet.now }
-    ensures base { window.new.base ≡ window.old.base }
-    ensures width { window.new.width ≡ window.old.width }
+    ensures { MatchBool result (HoldsAll window.old window.new packet.now 1)
+        ((window.new ≡ window.old) × AreThere window.old packet.now) }
 {
     match packet.messages().next() {
-        Some(message) => u16::from(put(window, packet.number(), message)),
-        None => 0,
+        Some(message) => put(window, packet.number(), message),
+        None => false,
     }
 }
 
@@ -160,27 +142,64 @@ fn fill_each(window: &mut Window, packet: &Packet<'_>) -> u16
     count
 }
 
-/// Holds the packet's messages past the base where nothing is held, and tells how many it held.
+/// What a packet's messages came to in a window.
+#[derive(Clone, Copy, Debug, PartialEq, Eq)]
+pub(crate) enum Intake {
+    /// A held one reads otherwise; nothing is held anew.
+    Differs,
+    /// Each was sent, or is held and reads the same.
+    Repeats,
+    /// So many are held now that weren't.
+    Holds(u16),
+}
+
+/// Takes a packet of one message: it is compared only where it can't be held.
 #[inline(always)]
-pub(crate) fn fill(window: &mut Window, packet: &Packet<'_>) -> u16
+fn take_only(window: &mut Window, packet: &Packet<'_>) -> Intake
+    requires one { length packet.now.messages ≡ 1 }
+    requires within { packet.now.number ≤ window.old.base + window.old.width }
+    ensures { TakesAll window.old window.new packet.now result }
+{
+    if fill_only(window, packet) {
+        return Intake::Holds(1);
+    }
+    match compare_held(window, packet) {
+        Comparison::Differs => Intake::Differs,
+        Comparison::Repeats | Comparison::Agrees => Intake::Repeats,
+    }
+}
+
+/// Takes a packet of any number of messages: they are compared first.
+#[inline(always)]
+fn take_each(window: &mut Window, packet: &Packet<'_>) -> Intake
     requires { packet.now.number + length packet.now.messages
         ≤ window.old.base + window.old.width + 1 }
-    ensures after { (m : ℕ) → held_at window.new m
-        ≡ put_all window.old.base packet.now (held_at window.old m) m }
-    ensures count { result
-        ≡ fresh_to (length packet.now.messages) window.old.base window.old packet.now }
-    ensures base { window.new.base ≡ window.old.base }
-    ensures width { window.new.width ≡ window.old.width }
+    ensures { TakesAll window.old window.new packet.now result }
+{
+    match compare(window, packet) {
+        Comparison::Differs => Intake::Differs,
+        Comparison::Repeats => Intake::Repeats,
+        Comparison::Agrees => Intake::Holds(fill_each(window, packet)),
+    }
+}
+
+/// Holds the packet's messages past the base that aren't held, unless one that is reads otherwise.
+#[inline(always)]
+pub(crate) fn take_all(window: &mut Window, packet: &Packet<'_>) -> Intake
+    requires { packet.now.number + length packet.now.messages
+        ≤ window.old.base + window.old.width + 1 }
+    ensures { TakesAll window.old window.new packet.now result }
 {
     if packet.count() == 1 {
-        fill_only(window, packet)
+        take_only(window, packet)
     } else {
-        fill_each(window, packet)
+        take_each(window, packet)
     }
 }
 
 /// The last number of the run of held numbers that goes on past `front`, where those that came last
 /// are this one and greater ones.
+#[inline(always)]
 pub(crate) fn run_after(window: &Window, front: u64, number: u64) -> u64
     requires one { 1 ≤ number }
     requires stays { front + 1 < number → held_at window.now (front + 1) ≡ None }
