@@ -5,8 +5,7 @@ use Rattle.std.specs.Fmt.{decimal}
 use Rattle.std.specs.Str.{bytes_eq}
 use Rattle.std.proofs.lemmas.Slice.Eq.{bytes_eq-Decides}
 use lib.Ieee.Fits.{and_l, and_r}
-use Rattle.feed_text.specs.declared.fields.TheConstants.{PAIRS, VENUES}
-use Rattle.feed_text.specs.Lines.{field}
+use Rattle.feed_text.specs.declared.fields.TheConstants.{FRONTS, PAIRS}
 
 -- two digits, of which the first may be 0
 abbrev pub pair : ℕ → List ℕ
@@ -33,33 +32,33 @@ below f (suc n) p t h =
 pub pairs_at : (p : ℕ) → p < 100 → get_or PAIRS p [] ≡ pair p
 pairs_at p h = (bytes_eq-Decides (get_or PAIRS p []) (pair p)).0 (below (λ (n : ℕ). bytes_eq (get_or PAIRS n []) (pair n)) 100 p tt h)
 
-abbrev is_venue : ℕ → List ℕ → Bool
-is_venue v bytes = bytes_eq (take (length bytes) (get_or VENUES v [])) bytes
+abbrev is_front : ℕ → List ℕ → Bool
+is_front n bytes = bytes_eq (take (length bytes) (get_or FRONTS n [])) bytes
 
-stands : (v : ℕ) (bytes : List ℕ) → is_venue v bytes ≡ true → take (length bytes) (get_or VENUES v []) ≡ bytes
-stands v bytes e = (bytes_eq-Decides (take (length bytes) (get_or VENUES v [])) bytes).0 e
+stands : (n : ℕ) (bytes : List ℕ) → is_front n bytes ≡ true → take (length bytes) (get_or FRONTS n []) ≡ bytes
+stands n bytes e = (bytes_eq-Decides (take (length bytes) (get_or FRONTS n [])) bytes).0 e
 
 pub decimal_two : (n : ℕ) → 10 ≤ n → n < 100 → decimal n ≡ pair n
 decimal_two n low high = rw (decimal_step n low (omega arith), decimal_digit (n / 10) (omega arith))
 
--- the table of venues has them: ten of one digit, and six of two
-venue_short : (v : ℕ) → v < 10 → take 2 (get_or VENUES v []) ≡ 32 ∷ (48 + v) ∷ []
-venue_short v h = stands v (32 ∷ (48 + v) ∷ []) (below (λ (n : ℕ). is_venue n (32 ∷ (48 + n) ∷ [])) 10 v tt h)
+-- the table of fronts has the digits: ten numbers have one, and ninety have two
+front_short : (n : ℕ) → n < 10 → take 1 (get_or FRONTS n []) ≡ (48 + n) ∷ []
+front_short n h = stands n ((48 + n) ∷ []) (below (λ (k : ℕ). is_front k ((48 + k) ∷ [])) 10 n tt h)
 
-venue_long : (k : ℕ) → k < 6 → take 3 (get_or VENUES (k + 10) []) ≡ 32 ∷ pair (k + 10)
-venue_long k h = stands (k + 10) (32 ∷ pair (k + 10)) (below (λ (n : ℕ). is_venue (n + 10) (32 ∷ pair (n + 10))) 6 k tt h)
+front_long : (k : ℕ) → k < 90 → take 2 (get_or FRONTS (k + 10) []) ≡ pair (k + 10)
+front_long k h = stands (k + 10) (pair (k + 10)) (below (λ (m : ℕ). is_front (m + 10) (pair (m + 10))) 90 k tt h)
 
-pub venue_at : (v : ℕ) → v < 16 → take (length (field v)) (get_or VENUES v []) ≡ field v
-venue_at v h =
-    elim (eq-zero-or-pos (10 - v)) [
+pub front_at : (n : ℕ) → n < 100 → take (length (decimal n)) (get_or FRONTS n []) ≡ decimal n
+front_at n h =
+    elim (eq-zero-or-pos (10 - n)) [
       | inl z ↦
-          let f : field v ≡ 32 ∷ pair v = ap (λ (d : List ℕ). 32 ∷ d) (decimal_two v (omega arith) (omega arith)) in
-          let e : v - 10 + 10 ≡ v = omega arith in
-          ap (λ (d : List ℕ). take (length d) (get_or VENUES v [])) f
-          ∙ subst (λ (n : ℕ). take 3 (get_or VENUES n []) ≡ 32 ∷ pair n) e (venue_long (v - 10) (omega arith)) ∙ sym f
+          let d : decimal n ≡ pair n = decimal_two n (omega arith) h in
+          let e : n - 10 + 10 ≡ n = omega arith in
+          ap (λ (bytes : List ℕ). take (length bytes) (get_or FRONTS n [])) d
+          ∙ subst (λ (m : ℕ). take 2 (get_or FRONTS m []) ≡ pair m) e (front_long (n - 10) (omega arith)) ∙ sym d
       | inr g ↦
-          let f : field v ≡ 32 ∷ (48 + v) ∷ [] = ap (λ (d : List ℕ). 32 ∷ d) (decimal_digit v (omega arith)) in
-          ap (λ (d : List ℕ). take (length d) (get_or VENUES v [])) f ∙ venue_short v (omega arith) ∙ sym f
+          let d : decimal n ≡ (48 + n) ∷ [] = decimal_digit n (omega arith) in
+          ap (λ (bytes : List ℕ). take (length bytes) (get_or FRONTS n [])) d ∙ front_short n (omega arith) ∙ sym d
     ]
 
 -- one pair more

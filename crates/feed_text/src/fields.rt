@@ -24,10 +24,17 @@ static PAIRS: [[u8; 2]; 100] = [
     *b"96", *b"97", *b"98", *b"99",
 ];
 
-/// The number of each venue after a space; what stands behind it is 0.
-static VENUES: [[u8; 4]; 16] = [
-    *b" 0\0\0", *b" 1\0\0", *b" 2\0\0", *b" 3\0\0", *b" 4\0\0", *b" 5\0\0", *b" 6\0\0", *b" 7\0\0",
-    *b" 8\0\0", *b" 9\0\0", *b" 10\0", *b" 11\0", *b" 12\0", *b" 13\0", *b" 14\0", *b" 15\0",
+/// The digits of each number below 100; what stands behind one digit is 0.
+static FRONTS: [[u8; 2]; 100] = [
+    *b"0\0", *b"1\0", *b"2\0", *b"3\0", *b"4\0", *b"5\0", *b"6\0", *b"7\0", *b"8\0", *b"9\0",
+    *b"10", *b"11", *b"12", *b"13", *b"14", *b"15", *b"16", *b"17", *b"18", *b"19", *b"20", *b"21",
+    *b"22", *b"23", *b"24", *b"25", *b"26", *b"27", *b"28", *b"29", *b"30", *b"31", *b"32", *b"33",
+    *b"34", *b"35", *b"36", *b"37", *b"38", *b"39", *b"40", *b"41", *b"42", *b"43", *b"44", *b"45",
+    *b"46", *b"47", *b"48", *b"49", *b"50", *b"51", *b"52", *b"53", *b"54", *b"55", *b"56", *b"57",
+    *b"58", *b"59", *b"60", *b"61", *b"62", *b"63", *b"64", *b"65", *b"66", *b"67", *b"68", *b"69",
+    *b"70", *b"71", *b"72", *b"73", *b"74", *b"75", *b"76", *b"77", *b"78", *b"79", *b"80", *b"81",
+    *b"82", *b"83", *b"84", *b"85", *b"86", *b"87", *b"88", *b"89", *b"90", *b"91", *b"92", *b"93",
+    *b"94", *b"95", *b"96", *b"97", *b"98", *b"99",
 ];
 
 /// How many bytes the longest number has.
@@ -88,7 +95,18 @@ fn place_pair(room: &mut [u8], at: usize, number: u32) -> usize
     place(room, at, PAIRS[number as usize])
 }
 
-/// A number of one or two digits.
+/// How many digits a number below 100 has.
+#[inline(always)]
+fn digit_count(number: u32) -> usize
+    requires { number < 100 }
+    ensures value { result ≡ length (decimal number) }
+    ensures short { result ≤ 2 }
+{
+    if number < 10 { 1 } else { 2 }
+}
+
+/// A number of one or two digits. Which of them is a coin's toss, for a size as for a venue, so that
+/// no branch hangs on it.
 #[inline(always)]
 fn place_two(room: &mut [u8], at: usize, number: u32) -> usize
     requires small { number < 100 }
@@ -96,10 +114,7 @@ fn place_two(room: &mut [u8], at: usize, number: u32) -> usize
     ensures placed { Placed room.old room.new at (decimal number) result }
     ensures short { result ≤ at + 2 }
 {
-    if number < 10 {
-        return place(room, at, [b'0' + number as u8]);
-    }
-    place_pair(room, at, number)
+    place_word(room, at, FRONTS[number as usize], digit_count(number))
 }
 
 /// A number of one to four digits.
@@ -186,24 +201,15 @@ pub(crate) fn place_field(room: &mut [u8], at: usize, number: u64) -> usize
     place_number(room, at, number)
 }
 
-/// How many bytes a venue's number and the space before it have.
-#[inline(always)]
-fn venue_len(venue: VenueId) -> usize
-    ensures value { result ≡ length (field venue) }
-    ensures short { result ≤ 3 }
-{
-    if venue.index() < 10 { 2 } else { 3 }
-}
-
-/// A venue's number after a space. One or two digits: which of them is a coin's toss where there are
-/// 16 venues, so that no branch hangs on it.
+/// A venue's number after a space.
 #[inline(always)]
 pub(crate) fn place_venue(room: &mut [u8], at: usize, venue: VenueId) -> usize
-    requires { at + 4 ≤ length room.old }
+    requires { at + 3 ≤ length room.old }
     ensures placed { Placed room.old room.new at (field venue) result }
     ensures short { result ≤ at + 3 }
 {
-    place_word(room, at, VENUES[venue.index()], venue_len(venue))
+    let at = place(room, at, [b' ']);
+    place_two(room, at, venue.index() as u32)
 }
 
 /// A price: its dollars, a point and four digits.
