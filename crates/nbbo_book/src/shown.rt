@@ -125,8 +125,9 @@ pub(crate) fn is_same(x: Option<Shown>, y: Option<Shown>) -> bool
 {
     match (x, y) {
         (None, None) => true,
+        // A new price most often comes with a new size: so the first comparison tells most.
         (Some(x), Some(y)) => {
-            x.price == y.price && x.size == y.size && x.automated == y.automated
+            x.size == y.size && x.price == y.price && x.automated == y.automated
         }
         (Some(_), None) | (None, Some(_)) => false,
     }
