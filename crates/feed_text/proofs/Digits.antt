@@ -5,7 +5,7 @@ use Rattle.std.specs.Fmt.{decimal}
 use Rattle.std.specs.Str.{bytes_eq}
 use Rattle.std.proofs.lemmas.Slice.Eq.{bytes_eq-Decides}
 use lib.Ieee.Fits.{and_l, and_r}
-use Rattle.feed_text.specs.declared.fields.TheConstants.{FRONTS, PAIRS}
+use Rattle.feed_text.specs.declared.digit_tables.TheConstants.{FRONTS, PAIRS}
 
 -- two digits, of which the first may be 0
 abbrev pub pair : ℕ → List ℕ
@@ -41,26 +41,6 @@ stands n bytes e = (bytes_eq-Decides (take (length bytes) (get_or FRONTS n [])) 
 pub decimal_two : (n : ℕ) → 10 ≤ n → n < 100 → decimal n ≡ pair n
 decimal_two n low high = rw (decimal_step n low (omega arith), decimal_digit (n / 10) (omega arith))
 
--- the table of fronts has the digits: ten numbers have one, and ninety have two
-front_short : (n : ℕ) → n < 10 → take 1 (get_or FRONTS n []) ≡ (48 + n) ∷ []
-front_short n h = stands n ((48 + n) ∷ []) (below (λ (k : ℕ). is_front k ((48 + k) ∷ [])) 10 n tt h)
-
-front_long : (k : ℕ) → k < 90 → take 2 (get_or FRONTS (k + 10) []) ≡ pair (k + 10)
-front_long k h = stands (k + 10) (pair (k + 10)) (below (λ (m : ℕ). is_front (m + 10) (pair (m + 10))) 90 k tt h)
-
-pub front_at : (n : ℕ) → n < 100 → take (length (decimal n)) (get_or FRONTS n []) ≡ decimal n
-front_at n h =
-    elim (eq-zero-or-pos (10 - n)) [
-      | inl z ↦
-          let d : decimal n ≡ pair n = decimal_two n (omega arith) h in
-          let e : n - 10 + 10 ≡ n = omega arith in
-          ap (λ (bytes : List ℕ). take (length bytes) (get_or FRONTS n [])) d
-          ∙ subst (λ (m : ℕ). take 2 (get_or FRONTS m []) ≡ pair m) e (front_long (n - 10) (omega arith)) ∙ sym d
-      | inr g ↦
-          let d : decimal n ≡ (48 + n) ∷ [] = decimal_digit n (omega arith) in
-          ap (λ (bytes : List ℕ). take (length bytes) (get_or FRONTS n [])) d ∙ front_short n (omega arith) ∙ sym d
-    ]
-
 -- one pair more
 pub decimal_pair : (n : ℕ) → 100 ≤ n → n < 2 ^ 64 → decimal n ≡ decimal (n / 100) ++ pair (n % 100)
 decimal_pair n low high =
@@ -68,6 +48,50 @@ decimal_pair n low high =
     let b : n / 10 % 10 ≡ n % 100 / 10 = omega arith in
     let c : n % 10 ≡ n % 100 % 10 = omega arith in
     rw (decimal_step n (omega arith) high, decimal_step (n / 10) (omega arith) (omega arith), append_assoc, a, b, ← c)
+
+decimal_three : (n : ℕ) → 100 ≤ n → n < 1000 → decimal n ≡ (48 + n / 100) ∷ pair (n % 100)
+decimal_three n low high =
+    decimal_pair n low (omega arith) ∙ ap (λ (front : List ℕ). front ++ pair (n % 100)) (decimal_digit (n / 100) (omega arith))
+
+-- how many digits a number has
+pub count_one : (n : ℕ) → n < 10 → length (decimal n) ≡ 1
+count_one n h = ap (λ (digits : List ℕ). length digits) (decimal_digit n h)
+
+pub count_two : (n : ℕ) → 10 ≤ n → n < 100 → length (decimal n) ≡ 2
+count_two n low high = ap (λ (digits : List ℕ). length digits) (decimal_two n low high)
+
+pub count_three : (n : ℕ) → 100 ≤ n → n < 1000 → length (decimal n) ≡ 3
+count_three n low high = ap (λ (digits : List ℕ). length digits) (decimal_three n low high)
+
+-- the table of fronts has the digits of each number
+front_one : (n : ℕ) → n < 10 → take 1 (get_or FRONTS n []) ≡ (48 + n) ∷ []
+front_one n h = stands n ((48 + n) ∷ []) (below (λ (k : ℕ). is_front k ((48 + k) ∷ [])) 10 n tt h)
+
+front_two : (k : ℕ) → k < 90 → take 2 (get_or FRONTS (k + 10) []) ≡ pair (k + 10)
+front_two k h = stands (k + 10) (pair (k + 10)) (below (λ (m : ℕ). is_front (m + 10) (pair (m + 10))) 90 k tt h)
+
+abbrev three : ℕ → List ℕ
+three n = (48 + n / 100) ∷ pair (n % 100)
+
+front_three : (k : ℕ) → k < 900 → take 3 (get_or FRONTS (k + 100) []) ≡ three (k + 100)
+front_three k h = stands (k + 100) (three (k + 100)) (below (λ (m : ℕ). is_front (m + 100) (three (m + 100))) 900 k tt h)
+
+as_digits : (n : ℕ) (digits : List ℕ) → decimal n ≡ digits → take (length digits) (get_or FRONTS n []) ≡ digits → take (length (decimal n)) (get_or FRONTS n []) ≡ decimal n
+as_digits n digits d front = ap (λ (bytes : List ℕ). take (length bytes) (get_or FRONTS n [])) d ∙ front ∙ sym d
+
+pub front_at : (n : ℕ) → n < 1000 → take (length (decimal n)) (get_or FRONTS n []) ≡ decimal n
+front_at n h =
+    elim (eq-zero-or-pos (10 - n)) [
+      | inr g ↦ as_digits n ((48 + n) ∷ []) (decimal_digit n (omega arith)) (front_one n (omega arith))
+      | inl z ↦ elim (eq-zero-or-pos (100 - n)) [
+        | inr g ↦
+            let e : n - 10 + 10 ≡ n = omega arith in
+            as_digits n (pair n) (decimal_two n (omega arith) (omega arith)) (subst (λ (m : ℕ). take 2 (get_or FRONTS m []) ≡ pair m) e (front_two (n - 10) (omega arith)))
+        | inl y ↦
+            let e : n - 100 + 100 ≡ n = omega arith in
+            as_digits n (three n) (decimal_three n (omega arith) h) (subst (λ (m : ℕ). take 3 (get_or FRONTS m []) ≡ three m) e (front_three (n - 100) (omega arith)))
+      ]
+    ]
 
 -- two pairs more
 pub decimal_four : (n : ℕ) → 10000 ≤ n → n < 2 ^ 64 → decimal n ≡ decimal (n / 10000) ++ (pair (n % 10000 / 100) ++ pair (n % 10000 % 100))

@@ -8,34 +8,9 @@ ghost use Rattle.feed_types.specs.Text.{price_text};
 ghost use Rattle.feed_text.specs.Lines.{field};
 ghost use Rattle.feed_text.specs.Placing.{Placed};
 
+use crate::digit_tables::{FRONTS, PAIRS};
 use feed_types::{SymbolName, VenueId};
 use itoa::write_digits;
-
-/// The two digits of each number below 100.
-static PAIRS: [[u8; 2]; 100] = [
-    *b"00", *b"01", *b"02", *b"03", *b"04", *b"05", *b"06", *b"07", *b"08", *b"09", *b"10", *b"11",
-    *b"12", *b"13", *b"14", *b"15", *b"16", *b"17", *b"18", *b"19", *b"20", *b"21", *b"22", *b"23",
-    *b"24", *b"25", *b"26", *b"27", *b"28", *b"29", *b"30", *b"31", *b"32", *b"33", *b"34", *b"35",
-    *b"36", *b"37", *b"38", *b"39", *b"40", *b"41", *b"42", *b"43", *b"44", *b"45", *b"46", *b"47",
-    *b"48", *b"49", *b"50", *b"51", *b"52", *b"53", *b"54", *b"55", *b"56", *b"57", *b"58", *b"59",
-    *b"60", *b"61", *b"62", *b"63", *b"64", *b"65", *b"66", *b"67", *b"68", *b"69", *b"70", *b"71",
-    *b"72", *b"73", *b"74", *b"75", *b"76", *b"77", *b"78", *b"79", *b"80", *b"81", *b"82", *b"83",
-    *b"84", *b"85", *b"86", *b"87", *b"88", *b"89", *b"90", *b"91", *b"92", *b"93", *b"94", *b"95",
-    *b"96", *b"97", *b"98", *b"99",
-];
-
-/// The digits of each number below 100; what stands behind one digit is 0.
-static FRONTS: [[u8; 2]; 100] = [
-    *b"0\0", *b"1\0", *b"2\0", *b"3\0", *b"4\0", *b"5\0", *b"6\0", *b"7\0", *b"8\0", *b"9\0",
-    *b"10", *b"11", *b"12", *b"13", *b"14", *b"15", *b"16", *b"17", *b"18", *b"19", *b"20", *b"21",
-    *b"22", *b"23", *b"24", *b"25", *b"26", *b"27", *b"28", *b"29", *b"30", *b"31", *b"32", *b"33",
-    *b"34", *b"35", *b"36", *b"37", *b"38", *b"39", *b"40", *b"41", *b"42", *b"43", *b"44", *b"45",
-    *b"46", *b"47", *b"48", *b"49", *b"50", *b"51", *b"52", *b"53", *b"54", *b"55", *b"56", *b"57",
-    *b"58", *b"59", *b"60", *b"61", *b"62", *b"63", *b"64", *b"65", *b"66", *b"67", *b"68", *b"69",
-    *b"70", *b"71", *b"72", *b"73", *b"74", *b"75", *b"76", *b"77", *b"78", *b"79", *b"80", *b"81",
-    *b"82", *b"83", *b"84", *b"85", *b"86", *b"87", *b"88", *b"89", *b"90", *b"91", *b"92", *b"93",
-    *b"94", *b"95", *b"96", *b"97", *b"98", *b"99",
-];
 
 /// How many bytes the longest number has.
 const LONGEST_NUMBER: usize = 20;
@@ -95,26 +70,44 @@ fn place_pair(room: &mut [u8], at: usize, number: u32) -> usize
     place(room, at, PAIRS[number as usize])
 }
 
-/// How many digits a number below 100 has.
+/// How many digits a number below 1,000 has. Which of two counts it is is a coin's toss, for a price
+/// or a size as for a venue, so that no branch hangs on it.
 #[inline(always)]
 fn digit_count(number: u32) -> usize
-    requires { number < 100 }
+    requires { number < 1000 }
     ensures value { result ≡ length (decimal number) }
-    ensures short { result ≤ 2 }
+    ensures short { result ≤ 3 }
 {
-    if number < 10 { 1 } else { 2 }
+    if number < 10 {
+        1
+    } else if number < 100 {
+        2
+    } else {
+        3
+    }
 }
 
-/// A number of one or two digits. Which of them is a coin's toss, for a size as for a venue, so that
-/// no branch hangs on it.
+/// A number of one to three digits.
+#[inline(always)]
+fn place_three(room: &mut [u8], at: usize, number: u32) -> usize
+    requires small { number < 1000 }
+    requires fits { at + 4 ≤ length room.old }
+    ensures placed { Placed room.old room.new at (decimal number) result }
+    ensures short { result ≤ at + 3 }
+{
+    place_word(room, at, FRONTS[number as usize], digit_count(number))
+}
+
+/// A number of one or two digits.
 #[inline(always)]
 fn place_two(room: &mut [u8], at: usize, number: u32) -> usize
     requires small { number < 100 }
-    requires fits { at + 2 ≤ length room.old }
+    requires fits { at + 4 ≤ length room.old }
     ensures placed { Placed room.old room.new at (decimal number) result }
     ensures short { result ≤ at + 2 }
 {
-    place_word(room, at, FRONTS[number as usize], digit_count(number))
+    let len = if number < 10 { 1 } else { 2 };
+    place_word(room, at, FRONTS[number as usize], len)
 }
 
 /// A number of one to four digits.
@@ -204,12 +197,26 @@ pub(crate) fn place_field(room: &mut [u8], at: usize, number: u64) -> usize
 /// A venue's number after a space.
 #[inline(always)]
 pub(crate) fn place_venue(room: &mut [u8], at: usize, venue: VenueId) -> usize
-    requires { at + 3 ≤ length room.old }
+    requires { at + 5 ≤ length room.old }
     ensures placed { Placed room.old room.new at (field venue) result }
     ensures short { result ≤ at + 3 }
 {
     let at = place(room, at, [b' ']);
     place_two(room, at, venue.index() as u32)
+}
+
+/// The dollars of a price. Most have two digits or three.
+#[inline(always)]
+fn place_dollars(room: &mut [u8], at: usize, dollars: u32) -> usize
+    requires small { dollars < 100000000 }
+    requires fits { at + 8 ≤ length room.old }
+    ensures placed { Placed room.old room.new at (decimal dollars) result }
+    ensures short { result ≤ at + 8 }
+{
+    if dollars < 1_000 {
+        return place_three(room, at, dollars);
+    }
+    place_eight(room, at, dollars)
 }
 
 /// A price: its dollars, a point and four digits.
@@ -219,7 +226,7 @@ pub(crate) fn place_price(room: &mut [u8], at: usize, price: u32) -> usize
     ensures placed { Placed room.old room.new at (price_text price) result }
     ensures short { result ≤ at + 13 }
 {
-    let at = place_eight(room, at, price / 10_000);
+    let at = place_dollars(room, at, price / 10_000);
     let at = place(room, at, *b".");
     let four = price % 10_000;
     let at = place_pair(room, at, four / 100);

@@ -26,6 +26,7 @@
 
 pub mod capture;
 pub mod devices;
+mod digit_tables;
 pub mod failures;
 pub mod fault;
 mod fields;

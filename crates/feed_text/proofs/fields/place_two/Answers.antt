@@ -1,8 +1,18 @@
-use Rattle.feed_text.proofs.Digits.{front_at}
+use Rattle.std.proofs.Common.{◌≡◌, length, ap, sym, ◌∙◌, arith, ℕ}
+use Rattle.std.specs.Prelude.{decimal, take, get_or, []}
+use Rattle.feed_text.specs.declared.digit_tables.TheConstants.{FRONTS}
+use Rattle.feed_text.proofs.Digits.{count_one, count_two, front_at}
 use Rattle.feed_text.proofs.Places.{placed_as}
+use Rattle.feed_text.proofs.fields.place_two.Goals.{then-number-lt10, else-number-lt10}
 use Rattle.feed_text.proofs.fields.place_two.Goals as goal
 
 pub returns-clause-placed : goal.returns-clause-placed
 returns-clause-placed c =
+    let n = c.args.number in
+    let len : c.if-number-lt10.len ≡ length (decimal n) =
+    elim c.if-number-lt10.branch [
+      | then-number-lt10 w ↦ w.len-is ∙ sym (count_one n w.if-number-lt10.true)
+      | else-number-lt10 w ↦ w.len-is ∙ sym (count_two n (omega (arith, w.if-number-lt10.false)) c.requires.small)
+    ] in
     placed_as _ _ _ _ _ _ c.place_word.ensures
-    (rw c.digit_count.ensures.value (front_at c.args.number c.requires.small))
+    (ap (λ (k : ℕ). take k (get_or FRONTS n [])) len ∙ front_at n (omega (arith, c.requires.small)))
