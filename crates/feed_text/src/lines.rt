@@ -145,7 +145,8 @@ pub(crate) fn put_packet(
     Ok(())
 }
 
-/// The line of a datagram that is no packet.
+/// The line of a datagram that is no packet. It is rare, and so a call of its own.
+#[inline(never)]
 pub(crate) fn put_fault(
     text: &mut Page,
     venue: VenueId,

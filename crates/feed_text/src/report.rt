@@ -72,6 +72,7 @@ impl Report {
 
     /// Journals a declaration, unless it is so already, and prints its line and those of the
     /// changes that it makes.
+    #[inline(never)]
     pub fn declare(&mut self, venue: VenueId, on: bool) -> Result<(), Stop>
         requires { venue < self.old.journal.venues }
         ensures { TellsBy (tale_of self.old) (self_help_declared venue on ∷ [])

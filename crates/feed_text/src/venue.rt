@@ -261,7 +261,9 @@ impl VenueReplay {
         }
     }
 
-    /// Tells the gap, if one is left.
+    /// Tells the gap, if one is left. It is a call of its own, so that the loop over records has the
+    /// registers.
+    #[inline(never)]
     fn tell_gap(&self, venue: VenueId, report: &mut Report) -> Result<(), Stop>
         ensures { (P : List Arrival) → Fits self.now.arbiter P
             → TellsBy (tale_of report.old)
@@ -314,6 +316,7 @@ impl VenueReplay {
     }
 
     /// Begins the next session under this name, where it may begin, and tells of that.
+    #[inline(never)]
     pub fn renew(
         &mut self,
         venue: VenueId,
