@@ -21,10 +21,13 @@ use crate::page::Page;
 use crate::report::{Report, Stop};
 use feed_types::{Anything, LineId, Numbered, VenueId};
 use line_arbiter::{Arbiter, LineFault, Outcome, RenewFault};
-use mold_packet::{Packet, read_packet};
-use quote_payload::read_item;
+use mold_packet::{Messages, Packet, read_packet};
+use quote_payload::{read_item, symbol_field};
 use std::alloc::{AllocError, Global};
 use std::marker::Model;
+
+/// How many of a packet's messages are looked ahead at most: a book notes no more.
+const MOST_AHEAD: usize = 64;
 
 /// A venue's arbiter, and how many items of the sessions that are over were sent. That count stays
 /// at 2^64 - 1.
@@ -77,9 +80,9 @@ fn take_ready(
     }
 }
 
-/// Takes the items that a packet's messages are.
+/// Takes the items that a packet's messages are, one by one.
 #[inline(always)]
-fn take_messages(venue: VenueId, packet: &Packet<'_>, report: &mut Report) -> Result<(), Stop>
+fn take_in_turn(venue: VenueId, packet: &Packet<'_>, report: &mut Report) -> Result<(), Stop>
     requires { venue < report.old.journal.venues }
     ensures { TellsBy (tale_of report.old)
         (map (item_taken venue)
@@ -98,6 +101,45 @@ fn take_messages(venue: VenueId, packet: &Packet<'_>, report: &mut Report) -> Re
         place += 1;
     }
     Ok(())
+}
+
+/// Has the book read at once what the quotations among the first of these messages will read of it.
+#[inline(never)]
+fn read_ahead(venue: VenueId, mut messages: Messages<'_>, report: &mut Report)
+    ensures { report.new ≡ report.old }
+{
+    for _ in 0..MOST_AHEAD {
+        let Some(message) = messages.next() else {
+            break;
+        };
+        if let Some(field) = symbol_field(message) {
+            report.journal.look_ahead(field);
+        }
+    }
+    report.journal.read_ahead(venue);
+}
+
+/// Looks ahead at a packet of several messages, where the book is large.
+#[inline(always)]
+fn look_ahead(venue: VenueId, packet: &Packet<'_>, report: &mut Report)
+    ensures { report.new ≡ report.old }
+{
+    if packet.count() > 1 && report.journal.is_large() {
+        read_ahead(venue, packet.messages(), report);
+    }
+}
+
+/// Takes the items that a packet's messages are.
+#[inline(always)]
+fn take_messages(venue: VenueId, packet: &Packet<'_>, report: &mut Report) -> Result<(), Stop>
+    requires { venue < report.old.journal.venues }
+    ensures { TellsBy (tale_of report.old)
+        (map (item_taken venue)
+        (numbered_from packet.now.number (map item_of packet.now.messages)))
+        (tale_of report.new) result }
+{
+    look_ahead(venue, packet, report);
+    take_in_turn(venue, packet, report)
 }
 
 /// Tells of a packet that passed through, takes its items, and what is ready behind them.

@@ -128,6 +128,32 @@ impl RunningJournal {
         self.add(&Entry::Consumed { venue, numbered })
     }
 
+    /// Whether there are so many symbols, more than 512, that looking ahead pays.
+    #[inline(always)]
+    pub fn is_large(&self) -> bool
+        ensures { IsTrue result ↔ (512 < length self.now.symbols) }
+    {
+        self.book.is_large()
+    }
+
+    /// Notes the symbol whose field a message to come has, as [`Book::look_ahead`] does. It changes
+    /// no answer.
+    #[inline(always)]
+    pub fn look_ahead(&mut self, field: [u8; 8])
+        ensures { self.new ≡ self.old }
+    {
+        self.book.look_ahead(field);
+    }
+
+    /// Reads what the venue's quotations of the symbols noted will read, as [`Book::read_ahead`]
+    /// does. It changes no answer.
+    #[inline(always)]
+    pub fn read_ahead(&mut self, venue: VenueId)
+        ensures { self.new ≡ self.old }
+    {
+        self.book.read_ahead(venue);
+    }
+
     /// Declares self-help on the venue, or withdraws it, and gives the entry's position. It is
     /// refused as UnknownVenue, AlreadySo where the venue's self-help is in that state (off at
     /// first), or JournalFull: the first of these that fits.

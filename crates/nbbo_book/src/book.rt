@@ -11,6 +11,7 @@ ghost use Rattle.nbbo_book.specs.Nationals.{national_of, IsRanking};
 ghost use Rattle.nbbo_book.specs.Changes.{changes_by};
 ghost use Rattle.nbbo_book.specs.Rows.{empty_row};
 
+use crate::ahead::Ahead;
 use crate::change::Change;
 use crate::fault::BookFault;
 use crate::ranks::{Ranks, ranks_of};
@@ -26,6 +27,9 @@ use std::marker::Model;
 /// How many venues there are at most.
 const MAX_VENUES: usize = 16;
 
+/// The rows of so many symbols lie near the processor anyway.
+const FEW_SYMBOLS: usize = 512;
+
 /// The protected sides of the configured symbols, and the best of them.
 #[derive(Drop)]
 pub struct Book {
@@ -34,6 +38,7 @@ pub struct Book {
     venues: Venues,
     last: u64,
     applied: u64,
+    ahead: Ahead,
 }
 
 impl Model for Book {
@@ -102,6 +107,7 @@ impl Book {
             },
             last: 0,
             applied: 0,
+            ahead: Ahead::new(),
         })
     }
 
@@ -133,6 +139,40 @@ impl Book {
         apply_step(&self.table, rows, &self.venues, entry, step, out);
         self.applied = age;
         self.last = position;
+    }
+
+    /// Whether there are so many symbols, more than 512, that looking ahead pays.
+    #[inline(always)]
+    pub fn is_large(&self) -> bool
+        ensures { IsTrue result ↔ (512 < length self.now.symbols) }
+    {
+        self.rows.len() > FEW_SYMBOLS
+    }
+
+    /// Notes where the symbol stands whose field a message to come has, for [`Book::read_ahead`]: of
+    /// at most 64 fields that are configured symbols. It changes no answer.
+    #[inline(always)]
+    pub fn look_ahead(&mut self, field: [u8; 8])
+        ensures { self.new ≡ self.old }
+    {
+        if let Some(place) = self.table.get_index_of(&u64::from_be_bytes(field)) {
+            self.ahead.note(place);
+        }
+    }
+
+    /// Reads at once what the venue's quotations of the symbols noted will read one by one, and
+    /// forgets the symbols. It changes no answer.
+    #[inline(always)]
+    pub fn read_ahead(&mut self, venue: VenueId)
+        ensures { self.new ≡ self.old }
+    {
+        let mut read: u64 = 0;
+        for &place in self.ahead.noted() {
+            if place < self.rows.len() {
+                read = read.wrapping_add(self.rows[place].glance(venue));
+            }
+        }
+        self.ahead.forget(read);
     }
 
     /// The national best of the symbol, `None` exactly where it isn't configured.

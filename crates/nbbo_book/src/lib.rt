@@ -9,6 +9,7 @@
 //! out from the whole list. Begin at `book.rt`; `laws.rt` says what the definitions mean.
 #![tactic(auto)]
 
+mod ahead;
 mod best;
 mod book;
 mod book_side;

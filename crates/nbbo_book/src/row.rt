@@ -170,6 +170,12 @@ impl Row {
         }
     }
 
+    /// Reads something of each part that a quotation of the venue reads. The sum has no meaning.
+    #[inline(always)]
+    pub fn glance(&self, venue: VenueId) -> u64 {
+        u64::from(self.halted[venue.index()]).wrapping_add(self.standings.glance(venue))
+    }
+
     /// The national best.
     #[inline(always)]
     pub fn national(&self) -> National

@@ -88,6 +88,18 @@ impl Standing {
         })
     }
 
+    /// The size as it is kept, whatever is shown.
+    #[inline(always)]
+    pub fn kept_size(&self) -> u64 {
+        self.size
+    }
+
+    /// The price as it is kept, whatever is shown.
+    #[inline(always)]
+    pub fn kept_price(&self) -> u64 {
+        u64::from(self.price)
+    }
+
     /// Since when.
     #[inline(always)]
     pub fn age(self) -> u64

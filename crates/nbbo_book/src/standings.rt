@@ -62,6 +62,17 @@ impl Standings {
         }
     }
 
+    /// Reads the start of it all, and the start and the end of what stands at the venue's place. The
+    /// sum has no meaning.
+    #[inline(always)]
+    pub fn glance(&self, venue: VenueId) -> u64 {
+        let start = self.by_venue[0].bid.kept_size();
+        let both = &self.by_venue[venue.index()];
+        start
+            .wrapping_add(both.bid.kept_size())
+            .wrapping_add(both.offer.kept_price())
+    }
+
     /// The venue shows this from now on.
     #[inline(always)]
     pub fn set(&mut self, side: Side, venue: VenueId, standing: Standing)

@@ -21,6 +21,16 @@ fn read_symbol(message: &[u8]) -> Option<SymbolName>
     SymbolName::from_field(field)
 }
 
+/// The eight bytes where quotations and halts have their symbol, of any message that has them. They
+/// are not looked at: they need be no symbol, and the message no quotation.
+#[inline(always)]
+pub fn symbol_field(message: &[u8]) -> Option<[u8; 8]>
+    ensures { SomeIff result (9 ≤ length message.now) (symbol_at message.now) }
+{
+    let rest = message.get(1..)?;
+    rest.first_chunk::<8>().copied()
+}
+
 fn read_u32(message: &[u8], offset: usize) -> u32
     requires { offset + 4 ≤ length message.now }
     ensures { result ≡ u32_at offset message.now }
