@@ -1,3 +1,4 @@
+pub mod Contending
 pub mod Beating
 pub mod Ranking
 pub mod Said

@@ -30,7 +30,7 @@ use Rattle.nbbo_book.proofs.Ranking.{nat_refl}
 use Rattle.nbbo_book.proofs.Kept.{IsPast, long_set, ranked_own, rank_own, rank_apart, side_waits, standings_after}
 use Rattle.nbbo_book.proofs.Firsts.{best_same}
 use Rattle.nbbo_book.proofs.Fitting.{row_fits, helped_fits}
-use Rattle.nbbo_book.proofs.Words.{apart_at, missed_all}
+use Rattle.nbbo_book.proofs.Words.{apart_at, missed_all, place_is}
 
 row_waits : (helped : List Bool) (c n : ℕ) (r : Row) → IsRow helped c n r → IsRow helped c (n + 1) r
 row_waits helped c n r h = record {
@@ -265,6 +265,10 @@ pub found_symbol : (rs : List Row) (s : List ℕ) (i : ℕ) (d : Row) → positi
 found_symbol rs s i d e =
     let k = position-Some (bytes_eq s) (symbols_of rs) i d.symbol e in
     (omega (arith, k.0, long_symbols rs), sym ((bytes_decides s (get_or (symbols_of rs) i d.symbol)).0 k.1 ∙ symbol_at rs i d))
+
+-- a row's place is that of its symbol
+pub place_found : (rs : List Row) (s : List ℕ) (i : ℕ) (d : Row) → IsDistinct bytes_eq (symbols_of rs) → i < length rs → bytes_eq s (get_or rs i d).symbol ≡ true → position (bytes_eq s) (symbols_of rs) ≡ Some i
+place_found rs s i d distinct l e = place_is s (symbols_of rs) i d.symbol distinct (omega (arith, l, long_symbols rs)) (ap (bytes_eq s) (symbol_at rs i d) ∙ e)
 
 pub found_steps : (helped : List Bool) (n p : ℕ) (e : Entry) (s : List ℕ) (rs : List Row) (i : ℕ) (d : Row) → symbol_in e ≡ Some s → IsDistinct bytes_eq (symbols_of rs) → position (bytes_eq s) (symbols_of rs) ≡ Some i → (map (row_after helped n e) rs ≡ set rs i (row_after helped n e (get_or rs i d))) × (filter_map (row_change helped n p e) rs ≡ option_to_list (row_change helped n p e (get_or rs i d)))
 found_steps helped n p e s rs i d c distinct at =

@@ -90,6 +90,24 @@ first_within p (s ∷ ss) h =
 lt_true : (a b : ℕ) → a < b → nat_lt a b ≡ true
 lt_true a b h = grind (arith, h)
 
+first_is : (s : List ℕ) (ss : List (List ℕ)) (i : ℕ) (d : List ℕ) → IsDistinct bytes_eq ss → i < length ss → bytes_eq s (get_or ss i d) ≡ true → prefix_len (λ t. not (bytes_eq s t)) ss ≡ i
+unfolding IsDistinct
+first_is s [] i d h l e = absurd (omega (arith, l))
+first_is s (t ∷ ts) zero d h l e = ap (λ b. cond (not b) (1 + prefix_len (λ x. not (bytes_eq s x)) ts) 0) e
+first_is s (t ∷ ts) (suc i) d h l e =
+    let other : bytes_eq s t ≡ false =
+    ap (λ x. bytes_eq x t) ((bytes_decides s (get_or ts i d)).0 e) ∙ apart_at (t ∷ ts) (suc i) zero d h l (omega (arith, l)) (λ q. (let no : suc i ≡ 0 = q in omega (arith, no))) in
+    let one_more : 1 + i ≡ suc i = omega arith in
+    ap (λ b. cond (not b) (1 + prefix_len (λ x. not (bytes_eq s x)) ts) 0) other
+    ∙ ap (λ n. 1 + n) (first_is s ts i d h.1 (omega (arith, l)) e)
+    ∙ one_more
+
+-- a symbol's place is where it stands, where each stands once
+pub place_is : (s : List ℕ) (ss : List (List ℕ)) (i : ℕ) (d : List ℕ) → IsDistinct bytes_eq ss → i < length ss → bytes_eq s (get_or ss i d) ≡ true → position (bytes_eq s) ss ≡ Some i
+place_is s ss i d h l e =
+    ap (λ n. cond (nat_lt n (length ss)) (Some n) None) (first_is s ss i d h l e)
+    ∙ ap (λ b. cond b (Some i) None) (lt_true i (length ss) l)
+
 pub missed_configured : (s : List ℕ) (ss : List (List ℕ)) → position (bytes_eq s) ss ≡ None → is_configured ss s ≡ false
 missed_configured s ss e =
     let R : Bool → Type 0 = λ b. list_any (bytes_eq s) ss ≡ b → b ≡ false in

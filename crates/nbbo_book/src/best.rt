@@ -3,11 +3,12 @@
 ghost use Rattle.std.specs.Prelude.{◌≡◌, not, true, IfSome};
 ghost use Rattle.nbbo_book.specs.Nationals.{beats, is_better_price};
 ghost use Rattle.nbbo_book.specs.Changes.{is_same_best};
-ghost use Rattle.nbbo_book.specs.Ranks.{better_of as first_of_two, comes_first as first_comes, is_better as is_better_side, is_improved as is_improved_side, is_of as is_of_venue};
+ghost use Rattle.nbbo_book.specs.Ranks.{comes_first as first_comes, is_better as is_better_side, is_improved as is_improved_side, is_of as is_of_venue};
 ghost use Rattle.nbbo_book.specs.Rows.{age_at, may_at, rank_at as rank_at_venue, best_at};
 ghost use Rattle.nbbo_book.specs.Standings.{standings_on};
 ghost use Rattle.nbbo_book.specs.Tables.{IsStandings, IsNewest};
 
+use crate::contender::Contender;
 use crate::shown::rank_of;
 use crate::standings::Standings;
 use crate::venues::Venues;
@@ -80,23 +81,6 @@ pub fn is_improved(side: Side, before: &Option<Best>, x: &Option<Best>) -> bool
     }
 }
 
-/// The best so far, or x where that ranks before it.
-#[inline(always)]
-pub fn better_of(
-    side: Side,
-    standings: &Standings,
-    best: Option<Best>,
-    x: Option<Best>,
-) -> Option<Best>
-    ensures { result ≡ first_of_two side (age_at (standings_on side standings.now)) best x }
-{
-    if comes_first(side, false, standings, &best, &x) {
-        x
-    } else {
-        best
-    }
-}
-
 /// What the venue is ranked with in a symbol that these venues halt.
 #[inline(always)]
 pub fn rank_at(
@@ -126,14 +110,16 @@ fn best_through(
     requires { IsStandings venues.now.count (standings_on side standings.now) }
     ensures { result ≡ best_at side (may_at venues.now.helped halted.now) (standings_on side standings.now) }
 {
-    let mut best = None;
+    let mut first = Contender::none();
     for place in 0..venues.count {
         if let Some(venue) = VenueId::from_index(place) {
-            let x = rank_at(side, standings, venues, halted, venue);
-            best = better_of(side, standings, best, x);
+            let contender = Contender::at(side, standings, venues, halted, venue);
+            if contender.is_ranked() {
+                first = first.or(side, contender);
+            }
         }
     }
-    best
+    first.best()
 }
 
 /// Looks through all venues for the best; the loop is compiled once for each side.

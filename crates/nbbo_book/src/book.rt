@@ -10,6 +10,7 @@ ghost use Rattle.nbbo_book.specs.Eligible.{is_self_helped as self_helped};
 ghost use Rattle.nbbo_book.specs.Nationals.{national_of, IsRanking};
 ghost use Rattle.nbbo_book.specs.Changes.{changes_by};
 ghost use Rattle.nbbo_book.specs.Rows.{empty_row};
+ghost use Rattle.nbbo_book.specs.Tables.{IsPlaceOf};
 
 use crate::ahead::Ahead;
 use crate::change::Change;
@@ -17,10 +18,10 @@ use crate::fault::BookFault;
 use crate::ranks::{Ranks, ranks_of};
 use crate::row::Row;
 use crate::standings::Standings;
-use crate::steps::{Step, apply_step};
+use crate::steps::{ByPlace, ByTable, Step, Way};
 use crate::table::{Table, find, symbol_table};
 use crate::venues::Venues;
-use feed_types::{Entry, National, Side, SymbolName, VenueId};
+use feed_types::{Entry, Item, National, Side, SymbolName, VenueId};
 use std::alloc::{AllocError, Global};
 use std::marker::Model;
 
@@ -111,13 +112,43 @@ impl Book {
         })
     }
 
-    /// Applies the entry, and appends to `out` a change for each symbol whose national best is
-    /// another one after it, in configured order and with the position given.
-    ///
-    /// It takes no memory: `out` has room for as many changes as there are symbols. The entry's
-    /// venue is below the count, and positions rise.
+    /// The place of the quotation's symbol, where it is the next one of those looked ahead.
     #[inline(never)]
-    pub fn apply(&mut self, position: u64, entry: &Entry, out: &mut Vec<Change>)
+    fn next_place(&mut self, entry: &Entry) -> Option<usize>
+        ensures same { self.new ≡ self.old }
+        ensures place { IfSome result (λ place. IsPlaceOf place self.old.symbols entry.now) }
+    {
+        let Entry::Consumed { venue: _, numbered } = entry else {
+            return None;
+        };
+        let Item::Quote(quote) = &numbered.item else {
+            return None;
+        };
+        let place = self.ahead.next()?;
+        if place < self.rows.len() && self.rows[place].is_of(quote.symbol) {
+            self.ahead.advance();
+            return Some(place);
+        }
+        None
+    }
+
+    /// The same, which is most often `None` at a glance.
+    #[inline(always)]
+    fn place_ahead(&mut self, entry: &Entry) -> Option<usize>
+        ensures same { self.new ≡ self.old }
+        ensures place { IfSome result (λ place. IsPlaceOf place self.old.symbols entry.now) }
+    {
+        if self.ahead.has_next() {
+            self.next_place(entry)
+        } else {
+            None
+        }
+    }
+
+    /// Applies the entry by the way that leads to its rows.
+    #[inline(never)]
+    fn apply_by<W: Way>(&mut self, way: &W, position: u64, entry: &Entry, out: &mut Vec<Change>)
+        requires right { W.is_right way.now self.old.symbols entry.now }
         requires room { vec_len out.old + length self.old.symbols ≤ vec_capacity out.old }
         requires venue { venue_of entry.now < self.old.venues }
         requires rising { self.old.last < position }
@@ -136,9 +167,36 @@ impl Book {
         let age = self.applied + 1;
         let step = Step { age, position };
         let rows = self.rows.as_mut_slice();
-        apply_step(&self.table, rows, &self.venues, entry, step, out);
+        way.apply(&self.table, rows, &self.venues, entry, step, out);
         self.applied = age;
         self.last = position;
+    }
+
+    /// Applies the entry, and appends to `out` a change for each symbol whose national best is
+    /// another one after it, in configured order and with the position given.
+    ///
+    /// It takes no memory: `out` has room for as many changes as there are symbols. The entry's
+    /// venue is below the count, and positions rise.
+    #[inline(always)]
+    pub fn apply(&mut self, position: u64, entry: &Entry, out: &mut Vec<Change>)
+        requires room { vec_len out.old + length self.old.symbols ≤ vec_capacity out.old }
+        requires venue { venue_of entry.now < self.old.venues }
+        requires rising { self.old.last < position }
+        ensures fits { (entries : List Entry) → Fits self.old entries
+            → Fits self.new (entries ++ entry.now ∷ []) }
+        ensures changes { (entries : List Entry) → Fits self.old entries
+            → out.new.items
+            ≡ out.old.items ++ changes_by self.old.symbols entries position entry.now }
+        ensures count { vec_len out.new ≤ vec_len out.old + length self.old.symbols }
+        ensures capacity { vec_capacity out.new ≡ vec_capacity out.old }
+        ensures symbols { self.new.symbols ≡ self.old.symbols }
+        ensures venues { self.new.venues ≡ self.old.venues }
+        ensures last { self.new.last ≡ position }
+    {
+        match self.place_ahead(entry) {
+            Some(place) => self.apply_by(&ByPlace { place }, position, entry, out),
+            None => self.apply_by(&ByTable, position, entry, out),
+        }
     }
 
     /// Whether there are so many symbols, more than 512, that looking ahead pays.
@@ -160,8 +218,8 @@ impl Book {
         }
     }
 
-    /// Reads at once what the venue's quotations of the symbols noted will read one by one, and
-    /// forgets the symbols. It changes no answer.
+    /// Reads at once what the venue's quotations of the symbols noted will read one by one. `apply`
+    /// looks for each next symbol at the place noted first. It changes no answer.
     #[inline(always)]
     pub fn read_ahead(&mut self, venue: VenueId)
         ensures { self.new ≡ self.old }
@@ -172,7 +230,7 @@ impl Book {
                 read = read.wrapping_add(self.rows[place].glance(venue));
             }
         }
-        self.ahead.forget(read);
+        self.ahead.keep(read);
     }
 
     /// The national best of the symbol, `None` exactly where it isn't configured.

@@ -14,6 +14,7 @@ mod best;
 mod book;
 mod book_side;
 mod change;
+mod contender;
 mod fault;
 mod laws;
 mod ranks;

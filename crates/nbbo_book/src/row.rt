@@ -29,7 +29,7 @@ pub struct Row {
 impl Row {
     /// Whether the symbol is the row's. Their words are compared: eight bytes at once.
     #[inline(always)]
-    fn is_of(&self, symbol: SymbolName) -> bool
+    pub fn is_of(&self, symbol: SymbolName) -> bool
         ensures { result ≡ bytes_eq symbol self.now.symbol }
     {
         symbol.word() == self.symbol.word()

@@ -50,6 +50,8 @@ impl Model for Standing {
 }
 
 impl Standing {
+    ghost use Rattle.nbbo_book.specs.Standings.{size_of, price_of, is_counted};
+
     /// A venue shows this, or nothing, since that age.
     #[inline(always)]
     pub fn new(shown: Option<Shown>, age: u64) -> Standing
@@ -88,16 +90,28 @@ impl Standing {
         })
     }
 
-    /// The size as it is kept, whatever is shown.
+    /// Whether an eligible venue is ranked with it.
     #[inline(always)]
-    pub fn kept_size(&self) -> u64 {
+    pub fn counts(self) -> bool
+        ensures { result ≡ is_counted self.shown }
+    {
+        self.is_shown & self.automated & (0 < self.price) & (0 < self.size)
+    }
+
+    /// The size, in shares; 0 where nothing is shown.
+    #[inline(always)]
+    pub fn size(self) -> u64
+        ensures { result ≡ size_of self.shown }
+    {
         self.size
     }
 
-    /// The price as it is kept, whatever is shown.
+    /// The price, in ten-thousandths of a dollar; 0 where nothing is shown.
     #[inline(always)]
-    pub fn kept_price(&self) -> u64 {
-        u64::from(self.price)
+    pub fn price(self) -> u32
+        ensures { result ≡ price_of self.shown }
+    {
+        self.price
     }
 
     /// Since when.

@@ -66,11 +66,11 @@ impl Standings {
     /// sum has no meaning.
     #[inline(always)]
     pub fn glance(&self, venue: VenueId) -> u64 {
-        let start = self.by_venue[0].bid.kept_size();
+        let start = self.by_venue[0].bid.size();
         let both = &self.by_venue[venue.index()];
         start
-            .wrapping_add(both.bid.kept_size())
-            .wrapping_add(both.offer.kept_price())
+            .wrapping_add(both.bid.size())
+            .wrapping_add(both.offer.price().into())
     }
 
     /// The venue shows this from now on.
