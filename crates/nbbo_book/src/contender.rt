@@ -63,7 +63,7 @@ impl Contender {
         let standing = standings.at(side, venue);
         let may = venues.may_rank(halted, venue);
         Contender {
-            is_ranked: may & standing.counts(),
+            is_ranked: may & standing.is_counted(),
             venue,
             price: standing.price(),
             size: standing.size(),

@@ -50,7 +50,7 @@ impl Model for Standing {
 }
 
 impl Standing {
-    ghost use Rattle.nbbo_book.specs.Standings.{size_of, price_of, is_counted};
+    ghost use Rattle.nbbo_book.specs.Standings.{size_of, price_of, is_counted as counts_by};
 
     /// A venue shows this, or nothing, since that age.
     #[inline(always)]
@@ -92,8 +92,8 @@ impl Standing {
 
     /// Whether an eligible venue is ranked with it.
     #[inline(always)]
-    pub fn counts(self) -> bool
-        ensures { result ≡ is_counted self.shown }
+    pub fn is_counted(self) -> bool
+        ensures { result ≡ counts_by self.shown }
     {
         self.is_shown & self.automated & (0 < self.price) & (0 < self.size)
     }

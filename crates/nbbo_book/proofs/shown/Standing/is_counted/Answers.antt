@@ -1,7 +1,7 @@
 use Rattle.std.proofs.Common.{◌∙◌, ap}
 use Rattle.nbbo_book.specs.Standings.{StandingState, is_counted}
 use Rattle.nbbo_book.proofs.Contending.{counted}
-use Rattle.nbbo_book.proofs.shown.Standing.counts.Goals as goal
+use Rattle.nbbo_book.proofs.shown.Standing.is_counted.Goals as goal
 
 pub returns : goal.returns
 returns c =
