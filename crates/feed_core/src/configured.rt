@@ -1,6 +1,6 @@
 //! What is made of a configuration first: its sizes are checked, and its journal begins.
 
-ghost use Rattle.std.specs.Prelude.{◌≡◌, ◌≤◌, IfOk, IfErr, MatchOption, OnOk};
+ghost use Rattle.std.specs.Prelude.{◌≡◌, IfOk, IfErr, MatchOption, OnOk};
 ghost use Rattle.feed_core.specs.Configs.{IsSized, IsGood, IsBad, Explains, journal_of};
 
 use crate::config::{ConfigFault, CoreFault};

@@ -1,6 +1,6 @@
 //! One subscriber of the machine: how far its filter has come, and the lane behind it.
 
-ghost use Rattle.std.specs.Prelude.{◌≡◌, ℕ, ◌≤◌, ◌++◌, ◌∷◌, [], List, None, IfOk, IfSome, IsTrue, filter, take, length, slice_get};
+ghost use Rattle.std.specs.Prelude.{◌≡◌, ℕ, ◌≤◌, List, None, IfOk, IfSome, IsTrue, filter, take, length, slice_get};
 ghost use Rattle.feed_types.specs.declared.journal.Entry.{Entry};
 ghost use Rattle.filter_terms.specs.Terms.{meets};
 ghost use Rattle.filter_terms.specs.Filters.{terms_of};

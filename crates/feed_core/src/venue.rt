@@ -1,6 +1,6 @@
 //! One venue of the machine: its arbiter, and the lane behind it.
 
-ghost use Rattle.std.specs.Prelude.{◌≡◌, ◌⊎◌, ℕ, ◌≤◌, ◌++◌, ◌∷◌, [], List, None, IfOk, IfSome, OnOk, OnErr, drop};
+ghost use Rattle.std.specs.Prelude.{◌≡◌, ◌⊎◌, ℕ, ◌++◌, ◌∷◌, [], List, None, IfOk, IfSome, OnOk, OnErr, drop};
 ghost use Rattle.mold_packet.specs.Content.{Spells};
 ghost use Rattle.line_arbiter.specs.Packets.{Arrival};
 ghost use Rattle.line_arbiter.specs.Streams.{stream_of};

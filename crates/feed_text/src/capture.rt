@@ -1,7 +1,7 @@
 //! The records of a capture.
-ghost use Rattle.std.specs.Prelude.{◌≡◌, ◌≢◌, ℕ, ◌<◌, ◌≤◌, ◌++◌, ◌+◌, List, MatchOption, length, drop, take};
+ghost use Rattle.std.specs.Prelude.{◌≡◌, ◌≢◌, ◌<◌, ◌≤◌, ◌+◌, MatchOption, length};
 ghost use Rattle.std.specs.Option.{SomeIff};
-ghost use Rattle.feed_text.specs.Capture.{IsKind, StandsAtFront, record_of, spelling};
+ghost use Rattle.feed_text.specs.Capture.{IsKind, StandsAtFront};
 ghost use Rattle.feed_text.specs.Kind.{IsKindOf};
 
 use feed_types::{LineId, VenueId};

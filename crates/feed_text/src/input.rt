@@ -1,5 +1,5 @@
 //! Calls of a reader, until enough bytes are there.
-ghost use Rattle.std.specs.Prelude.{◌≡◌, ◌≢◌, ℕ, ◌+◌, ◌-◌, ◌<◌, ◌≤◌, List, Ok, Err, OnOk, IsErrOf, length, true, false};
+ghost use Rattle.std.specs.Prelude.{◌≡◌, ◌≢◌, ◌+◌, ◌-◌, ◌<◌, ◌≤◌, Ok, Err, OnOk, IsErrOf, length, true, false};
 ghost use Rattle.feed_text.specs.Devices.{Came, CameAll, CameSome};
 
 use crate::devices::CaptureIn;

@@ -3,8 +3,8 @@
 //! Room for a whole line is made behind the text, its parts are placed there, and then the text
 //! ends behind them. So a line takes memory at most once, and where that is refused the text is as
 //! it was.
-ghost use Rattle.std.specs.Prelude.{◌≡◌, ◌+◌, ◌<◌, ◌≤◌, ◌++◌, codes, decimal, length, take, vec_len, IfOk, IsTrue, Ok, OnOk, OnErr};
-ghost use Rattle.feed_text.specs.Lines.{field, line_end, packet_head, packet_line, fault_line, refused_tail, outcome_tail, item_word, item_line, side_field, state_tail, best_line, gap_line, renew_line, on_word, position_tail, declare_line, venue_line, wins_by};
+ghost use Rattle.std.specs.Prelude.{◌≡◌, ◌+◌, ◌<◌, ◌≤◌, ◌++◌, codes, length, IsTrue, Ok, OnOk, OnErr};
+ghost use Rattle.feed_text.specs.Lines.{field, line_end, packet_head, packet_line, fault_line, refused_tail, outcome_tail, item_word, item_line, side_field, state_tail, best_line, gap_line, renew_line, on_word, declare_line, venue_line, wins_by};
 ghost use Rattle.feed_types.specs.Text.{best_text};
 ghost use Rattle.feed_text.specs.Placing.{Placed};
 ghost use Rattle.journal_book.specs.Changes.{notice_of};

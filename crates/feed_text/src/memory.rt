@@ -1,5 +1,5 @@
 //! Devices over memory.
-ghost use Rattle.std.specs.Prelude.{◌≡◌, ℕ, ◌+◌, ◌++◌, [], List, length, max};
+ghost use Rattle.std.specs.Prelude.{◌≡◌, ◌+◌, ◌++◌, max};
 ghost use Rattle.feed_text.specs.Devices.{GivesPieces, GivesEnd, Written};
 ghost use Rattle.feed_text.specs.DeviceLaws.{gives_none, gives_more, back_none, back_more};
 

@@ -1,5 +1,5 @@
 //! Calls of a writer, until a text is written.
-ghost use Rattle.std.specs.Prelude.{◌≡◌, ℕ, ◌+◌, [], List, OnOk, OnErr, IsErrOf, length};
+ghost use Rattle.std.specs.Prelude.{◌≡◌, ◌+◌, [], OnOk, OnErr, IsErrOf};
 ghost use Rattle.feed_text.specs.Devices.{Wrote, Moved};
 
 use crate::devices::{TextOut, WriteStop};

@@ -3,7 +3,6 @@ ghost use Rattle.std.specs.Prelude.{◌≡◌, ◌≤◌, [], length, IfOk};
 ghost use Rattle.std.specs.List.{IsDistinct};
 ghost use Rattle.std.specs.Str.{bytes_eq};
 ghost use Rattle.journal_book.specs.Running.{new_running};
-ghost use Rattle.feed_text.specs.Devices.{Reading, Writing};
 ghost use Rattle.feed_text.specs.Following.{Closes, Stops, fault_by, left_by};
 ghost use Rattle.feed_text.specs.Replays.{Replays};
 

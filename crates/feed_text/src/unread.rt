@@ -1,5 +1,5 @@
 //! The bytes that were read and not yet used.
-ghost use Rattle.std.specs.Prelude.{◌≡◌, ℕ, ◌+◌, ◌-◌, ◌++◌, [], ◌<◌, ◌≤◌, List, IfOk, Ok, Err, take, drop, length, slice_range, IsTrue, ◌↔◌};
+ghost use Rattle.std.specs.Prelude.{◌≡◌, ℕ, ◌+◌, ◌-◌, [], ◌<◌, ◌≤◌, List, IfOk, Ok, Err, take, drop, length, slice_range, IsTrue, ◌↔◌};
 ghost use Rattle.feed_text.specs.Devices.{Came};
 
 use crate::devices::{CaptureIn, ReadStop};

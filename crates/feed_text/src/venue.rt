@@ -1,5 +1,5 @@
 //! One venue of a replay: its lines, and what they give.
-ghost use Rattle.std.specs.Prelude.{◌≡◌, ℕ, Bool, false, List, [], ◌∷◌, ◌++◌, ◌<◌, ◌≤◌, length, drop, map, Ok, IfOk, OnOk};
+ghost use Rattle.std.specs.Prelude.{◌≡◌, ℕ, Bool, false, List, ◌∷◌, ◌++◌, ◌<◌, ◌≤◌, length, drop, map, Ok, IfOk, OnOk};
 ghost use Rattle.feed_types.specs.Sessions.{numbered_from};
 ghost use Rattle.quote_payload.specs.Payload.{item_of};
 ghost use Rattle.line_arbiter.specs.Through.{SendsPacket};
@@ -9,7 +9,7 @@ ghost use Rattle.line_arbiter.specs.Counts.{shown};
 ghost use Rattle.line_arbiter.specs.States.{KeepsAllButSent};
 ghost use Rattle.line_arbiter.specs.Fits.{Fits};
 ghost use Rattle.line_arbiter.specs.Histories.{History, new_history, streams_of};
-ghost use Rattle.feed_text.specs.Capture.{datagram_record, renewal_record, self_help_record};
+ghost use Rattle.feed_text.specs.Capture.{datagram_record, renewal_record};
 ghost use Rattle.feed_text.specs.Happenings.{item_taken, packet_answered};
 ghost use Rattle.feed_text.specs.Told.{gap_happening};
 ghost use Rattle.feed_text.specs.Texts.{last_line};

@@ -1,7 +1,5 @@
 //! Lines of a venue, and sides of the market.
 
-ghost use Rattle.std.specs.Prelude.{Some, ◌∷◌, []};
-
 use std::fmt;
 
 /// The line on which a packet came. A venue sends the same packets on A and B; what a

@@ -4,7 +4,7 @@ ghost use Rattle.std.specs.Prelude.{◌*◌, ◌≡◌, IsTrue, Some, length, na
 ghost use Rattle.std.specs.Int.{w64, to_be_bytes};
 ghost use Rattle.std.specs.List.{list_all};
 ghost use Rattle.std.specs.Option.{SomeIff};
-ghost use Rattle.feed_types.specs.Symbols.{is_space, is_name_byte, is_symbol_field, is_symbol_name, name_of, filled, word_of};
+ghost use Rattle.feed_types.specs.Symbols.{is_name_byte, is_symbol_field, is_symbol_name, name_of, filled, word_of};
 ghost use Rattle.feed_types.specs.FieldTests.{EndsWithin, IsZeroWhereFilled, Marks};
 
 use std::fmt;

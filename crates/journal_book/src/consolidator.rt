@@ -1,6 +1,6 @@
 //! The journal with its subscribers' filters.
 
-ghost use Rattle.std.specs.Prelude.{◌≡◌, ◌<◌, ◌≤◌, ◌^◌, ◌↔◌, ◌⊎◌, [], length, IsTrue, IsSome, IfSome, IfOk, OnOk, IsErrOf, Some, false};
+ghost use Rattle.std.specs.Prelude.{◌≡◌, ◌<◌, ◌≤◌, ◌^◌, ◌↔◌, ◌⊎◌, length, IsTrue, IsSome, IfSome, IfOk, OnOk, IsErrOf, Some};
 ghost use Rattle.std.specs.List.{IsDistinct};
 ghost use Rattle.std.specs.Str.{bytes_eq};
 ghost use Rattle.journal_book.specs.Journals.{new_journal, changes, subscriptions_of, Journals, Reserves, Declares, terms_at};

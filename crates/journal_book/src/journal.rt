@@ -1,6 +1,6 @@
 //! The journal of entries with the changes that they make, and a cursor for each subscriber.
 
-ghost use Rattle.std.specs.Prelude.{◌≡◌, ◌<◌, ◌≤◌, ◌↔◌, ◌∷◌, [], ◌++◌, ◌⊎◌, length, IsTrue, IsSome, IfSome, IfOk, OnOk, IsErrOf, All, Some};
+ghost use Rattle.std.specs.Prelude.{◌≡◌, ◌<◌, ◌≤◌, ◌↔◌, ◌∷◌, [], ◌++◌, ◌⊎◌, length, IsTrue, IsSome, IfSome, IfOk, OnOk, IsErrOf, Some};
 ghost use Rattle.std.specs.List.{IsDistinct};
 ghost use Rattle.std.specs.Str.{bytes_eq};
 ghost use Rattle.std.specs.Vec.{vec_len, vec_capacity};
@@ -39,7 +39,7 @@ pub struct Journal {
 }
 
 impl Model for Journal {
-    ghost use Rattle.std.specs.Prelude.{◌+◌, ◌&&◌, nat_lt, nat_le, length};
+    ghost use Rattle.std.specs.Prelude.{◌+◌, ◌&&◌, length};
     ghost use Rattle.std.specs.Vec.{vec_len, vec_capacity};
     ghost use Rattle.std.specs.Coded.{codes};
     ghost use Rattle.filter_terms.specs.contracts.terms.Terms as terms_type;
@@ -83,7 +83,7 @@ fn move_cursor(cursors: &mut Vec<Cursor>, index: usize, place: usize)
 }
 
 impl Journal {
-    ghost use Rattle.std.specs.Prelude.{true, false, Ok, Err, None, slice_get};
+    ghost use Rattle.std.specs.Prelude.{false, Ok, Err, None};
     ghost use Rattle.nbbo_book.specs.Books.{venue_of, is_configured};
     ghost use Rattle.nbbo_book.specs.Nationals.{national_of};
     ghost use Rattle.nbbo_book.specs.Eligible.{is_self_helped};

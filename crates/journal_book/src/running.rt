@@ -1,9 +1,9 @@
 //! A journal that is told while it runs, and not kept.
 
-ghost use Rattle.std.specs.Prelude.{◌≡◌, ◌+◌, ◌<◌, ◌≤◌, ◌↔◌, ◌⊎◌, ◌∷◌, [], ◌++◌, length, IsTrue, IsSome, IfSome, IfOk, OnOk, IsErrOf};
+ghost use Rattle.std.specs.Prelude.{◌≡◌, ◌+◌, ◌<◌, ◌≤◌, ◌↔◌, ◌⊎◌, length, IsTrue, IsSome, IfSome, IfOk, OnOk, IsErrOf};
 ghost use Rattle.std.specs.List.{IsDistinct};
 ghost use Rattle.std.specs.Str.{bytes_eq};
-ghost use Rattle.std.specs.Vec.{vec_len, vec_capacity};
+ghost use Rattle.std.specs.Vec.{vec_capacity};
 ghost use Rattle.feed_types.specs.declared.journal.Entry.{Entry};
 ghost use Rattle.nbbo_book.specs.Books.{venue_of, is_configured};
 ghost use Rattle.nbbo_book.specs.Eligible.{is_self_helped};

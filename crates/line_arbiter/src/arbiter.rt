@@ -1,6 +1,6 @@
 //! One venue's lines, in sequence.
 
-ghost use Rattle.std.specs.Prelude.{◌≡◌, ◌∷◌, ◌++◌, ◌↔◌, ◌+◌, ◌^◌, ◌<◌, ◌≤◌, ℕ, List, [], IfOk, IfErr, IfSome, IfNone, Ok, IsOk, IsSome, IsErrOf, OnErr, OnOk, slice_get, MatchBool, Some, None, length};
+ghost use Rattle.std.specs.Prelude.{◌≡◌, ◌∷◌, ◌++◌, ◌↔◌, ◌+◌, ◌^◌, ◌<◌, ◌≤◌, List, [], IfOk, IfSome, IfNone, Ok, IsSome, IsErrOf, OnErr, OnOk, slice_get, MatchBool, Some, None, length};
 ghost use Rattle.mold_packet.specs.Content.{IsContent};
 ghost use Rattle.feed_types.specs.Prefix.{IsPrefix};
 ghost use Rattle.line_arbiter.specs.Packets.{Arrival, arrival_of, last_of};

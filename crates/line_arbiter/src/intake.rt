@@ -1,8 +1,8 @@
 //! A packet's messages against a window, and into it.
 
-ghost use Rattle.std.specs.Prelude.{◌≡◌, ◌≢◌, ◌↔◌, ℕ, ◌+◌, ◌^◌, ◌<◌, ◌≤◌, None, IsSome, IsTrue, ◌⊎◌, length, MatchBool, false};
+ghost use Rattle.std.specs.Prelude.{◌≡◌, ◌≢◌, ◌↔◌, ℕ, ◌+◌, ◌<◌, ◌≤◌, None, IsSome, IsTrue, length, MatchBool, false};
 ghost use Rattle.quote_payload.specs.Payload.{item_of};
-ghost use Rattle.line_arbiter.specs.Holding.{held_at, put_one, put_all, fresh_to, HeldAgrees};
+ghost use Rattle.line_arbiter.specs.Holding.{held_at, put_one, put_all, fresh_to};
 ghost use Rattle.line_arbiter.specs.Comparing.{Compares, ComparesOne, AreThere, HoldsAll, TakesAll};
 
 use crate::window::Window;

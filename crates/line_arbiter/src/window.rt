@@ -1,7 +1,7 @@
 //! The messages that were taken and not yet sent on, in a ring of slots with a mark for each. A
 //! slot is first written when it is first needed, so that a wide window costs what it holds.
 
-ghost use Rattle.std.specs.Prelude.{◌≡◌, ◌≢◌, ℕ, ◌+◌, ◌-◌, ◌*◌, ◌^◌, ◌<◌, ◌≤◌, ◌⊎◌, None, Some, Bool, true, not, length, replicate, slice_set, nat_eq, nat_lt, if◌then◌else◌, IfOk, IfSome, IfNone, IsSome, IsTrue, MatchBool, is_some, get_or};
+ghost use Rattle.std.specs.Prelude.{◌≡◌, ℕ, ◌+◌, ◌-◌, ◌*◌, ◌^◌, ◌<◌, ◌≤◌, ◌⊎◌, None, Some, true, not, length, replicate, slice_set, nat_eq, nat_lt, if◌then◌else◌, IfOk, IfSome, IfNone, IsSome, MatchBool, get_or};
 ghost use Rattle.std.specs.Vec.{vec_len, vec_capacity};
 ghost use Rattle.feed_types.specs.declared.item.Item.TheVariants as items;
 ghost use Rattle.line_arbiter.specs.Marks.{is_marked};

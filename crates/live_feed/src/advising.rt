@@ -1,6 +1,5 @@
 //! A strategy that is asked.
 
-ghost use Rattle.std.specs.Prelude.{◌≡◌};
 ghost use Rattle.filter_terms.specs.Allowed.{IsAllowed};
 ghost use Rattle.filter_terms.specs.Advisers.{MayAdvise};
 

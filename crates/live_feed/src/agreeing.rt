@@ -1,6 +1,6 @@
 //! Whether all is there that a feed is to be settled with.
 
-ghost use Rattle.std.specs.Prelude.{◌≡◌, IsTrue, map};
+ghost use Rattle.std.specs.Prelude.{IsTrue, map};
 ghost use Rattle.live_feed.specs.Settlements.{AgreesOn, Agrees, AllAgree, AreInOrder};
 
 use crate::feed_name::FeedName;

@@ -1,6 +1,6 @@
 //! The room for what is left of a feed, which is made before a lane is closed.
 
-ghost use Rattle.std.specs.Prelude.{◌≡◌, ◌<◌, ◌≤◌, length, map, IfOk};
+ghost use Rattle.std.specs.Prelude.{◌≡◌, ◌<◌, length, map, IfOk};
 ghost use Rattle.live_feed.specs.Rooms.{HasVenueRoom, HaveVenueRooms, HasSubscriberRoom, HaveSubscriberRooms};
 ghost use Rattle.live_feed.specs.Closings.{HasRoom};
 

@@ -2,7 +2,7 @@
 
 ghost use Rattle.std.specs.Prelude.{◌≡◌};
 ghost use Rattle.line_arbiter.specs.Counts.{count_on};
-ghost use Rattle.live_feed.specs.Sums.{LineSums, sums_list, sums_on};
+ghost use Rattle.live_feed.specs.Sums.{sums_list, sums_on};
 
 use crate::sums::VenueSums;
 use feed_types::{Genuine, LineId, Numbered};

@@ -1,4 +1,4 @@
-ghost use Rattle.std.specs.Prelude.{◌≡◌, ◌≤◌, ◌<◌, length, take, IfOk, IfErr, OnOk};
+ghost use Rattle.std.specs.Prelude.{◌≡◌, ◌≤◌, ◌<◌, take, IfOk, IfErr, OnOk};
 ghost use Rattle.mold_packet.specs.Request.{SpellsRequest, HasRequestFault};
 ghost use Rattle.mold_packet.specs.Writing.{WritesFirst, WritesNothing};
 

@@ -1,6 +1,6 @@
 //! The book: the protected sides of all configured symbols.
 
-ghost use Rattle.std.specs.Prelude.{◌≡◌, ◌↔◌, ◌⊎◌, ◌<◌, ◌≤◌, ◌+◌, ◌++◌, ◌∷◌, [], List, ℕ, length, map, IfOk, OnOk, IsErrOf, IfSome, IsSome, IsTrue, Some, false};
+ghost use Rattle.std.specs.Prelude.{◌≡◌, ◌↔◌, ◌⊎◌, ◌<◌, ◌≤◌, ◌+◌, ◌++◌, ◌∷◌, [], List, length, map, IfOk, OnOk, IsErrOf, IfSome, IsSome, IsTrue, Some, false};
 ghost use Rattle.std.specs.List.{IsDistinct};
 ghost use Rattle.std.specs.Str.{bytes_eq};
 ghost use Rattle.std.specs.Vec.{vec_len, vec_capacity};

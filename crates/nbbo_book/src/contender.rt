@@ -3,7 +3,7 @@
 //! Which of two venues ranks first is a coin's toss. So each part of the first one is chosen by
 //! itself, and no branch hangs on it.
 
-ghost use Rattle.std.specs.Prelude.{◌≡◌, ℕ, Bool, None, if◌then◌else◌, ◌&&◌, ◌||◌, not};
+ghost use Rattle.std.specs.Prelude.{◌≡◌, ℕ, None, if◌then◌else◌};
 ghost use Rattle.nbbo_book.specs.Contenders.{ranked_of, IsAged, is_ahead_by};
 ghost use Rattle.nbbo_book.specs.Ranks.{better_of};
 ghost use Rattle.nbbo_book.specs.Rows.{age_at, may_at, rank_at};

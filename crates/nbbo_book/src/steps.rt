@@ -1,7 +1,7 @@
 //! One more entry, applied to what is kept of the symbols.
 
-ghost use Rattle.std.specs.Prelude.{◌≡◌, ◌++◌, ◌∷◌, [], ◌+◌, ◌<◌, ◌≤◌, ℕ, List, ⊤, length, map, Some};
-ghost use Rattle.std.specs.List.{AllByRecursion, filter_map};
+ghost use Rattle.std.specs.Prelude.{◌≡◌, ◌++◌, ◌∷◌, [], ◌+◌, ◌<◌, ◌≤◌, ℕ, List, ⊤, length, Some};
+ghost use Rattle.std.specs.List.{AllByRecursion};
 ghost use Rattle.std.specs.Vec.{vec_len, vec_capacity};
 ghost use Rattle.std.specs.Option.{option_to_list};
 ghost use Rattle.feed_types.specs.declared.journal.Entry.{Entry};

@@ -1,11 +1,11 @@
 //! What the words of the command line ask for.
-ghost use Rattle.std.specs.Prelude.{◌≡◌, ◌*◌, ◌≤◌, [], IfOk, IfErr, OnOk, codes, length, map, option_map, string_bytes, unwrap_or, vec_len};
+ghost use Rattle.std.specs.Prelude.{◌≡◌, ◌*◌, ◌≤◌, [], IfOk, IfErr, OnOk, codes, map, string_bytes, unwrap_or, vec_len};
 ghost use Rattle.clap.specs.Matches.{found_of};
 ghost use Rattle.clap.specs.Simple.{subcommand_of, subcommand_rows_of};
 ghost use Rattle.clap.specs.Values.{kind_of};
 ghost use Rattle.clap.specs.Walk.{first_of, one_of, rows_of};
 ghost use Rattle.nbbo_main.specs.Addresses.{HasLinesFault, NameLines, NamesNoRequest, NamesRequest};
-ghost use Rattle.nbbo_main.specs.CommandLine.{Asks, Gives, GivesListening, GivesNoListening, GivesNone, IsCount, IsFlag, IsRefused, IsTaken, IsWindow, RefusesBy, lines_in, list_in, symbol_words_in};
+ghost use Rattle.nbbo_main.specs.CommandLine.{Asks, Gives, GivesListening, GivesNoListening, GivesNone, IsCount, IsFlag, IsRefused, IsTaken, IsWindow, RefusesBy, lines_in, symbol_words_in};
 ghost use Rattle.nbbo_main.specs.Commands.{nbbo_app};
 ghost use Rattle.nbbo_main.specs.Symbols.{HasSymbolsFault, NameSymbols};
 

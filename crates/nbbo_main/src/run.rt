@@ -1,6 +1,5 @@
 //! A run of the program over any input, output and standard error.
 ghost use Rattle.std.specs.Prelude.{◌≡◌, map, string_bytes};
-ghost use Rattle.feed_text.specs.Devices.{Reading, Writing};
 ghost use Rattle.nbbo_main.specs.Runs.{IsConfigOf, Leads, RunsReplay, Says, TellsRefusal, hint_text};
 
 use crate::command_line::settings;

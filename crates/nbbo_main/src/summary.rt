@@ -1,5 +1,5 @@
 //! The text of what listening came to.
-ghost use Rattle.std.specs.Prelude.{◌≡◌, ◌++◌, drop, flat_map, OnOk};
+ghost use Rattle.std.specs.Prelude.{◌≡◌, ◌++◌, flat_map, OnOk};
 ghost use Rattle.feed_text.specs.Lines.{best_line};
 
 use feed_text::lines::{put_best, put_venue};

@@ -1,5 +1,5 @@
 //! A line that is received by UDP.
-ghost use Rattle.std.specs.Prelude.{◌≡◌, ◌≢◌, ◌≤◌, IfOk, IfErr, false, length, vec_len};
+ghost use Rattle.std.specs.Prelude.{◌≡◌, ◌≢◌, ◌≤◌, IfOk, IfErr, false, length};
 ghost use Rattle.nbbo_main.specs.UdpLines.{failures_of};
 ghost use Rattle.live_feed.specs.declared.source.SourceFault.TheVariants.{NoMemory};
 
