@@ -26,7 +26,7 @@ use quote_payload::{read_item, symbol_field};
 use std::alloc::{AllocError, Global};
 use std::marker::Model;
 
-/// How many of a packet's messages are looked ahead at most: a book notes no more.
+/// How many of a packet's messages are looked ahead at most: their rows lie near the processor then.
 const MOST_AHEAD: usize = 64;
 
 /// A venue's arbiter, and how many items of the sessions that are over were sent. That count stays
@@ -82,7 +82,7 @@ fn take_ready(
 
 /// Takes the items that a packet's messages are, one by one.
 #[inline(always)]
-fn take_in_turn(venue: VenueId, packet: &Packet<'_>, report: &mut Report) -> Result<(), Stop>
+fn take_messages(venue: VenueId, packet: &Packet<'_>, report: &mut Report) -> Result<(), Stop>
     requires { venue < report.old.journal.venues }
     ensures { TellsBy (tale_of report.old)
         (map (item_taken venue)
@@ -113,10 +113,9 @@ fn read_ahead(venue: VenueId, mut messages: Messages<'_>, report: &mut Report)
             break;
         };
         if let Some(field) = symbol_field(message) {
-            report.journal.look_ahead(field);
+            report.journal.read_ahead(venue, field);
         }
     }
-    report.journal.read_ahead(venue);
 }
 
 /// Looks ahead at a packet of several messages, where the book is large.
@@ -127,19 +126,6 @@ fn look_ahead(venue: VenueId, packet: &Packet<'_>, report: &mut Report)
     if packet.count() > 1 && report.journal.is_large() {
         read_ahead(venue, packet.messages(), report);
     }
-}
-
-/// Takes the items that a packet's messages are.
-#[inline(always)]
-fn take_messages(venue: VenueId, packet: &Packet<'_>, report: &mut Report) -> Result<(), Stop>
-    requires { venue < report.old.journal.venues }
-    ensures { TellsBy (tale_of report.old)
-        (map (item_taken venue)
-        (numbered_from packet.now.number (map item_of packet.now.messages)))
-        (tale_of report.new) result }
-{
-    look_ahead(venue, packet, report);
-    take_in_turn(venue, packet, report)
 }
 
 /// Tells of a packet that passed through, takes its items, and what is ready behind them.
@@ -273,6 +259,7 @@ impl VenueReplay {
             (tale_of report.old) (tale_of report.new) self.new result }
     {
         if let Some(outcome) = self.arbiter.take_through(line, packet) {
+            look_ahead(venue, packet, report);
             return take_passed(&mut self.arbiter, venue, line, packet, outcome, report);
         }
         if let Some(outcome) = self.arbiter.take_sent(line, packet) {

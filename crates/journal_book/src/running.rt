@@ -136,22 +136,13 @@ impl RunningJournal {
         self.book.is_large()
     }
 
-    /// Notes the symbol whose field a message to come has, as [`Book::look_ahead`] does. It changes
-    /// no answer.
+    /// Reads what the venue's quotation of a symbol will read of the book, where a message to come has
+    /// this field, as [`Book::read_ahead`] does. It changes no answer.
     #[inline(always)]
-    pub fn look_ahead(&mut self, field: [u8; 8])
+    pub fn read_ahead(&mut self, venue: VenueId, field: [u8; 8])
         ensures { self.new ≡ self.old }
     {
-        self.book.look_ahead(field);
-    }
-
-    /// Reads what the venue's quotations of the symbols noted will read, as [`Book::read_ahead`]
-    /// does. It changes no answer.
-    #[inline(always)]
-    pub fn read_ahead(&mut self, venue: VenueId)
-        ensures { self.new ≡ self.old }
-    {
-        self.book.read_ahead(venue);
+        self.book.read_ahead(venue, field);
     }
 
     /// Declares self-help on the venue, or withdraws it, and gives the entry's position. It is

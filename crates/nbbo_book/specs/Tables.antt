@@ -1,8 +1,7 @@
 -- Cited by private clauses alone: the table of the symbols, and what every book keeps.
-use Rattle.std.specs.Prelude.{◌≡◌, ◌≢◌, ℕ, ◌<◌, ◌≤◌, ◌+◌, nat_eq, nat_lt, List, Bool, false, Some, None, IsSome, position, slice_index_or, length, map}
+use Rattle.std.specs.Prelude.{◌≡◌, ◌≢◌, ℕ, ◌<◌, ◌≤◌, ◌+◌, nat_eq, nat_lt, List, Bool, false, None, IsSome, slice_index_or, length, map}
 use Rattle.std.specs.Int.{w64, to_be_bytes}
 use Rattle.std.specs.List.{AllByRecursion, IsDistinct}
-use Rattle.std.specs.Str.{bytes_eq}
 use Rattle.feed_types.specs.Symbols.{word_of}
 use Rattle.feed_types.specs.declared.journal.Entry.{Entry}
 use Rattle.feed_types.specs.declared.line.Side.{Side}
@@ -10,7 +9,7 @@ use Rattle.feed_types.specs.declared.line.Side.TheVariants.{Bid, Offer}
 use Rattle.nbbo_book.specs.declared.shown.Standing.{Standing}
 use Rattle.nbbo_book.specs.declared.row.Row.{Row}
 use Rattle.nbbo_book.specs.Books.{BookState, standing_at, venue_of}
-use Rattle.nbbo_book.specs.Rows.{BookSide, age_at, may_at, best_at, side_at, helped_after, symbol_in}
+use Rattle.nbbo_book.specs.Rows.{BookSide, age_at, may_at, best_at, side_at, helped_after}
 
 abbrev pub symbols_of : List Row → List (List ℕ)
 symbols_of rows = map (λ (row : Row). row.symbol) rows
@@ -87,12 +86,6 @@ pub record IsBefore
   pub flags : helped ≡ helped_after entry was
   pub kept : IsRow was venues next row
   pub below : venue_of entry < venues
-
--- the entry is of a symbol, which stands at this place among these
-pub record IsPlaceOf (place : ℕ) (symbols : List (List ℕ)) (entry : Entry) : Type 0 where
-  pub symbol : List ℕ
-  pub named : symbol_in entry ≡ Some symbol
-  pub found : position (bytes_eq symbol) symbols ≡ Some place
 
 -- what every book keeps
 pub record IsBook (keys : List ℕ) (book : BookState) : Type 0 where

@@ -10,18 +10,16 @@ ghost use Rattle.nbbo_book.specs.Eligible.{is_self_helped as self_helped};
 ghost use Rattle.nbbo_book.specs.Nationals.{national_of, IsRanking};
 ghost use Rattle.nbbo_book.specs.Changes.{changes_by};
 ghost use Rattle.nbbo_book.specs.Rows.{empty_row};
-ghost use Rattle.nbbo_book.specs.Tables.{IsPlaceOf};
 
-use crate::ahead::Ahead;
 use crate::change::Change;
 use crate::fault::BookFault;
 use crate::ranks::{Ranks, ranks_of};
 use crate::row::Row;
 use crate::standings::Standings;
-use crate::steps::{ByPlace, ByTable, Step, Way};
+use crate::steps::{Step, apply_step};
 use crate::table::{Table, find, symbol_table};
 use crate::venues::Venues;
-use feed_types::{Entry, Item, National, Side, SymbolName, VenueId};
+use feed_types::{Entry, National, Side, SymbolName, VenueId};
 use std::alloc::{AllocError, Global};
 use std::marker::Model;
 
@@ -39,7 +37,8 @@ pub struct Book {
     venues: Venues,
     last: u64,
     applied: u64,
-    ahead: Ahead,
+    /// The sum of what was read ahead, kept so that it is read: it has no meaning.
+    glances: u64,
 }
 
 impl Model for Book {
@@ -50,7 +49,7 @@ impl Model for Book {
 
     ghost view = { λ b. state_of b.rows.items b.venues.count b.last b.applied b.venues.helped };
 
-    ghost invariant = { λ b. IsBook b.table.keys
+    ghost invariant = { λ b. IsBook b.table.words.keys
         (state_of b.rows.items b.venues.count b.last b.applied b.venues.helped) };
 }
 
@@ -108,47 +107,17 @@ impl Book {
             },
             last: 0,
             applied: 0,
-            ahead: Ahead::new(),
+            glances: 0,
         })
     }
 
-    /// The place of the quotation's symbol, where it is the next one of those looked ahead.
+    /// Applies the entry, and appends to `out` a change for each symbol whose national best is
+    /// another one after it, in configured order and with the position given.
+    ///
+    /// It takes no memory: `out` has room for as many changes as there are symbols. The entry's
+    /// venue is below the count, and positions rise.
     #[inline(never)]
-    fn next_place(&mut self, entry: &Entry) -> Option<usize>
-        ensures same { self.new ≡ self.old }
-        ensures place { IfSome result (λ place. IsPlaceOf place self.old.symbols entry.now) }
-    {
-        let Entry::Consumed { venue: _, numbered } = entry else {
-            return None;
-        };
-        let Item::Quote(quote) = &numbered.item else {
-            return None;
-        };
-        let place = self.ahead.next()?;
-        if place < self.rows.len() && self.rows[place].is_of(quote.symbol) {
-            self.ahead.advance();
-            return Some(place);
-        }
-        None
-    }
-
-    /// The same, which is most often `None` at a glance.
-    #[inline(always)]
-    fn place_ahead(&mut self, entry: &Entry) -> Option<usize>
-        ensures same { self.new ≡ self.old }
-        ensures place { IfSome result (λ place. IsPlaceOf place self.old.symbols entry.now) }
-    {
-        if self.ahead.has_next() {
-            self.next_place(entry)
-        } else {
-            None
-        }
-    }
-
-    /// Applies the entry by the way that leads to its rows.
-    #[inline(never)]
-    fn apply_by<W: Way>(&mut self, way: &W, position: u64, entry: &Entry, out: &mut Vec<Change>)
-        requires right { W.is_right way.now self.old.symbols entry.now }
+    pub fn apply(&mut self, position: u64, entry: &Entry, out: &mut Vec<Change>)
         requires room { vec_len out.old + length self.old.symbols ≤ vec_capacity out.old }
         requires venue { venue_of entry.now < self.old.venues }
         requires rising { self.old.last < position }
@@ -167,36 +136,9 @@ impl Book {
         let age = self.applied + 1;
         let step = Step { age, position };
         let rows = self.rows.as_mut_slice();
-        way.apply(&self.table, rows, &self.venues, entry, step, out);
+        apply_step(&self.table, rows, &self.venues, entry, step, out);
         self.applied = age;
         self.last = position;
-    }
-
-    /// Applies the entry, and appends to `out` a change for each symbol whose national best is
-    /// another one after it, in configured order and with the position given.
-    ///
-    /// It takes no memory: `out` has room for as many changes as there are symbols. The entry's
-    /// venue is below the count, and positions rise.
-    #[inline(always)]
-    pub fn apply(&mut self, position: u64, entry: &Entry, out: &mut Vec<Change>)
-        requires room { vec_len out.old + length self.old.symbols ≤ vec_capacity out.old }
-        requires venue { venue_of entry.now < self.old.venues }
-        requires rising { self.old.last < position }
-        ensures fits { (entries : List Entry) → Fits self.old entries
-            → Fits self.new (entries ++ entry.now ∷ []) }
-        ensures changes { (entries : List Entry) → Fits self.old entries
-            → out.new.items
-            ≡ out.old.items ++ changes_by self.old.symbols entries position entry.now }
-        ensures count { vec_len out.new ≤ vec_len out.old + length self.old.symbols }
-        ensures capacity { vec_capacity out.new ≡ vec_capacity out.old }
-        ensures symbols { self.new.symbols ≡ self.old.symbols }
-        ensures venues { self.new.venues ≡ self.old.venues }
-        ensures last { self.new.last ≡ position }
-    {
-        match self.place_ahead(entry) {
-            Some(place) => self.apply_by(&ByPlace { place }, position, entry, out),
-            None => self.apply_by(&ByTable, position, entry, out),
-        }
     }
 
     /// Whether there are so many symbols, more than 512, that looking ahead pays.
@@ -207,30 +149,16 @@ impl Book {
         self.rows.len() > FEW_SYMBOLS
     }
 
-    /// Notes where the symbol stands whose field a message to come has, for [`Book::read_ahead`]: of
-    /// at most 64 fields that are configured symbols. It changes no answer.
+    /// Reads what the venue's quotation of a symbol will read of it, where a message to come has this
+    /// field. It changes no answer.
     #[inline(always)]
-    pub fn look_ahead(&mut self, field: [u8; 8])
+    pub fn read_ahead(&mut self, venue: VenueId, field: [u8; 8])
         ensures { self.new ≡ self.old }
     {
-        if let Some(place) = self.table.get_index_of(&u64::from_be_bytes(field)) {
-            self.ahead.note(place);
+        let guess = self.table.guesses.place_of(u64::from_be_bytes(field));
+        if guess < self.rows.len() {
+            self.glances = self.glances.wrapping_add(self.rows[guess].glance(venue));
         }
-    }
-
-    /// Reads at once what the venue's quotations of the symbols noted will read one by one. `apply`
-    /// looks for each next symbol at the place noted first. It changes no answer.
-    #[inline(always)]
-    pub fn read_ahead(&mut self, venue: VenueId)
-        ensures { self.new ≡ self.old }
-    {
-        let mut read: u64 = 0;
-        for &place in self.ahead.noted() {
-            if place < self.rows.len() {
-                read = read.wrapping_add(self.rows[place].glance(venue));
-            }
-        }
-        self.ahead.keep(read);
     }
 
     /// The national best of the symbol, `None` exactly where it isn't configured.
@@ -239,7 +167,7 @@ impl Book {
         ensures value { (entries : List Entry) → Fits self.now entries
             → IfSome result (λ national. national ≡ national_of entries symbol.now) }
     {
-        let place = find(&self.table, *symbol)?;
+        let place = find(&self.table, self.rows.as_slice(), *symbol)?;
         Some(self.rows[place].national())
     }
 
@@ -250,7 +178,7 @@ impl Book {
         ensures ranking { (entries : List Entry) → Fits self.now entries
             → IfSome result (λ ranks. IsRanking entries symbol.now side ranks.items) }
     {
-        let place = find(&self.table, *symbol)?;
+        let place = find(&self.table, self.rows.as_slice(), *symbol)?;
         let row = &self.rows[place];
         Some(ranks_of(side, &row.standings, &self.venues, &row.halted))
     }

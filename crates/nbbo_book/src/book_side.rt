@@ -37,8 +37,8 @@ fn renew_other(
     moved
 }
 
-/// Notes the best again, where it was this venue's. All venues are looked through only where the
-/// venue isn't ahead of that now by its price or its size, and there are others.
+/// Notes the best again, where it was this venue's. All venues are looked through only where there
+/// are others, and the venue isn't ahead of what it was by its price or its size.
 #[inline(always)]
 fn renew_own(
     side: Side,
@@ -57,13 +57,13 @@ fn renew_own(
     ensures { Renews side (may_at venues.now.helped halted.now)
         (standings_on side standings.now) best.old best.new result }
 {
-    if is_improved(side, best, &rank) {
-        *best = rank;
-        return true;
-    }
     let found = if venues.count == 1 {
         rank
     } else {
+        if is_improved(side, best, &rank) {
+            *best = rank;
+            return true;
+        }
         best_of(side, standings, venues, halted)
     };
     let moved = differs(best, &found);

@@ -9,13 +9,13 @@
 //! out from the whole list. Begin at `book.rt`; `laws.rt` says what the definitions mean.
 #![tactic(auto)]
 
-mod ahead;
 mod best;
 mod book;
 mod book_side;
 mod change;
 mod contender;
 mod fault;
+mod guesses;
 mod laws;
 mod ranks;
 mod row;

@@ -1,10 +1,9 @@
 //! One more entry, applied to what is kept of the symbols.
 
-ghost use Rattle.std.specs.Prelude.{◌≡◌, ◌++◌, ◌∷◌, [], ◌+◌, ◌<◌, ◌≤◌, ℕ, List, ⊤, length, Some};
+ghost use Rattle.std.specs.Prelude.{◌≡◌, ◌++◌, ◌∷◌, [], ◌+◌, ◌<◌, ◌≤◌, length, Some};
 ghost use Rattle.std.specs.List.{AllByRecursion};
 ghost use Rattle.std.specs.Vec.{vec_len, vec_capacity};
 ghost use Rattle.std.specs.Option.{option_to_list};
-ghost use Rattle.feed_types.specs.declared.journal.Entry.{Entry};
 ghost use Rattle.nbbo_book.specs.Rows.{row_after, row_change, symbol_in, Applies};
 ghost use Rattle.nbbo_book.specs.Tables.{IsBefore, IsTable, symbols_of};
 
@@ -82,7 +81,7 @@ fn step_symbol(
     out: &mut Vec<Change>,
 )
     requires symbol { symbol_in entry.now ≡ Some symbol }
-    requires table { IsTable (symbols_of rows.old) table.now.keys }
+    requires table { IsTable (symbols_of rows.old) table.now.words.keys }
     requires before { AllByRecursion
         (IsBefore entry.now venues.now.helped venues.now.count step.age) rows.old }
     requires room { vec_len out.old + length rows.old ≤ vec_capacity out.old }
@@ -91,92 +90,42 @@ fn step_symbol(
     ensures len { vec_len out.new ≤ vec_len out.old + length rows.old }
     ensures capacity { vec_capacity out.new ≡ vec_capacity out.old }
 {
-    if let Some(i) = find(table, symbol) {
+    if let Some(i) = find(table, rows, symbol) {
         step_row(&mut rows[i], venues, entry, step, out);
     }
 }
 
-/// A way to the rows that an entry concerns.
-pub trait Way {
-    /// It leads there, among the rows of these symbols.
-    ghost is_right: { Self → List (List ℕ) → Entry → Type 0 };
-
-    /// Applies the entry to the symbols that it concerns, and appends their changes in order; the
-    /// flags of self-help are those after it.
-    fn apply(
-        &self,
-        table: &Table,
-        rows: &mut [Row],
-        venues: &Venues,
-        entry: &Entry,
-        step: Step,
-        out: &mut Vec<Change>,
-    )
-        requires right { is_right self.now (symbols_of rows.old) entry.now }
-        requires table { IsTable (symbols_of rows.old) table.now.keys }
-        requires before { AllByRecursion
-            (IsBefore entry.now venues.now.helped venues.now.count step.age) rows.old }
-        requires room { vec_len out.old + length rows.old ≤ vec_capacity out.old }
-        ensures applies { Applies venues.now.helped step.age step.position entry.now
-            rows.old rows.new out.old.items out.new.items }
-        ensures len { vec_len out.new ≤ vec_len out.old + length rows.old }
-        ensures capacity { vec_capacity out.new ≡ vec_capacity out.old };
-}
-
-/// By the table.
-pub struct ByTable;
-
-impl Way for ByTable {
-    ghost is_right = { λ _ _ _. ⊤ };
-
-    #[inline(always)]
-    fn apply(
-        &self,
-        table: &Table,
-        rows: &mut [Row],
-        venues: &Venues,
-        entry: &Entry,
-        step: Step,
-        out: &mut Vec<Change>,
-    ) {
-        match entry {
-            Entry::Consumed { venue: _, numbered } => match &numbered.item {
-                Item::Quote(quote) => {
-                    step_symbol(table, rows, venues, quote.symbol, entry, step, out);
-                }
-                Item::Halt { symbol, halted: _ } => {
-                    step_symbol(table, rows, venues, *symbol, entry, step, out);
-                }
-                Item::Other => {}
-                Item::End => step_rows(rows, venues, entry, step, out),
-            },
-            Entry::SelfHelp { venue: _, on: _ } => step_rows(rows, venues, entry, step, out),
-        }
-    }
-}
-
-/// Straight to the place of the entry's symbol, which is known.
-#[derive(Clone, Copy)]
-pub struct ByPlace {
-    pub place: usize,
-}
-
-impl Way for ByPlace {
-    ghost use Rattle.nbbo_book.specs.Tables.{IsPlaceOf};
-
-    ghost is_right = { λ way symbols entry. IsPlaceOf way.place symbols entry };
-
-    #[inline(always)]
-    fn apply(
-        &self,
-        _table: &Table,
-        rows: &mut [Row],
-        venues: &Venues,
-        entry: &Entry,
-        step: Step,
-        out: &mut Vec<Change>,
-    ) {
-        let i = self.place;
-        step_row(&mut rows[i], venues, entry, step, out);
+/// Applies the entry to the symbols that it concerns, and appends their changes in order; the
+/// flags of self-help are those after it.
+#[inline(always)]
+pub fn apply_step(
+    table: &Table,
+    rows: &mut [Row],
+    venues: &Venues,
+    entry: &Entry,
+    step: Step,
+    out: &mut Vec<Change>,
+)
+    requires table { IsTable (symbols_of rows.old) table.now.words.keys }
+    requires before { AllByRecursion
+        (IsBefore entry.now venues.now.helped venues.now.count step.age) rows.old }
+    requires room { vec_len out.old + length rows.old ≤ vec_capacity out.old }
+    ensures applies { Applies venues.now.helped step.age step.position entry.now
+        rows.old rows.new out.old.items out.new.items }
+    ensures len { vec_len out.new ≤ vec_len out.old + length rows.old }
+    ensures capacity { vec_capacity out.new ≡ vec_capacity out.old }
+{
+    match entry {
+        Entry::Consumed { venue: _, numbered } => match &numbered.item {
+            Item::Quote(quote) => {
+                step_symbol(table, rows, venues, quote.symbol, entry, step, out);
+            }
+            Item::Halt { symbol, halted: _ } => {
+                step_symbol(table, rows, venues, *symbol, entry, step, out);
+            }
+            Item::Other => {}
+            Item::End => step_rows(rows, venues, entry, step, out),
+        },
+        Entry::SelfHelp { venue: _, on: _ } => step_rows(rows, venues, entry, step, out),
     }
 }

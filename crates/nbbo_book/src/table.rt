@@ -1,11 +1,13 @@
 //! The table of the symbols, in configured order.
 
-ghost use Rattle.std.specs.Prelude.{◌≡◌, ◌↔◌, ◌<◌, ℕ, List, length, position, IfOk, OnOk, IsErrOf};
+ghost use Rattle.std.specs.Prelude.{◌≡◌, ◌↔◌, ◌<◌, length, position, IfOk, OnOk, IsErrOf};
 ghost use Rattle.std.specs.List.{IsDistinct};
 ghost use Rattle.std.specs.Str.{bytes_eq};
-ghost use Rattle.nbbo_book.specs.Tables.{IsTable};
+ghost use Rattle.nbbo_book.specs.Tables.{IsTable, symbols_of};
 
 use crate::fault::BookFault;
+use crate::guesses::Guesses;
+use crate::row::Row;
 use feed_types::SymbolName;
 use indexmap::IndexSet;
 use std::alloc::Global;
@@ -14,11 +16,18 @@ use std::alloc::Global;
 const MAX_SYMBOLS: usize = 4096;
 
 /// The symbols' words: one number hashes faster than eight bytes.
-pub type Table = IndexSet<u64>;
+pub type Words = IndexSet<u64>;
 
-/// The table of these symbols.
-pub fn symbol_table(alloc: Global, symbols: &[SymbolName]) -> Result<Table, BookFault>
-    ensures table { IfOk result (λ table. IsTable symbols.now table.keys) }
+/// Where each symbol stands, and a guess at it.
+#[derive(Drop)]
+pub struct Table {
+    pub words: Words,
+    pub guesses: Guesses,
+}
+
+/// The words of these symbols.
+fn symbol_words(alloc: Global, symbols: &[SymbolName]) -> Result<Words, BookFault>
+    ensures words { IfOk result (λ words. IsTable symbols.now words.keys) }
     ensures distinct { OnOk result (IsDistinct bytes_eq symbols.now) }
     ensures duplicate { IsErrOf result BookFault.DuplicateSymbol
         → ¬ IsDistinct bytes_eq symbols.now }
@@ -43,11 +52,31 @@ pub fn symbol_table(alloc: Global, symbols: &[SymbolName]) -> Result<Table, Book
     Ok(table)
 }
 
-/// Where the symbol stands in the table.
-#[inline(always)]
-pub fn find(table: &Table, symbol: SymbolName) -> Option<usize>
-    ensures { (symbols : List (List ℕ)) → IsTable symbols table.now.keys
-        → result ≡ position (bytes_eq symbol) symbols }
+/// The table of these symbols.
+pub fn symbol_table(alloc: Global, symbols: &[SymbolName]) -> Result<Table, BookFault>
+    ensures table { IfOk result (λ table. IsTable symbols.now table.words.keys) }
+    ensures distinct { OnOk result (IsDistinct bytes_eq symbols.now) }
+    ensures duplicate { IsErrOf result BookFault.DuplicateSymbol
+        → ¬ IsDistinct bytes_eq symbols.now }
+    ensures many { IsErrOf result BookFault.TooManySymbols ↔ (4096 < length symbols.now) }
+    ensures count { ¬ IsErrOf result BookFault.BadVenueCount }
 {
-    table.get_index_of(&symbol.word())
+    let words = symbol_words(alloc, symbols)?;
+    match Guesses::of(alloc, symbols) {
+        Ok(guesses) => Ok(Table { words, guesses }),
+        Err(_) => Err(BookFault::NoMemory),
+    }
+}
+
+/// Where the symbol stands. Most often it is where it is guessed to be.
+#[inline(always)]
+pub fn find(table: &Table, rows: &[Row], symbol: SymbolName) -> Option<usize>
+    requires { IsTable (symbols_of rows.now) table.now.words.keys }
+    ensures { result ≡ position (bytes_eq symbol) (symbols_of rows.now) }
+{
+    let guess = table.guesses.place_of(symbol.word());
+    if guess < rows.len() && rows[guess].is_of(symbol) {
+        return Some(guess);
+    }
+    table.words.get_index_of(&symbol.word())
 }

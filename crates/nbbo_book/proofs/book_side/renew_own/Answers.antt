@@ -3,7 +3,7 @@ use Rattle.nbbo_book.specs.Rows.{BookSide, may_at, best_at}
 use Rattle.nbbo_book.specs.Standings.{standings_on}
 use Rattle.nbbo_book.specs.Tables.{IsStandings}
 use Rattle.nbbo_book.proofs.Kept.{improved_is_best, improved_moves, best_alone}
-use Rattle.nbbo_book.proofs.book_side.renew_own.Goals.{then-venues-eq1, else-venues-eq1}
+use Rattle.nbbo_book.proofs.book_side.renew_own.Goals.{then-venues-eq1, else-venues-eq1+else-is_improved}
 use Rattle.nbbo_book.proofs.book_side.renew_own.Goals as goal
 
 pub returns-then-is_improved : goal.returns-then-is_improved
@@ -27,6 +27,6 @@ returns c =
           let below : c.args.venue < 1 = subst (λ (n : ℕ). c.args.venue < n) one c.requires.stale.before.below in
           let standings : IsStandings 1 k.standings = subst (λ (n : ℕ). IsStandings n k.standings) one c.requires.stale.standings in
           w.found-is ∙ c.requires.rank ∙ best_alone c.args.side may k.standings c.args.venue below standings
-      | else-venues-eq1 w ↦ w.found-is ∙ w.best_of-found.ensures
+      | else-venues-eq1+else-is_improved w ↦ w.found-is ∙ w.best_of-found.ensures
     ] in
     record { best = best; moved = c.differs-moved.ensures }

@@ -1,4 +1,4 @@
-use Rattle.std.proofs.Common.{◌+◌, get_or, ◌≡◌, ◌∙◌, ap, sym, subst, refl, true, false, Some, None}
+use Rattle.std.proofs.Common.{List, ◌+◌, get_or, ◌≡◌, ◌∙◌, ap, sym, subst, refl, true, false, Some, None}
 use Rattle.std.specs.Prelude.{position, is_some}
 use Rattle.std.specs.Str.{bytes_eq}
 use Rattle.nbbo_book.specs.Books.{BookState, Fits, is_configured}
@@ -15,7 +15,7 @@ returns-in_err-place-clause-configured c =
     let was : c.find.result ≡ None = c.in_err-place.was in
     let missed : is_configured c.args.self.now.symbols c.args.symbol.now ≡ false =
     sym (ap (λ (b : BookState). is_configured b.symbols c.args.symbol.now) c.self.view_is)
-    ∙ missed_configured c.args.symbol.now (symbols_of c.self.inside.rows.items) (sym (c.find.ensures (symbols_of c.self.inside.rows.items) c.self.invariant.table) ∙ was) in
+    ∙ missed_configured c.args.symbol.now (symbols_of c.self.inside.rows.items) (sym (c.find.ensures ∙ ap (λ (t : List Row). position (bytes_eq c.args.symbol.now) (symbols_of t)) c.as_slice.ensures.value) ∙ was) in
     ((λ h. (let no : false ≡ true = sym (ap is_some c.from_residual.ensures) ∙ h in cc)), (λ h. (let no : true ≡ false = sym h ∙ missed in cc)))
 
 pub returns-clause-configured : goal.returns-clause-configured
@@ -23,7 +23,7 @@ returns-clause-configured c =
     let was : c.find.result ≡ Some c.in_ok-place.place = c.in_ok-place.was in
     let found : is_configured c.args.self.now.symbols c.args.symbol.now ≡ true =
     sym (ap (λ (b : BookState). is_configured b.symbols c.args.symbol.now) c.self.view_is)
-    ∙ found_configured c.args.symbol.now (symbols_of c.self.inside.rows.items) c.in_ok-place.place (sym (c.find.ensures (symbols_of c.self.inside.rows.items) c.self.invariant.table) ∙ was) in
+    ∙ found_configured c.args.symbol.now (symbols_of c.self.inside.rows.items) c.in_ok-place.place (sym (c.find.ensures ∙ ap (λ (t : List Row). position (bytes_eq c.args.symbol.now) (symbols_of t)) c.as_slice.ensures.value) ∙ was) in
     ((λ h. found), (λ h. refl))
 
 pub returns-clause-ranking : goal.returns-clause-ranking
@@ -31,7 +31,7 @@ returns-clause-ranking c = λ entries fits.
     let was : c.find.result ≡ Some c.in_ok-place.place = c.in_ok-place.was in
     let b : BookState = record { symbols = symbols_of c.self.inside.rows.items; venues = c.self.inside.venues.count; last = c.self.inside.last; applied = c.self.inside.applied; helped = c.self.inside.venues.helped; rows = c.self.inside.rows.items } in
     let here : Fits b entries = subst (λ (t : BookState). Fits t entries) (sym c.self.view_is) fits in
-    let at : position (bytes_eq c.args.symbol.now) (symbols_of c.self.inside.rows.items) ≡ Some c.in_ok-place.place = sym (c.find.ensures (symbols_of c.self.inside.rows.items) c.self.invariant.table) ∙ was in
+    let at : position (bytes_eq c.args.symbol.now) (symbols_of c.self.inside.rows.items) ≡ Some c.in_ok-place.place = sym (c.find.ensures ∙ ap (λ (t : List Row). position (bytes_eq c.args.symbol.now) (symbols_of t)) c.as_slice.ensures.value) ∙ was in
     let ranks = c.ranks_of.result.items in
     ranking_found b entries c.args.symbol.now c.args.side c.in_ok-place.place c.index-row.result.now ranks here at
     (subst (λ (t : Row). IsRankingOf 16 c.args.side (rank_at (may_at b.helped t.halted) (side_at c.args.side t).standings) (age_at (side_at c.args.side t).standings) ranks) c.index-row.ensures c.ranks_of.ensures)
@@ -41,7 +41,7 @@ ranks_of-requires c =
     let was : c.find.result ≡ Some c.in_ok-place.place = c.in_ok-place.was in
     let venues = c.self.inside.venues in
     let b : BookState = record { symbols = symbols_of c.self.inside.rows.items; venues = venues.count; last = c.self.inside.last; applied = c.self.inside.applied; helped = venues.helped; rows = c.self.inside.rows.items } in
-    let at : position (bytes_eq c.args.symbol.now) (symbols_of c.self.inside.rows.items) ≡ Some c.in_ok-place.place = sym (c.find.ensures (symbols_of c.self.inside.rows.items) c.self.invariant.table) ∙ was in
+    let at : position (bytes_eq c.args.symbol.now) (symbols_of c.self.inside.rows.items) ≡ Some c.in_ok-place.place = sym (c.find.ensures ∙ ap (λ (t : List Row). position (bytes_eq c.args.symbol.now) (symbols_of t)) c.as_slice.ensures.value) ∙ was in
     subst (λ (t : Row). IsStandings venues.count (side_at c.args.side t).standings) (sym c.index-row.ensures)
     (side_stands c.args.side venues.helped venues.count (c.self.inside.applied + 1) (get_or c.self.inside.rows.items c.in_ok-place.place c.index-row.result.now)
-    (row_found c.self.inside.table.keys b c.args.symbol.now c.in_ok-place.place c.index-row.result.now c.self.invariant at))
+    (row_found c.self.inside.table.words.keys b c.args.symbol.now c.in_ok-place.place c.index-row.result.now c.self.invariant at))

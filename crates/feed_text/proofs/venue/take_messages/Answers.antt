@@ -8,7 +8,7 @@ use Rattle.feed_text.specs.Happenings.{item_taken}
 use Rattle.feed_text.specs.Tales.{TellsBy, tale_of}
 use Rattle.feed_text.proofs.Tales.{took_none, took_one, took_all, took_stop, same_venues}
 use Rattle.feed_text.proofs.Passing.{one_more}
-use Rattle.feed_text.proofs.venue.take_in_turn.Goals as goal
+use Rattle.feed_text.proofs.venue.take_messages.Goals as goal
 
 pub loop-message-init : goal.loop-message-init
 loop-message-init c =

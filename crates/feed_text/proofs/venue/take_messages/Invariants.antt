@@ -5,7 +5,7 @@ use Rattle.quote_payload.specs.Payload.{item_of}
 use Rattle.feed_text.specs.Happenings.{item_taken}
 use Rattle.feed_text.specs.Tales.{tale_of}
 use Rattle.feed_text.proofs.Tales.{Took}
-use Rattle.feed_text.proofs.venue.take_in_turn.Given as goal
+use Rattle.feed_text.proofs.venue.take_messages.Given as goal
 
 abbrev pub invariant-loop-message : goal.invariant-loop-message
 invariant-loop-message l = record {

@@ -4,7 +4,7 @@ use Rattle.feed_types.specs.declared.journal.Entry.{Entry}
 use Rattle.nbbo_book.specs.declared.change.Change.{Change}
 use Rattle.nbbo_book.specs.Rows.{row_after, row_change}
 use Rattle.nbbo_book.proofs.Stepping.{nothing_steps, alone}
-use Rattle.nbbo_book.proofs.steps.ByTableWay.apply.Goals as goal
+use Rattle.nbbo_book.proofs.steps.apply_step.Goals as goal
 
 pub returns-in-Other-clause-applies : goal.returns-in-Other-clause-applies
 returns-in-Other-clause-applies c =
