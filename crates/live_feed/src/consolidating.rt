@@ -1,7 +1,9 @@
 //! The work of the consolidator's thread.
 
 use crate::feed_name::FeedName;
-use crate::hub_calls::offer_some;
+use crate::hub_calls::{consume_some, offer_some};
+use crate::hub_cell::HubCell;
+use crate::idle::{is_tired, rest};
 use crate::open_feed::OpenFeed;
 use crate::report::Stop;
 use crate::signals::Signals;
@@ -9,16 +11,21 @@ use crate::unsent::Unsent;
 use feed_types::{Genuine, SubscriberId, VenueId};
 use journal_book::JournalFault;
 use std::sync::Wait;
-use std::thread;
 
 /// How many items of a venue are journaled before the next venue's turn.
 const ITEMS_A_TURN: u32 = 64;
 
-/// Whether a turn moved anything, and whether it left a lane full from which notices are taken.
+/// What a turn under the consolidator's lock came to.
 #[derive(Clone, Copy)]
 struct Turn {
+    /// Whether it moved anything.
     moved: bool,
+    /// Whether it left a lane full from which notices are taken.
     waits: bool,
+    /// Of which venues it journaled something.
+    gave: [bool; 16],
+    /// Why journaling was refused, if it was.
+    stop: Option<Stop>,
 }
 
 /// The feed's venue of this number, if it has it.
@@ -29,78 +36,77 @@ fn feed_venue<G: Genuine, N: FeedName>(feed: &OpenFeed<G, N>, place: u8) -> Opti
     VenueId::new(place)
 }
 
-/// Journals what is in the venue's lane, under the consolidator's lock taken once, and gives whether
-/// there was anything.
-fn consume_venue<G: Genuine, N: FeedName, W: Wait>(
+/// Pushes what is ready of the venues, and gives whether there was anything that had room: at each
+/// where `all` says so, else where the lane had no room before and has run empty.
+fn flush_each<G: Genuine, N: FeedName, W: Wait>(
     rt: &W,
     feed: &OpenFeed<G, N>,
-    venue: VenueId,
-) -> Result<bool, Stop> {
-    match feed.consume_up_to(rt, venue, ITEMS_A_TURN) {
-        Ok(count) => Ok(count > 0),
-        Err(JournalFault::NoMemory) => Err(Stop::NoMemory),
-        Err(_) => Err(Stop::JournalFull),
-    }
-}
-
-/// Pushes what is ready of the venue, and gives whether there was anything that had room.
-fn flush_venue<G: Genuine, N: FeedName, W: Wait>(
-    rt: &W,
-    feed: &OpenFeed<G, N>,
-    venue: VenueId,
-) -> bool {
-    match feed.flush(rt, venue) {
-        Ok(pushed) => pushed > 0,
-        Err(_) => false,
-    }
-}
-
-/// Journals what is in each venue's lane. What is ready is pushed where that made room, and at every
-/// venue where `all` says so.
-fn consume_each<G: Genuine, N: FeedName, W: Wait>(
-    rt: &W,
-    feed: &OpenFeed<G, N>,
+    turn: &Turn,
     all: bool,
-) -> Result<bool, Stop> {
+) -> bool {
     let mut moved = false;
     for place in 0..16u8 {
         let Some(venue) = feed_venue(feed, place) else {
             break;
         };
-        let consumed = consume_venue(rt, feed, venue)?;
-        let pushed = (all || consumed) && flush_venue(rt, feed, venue);
-        moved = moved || consumed || pushed;
-    }
-    Ok(moved)
-}
-
-/// Pushes what is ready of each venue, and gives whether there was anything that had room.
-fn flush_each<G: Genuine, N: FeedName, W: Wait>(rt: &W, feed: &OpenFeed<G, N>) -> bool {
-    let mut moved = false;
-    for place in 0..16u8 {
-        let Some(venue) = feed_venue(feed, place) else {
-            break;
-        };
-        let pushed = flush_venue(rt, feed, venue);
-        moved = moved || pushed;
+        if all || (!turn.gave[venue.index()] && feed.venues.is_held_back(venue)) {
+            let pushed = feed.flush(rt, venue).unwrap_or(0);
+            moved = moved || pushed > 0;
+        }
     }
     moved
 }
 
-/// Offers the subscriber what it wants, until there is nothing more or its lane is full. Gives
-/// whether anything was offered, and why no more was; None where there is no such subscriber.
-fn offer_to<G: Genuine, N: FeedName, W: Wait>(
+/// Journals what is in the venues' lanes.
+fn consume_each<G: Genuine, N: FeedName, W: Wait>(
     rt: &W,
-    feed: &OpenFeed<G, N>,
-    id: SubscriberId,
-) -> Option<(bool, Unsent)> {
-    let mut hub = feed.hub.lock(rt);
-    let (pushed, unsent) = offer_some(rt, &mut hub, id)?;
-    Some((pushed > 0, unsent))
+    hub: &mut HubCell<G, N>,
+    turn: &mut Turn,
+) {
+    for place in 0..16u8 {
+        let Some(venue) = VenueId::new(place) else {
+            break;
+        };
+        match consume_some(rt, hub, venue, ITEMS_A_TURN) {
+            Ok(0) => {}
+            Ok(_) => {
+                turn.gave[venue.index()] = true;
+                turn.moved = true;
+            }
+            Err(JournalFault::UnknownVenue) => break,
+            Err(JournalFault::NoMemory) => turn.stop = Some(Stop::NoMemory),
+            Err(_) => turn.stop = Some(Stop::JournalFull),
+        }
+    }
 }
 
 /// Offers each subscriber what it wants.
 fn offer_each<G: Genuine, N: FeedName, W: Wait>(
+    rt: &W,
+    hub: &mut HubCell<G, N>,
+    signals: &Signals,
+    turn: &mut Turn,
+) {
+    for place in 0..32u8 {
+        let Some(id) = SubscriberId::new(place) else {
+            break;
+        };
+        let Some((pushed, unsent)) = offer_some(rt, hub, id) else {
+            break;
+        };
+        if pushed > 0 {
+            turn.moved = true;
+            signals.notices(id).notify_one();
+        }
+        if unsent == Unsent::LaneFull && signals.is_polling(id) {
+            turn.waits = true;
+        }
+    }
+}
+
+/// Takes the consolidator's lock once, and journals what is in the venues' lanes, unless the run
+/// stops early, and offers each subscriber what it wants.
+fn take_turn<G: Genuine, N: FeedName, W: Wait>(
     rt: &W,
     feed: &OpenFeed<G, N>,
     signals: &Signals,
@@ -108,38 +114,20 @@ fn offer_each<G: Genuine, N: FeedName, W: Wait>(
     let mut turn = Turn {
         moved: false,
         waits: false,
+        gave: [false; 16],
+        stop: None,
     };
-    for place in 0..32u8 {
-        let Some(id) = SubscriberId::new(place) else {
-            break;
-        };
-        let Some((moved, unsent)) = offer_to(rt, feed, id) else {
-            break;
-        };
-        turn.moved = turn.moved || moved;
-        if unsent == Unsent::LaneFull && signals.is_polling(id) {
-            turn.waits = true;
-        }
-    }
-    turn
-}
-
-/// Journals what is in the lanes of the venues, unless the run stops early, and gives whether
-/// anything moved. Once the lines have ended, what is ready is pushed in any case.
-fn gather<G: Genuine, N: FeedName, W: Wait>(
-    rt: &W,
-    feed: &OpenFeed<G, N>,
-    signals: &Signals,
-    all: bool,
-) -> Result<bool, Stop> {
+    let mut hub = feed.hub.lock(rt);
     if !signals.is_stopped() {
-        return consume_each(rt, feed, all);
+        consume_each(rt, &mut hub, &mut turn);
     }
-    Ok(all && flush_each(rt, feed))
+    offer_each(rt, &mut hub, signals, &mut turn);
+    turn
 }
 
 /// Journals what the lines bring and offers what the subscribers want, until the lines have ended
 /// and nothing is left to do, and gives why the run stopped early, if journaling was the reason.
+/// Once the lines have ended, what is ready is pushed in any case.
 pub(crate) fn consolidate<G: Genuine, N: FeedName, W: Wait>(
     rt: &W,
     feed: &OpenFeed<G, N>,
@@ -147,25 +135,35 @@ pub(crate) fn consolidate<G: Genuine, N: FeedName, W: Wait>(
 ) -> Option<Stop> {
     let mut stopped = None;
     let mut first = true;
+    let mut looks: u32 = 0;
+    let mut waits = false;
     for _ in rt.forever() {
-        let last = signals.have_lines_ended();
-        let gathered = match gather(rt, feed, signals, first || last) {
-            Ok(moved) => moved,
-            Err(stop) => {
-                signals.stop();
-                stopped = Some(stop);
-                true
-            }
+        let key = if is_tired(looks) {
+            Some(feed.venues.news().prepare_wait())
+        } else {
+            None
         };
+        let last = signals.have_lines_ended();
+        let turn = take_turn(rt, feed, signals);
+        if let Some(stop) = turn.stop {
+            signals.stop();
+            stopped = Some(stop);
+        }
+        let flushed = flush_each(rt, feed, &turn, first || last);
         first = false;
-        let turn = offer_each(rt, feed, signals);
-        if gathered || turn.moved {
+        if turn.moved || turn.stop.is_some() || flushed {
+            looks = 0;
             continue;
         }
         if last && !turn.waits {
             break;
         }
-        thread::yield_now();
+        if turn.waits != waits {
+            waits = turn.waits;
+            signals.want_room(waits);
+            continue;
+        }
+        looks = rest(rt, looks, key);
     }
     signals.end_offers();
     stopped

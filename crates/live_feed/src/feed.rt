@@ -11,8 +11,9 @@ use crate::making::{new_spares, new_starts};
 use crate::open_feed::{Guarded, OpenFeed};
 use crate::spare::SpareLane;
 use crate::venue_cell::VenueCell;
-use crate::venue_locks::VenueLocks;
+use crate::venue_locks::{VenueLock, VenueLocks};
 use crate::venue_start::VenueStart;
+use crossbeam_utils::CachePadded;
 use feed_core::{CoreFault, new_journal};
 use feed_types::{FeedConfig, Genuine, Numbered};
 use fifo_lane::{Receiver, VenueItems};
@@ -52,8 +53,8 @@ impl<G: Genuine> Model for LiveFeed<G> {
 /// Puts each venue behind a lock of its own. There is room for all.
 fn locked<G: Genuine, N: FeedName>(
     starts: Vec<VenueStart<G>>,
-    mut venues: Vec<Mutex<Guarded<G, N>>>,
-) -> Vec<Mutex<Guarded<G, N>>>
+    mut venues: Vec<VenueLock<G, N>>,
+) -> Vec<VenueLock<G, N>>
     requires lanes { All (HasItsLane N.lanes) starts.items }
     requires room { (length venues.items ≡ 0) × (vec_len starts ≤ vec_capacity venues) }
     ensures { length result.items ≡ length starts.items }
@@ -61,12 +62,12 @@ fn locked<G: Genuine, N: FeedName>(
     for start in starts {
         let (arbiter, lane) = start.into_parts();
         let cell = VenueCell::new(arbiter, lane);
-        venues.push_reserved(Mutex::new(Guarded {
+        venues.push_reserved(CachePadded::new(Mutex::new(Guarded {
             cell,
             a: false,
             b: false,
             recovery: false,
-        }));
+        })));
     }
     venues
 }
@@ -122,7 +123,7 @@ impl<G: Genuine> LiveFeed<G> {
             log_lines,
         } = self;
         let core = HubCore::new(kept, from_venues, senders, spare_lanes);
-        let hub = Mutex::new(HubCell { core, filters });
+        let hub = CachePadded::new(Mutex::new(HubCell { core, filters }));
         let venues = VenueLocks::new(locked(starts, venues));
         Ok(OpenFeed {
             venues,

@@ -31,6 +31,7 @@ mod feed_name;
 mod hub_calls;
 mod hub_cell;
 mod hub_core;
+mod idle;
 mod line;
 mod line_threads;
 mod line_work;

@@ -28,11 +28,13 @@ impl<G: Genuine, N: FeedName, S: LineSource<G>> Promise<LineEnd<G, N, S>> for Li
         S.failures p.seat.value p.source.value r.seat r.source r.fault };
 }
 
-/// Has the source send the request for the venue's gap that is due, if any.
+/// Has the source send the request for the venue's gap that is due, if any. Where no gap stands,
+/// nothing is due, and the clock isn't read.
 fn request_due<G: Genuine, N: FeedName, S: LineSource<G>, W: Wait>(
     rt: &W,
     venues: &VenueLocks<G, N>,
     venue: VenueId,
+    gap: bool,
     source: &mut S,
 ) -> Result<(), SourceFault>
     ensures venue { S.venue_of source.new ≡ S.venue_of source.old }
@@ -41,6 +43,9 @@ fn request_due<G: Genuine, N: FeedName, S: LineSource<G>, W: Wait>(
     ensures failed { IfErr result (λ fault. S.failures source.new
         ≡ failures_after (S.failures source.old) fault) }
 {
+    if !gap {
+        return Ok(());
+    }
     let now_ms = source.now_ms();
     match venues.due(rt, venue, now_ms) {
         Ok(Some(request)) => source.request(&request),
@@ -66,6 +71,7 @@ pub(crate) fn work_line<G: Genuine, N: FeedName, S: LineSource<G>, W: Wait>(
     let venue = seat.venue();
     let mut datagrams: u64 = 0;
     let mut fault = None;
+    let mut gap = false;
     for _ in rt.forever() {
         if signals.is_stopped() {
             break;
@@ -73,7 +79,7 @@ pub(crate) fn work_line<G: Genuine, N: FeedName, S: LineSource<G>, W: Wait>(
         match source.next() {
             Ok(Some(datagram)) => {
                 datagrams = datagrams.saturating_add(1);
-                let _answer = venues.take(rt, &mut seat, &datagram);
+                let _answer = venues.take_and_look(rt, &mut seat, &datagram, &mut gap);
             }
             Ok(None) => break,
             Err(failed) => {
@@ -81,12 +87,13 @@ pub(crate) fn work_line<G: Genuine, N: FeedName, S: LineSource<G>, W: Wait>(
                 break;
             }
         }
-        if let Err(failed) = request_due(rt, venues, venue, &mut source) {
+        if let Err(failed) = request_due(rt, venues, venue, gap, &mut source) {
             fault = Some(failed);
             break;
         }
     }
     signals.end_line();
+    venues.news().notify_one();
     LineEnd {
         seat,
         source,

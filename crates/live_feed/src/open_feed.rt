@@ -14,6 +14,7 @@ use crate::subscriber::Subscriber;
 use crate::tape::Tape;
 use crate::venue_cell::VenueCell;
 use crate::venue_locks::VenueLocks;
+use crossbeam_utils::CachePadded;
 use feed_types::{Genuine, LineId, SubscriberId, VenueId};
 use filter_terms::{Filter, Strategy};
 use journal_book::JournalFault;
@@ -35,7 +36,7 @@ pub(crate) struct Guarded<G: Genuine, N: FeedName> {
 #[derive(Drop)]
 pub struct OpenFeed<G: Genuine, N: FeedName> {
     pub(crate) venues: VenueLocks<G, N>,
-    pub(crate) hub: Mutex<HubCell<G, N>>,
+    pub(crate) hub: CachePadded<Mutex<HubCell<G, N>>>,
     pub(crate) log_lines: u32,
 }
 
@@ -197,7 +198,9 @@ impl<G: Genuine, N: FeedName> OpenFeed<G, N> {
         ensures unknown { IsErrOf result JournalFault.UnknownVenue
             ↔ (length N.lanes.venues ≤ venue) }
     {
-        self.hub.lock(rt).declare(venue, on)
+        let declared = self.hub.lock(rt).declare(venue, on);
+        self.venues.news().notify_one();
+        declared
     }
 
     /// Adds a subscriber with this filter and strategy, whose log is empty. Its notices begin with

@@ -119,7 +119,15 @@ where
     ensures tapes { Pairwise HasPolled tapes.items result.tapes.items }
     ensures count { vec_len result.tapes ≡ vec_len tapes }
 {
-    let tape_threads = start_subscribers(rt, scope, signals, tapes, strategies, tape_lists.threads);
+    let tape_threads = start_subscribers(
+        rt,
+        scope,
+        signals,
+        feed.venues.news(),
+        tapes,
+        strategies,
+        tape_lists.threads,
+    );
     let line_threads = start_lines(rt, scope, &feed.venues, signals, lines, line_lists.threads);
     let stopped = consolidate(rt, feed, signals);
     let ends = join_lines(rt, line_threads, line_lists.ends);

@@ -15,7 +15,8 @@ use crate::seat::LineSeat;
 use crate::settlement::Settlement;
 use crate::subscriber::Subscriber;
 use crate::unsettled::Unsettled;
-use crate::venue_locks::VenueLocks;
+use crate::venue_locks::{VenueLock, VenueLocks};
+use crossbeam_utils::CachePadded;
 use feed_types::Genuine;
 use std::alloc::Global;
 use std::sync::{Mutex, Wait};
@@ -25,20 +26,20 @@ use std::sync::{Mutex, Wait};
 struct Unlocked<G: Genuine, N: FeedName> {
     venues: Vec<Guarded<G, N>>,
     hub: HubCell<G, N>,
-    locks: Vec<Mutex<Guarded<G, N>>>,
+    locks: Vec<VenueLock<G, N>>,
     log_lines: u32,
 }
 
 /// Takes each venue out of its lock. There is room for all.
 fn out_of_locks<G: Genuine, N: FeedName>(
-    locks: Vec<Mutex<Guarded<G, N>>>,
+    locks: Vec<VenueLock<G, N>>,
     mut venues: Vec<Guarded<G, N>>,
 ) -> Vec<Guarded<G, N>>
     requires { (length venues.items ≡ 0) × (vec_len locks ≤ vec_capacity venues) }
     ensures { length result.items ≡ length locks.items }
 {
     for lock in locks {
-        venues.push_reserved(lock.into_inner());
+        venues.push_reserved(lock.into_inner().into_inner());
     }
     venues
 }
@@ -46,13 +47,13 @@ fn out_of_locks<G: Genuine, N: FeedName>(
 /// Puts each venue behind a lock. There is room for all.
 fn behind_locks<G: Genuine, N: FeedName>(
     venues: Vec<Guarded<G, N>>,
-    mut locks: Vec<Mutex<Guarded<G, N>>>,
-) -> Vec<Mutex<Guarded<G, N>>>
+    mut locks: Vec<VenueLock<G, N>>,
+) -> Vec<VenueLock<G, N>>
     requires { (length locks.items ≡ 0) × (vec_len venues ≤ vec_capacity locks) }
     ensures { length result.items ≡ length venues.items }
 {
     for venue in venues {
-        locks.push_reserved(Mutex::new(venue));
+        locks.push_reserved(CachePadded::new(Mutex::new(venue)));
     }
     locks
 }
@@ -80,7 +81,7 @@ fn unlock<G: Genuine, N: FeedName>(
     } = feed;
     Ok(Unlocked {
         venues: out_of_locks(behind.into_locks(), venues),
-        hub: hub.into_inner(),
+        hub: hub.into_inner().into_inner(),
         locks,
         log_lines,
     })
@@ -100,7 +101,7 @@ fn locked<G: Genuine, N: FeedName>(unlocked: Unlocked<G, N>) -> OpenFeed<G, N>
     } = unlocked;
     OpenFeed {
         venues: VenueLocks::new(behind_locks(venues, locks)),
-        hub: Mutex::new(hub),
+        hub: CachePadded::new(Mutex::new(hub)),
         log_lines,
     }
 }

@@ -7,6 +7,7 @@ use crate::feed_name::FeedName;
 use crate::signals::Signals;
 use crate::subscriber_work::{TapeOf, work_subscriber};
 use crate::tape::Tape;
+use crossbeam_utils::sync::EventCount;
 use filter_terms::Strategy;
 use std::snapshot::Snapshot;
 use std::sync::{Mutex, Wait};
@@ -20,6 +21,7 @@ pub(crate) fn start_subscriber<'s, E, N, R>(
     rt: &'s R,
     scope: &Scope<'s, E>,
     signals: &'s Signals,
+    news: &'s EventCount,
     tape: Tape<N>,
     strategy: &'s Mutex<Strategy>,
 ) -> TapeThread<N>
@@ -36,7 +38,7 @@ where
     };
     let job = move || -> Tape<N>
         ensures { HasPolled tape result }
-    { work_subscriber(rt, signals, tape, strategy) };
+    { work_subscriber(rt, signals, news, tape, strategy) };
     signals.set_polling(id, true);
     match scope.spawn_with(promise, job) {
         Ok(handle) => Ok(handle),
@@ -55,6 +57,7 @@ pub(crate) fn start_subscribers<'s, E, N, R>(
     rt: &'s R,
     scope: &Scope<'s, E>,
     signals: &'s Signals,
+    news: &'s EventCount,
     tapes: Vec<Tape<N>>,
     strategies: &'s Vec<Mutex<Strategy>>,
     mut threads: Vec<TapeThread<N>>,
@@ -73,7 +76,7 @@ where
 {
     for tape in tapes {
         let strategy = &strategies[threads.len()];
-        let thread = start_subscriber(rt, scope, signals, tape, strategy);
+        let thread = start_subscriber(rt, scope, signals, news, tape, strategy);
         threads.push_reserved(thread);
     }
     threads

@@ -3,12 +3,13 @@
 ghost use Rattle.live_feed.specs.Runs.{HasPolled};
 
 use crate::feed_name::FeedName;
+use crate::idle::{is_tired, rest};
 use crate::signals::Signals;
 use crate::tape::Tape;
+use crossbeam_utils::sync::EventCount;
 use filter_terms::Strategy;
 use std::snapshot::Snapshot;
 use std::sync::{Mutex, Wait};
-use std::thread;
 use std::thread::Promise;
 
 /// The tape that a subscriber's thread has. What the thread returns is that tape, later on.
@@ -29,6 +30,7 @@ impl<N: FeedName> Promise<Tape<N>> for TapeOf<N> {
 pub(crate) fn work_subscriber<N: FeedName, W: Wait>(
     rt: &W,
     signals: &Signals,
+    news: &EventCount,
     tape: Tape<N>,
     strategy: &Mutex<Strategy>,
 ) -> Tape<N>
@@ -37,22 +39,34 @@ pub(crate) fn work_subscriber<N: FeedName, W: Wait>(
     let mut tape = tape;
     let id = tape.id();
     let mut strategy = strategy.lock(rt);
+    let mut looks: u32 = 0;
     for _ in rt.forever() {
         if !signals.is_polling(id) {
             break;
         }
+        let key = if is_tired(looks) {
+            Some(signals.notices(id).prepare_wait())
+        } else {
+            None
+        };
         let last = signals.have_offers_ended();
         match tape.poll(rt, &mut *strategy) {
-            Ok(Some(_)) => {}
+            Ok(Some(_)) => {
+                looks = 0;
+                if signals.is_room_wanted() {
+                    news.notify_one();
+                }
+            }
             Ok(None) => {
                 if last {
                     break;
                 }
-                thread::yield_now();
+                looks = rest(rt, looks, key);
             }
             Err(_) => break,
         }
     }
     signals.set_polling(id, false);
+    news.notify_one();
     tape
 }

@@ -10,24 +10,33 @@ use crate::datagram::Datagram;
 use crate::faults::{FeedFault, TakeFault};
 use crate::feed_name::FeedName;
 use crate::seat::LineSeat;
+use crate::unsent::Unsent;
 use crate::venue_cell::VenueCell;
-use crate::venue_locks::VenueLocks;
+use crate::venue_locks::{VenueLocks, enter};
 use feed_types::{Genuine, VenueId};
 use line_arbiter::{LineFault, Outcome};
 use mold_packet::{Packet, Request, read_packet};
 use std::sync::Wait;
 
-/// Pushes what is ready of the venue, until nothing is or the lane is full, and gives how many
-/// items were pushed.
-fn push_ready<G: Genuine, N: FeedName, W: Wait>(rt: &W, cell: &mut VenueCell<G, N>) -> u64 {
+/// Pushes what is ready of the venue, until nothing is or the lane is full. Gives how many items
+/// were pushed, and why no more were.
+fn push_ready<G: Genuine, N: FeedName, W: Wait>(
+    rt: &W,
+    cell: &mut VenueCell<G, N>,
+) -> (u64, Unsent) {
     let mut pushed: u64 = 0;
     for _ in rt.forever() {
-        if cell.push_one(rt).is_err() {
-            break;
+        match cell.push_one(rt) {
+            Ok(_) => pushed = pushed.saturating_add(1),
+            Err(unsent) => return (pushed, unsent),
         }
-        pushed = pushed.saturating_add(1);
     }
-    pushed
+    (pushed, Unsent::Nothing)
+}
+
+/// Whether a packet brought nothing.
+fn is_repeat(answer: &Result<Outcome, LineFault>) -> bool {
+    matches!(answer, Ok(Outcome::Taken { new: 0, .. }))
 }
 
 /// Takes the packet where the cell is of the seat's venue. Most bring the next message alone.
@@ -73,24 +82,47 @@ impl<G: Genuine, N: FeedName> VenueLocks<G, N> {
         ensures accepts { AcceptsTheirs G.sessions G.carries G.ends seat.old.venue
             (bytes_of datagram.now) result }
     {
+        let mut gap = false;
+        self.take_and_look(rt, seat, datagram, &mut gap)
+    }
+
+    /// Takes a datagram as `take` does, and says whether a gap stands then, all under the venue's
+    /// lock taken once.
+    pub(crate) fn take_and_look<W: Wait>(
+        &self,
+        rt: &W,
+        seat: &mut LineSeat<G, N>,
+        datagram: &Datagram,
+        gap: &mut bool,
+    ) -> Result<Outcome, TakeFault>
+        requires { AreGenuineBytes G.sessions G.carries G.ends seat.old.venue
+            (bytes_of datagram.now) }
+        ensures taken { IsTakenBy G.sessions G.carries G.ends N.lanes (bytes_of datagram.now)
+            seat.old result seat.new }
+        ensures accepts { AcceptsTheirs G.sessions G.carries G.ends seat.old.venue
+            (bytes_of datagram.now) result }
+    {
         match read_packet(datagram.bytes()) {
-            Ok(packet) => match self.take_packet(rt, seat, &packet) {
+            Ok(packet) => match self.take_packet(rt, seat, &packet, gap) {
                 Ok(outcome) => Ok(outcome),
                 Err(fault) => Err(TakeFault::Line(fault)),
             },
             Err(fault) => {
                 let _ = self.flush(rt, seat.venue());
+                *gap = true;
                 Err(TakeFault::Packet(fault))
             }
         }
     }
 
-    /// Takes a packet that was read, under the lock of the seat's venue, and pushes what is ready.
+    /// Takes a packet that was read, under the lock of the seat's venue, pushes what is ready, and
+    /// says whether a gap stands then.
     fn take_packet<W: Wait>(
         &self,
         rt: &W,
         seat: &mut LineSeat<G, N>,
         packet: &Packet<'_>,
+        gap: &mut bool,
     ) -> Result<Outcome, LineFault>
         requires { IsGenuine G.sessions G.carries G.ends seat.old.venue packet.now }
         ensures seat { seat.new ≡ seat_after seat.old packet.now result }
@@ -102,9 +134,15 @@ impl<G: Genuine, N: FeedName> VenueLocks<G, N> {
         let Some(lock) = self.get(seat.venue()) else {
             return Err(LineFault::OtherSession);
         };
-        let mut guarded = lock.lock(rt);
+        let mut guarded = enter(rt, lock);
         let answer = take_in(rt, &mut guarded.cell, seat, packet);
-        push_ready(rt, &mut guarded.cell);
+        let (pushed, unsent) = push_ready(rt, &mut guarded.cell);
+        self.set_held_back(seat.venue(), unsent == Unsent::LaneFull);
+        *gap = guarded.cell.has_gap();
+        drop(guarded);
+        if pushed > 0 || !is_repeat(&answer) {
+            self.news().notify_one();
+        }
         answer
     }
 
@@ -116,11 +154,17 @@ impl<G: Genuine, N: FeedName> VenueLocks<G, N> {
         let Some(lock) = self.get(venue) else {
             return Err(FeedFault::UnknownVenue);
         };
-        let mut guarded = lock.lock(rt);
+        let mut guarded = enter(rt, lock);
         if guarded.cell.venue() != venue {
             return Ok(0);
         }
-        Ok(push_ready(rt, &mut guarded.cell))
+        let (pushed, unsent) = push_ready(rt, &mut guarded.cell);
+        self.set_held_back(venue, unsent == Unsent::LaneFull);
+        drop(guarded);
+        if pushed > 0 {
+            self.news().notify_one();
+        }
+        Ok(pushed)
     }
 
     /// The request for the venue's gap to send now, if any.
@@ -135,7 +179,7 @@ impl<G: Genuine, N: FeedName> VenueLocks<G, N> {
         let Some(lock) = self.get(venue) else {
             return Err(FeedFault::UnknownVenue);
         };
-        let mut guarded = lock.lock(rt);
+        let mut guarded = enter(rt, lock);
         if guarded.cell.venue() != venue {
             return Ok(None);
         }

@@ -34,10 +34,10 @@ const REQUEST_INTERVAL_MS: u64 = 250;
 /// it stands (`IsKept` in `specs/Cells.antt`).
 #[derive(Drop)]
 pub struct VenueCell<G: Genuine, N: FeedName> {
-    lines: Arbiter<G>,
     items: Sender<Numbered, VenueItems<G>>,
     pacer: Pacer,
     sums: VenueSums,
+    lines: Arbiter<G>,
     feed: PhantomData<N>,
 }
 
@@ -247,6 +247,11 @@ impl<G: Genuine, N: FeedName> VenueCell<G, N> {
             }
             Err(fault) => Err(fault),
         }
+    }
+
+    /// Whether messages are missing.
+    pub(crate) fn has_gap(&self) -> bool {
+        self.lines.gap().is_some()
     }
 
     /// The request for the gap to send now, if any: see [`Pacer::due`].

@@ -4,15 +4,50 @@ ghost use Rattle.std.specs.Prelude.{◌≡◌, ◌<◌, ◌↔◌, length, IsSom
 
 use crate::feed_name::FeedName;
 use crate::open_feed::Guarded;
+use crossbeam_utils::CachePadded;
+use crossbeam_utils::sync::EventCount;
 use feed_types::{Genuine, VenueId};
 use std::marker::Model;
-use std::sync::Mutex;
+use std::sync::atomic::{AtomicBool, Ordering};
+use std::sync::{Mutex, MutexGuard, Wait};
+use std::{array, hint};
+
+/// How often a lock that another thread holds is tried before its thread sleeps for it.
+const TRIES: u32 = 40;
+
+/// How many pauses lie between two tries at most: longer than a section takes.
+const MOST_PAUSES: u32 = 64;
+
+/// Locks it. A thread that finds it held tries again for a while, each time after twice as long a
+/// pause: a section is short, and one that sleeps has to be woken by a system call. Meanwhile the
+/// other thread, whose caches have what the lock guards, takes what else came on its line.
+pub(crate) fn enter<'l, T, W: Wait>(rt: &W, lock: &'l Mutex<T>) -> MutexGuard<'l, T> {
+    let mut pauses: u32 = 16;
+    for _ in 0..TRIES {
+        if let Some(guard) = lock.try_lock() {
+            return guard;
+        }
+        for _ in 0..pauses {
+            hint::spin_loop();
+        }
+        pauses = pauses.saturating_mul(2).min(MOST_PAUSES);
+    }
+    lock.lock(rt)
+}
+
+/// A venue behind its lock, on cache lines of its own.
+pub(crate) type VenueLock<G, N> = CachePadded<Mutex<Guarded<G, N>>>;
 
 /// The venues behind their locks, in order. There are as many as the feed has lanes for. Contracts
 /// see how many.
 #[derive(Drop)]
 pub struct VenueLocks<G: Genuine, N: FeedName> {
-    locks: Vec<Mutex<Guarded<G, N>>>,
+    locks: Vec<VenueLock<G, N>>,
+    /// By venue, whether something is ready that the lane had no room for. It changes under the
+    /// venue's lock alone, and only where it is another than before.
+    held_back: [AtomicBool; 16],
+    /// Where the consolidator sleeps while there is nothing to do.
+    news: EventCount,
 }
 
 impl<G: Genuine, N: FeedName> Model for VenueLocks<G, N> {
@@ -26,10 +61,32 @@ impl<G: Genuine, N: FeedName> Model for VenueLocks<G, N> {
 }
 
 impl<G: Genuine, N: FeedName> VenueLocks<G, N> {
-    pub(crate) fn new(locks: Vec<Mutex<Guarded<G, N>>>) -> VenueLocks<G, N>
+    pub(crate) fn new(locks: Vec<VenueLock<G, N>>) -> VenueLocks<G, N>
         requires { length locks.items ≡ length N.lanes.venues }
     {
-        VenueLocks { locks }
+        VenueLocks {
+            locks,
+            held_back: array::from_fn(|_| AtomicBool::new(false)),
+            news: EventCount::new(),
+        }
+    }
+
+    /// Where the consolidator sleeps while there is nothing to do. Whoever has made work for it
+    /// notifies it.
+    pub(crate) fn news(&self) -> &EventCount {
+        &self.news
+    }
+
+    /// Whether something is ready at the venue that its lane had no room for.
+    pub(crate) fn is_held_back(&self, venue: VenueId) -> bool {
+        self.held_back[venue.index()].load(Ordering::SeqCst)
+    }
+
+    /// Says whether something is ready at the venue that its lane had no room for.
+    pub(crate) fn set_held_back(&self, venue: VenueId, is_held_back: bool) {
+        if self.is_held_back(venue) != is_held_back {
+            self.held_back[venue.index()].store(is_held_back, Ordering::SeqCst);
+        }
     }
 
     /// How many venues there are.
@@ -43,18 +100,25 @@ impl<G: Genuine, N: FeedName> VenueLocks<G, N> {
     pub(crate) fn get(&self, venue: VenueId) -> Option<&Mutex<Guarded<G, N>>>
         ensures { IsSome result ↔ (venue < length N.lanes.venues) }
     {
-        self.locks.get(venue.index())
+        match self.locks.get(venue.index()) {
+            Some(lock) => Some(&**lock),
+            None => None,
+        }
     }
 
     /// All locks.
-    pub(crate) fn as_slice(&self) -> &[Mutex<Guarded<G, N>>] {
+    pub(crate) fn as_slice(&self) -> &[VenueLock<G, N>] {
         self.locks.as_slice()
     }
 
-    pub(crate) fn into_locks(self) -> Vec<Mutex<Guarded<G, N>>>
+    pub(crate) fn into_locks(self) -> Vec<VenueLock<G, N>>
         ensures { length result.items ≡ length N.lanes.venues }
     {
-        let VenueLocks { locks } = self;
+        let VenueLocks {
+            locks,
+            held_back: _,
+            news: _,
+        } = self;
         locks
     }
 }

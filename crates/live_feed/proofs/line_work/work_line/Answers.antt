@@ -5,8 +5,8 @@ use Rattle.live_feed.proofs.RunMoves.{brings_still, genuine_at, seat_stays, take
 use Rattle.live_feed.proofs.line_work.work_line.Goals as goal
 use Rattle.live_feed.proofs.line_work.work_line.Goals.{in-None, in-Some+then-is_stopped, in-Some+else-is_stopped+in-Ok-None, in-Some+else-is_stopped+in-Err, in-Some+else-is_stopped+in-Ok-Some+in-Err-request_due}
 
-pub take-answer-requires : goal.take-answer-requires
-take-answer-requires g c =
+pub take_and_look-answer-requires : goal.take_and_look-answer-requires
+take_and_look-answer-requires g c =
     let datagram = c.in-Ok-Some.datagram in
     genuine_at g.G.Genuine.sessions g.G.Genuine.carries g.G.Genuine.ends
     (g.S.LineSource.venue_of c.loop.source) c.loop.seat.venue (bytes_of datagram)
@@ -20,8 +20,8 @@ loop-preserved g c =
     let bytes = bytes_of c.in-Ok-Some.datagram in
     let took =
     taken_more g.G.Genuine.sessions g.G.Genuine.carries g.G.Genuine.ends g.N.FeedName.lanes
-    so_far.0 bytes c.take-answer.result c.args.line.seat c.loop.seat
-    c.take-answer.new.seat so_far.1 c.take-answer.ensures.taken in
+    so_far.0 bytes c.take_and_look-answer.result c.args.line.seat c.loop.seat
+    c.take_and_look-answer.new.seat so_far.1 c.take_and_look-answer.ensures.taken in
     let one = subst (λ found. g.S.LineSource.brings c.loop.source (brought_by (Ok found))
     c.next-in-loop.new.self) c.in-Ok-Some.field-0-is c.in-Ok-Some.ensures.brings in
     let read = laws.brings_more c.args.line.source c.loop.source c.next-in-loop.new.self so_far.0
@@ -96,12 +96,12 @@ returns g c = elim c.match-next.branch [
       let so_far = c.loop.invariant.5 in
       let bytes = bytes_of w.in-Ok-Some.datagram in
       let stays = seat_stays g.G.Genuine.sessions g.G.Genuine.carries g.G.Genuine.ends
-      g.N.FeedName.lanes bytes c.loop.seat w.take-answer.result
-      w.take-answer.new.seat w.take-answer.ensures.taken in
+      g.N.FeedName.lanes bytes c.loop.seat w.take_and_look-answer.result
+      w.take_and_look-answer.new.seat w.take_and_look-answer.ensures.taken in
       let took = taken_more g.G.Genuine.sessions g.G.Genuine.carries g.G.Genuine.ends
-      g.N.FeedName.lanes so_far.0 bytes w.take-answer.result
-      c.args.line.seat c.loop.seat w.take-answer.new.seat so_far.1
-      w.take-answer.ensures.taken in
+      g.N.FeedName.lanes so_far.0 bytes w.take_and_look-answer.result
+      c.args.line.seat c.loop.seat w.take_and_look-answer.new.seat so_far.1
+      w.take_and_look-answer.ensures.taken in
       let one = subst (λ found. g.S.LineSource.brings c.loop.source (brought_by (Ok found))
       w.next-in-loop.new.self) w.in-Ok-Some.field-0-is w.in-Ok-Some.ensures.brings in
       let read = laws.brings_more c.args.line.source c.loop.source w.next-in-loop.new.self so_far.0

@@ -2,7 +2,7 @@ use Rattle.std.proofs.Common.{ℕ, List, Err, subst}
 use Rattle.live_feed.specs.Datagrams.{AcceptsTheirs}
 use Rattle.live_feed.specs.declared.faults.TakeFault.TheVariants as faults
 use Rattle.live_feed.proofs.TheirPackets.{faulty, theirs}
-use Rattle.live_feed.proofs.venue_locks.VenueLocks.take.Goals as goal
+use Rattle.live_feed.proofs.venue_locks.VenueLocks.take_and_look.Goals as goal
 
 pub returns-in-Err-take_packet-clause-accepts : goal.returns-in-Err-take_packet-clause-accepts
 returns-in-Err-take_packet-clause-accepts g c =
