@@ -112,7 +112,7 @@ after_grows old (renewal_answered venue answer) = omega arith
 after_grows old (self_help_declared venue on) = if_grows (is_so old venue on) old (SelfHelp venue on)
 
 -- the journal only grows
-entries_grow : (old : List Entry) (hs : List Happening) → length old ≤ length (entries_of old hs)
+pub entries_grow : (old : List Entry) (hs : List Happening) → length old ≤ length (entries_of old hs)
 entries_grow old [] = omega arith
 entries_grow old (h ∷ hs) = let a = after_grows old h in let b = entries_grow (entries_after old h) hs in omega arith
 

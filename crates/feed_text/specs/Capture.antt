@@ -8,6 +8,7 @@
 use Rattle.std.specs.Prelude.{◌≡◌, ℕ, ◌+◌, ◌*◌, ◌/◌, ◌%◌, ◌<◌, ◌≤◌, ◌⊎◌, Bool, true, false, List, [], ◌∷◌, ◌++◌, length, drop, flat_map, slice_index}
 use Rattle.feed_types.specs.declared.line.LineId.{LineId}
 use Rattle.feed_types.specs.Text.{line_letter}
+use Rattle.mold_packet.specs.Bytes.{AreBytes}
 use Rattle.feed_text.specs.declared.capture.Record.{Record}
 use Rattle.feed_text.specs.declared.capture.Record.TheVariants.{Datagram, Renewal, SelfHelp}
 use Rattle.feed_text.specs.declared.capture.Front.{Front}
@@ -36,6 +37,11 @@ abbrev pub bytes_of : CaptureRecord → List ℕ
 bytes_of (datagram_record venue line bytes) = bytes
 bytes_of (renewal_record venue session) = session
 bytes_of (self_help_record venue on) = []
+
+-- A record's numbers are bytes. Code knows it of a `u8`; a law, which speaks of all lists, asks for
+-- it.
+abbrev pub HoldsBytes : CaptureRecord → Type 0
+HoldsBytes r = AreBytes (bytes_of r)
 
 -- the bytes of a record
 abbrev pub spelling : CaptureRecord → List ℕ

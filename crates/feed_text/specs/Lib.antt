@@ -5,6 +5,7 @@ pub mod DeviceLaws
 pub mod Lines
 pub mod Happenings
 pub mod Told
+pub mod VenueItems
 pub mod Texts
 pub mod Tales
 pub mod Following

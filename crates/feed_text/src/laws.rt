@@ -1,11 +1,13 @@
 //! What the definitions mean together.
-ghost use Rattle.std.specs.Prelude.{◌≡◌, ℕ, Bool, List, All};
+ghost use Rattle.std.specs.Prelude.{◌≡◌, ℕ, Bool, List, Some, All, slice_get};
 ghost use Rattle.line_arbiter.specs.Histories.{History};
 ghost use Rattle.feed_text.specs.declared.replay.ReplayConfig.{ReplayConfig};
-ghost use Rattle.feed_text.specs.Capture.{CaptureRecord, IsRecord, NoRecord, capture_of};
+ghost use Rattle.feed_text.specs.Capture.{CaptureRecord, HoldsBytes, IsRecord, NoRecord, capture_of};
 ghost use Rattle.feed_text.specs.Happenings.{Happening};
 ghost use Rattle.feed_text.specs.Told.{Tells};
-ghost use Rattle.feed_text.specs.Texts.{IsLinesOf, IsTextOf, IsLinesToFull};
+ghost use Rattle.feed_text.specs.Texts.{TellsAll, IsLinesOf, IsTextOf, IsLinesToFull};
+ghost use Rattle.feed_text.specs.Replays.{venues_in};
+ghost use Rattle.feed_text.specs.VenueItems.{TellsSessions};
 
 /// A capture has one reading: where the same bytes are records and then a rest that begins with none,
 /// the records and the rest are the same.
@@ -36,3 +38,22 @@ pub fn one_text()
     mold_packet::one_reading();
     line_arbiter::one_outcome();
 }
+
+/// Records tell something, whatever they are: with [`one_text`], exactly one list of happenings. So no
+/// clause over what is told is empty.
+pub fn every_capture_tells()
+    ensures { (config : ReplayConfig) (records : List CaptureRecord)
+        → All (IsRecord (venues_in config)) records → All HoldsBytes records
+        → (told : List Happening) × (histories : List History)
+        × TellsAll config records told histories }
+{}
+
+/// What is printed of a venue's items is what its lines brought: its sessions' messages, session by
+/// session up to the first gap, each once, in sequence and none after their session's end.
+pub fn items_are_the_streams()
+    ensures { (config : ReplayConfig) (records : List CaptureRecord) (told : List Happening)
+        (histories : List History)
+        → TellsAll config records told histories
+        → (place : ℕ) (h : History) → slice_get histories place ≡ Some h
+        → TellsSessions records place told h }
+{}

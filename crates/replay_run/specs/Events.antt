@@ -1,0 +1,100 @@
+-- A replay as a run of the machine over events: each record is an event, and each item that is
+-- ready behind it is pushed and consumed at once.
+use Rattle.std.specs.Prelude.{◌≡◌, ℕ, zero, suc, ◌+◌, List, [], ◌∷◌, ◌++◌, length, map, if◌then◌else◌}
+use Rattle.std.specs.Borrow.{Bor}
+use Rattle.feed_types.specs.declared.journal.Entry.{Entry}
+use Rattle.feed_types.specs.Sessions.{Session}
+use Rattle.mold_packet.specs.Faults.{code_of}
+use Rattle.line_arbiter.specs.Histories.{History, streams_of}
+use Rattle.filter_terms.specs.declared.terms.Terms.{Terms}
+use Rattle.feed_core.specs.declared.event.Event.{Event}
+use Rattle.feed_core.specs.declared.event.Event.TheVariants.{Packet, Push, Consume, Declare, Renew}
+use Rattle.feed_core.specs.declared.event.Done.{Done}
+use Rattle.feed_core.specs.declared.event.Done.TheVariants as done
+use Rattle.feed_core.specs.Worlds.{Venue, World, Setting, new_world}
+use Rattle.feed_core.specs.Steps.{answered, renewal, already_so, IsRun}
+use Rattle.feed_core.specs.VenueHalf.{BringOnly}
+use Rattle.feed_core.specs.Headline.{Headline}
+use Rattle.feed_text.specs.declared.replay.ReplayConfig.{ReplayConfig}
+use Rattle.feed_text.specs.VenueItems.{HoldOnly}
+use Rattle.feed_text.specs.Capture.{CaptureRecord, datagram_record, renewal_record, self_help_record, venue_of}
+use Rattle.feed_text.specs.Happenings.{Happening, packet_answered, packet_refused, item_taken, gap_left, renewal_answered, self_help_declared, is_so, entries_after, entries_of}
+
+-- a slice of these bytes, wherever they lie
+abbrev pub slice_of : List ℕ → Bor (List ℕ)
+slice_of bytes = record { ref_ptr = (0, 0); now = bytes }
+
+-- the event that a record is
+abbrev pub event_of : CaptureRecord → Event
+event_of (datagram_record venue line bytes) = Packet venue line (slice_of bytes)
+event_of (renewal_record venue name) = Renew venue name
+event_of (self_help_record venue on) = Declare venue on
+
+-- so many items of a venue are pushed, and each is consumed at once
+abbrev pub drains : ℕ → ℕ → List Event
+drains venue zero = []
+drains venue (suc n) = Push venue ∷ Consume venue ∷ drains venue n
+
+-- the events are these records, one after another, each with some drains of its venue behind it
+abbrev pub AreEvents : List CaptureRecord → List Event → Type 0
+AreEvents [] events = events ≡ []
+AreEvents (r ∷ rs) events =
+    (ready : ℕ) × (others : List Event) × AreEvents rs others
+    × (events ≡ (event_of r ∷ drains (venue_of r) ready) ++ others)
+
+-- the outcomes that a happening tells, where these are the entries before it
+abbrev pub outcomes_by : List Entry → Happening → List Done
+outcomes_by entries (packet_answered venue line answer) = answered answer ∷ []
+outcomes_by entries (packet_refused venue line fault) = done.Refused (code_of fault) ∷ []
+outcomes_by entries (item_taken venue numbered) =
+    done.Pushed numbered.number ∷ done.Consumed (length entries + 1) ∷ []
+outcomes_by entries (gap_left venue request) = []
+outcomes_by entries (renewal_answered venue answer) = renewal answer ∷ []
+outcomes_by entries (self_help_declared venue on) =
+    (if is_so entries venue on then already_so else done.Declared (length entries + 1)) ∷ []
+
+abbrev pub outcomes_of : List Entry → List Happening → List Done
+outcomes_of entries [] = []
+outcomes_of entries (h ∷ hs) =
+    outcomes_by entries h ++ outcomes_of (entries_after entries h) hs
+
+-- what a machine is set up with that does what a replay does: a lane of some length, and some
+-- filters, that no event uses
+abbrev pub replay_setting : ReplayConfig → ℕ → List Terms → Setting
+replay_setting config lane filters = record {
+  sessions = config.sessions.now;
+  symbols = config.symbols.now;
+  window = config.window;
+  lane = lane;
+  journal = config.journal;
+  filters = filters;
+}
+
+-- a venue to which this came, all of it consumed
+abbrev pub consumed_all : History → Venue
+consumed_all h = record {
+  history = h;
+  lane = record { sent = streams_of h; received = streams_of h };
+}
+
+-- the world that a replay comes to
+abbrev pub world_of : List History → List Entry → World
+world_of histories entries = record {
+  venues = map consumed_all histories;
+  entries = entries;
+  subscribers = [];
+  used = 0;
+}
+
+-- What was told of these records is a run of the machine: over the records as events, with the
+-- outcomes that were told, to the world of these histories and of what was journaled; and the
+-- headline holds of it. The premise of its sessions is one of the records.
+pub record IsReplayRun (s : Setting) (records : List CaptureRecord) (told : List Happening)
+    (histories : List History) : Type 0 where
+  pub events : List Event
+  pub are : AreEvents records events
+  pub only : (place : ℕ) (session : Session) → HoldOnly place records session
+      → BringOnly place events session
+  pub run : IsRun s (new_world s) events (outcomes_of [] told)
+      (world_of histories (entries_of [] told))
+  pub headline : Headline s events (world_of histories (entries_of [] told))

@@ -1,0 +1,69 @@
+//! A replay is a run of the machine over events, so that the headline holds of what it prints.
+//!
+//! A replay takes a record at a time, and keeps no list of events and no machine. What it tells of a
+//! capture is all the same what the machine comes to over the capture's records as events, with each
+//! item that is ready pushed and consumed at once (`specs/Events.antt`). So a text that is printed
+//! is that of a run (`specs/Printed.antt`), and [`replay`] says it of what it wrote.
+#![tactic(auto)]
+
+ghost use Rattle.std.specs.Prelude.{◌≡◌, ◌≤◌, ℕ, List, length, OnOk};
+ghost use Rattle.std.specs.List.{IsDistinct};
+ghost use Rattle.std.specs.Str.{bytes_eq};
+ghost use Rattle.line_arbiter.specs.Histories.{History};
+ghost use Rattle.filter_terms.specs.declared.terms.Terms.{Terms};
+ghost use Rattle.feed_text.specs.declared.replay.ReplayConfig.{ReplayConfig};
+ghost use Rattle.feed_text.specs.Capture.{CaptureRecord};
+ghost use Rattle.feed_text.specs.Happenings.{Happening};
+ghost use Rattle.feed_text.specs.Texts.{TellsAll, HasRoom, IsLinesOf, IsTextOf};
+ghost use Rattle.feed_text.specs.Replays.{Replays};
+ghost use Rattle.replay_run.specs.Events.{IsReplayRun, replay_setting};
+ghost use Rattle.replay_run.specs.Printed.{AreLinesOfRun, IsTextOfRun, ReplaysRun};
+
+use feed_text::devices::{CaptureIn, TextOut};
+use feed_text::fault::ReplayFault;
+use feed_text::replay::ReplayConfig;
+use std::alloc::Global;
+
+/// What is told of records is a run of the machine over them as events, and the headline holds of
+/// it, whatever the lanes hold.
+pub fn a_replay_is_a_run()
+    ensures { (config : ReplayConfig) (lane : ℕ) (filters : List Terms)
+        (records : List CaptureRecord) (told : List Happening) (histories : List History)
+        → 1 ≤ lane
+        → TellsAll config records told histories → HasRoom config told
+        → IsReplayRun (replay_setting config lane filters) records told histories }
+{}
+
+/// So the lines of records, and the text of a whole capture, are those of a run.
+pub fn a_text_is_that_of_a_run()
+    ensures lines { (config : ReplayConfig) (records : List CaptureRecord) (lines : List ℕ)
+        → IsLinesOf config records lines → AreLinesOfRun config records lines }
+    ensures text { (config : ReplayConfig) (records : List CaptureRecord) (text : List ℕ)
+        → IsTextOf config records text → IsTextOfRun config records text }
+{}
+
+/// Reads a capture to its end, and writes its text ([`feed_text::replay::replay`]), which is that of
+/// a run of the machine over the capture's records, of which the headline holds.
+pub fn replay<R: CaptureIn, W: TextOut>(
+    alloc: Global,
+    config: &ReplayConfig<'_>,
+    reader: &mut R,
+    writer: &mut W,
+) -> Result<(), ReplayFault>
+    requires some { 1 ≤ length config.now.sessions.now }
+    requires few { length config.now.sessions.now ≤ 16 }
+    requires least { 1 ≤ config.now.window }
+    requires most { config.now.window ≤ 65535 }
+    requires symbols { length config.now.symbols.now ≤ 4096 }
+    requires distinct { IsDistinct bytes_eq config.now.symbols.now }
+    ensures replays { Replays
+        (record { gives = R.gives; ends = R.ends; failures = R.failures })
+        (record { adds = W.adds; failures = W.failures })
+        config.now reader.old reader.new writer.old writer.new result }
+    ensures headline { OnOk result (ReplaysRun
+        (record { gives = R.gives; ends = R.ends; failures = R.failures })
+        (record { adds = W.adds; failures = W.failures })
+        config.now reader.old reader.new writer.old writer.new) }
+{
+    feed_text::replay::replay(alloc, config, reader, writer)
+}
