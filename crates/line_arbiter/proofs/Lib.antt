@@ -42,3 +42,5 @@ pub mod Accepting
 pub mod Giving
 pub mod Naming
 pub mod Below
+pub mod GapLaws
+pub mod Messages

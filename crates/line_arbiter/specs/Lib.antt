@@ -7,6 +7,7 @@ pub mod Renewals
 pub mod Histories
 pub mod Genuine
 pub mod OfSession
+pub mod Gaps
 pub mod Through
 -- an arbiter
 pub mod Counts

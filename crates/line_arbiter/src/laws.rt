@@ -1,18 +1,21 @@
 //! What the definitions mean for a venue's stream and for a session's messages.
 
 ghost use Rattle.std.specs.Prelude.{◌≡◌, ℕ, ◌+◌, ◌≤◌, ◌++◌, ◌∷◌, [], List, length, IsOk, Ok, None, Option, Result};
+ghost use Rattle.std.specs.List.{AllByRecursion};
 ghost use Rattle.feed_types.specs.Sequence.{IsInSequence};
 ghost use Rattle.feed_types.specs.Sessions.{Session, IsSessionAt, Names};
 ghost use Rattle.feed_types.specs.Prefix.{IsPrefix};
-ghost use Rattle.line_arbiter.specs.Packets.{Arrival, carried, end_of};
-ghost use Rattle.line_arbiter.specs.Streams.{AreTaken, IsComplete, front_of, stream_of};
+ghost use Rattle.line_arbiter.specs.Packets.{Arrival, carried, end_of, known_of};
+ghost use Rattle.line_arbiter.specs.Streams.{AreTaken, IsComplete, front_of, gap_of, stream_of};
 ghost use Rattle.line_arbiter.specs.Outcomes.{IsOutcome};
 ghost use Rattle.line_arbiter.specs.Answered.{IsAnswered, AreAnswered};
 ghost use Rattle.line_arbiter.specs.Renewals.{IsRenewal};
 ghost use Rattle.line_arbiter.specs.Histories.{History, all_begun, streams_of};
 ghost use Rattle.line_arbiter.specs.Genuine.{IsGenuine, IsGenuineAt, AreGenuine, AreGenuineFrom};
-ghost use Rattle.line_arbiter.specs.OfSession.{IsOfSession, AreOfSession, GivesSession, AreGenuineOf, session_stream};
+ghost use Rattle.line_arbiter.specs.OfSession.{IsOfMessages, IsOfSession, AreOfSession, GivesSession, AreGenuineOf, session_of_messages, session_stream};
+ghost use Rattle.line_arbiter.specs.Gaps.{IsGap, IsKnown};
 ghost use Rattle.mold_packet.specs.Content.{Content, IsContent};
+ghost use Rattle.mold_packet.specs.declared.request.Request.{Request};
 ghost use Rattle.line_arbiter.specs.declared.outcome.Outcome.{Outcome};
 ghost use Rattle.line_arbiter.specs.declared.outcome.LineFault.{LineFault};
 ghost use Rattle.line_arbiter.specs.declared.faults.RenewFault.{RenewFault};
@@ -56,6 +59,22 @@ pub fn the_front_is_the_first_gap()
     ensures next { (packets : List Arrival) → carried packets (front_of packets + 1) ≡ None }
 {}
 
+/// The run to ask for is the gap at the front and no other: from the number after the front, as far
+/// as messages are missing in a row, are known of and have a place in the window.
+pub fn the_gap_is_what_is_missing()
+    ensures is { (session : List ℕ) (window sent : ℕ) (packets : List Arrival)
+        → IsGap session window sent packets (gap_of session window sent packets) }
+    ensures one { (session : List ℕ) (window sent : ℕ) (packets : List Arrival)
+        (gap : Option Request)
+        → IsGap session window sent packets gap → gap ≡ gap_of session window sent packets }
+{}
+
+/// What is known of a session: up to before the announced end, else up to the greatest number that
+/// a packet showed.
+pub fn known_is_the_greatest_heard_of()
+    ensures { (packets : List Arrival) → IsKnown packets (end_of packets) (known_of packets) }
+{}
+
 /// A stream only grows: with one more packet it begins with the stream of before, where each packet
 /// was answered as it should be.
 pub fn a_stream_only_grows()
@@ -88,6 +107,19 @@ pub fn the_stream_is_the_session()
     ensures { (session : Session) (window : ℕ) (packets : List Arrival)
         → AreAnswered session.name window packets → AreOfSession session packets
         → GivesSession session packets }
+{}
+
+/// A session is a list of messages: a packet whose blocks are those messages at their numbers is of
+/// the session of their items. So where each packet of its name is, the stream is these messages.
+pub fn a_session_is_its_messages()
+    ensures packet { (name : List ℕ) (messages : List (List ℕ)) (p : Content)
+        → IsOfMessages name messages p → IsOfSession (session_of_messages name messages) p }
+    ensures stream { (name : List ℕ) (messages : List (List ℕ)) (window : ℕ)
+        (packets : List Arrival)
+        → AreAnswered name window packets
+        → AllByRecursion (λ a. a.packet.session ≡ name → IsOfMessages name messages a.packet)
+        packets
+        → GivesSession (session_of_messages name messages) packets }
 {}
 
 /// From sessions to genuine packets: where the lines carry exactly these sessions, a packet that is

@@ -24,11 +24,11 @@ mod wins;
 pub use arbiter::{Arbiter, ArbiterStatus};
 pub use faults::{ArbiterFault, RenewFault};
 pub use laws::{
-    a_genuine_stream_is_the_session, a_renewal_comes_when_all_is_sent, a_stream_only_grows,
-    answers_go_on, every_packet_has_an_answer, every_renewal_has_an_answer,
-    no_genuine_packet_is_refused, one_outcome, one_renewal, packets_of_sessions_are_genuine,
-    streams_are_in_sequence, the_front_is_the_first_gap, the_stream_is_the_session,
-    what_is_taken_stays_genuine,
+    a_genuine_stream_is_the_session, a_renewal_comes_when_all_is_sent, a_session_is_its_messages,
+    a_stream_only_grows, answers_go_on, every_packet_has_an_answer, every_renewal_has_an_answer,
+    known_is_the_greatest_heard_of, no_genuine_packet_is_refused, one_outcome, one_renewal,
+    packets_of_sessions_are_genuine, streams_are_in_sequence, the_front_is_the_first_gap,
+    the_gap_is_what_is_missing, the_stream_is_the_session, what_is_taken_stays_genuine,
 };
 pub use outcome::{LineFault, Outcome};
 pub use pacer::Pacer;

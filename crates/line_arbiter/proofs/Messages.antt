@@ -1,0 +1,31 @@
+-- A packet whose blocks are a session's messages at their numbers is of the session of their items.
+use Rattle.std.proofs.Common.{◌≡◌, ℕ, ◌+◌, ◌-◌, ◌<◌, List, [], ◌∷◌, length, map, Option, Some, sym, ap, ◌∙◌, arith}
+use Rattle.std.specs.Prelude.{slice_get, slice_index_or}
+use Rattle.std.specs.List.{AllByRecursion}
+use Rattle.std.specs.Option.{option_map}
+use Rattle.std.proofs.lemmas.Option.{slice_get-map, slice_get-get_or}
+use Rattle.std.proofs.lemmas.List.{length-map}
+use Rattle.feed_types.specs.declared.item.Item.{Item}
+use Rattle.mold_packet.specs.Content.{Content}
+use Rattle.quote_payload.specs.Payload.{item_of}
+use Rattle.line_arbiter.specs.Packets.{Arrival, message_item}
+use Rattle.line_arbiter.specs.OfSession.{AreOfSession, IsOfMessages, IsOfSession, session_of_messages}
+
+pub of_messages : (name : List ℕ) (messages : List (List ℕ)) (p : Content) → IsOfMessages name messages p → IsOfSession (session_of_messages name messages) p
+of_messages name messages p of = record {
+  name = of.name_is;
+  messages = λ k lt.
+      slice_get-map item_of messages (p.number + k - 1)
+      ∙ ap (λ (o : Option (List ℕ)). option_map item_of o) (of.blocks k lt ∙ slice_get-get_or p.messages k [] lt);
+  heartbeat = λ is. let h = of.heartbeat is in let l = length-map messages item_of in omega arith;
+  end = λ is. let h = of.end is in let l = length-map messages item_of in omega arith;
+}
+
+pub all_of_messages : (name : List ℕ) (messages : List (List ℕ)) (packets : List Arrival)
+    → AllByRecursion (λ a. a.packet.session ≡ name → IsOfMessages name messages a.packet) packets
+    → AreOfSession (session_of_messages name messages) packets
+all_of_messages name messages [] all = tt
+all_of_messages name messages (a ∷ packets) all = (
+  λ is. of_messages name messages a.packet (all.0 is),
+  all_of_messages name messages packets all.1,
+)
