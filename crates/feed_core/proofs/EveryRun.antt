@@ -8,14 +8,14 @@ use Rattle.mold_packet.specs.Faults.{code_of}
 use Rattle.mold_packet.proofs.EveryReading.{read_or_fault}
 use Rattle.filter_terms.specs.declared.terms.Terms.{Terms}
 use Rattle.line_arbiter.specs.Packets.{arrival_of, end_of}
-use Rattle.line_arbiter.specs.Histories.{History, names_of, after_arrival}
+use Rattle.line_arbiter.specs.Histories.{History, names_of, after_arrival, history_after}
 use Rattle.line_arbiter.proofs.EveryAnswer.{every_answer, every_renewal}
 use Rattle.feed_core.specs.declared.event.Event.{Event}
 use Rattle.feed_core.specs.declared.event.Event.TheVariants.{Packet, Push, Consume, Declare, Renew, Subscribe, Offer, Dequeue}
 use Rattle.feed_core.specs.declared.event.Done.{Done}
 use Rattle.feed_core.specs.declared.event.Done.TheVariants as done
 use Rattle.feed_core.specs.Worlds.{Venue, sent_of, World, Setting}
-use Rattle.feed_core.specs.Steps.{Came, stays, goes, Stays, Comes, put_venue, history_after, IsFaulty, answered, IsAnswered, renewal, IsNext, IsSubscribed, IsStep, IsRun, BringsBytes}
+use Rattle.feed_core.specs.Steps.{Came, stays, goes, Stays, Comes, put_venue, IsFaulty, answered, IsAnswered, renewal, IsNext, IsSubscribed, IsStep, IsRun, BringsBytes}
 
 -- some outcome and some world
 abbrev HasStep : (Done → World → Type 0) → Type 0

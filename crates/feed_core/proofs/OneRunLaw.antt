@@ -11,14 +11,14 @@ use Rattle.line_arbiter.specs.declared.outcome.Outcome.{Outcome}
 use Rattle.line_arbiter.specs.declared.outcome.LineFault.{LineFault}
 use Rattle.line_arbiter.specs.Packets.{arrival_of, end_of}
 use Rattle.line_arbiter.specs.Outcomes.{IsOutcome}
-use Rattle.line_arbiter.specs.Histories.{History, names_of, after_arrival}
+use Rattle.line_arbiter.specs.Histories.{History, names_of, after_arrival, history_after}
 use Rattle.line_arbiter.proofs.OneOutcome.{one_answer, one_renewal}
 use Rattle.feed_core.specs.declared.event.Event.{Event}
 use Rattle.feed_core.specs.declared.event.Event.TheVariants.{Packet, Push, Consume, Declare, Renew, Subscribe, Offer, Dequeue}
 use Rattle.feed_core.specs.declared.event.Done.{Done}
 use Rattle.feed_core.specs.declared.event.Done.TheVariants as done
 use Rattle.feed_core.specs.Worlds.{Venue, sent_of, World, Setting}
-use Rattle.feed_core.specs.Steps.{Came, stays, goes, Stays, Comes, put_venue, history_after, IsFaulty, answered, IsAnswered, renewal, IsNext, IsSubscribed, IsStep, IsRun}
+use Rattle.feed_core.specs.Steps.{Came, stays, goes, Stays, Comes, put_venue, IsFaulty, answered, IsAnswered, renewal, IsNext, IsSubscribed, IsStep, IsRun}
 
 pub record Same (a b : Done) (v w : World) : Type 0 where
   pub outcome : a ≡ b

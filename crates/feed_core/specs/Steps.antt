@@ -18,7 +18,7 @@ use Rattle.line_arbiter.specs.Codes.{line_fault_code, renew_fault_code}
 use Rattle.line_arbiter.specs.Packets.{end_of}
 use Rattle.line_arbiter.specs.Outcomes.{IsOutcome}
 use Rattle.line_arbiter.specs.Renewals.{IsRenewal}
-use Rattle.line_arbiter.specs.Histories.{History, names_of, streams_of, after_arrival, after_renewal}
+use Rattle.line_arbiter.specs.Histories.{History, names_of, streams_of, after_arrival, history_after}
 use Rattle.filter_terms.specs.declared.terms.Terms.{Terms}
 use Rattle.journal_book.specs.Wanted.{wanted_of}
 use Rattle.nbbo_book.specs.Eligible.{is_self_helped}
@@ -71,10 +71,6 @@ pub record IsTaken (window sent : ℕ) (line : LineId) (packet : Content) (old :
 
 -- Renew, on what came to a venue: the present session is over, and the next one begins, or nothing
 -- changes.
-abbrev pub history_after : History → List ℕ → Result ℕ RenewFault → History
-history_after old name (Ok ordinal) = after_renewal old name
-history_after old name (Err fault) = old
-
 pub record IsRenewed (sent : ℕ) (name : List ℕ) (old : History) (answer : Result ℕ RenewFault)
     (new : History) : Type 0 where
   pub right : IsRenewal (names_of old) (end_of old.present.packets) sent name answer

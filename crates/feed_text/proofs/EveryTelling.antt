@@ -7,12 +7,12 @@ use Rattle.std.proofs.lemmas.List.Elements.{recursion_from_All}
 use Rattle.std.proofs.Math.ListN.{length-set}
 use Rattle.mold_packet.proofs.EveryReading.{read_or_fault}
 use Rattle.line_arbiter.specs.Packets.{arrival_of, end_of}
-use Rattle.line_arbiter.specs.Histories.{History, new_history, names_of, after_arrival}
+use Rattle.line_arbiter.specs.Histories.{History, new_history, names_of, after_arrival, history_after}
 use Rattle.line_arbiter.proofs.EveryAnswer.{every_answer, every_renewal}
 use Rattle.feed_text.specs.declared.replay.ReplayConfig.{ReplayConfig}
 use Rattle.feed_text.specs.Capture.{CaptureRecord, datagram_record, renewal_record, self_help_record, venue_of, IsRecord, HoldsBytes}
 use Rattle.feed_text.specs.Happenings.{Happening, packet_answered, packet_refused, renewal_answered, self_help_declared}
-use Rattle.feed_text.specs.Told.{sent_of, gap_told, items_told, after_answer, TellsAt, TellsRecord, Tells}
+use Rattle.feed_text.specs.Told.{sent_of, gap_told, items_told, TellsAt, TellsRecord, Tells}
 use Rattle.feed_text.specs.Texts.{TellsAll}
 use Rattle.feed_text.specs.Replays.{venues_in}
 use Rattle.feed_text.proofs.Telling.{get_within}
@@ -31,7 +31,7 @@ tells_at window gaps (datagram_record venue line bytes) old are = elim (read_or_
 ]
 tells_at window gaps (renewal_record venue name) old are =
     let given = every_renewal (names_of old) (end_of old.present.packets) (sent_of old) name in
-    (renewal_answered venue given.0 ∷ [], after_answer old name given.0, record { answer = given.0; is = given.1; after = refl; told_is = refl })
+    (renewal_answered venue given.0 ∷ [], history_after old name given.0, record { answer = given.0; is = given.1; after = refl; told_is = refl })
 tells_at window gaps (self_help_record venue on) old are = (self_help_declared venue on ∷ [], old, record { same = refl; told_is = refl })
 
 tells_record : (window : ℕ) (gaps : Bool) (r : CaptureRecord) (old : List History) → venue_of r < length old → HoldsBytes r → (told : List Happening) × (new : List History) × TellsRecord window gaps r old told new

@@ -16,11 +16,11 @@ use Rattle.feed_types.specs.declared.journal.Entry.{Entry}
 use Rattle.feed_types.specs.declared.journal.Entry.TheVariants.{Consumed, SelfHelp}
 use Rattle.feed_text.proofs.Tales.{entries_more}
 use Rattle.feed_text.proofs.Steps.{tells_one}
-use Rattle.line_arbiter.specs.Histories.{History, names_of, after_arrival}
+use Rattle.line_arbiter.specs.Histories.{History, names_of, after_arrival, history_after}
 use Rattle.feed_text.specs.declared.replay.ReplayConfig.{ReplayConfig}
 use Rattle.feed_text.specs.Capture.{CaptureRecord, datagram_record, renewal_record, self_help_record, venue_of}
 use Rattle.feed_text.specs.Happenings.{Happening, packet_answered, packet_refused, item_taken, gap_left, renewal_answered, self_help_declared, is_so, entries_after, entries_of}
-use Rattle.feed_text.specs.Told.{sent_of, gap_told, items_told, after_answer, TellsFault, TellsPacket, TellsAt, TellsRecord, Tells}
+use Rattle.feed_text.specs.Told.{sent_of, gap_told, items_told, TellsFault, TellsPacket, TellsAt, TellsRecord, Tells}
 use Rattle.feed_text.specs.Texts.{last_lines, new_histories, TellsAll, lines_told, HasRoom, IsTextOf, IsLinesOf, IsLinesToFull}
 
 -- the laws of packets and of their answers
@@ -72,7 +72,7 @@ one_at window gaps (datagram_record venue line bytes) old n1 n2 l1 l2 one (inr a
 one_at window gaps (datagram_record venue line bytes) old n1 n2 l1 l2 one (inr a) (inr b) = one_packet window gaps venue line bytes old n1 n2 l1 l2 one a b
 one_at window gaps (renewal_record venue name) old n1 n2 l1 l2 one a b =
     let x = one_renewal (names_of old) _ (sent_of old) name a.answer b.answer a.is b.is in
-    (a.told_is ∙ ap (λ (y : Result ℕ RenewFault). renewal_answered venue y ∷ []) x ∙ sym b.told_is, a.after ∙ ap (after_answer old name) x ∙ sym b.after)
+    (a.told_is ∙ ap (λ (y : Result ℕ RenewFault). renewal_answered venue y ∷ []) x ∙ sym b.told_is, a.after ∙ ap (history_after old name) x ∙ sym b.after)
 one_at window gaps (self_help_record venue on) old n1 n2 l1 l2 one a b = (a.told_is ∙ sym b.told_is, a.same ∙ sym b.same)
 
 one_record : (window : ℕ) (gaps : Bool) (r : CaptureRecord) (old n1 n2 : List History) (l1 l2 : List Happening) → Single → TellsRecord window gaps r old l1 n1 → TellsRecord window gaps r old l2 n2 → (l1 ≡ l2) × (n1 ≡ n2)

@@ -1,5 +1,5 @@
--- A packet that passed through, and its items told one after the other.
-use Rattle.std.proofs.Common.{◌≡◌, ℕ, ◌+◌, List, [], ◌∷◌, ◌++◌, length, sym, ap, ◌∙◌}
+-- A packet that needed no place in the window, and its items told one after the other.
+use Rattle.std.proofs.Common.{◌≡◌, ℕ, ◌+◌, List, [], ◌∷◌, ◌++◌, length, sym, ap, subst, ◌∙◌}
 use Rattle.std.specs.Prelude.{drop, map, Result, Ok, Err, OnOk}
 use Rattle.std.proofs.lemmas.List.{map-append}
 use Rattle.feed_types.specs.declared.item.Numbered.{Numbered}
@@ -12,8 +12,10 @@ use Rattle.line_arbiter.specs.Packets.{Arrival, arrival_of}
 use Rattle.line_arbiter.specs.Streams.{stream_of}
 use Rattle.line_arbiter.specs.Histories.{History}
 use Rattle.line_arbiter.specs.Outcomes.{IsOutcome}
-use Rattle.line_arbiter.specs.States.{State, KeepsItsSession, KeepsAllButSent}
-use Rattle.line_arbiter.specs.Through.{SendsPacket}
+use Rattle.line_arbiter.specs.States.{State, KeepsItsPlace, KeepsItsSession, KeepsAllButSent}
+use Rattle.line_arbiter.specs.declared.in_order.InOrder.{InOrder}
+use Rattle.line_arbiter.specs.declared.in_order.InOrder.TheVariants.{Next, Repeat}
+use Rattle.line_arbiter.specs.InOrder.{SendsInOrder, SendsPacket, sent_in_order}
 use Rattle.line_arbiter.specs.Fits.{Fits}
 use Rattle.feed_text.specs.declared.report.Stop.{Stop}
 use Rattle.feed_text.specs.Happenings.{Happening, packet_answered, item_taken}
@@ -68,7 +70,24 @@ stays_passed old mid new a b = record {
   earlier = b.earlier ∙ a.earlier;
 }
 
--- a packet passed through, and then all that is ready was told
+-- what a next packet sends, up to where the arbiter is then
+pub sends_next : (order : InOrder) (last from to : ℕ) (p : Content) (Q : List Arrival) → order ≡ Next last → to ≡ sent_in_order order from → SendsInOrder order from p Q → SendsPacket from to p Q
+sends_next order last from to p Q is at sends =
+    subst (λ (n : ℕ). SendsPacket from n p Q) (sym (at ∙ ap (λ (o : InOrder). sent_in_order o from) is))
+    (subst (λ (o : InOrder). SendsInOrder o from p Q) is sends)
+
+-- what a repeat leaves
+pub stays_repeated : (order : InOrder) (last : ℕ) (old new : State) → order ≡ Repeat last → new.sent ≡ sent_in_order order old.sent → KeepsItsSession old new → KeepsItsPlace old new
+stays_repeated order last old new is sent kept = record {
+  venue = kept.venue;
+  sessions = kept.sessions;
+  session = kept.session;
+  window = kept.window;
+  sent = sent ∙ ap (λ (o : InOrder). sent_in_order o old.sent) is;
+  earlier = kept.earlier;
+}
+
+-- a next packet was taken, and then all that is ready was told
 pub passed_told : (width place : ℕ) (h : History) (v : Venue) (mid new : State) (line : LineId) (p : Content) (o : Outcome) (t0 t1 : Tale) (done : Result (Unit {0}) Stop)
     → Follows width place v h
     → ((packets : List Arrival) → Fits v.arbiter packets → IsOutcome v.arbiter.session v.arbiter.window v.arbiter.sent packets p (Ok o))

@@ -17,7 +17,7 @@ use Rattle.line_arbiter.specs.Packets.{Arrival, arrival_of, end_of}
 use Rattle.line_arbiter.specs.Renewals.{IsRenewal}
 use Rattle.line_arbiter.specs.Streams.{IsComplete, front_of, stream_of, gap_of}
 use Rattle.line_arbiter.specs.Answered.{IsAnswered, AreAnswered}
-use Rattle.line_arbiter.specs.Histories.{Begun, History, new_history, new_session, all_begun, names_of, streams_of, after_arrival}
+use Rattle.line_arbiter.specs.Histories.{Begun, History, new_history, new_session, all_begun, names_of, streams_of, after_arrival, history_after}
 use Rattle.line_arbiter.specs.Histories as histories
 use Rattle.line_arbiter.specs.OfSession.{IsOfSession, AreOfSession, GivesSession, session_stream}
 use Rattle.line_arbiter.proofs.Below.{answered_more, answered_grows, all_sent}
@@ -25,7 +25,7 @@ use Rattle.line_arbiter.proofs.Giving.{gives_session}
 use Rattle.feed_text.specs.declared.replay.ReplayConfig.{ReplayConfig}
 use Rattle.feed_text.specs.Capture.{CaptureRecord, datagram_record, renewal_record, self_help_record, venue_of}
 use Rattle.feed_text.specs.Happenings.{Happening, item_taken, packet_answered, renewal_answered}
-use Rattle.feed_text.specs.Told.{sent_of, gap_happening, gap_told, after_answer, TellsPacket, TellsAt, TellsRecord, Tells}
+use Rattle.feed_text.specs.Told.{sent_of, gap_happening, gap_told, TellsPacket, TellsAt, TellsRecord, Tells}
 use Rattle.feed_text.specs.Texts.{TellsAll}
 use Rattle.feed_text.specs.VenueItems.{taken_by, items_taken, HoldsOnly, HoldOnly, AreSession, TellsSessions}
 use Rattle.feed_text.proofs.Telling.{get_set_same, get_set_other, same_or_not}
@@ -130,7 +130,7 @@ module _ (window : ℕ) (gaps : Bool) (venue : ℕ) where
       })
 
   renewal_goes : (name : List ℕ) (old new : History) (told : List Happening) (answer : Result ℕ RenewFault) → IsKept window old
-      → IsRenewal (names_of old) (end_of old.present.packets) (sent_of old) name answer → new ≡ after_answer old name answer → told ≡ renewal_answered venue answer ∷ [] → GoesOn window venue (renewal_record venue name) old told new
+      → IsRenewal (names_of old) (end_of old.present.packets) (sent_of old) name answer → new ≡ history_after old name answer → told ≡ renewal_answered venue answer ∷ [] → GoesOn window venue (renewal_record venue name) old told new
   renewal_goes name old new told (Err fault) k is after told_is = stays window venue (renewal_record venue name) old new told k after (ap (items_taken venue) told_is)
   renewal_goes name old new told (Ok ordinal) k is after told_is = subst (GoesOn window venue (renewal_record venue name) old told) (sym after) (record {
     items = items_push (all_begun old) (new_session name) ∙ ap (λ (xs : List Numbered). streams_of old ++ xs) (sym (ap (items_taken venue) told_is));

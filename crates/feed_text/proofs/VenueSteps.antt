@@ -16,7 +16,7 @@ use Rattle.line_arbiter.specs.declared.outcome.LineFault.{LineFault}
 use Rattle.line_arbiter.specs.declared.faults.RenewFault.{RenewFault}
 use Rattle.line_arbiter.specs.Packets.{Arrival, arrival_of, end_of}
 use Rattle.line_arbiter.specs.Streams.{stream_of, gap_of, wins_of}
-use Rattle.line_arbiter.specs.Histories.{Begun, new_session, all_begun, names_of, items_of, streams_of, after_arrival}
+use Rattle.line_arbiter.specs.Histories.{Begun, new_session, all_begun, names_of, items_of, streams_of, after_arrival, history_after, wins_in}
 use Rattle.line_arbiter.specs.Outcomes.{IsOutcome}
 use Rattle.line_arbiter.specs.Renewals.{IsRenewal}
 use Rattle.line_arbiter.specs.Counts.{Counts, count_on, shown}
@@ -27,8 +27,8 @@ use Rattle.feed_text.specs.declared.report.Stop.{Stop}
 use Rattle.feed_text.specs.Capture.{datagram_record, renewal_record}
 use Rattle.feed_text.specs.Lines.{venue_line, wins_by}
 use Rattle.feed_text.specs.Happenings.{Happening, packet_answered, packet_refused, item_taken, renewal_answered}
-use Rattle.feed_text.specs.Told.{sent_of, items_told, gap_happening, gap_told, after_answer, TellsAt}
-use Rattle.feed_text.specs.Texts.{all_wins_of, last_line}
+use Rattle.feed_text.specs.Told.{sent_of, items_told, gap_happening, gap_told, TellsAt}
+use Rattle.feed_text.specs.Texts.{last_line}
 use Rattle.feed_text.specs.Tales.{Tale, TellsBy}
 use Rattle.feed_text.specs.Following.{Venue, Follows, TellsOutcome, TellsOne, Renews}
 use Rattle.feed_text.proofs.Tales.{tells_more, tells_stop, tells_as}
@@ -79,13 +79,13 @@ sent_all {v = v} h f n e =
     ∙ ap shown (sym (streams_more h))
 
 -- and how many numbers the line brought first
-pub won_all : {width place : ℕ} {v : Venue} (h : History) → Follows width place v h → (line : LineId) (n : ℕ) → n ≡ shown (count_on line v.arbiter.earlier + wins_of h.present.packets line) → n ≡ shown (all_wins_of h line)
+pub won_all : {width place : ℕ} {v : Venue} (h : History) → Follows width place v h → (line : LineId) (n : ℕ) → n ≡ shown (count_on line v.arbiter.earlier + wins_of h.present.packets line) → n ≡ shown (wins_in (all_begun h) line)
 won_all {v = v} h f line n e =
     e ∙ shown_more (count_on line v.arbiter.earlier) (sum_by (λ (session : Begun). wins_of session.packets line) h.earlier) (wins_of h.present.packets line) (f.won_before line)
     ∙ ap shown (sym (sum_by_push (λ (session : Begun). wins_of session.packets line) h.earlier h.present))
 
 pub last_is : (h : History) (place number sent a b recovery : ℕ) → number ≡ place → sent ≡ shown (length (streams_of h))
-    → a ≡ shown (all_wins_of h A) → b ≡ shown (all_wins_of h B) → recovery ≡ shown (all_wins_of h Recovery)
+    → a ≡ shown (wins_in (all_begun h) A) → b ≡ shown (wins_in (all_begun h) B) → recovery ≡ shown (wins_in (all_begun h) Recovery)
     → venue_line number sent (wins_by a b recovery) ≡ last_line place h
 last_is h place number sent a b recovery e s x y z = rw (e, s, x, y, z) refl
 
@@ -173,7 +173,7 @@ pub renewal_told : (width place : ℕ) (gaps : Bool) (h : History) (v : Venue) (
     → TellsOne width gaps (renewal_record place name) h t0 t1 v done
 renewal_told width place gaps h v name answer t0 t1 done x tells = record {
   told = renewal_answered place answer ∷ [];
-  after = after_answer h name answer;
+  after = history_after h name answer;
   at = record { answer = answer; is = x.is; after = refl; told_is = refl };
   tells = tells;
   follows = on_ok done x.follows;

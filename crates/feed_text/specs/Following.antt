@@ -1,14 +1,14 @@
 -- What a replay keeps of each venue, and that it follows the histories. Private clauses alone cite
 -- this file.
-use Rattle.std.specs.Prelude.{◌≡◌, ◌⊎◌, ℕ, Bool, List, [], ◌∷◌, ◌++◌, ◌+◌, length, sum_by, Some, Result, Ok, Err, OnOk, slice_get, take, drop, map}
+use Rattle.std.specs.Prelude.{◌≡◌, ◌⊎◌, ℕ, Bool, List, [], ◌∷◌, ◌++◌, ◌+◌, length, Some, Result, Ok, Err, OnOk, slice_get, take, drop, map}
 use Rattle.feed_types.specs.declared.line.LineId.{LineId}
 use Rattle.mold_packet.specs.Content.{Content}
 use Rattle.line_arbiter.specs.declared.outcome.Outcome.{Outcome}
 use Rattle.line_arbiter.specs.declared.outcome.LineFault.{LineFault}
 use Rattle.line_arbiter.specs.declared.faults.RenewFault.{RenewFault}
 use Rattle.line_arbiter.specs.Packets.{Arrival, arrival_of, end_of}
-use Rattle.line_arbiter.specs.Streams.{stream_of, wins_of}
-use Rattle.line_arbiter.specs.Histories.{History, items_of, names_of, after_arrival}
+use Rattle.line_arbiter.specs.Streams.{stream_of}
+use Rattle.line_arbiter.specs.Histories.{History, items_of, names_of, after_arrival, history_after, wins_in}
 use Rattle.line_arbiter.specs.Outcomes.{IsOutcome}
 use Rattle.line_arbiter.specs.Renewals.{IsRenewal}
 use Rattle.line_arbiter.specs.Counts.{count_on, shown}
@@ -21,7 +21,7 @@ use Rattle.feed_text.specs.declared.report.Stop.TheVariants.{JournalFull, NoMemo
 use Rattle.feed_text.specs.Capture.{CaptureRecord, venue_of}
 use Rattle.feed_text.specs.Devices.{Wrote}
 use Rattle.feed_text.specs.Happenings.{Happening, item_taken, packet_answered}
-use Rattle.feed_text.specs.Told.{sent_of, items_told, after_answer, TellsAt, TellsRecord}
+use Rattle.feed_text.specs.Told.{sent_of, items_told, TellsAt, TellsRecord}
 use Rattle.feed_text.specs.Texts.{last_lines}
 use Rattle.feed_text.specs.Tales.{Tale, TellsBy}
 
@@ -42,7 +42,7 @@ pub record Follows (width place : ℕ) (v : Venue) (h : History) : Type 0 where
   pub sent : v.arbiter.sent ≡ sent_of h
   pub sent_before : v.sent_before ≡ shown (length (items_of h.earlier))
   pub won_before : (line : LineId) → count_on line v.arbiter.earlier
-      ≡ shown (sum_by (λ session. wins_of session.packets line) h.earlier)
+      ≡ shown (wins_in h.earlier line)
 
 -- The items that are ready were taken, each once and in sequence, and where all of them were the
 -- arbiter has sent them, and keeps the rest.
@@ -70,7 +70,7 @@ pub record TellsOutcome (width place : ℕ) (line : LineId) (packet : Content) (
 pub record Renews (width place : ℕ) (name : List ℕ) (h : History) (v : Venue)
     (answer : Result ℕ RenewFault) : Type 0 where
   pub is : IsRenewal (names_of h) (end_of h.present.packets) (sent_of h) name answer
-  pub follows : Follows width place v (after_answer h name answer)
+  pub follows : Follows width place v (history_after h name answer)
 
 -- What one record tells was told, and where all of it was the venue follows the history after it.
 pub record TellsOne (window : ℕ) (gaps : Bool) (r : CaptureRecord) (h : History)

@@ -1,10 +1,8 @@
 -- The text of a capture: the lines of what its records tell, and at the end a line for each venue.
-use Rattle.std.specs.Prelude.{◌≡◌, ℕ, ◌+◌, ◌<◌, ◌≤◌, Bool, List, [], ◌∷◌, ◌++◌, length, flat_map, map, sum_by, Option, Some, None, if◌then◌else◌}
+use Rattle.std.specs.Prelude.{◌≡◌, ℕ, ◌+◌, ◌<◌, ◌≤◌, Bool, List, [], ◌∷◌, ◌++◌, length, flat_map, map, Option, Some, None, if◌then◌else◌}
 use Rattle.feed_types.specs.declared.journal.Entry.{Entry}
-use Rattle.feed_types.specs.declared.line.LineId.{LineId}
 use Rattle.mold_packet.specs.Faults.{code_of}
-use Rattle.line_arbiter.specs.Streams.{wins_of}
-use Rattle.line_arbiter.specs.Histories.{History, new_history, all_begun, streams_of}
+use Rattle.line_arbiter.specs.Histories.{History, new_history, all_begun, streams_of, wins_in}
 use Rattle.line_arbiter.specs.Counts.{shown}
 use Rattle.journal_book.specs.Changes.{notices_since}
 use Rattle.feed_text.specs.declared.replay.ReplayConfig.{ReplayConfig}
@@ -40,15 +38,11 @@ text_of symbols entries [] = []
 text_of symbols entries (h ∷ hs) =
     lines_of symbols entries h ++ text_of symbols (entries_after entries h) hs
 
--- how many numbers of all its sessions came first on the line
-abbrev pub all_wins_of : History → LineId → ℕ
-all_wins_of h line = sum_by (λ session. wins_of session.packets line) (all_begun h)
-
 -- a venue's last line: how many items of all its sessions were taken, and which lines brought how
 -- many numbers first
 abbrev pub last_line : ℕ → History → List ℕ
 last_line venue h =
-    venue_line venue (shown (length (streams_of h))) (λ line. shown (all_wins_of h line))
+    venue_line venue (shown (length (streams_of h))) (λ line. shown (wins_in (all_begun h) line))
 
 -- the last lines, venue by venue
 abbrev pub last_lines : ℕ → List History → List ℕ

@@ -11,7 +11,7 @@ use Rattle.line_arbiter.specs.declared.outcome.LineFault.{LineFault}
 use Rattle.line_arbiter.specs.declared.faults.RenewFault.{RenewFault}
 use Rattle.line_arbiter.specs.Packets.{Arrival, arrival_of, end_of}
 use Rattle.line_arbiter.specs.Streams.{stream_of, gap_of}
-use Rattle.line_arbiter.specs.Histories.{History, names_of, after_arrival, after_renewal}
+use Rattle.line_arbiter.specs.Histories.{History, names_of, after_arrival, history_after}
 use Rattle.line_arbiter.specs.Outcomes.{IsOutcome}
 use Rattle.line_arbiter.specs.Renewals.{IsRenewal}
 use Rattle.feed_text.specs.Capture.{CaptureRecord, datagram_record, renewal_record, self_help_record, venue_of}
@@ -56,17 +56,12 @@ pub record TellsPacket (window : ℕ) (gaps : Bool) (venue : ℕ) (line : LineId
   pub told_is : told ≡ packet_answered venue line answer
       ∷ items_told venue old new.present.packets ++ gap_told window gaps venue new
 
--- what a renewal with this answer leaves
-abbrev pub after_answer : History → List ℕ → Result ℕ RenewFault → History
-after_answer old name (Ok ordinal) = after_renewal old name
-after_answer old name (Err fault) = old
-
 -- a renewal: its answer, and where it is Ok the next session
 pub record TellsRenewal (venue : ℕ) (name : List ℕ) (old : History) (told : List Happening)
     (new : History) : Type 0 where
   pub answer : Result ℕ RenewFault
   pub is : IsRenewal (names_of old) (end_of old.present.packets) (sent_of old) name answer
-  pub after : new ≡ after_answer old name answer
+  pub after : new ≡ history_after old name answer
   pub told_is : told ≡ renewal_answered venue answer ∷ []
 
 -- a declaration of self-help: what came to the venue stays

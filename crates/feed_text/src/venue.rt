@@ -2,7 +2,7 @@
 ghost use Rattle.std.specs.Prelude.{◌≡◌, ℕ, Bool, false, List, ◌∷◌, ◌++◌, ◌<◌, ◌≤◌, length, drop, map, Ok, IfOk, OnOk};
 ghost use Rattle.feed_types.specs.Sessions.{numbered_from};
 ghost use Rattle.quote_payload.specs.Payload.{item_of};
-ghost use Rattle.line_arbiter.specs.Through.{SendsPacket};
+ghost use Rattle.line_arbiter.specs.InOrder.{SendsPacket};
 ghost use Rattle.line_arbiter.specs.Packets.{Arrival};
 ghost use Rattle.line_arbiter.specs.Streams.{gap_of, stream_of};
 ghost use Rattle.line_arbiter.specs.Counts.{shown};
@@ -20,7 +20,7 @@ use crate::lines::{put_fault, put_gap, put_packet, put_renewal, put_venue};
 use crate::page::Page;
 use crate::report::{Report, Stop};
 use feed_types::{Anything, LineId, Numbered, VenueId};
-use line_arbiter::{Arbiter, LineFault, Outcome, RenewFault};
+use line_arbiter::{Arbiter, InOrder, LineFault, Outcome, RenewFault};
 use mold_packet::{Messages, Packet, read_packet};
 use quote_payload::{read_item, symbol_field};
 use std::alloc::{AllocError, Global};
@@ -128,9 +128,9 @@ fn look_ahead(venue: VenueId, packet: &Packet<'_>, report: &mut Report)
     }
 }
 
-/// Tells of a packet that passed through, takes its items, and what is ready behind them.
+/// Tells of a packet that was the next one, takes its items, and what is ready after them.
 #[inline(always)]
-fn take_passed(
+fn take_next(
     arbiter: &mut Arbiter<Anything>,
     venue: VenueId,
     line: LineId,
@@ -258,14 +258,19 @@ impl VenueReplay {
             → TellsOutcome width venue line packet.now h
             (tale_of report.old) (tale_of report.new) self.new result }
     {
-        if let Some(outcome) = self.arbiter.take_through(line, packet) {
-            look_ahead(venue, packet, report);
-            return take_passed(&mut self.arbiter, venue, line, packet, outcome, report);
+        let Some(order) = self.arbiter.peek_in_order(packet) else {
+            return self.take_copied(venue, line, packet, report);
+        };
+        let outcome = self.arbiter.take_in_order(line, order, packet);
+        match order {
+            InOrder::Next { .. } => {
+                look_ahead(venue, packet, report);
+                take_next(&mut self.arbiter, venue, line, packet, outcome, report)
+            }
+            InOrder::Repeat { .. } => {
+                tell_answer(&mut self.arbiter, venue, line, &Ok(outcome), report)
+            }
         }
-        if let Some(outcome) = self.arbiter.take_sent(line, packet) {
-            return tell_answer(&mut self.arbiter, venue, line, &Ok(outcome), report);
-        }
-        self.take_copied(venue, line, packet, report)
     }
 
     /// Takes a datagram of a line, and tells what became of it and each item that is ready then.

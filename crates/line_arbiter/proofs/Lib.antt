@@ -32,6 +32,7 @@ pub mod OneOutcome
 pub mod Deciding
 pub mod EveryAnswer
 pub mod Passing
+pub mod Ordering
 pub mod NameBytes
 -- genuine packets, and the laws
 pub mod Genuine

@@ -1,4 +1,4 @@
--- A packet that goes on where nothing is held passes through: its items are the next of the stream.
+-- A packet that goes on where nothing is held: its items are the next of the stream.
 use Rattle.std.proofs.Common.{◌≡◌, ℕ, zero, suc, ◌+◌, ◌-◌, ◌<◌, ◌≤◌, Bool, true, List, [], ◌∷◌, ◌++◌, length, drop, map, Option, Some, None, Ok, refl, sym, ap, subst, ◌∙◌, arith, inl, inr, append_assoc, length-append}
 use Rattle.std.specs.Prelude.{◌↔◌, nat_le, IsSome, is_none, IfSome, slice_get, slice_index_or, count_by, if◌then◌else◌}
 use Rattle.std.specs.List.{range_with_len}
@@ -21,11 +21,12 @@ use Rattle.line_arbiter.specs.declared.outcome.Outcome.TheVariants.{Taken}
 use Rattle.line_arbiter.specs.Packets.{Arrival, arrival_of, carried, end_of, has_number, item_at, known_of, last_of, message_item}
 use Rattle.line_arbiter.specs.Streams.{end_at, front_of, item_numbered, stream_of, stream_to, wins_of}
 use Rattle.line_arbiter.specs.Outcomes.{Agrees, IsOutcome, ToKind, new_count}
-use Rattle.line_arbiter.specs.Through.{BringsNext, IsNext, IsNextMessage, PassesThrough, SendsPacket}
+use Rattle.line_arbiter.specs.declared.in_order.InOrder.TheVariants.{Next}
+use Rattle.line_arbiter.specs.InOrder.{BringsInOrder, IsNext, IsNextPacket}
 use Rattle.line_arbiter.specs.Counts.{count_on, shown}
 use Rattle.line_arbiter.specs.Holding.{IsEmpty}
 use Rattle.line_arbiter.specs.States.{State, held_of}
-use Rattle.line_arbiter.specs.Steps.{IsNextIn, GoesPast, ThroughStep, raised}
+use Rattle.line_arbiter.specs.Steps.{GoesPast, raised}
 use Rattle.line_arbiter.specs.Fits.{Fits}
 use Rattle.line_arbiter.proofs.Standing.{Stands, stands_of, fits_of}
 use Rattle.line_arbiter.proofs.Answering.{before_is}
@@ -173,8 +174,8 @@ module _ (line : LineId) (old : State) (p : Content) (packets : List Arrival) (c
     pub passing_fits : Fits new (packets ++ a ∷ [])
     passing_fits = fits_of stands_passed
 
--- the packet passes through exactly where it is the next one in the arbiter's state
-pub next_of_packets : (s : State) (packets : List Arrival) (p : Content) → Stands s packets → IsContent p → PassesThrough s.session s.window s.sent packets p → IsNext s p
+-- the packet goes on exactly where it is the next one in the arbiter's state
+pub next_of_packets : (s : State) (packets : List Arrival) (p : Content) → Stands s packets → IsContent p → IsNextPacket s.session s.window s.sent packets p → IsNext s p
 next_of_packets s packets p fits content by =
     let some = messages_some p.kind p.messages by.kind content.fits in
     let empty : IsEmpty (held_of s) = λ m. elim (cases_lt s.sent m) [
@@ -196,8 +197,8 @@ next_of_packets s packets p fits content by =
       within = by.within;
     }
 
-pub through_next : (s : State) (packets : List Arrival) (p : Content) → Stands s packets → p.session ≡ s.session → p.kind ≡ kinds.Messages → IsNext s p → PassesThrough s.session s.window s.sent packets p
-through_next s packets p fits name kind next = record {
+pub next_packet : (s : State) (packets : List Arrival) (p : Content) → Stands s packets → p.session ≡ s.session → p.kind ≡ kinds.Messages → IsNext s p → IsNextPacket s.session s.window s.sent packets p
+next_packet s packets p fits name kind next = record {
   name = name;
   kind = kind;
   next = next.first;
@@ -206,59 +207,10 @@ through_next s packets p fits name kind next = record {
   within = next.within;
 }
 
--- the clauses, by the answer
-module _ (line : LineId) (old new : State) (p : Content) (content : IsContent p) (name : p.session ≡ old.session) (kind : p.kind ≡ kinds.Messages) where
-  pub through_iff : (r : Option Outcome) → ThroughStep line old new p r → (packets : List Arrival) → Fits old packets → IsSome r ↔ PassesThrough old.session old.window old.sent packets p
-  through_iff None step packets fits = (λ some. absurd (false≢true some), λ by. absurd (step.1 (next_of_packets old packets p (stands_of fits) content by)))
-  through_iff (Some o) step packets fits = (λ some. through_next old packets p (stands_of fits) name kind step.0, λ by. refl)
-
-  pub outcome_some : (r : Option Outcome) → ThroughStep line old new p r → (packets : List Arrival) → Fits old packets → IfSome r (λ o. IsOutcome old.session old.window old.sent packets p (Ok o))
-  outcome_some None step packets fits = tt
-  outcome_some (Some o) step packets fits = rw step.2 (passing_answer line old p packets content step.0 name kind (stands_of fits))
-
-  pub fits_some : (r : Option Outcome) → ThroughStep line old new p r → (packets : List Arrival) → Fits old packets → IfSome r (λ o. Fits new (packets ++ arrival_of line p (Ok o) ∷ []))
-  fits_some None step packets fits = tt
-  fits_some (Some o) step packets fits = rw step.2 (passing_fits line old p packets content step.0 name kind (stands_of fits) new step.1)
-
-  pub items_some : (r : Option Outcome) → ThroughStep line old new p r → (packets : List Arrival) → Fits old packets → IfSome r (λ o. SendsPacket old.sent new.sent p (packets ++ arrival_of line p (Ok o) ∷ []))
-  items_some None step packets fits = tt
-  items_some (Some o) step packets fits = rw (step.2, step.1.sent) (passing_items line old p packets content step.0 name kind (stands_of fits))
-
--- ---- a packet of one message
-
-get_drop : {X : Type 0} (n : ℕ) (xs ys : List X) (x : X) → drop n xs ≡ x ∷ ys → Some x ≡ slice_get xs n
-get_drop zero [] ys x e = absurd cc
-get_drop zero (z ∷ zs) ys x e = cc
-get_drop (suc n) [] ys x e = absurd cc
-get_drop (suc n) (z ∷ zs) ys x e = get_drop n zs ys x e
-
-first_number : (n : ℕ) (x : Numbered) (xs : List Item) → x ∷ [] ≡ numbered_from n xs → x.number ≡ n
-first_number n x [] e = absurd cc
-first_number n x (y ∷ ys) e = cc
-
-module _ (s : State) (p : Content) (content : IsContent p) (name : p.session ≡ s.session) (kind : p.kind ≡ kinds.Messages) (one : length p.messages ≡ 1) where
-  pub next_iff : (r : Option Numbered) → IsNextIn s p r → (packets : List Arrival) → Fits s packets → IsSome r ↔ (PassesThrough s.session s.window s.sent packets p × (length p.messages ≡ 1))
-  next_iff None step packets fits = (λ some. absurd (false≢true some), λ by. absurd (step (next_of_packets s packets p (stands_of fits) content by.0)))
-  next_iff (Some x) step packets fits = (λ some. (through_next s packets p (stands_of fits) name kind step.0, one), λ by. refl)
-
-  pub brings_some : (r : Option Numbered) → IsNextIn s p r → (packets : List Arrival) (line : LineId) → Fits s packets → IfSome r (λ x. BringsNext s.session s.window s.sent packets line p x)
-  brings_some None step packets line fits = tt
-  brings_some (Some x) step packets line fits =
-      let stands = stands_of fits in
-      let added : ℕ → List Arrival = λ n. packets ++ arrival_of line p (Ok (Taken n 0)) ∷ [] in
-      let S = stream_of (added (length p.messages)) in
-      record {
-        answer = subst (λ (n : ℕ). IsOutcome s.session s.window s.sent packets p (Ok (Taken n 0))) one (passing_answer line s p packets content step.0 name kind stands);
-        grows = subst (λ (n : ℕ). IsPrefix (stream_of packets) (stream_of (added n))) one (passing_grows line s p packets content step.0 name kind stands);
-        item = subst (λ (n : ℕ). Some x ≡ slice_get (stream_of (added n)) s.sent) one
-            (get_drop s.sent S (drop (last_of p) S) x (passing_items line s p packets content step.0 name kind stands ∙ ap (λ (xs : List Numbered). xs ++ drop (last_of p) S) (sym step.1)));
-      }
-
-  pub number_some : (r : Option Numbered) → IsNextIn s p r → IfSome r (λ x. x.number ≡ p.number)
-  number_some None step = tt
-  number_some (Some x) step = first_number p.number x (map item_of p.messages) step.1
-
--- the arbiter behind it
-pub passed_one : (line : LineId) (old new : State) (p : Content) (packets : List Arrival) (o : Outcome) → IsContent p → IsNextMessage old p → GoesPast line old new p → o ≡ Taken (length p.messages) 0 → Fits old packets
-    → Fits new (packets ++ arrival_of line p (Ok o) ∷ [])
-passed_one line old new p packets o content by past is fits = rw is (passing_fits line old p packets content by.next by.name by.kind (stands_of fits) new past)
+pub next_brings : (line : LineId) (s : State) (p : Content) (packets : List Arrival) (last : ℕ) → IsContent p → IsNext s p → p.session ≡ s.session → p.kind ≡ kinds.Messages → last ≡ last_of p → Stands s packets
+    → BringsInOrder s.session s.window s.sent packets line p (Next last)
+next_brings line s p packets last content next name kind is fits = record {
+  answer = passing_answer line s p packets content next name kind fits;
+  grows = passing_grows line s p packets content next name kind fits;
+  items = rw is (passing_items line s p packets content next name kind fits);
+}

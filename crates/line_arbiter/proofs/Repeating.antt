@@ -12,12 +12,12 @@ use Rattle.line_arbiter.specs.declared.outcome.Outcome.{Outcome}
 use Rattle.line_arbiter.specs.declared.outcome.Outcome.TheVariants.{Taken}
 use Rattle.line_arbiter.specs.Packets.{Arrival, arrival_of, last_of}
 use Rattle.line_arbiter.specs.Outcomes.{IsBefore, IsOutcome}
-use Rattle.line_arbiter.specs.Through.{WasSent}
+use Rattle.line_arbiter.specs.InOrder.{IsSent, WasSent}
 use Rattle.line_arbiter.specs.Counts.{Counts}
 use Rattle.line_arbiter.specs.Holding.{Held, fresh_to, held_at, put_all, HeldAgrees}
 use Rattle.line_arbiter.specs.Comparing.{AreThere, IsThere}
 use Rattle.line_arbiter.specs.States.{State, held_of}
-use Rattle.line_arbiter.specs.Steps.{KindStep, MessagesStep, PacketStep, SentStep, counted, raised}
+use Rattle.line_arbiter.specs.Steps.{KindStep, MessagesStep, PacketStep, counted, raised}
 use Rattle.line_arbiter.specs.Fits.{Fits}
 use Rattle.line_arbiter.proofs.Answering.{packet_answer}
 use Rattle.line_arbiter.proofs.Counting.{count_none}
@@ -69,7 +69,7 @@ not_new held m some =
       | inr sent ↦ grind (arith, nat_tests)
     ]
 
-none_fresh : (held : Held) (p : Content) → AreThere held p → 0 ≡ fresh_to (length p.messages) held.base held p
+pub none_fresh : (held : Held) (p : Content) → AreThere held p → 0 ≡ fresh_to (length p.messages) held.base held p
 none_fresh held p there =
     sym (count_none (λ m. nat_lt held.base m && is_none (held_at held m)) p.number (length p.messages)
     (λ m low high. not_new held m (λ past. held_past held p m there past low high)))
@@ -95,32 +95,20 @@ repeats line old p known wins stop there agrees within before known_is wins_is =
   omega arith,
 )
 
--- a packet of messages of the session that may all have been sent
-module _ (line : LineId) (old new : State) (p : Content) (name : p.session ≡ old.session) (kind : p.kind ≡ kinds.Messages) where
-  step_of : (o : Outcome) → SentStep line old new p (Some o) → PacketStep line old new p (Ok o)
-  step_of o h = inr (name, subst (λ (k : Kind). KindStep k line old new p (Ok o)) (sym kind) h.0)
+-- a packet of messages of the session that were all sent
+pub sent_step : (line : LineId) (old new : State) (p : Content) (o : Outcome) → p.session ≡ old.session → p.kind ≡ kinds.Messages → MessagesStep line old new p (Ok o) → PacketStep line old new p (Ok o)
+sent_step line old new p o name kind step = inr (name, subst (λ (k : Kind). KindStep k line old new p (Ok o)) (sym kind) step)
 
-  pub sent_iff : (result : Option Outcome) → SentStep line old new p result → (packets : List Arrival) → Fits old packets → IsSome result ↔ WasSent old.session old.sent packets p
-  sent_iff None h packets fits = (
-    λ some. absurd cc,
-    λ was. absurd (h.1 was.all (subst (λ (end : Option ℕ). IsBefore end (last_of p)) (sym fits.end) was.before)),
-  )
-  sent_iff (Some o) h packets fits = (
-    λ some. record {
-      name = name;
-      kind = kind;
-      all = h.1;
-      before = subst (λ (end : Option ℕ). IsBefore end (last_of p)) fits.end h.2;
-    },
-    λ was. refl,
-  )
+pub was_sent : (s : State) (packets : List Arrival) (p : Content) → Fits s packets → p.session ≡ s.session → p.kind ≡ kinds.Messages → IsSent s p → WasSent s.session s.sent packets p
+was_sent s packets p fits name kind sent = record {
+  name = name;
+  kind = kind;
+  all = sent.all;
+  before = subst (λ (end : Option ℕ). IsBefore end (last_of p)) fits.end sent.before;
+}
 
-  pub sent_outcome : IsContent p → (result : Option Outcome) → SentStep line old new p result → (packets : List Arrival) → Fits old packets
-      → IfSome result (λ o. IsOutcome old.session old.window old.sent packets p (Ok o))
-  sent_outcome content None h packets fits = tt
-  sent_outcome content (Some o) h packets fits = packet_answer line old new packets p (Ok o) content (stands_of fits) (step_of o h)
-
-  pub sent_fits : IsContent p → (result : Option Outcome) → SentStep line old new p result → (packets : List Arrival) → Fits old packets
-      → IfSome result (λ o. Fits new (packets ++ arrival_of line p (Ok o) ∷ []))
-  sent_fits content None h packets fits = tt
-  sent_fits content (Some o) h packets fits = fits_of (packet_fits old new packets line p (Ok o) content (stands_of fits) (step_of o h))
+pub sent_of_packets : (s : State) (packets : List Arrival) (p : Content) → Fits s packets → WasSent s.session s.sent packets p → IsSent s p
+sent_of_packets s packets p fits was = record {
+  all = was.all;
+  before = subst (λ (end : Option ℕ). IsBefore end (last_of p)) (sym fits.end) was.before;
+}

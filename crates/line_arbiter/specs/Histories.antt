@@ -1,8 +1,10 @@
 -- What came to one venue: its sessions, those that are over and the present one.
-use Rattle.std.specs.Prelude.{ℕ, List, [], ◌∷◌, ◌++◌, map, flat_map}
+use Rattle.std.specs.Prelude.{ℕ, List, [], ◌∷◌, ◌++◌, Result, Ok, Err, map, flat_map, sum_by}
 use Rattle.feed_types.specs.declared.item.Numbered.{Numbered}
+use Rattle.feed_types.specs.declared.line.LineId.{LineId}
+use Rattle.line_arbiter.specs.declared.faults.RenewFault.{RenewFault}
 use Rattle.line_arbiter.specs.Packets.{Arrival}
-use Rattle.line_arbiter.specs.Streams.{stream_of}
+use Rattle.line_arbiter.specs.Streams.{stream_of, wins_of}
 
 -- a session that a venue has begun: its name, and the packets that came, each with its line and its
 -- answer
@@ -39,6 +41,10 @@ items_of sessions = flat_map (λ session. stream_of session.packets) sessions
 abbrev pub streams_of : History → List Numbered
 streams_of h = items_of (all_begun h)
 
+-- how many numbers came first on the line, in all these sessions
+abbrev pub wins_in : List Begun → LineId → ℕ
+wins_in sessions line = sum_by (λ session. wins_of session.packets line) sessions
+
 -- one more packet of the present session came
 abbrev pub after_arrival : History → Arrival → History
 after_arrival h a =
@@ -47,3 +53,8 @@ after_arrival h a =
 -- the present session is over, and this one begins
 abbrev pub after_renewal : History → List ℕ → History
 after_renewal h name = record { earlier = all_begun h; present = new_session name }
+
+-- what a renewal with this answer leaves
+abbrev pub history_after : History → List ℕ → Result ℕ RenewFault → History
+history_after old name (Ok ordinal) = after_renewal old name
+history_after old name (Err fault) = old

@@ -8,7 +8,7 @@ pub mod Histories
 pub mod Genuine
 pub mod OfSession
 pub mod Gaps
-pub mod Through
+pub mod InOrder
 -- an arbiter
 pub mod Counts
 pub mod Marks

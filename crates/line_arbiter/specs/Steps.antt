@@ -1,15 +1,12 @@
 -- What one packet changes in an arbiter, said of its state alone. Only private clauses cite this
 -- file.
-use Rattle.std.specs.Prelude.{◌≡◌, ◌≢◌, ℕ, ◌+◌, ◌-◌, ◌^◌, ◌<◌, nat_eq, ◌⊎◌, Option, Some, None, IsSome, [], ◌∷◌, length, map, max, Result, Ok, Err, ◌≤◌, if◌then◌else◌}
+use Rattle.std.specs.Prelude.{◌≡◌, ◌≢◌, ℕ, ◌+◌, ◌-◌, ◌^◌, ◌<◌, nat_eq, ◌⊎◌, Option, Some, None, IsSome, length, max, Result, Ok, Err, ◌≤◌, if◌then◌else◌}
 use Rattle.feed_types.specs.declared.item.Item.{Item}
-use Rattle.feed_types.specs.declared.item.Numbered.{Numbered}
 use Rattle.feed_types.specs.declared.line.LineId.{LineId}
 use Rattle.feed_types.specs.declared.line.LineId.TheVariants.{A, B, Recovery}
 use Rattle.mold_packet.specs.declared.packet.Kind.{Kind}
 use Rattle.mold_packet.specs.declared.packet.Kind.TheVariants as kinds
-use Rattle.feed_types.specs.Sessions.{numbered_from}
 use Rattle.mold_packet.specs.Content.{Content}
-use Rattle.quote_payload.specs.Payload.{item_of}
 use Rattle.line_arbiter.specs.declared.outcome.Outcome.{Outcome}
 use Rattle.line_arbiter.specs.declared.outcome.Outcome.TheVariants.{Taken, Heartbeat, Ended, Ahead}
 use Rattle.line_arbiter.specs.declared.outcome.LineFault.{LineFault}
@@ -19,7 +16,8 @@ use Rattle.line_arbiter.specs.Outcomes.{IsBefore, IsPast}
 use Rattle.line_arbiter.specs.Counts.{Counts, shown}
 use Rattle.line_arbiter.specs.Holding.{IsEmpty, held_at, put_all, fresh_to, HeldAgrees, HeldDisagrees}
 use Rattle.line_arbiter.specs.States.{State, held_of}
-use Rattle.line_arbiter.specs.Through.{IsNext}
+use Rattle.line_arbiter.specs.declared.in_order.InOrder.{InOrder}
+use Rattle.line_arbiter.specs.InOrder.{IsNext, IsOrder, IsSent}
 
 -- What every arbiter keeps: what is held, and the front, lie below the announced end; and nothing
 -- is held right behind the front.
@@ -140,21 +138,7 @@ pub record GoesPast (line : LineId) (old new : State) (p : Content) : Type 0 whe
     wins = counted line (length p.messages) old.wins;
   }
 
--- the answer to a packet of messages of the session that may pass through
-abbrev pub ThroughStep : LineId → State → State → Content → Option Outcome → Type 0
-ThroughStep line old new p None = (new ≡ old) × (IsNext old p → ⊥)
-ThroughStep line old new p (Some answer) =
-    IsNext old p × GoesPast line old new p × (answer ≡ Taken (length p.messages) 0)
-
--- the item of a packet of one message of the session, where it is the next one
-abbrev pub IsNextIn : State → Content → Option Numbered → Type 0
-IsNextIn s p None = IsNext s p → ⊥
-IsNextIn s p (Some next) =
-    IsNext s p × (next ∷ [] ≡ numbered_from p.number (map item_of p.messages))
-
--- the answer to a packet of messages of the session that may all have been sent
-abbrev pub SentStep : LineId → State → State → Content → Option Outcome → Type 0
-SentStep line old new p None =
-    (new ≡ old) × (last_of p ≤ old.sent → IsBefore old.end (last_of p) → ⊥)
-SentStep line old new p (Some answer) =
-    MessagesStep line old new p (Ok answer) × (last_of p ≤ old.sent) × IsBefore old.end (last_of p)
+-- what a packet of messages of the session is, if it needs no place in the window
+abbrev pub OrdersPacket : State → Content → Option InOrder → Type 0
+OrdersPacket s p (Some order) = IsOrder s p order
+OrdersPacket s p None = (IsNext s p → ⊥) × (IsSent s p → ⊥)

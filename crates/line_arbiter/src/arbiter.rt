@@ -8,13 +8,12 @@ ghost use Rattle.line_arbiter.specs.Streams.{IsComplete, stream_of, gap_of, wins
 ghost use Rattle.line_arbiter.specs.Outcomes.{IsBefore, IsOutcome, IsPast};
 ghost use Rattle.line_arbiter.specs.Renewals.{HasEnded, IsRenewal};
 ghost use Rattle.line_arbiter.specs.Genuine.{AreGenuine, IsGenuineItem};
-ghost use Rattle.line_arbiter.specs.Through.{BringsNext, IsNext, IsNextMessage, PassesThrough, SendsPacket, WasSent};
 ghost use Rattle.line_arbiter.specs.Counts.{count_on, shown};
 ghost use Rattle.line_arbiter.specs.States.{held_of, ordinal_of, next_of, ShowsCursors, IsNew, KeepsItsPlace, KeepsItsSession, IsAdvanced, IsRenewed};
 ghost use Rattle.line_arbiter.specs.Holding.{HeldAgrees};
 ghost use Rattle.line_arbiter.specs.Comparing.{AreThere};
 ghost use Rattle.line_arbiter.specs.Fits.{Fits, cursors_of};
-ghost use Rattle.line_arbiter.specs.Steps.{IsSound, DropsNext, GoesPast, IsNextIn, ThroughStep, SentStep, MessagesStep, HeartbeatStep, EndStep, PacketStep, raised as raised_to};
+ghost use Rattle.line_arbiter.specs.Steps.{IsSound, DropsNext, MessagesStep, HeartbeatStep, EndStep, PacketStep, raised as raised_to};
 
 use crate::faults::{ArbiterFault, RenewFault};
 use crate::intake::{Intake, run_after, take_all};
@@ -50,16 +49,8 @@ pub struct ArbiterStatus {
     pub held: u32,
 }
 
-fn last_number(packet: &Packet<'_>) -> u64
-    requires { packet.now.kind ≡ Kind.Messages }
-    ensures value { result ≡ last_of packet.now }
-    ensures content { IsContent packet.now }
-{
-    packet.number() + u64::from(packet.count() - 1)
-}
-
 /// Whether the end is announced at the number or below it.
-fn is_past(end: Option<u64>, number: u64) -> bool
+pub(crate) fn is_past(end: Option<u64>, number: u64) -> bool
     ensures { MatchBool result (IsPast end number) (IsBefore end number) }
 {
     match end {
@@ -69,7 +60,7 @@ fn is_past(end: Option<u64>, number: u64) -> bool
 }
 
 /// The number up to which messages are known of, after one more number is heard of.
-fn raised(known: u64, end: Option<u64>, to: u64) -> u64
+pub(crate) fn raised(known: u64, end: Option<u64>, to: u64) -> u64
     ensures { result ≡ raised_to known end to }
 {
     if end.is_some() { known } else { known.max(to) }
@@ -83,12 +74,12 @@ fn raised(known: u64, end: Option<u64>, to: u64) -> u64
 pub struct Arbiter<G> {
     venue_id: VenueId,
     names: ArrayVec<[u8; 10], MAX_SESSIONS>,
-    session_name: [u8; 10],
-    held: Window,
-    run_to: u64,
-    known_to: u64,
-    end_number: Option<u64>,
-    won: Wins,
+    pub(crate) session_name: [u8; 10],
+    pub(crate) held: Window,
+    pub(crate) run_to: u64,
+    pub(crate) known_to: u64,
+    pub(crate) end_number: Option<u64>,
+    pub(crate) won: Wins,
     won_before: Wins,
     lines: PhantomData<G>,
 }
@@ -196,7 +187,7 @@ impl<G: Genuine> Arbiter<G> {
 
     /// Takes a packet of messages that were all sent or are held, as on the line that comes second.
     #[inline(always)]
-    fn take_repeat(&mut self, line: LineId, packet: &Packet<'_>, last: u64) -> Outcome
+    pub(crate) fn take_repeat(&mut self, line: LineId, packet: &Packet<'_>, last: u64) -> Outcome
         requires last { last ≡ last_of packet.now }
         requires before { IsBefore self.old.end (last_of packet.now) }
         requires within { last_of packet.now ≤ self.old.sent + self.old.window }
@@ -242,7 +233,7 @@ impl<G: Genuine> Arbiter<G> {
         requires { packet.now.kind ≡ Kind.Messages }
         ensures { MessagesStep line self.old self.new packet.now result }
     {
-        let last = last_number(packet);
+        let last = packet.last_number();
         if is_past(self.end_number, last) {
             return Err(LineFault::PastEnd);
         }
@@ -254,76 +245,6 @@ impl<G: Genuine> Arbiter<G> {
             return Ok(Outcome::Ahead);
         }
         self.take_in(line, packet, last)
-    }
-
-    /// Whether the packet's first message is the next one, nothing is held, and the window is as
-    /// wide.
-    fn is_next(&self, packet: &Packet<'_>, last: u64) -> bool
-        requires { last ≡ last_of packet.now }
-        ensures { MatchBool result (IsNext self.now packet.now) (IsNext self.now packet.now → ⊥) }
-    {
-        let sent = self.held.base();
-        packet.number() - 1 == sent
-            && self.run_to == sent
-            && self.held.is_empty()
-            && u32::from(packet.count()) <= self.held.width()
-            && !is_past(self.end_number, last)
-    }
-
-    /// Goes past a packet of messages that are the next ones.
-    #[inline(always)]
-    fn pass(&mut self, line: LineId, packet: &Packet<'_>, last: u64) -> Outcome
-        requires last { last ≡ last_of packet.now }
-        requires next { IsNext self.old packet.now }
-        ensures past { GoesPast line self.old self.new packet.now }
-        ensures outcome { result ≡ Outcome.Taken (length packet.now.messages) 0 }
-    {
-        let new = packet.count();
-        self.held.move_to(last);
-        self.run_to = last;
-        self.known_to = raised(self.known_to, self.end_number, last);
-        self.won.add(line, new);
-        Outcome::Taken { new, repeated: 0 }
-    }
-
-    fn pass_messages(&mut self, line: LineId, packet: &Packet<'_>) -> Option<Outcome>
-        requires { packet.now.kind ≡ Kind.Messages }
-        ensures { ThroughStep line self.old self.new packet.now result }
-    {
-        let last = last_number(packet);
-        if !self.is_next(packet, last) {
-            return None;
-        }
-        Some(self.pass(line, packet, last))
-    }
-
-    /// The item of the packet's one message, where it is the next one and nothing is held.
-    fn next_message(&self, packet: &Packet<'_>) -> Option<Numbered>
-        requires kind { packet.now.kind ≡ Kind.Messages }
-        requires one { length packet.now.messages ≡ 1 }
-        ensures { IsNextIn self.now packet.now result }
-    {
-        let number = packet.number();
-        if !self.is_next(packet, number) {
-            return None;
-        }
-        let message = packet.messages().next()?;
-        Some(Numbered {
-            number,
-            item: read_item(message),
-        })
-    }
-
-    #[inline(always)]
-    fn pass_sent(&mut self, line: LineId, packet: &Packet<'_>) -> Option<Outcome>
-        requires { packet.now.kind ≡ Kind.Messages }
-        ensures { SentStep line self.old self.new packet.now result }
-    {
-        let last = last_number(packet);
-        if last > self.held.base() || is_past(self.end_number, last) {
-            return None;
-        }
-        Some(self.take_repeat(line, packet, last))
     }
 
     #[inline(never)]
@@ -395,95 +316,6 @@ impl<G: Genuine> Arbiter<G> {
         ensures kept { KeepsItsPlace self.old self.new }
     {
         self.take_any(line, packet)
-    }
-
-    /// Takes a packet of messages that goes on where nothing is held, and goes past all of them at
-    /// once: they are the next items of the stream, and the caller reads them from the packet. The
-    /// answer is that of `take`. `None` for any other packet, which changes nothing: then `take`
-    /// it.
-    pub fn take_through(&mut self, line: LineId, packet: &Packet<'_>) -> Option<Outcome>
-        ensures through { (packets : List Arrival) → Fits self.old packets
-            → (IsSome result ↔ PassesThrough self.old.session self.old.window self.old.sent packets
-            packet.now) }
-        ensures outcome { (packets : List Arrival) → Fits self.old packets
-            → IfSome result (λ o. IsOutcome self.old.session self.old.window self.old.sent packets
-            packet.now (Ok o)) }
-        ensures fits { (packets : List Arrival) → Fits self.old packets
-            → IfSome result (λ o. Fits self.new
-            (packets ++ arrival_of line packet.now (Ok o) ∷ [])) }
-        ensures items { (packets : List Arrival) → Fits self.old packets
-            → IfSome result (λ o. SendsPacket self.old.sent self.new.sent packet.now
-            (packets ++ arrival_of line packet.now (Ok o) ∷ [])) }
-        ensures kept { IfSome result (λ o. KeepsItsSession self.old self.new) }
-        ensures none { IfNone result (self.new ≡ self.old) }
-    {
-        if !is_same_name(&packet.session(), &self.session_name) {
-            return None;
-        }
-        match packet.kind() {
-            Kind::Messages => self.pass_messages(line, packet),
-            Kind::Heartbeat | Kind::End => None,
-        }
-    }
-
-    /// The item of a packet of one message that goes on where nothing is held: the next one of the
-    /// stream. It can be sent on first, and the packet be taken then, by `pass_next`. `None` for any
-    /// other packet.
-    pub fn next_in(&self, packet: &Packet<'_>) -> Option<Numbered>
-        ensures through { (packets : List Arrival) → Fits self.now packets
-            → (IsSome result ↔ (PassesThrough self.now.session self.now.window self.now.sent packets
-            packet.now × (length packet.now.messages ≡ 1))) }
-        ensures brings { (packets : List Arrival) (line : LineId) → Fits self.now packets
-            → IfSome result (BringsNext self.now.session self.now.window self.now.sent packets line
-            packet.now) }
-        ensures number { IfSome result (λ next. next.number ≡ packet.now.number) }
-        ensures passes { IfSome result (λ _. IsNextMessage self.now packet.now) }
-        ensures content { IsContent packet.now }
-    {
-        if packet.count() != 1 || !is_same_name(&packet.session(), &self.session_name) {
-            return None;
-        }
-        match packet.kind() {
-            Kind::Messages => self.next_message(packet),
-            Kind::Heartbeat | Kind::End => None,
-        }
-    }
-
-    /// Takes a packet of one message whose item `next_in` gave and that was sent on: all of it is
-    /// new, and the arbiter has gone past it. The answer is that of `take`.
-    pub fn pass_next(&mut self, line: LineId, packet: &Packet<'_>) -> Outcome
-        requires { IsNextMessage self.old packet.now }
-        ensures outcome { result ≡ Outcome.Taken 1 0 }
-        ensures fits { (packets : List Arrival) → Fits self.old packets
-            → Fits self.new (packets ++ arrival_of line packet.now (Ok result) ∷ []) }
-        ensures sent { self.new.sent ≡ self.old.sent + 1 }
-        ensures kept { KeepsItsSession self.old self.new }
-    {
-        self.pass(line, packet, packet.number())
-    }
-
-    /// Takes a packet of messages that were all sent, as on the line that comes second. The answer is
-    /// that of `take`. `None` for any other packet, which changes nothing: then `take` it.
-    #[inline(always)]
-    pub fn take_sent(&mut self, line: LineId, packet: &Packet<'_>) -> Option<Outcome>
-        ensures sent { (packets : List Arrival) → Fits self.old packets
-            → (IsSome result ↔ WasSent self.old.session self.old.sent packets packet.now) }
-        ensures outcome { (packets : List Arrival) → Fits self.old packets
-            → IfSome result (λ o. IsOutcome self.old.session self.old.window self.old.sent packets
-            packet.now (Ok o)) }
-        ensures fits { (packets : List Arrival) → Fits self.old packets
-            → IfSome result (λ o. Fits self.new
-            (packets ++ arrival_of line packet.now (Ok o) ∷ [])) }
-        ensures kept { KeepsItsPlace self.old self.new }
-        ensures none { IfNone result (self.new ≡ self.old) }
-    {
-        if !is_same_name(&packet.session(), &self.session_name) {
-            return None;
-        }
-        match packet.kind() {
-            Kind::Messages => self.pass_sent(line, packet),
-            Kind::Heartbeat | Kind::End => None,
-        }
     }
 
     /// The item after the last one advanced past, if it is there: a message, or End behind the last

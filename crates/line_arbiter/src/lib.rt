@@ -5,13 +5,23 @@
 //! sequence: messages up to the first gap, and End where it follows. A [`Pacer`] says when to ask
 //! for what is missing.
 //!
+//! The calls of an arbiter, in groups:
+//!
+//! - a packet is taken: `take`;
+//! - one that needs no place in the window is looked at first, and taken then: `peek_in_order` and
+//!   `take_in_order`;
+//! - items come out: `next_ready` and `advance`;
+//! - how far the session has come, and what to ask for: `status`, `gap` and `wins`;
+//! - which session it is, and the next one: `venue`, `session`, `ordinal` and `renew`.
+//!
 //! Contract: for every list of packets that the arbiter was given in the present session, its
 //! answers, cursors and items are those that `specs/Outcomes.antt` and `specs/Streams.antt` define
-//! over that list. Begin at `arbiter.rt`; `laws.rt` says what follows for a session's messages.
+//! over that list. Begin at `arbiter.rt`, then `in_order.rt`; `laws.rt` says what follows for a session's messages.
 #![tactic(auto)]
 
 mod arbiter;
 mod faults;
+mod in_order;
 mod intake;
 mod laws;
 mod marks;
@@ -23,6 +33,7 @@ mod wins;
 
 pub use arbiter::{Arbiter, ArbiterStatus};
 pub use faults::{ArbiterFault, RenewFault};
+pub use in_order::InOrder;
 pub use laws::{
     a_genuine_stream_is_the_session, a_renewal_comes_when_all_is_sent, a_session_is_its_messages,
     a_stream_only_grows, answers_go_on, every_packet_has_an_answer, every_renewal_has_an_answer,

@@ -1,5 +1,5 @@
 -- What a packet, a push and a renewal leave of a venue's cell, said of plain states.
-use Rattle.std.proofs.Common.{◌≡◌, ℕ, ◌+◌, ◌≤◌, true, false, List, [], ◌∷◌, ◌++◌, length, map, take, drop, Option, Some, None, Result, Ok, Err, refl, sym, ap, subst, ◌∙◌, arith, append_assoc, append-nil, length-append}
+use Rattle.std.proofs.Common.{◌≡◌, ℕ, zero, suc, ◌+◌, ◌-◌, ◌≤◌, true, false, List, [], ◌∷◌, ◌++◌, length, map, take, drop, Option, Some, None, Result, Ok, Err, refl, sym, ap, subst, ◌∙◌, arith, append_assoc, append-nil, length-append}
 use Rattle.std.specs.Prelude.{slice_get, if◌then◌else◌}
 use Rattle.std.proofs.lemmas.List.{take-append-drop}
 use Rattle.std.proofs.lemmas.List.Sums.{fold-append, sum_by-append}
@@ -18,8 +18,13 @@ use Rattle.line_arbiter.specs.Packets.{Arrival, arrival_of}
 use Rattle.line_arbiter.specs.Streams.{IsComplete, is_same_line, stream_of, wins_of}
 use Rattle.line_arbiter.specs.Outcomes.{IsOutcome}
 use Rattle.line_arbiter.specs.Genuine.{IsGenuine}
-use Rattle.line_arbiter.specs.Through.{BringsNext}
-use Rattle.line_arbiter.specs.Histories.{Begun, History, all_begun, items_of, new_history, new_session, streams_of, after_arrival}
+use Rattle.line_arbiter.specs.declared.in_order.InOrder.{InOrder}
+use Rattle.line_arbiter.specs.declared.in_order.InOrder.TheVariants.{Next}
+use Rattle.line_arbiter.specs.InOrder.{BringsInOrder, IsOrder, outcome_in_order, sent_in_order}
+use Rattle.feed_types.specs.declared.item.Item.{Item}
+use Rattle.feed_types.specs.Sessions.{numbered_from}
+use Rattle.quote_payload.specs.Payload.{item_of}
+use Rattle.line_arbiter.specs.Histories.{Begun, History, all_begun, items_of, new_history, new_session, streams_of, after_arrival, wins_in}
 use Rattle.line_arbiter.specs.Counts.{count_on, no_counts, shown}
 use Rattle.line_arbiter.specs.States.{State, ordinal_of, KeepsItsPlace, KeepsItsSession, IsAdvanced, IsNew, IsRenewed}
 use Rattle.line_arbiter.specs.Fits.{Fits}
@@ -27,8 +32,8 @@ use Rattle.fifo_lane.specs.Lane.{LaneEnd, with_items, WasFull}
 use Rattle.feed_core.proofs.VenueHalfLaw.{items_push}
 use Rattle.live_feed.specs.Lanes.{FeedLanes}
 use Rattle.live_feed.specs.Sums.{Sums, no_sums, sums_after, accepted_on, sums_on, line_sums_after, LineSums}
-use Rattle.live_feed.specs.Cells.{CellState, FitsCell, AreGivenFrom, IsKept, arrivals_of, new_cell, wins_in}
-use Rattle.live_feed.specs.Sections.{TakesPacket, IsAnsweredBy, PassesPacket, PushesOne, RenewsSession}
+use Rattle.live_feed.specs.Cells.{CellState, FitsCell, AreGivenFrom, IsKept, arrivals_of, new_cell}
+use Rattle.live_feed.specs.Sections.{TakesPacket, IsAnsweredBy, TakesAndPushes, PushesOne, RenewsSession}
 use Rattle.line_arbiter.specs.Renewals.{IsRenewal}
 use Rattle.live_feed.specs.declared.unsent.Unsent.TheVariants as unsent
 use Rattle.live_feed.proofs.Histories.{take_same, take_next, get_sent, names_same, names_length, arrivals_push, arrivals_more, given_more, present_more, next_given, streams_sequence}
@@ -215,6 +220,57 @@ push_kept sessions carries ends lanes old new x k lane advanced fits = record {
 
 -- ---- a packet whose message is the next item, and its push
 
+-- What such a packet brings: it is answered as new, the stream stays as it is up to there, and there
+-- stands its item.
+pub record BringsNext (session : List ℕ) (window sent : ℕ) (packets : List Arrival) (line : LineId) (p : Content) (x : Numbered) : Type 0 where
+  pub answer : IsOutcome session window sent packets p (Ok (Taken 1 0))
+  pub grows : IsPrefix (stream_of packets) (stream_of (packets ++ arrival_of line p (Ok (Taken 1 0)) ∷ []))
+  pub item : Some x ≡ slice_get (stream_of (packets ++ arrival_of line p (Ok (Taken 1 0)) ∷ [])) sent
+
+get_drop : {X : Type 0} (n : ℕ) (xs ys : List X) (x : X) → drop n xs ≡ x ∷ ys → Some x ≡ slice_get xs n
+get_drop zero [] ys x e = absurd cc
+get_drop zero (z ∷ zs) ys x e = cc
+get_drop (suc n) [] ys x e = absurd cc
+get_drop (suc n) (z ∷ zs) ys x e = get_drop n zs ys x e
+
+pub has_one : (n : ℕ) (x : Numbered) (ms : List (List ℕ)) → x ∷ [] ≡ numbered_from n (map item_of ms) → length ms ≡ 1
+has_one n x [] e = absurd cc
+has_one n x (m ∷ []) e = refl
+has_one n x (m ∷ k ∷ ms) e = absurd cc
+
+pub first_number : (n : ℕ) (x : Numbered) (xs : List Item) → x ∷ [] ≡ numbered_from n xs → x.number ≡ n
+first_number n x [] e = absurd cc
+first_number n x (y ∷ ys) e = cc
+
+module _ (s : State) (packets : List Arrival) (p : Content) (order : InOrder) (last : ℕ) (is : order ≡ Next last) (x : Numbered) (item : x ∷ [] ≡ numbered_from p.number (map item_of p.messages)) where
+  one_message : length p.messages ≡ 1
+  one_message = has_one p.number x p.messages item
+
+  pub brings_next : (line : LineId) → BringsInOrder s.session s.window s.sent packets line p order → BringsNext s.session s.window s.sent packets line p x
+  brings_next line brings =
+      let b : BringsInOrder s.session s.window s.sent packets line p (Next last) = subst (λ (o : InOrder). BringsInOrder s.session s.window s.sent packets line p o) is brings in
+      let one = one_message in
+      let added : ℕ → List Arrival = λ n. packets ++ arrival_of line p (Ok (Taken n 0)) ∷ [] in
+      let S = stream_of (added (length p.messages)) in
+      record {
+        answer = subst (λ (n : ℕ). IsOutcome s.session s.window s.sent packets p (Ok (Taken n 0))) one b.answer;
+        grows = subst (λ (n : ℕ). IsPrefix (stream_of packets) (stream_of (added n))) one b.grows;
+        item = subst (λ (n : ℕ). Some x ≡ slice_get (stream_of (added n)) s.sent) one
+            (get_drop s.sent S (drop last S) x (b.items ∙ ap (λ (xs : List Numbered). xs ++ drop last S) (sym item)));
+      }
+
+  pub taken_one : (o : Outcome) → o ≡ outcome_in_order order p → o ≡ Taken 1 0
+  taken_one o e = e ∙ ap (λ (x : InOrder). outcome_in_order x p) is ∙ ap (λ (n : ℕ). Taken n 0) one_message
+
+  pub sent_one : (to : ℕ) → IsOrder s p order → to ≡ sent_in_order order s.sent → to ≡ s.sent + 1
+  sent_one to is_order e =
+      let h = subst (λ (o : InOrder). IsOrder s p o) is is_order in
+      let first = h.0.first in
+      let at = h.1 in
+      let one = one_message in
+      let there : to ≡ last = e ∙ ap (λ (o : InOrder). sent_in_order o s.sent) is in
+      omega arith
+
 module _ (old : CellState) (h : History) (line : LineId) (p : Content) (x : Numbered) (f : FitsCell old h) (brings : BringsNext old.arbiter.session old.arbiter.window old.arbiter.sent h.present.packets line p x) where
   abbrev passed : Arrival
   passed = arrival_of line p (Ok (Taken 1 0))
@@ -257,8 +313,8 @@ module _ (old : CellState) (h : History) (line : LineId) (p : Content) (x : Numb
     pub pass_takes : TakesPacket line p (Ok outcome) h old new
     pass_takes = subst (λ (o : Outcome). TakesPacket line p (Ok o) h old new) (sym one) takes_one
 
-    pub passes : x.number ≡ p.number → PassesPacket line p outcome h old new
-    passes number = subst (λ (o : Outcome). PassesPacket line p o h old new) (sym one) (record {
+    pub passes : x.number ≡ p.number → TakesAndPushes line p outcome h old new
+    passes number = subst (λ (o : Outcome). TakesAndPushes line p o h old new) (sym one) (record {
       takes = takes_one;
       comes = rw (next_is old.lane.items old.arbiter.sent (after_arrival h passed) sent_before is_there, ← brings.item, ← number) (refl, ap (λ (e : LaneEnd Numbered). e.items) lane);
     })

@@ -1,15 +1,15 @@
 -- What stands behind a venue's lock.
-use Rattle.std.specs.Prelude.{◌≡◌, ℕ, ◌+◌, List, [], ◌∷◌, ◌++◌, sum_by, take, flat_map, Some, None, slice_get}
+use Rattle.std.specs.Prelude.{◌≡◌, ℕ, ◌+◌, List, [], ◌∷◌, ◌++◌, take, flat_map, Some, None, slice_get}
 use Rattle.std.specs.List.{AllByRecursion}
 use Rattle.feed_types.specs.declared.item.Numbered.{Numbered}
 use Rattle.feed_types.specs.declared.line.LineId.{LineId}
 use Rattle.feed_types.specs.Sequence.{Carries, Ends}
 use Rattle.feed_types.specs.Sessions.{SessionNames}
 use Rattle.line_arbiter.specs.Packets.{Arrival}
-use Rattle.line_arbiter.specs.Streams.{IsComplete, stream_of, wins_of}
+use Rattle.line_arbiter.specs.Streams.{IsComplete, stream_of}
 use Rattle.line_arbiter.specs.Answered.{AreAnswered}
 use Rattle.line_arbiter.specs.Genuine.{IsGenuineAt}
-use Rattle.line_arbiter.specs.Histories.{Begun, History, all_begun, items_of, names_of}
+use Rattle.line_arbiter.specs.Histories.{Begun, History, all_begun, items_of, names_of, wins_in}
 use Rattle.line_arbiter.specs.Counts.{count_on, shown}
 use Rattle.line_arbiter.specs.States.{State, ordinal_of}
 use Rattle.line_arbiter.specs.Fits.{Fits}
@@ -38,10 +38,6 @@ new_cell arbiter lane =
 -- all packets that a venue was given, in all its sessions
 abbrev pub arrivals_of : List Begun → List Arrival
 arrivals_of sessions = flat_map (λ session. session.packets) sessions
-
--- how many numbers came first on the line, in all these sessions
-abbrev pub wins_in : List Begun → LineId → ℕ
-wins_in sessions line = sum_by (λ session. wins_of session.packets line) sessions
 
 -- The cell stands for what came to the venue, session by session: its arbiter for the packets of
 -- the present session, the lane was sent the streams of the earlier sessions and then the first

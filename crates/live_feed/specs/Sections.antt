@@ -12,7 +12,7 @@ use Rattle.line_arbiter.specs.declared.outcome.LineFault.TheVariants.{OtherSessi
 use Rattle.line_arbiter.specs.declared.faults.RenewFault.{RenewFault}
 use Rattle.line_arbiter.specs.Histories.{History, streams_of}
 use Rattle.line_arbiter.specs.OfSession.{IsOfSession}
-use Rattle.line_arbiter.specs.Through.{PassesThrough}
+use Rattle.line_arbiter.specs.InOrder.{IsNextPacket}
 use Rattle.line_arbiter.specs.States.{KeepsItsPlace, KeepsItsSession, KeepsAllButSent}
 use Rattle.fifo_lane.specs.Lane.{WasFull, with_items}
 use Rattle.feed_core.specs.declared.event.Done.{Done}
@@ -80,7 +80,7 @@ pub record KeepsButSent (old new : CellState) : Type 0 where
 
 -- Packet and then Push, in one section: what came to the venue has grown by the packet, the next item
 -- of its streams was sent, and the cell stands for both.
-pub record PassesPacket (line : LineId) (p : Content) (outcome : Outcome) (h : History)
+pub record TakesAndPushes (line : LineId) (p : Content) (outcome : Outcome) (h : History)
     (old new : CellState) : Type 0 where
   pub takes : TakesPacket line p (Ok outcome) h old new
   pub comes : ComesTo
@@ -88,7 +88,7 @@ pub record PassesPacket (line : LineId) (p : Content) (outcome : Outcome) (h : H
       old.lane.items (done.Pushed p.number) new.lane.items
 
 -- and nothing else has changed
-pub record KeepsButPassed (old new : CellState) : Type 0 where
+pub record KeepsButPushed (old new : CellState) : Type 0 where
   pub arbiter : KeepsItsSession old.arbiter new.arbiter
   pub lane : new.lane ≡ with_items old.lane new.lane.items
   pub others : new ≡ record old {
@@ -97,13 +97,13 @@ pub record KeepsButPassed (old new : CellState) : Type 0 where
     accepted = new.accepted;
   }
 
--- A packet that isn't passed so: the lane was full at a moment of the call, or the packet doesn't
--- pass through, or hasn't one message.
+-- A packet that isn't taken so: the lane was full at a moment of the call, or the packet doesn't go
+-- on where nothing is held, or hasn't one message.
 abbrev pub IsLeft : (ℕ → List Numbered → Type 0) → Content → CellState → Type 0
 IsLeft may_send p c =
     WasFull may_send c.lane
     ⊎ ((h : History) → FitsCell c h
-    → PassesThrough c.arbiter.session c.arbiter.window c.arbiter.sent h.present.packets p
+    → IsNextPacket c.arbiter.session c.arbiter.window c.arbiter.sent h.present.packets p
     → length p.messages ≡ 1 → ⊥)
 
 -- Renew: the present session is over and the next one begins, or nothing changes.

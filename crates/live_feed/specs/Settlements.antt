@@ -6,13 +6,13 @@ use Rattle.feed_types.specs.declared.journal.Notice.{Notice}
 use Rattle.feed_types.specs.declared.line.LineId.{LineId}
 use Rattle.feed_types.specs.Sequence.{Carries, Ends}
 use Rattle.line_arbiter.specs.Streams.{is_same_line}
-use Rattle.line_arbiter.specs.Histories.{History, all_begun, streams_of}
+use Rattle.line_arbiter.specs.Histories.{History, all_begun, streams_of, wins_in}
 use Rattle.line_arbiter.specs.Counts.{Counts, count_on, shown}
 use Rattle.filter_terms.specs.declared.terms.Terms.{Terms}
 use Rattle.journal_book.specs.Journals.{JournalState, terms_at}
 use Rattle.journal_book.specs.Wanted.{wanted_of}
 use Rattle.live_feed.specs.declared.logged.Logged.{Logged}
-use Rattle.live_feed.specs.Cells.{AreGivenFrom, CellState, arrivals_of, wins_in}
+use Rattle.live_feed.specs.Cells.{AreGivenFrom, CellState, arrivals_of}
 use Rattle.live_feed.specs.Hubs.{items_in}
 use Rattle.live_feed.specs.Seats.{SeatState}
 use Rattle.live_feed.specs.Sums.{LineSums, Sums, accepted_on, no_sums, sums_on, sums_together}

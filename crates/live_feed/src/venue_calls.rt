@@ -55,7 +55,7 @@ fn take_in<G: Genuine, N: FeedName, W: Wait>(
     if cell.venue() != seat.venue() {
         return Err(LineFault::OtherSession);
     }
-    if let Some(outcome) = cell.pass_one(rt, seat, packet) {
+    if let Some(outcome) = cell.take_and_push(rt, seat, packet) {
         return Ok(outcome);
     }
     cell.take(seat, packet)

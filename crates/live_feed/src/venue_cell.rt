@@ -1,7 +1,9 @@
 //! What stands behind a venue's lock.
 
-ghost use Rattle.std.specs.Prelude.{◌≡◌, ◌≤◌, ◌+◌, [], Some, Ok, OnOk, OnErr, IfOk, IfSome, IfNone, slice_get};
+ghost use Rattle.std.specs.Prelude.{◌≡◌, ◌≤◌, ◌+◌, [], ◌∷◌, Some, Ok, OnOk, OnErr, IfOk, IfSome, IfNone, length, map, slice_get};
 ghost use Rattle.feed_types.specs.declared.item.Numbered.{Numbered};
+ghost use Rattle.feed_types.specs.Sessions.{numbered_from};
+ghost use Rattle.quote_payload.specs.Payload.{item_of};
 ghost use Rattle.line_arbiter.specs.Genuine.{IsGenuine};
 ghost use Rattle.line_arbiter.specs.Histories.{History};
 ghost use Rattle.line_arbiter.specs.Streams.{gap_of};
@@ -12,7 +14,7 @@ ghost use Rattle.line_arbiter.specs.Counts.{count_on};
 ghost use Rattle.live_feed.specs.Seats.{seat_after};
 ghost use Rattle.live_feed.specs.Sums.{sums_on};
 ghost use Rattle.live_feed.specs.Cells.{FitsCell, IsKept, new_cell};
-ghost use Rattle.live_feed.specs.Sections.{TakesPacket, IsAnsweredBy, AcceptsTheirPacket, KeepsButPackets, PassesPacket, KeepsButPassed, IsLeft, PushesOne, KeepsButSent, RenewsSession, BeginsNext};
+ghost use Rattle.live_feed.specs.Sections.{TakesPacket, IsAnsweredBy, AcceptsTheirPacket, KeepsButPackets, TakesAndPushes, KeepsButPushed, IsLeft, PushesOne, KeepsButSent, RenewsSession, BeginsNext};
 
 use crate::feed_name::FeedName;
 use crate::seat::LineSeat;
@@ -20,8 +22,9 @@ use crate::sums::{PacketSums, VenueSums};
 use crate::unsent::Unsent;
 use feed_types::{Genuine, LineId, Numbered, VenueId};
 use fifo_lane::{LaneRule, Sender, VenueItems};
-use line_arbiter::{Arbiter, LineFault, Outcome, Pacer, RenewFault};
+use line_arbiter::{Arbiter, InOrder, LineFault, Outcome, Pacer, RenewFault};
 use mold_packet::{Packet, Request};
+use quote_payload::read_item;
 use std::marker::{Model, PhantomData};
 use std::sync::Wait;
 
@@ -59,6 +62,22 @@ impl<G: Genuine, N: FeedName> Model for VenueCell<G, N> {
       pace = c.pacer;
       accepted = c.sums;
     }) };
+}
+
+/// The item of the packet's message, where it has one and no more.
+fn only_item(packet: &Packet<'_>) -> Option<Numbered>
+    ensures item { IfSome result (λ next.
+        next ∷ [] ≡ numbered_from packet.now.number (map item_of packet.now.messages)) }
+    ensures none { IfNone result (length packet.now.messages ≡ 1 → ⊥) }
+{
+    if packet.count() != 1 {
+        return None;
+    }
+    let message = packet.messages().next()?;
+    Some(Numbered {
+        number: packet.number(),
+        item: read_item(message),
+    })
 }
 
 impl<G: Genuine, N: FeedName> VenueCell<G, N> {
@@ -178,7 +197,7 @@ impl<G: Genuine, N: FeedName> VenueCell<G, N> {
     /// Takes a packet of one message, which is the next one where nothing is held, and pushes its
     /// item, which needn't be held first: what `take` and then `push_one` do. `None` for any other
     /// packet, and where the lane is full; then nothing has changed, and `take` takes it.
-    pub fn pass_one<W: Wait>(
+    pub fn take_and_push<W: Wait>(
         &mut self,
         rt: &W,
         seat: &mut LineSeat<G, N>,
@@ -187,9 +206,9 @@ impl<G: Genuine, N: FeedName> VenueCell<G, N> {
         requires venue { seat.old.venue ≡ self.old.arbiter.venue }
         requires genuine { IsGenuine G.sessions G.carries G.ends seat.old.venue packet.now }
         ensures packet { (h : History) → FitsCell self.old h
-            → IfSome result (λ outcome. PassesPacket seat.old.line packet.now outcome h
+            → IfSome result (λ outcome. TakesAndPushes seat.old.line packet.now outcome h
             self.old self.new) }
-        ensures kept { IfSome result (λ _. KeepsButPassed self.old self.new) }
+        ensures kept { IfSome result (λ _. KeepsButPushed self.old self.new) }
         ensures seat { IfSome result (λ outcome. seat.new
             ≡ seat_after seat.old packet.now (Ok outcome)) }
         ensures answered { IfSome result (λ outcome. IsAnsweredBy G.sessions G.carries G.ends
@@ -198,12 +217,16 @@ impl<G: Genuine, N: FeedName> VenueCell<G, N> {
             (IsLeft ⟦<VenueItems<G> as LaneRule<Numbered>>⟧.may_send packet.now self.old) }
         ensures none { IfNone result ((self.new ≡ self.old) × (seat.new ≡ seat.old)) }
     {
-        let next = self.lines.next_in(packet)?;
+        let order = self.lines.peek_in_order(packet)?;
+        let InOrder::Next { .. } = order else {
+            return None;
+        };
+        let next = only_item(packet)?;
         let Ok(()) = self.items.push(rt, next) else {
             return None;
         };
         let line = seat.line();
-        let outcome = self.lines.pass_next(line, packet);
+        let outcome = self.lines.take_in_order(line, order, packet);
         self.sums.add(line, packet, outcome);
         seat.count(packet, outcome);
         Some(outcome)

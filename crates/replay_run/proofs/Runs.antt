@@ -14,7 +14,7 @@ use Rattle.nbbo_book.specs.Eligible.{is_self_helped}
 use Rattle.line_arbiter.specs.declared.faults.RenewFault.{RenewFault}
 use Rattle.line_arbiter.specs.Packets.{end_of}
 use Rattle.line_arbiter.specs.Streams.{stream_of, gap_of}
-use Rattle.line_arbiter.specs.Histories.{History, new_history, items_of, streams_of, names_of}
+use Rattle.line_arbiter.specs.Histories.{History, new_history, items_of, streams_of, names_of, history_after}
 use Rattle.line_arbiter.specs.Outcomes.{IsOutcome}
 use Rattle.line_arbiter.specs.Renewals.{IsRenewal}
 use Rattle.filter_terms.specs.declared.terms.Terms.{Terms}
@@ -24,7 +24,7 @@ use Rattle.feed_core.specs.declared.event.Done.{Done}
 use Rattle.feed_core.specs.declared.event.Done.TheVariants as done
 use Rattle.feed_core.specs.Worlds.{Lane, is_full, Venue, World, Setting, new_venue, new_world}
 use Rattle.feed_core.specs.Worlds as worlds
-use Rattle.feed_core.specs.Steps.{Stays, Comes, stays, goes, next_in, next_out, pushed, journaled, consumed, journal_full, unknown_venue, already_so, declared, is_same, Intake, put_venue, with_sent, with_intake, history_after, IsTaken, IsRenewed, IsFaulty, IsNext, IsStep, IsRun}
+use Rattle.feed_core.specs.Steps.{Stays, Comes, stays, goes, next_in, next_out, pushed, journaled, consumed, journal_full, unknown_venue, already_so, declared, is_same, Intake, put_venue, with_sent, with_intake, IsTaken, IsRenewed, IsFaulty, IsNext, IsStep, IsRun}
 use Rattle.feed_core.specs.Steps as steps
 use Rattle.feed_core.specs.VenueHalf.{BringsOnly, BringOnly}
 use Rattle.feed_core.proofs.HeadlineLaw.{headline}
@@ -32,7 +32,7 @@ use Rattle.feed_core.proofs.VenueHalfLaw.{items_push}
 use Rattle.feed_text.specs.declared.replay.ReplayConfig.{ReplayConfig}
 use Rattle.feed_text.specs.Capture.{CaptureRecord, datagram_record, renewal_record, self_help_record, venue_of}
 use Rattle.feed_text.specs.Happenings.{Happening, item_taken, is_so, entries_after, entries_of}
-use Rattle.feed_text.specs.Told.{gap_happening, gap_told, items_told, after_answer, TellsFault, TellsPacket, TellsRenewal, TellsSelfHelp, TellsAt, TellsRecord, Tells}
+use Rattle.feed_text.specs.Told.{gap_happening, gap_told, items_told, TellsFault, TellsPacket, TellsRenewal, TellsSelfHelp, TellsAt, TellsRecord, Tells}
 use Rattle.feed_text.specs.Told as telling
 use Rattle.feed_text.specs.Texts.{TellsAll, HasRoom}
 use Rattle.feed_text.proofs.Telling.{same_set}
@@ -179,7 +179,7 @@ counted h =
     let n : length (streams_of h) ≡ length (items_of h.earlier) + length (stream_of h.present.packets) = ap length (items_push h.earlier h.present) ∙ length-append (items_of h.earlier) (stream_of h.present.packets) in
     omega arith
 
-same_after : (old : History) (name : List ℕ) (answer : Result ℕ RenewFault) → after_answer old name answer ≡ history_after old name answer
+same_after : (old : History) (name : List ℕ) (answer : Result ℕ RenewFault) → history_after old name answer ≡ history_after old name answer
 same_after old name (Ok ordinal) = refl
 same_after old name (Err fault) = refl
 

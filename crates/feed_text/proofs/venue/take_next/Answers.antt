@@ -8,7 +8,7 @@ use Rattle.feed_text.specs.Happenings.{packet_answered}
 use Rattle.feed_text.specs.Tales.{tale_of}
 use Rattle.feed_text.proofs.Tales.{line_goes}
 use Rattle.feed_text.proofs.Passing.{passed_all, passed_part}
-use Rattle.feed_text.proofs.venue.take_passed.Goals as goal
+use Rattle.feed_text.proofs.venue.take_next.Goals as goal
 
 pub returns-clause-tells : goal.returns-clause-tells
 returns-clause-tells c = λ from packets f sends.
