@@ -1,14 +1,12 @@
 -- A packet whose blocks are a session's messages at their numbers is of the session of their items.
-use Rattle.std.proofs.Common.{◌≡◌, ℕ, ◌+◌, ◌-◌, ◌<◌, List, [], ◌∷◌, length, map, Option, Some, sym, ap, ◌∙◌, arith}
-use Rattle.std.specs.Prelude.{slice_get, slice_index_or}
+use Rattle.std.proofs.Common.{◌≡◌, ℕ, ◌+◌, ◌-◌, List, [], ◌∷◌, Option, ap, ◌∙◌, arith}
 use Rattle.std.specs.List.{AllByRecursion}
 use Rattle.std.specs.Option.{option_map}
 use Rattle.std.proofs.lemmas.Option.{slice_get-map, slice_get-get_or}
 use Rattle.std.proofs.lemmas.List.{length-map}
-use Rattle.feed_types.specs.declared.item.Item.{Item}
 use Rattle.mold_packet.specs.Content.{Content}
 use Rattle.quote_payload.specs.Payload.{item_of}
-use Rattle.line_arbiter.specs.Packets.{Arrival, message_item}
+use Rattle.line_arbiter.specs.Packets.{Arrival}
 use Rattle.line_arbiter.specs.OfSession.{AreOfSession, IsOfMessages, IsOfSession, session_of_messages}
 
 pub of_messages : (name : List ℕ) (messages : List (List ℕ)) (p : Content) → IsOfMessages name messages p → IsOfSession (session_of_messages name messages) p

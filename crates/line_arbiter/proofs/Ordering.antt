@@ -1,5 +1,5 @@
 -- A packet that needs no place in the window: what a peek says of it, and what taking it leaves.
-use Rattle.std.proofs.Common.{◌≡◌, ℕ, ◌+◌, ◌-◌, ◌<◌, ◌≤◌, List, [], ◌∷◌, ◌++◌, length, Option, Some, None, Ok, refl, sym, ap, subst, ◌∙◌, arith, inl, inr}
+use Rattle.std.proofs.Common.{◌≡◌, ℕ, ◌<◌, List, [], ◌∷◌, ◌++◌, length, Option, Some, None, Ok, refl, sym, subst, ◌∙◌, arith}
 use Rattle.std.specs.Prelude.{IfSome}
 use Rattle.feed_types.specs.declared.line.LineId.{LineId}
 use Rattle.feed_types.specs.Prefix.{IsPrefix}
@@ -9,17 +9,14 @@ use Rattle.line_arbiter.specs.declared.outcome.Outcome.{Outcome}
 use Rattle.line_arbiter.specs.declared.outcome.Outcome.TheVariants.{Taken, Heartbeat, Ended, Ahead}
 use Rattle.line_arbiter.specs.declared.in_order.InOrder.{InOrder}
 use Rattle.line_arbiter.specs.declared.in_order.InOrder.TheVariants.{Next, Repeat}
-use Rattle.line_arbiter.specs.InOrder.{BringsInOrder, IsInOrder, IsNext, IsNextPacket, IsOrder, IsPeeked, IsSent, SendsInOrder, WasSent, outcome_in_order}
-use Rattle.line_arbiter.specs.Packets.{Arrival, arrival_of, end_of, last_of}
+use Rattle.line_arbiter.specs.InOrder.{BringsInOrder, IsInOrder, IsNext, IsOrder, IsPeeked, IsSent, SendsInOrder, outcome_in_order}
+use Rattle.line_arbiter.specs.Packets.{Arrival, arrival_of, last_of}
 use Rattle.line_arbiter.specs.Streams.{stream_of}
-use Rattle.line_arbiter.specs.Outcomes.{IsBefore, IsOutcome}
-use Rattle.line_arbiter.specs.Counts.{Counts}
-use Rattle.line_arbiter.specs.Holding.{held_at}
+use Rattle.line_arbiter.specs.Outcomes.{IsOutcome}
 use Rattle.line_arbiter.specs.States.{State, held_of}
 use Rattle.line_arbiter.specs.Steps.{GoesPast, IsSound, MessagesStep, OrdersPacket, counted, raised}
 use Rattle.line_arbiter.specs.Fits.{Fits}
 use Rattle.line_arbiter.proofs.Answering.{packet_answer}
-use Rattle.line_arbiter.proofs.Bringing.{end_same}
 use Rattle.line_arbiter.proofs.PacketSteps.{packet_fits}
 use Rattle.line_arbiter.proofs.Passing.{next_brings, next_of_packets, next_packet, passing_fits}
 use Rattle.line_arbiter.proofs.Repeating.{none_fresh, repeats, sent_agrees, sent_of_packets, sent_step, sent_there, was_sent}

@@ -1,9 +1,9 @@
 -- A packet that goes on where nothing is held: its items are the next of the stream.
 use Rattle.std.proofs.Common.{◌≡◌, ℕ, zero, suc, ◌+◌, ◌-◌, ◌<◌, ◌≤◌, Bool, true, List, [], ◌∷◌, ◌++◌, length, drop, map, Option, Some, None, Ok, refl, sym, ap, subst, ◌∙◌, arith, inl, inr, append_assoc, length-append}
-use Rattle.std.specs.Prelude.{◌↔◌, nat_le, IsSome, is_none, IfSome, slice_get, slice_index_or, count_by, if◌then◌else◌}
+use Rattle.std.specs.Prelude.{nat_le, IsSome, is_none, slice_index_or, count_by, if◌then◌else◌}
 use Rattle.std.specs.List.{range_with_len}
 use Rattle.std.specs.Option.{option_or, unwrap_or}
-use Rattle.std.proofs.lemmas.Bool.{cases_lt, lt-leb, le-leb, lt-ltb, false≢true}
+use Rattle.std.proofs.lemmas.Bool.{cases_lt, lt-leb, le-leb, lt-ltb}
 use Rattle.std.proofs.lemmas.List.{map-append, drop_at}
 use Rattle.std.proofs.lemmas.List.FromFn.{length-map-range_with_len}
 use Rattle.feed_types.specs.declared.item.Item.{Item}
@@ -16,9 +16,8 @@ use Rattle.mold_packet.specs.declared.packet.Kind.{Kind}
 use Rattle.mold_packet.specs.declared.packet.Kind.TheVariants as kinds
 use Rattle.mold_packet.specs.Content.{Content, IsContent, KindFits}
 use Rattle.quote_payload.specs.Payload.{item_of}
-use Rattle.line_arbiter.specs.declared.outcome.Outcome.{Outcome}
 use Rattle.line_arbiter.specs.declared.outcome.Outcome.TheVariants.{Taken}
-use Rattle.line_arbiter.specs.Packets.{Arrival, arrival_of, carried, end_of, has_number, item_at, known_of, last_of, message_item}
+use Rattle.line_arbiter.specs.Packets.{Arrival, carried, end_of, has_number, item_at, known_of, last_of, message_item}
 use Rattle.line_arbiter.specs.Streams.{end_at, front_of, item_numbered, stream_of, stream_to, wins_of}
 use Rattle.line_arbiter.specs.Outcomes.{Agrees, IsOutcome, ToKind, new_count}
 use Rattle.line_arbiter.specs.declared.in_order.InOrder.TheVariants.{Next}
@@ -28,7 +27,7 @@ use Rattle.line_arbiter.specs.Holding.{IsEmpty}
 use Rattle.line_arbiter.specs.States.{State, held_of}
 use Rattle.line_arbiter.specs.Steps.{GoesPast, raised}
 use Rattle.line_arbiter.specs.Fits.{Fits}
-use Rattle.line_arbiter.proofs.Standing.{Stands, stands_of, fits_of}
+use Rattle.line_arbiter.proofs.Standing.{Stands, fits_of}
 use Rattle.line_arbiter.proofs.Answering.{before_is}
 use Rattle.line_arbiter.proofs.Bringing.{carried_more, end_same, known-push}
 use Rattle.line_arbiter.proofs.Counting.{count_first, count_same}

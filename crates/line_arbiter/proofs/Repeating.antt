@@ -1,17 +1,17 @@
 -- A packet whose messages were all sent or are held: nothing of it is new, and the front stays.
-use Rattle.std.proofs.Common.{◌≡◌, ℕ, ◌+◌, ◌-◌, ◌<◌, ◌≤◌, List, [], ◌∷◌, ◌++◌, length, Option, Some, None, Ok, refl, sym, subst, arith, false, inl, inr}
-use Rattle.std.specs.Prelude.{◌↔◌, IfSome, IsSome, nat_lt, ◌&&◌, is_none}
+use Rattle.std.proofs.Common.{◌≡◌, ℕ, ◌+◌, ◌-◌, ◌<◌, ◌≤◌, List, length, Option, Some, None, Ok, refl, sym, subst, arith, false, inl, inr}
+use Rattle.std.specs.Prelude.{IsSome, nat_lt, ◌&&◌, is_none}
 use Rattle.std.proofs.lemmas.Bool.{cases_lt}
 use Rattle.std.proofs.lemmas.Bool.Decides.{nat_tests}
 use Rattle.feed_types.specs.declared.item.Item.{Item}
 use Rattle.feed_types.specs.declared.line.LineId.{LineId}
 use Rattle.mold_packet.specs.declared.packet.Kind.{Kind}
 use Rattle.mold_packet.specs.declared.packet.Kind.TheVariants as kinds
-use Rattle.mold_packet.specs.Content.{Content, IsContent}
+use Rattle.mold_packet.specs.Content.{Content}
 use Rattle.line_arbiter.specs.declared.outcome.Outcome.{Outcome}
 use Rattle.line_arbiter.specs.declared.outcome.Outcome.TheVariants.{Taken}
-use Rattle.line_arbiter.specs.Packets.{Arrival, arrival_of, last_of}
-use Rattle.line_arbiter.specs.Outcomes.{IsBefore, IsOutcome}
+use Rattle.line_arbiter.specs.Packets.{Arrival, last_of}
+use Rattle.line_arbiter.specs.Outcomes.{IsBefore}
 use Rattle.line_arbiter.specs.InOrder.{IsSent, WasSent}
 use Rattle.line_arbiter.specs.Counts.{Counts}
 use Rattle.line_arbiter.specs.Holding.{Held, fresh_to, held_at, put_all, HeldAgrees}
@@ -19,10 +19,7 @@ use Rattle.line_arbiter.specs.Comparing.{AreThere, IsThere}
 use Rattle.line_arbiter.specs.States.{State, held_of}
 use Rattle.line_arbiter.specs.Steps.{KindStep, MessagesStep, PacketStep, counted, raised}
 use Rattle.line_arbiter.specs.Fits.{Fits}
-use Rattle.line_arbiter.proofs.Answering.{packet_answer}
 use Rattle.line_arbiter.proofs.Counting.{count_none}
-use Rattle.line_arbiter.proofs.PacketSteps.{packet_fits}
-use Rattle.line_arbiter.proofs.Standing.{fits_of, stands_of}
 use Rattle.line_arbiter.proofs.Windows.{before_base}
 
 -- a message that was sent is there, and nothing else is held at its number

@@ -1,30 +1,24 @@
 //! One venue's lines, in sequence.
 
-ghost use Rattle.std.specs.Prelude.{◌≡◌, ◌∷◌, ◌++◌, ◌↔◌, ◌+◌, ◌^◌, ◌<◌, ◌≤◌, List, [], IfOk, IfSome, IfNone, Ok, IsSome, IsErrOf, OnErr, OnOk, slice_get, MatchBool, Some, None, length};
-ghost use Rattle.mold_packet.specs.Content.{IsContent};
+ghost use Rattle.std.specs.Prelude.{◌≡◌, ◌∷◌, ◌++◌, ◌↔◌, ◌+◌, ◌^◌, ◌<◌, ◌≤◌, List, [], IfOk, IfSome, Ok, IsSome, IsErrOf, OnErr, OnOk, slice_get, Some, None, length};
 ghost use Rattle.feed_types.specs.Prefix.{IsPrefix};
-ghost use Rattle.line_arbiter.specs.Packets.{Arrival, arrival_of, last_of};
+ghost use Rattle.line_arbiter.specs.Packets.{Arrival, arrival_of};
 ghost use Rattle.line_arbiter.specs.Streams.{IsComplete, stream_of, gap_of, wins_of};
-ghost use Rattle.line_arbiter.specs.Outcomes.{IsBefore, IsOutcome, IsPast};
+ghost use Rattle.line_arbiter.specs.Outcomes.{IsOutcome};
 ghost use Rattle.line_arbiter.specs.Renewals.{HasEnded, IsRenewal};
 ghost use Rattle.line_arbiter.specs.Genuine.{AreGenuine, IsGenuineItem};
 ghost use Rattle.line_arbiter.specs.Counts.{count_on, shown};
-ghost use Rattle.line_arbiter.specs.States.{held_of, ordinal_of, next_of, ShowsCursors, IsNew, KeepsItsPlace, KeepsItsSession, IsAdvanced, IsRenewed};
-ghost use Rattle.line_arbiter.specs.Holding.{HeldAgrees};
-ghost use Rattle.line_arbiter.specs.Comparing.{AreThere};
+ghost use Rattle.line_arbiter.specs.States.{ordinal_of, next_of, ShowsCursors, IsNew, KeepsItsPlace, IsAdvanced, IsRenewed};
 ghost use Rattle.line_arbiter.specs.Fits.{Fits, cursors_of};
-ghost use Rattle.line_arbiter.specs.Steps.{IsSound, DropsNext, MessagesStep, HeartbeatStep, EndStep, PacketStep, raised as raised_to};
+ghost use Rattle.line_arbiter.specs.Steps.{IsSound, DropsNext};
 
 use crate::faults::{ArbiterFault, RenewFault};
-use crate::intake::{Intake, run_after, take_all};
-use crate::names::is_same_name;
 use crate::outcome::{LineFault, Outcome};
 use crate::window::Window;
 use crate::wins::Wins;
 use arrayvec::ArrayVec;
 use feed_types::{Genuine, Item, LineId, Numbered, VenueId};
-use mold_packet::{Kind, Packet, Request};
-use quote_payload::read_item;
+use mold_packet::{Packet, Request};
 use std::alloc::Global;
 use std::marker::{Model, PhantomData};
 
@@ -47,23 +41,6 @@ pub struct ArbiterStatus {
     pub end: Option<u64>,
     /// How many messages were taken and not yet advanced past, at most the window.
     pub held: u32,
-}
-
-/// Whether the end is announced at the number or below it.
-pub(crate) fn is_past(end: Option<u64>, number: u64) -> bool
-    ensures { MatchBool result (IsPast end number) (IsBefore end number) }
-{
-    match end {
-        Some(end) => end <= number,
-        None => false,
-    }
-}
-
-/// The number up to which messages are known of, after one more number is heard of.
-pub(crate) fn raised(known: u64, end: Option<u64>, to: u64) -> u64
-    ensures { result ≡ raised_to known end to }
-{
-    if end.is_some() { known } else { known.max(to) }
 }
 
 /// What was taken from a venue's lines and not yet sent on.
@@ -183,120 +160,6 @@ impl<G: Genuine> Arbiter<G> {
         ensures sound { IsSound self.old }
     {
         self.held.pass();
-    }
-
-    /// Takes a packet of messages that were all sent or are held, as on the line that comes second.
-    #[inline(always)]
-    pub(crate) fn take_repeat(&mut self, line: LineId, packet: &Packet<'_>, last: u64) -> Outcome
-        requires last { last ≡ last_of packet.now }
-        requires before { IsBefore self.old.end (last_of packet.now) }
-        requires within { last_of packet.now ≤ self.old.sent + self.old.window }
-        requires there { AreThere (held_of self.old) packet.now }
-        requires agrees { HeldAgrees (held_of self.old) packet.now }
-        ensures { MessagesStep line self.old self.new packet.now (Ok result) }
-    {
-        self.known_to = raised(self.known_to, self.end_number, last);
-        self.won.add(line, 0);
-        Outcome::Taken {
-            new: 0,
-            repeated: packet.count(),
-        }
-    }
-
-    /// Takes a packet of messages that all have a place in the window or were sent.
-    #[inline(always)]
-    fn take_in(
-        &mut self,
-        line: LineId,
-        packet: &Packet<'_>,
-        last: u64,
-    ) -> Result<Outcome, LineFault>
-        requires last { last ≡ last_of packet.now }
-        requires before { IsBefore self.old.end (last_of packet.now) }
-        requires within { last_of packet.now ≤ self.old.sent + self.old.window }
-        ensures { MessagesStep line self.old self.new packet.now result }
-    {
-        let new = match take_all(&mut self.held, packet) {
-            Intake::Differs => return Err(LineFault::Conflict),
-            Intake::Repeats => return Ok(self.take_repeat(line, packet, last)),
-            Intake::Holds(new) => new,
-        };
-        self.run_to = run_after(&self.held, self.run_to, packet.number());
-        self.known_to = raised(self.known_to, self.end_number, last);
-        let repeated = packet.count() - new;
-        self.won.add(line, new);
-        Ok(Outcome::Taken { new, repeated })
-    }
-
-    #[inline(always)]
-    fn take_messages(&mut self, line: LineId, packet: &Packet<'_>) -> Result<Outcome, LineFault>
-        requires { packet.now.kind ≡ Kind.Messages }
-        ensures { MessagesStep line self.old self.new packet.now result }
-    {
-        let last = packet.last_number();
-        if is_past(self.end_number, last) {
-            return Err(LineFault::PastEnd);
-        }
-        if last <= self.held.base() {
-            return Ok(self.take_repeat(line, packet, last));
-        }
-        if last.saturating_sub(self.held.base()) > u64::from(self.held.width()) {
-            self.known_to = raised(self.known_to, self.end_number, last);
-            return Ok(Outcome::Ahead);
-        }
-        self.take_in(line, packet, last)
-    }
-
-    #[inline(never)]
-    fn take_heartbeat(&mut self, number: u64) -> Result<Outcome, LineFault>
-        ensures { HeartbeatStep self.old self.new number result }
-    {
-        if let Some(end) = self.end_number
-            && end < number
-        {
-            return Err(LineFault::PastEnd);
-        }
-        self.known_to = raised(self.known_to, self.end_number, number.saturating_sub(1));
-        Ok(Outcome::Heartbeat)
-    }
-
-    #[inline(never)]
-    fn take_end(&mut self, number: u64) -> Result<Outcome, LineFault>
-        requires { 1 ≤ number }
-        ensures { EndStep self.old self.new number result }
-    {
-        if let Some(end) = self.end_number {
-            return if end == number {
-                Ok(Outcome::Ended)
-            } else {
-                Err(LineFault::EndMoved)
-            };
-        }
-        if self.run_to >= number || self.held.holds_from(number) {
-            return Err(LineFault::EndTooEarly);
-        }
-        self.end_number = Some(number);
-        self.known_to = number - 1;
-        Ok(Outcome::Ended)
-    }
-
-    #[inline(always)]
-    fn take_any(&mut self, line: LineId, packet: &Packet<'_>) -> Result<Outcome, LineFault>
-        ensures step { PacketStep line self.old self.new packet.now result }
-        ensures content { IsContent packet.now }
-        ensures sound { IsSound self.new }
-    {
-        let number = packet.number();
-        if !is_same_name(&packet.session(), &self.session_name) {
-            return Err(LineFault::OtherSession);
-        }
-        let answer = match packet.kind() {
-            Kind::Messages => self.take_messages(line, packet),
-            Kind::Heartbeat => self.take_heartbeat(number),
-            Kind::End => self.take_end(number),
-        };
-        let _held = &self.held;
-        answer
     }
 
     /// Takes a packet that came on a line, and answers what became of it. A refused packet changes

@@ -15,9 +15,10 @@ ghost use Rattle.line_arbiter.specs.States.{KeepsItsSession};
 ghost use Rattle.line_arbiter.specs.Fits.{Fits};
 ghost use Rattle.line_arbiter.specs.Steps.{GoesPast, OrdersPacket};
 
-use crate::arbiter::{Arbiter, is_past, raised};
+use crate::arbiter::Arbiter;
 use crate::names::is_same_name;
 use crate::outcome::Outcome;
+use crate::taking::{is_past, raised};
 use feed_types::{Genuine, LineId};
 use mold_packet::{Kind, Packet};
 

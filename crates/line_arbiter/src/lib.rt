@@ -28,6 +28,7 @@ mod marks;
 mod names;
 mod outcome;
 mod pacer;
+mod taking;
 mod window;
 mod wins;
 
