@@ -8,8 +8,7 @@ pub mod StreamGrowth
 pub mod Winning
 -- a window
 pub mod Marking
-pub mod Rings
-pub mod Padding
+pub mod Places
 pub mod Windows
 pub mod Turns
 pub mod Filling

@@ -1,6 +1,6 @@
--- Marks in words: one is set or taken away, and the first from a place on is found.
-use Rattle.std.proofs.Common.{◌≡◌, ◌≢◌, ℕ, ◌+◌, ◌-◌, ◌*◌, ◌/◌, ◌%◌, ◌^◌, ◌<◌, ◌≤◌, Bool, true, false, List, length, get_or, set, sym, ap, subst, refl, ◌∙◌, inl, inr, arith, bit_and, bit_or, w64, get_or-set_same, get_or-set_other}
-use Rattle.std.specs.Prelude.{slice_index, nat_eq, not, if◌then◌else◌}
+-- A bitmap: a mark is set or taken away, and the first from a bit on is found in a word.
+use Rattle.std.proofs.Common.{◌≡◌, ◌≢◌, ℕ, zero, suc, ◌+◌, ◌-◌, ◌*◌, ◌/◌, ◌%◌, ◌^◌, ◌<◌, ◌≤◌, Bool, true, false, List, length, get_or, set, sym, ap, subst, refl, ◌∙◌, inl, inr, arith, bit_and, bit_or, w64, get_or-set_same, get_or-set_other}
+use Rattle.std.specs.Prelude.{slice_index, nat_eq, not, replicate, if◌then◌else◌}
 use Rattle.std.specs.Int.{bit_at, bit_not, trailing_zeros}
 use Rattle.std.proofs.lemmas.Bool.{cases_eq, cases_lt}
 use Rattle.std.proofs.lemmas.List.{get_or_default}
@@ -9,33 +9,51 @@ use Rattle.std.proofs.Math.Nat.{div-le_self}
 use Rattle.std.proofs.lemmas.Nat.Bits.{bit_at-zero, bit_at-lt, bit_at-trailing_zeros, bit_at_above, bit_at_set_same, bit_at_set_other, bit_at_clear_same, bit_at_clear_other, bit_at_not}
 use Rattle.line_arbiter.specs.Marks.{is_set, is_marked}
 
-module _ (marks : List ℕ) (slot word : ℕ) (within : slot / 64 < length marks) where
-  marked_here : is_marked (set marks (slot / 64) word) slot ≡ is_set word (slot % 64)
-  marked_here = ap (λ n. is_set n (slot % 64)) (get_or-set_same marks (slot / 64) word 0 within)
+module _ (marks : List ℕ) (m word : ℕ) (words : length marks ≡ 1024) where
+  marked_here : is_marked (set marks (m / 64 % 1024) word) m ≡ is_set word (m % 64)
+  marked_here = ap (λ n. is_set n (m % 64)) (get_or-set_same marks (m / 64 % 1024) word 0 (omega arith))
 
-  -- a word that keeps its other bits keeps the marks of the other slots
-  marked_others : ((i : ℕ) → i < 64 → i ≢ slot % 64 → bit_at word i ≡ bit_at (get_or marks (slot / 64) 0) i) → (other : ℕ) → other ≢ slot → is_marked (set marks (slot / 64) word) other ≡ is_marked marks other
+  -- a word that keeps its other bits keeps the marks of the numbers that have other bits
+  marked_others : ((i : ℕ) → i < 64 → i ≢ m % 64 → bit_at word i ≡ bit_at (get_or marks (m / 64 % 1024) 0) i)
+      → (other : ℕ) → other % 65536 ≢ m % 65536
+      → is_marked (set marks (m / 64 % 1024) word) other ≡ is_marked marks other
   marked_others kept other differs =
-      elim (cases_eq (other / 64) (slot / 64)) [
-        | inl same ↦ rw (same, get_or-set_same marks (slot / 64) word 0 within) (ap (λ b. nat_eq b 1) (kept (other % 64) (omega arith) (λ index. differs (omega arith))))
-        | inr apart ↦ ap (λ n. is_set n (other % 64)) (get_or-set_other marks (slot / 64) (other / 64) word 0 apart)
+      let there : m / 64 % 1024 < length marks = omega arith in
+      elim (cases_eq (other / 64 % 1024) (m / 64 % 1024)) [
+        | inl same ↦
+            rw (same, get_or-set_same marks (m / 64 % 1024) word 0 there)
+            (ap (λ b. nat_eq b 1) (kept (other % 64) (omega arith) (λ index. differs (omega arith))))
+        | inr apart ↦
+            ap (λ n. is_set n (other % 64)) (get_or-set_other marks (m / 64 % 1024) (other / 64 % 1024) word 0 apart)
       ]
 
-module _ (marks : List ℕ) (slot word : ℕ) (within : slot / 64 < length marks) (read : word ≡ get_or marks (slot / 64) word) where
-  was : word ≡ get_or marks (slot / 64) 0
-  was = read ∙ get_or_default marks (slot / 64) word 0 within
+module _ (marks : List ℕ) (m word : ℕ) (words : length marks ≡ 1024)
+    (read : word ≡ get_or marks (m / 64 % 1024) word) where
+  was : word ≡ get_or marks (m / 64 % 1024) 0
+  was = read ∙ get_or_default marks (m / 64 % 1024) word 0 (omega arith)
 
-  pub mark_here : is_marked (set marks (slot / 64) (bit_or word (1 * 2 ^ (slot % 64) % 2 ^ 64))) slot ≡ true
-  mark_here = marked_here marks slot _ within ∙ ap (λ b. nat_eq b 1) (bit_at_set_same w64 word (slot % 64) (omega arith))
+  abbrev set_word : ℕ
+  set_word = bit_or word (1 * 2 ^ (m % 64) % 2 ^ 64)
 
-  pub mark_others : (other : ℕ) → other ≢ slot → is_marked (set marks (slot / 64) (bit_or word (1 * 2 ^ (slot % 64) % 2 ^ 64))) other ≡ is_marked marks other
-  mark_others = marked_others marks slot _ within (λ i low differs. bit_at_set_other w64 word (slot % 64) (omega arith) i differs ∙ ap (λ n. bit_at n i) was)
+  abbrev cleared_word : ℕ
+  cleared_word = bit_and word (bit_not w64 (1 * 2 ^ (m % 64) % 2 ^ 64))
 
-  pub unmark_here : is_marked (set marks (slot / 64) (bit_and word (bit_not w64 (1 * 2 ^ (slot % 64) % 2 ^ 64)))) slot ≡ false
-  unmark_here = marked_here marks slot _ within ∙ ap (λ b. nat_eq b 1) (bit_at_clear_same w64 word (slot % 64) (omega arith))
+  pub mark_here : is_marked (set marks (m / 64 % 1024) set_word) m ≡ true
+  mark_here = marked_here marks m _ words ∙ ap (λ b. nat_eq b 1) (bit_at_set_same w64 word (m % 64) (omega arith))
 
-  pub unmark_others : (other : ℕ) → other ≢ slot → is_marked (set marks (slot / 64) (bit_and word (bit_not w64 (1 * 2 ^ (slot % 64) % 2 ^ 64)))) other ≡ is_marked marks other
-  unmark_others = marked_others marks slot _ within (λ i low differs. bit_at_clear_other w64 word (slot % 64) (omega arith) i low differs ∙ ap (λ n. bit_at n i) was)
+  pub mark_others : (other : ℕ) → other % 65536 ≢ m % 65536
+      → is_marked (set marks (m / 64 % 1024) set_word) other ≡ is_marked marks other
+  mark_others = marked_others marks m _ words (λ i low differs.
+      bit_at_set_other w64 word (m % 64) (omega arith) i differs ∙ ap (λ n. bit_at n i) was)
+
+  pub unmark_here : is_marked (set marks (m / 64 % 1024) cleared_word) m ≡ false
+  unmark_here =
+      marked_here marks m _ words ∙ ap (λ b. nat_eq b 1) (bit_at_clear_same w64 word (m % 64) (omega arith))
+
+  pub unmark_others : (other : ℕ) → other % 65536 ≢ m % 65536
+      → is_marked (set marks (m / 64 % 1024) cleared_word) other ≡ is_marked marks other
+  unmark_others = marked_others marks m _ words (λ i low differs.
+      bit_at_clear_other w64 word (m % 64) (omega arith) i low differs ∙ ap (λ n. bit_at n i) was)
 
 -- the bits of a word that are asked for, as ones
 abbrev asked : ℕ → Bool → ℕ
@@ -91,12 +109,19 @@ first_left word from wanted left fits low is some =
       is = λ lt. asked_bit word (from + tz) wanted fits inside (ap (λ n. bit_at n (from + tz)) (sym is) ∙ at);
     }
 
--- the bit of a slot in its word
-pub in_word : (marks : List ℕ) (word i : ℕ) → i < 64 → is_marked marks (word * 64 + i) ≡ is_set (slice_index marks word) i
-in_word marks word i low =
-    let w : (word * 64 + i) / 64 ≡ word = omega arith in
-    let b : (word * 64 + i) % 64 ≡ i = omega arith in
+-- numbers that lie a multiple of 65,536 apart have one bit
+pub same_bit : (marks : List ℕ) (m n : ℕ) → m % 65536 ≡ n % 65536 → is_marked marks m ≡ is_marked marks n
+same_bit marks m n same =
+    let w : m / 64 % 1024 ≡ n / 64 % 1024 = omega arith in
+    let b : m % 64 ≡ n % 64 = omega arith in
     rw (w, b) refl
 
-pub at_slot : (marks : List ℕ) (slot word : ℕ) → slot / 64 ≡ word → is_marked marks slot ≡ is_set (slice_index marks word) (slot % 64)
-at_slot marks slot word is = rw is refl
+-- a bitmap of zeros has no mark
+pub none_marked : (m : ℕ) → is_marked (replicate 1024 0) m ≡ false
+none_marked m =
+    ap (λ n. is_set n (m % 64)) (all_zero 1024 (m / 64 % 1024)) ∙ ap (λ b. nat_eq b 1) (bit_at-zero (m % 64))
+  where
+    all_zero : (words k : ℕ) → slice_index (replicate words 0) k ≡ 0
+    all_zero zero k = refl
+    all_zero (suc words) zero = refl
+    all_zero (suc words) (suc k) = all_zero words k

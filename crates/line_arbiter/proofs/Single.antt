@@ -34,8 +34,11 @@ filled_only : (b : Bool) (held next : Held) (p : Content) → length p.messages 
     → IsFilled (length p.messages) held.base held next p (cond b 1 0)
 filled_only b held next p one after told =
     let count : 0 + cond b 1 0 ≡ cond b 1 0 = omega arith in
-    let filled = filled_more b next (record { items = λ m. sym (none_put held.base p (held_at held m) m); count_is = refl }) after told in
-    subst (λ (n : ℕ). IsFilled n held.base held next p (cond b 1 0)) (sym one) (subst (λ (n : ℕ). IsFilled 1 held.base held next p n) count filled)
+    let none : IsFilled 0 held.base held held p 0 =
+    record { items = λ m. sym (none_put held.base p (held_at held m) m); count_is = refl } in
+    let filled = filled_more b next none after told in
+    subst (λ (n : ℕ). IsFilled n held.base held next p (cond b 1 0)) (sym one)
+    (subst (λ (n : ℕ). IsFilled 1 held.base held next p n) count filled)
 
 -- nothing is held at the number, so nothing else is
 none_other : (held : Held) (m : ℕ) (item : Item) → held_at held m ≡ None → HoldsNoOther held m item

@@ -66,7 +66,7 @@ still_none : (b : Bool) (o : Option Item) → o ≡ None → (if b then None els
 still_none true o e = refl
 still_none false o e = e
 
-pub sound_advanced : (old new : State) → IsSound old → new ≡ record old { sent = new.sent; ring = new.ring } → ((m : ℕ) → held_at (held_of new) m ≡ (if nat_eq m (old.sent + 1) then None else held_at (held_of old) m)) → IsSound new
+pub sound_advanced : (old new : State) → IsSound old → new ≡ record old { sent = new.sent; places = new.places } → ((m : ℕ) → held_at (held_of new) m ≡ (if nat_eq m (old.sent + 1) then None else held_at (held_of old) m)) → IsSound new
 sound_advanced old new sound others held =
     let end : new.end ≡ old.end = ap (λ (s : State). s.end) others in
     let front : new.front ≡ old.front = ap (λ (s : State). s.front) others in

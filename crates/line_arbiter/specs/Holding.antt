@@ -1,70 +1,52 @@
 -- What a window holds: messages past the last item sent. Of this file public clauses cite `held_at`
--- alone, through `Fits` and `next_of`.
-use Rattle.std.specs.Prelude.{◌≡◌, ◌≢◌, ℕ, ◌+◌, ◌-◌, ◌*◌, ◌^◌, ◌<◌, ◌≤◌, nat_eq, nat_le, nat_lt, ◌&&◌, List, ◌++◌, Option, Some, None, IsSome, count_by, get_or, is_none, is_some, length, replicate, if◌then◌else◌}
+-- and `IsEmpty` alone, through `Fits`, `next_of` and `IsNext`.
+use Rattle.std.specs.Prelude.{◌≡◌, ◌≢◌, ℕ, ◌+◌, ◌-◌, ◌^◌, ◌<◌, ◌≤◌, nat_eq, nat_le, nat_lt, ◌&&◌, List, [], ◌∷◌, ◌++◌, Option, Some, None, IsSome, count_by, is_none, is_some, length, replicate, slice_get, slice_set, if◌then◌else◌}
 use Rattle.std.specs.List.{range_with_len}
+use Rattle.std.specs.Option.{option_and_then}
 use Rattle.feed_types.specs.declared.item.Item.{Item}
-use Rattle.feed_types.specs.declared.item.Item.TheVariants as items
 use Rattle.mold_packet.specs.Content.{Content}
 use Rattle.line_arbiter.specs.Packets.{item_at, message_item}
-use Rattle.line_arbiter.specs.Marks.{is_marked}
 
--- slots in a ring, each with a mark where it holds an item; `first` is the slot of the first place
-pub record Ring : Type 0 where
-  pub first : ℕ
-  pub slots : List Item
-  pub marks : List ℕ
-
--- the k-th place, from 0, is that of the number base + 1 + k
+-- the k-th place, from 0, is that of the number base + 1 + k: it holds an item or nothing
 pub record Held : Type 0 where
   pub base : ℕ
   pub width : ℕ
-  pub ring : Ring
+  pub places : List (Option Item)
 
--- as many slots, where those that weren't needed yet are blank
-abbrev pub padded : ℕ → List Item → List Item
-padded width slots = slots ++ replicate (width - length slots) items.Other
-
--- the slot of a place
-abbrev pub slot_of : ℕ → ℕ → ℕ → ℕ
-slot_of first width k = if nat_lt (first + k) width then first + k else first + k - width
-
--- the item that is held at a place
-abbrev pub item_in : ℕ → Ring → ℕ → Option Item
-item_in width ring k =
-    if nat_lt k width && is_marked ring.marks (slot_of ring.first width k)
-    then Some (get_or ring.slots (slot_of ring.first width k) items.Other)
-    else None
+-- what a place holds: nothing where there is no such place
+abbrev pub in_place : List (Option Item) → ℕ → Option Item
+in_place places k = option_and_then (λ place. place) (slice_get places k)
 
 -- the item that is held at a number
 abbrev pub held_at : Held → ℕ → Option Item
 held_at held m =
-    if nat_le m held.base then None else item_in held.width held.ring (m - held.base - 1)
+    if nat_le m held.base then None else in_place held.places (m - held.base - 1)
 
 -- how many items are held
 abbrev pub count_held : Held → ℕ
-count_held held =
-    count_by (λ m. is_some (held_at held m)) (range_with_len (held.base + 1) held.width)
+count_held held = count_by is_some held.places
 
 abbrev pub IsEmpty : Held → Type 0
 IsEmpty held = (m : ℕ) → held_at held m ≡ None
 
--- nothing is held at the number, and this is its slot
-pub record IsFree (held : Held) (number slot : ℕ) : Type 0 where
-  pub past : held.base < number
-  pub free : held_at held number ≡ None
-  pub is : slot ≡ slot_of held.ring.first held.width (number - held.base - 1)
+-- the last number that has a place; where there is none, the base
+abbrev pub last_place : Held → ℕ
+last_place held = held.base + length held.places
 
--- What a window keeps: a mark for each slot; as many items as it counts; and where anything is
--- held, an item at the top and none above it.
-pub record IsHeld (top count : ℕ) (held : Held) : Type 0 where
-  pub slots : length held.ring.slots ≡ held.width
-  pub small : top < 2 ^ 64
+-- What a window keeps: as many items as it counts, no more places than it is wide, and an item in
+-- the last of them.
+pub record IsHeld (count : ℕ) (held : Held) : Type 0 where
+  pub small : last_place held < 2 ^ 64
+  pub within : length held.places ≤ held.width
   pub most : held.width ≤ 65535
-  pub marks : held.width ≤ 64 * length held.ring.marks
-  pub first : held.ring.first < held.width
   pub counted : count ≡ count_held held
-  pub highest : held.base < top → IsSome (held_at held top)
-  pub above : (m : ℕ) → IsSome (held_at held m) → m ≤ top
+  pub last : held.base < last_place held → IsSome (held_at held (last_place held))
+
+-- the places once an item was put in at k, with empty ones before it where there were none
+abbrev pub put_at : List (Option Item) → ℕ → Item → List (Option Item)
+put_at places k item =
+    if nat_lt k (length places) then slice_set places k (Some item)
+    else places ++ replicate (k - length places) None ++ Some item ∷ []
 
 -- what is held at a number once an item was put in at k, where it is past the base and nothing is
 -- held there

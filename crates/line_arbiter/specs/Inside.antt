@@ -1,22 +1,17 @@
 -- How a window and an arbiter are seen. Only private clauses cite this file.
-use Rattle.std.specs.Prelude.{◌≤◌}
-use Rattle.std.specs.Vec.{vec_capacity}
 use Rattle.line_arbiter.specs.declared.window.Window.TheInside.{Inside as WindowInside}
 use Rattle.line_arbiter.specs.declared.arbiter.Arbiter.TheInside.{Inside as ArbiterInside}
-use Rattle.line_arbiter.specs.Holding.{Held, IsHeld, padded}
+use Rattle.line_arbiter.specs.Holding.{Held, IsHeld}
+use Rattle.line_arbiter.specs.Marks.{IsBitmap}
 use Rattle.line_arbiter.specs.States.{State}
 
 abbrev pub window_inside : WindowInside → Held
-window_inside w = record {
-  base = w.base_number;
-  width = w.places;
-  ring = record { first = w.first; slots = padded w.places w.slots.items; marks = w.marks.items };
-}
+window_inside w = record { base = w.base_number; width = w.places.capacity; places = w.places.items }
 
--- what a window keeps, and that each of its slots has room
+-- what a window keeps, and that its bitmap says which numbers are held
 pub record IsWindow (w : WindowInside) : Type 0 where
-  pub held : IsHeld w.top_number w.held_items (window_inside w)
-  pub room : w.places ≤ vec_capacity w.slots
+  pub held : IsHeld w.held_items (window_inside w)
+  pub marks : IsBitmap w.marks.items (window_inside w)
 
 abbrev pub arbiter_inside : {G : Type 0} → ArbiterInside G → State
 arbiter_inside a = record {
@@ -28,7 +23,7 @@ arbiter_inside a = record {
   front = a.run_to;
   known = a.known_to;
   end = a.end_number;
-  ring = a.held.ring;
+  places = a.held.places;
   wins = a.won;
   earlier = a.won_before;
 }

@@ -6,7 +6,7 @@ use Rattle.feed_types.specs.declared.item.Item.TheVariants as items
 use Rattle.feed_types.specs.declared.item.Numbered.{Numbered}
 use Rattle.line_arbiter.specs.declared.arbiter.ArbiterStatus.{ArbiterStatus}
 use Rattle.line_arbiter.specs.Counts.{Counts, no_counts}
-use Rattle.line_arbiter.specs.Holding.{Held, Ring, held_at}
+use Rattle.line_arbiter.specs.Holding.{Held, held_at}
 
 -- sessions are the names of the venue's sessions so far, the present one last; earlier has the wins
 -- as they stood when the present session began
@@ -19,7 +19,7 @@ pub record State : Type 0 where
   pub front : ℕ
   pub known : ℕ
   pub end : Option ℕ
-  pub ring : Ring
+  pub places : List (Option Item)
   pub wins : Counts
   pub earlier : Counts
 
@@ -28,7 +28,7 @@ abbrev pub ordinal_of : State → ℕ
 ordinal_of s = length s.sessions
 
 abbrev pub held_of : State → Held
-held_of s = record { base = s.sent; width = s.window; ring = s.ring }
+held_of s = record { base = s.sent; width = s.window; places = s.places }
 
 -- the item after the last one sent, if it is there
 abbrev pub next_from : ℕ → Option Item → Option ℕ → Option Numbered

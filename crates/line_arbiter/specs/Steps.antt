@@ -49,7 +49,7 @@ pub record DropsNext (old new : State) : Type 0 where
   pub held : (m : ℕ)
       → held_at (held_of new) m
       ≡ (if nat_eq m (old.sent + 1) then None else held_at (held_of old) m)
-  pub others : new ≡ record old { sent = new.sent; ring = new.ring }
+  pub others : new ≡ record old { sent = new.sent; places = new.places }
 
 -- the packet's messages past `sent` are held, and the front has moved over what is there
 pub record TakesIn (line : LineId) (fresh : ℕ) (old new : State) (p : Content) : Type 0 where
@@ -62,7 +62,7 @@ pub record TakesIn (line : LineId) (fresh : ℕ) (old new : State) (p : Content)
   pub others : new ≡ record old {
     front = new.front;
     known = new.known;
-    ring = new.ring;
+    places = new.places;
     wins = new.wins;
   }
 
@@ -134,7 +134,7 @@ pub record GoesPast (line : LineId) (old new : State) (p : Content) : Type 0 whe
     sent = new.sent;
     front = last_of p;
     known = raised old.known old.end (last_of p);
-    ring = new.ring;
+    places = new.places;
     wins = counted line (length p.messages) old.wins;
   }
 

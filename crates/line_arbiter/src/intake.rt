@@ -100,10 +100,10 @@ fn put(window: &mut Window, number: u64, message: &[u8]) -> bool
     ensures width { window.new.width ≡ window.old.width }
     ensures same { result ≡ false → window.new ≡ window.old }
 {
-    let Some(slot) = window.free_slot(number) else {
+    if !window.is_free(number) {
         return false;
-    };
-    window.hold(number, slot, read_item(message));
+    }
+    window.hold(number, read_item(message));
     true
 }
 

@@ -1,45 +1,67 @@
-//! A mark for each slot, 64 to a word, so that 64 slots are looked through at once.
+//! A bitmap of numbers: 65,536 bits in 1,024 words, where number `m` has bit `m % 65,536`. Numbers
+//! that lie less than 65,536 apart have bits of their own. 64 of them are looked through at once.
 
-ghost use Rattle.std.specs.Prelude.{◌≡◌, ◌≢◌, ℕ, ◌+◌, ◌*◌, ◌/◌, ◌<◌, ◌≤◌, true, false, not, length};
+ghost use Rattle.std.specs.Prelude.{◌≡◌, ◌≢◌, ℕ, ◌%◌, ◌/◌, ◌<◌, ◌≤◌, IfOk, true, false, not, length, replicate};
 ghost use Rattle.line_arbiter.specs.Marks.{is_set, is_marked};
 
-/// How many marks a word has.
-const WORD: usize = 64;
+use std::alloc::{AllocError, Global};
 
-/// Marks the slot.
+/// How many bits a word has.
+const WORD_BITS: u64 = 64;
+
+/// How many words a bitmap has.
+const WORDS: usize = 1_024;
+
+/// A bitmap without a mark.
+pub(crate) fn no_marks(alloc: Global) -> Result<Vec<u64>, AllocError>
+    ensures { IfOk result (λ marks. marks.items ≡ replicate 1024 0) }
+{
+    vec![in alloc; 0; WORDS]
+}
+
+/// The word that has the number's bit.
 #[inline]
-pub(crate) fn mark(marks: &mut Vec<u64>, slot: usize)
-    requires { slot / 64 < length marks.old.items }
-    ensures len { length marks.new.items ≡ length marks.old.items }
-    ensures here { is_marked marks.new.items slot ≡ true }
-    ensures others { (other : ℕ) → other ≢ slot
+fn word_of(number: u64) -> usize
+    ensures value { result ≡ number / 64 % 1024 }
+    ensures within { result < 1024 }
+{
+    (number / WORD_BITS) as usize % WORDS
+}
+
+/// Marks the number.
+#[inline]
+pub(crate) fn mark(marks: &mut Vec<u64>, number: u64)
+    requires { length marks.old.items ≡ 1024 }
+    ensures words { length marks.new.items ≡ 1024 }
+    ensures here { is_marked marks.new.items number ≡ true }
+    ensures others { (other : ℕ) → other % 65536 ≢ number % 65536
         → is_marked marks.new.items other ≡ is_marked marks.old.items other }
 {
-    marks[slot / WORD] |= 1 << (slot % WORD);
+    marks[word_of(number)] |= 1 << (number % WORD_BITS);
 }
 
-/// Takes the slot's mark away.
+/// Takes the number's mark away.
 #[inline]
-pub(crate) fn unmark(marks: &mut Vec<u64>, slot: usize)
-    requires { slot / 64 < length marks.old.items }
-    ensures len { length marks.new.items ≡ length marks.old.items }
-    ensures here { is_marked marks.new.items slot ≡ false }
-    ensures others { (other : ℕ) → other ≢ slot
+pub(crate) fn unmark(marks: &mut Vec<u64>, number: u64)
+    requires { length marks.old.items ≡ 1024 }
+    ensures words { length marks.new.items ≡ 1024 }
+    ensures here { is_marked marks.new.items number ≡ false }
+    ensures others { (other : ℕ) → other % 65536 ≢ number % 65536
         → is_marked marks.new.items other ≡ is_marked marks.old.items other }
 {
-    marks[slot / WORD] &= !(1 << (slot % WORD));
+    marks[word_of(number)] &= !(1 << (number % WORD_BITS));
 }
 
-/// Whether the slot is marked.
+/// Returns whether the number is marked.
 #[inline]
-pub(crate) fn has_mark(marks: &[u64], slot: usize) -> bool
-    requires { slot / 64 < length marks.now }
-    ensures { result ≡ is_marked marks.now slot }
+pub(crate) fn has_mark(marks: &[u64], number: u64) -> bool
+    requires { length marks.now ≡ 1024 }
+    ensures { result ≡ is_marked marks.now number }
 {
-    marks[slot / WORD] >> (slot % WORD) & 1 == 1
+    marks[word_of(number)] >> (number % WORD_BITS) & 1 == 1
 }
 
-/// The first bit from this one on that is set, or isn't, as asked; 64 where there is none.
+/// Returns the first bit from `from` on that is set, or isn't, as asked; 64 where there is none.
 #[inline]
 fn first_in_word(word: u64, set: bool, from: u32) -> u32
     requires { from < 64 }
@@ -56,25 +78,28 @@ fn first_in_word(word: u64, set: bool, from: u32) -> u32
     from + left.trailing_zeros()
 }
 
-/// The first slot from this one on, below the end, that is marked, or isn't, as asked; the end
-/// where there is none.
-pub(crate) fn first_slot(marks: &[u64], marked: bool, from: usize, end: usize) -> usize
+/// Returns the first number from `from` on, below `end`, that is marked, or isn't, as asked; `end`
+/// where there is none. It reads a word for each 64 numbers.
+pub(crate) fn first_number(marks: &[u64], marked: bool, from: u64, end: u64) -> u64
+    requires words { length marks.now ≡ 1024 }
     requires order { from ≤ end }
-    requires within { end ≤ 64 * length marks.now }
-    requires small { end ≤ 65535 }
     ensures from { from ≤ result }
     ensures to { result ≤ end }
-    ensures others { (i : ℕ) → from ≤ i → i < result → is_marked marks.now i ≡ not marked }
+    ensures others { (m : ℕ) → from ≤ m → m < result → is_marked marks.now m ≡ not marked }
     ensures found { result < end → is_marked marks.now result ≡ marked }
 {
     let mut at = from;
     while at < end {
-        let word = at / WORD;
-        let bit = first_in_word(marks[word], marked, (at % WORD) as u32) as usize;
-        if bit < WORD {
-            return (word * WORD + bit).min(end);
+        let bit = (at % WORD_BITS) as u32;
+        let found = first_in_word(marks[word_of(at)], marked, bit);
+        let step = u64::from(found - bit);
+        if end - at <= step {
+            return end;
         }
-        at = (word + 1) * WORD;
+        at += step;
+        if found < 64 {
+            return at;
+        }
     }
     end
 }

@@ -15,7 +15,7 @@ use Rattle.line_arbiter.proofs.arbiter.Arbiter.take_in.Goals.{After-add, After-t
 before_with : (g : Over) → After-take_repeat g → Held → State
 before_with g c window =
     let i = c.self.inside in
-    record { venue = i.venue_id; sessions = i.names.items; session = i.session_name; window = window.width; sent = window.base; front = i.run_to; known = i.known_to; end = i.end_number; ring = window.ring; wins = i.won; earlier = i.won_before }
+    record { venue = i.venue_id; sessions = i.names.items; session = i.session_name; window = window.width; sent = window.base; front = i.run_to; known = i.known_to; end = i.end_number; places = window.places; wins = i.won; earlier = i.won_before }
 
 pub returns-in-Repeats : goal.returns-in-Repeats
 unfolding before_with
@@ -30,12 +30,12 @@ module _ (g : Over) (c : After-add g) where
   at : ℕ → ℕ → State
   at width base =
       let i = c.self.inside in
-      record { venue = i.venue_id; sessions = i.names.items; session = i.session_name; window = width; sent = base; front = c.run_after-self-inside.result; known = c.raised-self-inside.result; end = i.end_number; ring = c.take_all.new.window.ring; wins = c.add.new.self; earlier = i.won_before }
+      record { venue = i.venue_id; sessions = i.names.items; session = i.session_name; window = width; sent = base; front = c.run_after-self-inside.result; known = c.raised-self-inside.result; end = i.end_number; places = c.take_all.new.window.places; wins = c.add.new.self; earlier = i.won_before }
 
   old : State
   old =
       let i = c.self.inside in
-      record { venue = i.venue_id; sessions = i.names.items; session = i.session_name; window = i.held.width; sent = i.held.base; front = i.run_to; known = i.known_to; end = i.end_number; ring = i.held.ring; wins = i.won; earlier = i.won_before }
+      record { venue = i.venue_id; sessions = i.names.items; session = i.session_name; window = i.held.width; sent = i.held.base; front = i.run_to; known = i.known_to; end = i.end_number; places = i.held.places; wins = i.won; earlier = i.won_before }
 
   came : HoldsAll c.self.inside.held c.take_all.new.window c.args.packet.now c.in-Holds.new
   came = rw c.in-Holds.is at c.take_all.ensures

@@ -7,7 +7,7 @@ use Rattle.line_arbiter.proofs.arbiter.Arbiter.take_repeat.Goals.{After-count}
 old : (g : Over) → After-count g → State
 old g c =
     let i = c.self.inside in
-    record { venue = i.venue_id; sessions = i.names.items; session = i.session_name; window = i.held.width; sent = i.held.base; front = i.run_to; known = i.known_to; end = i.end_number; ring = i.held.ring; wins = i.won; earlier = i.won_before }
+    record { venue = i.venue_id; sessions = i.names.items; session = i.session_name; window = i.held.width; sent = i.held.base; front = i.run_to; known = i.known_to; end = i.end_number; places = i.held.places; wins = i.won; earlier = i.won_before }
 
 pub returns : goal.returns
 unfolding old
