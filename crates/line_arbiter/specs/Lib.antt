@@ -1,4 +1,4 @@
--- the definitions over packets
+-- what a reader of the contracts has to know: the definitions over packets
 pub mod Packets
 pub mod Streams
 pub mod Outcomes
@@ -7,17 +7,18 @@ pub mod Renewals
 pub mod Histories
 pub mod Genuine
 pub mod OfSession
-pub mod Gaps
 pub mod InOrder
--- an arbiter
+-- an arbiter; of what it holds, `held_at` and `IsEmpty`
 pub mod Counts
-pub mod Marks
 pub mod Holding
-pub mod Comparing
 pub mod States
 pub mod Fits
-pub mod Steps
-pub mod Inside
--- requests and printed numbers
+-- requests, printed numbers, and what laws alone cite
 pub mod Pacing
 pub mod Codes
+pub mod Gaps
+-- private clauses alone cite these
+pub mod Marks
+pub mod Comparing
+pub mod Steps
+pub mod Inside

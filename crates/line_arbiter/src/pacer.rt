@@ -8,12 +8,12 @@ use std::marker::Model;
 
 /// A request that went out.
 #[derive(Clone, Copy, Debug)]
-struct Sent {
+struct LastRequest {
     number: u64,
     moment_ms: u64,
 }
 
-impl Model for Sent {
+impl Model for LastRequest {
     ghost use Rattle.line_arbiter.specs.Pacing.{Asked};
 
     ghost Value = { Asked };
@@ -23,7 +23,7 @@ impl Model for Sent {
     ghost inverse = { λ a. record { number = a.number; moment_ms = a.moment } };
 }
 
-impl Sent {
+impl LastRequest {
     /// Whether the interval since then isn't over. A moment past 2^64 - 1 never comes.
     const fn is_recent(self, interval_ms: u64, now_ms: u64) -> bool
         ensures { IsTrue result ↔ (now_ms < self.moment + interval_ms) }
@@ -39,7 +39,7 @@ impl Sent {
 #[derive(Clone, Copy, Debug)]
 pub struct Pacer {
     interval_ms: u64,
-    last_sent: Option<Sent>,
+    last_request: Option<LastRequest>,
 }
 
 impl Model for Pacer {
@@ -47,9 +47,9 @@ impl Model for Pacer {
 
     ghost Value = { Pace };
 
-    ghost view = { λ p. record { interval = p.interval_ms; last = p.last_sent } };
+    ghost view = { λ p. record { interval = p.interval_ms; last = p.last_request } };
 
-    ghost inverse = { λ p. record { interval_ms = p.interval; last_sent = p.last } };
+    ghost inverse = { λ p. record { interval_ms = p.interval; last_request = p.last } };
 }
 
 impl Pacer {
@@ -59,14 +59,14 @@ impl Pacer {
     {
         Pacer {
             interval_ms,
-            last_sent: None,
+            last_request: None,
         }
     }
 
     fn is_too_soon(&self, gap: &Request, now_ms: u64) -> bool
         ensures { IsTrue result ↔ IsTooSoon self.now gap.now now_ms }
     {
-        match self.last_sent {
+        match self.last_request {
             Some(sent) => sent.number == gap.number && sent.is_recent(self.interval_ms, now_ms),
             None => false,
         }
@@ -82,13 +82,13 @@ impl Pacer {
         ensures { IsPaced self.old gap now_ms result self.new }
     {
         let Some(request) = gap else {
-            self.last_sent = None;
+            self.last_request = None;
             return None;
         };
         if self.is_too_soon(&request, now_ms) {
             return None;
         }
-        self.last_sent = Some(Sent {
+        self.last_request = Some(LastRequest {
             number: request.number,
             moment_ms: now_ms,
         });

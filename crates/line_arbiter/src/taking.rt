@@ -149,6 +149,7 @@ impl<G: Genuine> Arbiter<G> {
             Kind::Heartbeat => self.take_heartbeat(number),
             Kind::End => self.take_end(number),
         };
+        // for the prover: what an arbiter keeps
         let _held = &self.held;
         answer
     }

@@ -183,6 +183,7 @@ impl<G: Genuine, N: FeedName> VenueCell<G, N> {
             result }
         ensures refused { OnErr result (self.new ≡ self.old) }
     {
+        // for the prover: the packet's ranges
         let _number = packet.number();
         match self.lines.take(seat.line(), packet) {
             Ok(outcome) => {
