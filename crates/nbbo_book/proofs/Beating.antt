@@ -1,5 +1,5 @@
 -- How two sides rank: the order is one way, goes on, and parts any two of different ages.
-use Rattle.std.proofs.Common.{ℕ, ◌<◌, ◌≡◌, true, false, ap, ◌∙◌, arith, nat_eq, nat_lt, ◌⊎◌, inl, inr}
+use Rattle.std.proofs.Common.{ℕ, ◌<◌, ◌≡◌, Bool, true, false, refl, ap, ◌∙◌, arith, nat_eq, nat_lt, ◌⊎◌, inl, inr}
 use Rattle.std.specs.Prelude.{◌&&◌, ◌||◌}
 use Rattle.feed_types.specs.declared.line.Side.{Side}
 use Rattle.feed_types.specs.declared.line.Side.TheVariants.{Bid, Offer}
@@ -70,25 +70,15 @@ beats_either Offer f x y h p = grind (arith, h, p)
 pub beats_same : (b : Side) (f g : ℕ → ℕ) (x y : Best) → f x.venue ≡ g x.venue → f y.venue ≡ g y.venue → beats b f x y ≡ beats b g x y
 beats_same b f g x y p q = ap (λ t. is_better_price b x.price y.price || (nat_eq x.price y.price && (nat_lt y.size x.size || (nat_eq x.size y.size && nat_lt t (f y.venue))))) p ∙ ap (λ t. is_better_price b x.price y.price || (nat_eq x.price y.price && (nat_lt y.size x.size || (nat_eq x.size y.size && nat_lt (g x.venue) t)))) q
 
-bid_better : (x y : Best) → is_better Bid x y ≡ true → (y.price < x.price) ⊎ ((x.price ≡ y.price) × (y.size < x.size))
-bid_better x y p = grind (arith, p)
+no_older : (a b c d : Bool) → (a || (b && (c || (d && false)))) ≡ (a || (b && c))
+no_older true b c d = refl
+no_older false false c d = refl
+no_older false true true d = refl
+no_older false true false true = refl
+no_older false true false false = refl
 
-offer_better : (x y : Best) → is_better Offer x y ≡ true → (x.price < y.price) ⊎ ((x.price ≡ y.price) × (y.size < x.size))
-offer_better x y p = grind (arith, p)
-
--- what is ahead by its price or size of what beats a side beats it, whatever their ages are now
-pub better_beats : (b : Side) (f g : ℕ → ℕ) (x y z : Best) → is_better b x y ≡ true → beats b f y z ≡ true → beats b g x z ≡ true
-better_beats Bid f g x y z p q = bid_beats g x z (elim (bid_better x y p) [
-  | inl h ↦ elim (bid_precedes f y z q) [ inl k ↦ inl (omega (arith, h, k)) | inr k ↦ inl (omega (arith, h, k)) ]
-  | inr h ↦ elim (bid_precedes f y z q) [
-    | inl k ↦ inl (omega (arith, h, k))
-    | inr k ↦ inr (omega (arith, h, k), inl (elim k.1 [ inl n ↦ omega (arith, h, n) | inr n ↦ omega (arith, h, n) ]))
-  ]
-])
-better_beats Offer f g x y z p q = offer_beats g x z (elim (offer_better x y p) [
-  | inl h ↦ elim (offer_precedes f y z q) [ inl k ↦ inl (omega (arith, h, k)) | inr k ↦ inl (omega (arith, h, k)) ]
-  | inr h ↦ elim (offer_precedes f y z q) [
-    | inl k ↦ inl (omega (arith, h, k))
-    | inr k ↦ inr (omega (arith, h, k), inl (elim k.1 [ inl n ↦ omega (arith, h, n) | inr n ↦ omega (arith, h, n) ]))
-  ]
-])
+-- what no other is newer than ranks before it by its price or its size alone
+pub newest_beats : (b : Side) (f : ℕ → ℕ) (x y : Best) → nat_lt (f x.venue) (f y.venue) ≡ false → beats b f x y ≡ is_better b x y
+newest_beats b f x y h =
+    ap (λ t. is_better_price b x.price y.price || (nat_eq x.price y.price && (nat_lt y.size x.size || (nat_eq x.size y.size && t)))) h
+    ∙ no_older (is_better_price b x.price y.price) (nat_eq x.price y.price) (nat_lt y.size x.size) (nat_eq x.size y.size)

@@ -92,7 +92,7 @@ in_pairs b f (x ∷ xs) h zero (suc j) d l m = best_at (λ y. beats b f x y ≡ 
 in_pairs b f (x ∷ xs) h (suc i) (suc j) d l m = in_pairs b f xs h.1 i j d (omega (arith, l)) (omega (arith, m))
 
 -- ranks of the eligible sides by their ages are a ranking
-pub ranking_is : (es : List Entry) (s : List ℕ) (b : Side) (xs : List Best) → IsRankingOf 16 b (eligible_of es s b) (λ v. age_of es v s b) xs → IsRanking es s b xs
+pub ranking_is : (es : List Entry) (s : List ℕ) (b : Side) (xs : List Best) → IsRankingOf b (eligible_of es s b) (λ v. age_of es v s b) xs → IsRanking es s b xs
 ranking_is es s b xs h = record {
   members = λ x. (
     (λ c. (let k = (h.members x).0 (contains_in xs x c.0 c.1 c.2) in eligible_told es s b x k.0 k.1)),

@@ -1,13 +1,13 @@
 -- The side that beats every other one.
-use Rattle.std.proofs.Common.{ℕ, zero, suc, ◌<◌, ◌≤◌, ◌≡◌, ◌+◌, List, [], ◌∷◌, Bool, true, false, refl, ap, sym, ◌∙◌, subst, arith, nat_eq, nat_lt, cond, add-one, Option, Some, None, ◌⊎◌, inl, inr}
-use Rattle.std.specs.Prelude.{◌&&◌, ◌||◌, find, IfSome}
+use Rattle.std.proofs.Common.{ℕ, zero, suc, ◌<◌, ◌≤◌, ◌≡◌, ◌+◌, List, [], ◌∷◌, Bool, true, false, refl, ap, sym, ◌∙◌, subst, arith, nat_eq, cond, add-one, Option, Some, None, ◌⊎◌, inl, inr}
+use Rattle.std.specs.Prelude.{◌&&◌, ◌||◌, find}
 use Rattle.std.specs.List.{filter_map, list_all, cons_option, range_with_len}
 use Rattle.feed_types.specs.declared.national.Best.{Best}
 use Rattle.feed_types.specs.declared.line.Side.{Side}
 use Rattle.nbbo_book.specs.Nationals.{beats, all_venues, beats_others}
-use Rattle.nbbo_book.specs.Ranks.{best_in, better_of}
-use Rattle.nbbo_book.proofs.Beating.{beats_chain, beats_one_way, beats_either, beats_same}
-use Rattle.nbbo_book.proofs.Ranking.{nat_same, nat_apart, nat_split, some_same}
+use Rattle.nbbo_book.specs.Ranks.{front_of, IsRankingOf}
+use Rattle.nbbo_book.proofs.Beating.{beats_chain, beats_one_way, beats_either}
+use Rattle.nbbo_book.proofs.Ranking.{nat_same, nat_refl, nat_apart, nat_split, some_same, in_all}
 use Rattle.nbbo_book.proofs.Said.{and_left, and_right}
 
 -- among the numbers
@@ -72,6 +72,17 @@ none_here p g (w ∷ vs) h = ap (λ o. find p (cons_option o (filter_map g vs)))
 pub or_true : (a : Bool) → (a || true) ≡ true
 or_true true = refl
 or_true false = refl
+
+-- the one that beats every other: `best_of` is this of the eligible sides by their ages
+abbrev pub best_in : Side → (ℕ → ℕ) → (ℕ → Option Best) → Option Best
+best_in side age rank =
+    find (beats_others side age (filter_map rank all_venues)) (filter_map rank all_venues)
+
+-- the one of two that ranks first
+abbrev better_of : Side → (ℕ → ℕ) → Option Best → Option Best → Option Best
+better_of side age best None = best
+better_of side age None (Some x) = Some x
+better_of side age (Some best) (Some x) = cond (beats side age x best) (Some x) (Some best)
 
 -- each is ranked under its own number
 abbrev pub IsOwn : (ℕ → Option Best) → Type 0
@@ -170,38 +181,22 @@ top_is b f g own apart =
     let t = top_any 16 b f g (omega arith) own apart in
     subst (λ (o : Option Best). IsTop (IsBelow 16) b f g o) (sym (top_found b f g t.0 own t.1)) t.1
 
--- the venues from a count on aren't ranked
-pub top_whole : (n m : ℕ) (b : Side) (f : ℕ → ℕ) (g : ℕ → Option Best) (o : Option Best) → n ≤ m → ((w : ℕ) → n ≤ w → g w ≡ None) → IsTop (IsBelow n) b f g o → IsTop (IsBelow m) b f g o
-top_whole n m b f g None few silent h = λ w p.
-    (elim (nat_lt w n) as (λ t. nat_lt w n ≡ t → g w ≡ None) [ true ↦ λ e. h w (grind (arith, e)) | false ↦ λ e. silent w (grind (arith, e)) ]) refl
-top_whole n m b f g (Some x) few silent h = (
-  (let l : x.venue < n = h.0 in omega (arith, l, few)),
-  h.1,
-  λ w y p k d.
-      (elim (nat_lt w n) as (λ t. nat_lt w n ≡ t → beats b f x y ≡ true) [
-        | true ↦ λ e. h.2 w y (grind (arith, e)) k d
-        | false ↦ λ e. (let no : None ≡ Some y = sym (silent w (grind (arith, e))) ∙ k in cc)
-      ]) refl,
-)
-
-top_below : (b : Side) (f : ℕ → ℕ) (g : ℕ → Option Best) (o : Option Best) → IsTop (IsBelow 16) b f g o → IfSome o (λ x. x.venue < 16)
-top_below b f g None t = tt
-top_below b f g (Some x) t = t.0
-
--- the same of venues that are ranked alike, by ages alike
-pub top_same : (P Q : ℕ → Type 0) (b : Side) (f a : ℕ → ℕ) (g h : ℕ → Option Best) (o : Option Best) → ((w : ℕ) → Q w → P w × (g w ≡ h w) × (f w ≡ a w)) → IfSome o (λ x. Q x.venue) → IsOwn h → IsTop P b f g o → IsTop Q b a h o
-top_same P Q b f a g h None alike there own t = λ w q. (let k = alike w q in sym k.1 ∙ t w k.0)
-top_same P Q b f a g h (Some x) alike there own t =
-    let at = alike x.venue there in (
-      there,
-      sym at.1 ∙ t.1,
-      λ w y q e n.
-          let k = alike w q in
-          sym (beats_same b f a x y at.2 (ap f (own w y e) ∙ k.2 ∙ ap a (sym (own w y e)))) ∙ t.2 w y k.0 (k.1 ∙ e) n,
+-- the first of the ranks beats every other one
+front_is_top : (b : Side) (f : ℕ → ℕ) (g : ℕ → Option Best) (xs : List Best) → IsOwn g → IsRankingOf b g f xs → IsTop (IsBelow 16) b f g (front_of xs)
+front_is_top b f g [] own h = λ w l.
+    (elim (g w) as (λ o. g w ≡ o → o ≡ None) [
+      | None ↦ λ e. refl
+      | Some x ↦ λ e. absurd ((h.members x).1 (subst (λ (n : ℕ). n < 16) (sym (own w x e)) l, ap g (own w x e) ∙ e))
+    ]) refl
+front_is_top b f g (x ∷ xs) own h =
+    let first = (h.members x).0 (inl refl) in (
+      first.0,
+      first.1,
+      λ w y l e d. elim ((h.members y).1 (subst (λ (n : ℕ). n < 16) (sym (own w y e)) l, ap g (own w y e) ∙ e)) [
+        | inl same ↦ (let no : true ≡ false = sym (nat_refl x.venue) ∙ ap (λ (n : ℕ). nat_eq n x.venue) (ap (λ (t : Best). t.venue) same ∙ own w y e) ∙ d in cc)
+        | inr k ↦ in_all (λ z. beats b f x z ≡ true) xs h.order.0 y k
+      ],
     )
 
--- the best of venues that are ranked alike, by ages alike
-pub best_same : (b : Side) (f a : ℕ → ℕ) (g h : ℕ → Option Best) → IsOwn g → IsApart f g → IsOwn h → ((w : ℕ) → w < 16 → g w ≡ h w) → ((w : ℕ) → w < 16 → f w ≡ a w) → best_in b f g ≡ best_in b a h
-best_same b f a g h own apart own_too ranks ages =
-    let t = top_is b f g own apart in
-    sym (top_found b a h (best_in b f g) own_too (top_same (IsBelow 16) (IsBelow 16) b f a g h (best_in b f g) (λ w q. (q, ranks w q, ages w q)) (top_below b f g (best_in b f g) t) own_too t))
+pub front_is_best : (b : Side) (f : ℕ → ℕ) (g : ℕ → Option Best) (xs : List Best) → IsOwn g → IsRankingOf b g f xs → front_of xs ≡ best_in b f g
+front_is_best b f g xs own h = sym (top_found b f g (front_of xs) own (front_is_top b f g xs own h))

@@ -13,7 +13,7 @@ use Rattle.nbbo_book.specs.declared.row.Row.{Row}
 use Rattle.nbbo_book.specs.Sides.{shown_by, side_said, side_of, is_same_side, age_of}
 use Rattle.nbbo_book.specs.Eligible.{is_self_helped, halt_said, is_halted}
 use Rattle.nbbo_book.specs.Books.{standing_at, SideFits, RowFits, venue_of}
-use Rattle.nbbo_book.specs.Rows.{standings_shown, row_quoted, row_halted, row_after, row_after_item, helped_after}
+use Rattle.nbbo_book.specs.Rows.{BookSide, may_at, side_at, side_set, side_shown, row_quoted, row_halted, row_after, row_after_item, helped_after}
 use Rattle.nbbo_book.specs.Tables.{IsRow}
 use Rattle.nbbo_book.proofs.Ranking.{nat_refl, nat_split}
 use Rattle.nbbo_book.proofs.Said.{side_of-put, helped-put, halted-put, age-kept, age-new, same_side_sound}
@@ -43,13 +43,14 @@ pub fits_stay : (es : List Entry) (e : Entry) (s : List ℕ) (b : Side) (ss : Li
 fits_stay es e s b ss same h = λ w l. h w l ∙ sym (stands_same es e w s b (same w l))
 
 -- where one venue's side is told
-fits_shown : (es : List Entry) (e : Entry) (v : ℕ) (o : Option Shown) (s : List ℕ) (b : Side) (ss : List Standing) (n : ℕ) → v < 16 → length ss ≡ 16 → n ≡ suc (length es) → ((w : ℕ) → side_said w s b e ≡ cond (nat_eq v w) (Some o) None) → SideFits es s b ss → SideFits (es ++ e ∷ []) s b (standings_shown v o n ss)
-fits_shown es e v o s b ss n below long young says h =
+fits_shown : (es : List Entry) (e : Entry) (v : ℕ) (o : Option Shown) (s : List ℕ) (b : Side) (k : BookSide) (n : ℕ) (may : Bool) → v < 16 → length k.standings ≡ 16 → n ≡ suc (length es) → ((w : ℕ) → side_said w s b e ≡ cond (nat_eq v w) (Some o) None) → SideFits es s b k.standings → SideFits (es ++ e ∷ []) s b (side_shown b v o n may k).standings
+fits_shown es e v o s b k n may below long young says h =
+    let ss : List Standing = k.standings in
     let away : (w : ℕ) → nat_eq w v ≡ false → side_of (es ++ e ∷ []) w s b ≡ side_of es w s b = λ w d. unsaid es e w s b (says w ∙ ap (λ t. cond t (Some o) None) (nat_other w v d)) in
     let now : side_of (es ++ e ∷ []) v s b ≡ o = told es e v s b o (says v ∙ ap (λ t. cond t (Some o) None) (nat_refl v)) in
     let was : (standing_at ss v).shown ≡ side_of es v s b = ap (λ (t : Standing). t.shown) (h v below) in
     let st : Standing = record { shown = o; age = n } in
-    let R : Bool → Type 0 = λ t. is_same_side (standing_at ss v).shown o ≡ t → SideFits (es ++ e ∷ []) s b (cond t ss (set ss v st)) in
+    let R : Bool → Type 0 = λ t. is_same_side (standing_at ss v).shown o ≡ t → SideFits (es ++ e ∷ []) s b (cond t k (side_set b v st may k)).standings in
     (elim (is_same_side (standing_at ss v).shown o) as R [
       | true ↦ λ q. fits_stay es e s b ss (λ w l. nat_split w v (side_of (es ++ e ∷ []) w s b ≡ side_of es w s b)
           (λ same. ap (λ (u : ℕ). side_of (es ++ e ∷ []) u s b) same ∙ now ∙ sym (same_side_sound (standing_at ss v).shown o q) ∙ was ∙ ap (λ (u : ℕ). side_of es u s b) (sym same))
@@ -85,19 +86,19 @@ row_waits es e r sides halts h = record {
   halted = halts_stay es e r.symbol r.halted halts h.halted;
 }
 
-item_fits : (es : List Entry) (v number n c m : ℕ) (i : Item) (helped flags : List Bool) (r : Row) → v < 16 → n ≡ suc (length es) → IsRow flags c m r → RowFits es r → RowFits (es ++ Consumed v (record { number = number; item = i }) ∷ []) (row_after_item helped n v i r)
-item_fits es v number n c m (item.Quote q) helped flags r below young is h =
+item_fits : (es : List Entry) (v number n m : ℕ) (i : Item) (helped flags : List Bool) (r : Row) → v < 16 → n ≡ suc (length es) → IsRow flags m r → RowFits es r → RowFits (es ++ Consumed v (record { number = number; item = i }) ∷ []) (row_after_item helped n v i r)
+item_fits es v number n m (item.Quote q) helped flags r below young is h =
     let e : Entry = Consumed v (record { number = number; item = item.Quote q }) in
     let R : Bool → Type 0 = λ t. bytes_eq q.symbol r.symbol ≡ t → RowFits (es ++ e ∷ []) (cond t (row_quoted helped v q n r) r) in
     (elim (bytes_eq q.symbol r.symbol) as R [
       | true ↦ λ k. record {
-        bids = fits_shown es e v (Some (shown_by q Bid)) r.symbol Bid r.standings.bids n below is.bids.standings.count young (λ w. ap (λ t. cond (nat_eq v w) (cond t (Some (Some (shown_by q Bid))) None) None) k) h.bids;
-        offers = fits_shown es e v (Some (shown_by q Offer)) r.symbol Offer r.standings.offers n below is.offers.standings.count young (λ w. ap (λ t. cond (nat_eq v w) (cond t (Some (Some (shown_by q Offer))) None) None) k) h.offers;
+        bids = fits_shown es e v (Some (shown_by q Bid)) r.symbol Bid (side_at Bid r) n (may_at helped r.halted v) below is.bids.count young (λ w. ap (λ t. cond (nat_eq v w) (cond t (Some (Some (shown_by q Bid))) None) None) k) h.bids;
+        offers = fits_shown es e v (Some (shown_by q Offer)) r.symbol Offer (side_at Offer r) n (may_at helped r.halted v) below is.offers.count young (λ w. ap (λ t. cond (nat_eq v w) (cond t (Some (Some (shown_by q Offer))) None) None) k) h.offers;
         halted = halts_stay es e r.symbol r.halted (λ w. cond_same (nat_eq v w) None) h.halted;
       }
       | false ↦ λ k. row_waits es e r (λ w b. ap (λ t. cond (nat_eq v w) (cond t (Some (Some (shown_by q b))) None) None) k ∙ cond_same (nat_eq v w) None) (λ w. cond_same (nat_eq v w) None) h
     ]) refl
-item_fits es v number n c m (item.Halt s x) helped flags r below young is h =
+item_fits es v number n m (item.Halt s x) helped flags r below young is h =
     let e : Entry = Consumed v (record { number = number; item = item.Halt s x }) in
     let R : Bool → Type 0 = λ t. bytes_eq s r.symbol ≡ t → RowFits (es ++ e ∷ []) (cond t (row_halted helped v x r) r) in
     (elim (bytes_eq s r.symbol) as R [
@@ -108,20 +109,20 @@ item_fits es v number n c m (item.Halt s x) helped flags r below young is h =
       }
       | false ↦ λ k. row_waits es e r (λ w b. cond_same (nat_eq v w) None) (λ w. ap (λ t. cond (nat_eq v w) (cond t (Some x) None) None) k ∙ cond_same (nat_eq v w) None) h
     ]) refl
-item_fits es v number n c m item.Other helped flags r below young is h =
+item_fits es v number n m item.Other helped flags r below young is h =
     row_waits es (Consumed v (record { number = number; item = item.Other })) r (λ w b. cond_same (nat_eq v w) None) (λ w. cond_same (nat_eq v w) None) h
-item_fits es v number n c m item.End helped flags r below young is h =
+item_fits es v number n m item.End helped flags r below young is h =
     let e : Entry = Consumed v (record { number = number; item = item.End }) in
     record {
-      bids = fits_shown es e v None r.symbol Bid r.standings.bids n below is.bids.standings.count young (λ w. refl) h.bids;
-      offers = fits_shown es e v None r.symbol Offer r.standings.offers n below is.offers.standings.count young (λ w. refl) h.offers;
+      bids = fits_shown es e v None r.symbol Bid (side_at Bid r) n false below is.bids.count young (λ w. refl) h.bids;
+      offers = fits_shown es e v None r.symbol Offer (side_at Offer r) n false below is.offers.count young (λ w. refl) h.offers;
       halted = halts_set es e v false r.symbol r.halted below is.count (λ w. refl) h.halted;
     }
 
 -- a symbol, after one more entry
-pub row_fits : (es : List Entry) (e : Entry) (n c m : ℕ) (helped flags : List Bool) (r : Row) → venue_of e < 16 → n ≡ suc (length es) → IsRow flags c m r → RowFits es r → RowFits (es ++ e ∷ []) (row_after helped n e r)
-row_fits es (Consumed v x) n c m helped flags r below young is h = item_fits es v x.number n c m x.item helped flags r below young is h
-row_fits es (SelfHelp v on) n c m helped flags r below young is h = record {
+pub row_fits : (es : List Entry) (e : Entry) (n m : ℕ) (helped flags : List Bool) (r : Row) → venue_of e < 16 → n ≡ suc (length es) → IsRow flags m r → RowFits es r → RowFits (es ++ e ∷ []) (row_after helped n e r)
+row_fits es (Consumed v x) n m helped flags r below young is h = item_fits es v x.number n m x.item helped flags r below young is h
+row_fits es (SelfHelp v on) n m helped flags r below young is h = record {
   bids = fits_stay es (SelfHelp v on) r.symbol Bid r.standings.bids (λ w l. unsaid es (SelfHelp v on) w r.symbol Bid refl) h.bids;
   offers = fits_stay es (SelfHelp v on) r.symbol Offer r.standings.offers (λ w l. unsaid es (SelfHelp v on) w r.symbol Offer refl) h.offers;
   halted = halts_stay es (SelfHelp v on) r.symbol r.halted (λ w. refl) h.halted;

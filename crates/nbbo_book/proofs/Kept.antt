@@ -1,26 +1,19 @@
 -- What a book keeps of a side, after a venue's standing was set or its leave to be ranked changed.
-use Rattle.std.proofs.Common.{ℕ, zero, suc, ◌<◌, ◌≤◌, ◌≡◌, ◌+◌, List, [], ◌∷◌, Bool, true, false, not, refl, ap, sym, ◌∙◌, subst, arith, length, cond, nat_eq, nat_lt, Option, Some, None, set, get_or}
+use Rattle.std.proofs.Common.{ℕ, zero, suc, ◌<◌, ◌≤◌, ◌≡◌, ◌+◌, List, [], ◌∷◌, Bool, true, false, refl, ap, sym, ◌∙◌, subst, arith, length, cond, nat_eq, nat_lt, Option, Some, None, set, get_or}
 use Rattle.std.proofs.lemmas.List.{get_or_past}
-use Rattle.std.specs.Prelude.{◌&&◌, IsSome, IfSome, is_some}
-use Rattle.feed_types.specs.declared.journal.Entry.TheVariants.{SelfHelp}
+use Rattle.std.specs.Prelude.{◌&&◌, IsSome, is_some, ◌≢◌}
 use Rattle.feed_types.specs.declared.line.Side.{Side}
-use Rattle.feed_types.specs.declared.line.Side.TheVariants.{Bid, Offer}
 use Rattle.feed_types.specs.declared.national.Best.{Best}
 use Rattle.nbbo_book.specs.declared.shown.Shown.{Shown}
 use Rattle.nbbo_book.specs.declared.shown.Standing.{Standing}
-use Rattle.nbbo_book.specs.declared.standings.Standings.{Standings}
-use Rattle.nbbo_book.specs.declared.row.Row.{Row}
 use Rattle.nbbo_book.specs.Sides.{is_same_side}
 use Rattle.nbbo_book.specs.Eligible.{ranked_by, is_protected}
 use Rattle.nbbo_book.specs.Books.{standing_at}
-use Rattle.nbbo_book.specs.Changes.{is_same_best}
-use Rattle.nbbo_book.specs.Ranks.{better_of, is_better, is_improved, is_of}
-use Rattle.nbbo_book.specs.Rows.{BookSide, age_at, may_at, rank_at, best_at, standings_shown}
-use Rattle.nbbo_book.specs.Standings.{standings_on, with_standings}
-use Rattle.nbbo_book.specs.Tables.{IsStandings, IsNewest, IsSide, IsSideBut, IsStale, IsRowBut, IsBefore}
-use Rattle.nbbo_book.proofs.Beating.{better_beats}
-use Rattle.nbbo_book.proofs.Ranking.{nat_apart, nat_same, nat_split, some_same}
-use Rattle.nbbo_book.proofs.Firsts.{IsOwn, IsApart, IsTop, IsBelow, top_found, top_joined, top_more, top_whole, top_is, top_same, best_same}
+use Rattle.nbbo_book.specs.Ranks.{InRank, IsIn, IsNewest, without, placed, IsRankingOf}
+use Rattle.nbbo_book.specs.Rows.{BookSide, age_at, rank_at, side_set, side_shown, side_gated, IsPast, IsRanked}
+use Rattle.nbbo_book.specs.Tables.{IsSide}
+use Rattle.nbbo_book.proofs.Said.{and_left}
+use Rattle.nbbo_book.proofs.Ranking.{nat_split, some_same, ranking_same, ranking_set, ranking_room, without_none, without_nobody, InRank-ages, InRank-without, all_from_in, in_all}
 
 pub set_at : {X : Type 0} (xs : List X) (i : ℕ) (x d : X) → i < length xs → get_or (set xs i x) i d ≡ x
 set_at [] i x d h = absurd (omega (arith, h))
@@ -66,40 +59,48 @@ standing_set xs v st h = set_at xs v st _ h
 pub standing_off : (xs : List Standing) (v w : ℕ) (st : Standing) → nat_eq w v ≡ false → standing_at (set xs v st) w ≡ standing_at xs w
 standing_off xs v w st h = set_off xs v w st _ (apart_from v w h)
 
--- what venues with these standings are ranked with
-pub rank_own : (may : ℕ → Bool) (ss : List Standing) → IsOwn (rank_at may ss)
-rank_own may ss = λ w x e. ranked_own (may w) w (standing_at ss w).shown x e
+-- what a venue is ranked with is what it shows
+pub ranked_as : (m : Bool) (v : ℕ) (o : Option Shown) (x : Best) → ranked_by m v o ≡ Some x → o ≡ Some (record { price = x.price; size = x.size; automated = true })
+ranked_as false v o x e = cc
+ranked_as true v None x e = cc
+ranked_as true v (Some shown) x e =
+    (elim (is_protected shown) as (λ t. is_protected shown ≡ t → cond t (Some (record { venue = v; price = shown.price; size = shown.size })) None ≡ Some x → Some shown ≡ Some (record { price = x.price; size = x.size; automated = true })) [
+      | true ↦ λ p k.
+          let same : record { venue = v; price = shown.price; size = shown.size } ≡ x = some_same k in
+          ap (λ t. Some (record { price = shown.price; size = shown.size; automated = t })) (and_left shown.automated (nat_lt 0 shown.price && nat_lt 0 shown.size) p)
+          ∙ ap (λ (t : Best). Some (record { price = t.price; size = t.size; automated = true })) same
+      | false ↦ λ p k. cc
+    ]) refl e
 
-pub rank_apart : (may : ℕ → Bool) (n : ℕ) (ss : List Standing) → IsStandings n ss → IsApart (age_at ss) (rank_at may ss)
-rank_apart may n ss h = λ v w x y a c d gv gw same. h.apart v w a c (apart_from v w (nat_apart v w d)) (ranked_shown (may v) v (standing_at ss v).shown x gv) (ranked_shown (may w) w (standing_at ss w).shown y gw) same
+-- what code asks of a side
+pub side_is_ranked : (b : Side) (may : ℕ → Bool) (n : ℕ) (k : BookSide) → IsSide b may n k → IsRanked b k
+side_is_ranked b may n k h = record {
+  count = h.count;
+  order = h.ranked.order;
+  shown = λ x i. ranked_as (may x.venue) x.venue (standing_at k.standings x.venue).shown x ((h.ranked.members x).0 i).1;
+  once = λ v. without_none b (age_at k.standings) (rank_at may k.standings) v k.ranks (λ x i. ((h.ranked.members x).0 i).1) h.ranked.order;
+  room = λ v l. ranking_room b (rank_at may k.standings) (age_at k.standings) v k.ranks l h.ranked;
+}
 
-pub rank_silent : (may : ℕ → Bool) (n : ℕ) (ss : List Standing) → IsStandings n ss → (w : ℕ) → n ≤ w → rank_at may ss w ≡ None
-rank_silent may n ss h w l = ap (ranked_by (may w) w) (h.silent w l) ∙ ranked_nothing (may w) w
+-- a venue that shows nothing isn't ranked
+not_ranked : (b : Side) (k : BookSide) (v : ℕ) → IsRanked b k → (standing_at k.standings v).shown ≡ None → (x : Best) → IsIn k.ranks x → nat_eq x.venue v ≡ false
+not_ranked b k v h none x i = nat_split x.venue v (nat_eq x.venue v ≡ false)
+    (λ q. (let no : None ≡ Some (record { price = x.price; size = x.size; automated = true }) = sym none ∙ ap (λ (w : ℕ). (standing_at k.standings w).shown) (sym q) ∙ h.shown x i in cc))
+    (λ d. d)
 
--- a venue's standing is another one, of an age of its own
-pub standings_set : (n : ℕ) (ss : List Standing) (v : ℕ) (st : Standing) → v < n → (IsSome st.shown → (w : ℕ) → w < 16 → st.age ≡ age_at ss w → ⊥) → IsStandings n ss → IsStandings n (set ss v st)
-standings_set n ss v st below own_age h =
-    let under : v < length ss = (let few = h.few in omega (arith, below, few, h.count)) in
-    let at : (w : ℕ) → w ≡ v → standing_at (set ss v st) w ≡ st = λ w e. ap (standing_at (set ss v st)) e ∙ standing_set ss v st under in
-    let off : (w : ℕ) → nat_eq w v ≡ false → standing_at (set ss v st) w ≡ standing_at ss w = λ w e. standing_off ss v w st e in
-    let shown : (w : ℕ) (s : Standing) → standing_at (set ss v st) w ≡ s → IsSome (standing_at (set ss v st) w).shown → IsSome s.shown = λ w s e there. sym (ap (λ (t : Standing). is_some t.shown) e) ∙ there in
-    let age : (w : ℕ) (s : Standing) → standing_at (set ss v st) w ≡ s → age_at (set ss v st) w ≡ s.age = λ w s e. ap (λ (t : Standing). t.age) e in
-    record {
-      count = long_set ss v st ∙ h.count;
-      few = h.few;
-      apart = λ u w a c differ there too same_age.
-          nat_split u v ⊥
-          (λ eu. nat_split w v ⊥ (λ ew. differ (eu ∙ sym ew))
-          (λ nw. own_age (shown u st (at u eu) there) w c (sym (age u st (at u eu)) ∙ same_age ∙ age w (standing_at ss w) (off w nw))))
-          (λ nu. nat_split w v ⊥
-          (λ ew. own_age (shown w st (at w ew) too) u a (sym (age w st (at w ew)) ∙ sym same_age ∙ age u (standing_at ss u) (off u nu)))
-          (λ nw. h.apart u w a c differ (shown u (standing_at ss u) (off u nu) there) (shown w (standing_at ss w) (off w nw) too) (sym (age u (standing_at ss u) (off u nu)) ∙ same_age ∙ age w (standing_at ss w) (off w nw))));
-      silent = λ w l. ap (λ (t : Standing). t.shown) (off w (grind (arith, l, below))) ∙ h.silent w l;
-    }
+pub absent_stays : (b : Side) (k : BookSide) (v : ℕ) → IsRanked b k → (standing_at k.standings v).shown ≡ None → without v k.ranks ≡ k.ranks
+absent_stays b k v h none = without_nobody v k.ranks (not_ranked b k v h none)
 
-abbrev pub IsPast : ℕ → List Standing → Type 0
-IsPast next ss = (w : ℕ) → w < 16 → age_at ss w < next
+-- the others are in order, also by ages of which the venue's is another one
+pub others_in_order : (b : Side) (k : BookSide) (v : ℕ) → IsRanked b k → InRank b (age_at k.standings) (without v k.ranks)
+others_in_order b k v h = InRank-without b (age_at k.standings) v k.ranks h.order
 
+pub others_stay : (b : Side) (k : BookSide) (v : ℕ) (st : Standing) → IsRanked b k → InRank b (age_at (set k.standings v st)) (without v k.ranks)
+others_stay b k v st h = InRank-ages b (age_at k.standings) (age_at (set k.standings v st)) (without v k.ranks)
+    (λ x i. ap (λ (t : Standing). t.age) (sym (set_off k.standings v x.venue st _ (apart_from v x.venue (in_all (λ y. nat_eq y.venue v ≡ false) (without v k.ranks) (h.once v) x i)))))
+    (others_in_order b k v h)
+
+-- none of them is newer than a side that is of the next entry
 age_at_most : (next : ℕ) (ss : List Standing) (w : ℕ) → IsPast next ss → length ss ≡ 16 → age_at ss w ≤ next
 age_at_most next ss w past count =
     (elim (nat_lt w 16) as (λ t. nat_lt w 16 ≡ t → age_at ss w ≤ next) [
@@ -107,202 +108,101 @@ age_at_most next ss w past count =
       | false ↦ λ e. subst (λ (t : Standing). t.age ≤ next) (sym (get_or_past ss w _ (grind (arith, e, count)))) (omega arith)
     ]) refl
 
--- as of an entry that comes after all of them
-pub standings_shown-are : (n next : ℕ) (ss : List Standing) (v : ℕ) (o : Option Shown) → v < n → IsPast next ss → IsStandings n ss → IsStandings n (set ss v (record { shown = o; age = next }))
-standings_shown-are n next ss v o below past h =
-    standings_set n ss v (record { shown = o; age = next }) below (λ there w c same. (let p = past w c in omega (arith, p, same))) h
-
--- and no standing is younger then
-pub shown_newest : (n next : ℕ) (ss : List Standing) (v : ℕ) (o : Option Shown) → v < n → IsPast next ss → IsStandings n ss → IsNewest v (set ss v (record { shown = o; age = next }))
-shown_newest n next ss v o below past h w =
-    let st : Standing = record { shown = o; age = next } in
-    let under : v < length ss = (let few = h.few in omega (arith, below, few, h.count)) in
-    let own : age_at (set ss v st) v ≡ next = ap (λ (t : Standing). t.age) (standing_set ss v st under) in
-    let at_most : age_at (set ss v st) w ≤ next =
-    nat_split w v (age_at (set ss v st) w ≤ next)
-    (λ e. subst (λ (k : ℕ). age_at (set ss v st) k ≤ next) (sym e) (omega (arith, own)))
-    (λ d. subst (λ (k : ℕ). k ≤ next) (sym (ap (λ (t : Standing). t.age) (standing_off ss v w st d))) (age_at_most next ss w past h.count)) in
-    grind (arith, own, at_most)
-
-pub standings_hidden-are : (n age : ℕ) (ss : List Standing) (v : ℕ) → v < n → IsStandings n ss → IsStandings n (set ss v (record { shown = None; age = age }))
-standings_hidden-are n age ss v below h =
-    standings_set n ss v (record { shown = None; age = age }) below (λ there w c same. (let no : false ≡ true = there in cc)) h
-
--- after one more entry
-pub standings_after : (n next : ℕ) (ss : List Standing) (v : ℕ) (o : Option Shown) → v < n → IsPast next ss → IsStandings n ss → IsStandings n (standings_shown v o next ss) × IsPast (next + 1) (standings_shown v o next ss)
-standings_after n next ss v o below past h =
-    let st : Standing = record { shown = o; age = next } in
-    let under : v < length ss = (let few = h.few in omega (arith, below, few, h.count)) in
-    elim (is_same_side (standing_at ss v).shown o) as (λ t. IsStandings n (cond t ss (set ss v st)) × IsPast (next + 1) (cond t ss (set ss v st))) [
-      | true ↦ (h, λ w c. (let p = past w c in omega (arith, p)))
-      | false ↦ (
-        standings_shown-are n next ss v o below past h,
-        λ w c. nat_split w v (age_at (set ss v st) w < next + 1)
-            (λ e. subst (λ (k : ℕ). k < next + 1) (sym (ap (λ (t : Standing). t.age) (ap (standing_at (set ss v st)) e ∙ standing_set ss v st under))) (omega arith))
-            (λ d. subst (λ (k : ℕ). k < next + 1) (sym (ap (λ (t : Standing). t.age) (standing_off ss v w st d))) (let p = past w c in omega (arith, p))),
-      )
-    ]
-
--- more entries, of which none concerns the side
-pub side_waits : (b : Side) (may : ℕ → Bool) (c n : ℕ) (k : BookSide) → IsSide b may c n k → IsSide b may c (n + 1) k
-side_waits b may c n k h = record { standings = h.standings; past = λ w l. (let p = h.past w l in omega (arith, p)); best = h.best }
-
--- all venues but one
-abbrev Others : ℕ → ℕ → Type 0
-Others v w = (w < 16) × (nat_eq w v ≡ false)
-
-another : (b : Side) (f : ℕ → ℕ) (g : ℕ → Option Best) (v : ℕ) (o : Option Best) → IsTop (IsBelow 16) b f g o → IfSome o (λ c. nat_eq c.venue v ≡ false) → IfSome o (λ c. Others v c.venue)
-another b f g v None t h = tt
-another b f g v (Some c) t h = (t.0, h)
-
--- what the best was that a side still has
-stale_top : (b : Side) (may : ℕ → Bool) (n v : ℕ) (k : BookSide) (h : IsStale b may n v k) → IsTop (IsBelow 16) b (age_at h.was.standings) (rank_at h.before.leave h.was.standings) k.best
-stale_top b may n v k h =
-    subst (λ (o : Option Best). IsTop (IsBelow 16) b (age_at h.was.standings) (rank_at h.before.leave h.was.standings) o) (sym (h.best ∙ h.before.best))
-    (top_is b (age_at h.was.standings) (rank_at h.before.leave h.was.standings) (rank_own h.before.leave h.was.standings) (rank_apart h.before.leave n h.was.standings h.before.standings))
-
-stale_rank : (b : Side) (may : ℕ → Bool) (n v : ℕ) (k : BookSide) (h : IsStale b may n v k) (w : ℕ) → nat_eq w v ≡ false → rank_at h.before.leave h.was.standings w ≡ rank_at may k.standings w
-stale_rank b may n v k h w d =
-    ap (λ t. ranked_by t w (standing_at h.was.standings w).shown) (sym (h.before.others w d))
-    ∙ ap (λ (t : Standing). ranked_by (may w) w t.shown) (sym (h.others w d))
-
--- where the best was another venue's, or there was none
-pub best_of_two : (b : Side) (may : ℕ → Bool) (n v : ℕ) (k : BookSide) → IsStale b may n v k → IfSome k.best (λ c. nat_eq c.venue v ≡ false) → better_of b (age_at k.standings) k.best (rank_at may k.standings v) ≡ best_at b may k.standings
-best_of_two b may n v k h differs =
-    let f = age_at k.standings in
-    let g = rank_at may k.standings in
-    let own : IsOwn g = rank_own may k.standings in
-    let t = stale_top b may n v k h in
-    let others : IsTop (Others v) b f g k.best = top_same (IsBelow 16) (Others v) b (age_at h.was.standings) f (rank_at h.before.leave h.was.standings) g k.best
-    (λ w q. (q.0, stale_rank b may n v k h w q.1, ap (λ (s : Standing). s.age) (sym (h.others w q.1))))
-    (another b (age_at h.was.standings) (rank_at h.before.leave h.was.standings) v k.best t differs) own t in
-    sym (top_found b f g (better_of b f k.best (g v)) own
-    (top_joined (Others v) (IsBelow 16) b f g v k.best (λ w q d. (q, d)) (λ w p. p) (λ w q. q)
-    (let l = h.before.below in let few = h.standings.few in omega (arith, l, few))
-    own (rank_apart may n k.standings h.standings) others))
-
--- where it was the venue's own, which is ahead of it now by its price or size
-pub best_is_own : (b : Side) (may : ℕ → Bool) (n v : ℕ) (k : BookSide) (c x : Best) → IsStale b may n v k → k.best ≡ Some c → c.venue ≡ v → rank_at may k.standings v ≡ Some x → is_better b x c ≡ true → Some x ≡ best_at b may k.standings
-best_is_own b may n v k c x h was own here better =
-    let f = age_at k.standings in
-    let g = rank_at may k.standings in
-    let t : IsTop (IsBelow 16) b (age_at h.was.standings) (rank_at h.before.leave h.was.standings) (Some c) = subst (λ (o : Option Best). IsTop (IsBelow 16) b (age_at h.was.standings) (rank_at h.before.leave h.was.standings) o) was (stale_top b may n v k h) in
-    let at : x.venue ≡ v = rank_own may k.standings v x here in
-    sym (top_found b f g (Some x) (rank_own may k.standings) (
-      subst (λ (m : ℕ). m < 16) (sym at) (let l = h.before.below in let few = h.standings.few in omega (arith, l, few)),
-      ap g at ∙ here,
-      λ w y q e d.
-          let off : nat_eq w v ≡ false = subst (λ (m : ℕ). nat_eq w m ≡ false) at d in
-          better_beats b (age_at h.was.standings) f x c y better (t.2 w y q (stale_rank b may n v k h w off ∙ e) (subst (λ (m : ℕ). nat_eq w m ≡ false) (sym own) off)),
-    ))
-
-pub improved_is_best : (b : Side) (may : ℕ → Bool) (n v : ℕ) (k : BookSide) (o r : Option Best) → IsStale b may n v k → k.best ≡ o → is_of v o ≡ true → rank_at may k.standings v ≡ r → is_improved b o r ≡ true → r ≡ best_at b may k.standings
-improved_is_best b may n v k None r h was own here better = cc
-improved_is_best b may n v k (Some c) None h was own here better = cc
-improved_is_best b may n v k (Some c) (Some x) h was own here better = best_is_own b may n v k c x h was (nat_same c.venue v own) here better
-
-improved_bid : (x y : Best) → is_better Bid x y ≡ true → is_same_best (Some y) (Some x) ≡ false
-improved_bid x y p = grind (arith, p)
-
-improved_offer : (x y : Best) → is_better Offer x y ≡ true → is_same_best (Some y) (Some x) ≡ false
-improved_offer x y p = grind (arith, p)
-
--- what is ahead by its price or size is another one
-pub improved_moves : (b : Side) (o r : Option Best) → is_improved b o r ≡ true → is_same_best o r ≡ false
-improved_moves b None r p = cc
-improved_moves b (Some y) None p = cc
-improved_moves Bid (Some y) (Some x) p = improved_bid x y p
-improved_moves Offer (Some y) (Some x) p = improved_offer x y p
-
--- the best is another venue's, or there is none
-pub best_of_another : (v : ℕ) (o : Option Best) → is_of v o ≡ false → IfSome o (λ c. nat_eq c.venue v ≡ false)
-best_of_another v None p = tt
-best_of_another v (Some c) p = p
-
-pub rank_of_another : (v : ℕ) (o r : Option Best) → is_of v o ≡ false → ((x : Best) → r ≡ Some x → x.venue ≡ v) → IfSome r (λ x. is_of x.venue o ≡ false)
-rank_of_another v o None p own = tt
-rank_of_another v o (Some x) p own = subst (λ (w : ℕ). is_of w o ≡ false) (sym (own x refl)) p
-
-pub rank_newest : (v : ℕ) (ss : List Standing) (r : Option Best) → IsNewest v ss → ((x : Best) → r ≡ Some x → x.venue ≡ v) → IfSome r (λ x. IsNewest x.venue ss)
-rank_newest v ss None h own = tt
-rank_newest v ss (Some x) h own = subst (λ (w : ℕ). IsNewest w ss) (sym (own x refl)) h
-
-first_of_none : (b : Side) (f : ℕ → ℕ) (r : Option Best) → better_of b f None r ≡ r
-first_of_none b f None = refl
-first_of_none b f (Some x) = refl
-
--- of one venue alone
-pub best_alone : (b : Side) (may : ℕ → Bool) (ss : List Standing) (v : ℕ) → v < 1 → IsStandings 1 ss → rank_at may ss v ≡ best_at b may ss
-best_alone b may ss v below h =
-    let f = age_at ss in
-    let g = rank_at may ss in
-    let own : IsOwn g = rank_own may ss in
-    let first : v ≡ 0 = omega (arith, below) in
-    ap g first
-    ∙ sym (top_found b f g (g 0) own (top_whole 1 16 b f g (g 0) (omega arith) (rank_silent may 1 ss h)
-    (subst (λ (o : Option Best). IsTop (IsBelow 1) b f g o) (first_of_none b f (g 0))
-    (top_more 0 b f g None (omega arith) own (rank_apart may 1 ss h) (λ w p. absurd (omega (arith, p)))))))
-
--- a side before one venue's leave, or its standing, was another
-pub but_itself : (b : Side) (may : ℕ → Bool) (n next v : ℕ) (k : BookSide) → v < n → IsSide b may n next k → IsSideBut b may n v k
-but_itself b may n next v k below h = record { leave = may; others = λ w d. refl; standings = h.standings; best = h.best; below = below }
-
-pub stale_gated : (b : Side) (may : ℕ → Bool) (n v : ℕ) (k : BookSide) → IsSideBut b may n v k → IsStale b may n v k
-stale_gated b may n v k h = record { was = k; before = h; best = refl; others = λ w d. refl; standings = h.standings }
-
-pub stale_set : (b : Side) (may : ℕ → Bool) (n v : ℕ) (k : BookSide) (st : Standing) → IsSideBut b may n v k → IsStandings n (set k.standings v st) → IsStale b may n v (record { best = k.best; standings = set k.standings v st })
-stale_set b may n v k st h standings = record { was = k; before = h; best = refl; others = λ w d. standing_off k.standings v w st d; standings = standings }
-
--- one side's standings, after they were set
-pub standings_now : (b : Side) (ss : List Standing) (old new : Standings) → new ≡ with_standings b ss old → standings_on b new ≡ ss
-standings_now Bid ss old new is = ap (standings_on Bid) is
-standings_now Offer ss old new is = ap (standings_on Offer) is
+pub others_older : (b : Side) (k : BookSide) (v : ℕ) (x : Best) (st : Standing) → v < 16 → x.venue ≡ v → IsPast st.age k.standings → IsRanked b k → IsNewest (age_at (set k.standings v st)) x (without v k.ranks)
+others_older b k v x st below at past h =
+    let ss = set k.standings v st in
+    let own : age_at ss x.venue ≡ st.age = ap (age_at ss) at ∙ ap (λ (t : Standing). t.age) (standing_set k.standings v st (omega (arith, below, h.count))) in
+    all_from_in (λ y. nat_lt (age_at ss x.venue) (age_at ss y.venue) ≡ false) (without v k.ranks) (λ y i.
+    let other : nat_eq y.venue v ≡ false = in_all (λ z. nat_eq z.venue v ≡ false) (without v k.ranks) (h.once v) y i in
+    let its : age_at ss y.venue ≤ st.age = subst (λ (n : ℕ). n ≤ st.age) (sym (ap (λ (t : Standing). t.age) (standing_off k.standings v y.venue st other))) (age_at_most st.age k.standings y.venue past h.count) in
+    grind (arith, own, its))
 
 -- leave to rank changes nothing where the venue shows nothing
-pub gated_absent : (b : Side) (may : ℕ → Bool) (n v : ℕ) (k : BookSide) → IsSideBut b may n v k → (standing_at k.standings v).shown ≡ None → k.best ≡ best_at b may k.standings
-gated_absent b may n v k h none =
-    h.best
-    ∙ best_same b (age_at k.standings) (age_at k.standings) (rank_at h.leave k.standings) (rank_at may k.standings)
-    (rank_own h.leave k.standings) (rank_apart h.leave n k.standings h.standings) (rank_own may k.standings)
-    (λ w l. nat_split w v (rank_at h.leave k.standings w ≡ rank_at may k.standings w)
-    (λ e. subst (λ (u : ℕ). rank_at h.leave k.standings u ≡ rank_at may k.standings u) (sym e)
-    (ap (ranked_by (h.leave v) v) none ∙ ranked_nothing (h.leave v) v ∙ sym (ranked_nothing (may v) v) ∙ ap (ranked_by (may v) v) (sym none)))
-    (λ d. ap (λ t. ranked_by t w (standing_at k.standings w).shown) (sym (h.others w d))))
-    (λ w l. refl)
+pub gated_absent : (b : Side) (k : BookSide) (v : ℕ) (may : Bool) → IsRanked b k → (standing_at k.standings v).shown ≡ None → (side_gated b v may k).ranks ≡ k.ranks
+gated_absent b k v may h none =
+    ap (λ o. placed b (age_at k.standings) o (without v k.ranks)) (ap (ranked_by may v) none ∙ ranked_nothing may v)
+    ∙ absent_stays b k v h none
 
-pub hidden_absent : (b : Side) (may : ℕ → Bool) (n v age : ℕ) (k : BookSide) → IsSideBut b may n v k → (standing_at k.standings v).shown ≡ None → k.best ≡ best_at b may (standings_shown v None age k.standings)
-hidden_absent b may n v age k h none =
-    gated_absent b may n v k h none
-    ∙ ap (λ o. best_at b may (cond (is_same_side o None) k.standings (set k.standings v (record { shown = None; age = age })))) (sym none)
-
--- where a venue shows what it did already
-pub shown_same : (b : Side) (may : ℕ → Bool) (n next v : ℕ) (o : Option Shown) (k : BookSide) → IsSide b may n next k → is_same_side (standing_at k.standings v).shown o ≡ true → k.best ≡ best_at b may (standings_shown v o next k.standings)
-shown_same b may n next v o k h same = h.best ∙ ap (λ t. best_at b may (cond t k.standings (set k.standings v (record { shown = o; age = next })))) (sym same)
-
--- a symbol before one venue's halt and self-help were others
-pub but_halted : (b : Side) (helped was halted : List Bool) (v : ℕ) (x : Bool) (n next : ℕ) (k : BookSide) → ((w : ℕ) → nat_eq w v ≡ false → get_or helped w false ≡ get_or was w false) → v < n → IsSide b (may_at was halted) n next k → IsSideBut b (may_at helped (set halted v x)) n v k
-but_halted b helped was halted v x n next k others below h = record {
-  leave = may_at was halted;
-  others = λ w d. ap (λ t. not t && not (get_or (set halted v x) w false)) (others w d) ∙ ap (λ t. not (get_or was w false) && not t) (set_off halted v w x false (apart_from v w d));
-  standings = h.standings;
-  best = h.best;
-  below = below;
+-- more entries, of which none concerns the side
+pub side_waits : (b : Side) (may more : ℕ → Bool) (n m : ℕ) (k : BookSide) → n ≤ m → ((w : ℕ) → w < 16 → rank_at may k.standings w ≡ rank_at more k.standings w) → IsSide b may n k → IsSide b more m k
+side_waits b may more n m k l same h = record {
+  count = h.count;
+  past = λ v u. (let p = h.past v u in omega (arith, p, l));
+  apart = h.apart;
+  ranked = ranking_same b (rank_at may k.standings) (rank_at more k.standings) (age_at k.standings) (age_at k.standings) k.ranks same (λ w u. refl) h.ranked;
 }
 
-pub but_helped : (b : Side) (helped was halted : List Bool) (v n next : ℕ) (k : BookSide) → ((w : ℕ) → nat_eq w v ≡ false → get_or helped w false ≡ get_or was w false) → v < n → IsSide b (may_at was halted) n next k → IsSideBut b (may_at helped halted) n v k
-but_helped b helped was halted v n next k others below h = record {
-  leave = may_at was halted;
-  others = λ w d. ap (λ t. not t && not (get_or halted w false)) (others w d);
-  standings = h.standings;
-  best = h.best;
-  below = below;
-}
+-- a venue's standing is another one, of an age of its own
+pub side_set-is : (b : Side) (may more : ℕ → Bool) (n m : ℕ) (k : BookSide) (v : ℕ) (st : Standing) (here : Bool) → v < 16 → n ≤ m → st.age < m → (IsSome st.shown → (w : ℕ) → w < 16 → nat_eq w v ≡ false → IsSome (standing_at k.standings w).shown → st.age ≡ age_at k.standings w → ⊥) → ((w : ℕ) → nat_eq w v ≡ false → more w ≡ may w) → ranked_by (more v) v st.shown ≡ ranked_by here v st.shown → IsSide b may n k → IsSide b more m (side_set b v st here k)
+side_set-is b may more n m k v st here below l young own_age same leave h =
+    let under : v < length k.standings = omega (arith, below, h.count) in
+    let ss = set k.standings v st in
+    let at : standing_at ss v ≡ st = standing_set k.standings v st under in
+    let off : (w : ℕ) → nat_eq w v ≡ false → standing_at ss w ≡ standing_at k.standings w = λ w e. standing_off k.standings v w st e in
+    let apart : (u w : ℕ) → u < 16 → w < 16 → u ≢ w → IsSome (standing_at ss u).shown → IsSome (standing_at ss w).shown → age_at ss u ≢ age_at ss w = λ u w a c differ there too same_age.
+    nat_split u v ⊥
+    (λ eu. nat_split w v ⊥ (λ ew. differ (eu ∙ sym ew))
+    (λ nw. own_age
+    (sym (ap (λ (t : Standing). is_some t.shown) (ap (standing_at ss) eu ∙ at)) ∙ there)
+    w c nw
+    (sym (ap (λ (t : Standing). is_some t.shown) (off w nw)) ∙ too)
+    (sym (ap (λ (t : Standing). t.age) (ap (standing_at ss) eu ∙ at)) ∙ same_age ∙ ap (λ (t : Standing). t.age) (off w nw))))
+    (λ nu. nat_split w v ⊥
+    (λ ew. own_age
+    (sym (ap (λ (t : Standing). is_some t.shown) (ap (standing_at ss) ew ∙ at)) ∙ too)
+    u a nu
+    (sym (ap (λ (t : Standing). is_some t.shown) (off u nu)) ∙ there)
+    (sym (ap (λ (t : Standing). t.age) (ap (standing_at ss) ew ∙ at)) ∙ sym same_age ∙ ap (λ (t : Standing). t.age) (off u nu)))
+    (λ nw. h.apart u w a c differ
+    (sym (ap (λ (t : Standing). is_some t.shown) (off u nu)) ∙ there)
+    (sym (ap (λ (t : Standing). is_some t.shown) (off w nw)) ∙ too)
+    (sym (ap (λ (t : Standing). t.age) (off u nu)) ∙ same_age ∙ ap (λ (t : Standing). t.age) (off w nw)))) in
+    let ranked : IsRankingOf b (rank_at more ss) (age_at ss) (placed b (age_at ss) (rank_at more ss v) (without v k.ranks)) =
+    ranking_set b (rank_at may k.standings) (rank_at more ss) (age_at k.standings) (age_at ss) v k.ranks below
+    (λ w x e. ranked_own (more w) w (standing_at ss w).shown x e)
+    (λ w e. ap (λ (t : Standing). ranked_by (more w) w t.shown) (off w e) ∙ ap (λ t. ranked_by t w (standing_at k.standings w).shown) (same w e))
+    (λ w e. ap (λ (t : Standing). t.age) (off w e))
+    (λ w x y c e gw gv same_age. apart v w below c (λ q. apart_from v w e q) (ranked_shown (more v) v (standing_at ss v).shown x gv) (ranked_shown (more w) w (standing_at ss w).shown y gw) same_age)
+    h.ranked in
+    let rank : rank_at more ss v ≡ ranked_by here v st.shown = ap (λ (t : Standing). ranked_by (more v) v t.shown) at ∙ leave in
+    record {
+      count = long_set k.standings v st ∙ h.count;
+      past = λ w c. nat_split w v (age_at ss w < m)
+          (λ e. subst (λ (t : ℕ). t < m) (sym (ap (λ (t : Standing). t.age) (ap (standing_at ss) e ∙ at))) young)
+          (λ e. (let p = h.past w c in subst (λ (t : ℕ). t < m) (sym (ap (λ (t : Standing). t.age) (off w e))) (omega (arith, p, l))));
+      apart = apart;
+      ranked = subst (λ (o : Option Best). IsRankingOf b (rank_at more ss) (age_at ss) (placed b (age_at ss) o (without v k.ranks))) rank ranked;
+    }
 
-pub helped_row : (v : ℕ) (on : Bool) (helped : List Bool) (n next : ℕ) (r : Row) → IsBefore (SelfHelp v on) helped n next r → IsRowBut helped n v r
-helped_row v on helped n next r h = record {
-  was = h.was;
-  others = λ w d. ap (λ (t : List Bool). get_or t w false) h.flags ∙ set_off h.was v w on false (apart_from v w d);
-  next = next;
-  kept = h.kept;
-  below = h.below;
-}
+-- a venue may be ranked, or may not, from now on
+pub side_gated-is : (b : Side) (may more : ℕ → Bool) (n m : ℕ) (k : BookSide) (v : ℕ) (here : Bool) → v < 16 → n ≤ m → ((w : ℕ) → nat_eq w v ≡ false → more w ≡ may w) → more v ≡ here → IsSide b may n k → IsSide b more m (side_gated b v here k)
+side_gated-is b may more n m k v here below l same leave h =
+    let ss = k.standings in
+    let ranked : IsRankingOf b (rank_at more ss) (age_at ss) (placed b (age_at ss) (rank_at more ss v) (without v k.ranks)) =
+    ranking_set b (rank_at may ss) (rank_at more ss) (age_at ss) (age_at ss) v k.ranks below
+    (λ w x e. ranked_own (more w) w (standing_at ss w).shown x e)
+    (λ w e. ap (λ t. ranked_by t w (standing_at ss w).shown) (same w e))
+    (λ w e. refl)
+    (λ w x y c e gw gv same_age. h.apart v w below c (λ q. apart_from v w e q) (ranked_shown (more v) v (standing_at ss v).shown x gv) (ranked_shown (more w) w (standing_at ss w).shown y gw) same_age)
+    h.ranked in
+    record {
+      count = h.count;
+      past = λ v u. (let p = h.past v u in omega (arith, p, l));
+      apart = h.apart;
+      ranked = subst (λ t. IsRankingOf b (rank_at more ss) (age_at ss) (placed b (age_at ss) (ranked_by t v (standing_at ss v).shown) (without v k.ranks))) leave ranked;
+    }
+
+-- a venue shows this, or nothing, from now on; where that is new, its age is later than all
+pub side_shown-is : (b : Side) (may more : ℕ → Bool) (n : ℕ) (k : BookSide) (v : ℕ) (o : Option Shown) (here : Bool) → v < 16 → ((w : ℕ) → nat_eq w v ≡ false → more w ≡ may w) → ranked_by (more v) v o ≡ ranked_by here v o → ranked_by (may v) v o ≡ ranked_by (more v) v o → (is_same_side (standing_at k.standings v).shown o ≡ true → (standing_at k.standings v).shown ≡ o) → IsSide b may n k → IsSide b more (n + 1) (side_shown b v o n here k)
+side_shown-is b may more n k v o here below same leave alike sound h =
+    let st : Standing = record { shown = o; age = n } in
+    let R : Bool → Type 0 = λ t. is_same_side (standing_at k.standings v).shown o ≡ t → IsSide b more (n + 1) (cond t k (side_set b v st here k)) in
+    (elim (is_same_side (standing_at k.standings v).shown o) as R [
+      | true ↦ λ e. side_waits b may more n (n + 1) k (omega arith)
+          (λ w c. nat_split w v (rank_at may k.standings w ≡ rank_at more k.standings w)
+          (λ q. subst (λ (u : ℕ). rank_at may k.standings u ≡ rank_at more k.standings u) (sym q) (ap (ranked_by (may v) v) (sound e) ∙ alike ∙ ap (ranked_by (more v) v) (sym (sound e))))
+          (λ d. ap (λ t. ranked_by t w (standing_at k.standings w).shown) (sym (same w d)))) h
+      | false ↦ λ e. side_set-is b may more n (n + 1) k v st here below (omega arith) (omega arith)
+          (λ there w c d too same_age. (let p = h.past w c in omega (arith, p, same_age)))
+          same leave h
+    ]) refl

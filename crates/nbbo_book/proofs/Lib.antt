@@ -1,6 +1,7 @@
-pub mod Contending
 pub mod Beating
 pub mod Ranking
+pub mod Moving
+pub mod Fronts
 pub mod Said
 pub mod Kept
 pub mod Firsts

@@ -1,5 +1,5 @@
 -- The rows of a book, after one more entry.
-use Rattle.std.proofs.Common.{ℕ, zero, suc, ◌<◌, ◌≤◌, ◌≡◌, ◌+◌, List, [], ◌∷◌, ◌++◌, Bool, true, false, not, refl, ap, sym, ◌∙◌, arith, length, map, take, drop, nat_eq, cond, Option, Some, None, set, get_or, append_assoc}
+use Rattle.std.proofs.Common.{ℕ, zero, suc, ◌<◌, ◌≡◌, ◌+◌, List, [], ◌∷◌, ◌++◌, Bool, true, false, not, refl, ap, sym, ◌∙◌, arith, length, map, take, drop, nat_eq, cond, Option, Some, None, set, get_or, append_assoc}
 use Rattle.std.specs.Prelude.{◌&&◌, position, slice_index_or}
 use Rattle.std.specs.List.{AllByRecursion, IsDistinct, filter_map, cons_option}
 use Rattle.std.specs.Option.{option_to_list}
@@ -13,7 +13,6 @@ use Rattle.feed_types.specs.declared.item.Item.TheVariants as item
 use Rattle.feed_types.specs.declared.item.Numbered.{Numbered}
 use Rattle.feed_types.specs.declared.line.Side.{Side}
 use Rattle.feed_types.specs.declared.line.Side.TheVariants.{Bid, Offer}
-use Rattle.feed_types.specs.declared.national.Best.{Best}
 use Rattle.feed_types.specs.declared.national.National.{National}
 use Rattle.nbbo_book.specs.declared.shown.Standing.{Standing}
 use Rattle.nbbo_book.specs.Rows.{BookSide, side_at}
@@ -24,62 +23,80 @@ use Rattle.nbbo_book.specs.Eligible.{ranked_by, may_rank, is_self_helped, eligib
 use Rattle.nbbo_book.specs.Nationals.{national_of, best_of}
 use Rattle.nbbo_book.specs.Changes.{is_same_best, is_same_national, change_of, changes_by}
 use Rattle.nbbo_book.specs.Books.{standing_at, SideFits, RowFits, venue_of}
-use Rattle.nbbo_book.specs.Rows.{age_at, may_at, rank_at, standings_shown, row_with, row_quoted, row_halted, row_after, row_after_item, row_change, national_at, helped_after, symbol_in, symbol_in_item}
-use Rattle.nbbo_book.specs.Tables.{IsStandings, IsSide, IsRow, IsBefore, symbols_of}
-use Rattle.nbbo_book.proofs.Ranking.{nat_refl}
-use Rattle.nbbo_book.proofs.Kept.{IsPast, long_set, ranked_own, rank_own, rank_apart, side_waits, standings_after}
-use Rattle.nbbo_book.proofs.Firsts.{best_same}
+use Rattle.nbbo_book.specs.Ranks.{front_of, IsRankingOf}
+use Rattle.nbbo_book.specs.Rows.{age_at, may_at, rank_at, row_quoted, row_gated, row_halted, row_after, row_after_item, row_change, national_at, helped_after, symbol_in, symbol_in_item, IsRowRanked}
+use Rattle.nbbo_book.specs.Tables.{IsSide, IsRow, symbols_of}
+use Rattle.nbbo_book.proofs.Ranking.{ranking_same}
+use Rattle.nbbo_book.proofs.Kept.{long_set, set_off, apart_from, ranked_own, ranked_nothing, side_is_ranked, side_waits, side_gated-is, side_shown-is}
+use Rattle.nbbo_book.proofs.Said.{same_side_sound}
+use Rattle.nbbo_book.proofs.Firsts.{front_is_best}
 use Rattle.nbbo_book.proofs.Fitting.{row_fits, helped_fits}
+use Rattle.nbbo_book.proofs.Fronts.{same_best_refl}
 use Rattle.nbbo_book.proofs.Words.{apart_at, missed_all, place_is}
 
-row_waits : (helped : List Bool) (c n : ℕ) (r : Row) → IsRow helped c n r → IsRow helped c (n + 1) r
-row_waits helped c n r h = record {
-  bids = side_waits Bid (may_at helped r.halted) c n (side_at Bid r) h.bids;
-  offers = side_waits Offer (may_at helped r.halted) c n (side_at Offer r) h.offers;
+row_waits : (helped : List Bool) (n : ℕ) (r : Row) → IsRow helped n r → IsRow helped (n + 1) r
+row_waits helped n r h = record {
+  bids = side_waits Bid (may_at helped r.halted) (may_at helped r.halted) n (n + 1) (side_at Bid r) (omega arith) (λ w l. refl) h.bids;
+  offers = side_waits Offer (may_at helped r.halted) (may_at helped r.halted) n (n + 1) (side_at Offer r) (omega arith) (λ w l. refl) h.offers;
   count = h.count;
 }
 
--- a symbol with halts and standings that every book keeps
-row_with-is : (helped : List Bool) (s : List ℕ) (halted : List Bool) (c n : ℕ) (bids offers : List Standing) → length halted ≡ 16 → IsStandings c bids × IsPast n bids → IsStandings c offers × IsPast n offers → IsRow helped c n (row_with helped s halted bids offers)
-row_with-is helped s halted c n bids offers long b o = record {
-  bids = record { standings = b.0; past = b.1; best = refl };
-  offers = record { standings = o.0; past = o.1; best = refl };
+-- one venue's halt, or its self-help, is another one
+row_gated-is : (helped flags : List Bool) (n v : ℕ) (halted : List Bool) (r : Row) → v < 16 → length halted ≡ 16 → ((w : ℕ) → nat_eq w v ≡ false → may_at flags halted w ≡ may_at helped r.halted w) → IsRow helped n r → IsRow flags (n + 1) (row_gated flags v halted r)
+row_gated-is helped flags n v halted r below long others h = record {
+  bids = side_gated-is Bid (may_at helped r.halted) (may_at flags halted) n (n + 1) (side_at Bid r) v (may_at flags halted v) below (omega arith) others refl h.bids;
+  offers = side_gated-is Offer (may_at helped r.halted) (may_at flags halted) n (n + 1) (side_at Offer r) v (may_at flags halted v) below (omega arith) others refl h.offers;
   count = long;
 }
 
-kept_on : (b : Side) (may : ℕ → Bool) (c n : ℕ) (k : BookSide) → IsSide b may c n k → IsStandings c k.standings × IsPast (n + 1) k.standings
-kept_on b may c n k h = (h.standings, (side_waits b may c n k h).past)
-
-item_is : (helped : List Bool) (c n v : ℕ) (i : Item) (r : Row) → v < c → IsRow helped c n r → IsRow helped c (n + 1) (row_after_item helped n v i r)
-item_is helped c n v (item.Quote q) r below h =
-    elim (bytes_eq q.symbol r.symbol) as (λ t. IsRow helped c (n + 1) (cond t (row_quoted helped v q n r) r)) [
-      | true ↦ row_with-is helped r.symbol r.halted c (n + 1) (standings_shown v (Some (shown_by q Bid)) n r.standings.bids) (standings_shown v (Some (shown_by q Offer)) n r.standings.offers) h.count
-          (standings_after c n r.standings.bids v (Some (shown_by q Bid)) below h.bids.past h.bids.standings)
-          (standings_after c n r.standings.offers v (Some (shown_by q Offer)) below h.offers.past h.offers.standings)
-      | false ↦ row_waits helped c n r h
+item_is : (helped : List Bool) (n v : ℕ) (i : Item) (r : Row) → v < 16 → IsRow helped n r → IsRow helped (n + 1) (row_after_item helped n v i r)
+item_is helped n v (item.Quote q) r below h =
+    let may = may_at helped r.halted in
+    let R : Bool → Type 0 = λ t. IsRow helped (n + 1) (cond t (row_quoted helped v q n r) r) in
+    elim (bytes_eq q.symbol r.symbol) as R [
+      | true ↦ record {
+        bids = side_shown-is Bid may may n (side_at Bid r) v (Some (shown_by q Bid)) (may v) below (λ w e. refl) refl refl (same_side_sound (standing_at r.standings.bids v).shown (Some (shown_by q Bid))) h.bids;
+        offers = side_shown-is Offer may may n (side_at Offer r) v (Some (shown_by q Offer)) (may v) below (λ w e. refl) refl refl (same_side_sound (standing_at r.standings.offers v).shown (Some (shown_by q Offer))) h.offers;
+        count = h.count;
+      }
+      | false ↦ row_waits helped n r h
     ]
-item_is helped c n v (item.Halt s x) r below h =
-    elim (bytes_eq s r.symbol) as (λ t. IsRow helped c (n + 1) (cond t (row_halted helped v x r) r)) [
-      | true ↦ row_with-is helped r.symbol (set r.halted v x) c (n + 1) r.standings.bids r.standings.offers (long_set r.halted v x ∙ h.count)
-          (kept_on Bid (may_at helped r.halted) c n (side_at Bid r) h.bids) (kept_on Offer (may_at helped r.halted) c n (side_at Offer r) h.offers)
-      | false ↦ row_waits helped c n r h
+item_is helped n v (item.Halt s x) r below h =
+    let R : Bool → Type 0 = λ t. IsRow helped (n + 1) (cond t (row_halted helped v x r) r) in
+    elim (bytes_eq s r.symbol) as R [
+      | true ↦ row_gated-is helped helped n v (set r.halted v x) r below (long_set r.halted v x ∙ h.count)
+          (λ w e. ap (λ t. not (slice_index_or helped w false) && not t) (set_off r.halted v w x false (apart_from v w e))) h
+      | false ↦ row_waits helped n r h
     ]
-item_is helped c n v item.Other r below h = row_waits helped c n r h
-item_is helped c n v item.End r below h =
-    row_with-is helped r.symbol (set r.halted v false) c (n + 1) (standings_shown v None n r.standings.bids) (standings_shown v None n r.standings.offers) (long_set r.halted v false ∙ h.count)
-    (standings_after c n r.standings.bids v None below h.bids.past h.bids.standings)
-    (standings_after c n r.standings.offers v None below h.offers.past h.offers.standings)
+item_is helped n v item.Other r below h = row_waits helped n r h
+item_is helped n v item.End r below h =
+    let may = may_at helped r.halted in
+    let more = may_at helped (set r.halted v false) in
+    let others : (w : ℕ) → nat_eq w v ≡ false → more w ≡ may w = λ w e. ap (λ t. not (slice_index_or helped w false) && not t) (set_off r.halted v w false false (apart_from v w e)) in
+    record {
+      bids = side_shown-is Bid may more n (side_at Bid r) v None false below others (ranked_nothing (more v) v) (ranked_nothing (may v) v ∙ sym (ranked_nothing (more v) v)) (same_side_sound (standing_at r.standings.bids v).shown None) h.bids;
+      offers = side_shown-is Offer may more n (side_at Offer r) v None false below others (ranked_nothing (more v) v) (ranked_nothing (may v) v ∙ sym (ranked_nothing (more v) v)) (same_side_sound (standing_at r.standings.offers v).shown None) h.offers;
+      count = long_set r.halted v false ∙ h.count;
+    }
 
 -- what every book keeps of a symbol, after one more entry
-pub row_is : (helped : List Bool) (c n : ℕ) (e : Entry) (r : Row) → venue_of e < c → IsRow helped c n r → IsRow (helped_after e helped) c (n + 1) (row_after (helped_after e helped) n e r)
-row_is helped c n (Consumed v x) r below h = item_is helped c n v x.item r below h
-row_is helped c n (SelfHelp v on) r below h =
-    row_with-is (set helped v on) r.symbol r.halted c (n + 1) r.standings.bids r.standings.offers h.count
-    (kept_on Bid (may_at helped r.halted) c n (side_at Bid r) h.bids) (kept_on Offer (may_at helped r.halted) c n (side_at Offer r) h.offers)
+pub row_is : (helped : List Bool) (n : ℕ) (e : Entry) (r : Row) → venue_of e < 16 → IsRow helped n r → IsRow (helped_after e helped) (n + 1) (row_after (helped_after e helped) n e r)
+row_is helped n (Consumed v x) r below h = item_is helped n v x.item r below h
+row_is helped n (SelfHelp v on) r below h =
+    row_gated-is helped (set helped v on) n v r.halted r below h.count
+    (λ w e. ap (λ t. not t && not (slice_index_or r.halted w false)) (set_off helped v w on false (apart_from v w e))) h
 
-pub rows_before : (e : Entry) (helped flags : List Bool) (c n : ℕ) (rs : List Row) → flags ≡ helped_after e helped → venue_of e < c → AllByRecursion (IsRow helped c n) rs → AllByRecursion (IsBefore e flags c n) rs
-rows_before e helped flags c n [] is below h = tt
-rows_before e helped flags c n (r ∷ rs) is below h = (record { was = helped; flags = is; kept = h.0; below = below }, rows_before e helped flags c n rs is below h.1)
+row_is_ranked : (helped : List Bool) (n : ℕ) (r : Row) → IsRow helped n r → IsRowRanked n r
+row_is_ranked helped n r h = record {
+  bids = side_is_ranked Bid (may_at helped r.halted) n (side_at Bid r) h.bids;
+  offers = side_is_ranked Offer (may_at helped r.halted) n (side_at Offer r) h.offers;
+  past_bids = h.bids.past;
+  past_offers = h.offers.past;
+}
+
+pub rows_are_ranked : (helped : List Bool) (n : ℕ) (rs : List Row) → AllByRecursion (IsRow helped n) rs → AllByRecursion (IsRowRanked n) rs
+rows_are_ranked helped n [] h = tt
+rows_are_ranked helped n (r ∷ rs) h = (row_is_ranked helped n r h.0, rows_are_ranked helped n rs h.1)
 
 item_keeps_symbol : (helped : List Bool) (n v : ℕ) (i : Item) (r : Row) → (row_after_item helped n v i r).symbol ≡ r.symbol
 item_keeps_symbol helped n v (item.Quote q) r = elim (bytes_eq q.symbol r.symbol) as (λ t. (cond t (row_quoted helped v q n r) r).symbol ≡ r.symbol) [ true ↦ refl | false ↦ refl ]
@@ -95,56 +112,51 @@ pub rows_keep_symbols : (helped : List Bool) (n : ℕ) (e : Entry) (rs : List Ro
 rows_keep_symbols helped n e [] = refl
 rows_keep_symbols helped n e (r ∷ rs) = ap (λ s. s ∷ symbols_of (map (row_after helped n e) rs)) (row_keeps_symbol helped n e r) ∙ ap (λ ss. r.symbol ∷ ss) (rows_keep_symbols helped n e rs)
 
--- what a side's venues are ranked with is what is eligible
-pub rank_is : (es : List Entry) (s : List ℕ) (b : Side) (may : ℕ → Bool) (ss : List Standing) → ((w : ℕ) → w < 16 → may w ≡ may_rank es w s) → SideFits es s b ss → (w : ℕ) → w < 16 → rank_at may ss w ≡ eligible_of es s b w
-rank_is es s b may ss leave fits w l =
-    ap (λ t. ranked_by t w (standing_at ss w).shown) (leave w l) ∙ ap (λ (t : Standing). ranked_by (may_rank es w s) w t.shown) (fits w l)
-
--- a side's best is that of the entries
-best_is : (es : List Entry) (s : List ℕ) (b : Side) (may : ℕ → Bool) (c n : ℕ) (k : BookSide) → ((w : ℕ) → w < 16 → may w ≡ may_rank es w s) → SideFits es s b k.standings → IsSide b may c n k → k.best ≡ best_of es s b
-best_is es s b may c n k leave fits h =
-    h.best
-    ∙ best_same b (age_at k.standings) (λ w. age_of es w s b) (rank_at may k.standings) (eligible_of es s b)
-    (rank_own may k.standings) (rank_apart may c k.standings h.standings) (λ w x e. ranked_own (may_rank es w s) w (side_of es w s b) x e)
-    (rank_is es s b may k.standings leave fits)
+-- a side's ranks are those of the entries
+pub side_ranking : (es : List Entry) (s : List ℕ) (b : Side) (may : ℕ → Bool) (n : ℕ) (k : BookSide) → ((w : ℕ) → w < 16 → may w ≡ may_rank es w s) → SideFits es s b k.standings → IsSide b may n k → IsRankingOf b (eligible_of es s b) (λ w. age_of es w s b) k.ranks
+side_ranking es s b may n k leave fits h =
+    ranking_same b (rank_at may k.standings) (eligible_of es s b) (age_at k.standings) (λ w. age_of es w s b) k.ranks
+    (λ w l. ap (λ t. ranked_by t w (standing_at k.standings w).shown) (leave w l) ∙ ap (λ (t : Standing). ranked_by (may_rank es w s) w t.shown) (fits w l))
     (λ w l. ap (λ (t : Standing). t.age) (fits w l))
+    h.ranked
+
+-- and the first of them is the best of the entries
+best_is : (es : List Entry) (s : List ℕ) (b : Side) (may : ℕ → Bool) (n : ℕ) (k : BookSide) → ((w : ℕ) → w < 16 → may w ≡ may_rank es w s) → SideFits es s b k.standings → IsSide b may n k → front_of k.ranks ≡ best_of es s b
+best_is es s b may n k leave fits h =
+    front_is_best b (λ w. age_of es w s b) (eligible_of es s b) k.ranks
+    (λ w x e. ranked_own (may_rank es w s) w (side_of es w s b) x e) (side_ranking es s b may n k leave fits h)
 
 pub may_is : (es : List Entry) (helped : List Bool) (r : Row) → ((w : ℕ) → w < 16 → slice_index_or helped w false ≡ is_self_helped es w) → RowFits es r → (w : ℕ) → w < 16 → may_at helped r.halted w ≡ may_rank es w r.symbol
 may_is es helped r flags fits w l = ap (λ t. not t && not (slice_index_or r.halted w false)) (flags w l) ∙ ap (λ t. not (is_self_helped es w) && not t) (fits.halted w l)
 
-pub national_is : (es : List Entry) (helped : List Bool) (c n : ℕ) (r : Row) → ((w : ℕ) → w < 16 → slice_index_or helped w false ≡ is_self_helped es w) → IsRow helped c n r → RowFits es r → national_at r ≡ national_of es r.symbol
-national_is es helped c n r flags h fits =
-    ap (λ t. record { bid = t; offer = r.offer }) (best_is es r.symbol Bid (may_at helped r.halted) c n (side_at Bid r) (may_is es helped r flags fits) fits.bids h.bids)
-    ∙ ap (λ t. record { bid = best_of es r.symbol Bid; offer = t }) (best_is es r.symbol Offer (may_at helped r.halted) c n (side_at Offer r) (may_is es helped r flags fits) fits.offers h.offers)
+pub national_is : (es : List Entry) (helped : List Bool) (n : ℕ) (r : Row) → ((w : ℕ) → w < 16 → slice_index_or helped w false ≡ is_self_helped es w) → IsRow helped n r → RowFits es r → national_at r ≡ national_of es r.symbol
+national_is es helped n r flags h fits =
+    ap (λ t. record { bid = t; offer = front_of r.offers.items }) (best_is es r.symbol Bid (may_at helped r.halted) n (side_at Bid r) (may_is es helped r flags fits) fits.bids h.bids)
+    ∙ ap (λ t. record { bid = best_of es r.symbol Bid; offer = t }) (best_is es r.symbol Offer (may_at helped r.halted) n (side_at Offer r) (may_is es helped r flags fits) fits.offers h.offers)
 
 -- the rows, after one more entry
-pub rows_are : (helped : List Bool) (c n : ℕ) (e : Entry) (rs : List Row) → venue_of e < c → AllByRecursion (IsRow helped c n) rs → AllByRecursion (IsRow (helped_after e helped) c (n + 1)) (map (row_after (helped_after e helped) n e) rs)
-rows_are helped c n e [] below h = tt
-rows_are helped c n e (r ∷ rs) below h = (row_is helped c n e r below h.0, rows_are helped c n e rs below h.1)
+pub rows_are : (helped : List Bool) (n : ℕ) (e : Entry) (rs : List Row) → venue_of e < 16 → AllByRecursion (IsRow helped n) rs → AllByRecursion (IsRow (helped_after e helped) (n + 1)) (map (row_after (helped_after e helped) n e) rs)
+rows_are helped n e [] below h = tt
+rows_are helped n e (r ∷ rs) below h = (row_is helped n e r below h.0, rows_are helped n e rs below h.1)
 
-pub rows_fit : (es : List Entry) (e : Entry) (helped flags : List Bool) (n c m : ℕ) (rs : List Row) → venue_of e < 16 → n ≡ suc (length es) → AllByRecursion (IsRow flags c m) rs → AllByRecursion (RowFits es) rs → AllByRecursion (RowFits (es ++ e ∷ [])) (map (row_after helped n e) rs)
-rows_fit es e helped flags n c m [] below young h fits = tt
-rows_fit es e helped flags n c m (r ∷ rs) below young h fits = (row_fits es e n c m helped flags r below young h.0 fits.0, rows_fit es e helped flags n c m rs below young h.1 fits.1)
+pub rows_fit : (es : List Entry) (e : Entry) (helped flags : List Bool) (n m : ℕ) (rs : List Row) → venue_of e < 16 → n ≡ suc (length es) → AllByRecursion (IsRow flags m) rs → AllByRecursion (RowFits es) rs → AllByRecursion (RowFits (es ++ e ∷ [])) (map (row_after helped n e) rs)
+rows_fit es e helped flags n m [] below young h fits = tt
+rows_fit es e helped flags n m (r ∷ rs) below young h fits = (row_fits es e n m helped flags r below young h.0 fits.0, rows_fit es e helped flags n m rs below young h.1 fits.1)
 
 -- the changes, too, are those of the entries
-pub changes_are : (es : List Entry) (e : Entry) (p : ℕ) (helped : List Bool) (c n : ℕ) (rs : List Row) → venue_of e < c → c ≤ 16 → length helped ≡ 16 → n ≡ suc (length es) → ((w : ℕ) → w < 16 → slice_index_or helped w false ≡ is_self_helped es w) → AllByRecursion (IsRow helped c n) rs → AllByRecursion (RowFits es) rs → filter_map (row_change (helped_after e helped) n p e) rs ≡ changes_by (symbols_of rs) es p e
-changes_are es e p helped c n [] below few long young flags h fits = refl
-changes_are es e p helped c n (r ∷ rs) below few long young flags h fits =
+pub changes_are : (es : List Entry) (e : Entry) (p : ℕ) (helped : List Bool) (n : ℕ) (rs : List Row) → venue_of e < 16 → length helped ≡ 16 → n ≡ suc (length es) → ((w : ℕ) → w < 16 → slice_index_or helped w false ≡ is_self_helped es w) → AllByRecursion (IsRow helped n) rs → AllByRecursion (RowFits es) rs → filter_map (row_change (helped_after e helped) n p e) rs ≡ changes_by (symbols_of rs) es p e
+changes_are es e p helped n [] below long young flags h fits = refl
+changes_are es e p helped n (r ∷ rs) below long young flags h fits =
     let next = row_after (helped_after e helped) n e r in
-    let under : venue_of e < 16 = omega (arith, below, few) in
     let rest : List Change = filter_map (row_change (helped_after e helped) n p e) rs in
     let new : national_at next ≡ national_of (es ++ e ∷ []) r.symbol =
-    national_is (es ++ e ∷ []) (helped_after e helped) c (n + 1) next (helped_fits es e helped long under flags) (row_is helped c n e r below h.0) (row_fits es e n c n (helped_after e helped) helped r under young h.0 fits.0)
+    national_is (es ++ e ∷ []) (helped_after e helped) (n + 1) next (helped_fits es e helped long below flags) (row_is helped n e r below h.0) (row_fits es e n n (helped_after e helped) helped r below young h.0 fits.0)
     ∙ ap (national_of (es ++ e ∷ [])) (row_keeps_symbol (helped_after e helped) n e r) in
-    ap (λ t. cons_option (change_of p r.symbol t (national_at next)) rest) (national_is es helped c n r flags h.0 fits.0)
+    ap (λ t. cons_option (change_of p r.symbol t (national_at next)) rest) (national_is es helped n r flags h.0 fits.0)
     ∙ ap (λ t. cons_option (change_of p r.symbol (national_of es r.symbol) t) rest) new
-    ∙ ap (cons_option (change_of p r.symbol (national_of es r.symbol) (national_of (es ++ e ∷ []) r.symbol))) (changes_are es e p helped c n rs below few long young flags h.1 fits.1)
+    ∙ ap (cons_option (change_of p r.symbol (national_of es r.symbol) (national_of (es ++ e ∷ []) r.symbol))) (changes_are es e p helped n rs below long young flags h.1 fits.1)
 
 -- no change where nothing changed
-pub same_best_refl : (o : Option Best) → is_same_best o o ≡ true
-same_best_refl None = refl
-same_best_refl (Some x) = ap (λ t. t && ((nat_eq x.price x.price) && (nat_eq x.size x.size))) (nat_refl x.venue) ∙ ap (λ t. t && (nat_eq x.size x.size)) (nat_refl x.price) ∙ nat_refl x.size
-
 pub same_national_refl : (x : National) → is_same_national x x ≡ true
 same_national_refl x = ap (λ t. t && is_same_best x.offer x.offer) (same_best_refl x.bid) ∙ same_best_refl x.offer
 

@@ -7,23 +7,18 @@ use Rattle.feed_types.specs.declared.journal.Entry.{Entry}
 use Rattle.feed_types.specs.declared.journal.Entry.TheVariants.{Consumed, SelfHelp}
 use Rattle.feed_types.specs.declared.line.Side.{Side}
 use Rattle.feed_types.specs.declared.line.Side.TheVariants.{Bid, Offer}
-use Rattle.feed_types.specs.declared.national.Best.{Best}
 use Rattle.nbbo_book.specs.declared.shown.Standing.{Standing}
 use Rattle.nbbo_book.specs.declared.row.Row.{Row}
-use Rattle.nbbo_book.specs.Eligible.{ranked_by, may_rank, is_self_helped, eligible_of}
-use Rattle.nbbo_book.specs.Sides.{age_of}
+use Rattle.nbbo_book.specs.Eligible.{ranked_by, is_self_helped}
 use Rattle.nbbo_book.specs.Nationals.{national_of, IsRanking}
 use Rattle.nbbo_book.specs.Changes.{changes_by}
-use Rattle.nbbo_book.specs.Books.{BookState, standing_at, SideFits, RowFits, Fits, venue_of}
-use Rattle.nbbo_book.specs.Ranks.{IsRankingOf}
-use Rattle.nbbo_book.specs.Rows.{age_at, may_at, rank_at, side_at, row_after, row_change, national_at, helped_after, empty_standings, empty_row}
-use Rattle.nbbo_book.specs.Tables.{IsStandings, IsSide, IsRow, IsBook, IsTable, symbols_of}
-use Rattle.nbbo_book.proofs.Ranking.{ranking_same}
-use Rattle.nbbo_book.proofs.Firsts.{top_found}
+use Rattle.nbbo_book.specs.Books.{BookState, standing_at, RowFits, Fits, venue_of}
+use Rattle.nbbo_book.specs.Rows.{may_at, ranks_at, side_at, row_after, row_change, national_at, helped_after, empty_standings, empty_row}
+use Rattle.nbbo_book.specs.Tables.{IsSide, IsRow, IsBook, IsTable, symbols_of}
 use Rattle.nbbo_book.proofs.Eligibility.{ranking_is}
-use Rattle.nbbo_book.proofs.Kept.{ranked_nothing, rank_own, long_set}
+use Rattle.nbbo_book.proofs.Kept.{ranked_nothing, long_set}
 use Rattle.nbbo_book.proofs.Fitting.{helped_fits}
-use Rattle.nbbo_book.proofs.Stepping.{rows_are, rows_fit, rows_keep_symbols, changes_are, national_is, rank_is, may_is, found_symbol, all_rows_at}
+use Rattle.nbbo_book.proofs.Stepping.{rows_are, rows_fit, rows_keep_symbols, changes_are, national_is, side_ranking, may_is, found_symbol, all_rows_at}
 
 abbrev pub book_after : ℕ → Entry → BookState → BookState
 book_after last e b =
@@ -47,7 +42,7 @@ after_is keys b e last below rising h = record {
   venues = h.venues;
   applied = (let a = h.applied in omega (arith, a, rising));
   count = helped_long e b.helped ∙ h.count;
-  rows = rows_are b.helped b.venues (b.applied + 1) e b.rows below h.rows;
+  rows = (let few = h.venues in rows_are b.helped (b.applied + 1) e b.rows (omega (arith, below, few)) h.rows);
 }
 
 pub after_fits : (keys : List ℕ) (b : BookState) (e : Entry) (last : ℕ) (es : List Entry) → venue_of e < b.venues → IsBook keys b → Fits b es → Fits (book_after last e b) (es ++ e ∷ [])
@@ -57,45 +52,31 @@ after_fits keys b e last es below h fits =
     record {
       applied = young ∙ (let l = length-append es (e ∷ []) in omega (arith, l));
       helped = helped_fits es e b.helped h.count under fits.helped;
-      rows = rows_fit es e (helped_after e b.helped) b.helped (b.applied + 1) b.venues (b.applied + 1) b.rows under young h.rows fits.rows;
+      rows = rows_fit es e (helped_after e b.helped) b.helped (b.applied + 1) (b.applied + 1) b.rows under young h.rows fits.rows;
     }
 
 pub after_changes : (keys : List ℕ) (b : BookState) (e : Entry) (p : ℕ) (es : List Entry) → venue_of e < b.venues → IsBook keys b → Fits b es → filter_map (row_change (helped_after e b.helped) (b.applied + 1) p e) b.rows ≡ changes_by b.symbols es p e
 after_changes keys b e p es below h fits =
-    changes_are es e p b.helped b.venues (b.applied + 1) b.rows below h.venues h.count (let a = fits.applied in omega (arith, a)) fits.helped h.rows fits.rows
+    changes_are es e p b.helped (b.applied + 1) b.rows (let few = h.venues in omega (arith, below, few)) h.count (let a = fits.applied in omega (arith, a)) fits.helped h.rows fits.rows
     ∙ ap (λ ss. changes_by ss es p e) (sym h.symbols)
 
 -- the row at the place that a symbol was found
 pub national_found : (keys : List ℕ) (b : BookState) (es : List Entry) (s : List ℕ) (i : ℕ) (d : Row) → IsBook keys b → Fits b es → position (bytes_eq s) (symbols_of b.rows) ≡ Some i → national_at (get_or b.rows i d) ≡ national_of es s
 national_found keys b es s i d h fits at =
     let found = found_symbol b.rows s i d at in
-    national_is es b.helped b.venues (b.applied + 1) (get_or b.rows i d) fits.helped (all_rows_at (IsRow b.helped b.venues (b.applied + 1)) b.rows i d found.0 h.rows) (all_rows_at (RowFits es) b.rows i d found.0 fits.rows)
+    national_is es b.helped (b.applied + 1) (get_or b.rows i d) fits.helped (all_rows_at (IsRow b.helped (b.applied + 1)) b.rows i d found.0 h.rows) (all_rows_at (RowFits es) b.rows i d found.0 fits.rows)
     ∙ ap (national_of es) found.1
 
-pub row_found : (keys : List ℕ) (b : BookState) (s : List ℕ) (i : ℕ) (d : Row) → IsBook keys b → position (bytes_eq s) (symbols_of b.rows) ≡ Some i → IsRow b.helped b.venues (b.applied + 1) (get_or b.rows i d)
-row_found keys b s i d h at = all_rows_at (IsRow b.helped b.venues (b.applied + 1)) b.rows i d (found_symbol b.rows s i d at).0 h.rows
+row_ranking : (es : List Entry) (side : Side) (helped : List Bool) (n : ℕ) (r : Row) → ((w : ℕ) → w < 16 → slice_index_or helped w false ≡ is_self_helped es w) → IsRow helped n r → RowFits es r → IsRanking es r.symbol side (ranks_at side r)
+row_ranking es Bid helped n r flags h fits = ranking_is es r.symbol Bid r.bids.items (side_ranking es r.symbol Bid (may_at helped r.halted) n (side_at Bid r) (may_is es helped r flags fits) fits.bids h.bids)
+row_ranking es Offer helped n r flags h fits = ranking_is es r.symbol Offer r.offers.items (side_ranking es r.symbol Offer (may_at helped r.halted) n (side_at Offer r) (may_is es helped r flags fits) fits.offers h.offers)
 
-side_ranking : (es : List Entry) (s : List ℕ) (side : Side) (may : ℕ → Bool) (ss : List Standing) (xs : List Best) → ((w : ℕ) → w < 16 → may w ≡ may_rank es w s) → SideFits es s side ss → IsRankingOf 16 side (rank_at may ss) (age_at ss) xs → IsRanking es s side xs
-side_ranking es s side may ss xs leave fits h =
-    ranking_is es s side xs
-    (ranking_same side (rank_at may ss) (eligible_of es s side) (age_at ss) (λ w. age_of es w s side) xs
-    (rank_is es s side may ss leave fits)
-    (λ w l. ap (λ (t : Standing). t.age) (fits w l)) h)
-
-row_ranking : (es : List Entry) (side : Side) (helped : List Bool) (r : Row) (xs : List Best) → ((w : ℕ) → w < 16 → slice_index_or helped w false ≡ is_self_helped es w) → RowFits es r → IsRankingOf 16 side (rank_at (may_at helped r.halted) (side_at side r).standings) (age_at (side_at side r).standings) xs → IsRanking es r.symbol side xs
-row_ranking es Bid helped r xs flags fits h = side_ranking es r.symbol Bid (may_at helped r.halted) r.standings.bids xs (may_is es helped r flags fits) fits.bids h
-row_ranking es Offer helped r xs flags fits h = side_ranking es r.symbol Offer (may_at helped r.halted) r.standings.offers xs (may_is es helped r flags fits) fits.offers h
-
--- ranks of the row at the place that a symbol was found
-pub ranking_found : (b : BookState) (es : List Entry) (s : List ℕ) (side : Side) (i : ℕ) (d : Row) (xs : List Best) → Fits b es → position (bytes_eq s) (symbols_of b.rows) ≡ Some i → IsRankingOf 16 side (rank_at (may_at b.helped (get_or b.rows i d).halted) (side_at side (get_or b.rows i d)).standings) (age_at (side_at side (get_or b.rows i d)).standings) xs → IsRanking es s side xs
-ranking_found b es s side i d xs fits at h =
+pub ranking_found : (keys : List ℕ) (b : BookState) (es : List Entry) (s : List ℕ) (side : Side) (i : ℕ) (d : Row) → IsBook keys b → Fits b es → position (bytes_eq s) (symbols_of b.rows) ≡ Some i → IsRanking es s side (ranks_at side (get_or b.rows i d))
+ranking_found keys b es s side i d h fits at =
     let found = found_symbol b.rows s i d at in
-    subst (λ (t : List ℕ). IsRanking es t side xs) found.1
-    (row_ranking es side b.helped (get_or b.rows i d) xs fits.helped (all_rows_at (RowFits es) b.rows i d found.0 fits.rows) h)
-
-pub side_stands : (side : Side) (helped : List Bool) (c n : ℕ) (r : Row) → IsRow helped c n r → IsStandings c (side_at side r).standings
-side_stands Bid helped c n r h = h.bids.standings
-side_stands Offer helped c n r h = h.offers.standings
+    let r : Row = get_or b.rows i d in
+    subst (λ (t : List ℕ). IsRanking es t side (ranks_at side r)) found.1
+    (row_ranking es side b.helped (b.applied + 1) r fits.helped (all_rows_at (IsRow b.helped (b.applied + 1)) b.rows i d found.0 h.rows) (all_rows_at (RowFits es) b.rows i d found.0 fits.rows))
 
 -- a new book
 all_alike : {X : Type 0} (n v : ℕ) (x : X) → get_or (replicate n x) v x ≡ x
@@ -109,25 +90,20 @@ unknown = record { shown = None; age = 0 }
 nothing_stands : (v : ℕ) → standing_at empty_standings v ≡ unknown
 nothing_stands v = all_alike 16 v unknown
 
-empty_standings_are : (c : ℕ) → c ≤ 16 → IsStandings c empty_standings
-empty_standings_are c few = record {
+empty_side_is : (b : Side) (may : ℕ → Bool) → IsSide b may 1 (record { standings = empty_standings; ranks = [] })
+empty_side_is b may = record {
   count = refl;
-  few = few;
-  apart = λ v w l m n there too same. (let no : false ≡ true = sym (ap (λ (t : Standing). is_some t.shown) (nothing_stands v)) ∙ there in cc);
-  silent = λ w l. ap (λ (t : Standing). t.shown) (nothing_stands w);
-}
-
-empty_side_is : (b : Side) (may : ℕ → Bool) (c : ℕ) → c ≤ 16 → IsSide b may c 1 (record { best = None; standings = empty_standings })
-empty_side_is b may c few = record {
-  standings = empty_standings_are c few;
   past = λ v l. subst (λ (t : ℕ). t < 1) (sym (ap (λ (t : Standing). t.age) (nothing_stands v))) (omega arith);
-  best = sym (top_found b (age_at empty_standings) (rank_at may empty_standings) None (rank_own may empty_standings)
-      (λ w l. ap (λ (t : Standing). ranked_by (may w) w t.shown) (nothing_stands w) ∙ ranked_nothing (may w) w));
+  apart = λ v w l m n there too same. (let no : false ≡ true = sym (ap (λ (t : Standing). is_some t.shown) (nothing_stands v)) ∙ there in cc);
+  ranked = record {
+    members = λ x. (λ i. absurd i, λ k. (let no : None ≡ Some x = sym (ap (λ (t : Standing). ranked_by (may x.venue) x.venue t.shown) (nothing_stands x.venue) ∙ ranked_nothing (may x.venue) x.venue) ∙ k.1 in cc));
+    order = tt;
+  };
 }
 
-empty_rows_are : (helped : List Bool) (c : ℕ) (ss : List (List ℕ)) → c ≤ 16 → AllByRecursion (IsRow helped c 1) (map empty_row ss)
-empty_rows_are helped c [] few = tt
-empty_rows_are helped c (s ∷ ss) few = (record { bids = empty_side_is Bid (may_at helped (replicate 16 false)) c few; offers = empty_side_is Offer (may_at helped (replicate 16 false)) c few; count = refl }, empty_rows_are helped c ss few)
+empty_rows_are : (helped : List Bool) (ss : List (List ℕ)) → AllByRecursion (IsRow helped 1) (map empty_row ss)
+empty_rows_are helped [] = tt
+empty_rows_are helped (s ∷ ss) = (record { bids = empty_side_is Bid (may_at helped (replicate 16 false)); offers = empty_side_is Offer (may_at helped (replicate 16 false)); count = refl }, empty_rows_are helped ss)
 
 empty_rows_fit : (ss : List (List ℕ)) → AllByRecursion (RowFits []) (map empty_row ss)
 empty_rows_fit [] = tt
@@ -153,7 +129,7 @@ empty_is keys ss venues rows few is table =
       venues = few;
       applied = omega arith;
       count = refl;
-      rows = empty_rows_are (replicate 16 false) venues ss few;
+      rows = empty_rows_are (replicate 16 false) ss;
     })
 
 pub empty_fits : (ss : List (List ℕ)) (venues : ℕ) (rows : List Row) → rows ≡ map empty_row ss → Fits (empty_book venues rows) []

@@ -3,7 +3,6 @@ pub mod Sides
 pub mod Eligible
 pub mod Nationals
 pub mod Changes
-pub mod Contenders
 pub mod Books
 pub mod Codes
 pub mod Ranks

@@ -1,5 +1,5 @@
 -- Cited by private clauses alone: what a book keeps of a symbol, and how an entry changes it.
-use Rattle.std.specs.Prelude.{ℕ, List, Bool, false, not, ◌≡◌, ◌&&◌, ◌++◌, map, Option, Some, None, slice_index_or, slice_set, replicate, if◌then◌else◌}
+use Rattle.std.specs.Prelude.{ℕ, ◌<◌, List, [], Bool, true, false, not, ◌≡◌, ◌&&◌, ◌++◌, length, map, Option, Some, None, slice_index_or, slice_set, replicate, if◌then◌else◌}
 use Rattle.std.specs.List.{filter_map}
 use Rattle.std.specs.Str.{bytes_eq}
 use Rattle.feed_types.specs.declared.journal.Entry.{Entry}
@@ -13,14 +13,15 @@ use Rattle.feed_types.specs.declared.national.Best.{Best}
 use Rattle.feed_types.specs.declared.national.National.{National}
 use Rattle.nbbo_book.specs.declared.shown.Shown.{Shown}
 use Rattle.nbbo_book.specs.declared.shown.Standing.{Standing}
+use Rattle.nbbo_book.specs.declared.standings.Standings.{Standings}
 use Rattle.nbbo_book.specs.declared.row.Row.{Row}
 use Rattle.nbbo_book.specs.declared.change.Change.{Change}
 use Rattle.nbbo_book.specs.Sides.{shown_by, is_same_side}
 use Rattle.nbbo_book.specs.Standings.{standings_on}
 use Rattle.nbbo_book.specs.Eligible.{ranked_by}
-use Rattle.nbbo_book.specs.Changes.{change_of, is_same_best}
+use Rattle.nbbo_book.specs.Changes.{change_of}
 use Rattle.nbbo_book.specs.Books.{standing_at}
-use Rattle.nbbo_book.specs.Ranks.{best_in}
+use Rattle.nbbo_book.specs.Ranks.{InRank, IsIn, HasNone, without, placed, front_of}
 
 abbrev pub age_at : List Standing → ℕ → ℕ
 age_at standings venue = (standing_at standings venue).age
@@ -32,55 +33,102 @@ may_at helped halted venue =
 abbrev pub rank_at : (ℕ → Bool) → List Standing → ℕ → Option Best
 rank_at may standings venue = ranked_by (may venue) venue (standing_at standings venue).shown
 
--- the best of the venues that may be ranked
-abbrev pub best_at : Side → (ℕ → Bool) → List Standing → Option Best
-best_at side may standings = best_in side (age_at standings) (rank_at may standings)
+-- one side of a symbol: each venue's standing, and the ranks of those that are eligible
+pub record BookSide : Type 0 where
+  pub standings : List Standing
+  pub ranks : List Best
+
+abbrev pub book_side : Side → Standings → List Best → BookSide
+book_side side standings ranks =
+    record { standings = standings_on side standings; ranks = ranks }
+
+-- a venue's standing is this from now on
+abbrev pub side_set : Side → ℕ → Standing → Bool → BookSide → BookSide
+side_set side venue standing may kept =
+    record {
+      standings = slice_set kept.standings venue standing;
+      ranks = placed side (age_at (slice_set kept.standings venue standing))
+          (ranked_by may venue standing.shown) (without venue kept.ranks);
+    }
 
 -- a venue shows this, or nothing, from now on; where it did already nothing changes
-abbrev pub standings_shown : ℕ → Option Shown → ℕ → List Standing → List Standing
-standings_shown venue shown age standings =
-    if is_same_side (standing_at standings venue).shown shown
-    then standings else slice_set standings venue (record { shown = shown; age = age })
+abbrev pub side_shown : Side → ℕ → Option Shown → ℕ → Bool → BookSide → BookSide
+side_shown side venue shown age may kept =
+    if is_same_side (standing_at kept.standings venue).shown shown
+    then kept else side_set side venue (record { shown = shown; age = age }) may kept
 
--- the best is that of these standings, and this tells whether it is another one now
-pub record Renews
-    (side : Side) (may : ℕ → Bool) (standings : List Standing)
-    (old new : Option Best) (is_other : Bool) : Type 0 where
-  pub best : new ≡ best_at side may standings
-  pub moved : is_other ≡ not (is_same_best old new)
+-- a venue may be ranked, or may not, from now on
+abbrev pub side_gated : Side → ℕ → Bool → BookSide → BookSide
+side_gated side venue may kept =
+    record {
+      standings = kept.standings;
+      ranks = placed side (age_at kept.standings)
+          (ranked_by may venue (standing_at kept.standings venue).shown)
+          (without venue kept.ranks);
+    }
 
--- a symbol with these halts and standings
-abbrev pub row_with :
-    List Bool → List ℕ → List Bool → List Standing → List Standing → Row
-row_with helped symbol halted bids offers =
+-- What code asks of a side: its ranks are in order and as the venues show them, a venue has at most
+-- one and where it shows nothing none, and there is room for each venue's.
+pub record IsRanked (side : Side) (kept : BookSide) : Type 0 where
+  pub count : length kept.standings ≡ 16
+  pub order : InRank side (age_at kept.standings) kept.ranks
+  pub shown : (x : Best) → IsIn kept.ranks x → (standing_at kept.standings x.venue).shown
+      ≡ Some (record { price = x.price; size = x.size; automated = true })
+  pub once : (venue : ℕ) → HasNone venue (without venue kept.ranks)
+  pub room : (venue : ℕ) → venue < 16 → length (without venue kept.ranks) < 16
+
+-- the ages are those of entries before this one
+abbrev pub IsPast : ℕ → List Standing → Type 0
+IsPast next standings = (venue : ℕ) → venue < 16 → age_at standings venue < next
+
+abbrev pub side_at : Side → Row → BookSide
+side_at Bid row = book_side Bid row.standings row.bids.items
+side_at Offer row = book_side Offer row.standings row.offers.items
+
+pub record IsRowRanked (next : ℕ) (row : Row) : Type 0 where
+  pub bids : IsRanked Bid (side_at Bid row)
+  pub offers : IsRanked Offer (side_at Offer row)
+  pub past_bids : IsPast next row.standings.bids
+  pub past_offers : IsPast next row.standings.offers
+
+-- a symbol with these halts and sides
+abbrev pub row_with : List ℕ → List Bool → BookSide → BookSide → Row
+row_with symbol halted bids offers =
     record {
       symbol = symbol;
       halted = halted;
-      bid = best_at Bid (may_at helped halted) bids;
-      offer = best_at Offer (may_at helped halted) offers;
-      standings = record { bids = bids; offers = offers };
+      bids = record { items = bids.ranks };
+      offers = record { items = offers.ranks };
+      standings = record { bids = bids.standings; offers = offers.standings };
     }
 
 abbrev pub row_quoted : List Bool → ℕ → Quote → ℕ → Row → Row
 row_quoted helped venue quote age row =
-    row_with helped row.symbol row.halted
-    (standings_shown venue (Some (shown_by quote Bid)) age row.standings.bids)
-    (standings_shown venue (Some (shown_by quote Offer)) age row.standings.offers)
+    row_with row.symbol row.halted
+    (side_shown Bid venue (Some (shown_by quote Bid)) age (may_at helped row.halted venue)
+    (side_at Bid row))
+    (side_shown Offer venue (Some (shown_by quote Offer)) age (may_at helped row.halted venue)
+    (side_at Offer row))
 
-abbrev pub row_ended : List Bool → ℕ → ℕ → Row → Row
-row_ended helped venue age row =
-    row_with helped row.symbol (slice_set row.halted venue false)
-    (standings_shown venue None age row.standings.bids)
-    (standings_shown venue None age row.standings.offers)
+abbrev pub row_ended : ℕ → ℕ → Row → Row
+row_ended venue age row =
+    row_with row.symbol (slice_set row.halted venue false)
+    (side_shown Bid venue None age false (side_at Bid row))
+    (side_shown Offer venue None age false (side_at Offer row))
+
+-- with these halts and flags of self-help, of which one venue's are others than before
+abbrev pub row_gated : List Bool → ℕ → List Bool → Row → Row
+row_gated helped venue halted row =
+    row_with row.symbol halted
+    (side_gated Bid venue (may_at helped halted venue) (side_at Bid row))
+    (side_gated Offer venue (may_at helped halted venue) (side_at Offer row))
 
 abbrev pub row_halted : List Bool → ℕ → Bool → Row → Row
 row_halted helped venue halted row =
-    row_with helped row.symbol (slice_set row.halted venue halted)
-    row.standings.bids row.standings.offers
+    row_gated helped venue (slice_set row.halted venue halted) row
 
-abbrev pub row_helped : List Bool → Row → Row
-row_helped helped row =
-    row_with helped row.symbol row.halted row.standings.bids row.standings.offers
+abbrev pub row_helped : List Bool → ℕ → Row → Row
+row_helped helped venue row = row_gated helped venue row.halted row
 
 abbrev pub row_after_item : List Bool → ℕ → ℕ → Item → Row → Row
 row_after_item helped age venue (item.Quote quote) row =
@@ -88,13 +136,13 @@ row_after_item helped age venue (item.Quote quote) row =
 row_after_item helped age venue (item.Halt symbol halted) row =
     if bytes_eq symbol row.symbol then row_halted helped venue halted row else row
 row_after_item helped age venue item.Other row = row
-row_after_item helped age venue item.End row = row_ended helped venue age row
+row_after_item helped age venue item.End row = row_ended venue age row
 
 -- a symbol after one more entry, of this age, with these flags of self-help after it
 abbrev pub row_after : List Bool → ℕ → Entry → Row → Row
 row_after helped age (Consumed venue numbered) row =
     row_after_item helped age venue numbered.item row
-row_after helped age (SelfHelp venue on) row = row_helped helped row
+row_after helped age (SelfHelp venue on) row = row_helped helped venue row
 
 abbrev pub helped_after : Entry → List Bool → List Bool
 helped_after (Consumed venue numbered) helped = helped
@@ -102,20 +150,11 @@ helped_after (SelfHelp venue on) helped = slice_set helped venue on
 
 abbrev pub national_at : Row → National
 national_at row =
-    record { bid = row.bid; offer = row.offer }
+    record { bid = front_of row.bids.items; offer = front_of row.offers.items }
 
--- one side of a symbol: the best of it, and each venue's standing
-pub record BookSide : Type 0 where
-  pub best : Option Best
-  pub standings : List Standing
-
-abbrev pub best_on : Side → Row → Option Best
-best_on Bid row = row.bid
-best_on Offer row = row.offer
-
-abbrev pub side_at : Side → Row → BookSide
-side_at side row =
-    record { best = best_on side row; standings = standings_on side row.standings }
+abbrev pub ranks_at : Side → Row → List Best
+ranks_at Bid row = row.bids.items
+ranks_at Offer row = row.offers.items
 
 abbrev pub row_change : List Bool → ℕ → ℕ → Entry → Row → Option Change
 row_change helped age position entry row =
@@ -149,7 +188,7 @@ empty_row symbol =
     record {
       symbol = symbol;
       halted = replicate 16 false;
-      bid = None;
-      offer = None;
+      bids = record { items = [] };
+      offers = record { items = [] };
       standings = record { bids = empty_standings; offers = empty_standings };
     }

@@ -4,7 +4,6 @@ use Rattle.std.specs.Prelude.{◌≡◌, ℕ, List, Bool, true, false, Option, S
 use Rattle.feed_types.specs.declared.line.Side.{Side}
 use Rattle.feed_types.specs.declared.line.Side.TheVariants.{Bid, Offer}
 use Rattle.nbbo_book.specs.declared.shown.Shown.{Shown}
-use Rattle.nbbo_book.specs.Eligible.{is_protected}
 
 -- the side that a venue shows, if any, and its age
 pub record StandingState : Type 0 where
@@ -52,8 +51,3 @@ price_of (Some shown) = shown.price
 abbrev pub automated_of : Option Shown → Bool
 automated_of None = false
 automated_of (Some shown) = shown.automated
-
--- an eligible venue is ranked with this side
-abbrev pub is_counted : Option Shown → Bool
-is_counted None = false
-is_counted (Some shown) = is_protected shown

@@ -13,13 +13,13 @@ ghost use Rattle.nbbo_book.specs.Rows.{empty_row};
 
 use crate::change::Change;
 use crate::fault::BookFault;
-use crate::ranks::{Ranks, ranks_of};
 use crate::row::Row;
 use crate::standings::Standings;
 use crate::steps::{Step, apply_step};
 use crate::table::{Table, find, symbol_table};
 use crate::venues::Venues;
-use feed_types::{Entry, National, Side, SymbolName, VenueId};
+use arrayvec::ArrayVec;
+use feed_types::{Best, Entry, National, Side, SymbolName, VenueId};
 use std::alloc::{AllocError, Global};
 use std::marker::Model;
 
@@ -61,8 +61,8 @@ fn empty_rows(alloc: Global, symbols: &[SymbolName]) -> Result<Vec<Row>, AllocEr
         rows.push(Row {
             halted: [false; 16],
             symbol: *symbol,
-            bid: None,
-            offer: None,
+            bids: ArrayVec::new(),
+            offers: ArrayVec::new(),
             standings: Standings::new(),
         })?;
     }
@@ -172,15 +172,14 @@ impl Book {
     }
 
     /// The eligible sides of the symbol, best first: each stands before those that it beats. `None`
-    /// exactly where the symbol isn't configured. They are put in order at each call.
-    pub fn ranked(&self, symbol: &SymbolName, side: Side) -> Option<Ranks>
+    /// exactly where the symbol isn't configured.
+    pub fn ranked(&self, symbol: &SymbolName, side: Side) -> Option<&[Best]>
         ensures configured { IsSome result ↔ IsTrue (is_configured self.now.symbols symbol.now) }
         ensures ranking { (entries : List Entry) → Fits self.now entries
-            → IfSome result (λ ranks. IsRanking entries symbol.now side ranks.items) }
+            → IfSome result (λ ranks. IsRanking entries symbol.now side ranks.now) }
     {
         let place = find(&self.table, self.rows.as_slice(), *symbol)?;
-        let row = &self.rows[place];
-        Some(ranks_of(side, &row.standings, &self.venues, &row.halted))
+        Some(self.rows[place].ranks(side))
     }
 
     /// Whether self-help stands on the venue.

@@ -1,19 +1,17 @@
 //! The national best bid and offer of each configured symbol, over up to 16 venues.
 //!
-//! A [`Book`] is given the journal's entries one by one. It keeps each venue's protected sides
-//! and the best of those that are eligible, by price, size and time, and says which symbols'
-//! national best an entry changed.
+//! A [`Book`] is given the journal's entries one by one. It keeps each venue's protected sides,
+//! ranks those that are eligible by price, size and time, and says which symbols' national best an
+//! entry changed.
 //!
 //! Contract: for every list of entries that the book fits, the changes that `apply` appends, the
 //! national best and the ranks are those that `specs/Changes.antt` and `specs/Nationals.antt` work
 //! out from the whole list. Begin at `book.rt`; `laws.rt` says what the definitions mean.
 #![tactic(auto)]
 
-mod best;
 mod book;
 mod book_side;
 mod change;
-mod contender;
 mod fault;
 mod guesses;
 mod laws;
@@ -29,4 +27,3 @@ pub use book::Book;
 pub use change::Change;
 pub use fault::BookFault;
 pub use laws::{age_is_the_first, any_two_rank, one_best};
-pub use ranks::Ranks;

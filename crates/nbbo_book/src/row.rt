@@ -1,28 +1,29 @@
 //! What a book keeps of one symbol.
 
-ghost use Rattle.std.specs.Prelude.{◌≡◌, ◌<◌, not};
+ghost use Rattle.std.specs.Prelude.{◌≡◌, not};
 ghost use Rattle.std.specs.Str.{bytes_eq};
 ghost use Rattle.feed_types.specs.declared.line.Side.TheVariants.{Bid, Offer};
 ghost use Rattle.nbbo_book.specs.Changes.{is_same_national};
-ghost use Rattle.nbbo_book.specs.Rows.{may_at, row_quoted, row_ended, row_halted, row_helped, row_after_item, row_after, national_at, side_at};
-ghost use Rattle.nbbo_book.specs.Tables.{IsRow, IsRowBut, IsSideBut, IsBefore};
+ghost use Rattle.nbbo_book.specs.Rows.{IsRanked, IsRowRanked, row_quoted, row_ended, row_halted, row_helped, row_after_item, row_after, national_at, ranks_at, side_at};
 
-use crate::book_side::{gate, hide, show};
+use crate::book_side::{SideOfVenue, clear_quote, recheck_eligibility, set_quote};
+use crate::ranks::{Ranks, front};
 use crate::shown::{Standing, bid_of, offer_of};
 use crate::standings::Standings;
 use crate::venues::Venues;
 use feed_types::{Best, Entry, Item, National, Quote, Side, SymbolName, VenueId};
 
-/// What a book keeps of one symbol. What each entry reads stands first, and beside each other.
+/// What a book keeps of one symbol. What each entry reads stands first and beside each other: the
+/// lengths of the ranks, which stand after them, neighbour what a quotation reads next.
 #[derive(Drop)]
 pub struct Row {
     /// The venues that halt the symbol.
     pub halted: [bool; 16],
     pub symbol: SymbolName,
-    /// The best of the bids that are eligible.
-    pub bid: Option<Best>,
-    /// The best of the offers that are eligible.
-    pub offer: Option<Best>,
+    /// The bids that are eligible, best first.
+    pub bids: Ranks,
+    /// The offers that are eligible, best first.
+    pub offers: Ranks,
     pub standings: Standings,
 }
 
@@ -37,106 +38,83 @@ impl Row {
 
     #[inline(always)]
     fn quote(&mut self, venues: &Venues, venue: VenueId, quote: &Quote, age: u64) -> bool
-        requires kept { IsRow venues.now.helped venues.now.count age self.old }
-        requires venue { venue < venues.now.count }
+        requires { IsRowRanked age self.old }
         ensures row { self.new ≡ row_quoted venues.now.helped venue quote.now age self.old }
         ensures changed { result
             ≡ not (is_same_national (national_at self.old) (national_at self.new)) }
     {
+        let may_rank = venues.may_rank(&self.halted, venue);
+        let bids = SideOfVenue {
+            side: Side::Bid,
+            venue,
+            may_rank,
+        };
+        let offers = SideOfVenue {
+            side: Side::Offer,
+            venue,
+            may_rank,
+        };
         let bid = Standing::new(Some(bid_of(quote)), age);
         let offer = Standing::new(Some(offer_of(quote)), age);
         let standings = &mut self.standings;
-        let halted = &self.halted;
-        let bid = show(
-            Side::Bid,
-            venue,
-            bid,
-            standings,
-            &mut self.bid,
-            venues,
-            halted,
-        );
-        let offer = show(
-            Side::Offer,
-            venue,
-            offer,
-            standings,
-            &mut self.offer,
-            venues,
-            halted,
-        );
+        let bid = set_quote(bids, bid, standings, &mut self.bids);
+        let offer = set_quote(offers, offer, standings, &mut self.offers);
         bid || offer
     }
 
     #[inline(always)]
-    fn end(&mut self, venues: &Venues, venue: VenueId, age: u64) -> bool
-        requires { IsRowBut venues.now.helped venues.now.count venue self.old }
-        ensures row { self.new ≡ row_ended venues.now.helped venue age self.old }
+    fn end(&mut self, venue: VenueId, age: u64) -> bool
+        requires { IsRowRanked age self.old }
+        ensures row { self.new ≡ row_ended venue age self.old }
         ensures changed { result
             ≡ not (is_same_national (national_at self.old) (national_at self.new)) }
     {
         self.halted[venue.index()] = false;
         let standings = &mut self.standings;
-        let halted = &self.halted;
-        let bid = hide(
-            Side::Bid,
-            venue,
-            age,
-            standings,
-            &mut self.bid,
-            venues,
-            halted,
-        );
-        let offer = hide(
-            Side::Offer,
-            venue,
-            age,
-            standings,
-            &mut self.offer,
-            venues,
-            halted,
-        );
+        let bid = clear_quote(Side::Bid, venue, age, standings, &mut self.bids);
+        let offer = clear_quote(Side::Offer, venue, age, standings, &mut self.offers);
         bid || offer
     }
 
     #[inline(always)]
-    fn gate(&mut self, venues: &Venues, venue: VenueId) -> bool
-        requires bids { IsSideBut Bid (may_at venues.now.helped self.old.halted)
-            venues.now.count venue (side_at Bid self.old) }
-        requires offers { IsSideBut Offer (may_at venues.now.helped self.old.halted)
-            venues.now.count venue (side_at Offer self.old) }
-        ensures row { self.new ≡ row_helped venues.now.helped self.old }
+    fn recheck(&mut self, venues: &Venues, venue: VenueId) -> bool
+        requires bids { IsRanked Bid (side_at Bid self.old) }
+        requires offers { IsRanked Offer (side_at Offer self.old) }
+        ensures row { self.new ≡ row_helped venues.now.helped venue self.old }
         ensures changed { result
             ≡ not (is_same_national (national_at self.old) (national_at self.new)) }
     {
-        let standings = &self.standings;
-        let halted = &self.halted;
-        let bid = gate(Side::Bid, venue, standings, &mut self.bid, venues, halted);
-        let offer = gate(
-            Side::Offer,
+        let may_rank = venues.may_rank(&self.halted, venue);
+        let bids = SideOfVenue {
+            side: Side::Bid,
             venue,
-            standings,
-            &mut self.offer,
-            venues,
-            halted,
-        );
+            may_rank,
+        };
+        let offers = SideOfVenue {
+            side: Side::Offer,
+            venue,
+            may_rank,
+        };
+        let standings = &self.standings;
+        let bid = recheck_eligibility(bids, standings, &mut self.bids);
+        let offer = recheck_eligibility(offers, standings, &mut self.offers);
         bid || offer
     }
 
     fn halt(&mut self, venues: &Venues, venue: VenueId, halted: bool) -> bool
-        requires { IsRowBut venues.now.helped venues.now.count venue self.old }
+        requires bids { IsRanked Bid (side_at Bid self.old) }
+        requires offers { IsRanked Offer (side_at Offer self.old) }
         ensures row { self.new ≡ row_halted venues.now.helped venue halted self.old }
         ensures changed { result
             ≡ not (is_same_national (national_at self.old) (national_at self.new)) }
     {
         self.halted[venue.index()] = halted;
-        self.gate(venues, venue)
+        self.recheck(venues, venue)
     }
 
     #[inline(always)]
     fn take_item(&mut self, venues: &Venues, venue: VenueId, item: &Item, age: u64) -> bool
-        requires kept { IsRow venues.now.helped venues.now.count age self.old }
-        requires venue { venue < venues.now.count }
+        requires { IsRowRanked age self.old }
         ensures row { self.new ≡ row_after_item venues.now.helped age venue item.now self.old }
         ensures changed { result
             ≡ not (is_same_national (national_at self.old) (national_at self.new)) }
@@ -149,7 +127,7 @@ impl Row {
                 self.is_of(*symbol) && self.halt(venues, venue, *halted)
             }
             Item::Other => false,
-            Item::End => self.end(venues, venue, age),
+            Item::End => self.end(venue, age),
         }
     }
 
@@ -157,7 +135,7 @@ impl Row {
     /// national best is another one then.
     #[inline(always)]
     pub fn take_entry(&mut self, venues: &Venues, entry: &Entry, age: u64) -> bool
-        requires { IsBefore entry.now venues.now.helped venues.now.count age self.old }
+        requires { IsRowRanked age self.old }
         ensures row { self.new ≡ row_after venues.now.helped age entry.now self.old }
         ensures changed { result
             ≡ not (is_same_national (national_at self.old) (national_at self.new)) }
@@ -166,14 +144,27 @@ impl Row {
             Entry::Consumed { venue, numbered } => {
                 self.take_item(venues, *venue, &numbered.item, age)
             }
-            Entry::SelfHelp { venue, on: _ } => self.gate(venues, *venue),
+            Entry::SelfHelp { venue, on: _ } => self.recheck(venues, *venue),
         }
     }
 
     /// Reads something of each part that a quotation of the venue reads. The sum has no meaning.
     #[inline(always)]
     pub fn glance(&self, venue: VenueId) -> u64 {
-        u64::from(self.halted[venue.index()]).wrapping_add(self.standings.glance(venue))
+        u64::from(self.halted[venue.index()])
+            .wrapping_add(self.bids.len() as u64)
+            .wrapping_add(self.offers.len() as u64)
+            .wrapping_add(self.standings.glance(venue))
+    }
+
+    /// The eligible sides, best first.
+    pub fn ranks(&self, side: Side) -> &[Best]
+        ensures { result.now ≡ ranks_at side self.now }
+    {
+        match side {
+            Side::Bid => self.bids.as_slice(),
+            Side::Offer => self.offers.as_slice(),
+        }
     }
 
     /// The national best.
@@ -181,6 +172,9 @@ impl Row {
     pub fn national(&self) -> National
         ensures { result ≡ national_at self.now }
     {
-        National::copied(&self.bid, &self.offer)
+        National {
+            bid: front(&self.bids),
+            offer: front(&self.offers),
+        }
     }
 }

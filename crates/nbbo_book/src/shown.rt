@@ -50,7 +50,7 @@ impl Model for Standing {
 }
 
 impl Standing {
-    ghost use Rattle.nbbo_book.specs.Standings.{size_of, price_of, is_counted as counts_by};
+    ghost use Rattle.nbbo_book.specs.Standings.{size_of, price_of};
 
     /// A venue shows this, or nothing, since that age.
     #[inline(always)]
@@ -88,14 +88,6 @@ impl Standing {
             price: self.price,
             automated: self.automated,
         })
-    }
-
-    /// Whether an eligible venue is ranked with it.
-    #[inline(always)]
-    pub fn is_counted(self) -> bool
-        ensures { result ≡ counts_by self.shown }
-    {
-        self.is_shown & self.automated & (0 < self.price) & (0 < self.size)
     }
 
     /// The size, in shares; 0 where nothing is shown.

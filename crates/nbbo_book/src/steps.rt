@@ -4,8 +4,8 @@ ghost use Rattle.std.specs.Prelude.{◌≡◌, ◌++◌, ◌∷◌, [], ◌+◌,
 ghost use Rattle.std.specs.List.{AllByRecursion};
 ghost use Rattle.std.specs.Vec.{vec_len, vec_capacity};
 ghost use Rattle.std.specs.Option.{option_to_list};
-ghost use Rattle.nbbo_book.specs.Rows.{row_after, row_change, symbol_in, Applies};
-ghost use Rattle.nbbo_book.specs.Tables.{IsBefore, IsTable, symbols_of};
+ghost use Rattle.nbbo_book.specs.Rows.{IsRowRanked, row_after, row_change, symbol_in, Applies};
+ghost use Rattle.nbbo_book.specs.Tables.{IsTable, symbols_of};
 
 use crate::change::Change;
 use crate::row::Row;
@@ -40,7 +40,7 @@ fn append(out: &mut Vec<Change>, position: u64, symbol: SymbolName, national: Na
 
 #[inline(always)]
 fn step_row(row: &mut Row, venues: &Venues, entry: &Entry, step: Step, out: &mut Vec<Change>)
-    requires before { IsBefore entry.now venues.now.helped venues.now.count step.age row.old }
+    requires ranked { IsRowRanked step.age row.old }
     requires room { vec_len out.old < vec_capacity out.old }
     ensures row { row.new ≡ row_after venues.now.helped step.age entry.now row.old }
     ensures items { out.new.items
@@ -56,8 +56,7 @@ fn step_row(row: &mut Row, venues: &Venues, entry: &Entry, step: Step, out: &mut
 
 #[inline(never)]
 fn step_rows(rows: &mut [Row], venues: &Venues, entry: &Entry, step: Step, out: &mut Vec<Change>)
-    requires before { AllByRecursion
-        (IsBefore entry.now venues.now.helped venues.now.count step.age) rows.old }
+    requires ranked { AllByRecursion (IsRowRanked step.age) rows.old }
     requires room { vec_len out.old + length rows.old ≤ vec_capacity out.old }
     ensures applies { Applies venues.now.helped step.age step.position entry.now
         rows.old rows.new out.old.items out.new.items }
@@ -82,8 +81,7 @@ fn step_symbol(
 )
     requires symbol { symbol_in entry.now ≡ Some symbol }
     requires table { IsTable (symbols_of rows.old) table.now.words.keys }
-    requires before { AllByRecursion
-        (IsBefore entry.now venues.now.helped venues.now.count step.age) rows.old }
+    requires ranked { AllByRecursion (IsRowRanked step.age) rows.old }
     requires room { vec_len out.old + length rows.old ≤ vec_capacity out.old }
     ensures applies { Applies venues.now.helped step.age step.position entry.now
         rows.old rows.new out.old.items out.new.items }
@@ -107,8 +105,7 @@ pub fn apply_step(
     out: &mut Vec<Change>,
 )
     requires table { IsTable (symbols_of rows.old) table.now.words.keys }
-    requires before { AllByRecursion
-        (IsBefore entry.now venues.now.helped venues.now.count step.age) rows.old }
+    requires ranked { AllByRecursion (IsRowRanked step.age) rows.old }
     requires room { vec_len out.old + length rows.old ≤ vec_capacity out.old }
     ensures applies { Applies venues.now.helped step.age step.position entry.now
         rows.old rows.new out.old.items out.new.items }

@@ -3,21 +3,19 @@ use Rattle.std.specs.List.{filter_map}
 use Rattle.std.specs.Option.{option_to_list}
 use Rattle.nbbo_book.specs.declared.row.Row.{Row}
 use Rattle.nbbo_book.specs.declared.change.Change.{Change}
-use Rattle.nbbo_book.specs.Rows.{row_after, row_change}
-use Rattle.nbbo_book.specs.Tables.{IsBefore}
+use Rattle.nbbo_book.specs.Rows.{row_after, row_change, IsRowRanked}
 use Rattle.nbbo_book.proofs.Stepping.{walk_read, walk_on, walk_gives, all_rows_at}
 use Rattle.nbbo_book.proofs.steps.step_rows.Goals as goal
 
-pub step_row-requires-clause-before : goal.step_row-requires-clause-before
-step_row-requires-clause-before c =
+pub step_row-requires-clause-ranked : goal.step_row-requires-clause-ranked
+step_row-requires-clause-ranked c =
     let rows : List Row = c.args.rows.now in
     let i : ℕ = c.loop-i.i in
     let row : Row = c.index-rows-i.result in
-    let venues = c.args.venues.now in
-    let f : Row → Row = row_after venues.helped c.args.step.age c.args.entry.now in
+    let f : Row → Row = row_after c.args.venues.now.helped c.args.step.age c.args.entry.now in
     let read : get_or c.loop-i.rows i row ≡ get_or rows i row = ap (λ (t : List Row). get_or t i row) c.loop-i.invariant.rows ∙ walk_read f rows i row c.loop-i-test.true in
-    subst (λ (t : Row). IsBefore c.args.entry.now venues.helped venues.count c.args.step.age t) (sym read)
-    (all_rows_at (IsBefore c.args.entry.now venues.helped venues.count c.args.step.age) rows i row c.loop-i-test.true c.requires.before)
+    subst (λ (t : Row). IsRowRanked c.args.step.age t) (sym read)
+    (all_rows_at (IsRowRanked c.args.step.age) rows i row c.loop-i-test.true c.requires.ranked)
 
 pub loop-i-preserved : goal.loop-i-preserved
 loop-i-preserved c =

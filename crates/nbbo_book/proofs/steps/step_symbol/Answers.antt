@@ -1,18 +1,18 @@
 use Rattle.std.proofs.Common.{List, ◌∙◌, ◌++◌, ap, sym, set}
 use Rattle.nbbo_book.specs.declared.row.Row.{Row}
 use Rattle.nbbo_book.specs.declared.change.Change.{Change}
-use Rattle.nbbo_book.specs.Tables.{IsBefore, symbols_of}
+use Rattle.nbbo_book.specs.Rows.{IsRowRanked}
+use Rattle.nbbo_book.specs.Tables.{symbols_of}
 use Rattle.nbbo_book.proofs.Words.{symbols_apart}
 use Rattle.nbbo_book.proofs.Stepping.{all_rows_at, found_symbol, missed_steps, found_steps, alone}
 use Rattle.nbbo_book.proofs.steps.step_symbol.Goals as goal
 
-pub step_row-requires-clause-before : goal.step_row-requires-clause-before
-step_row-requires-clause-before c =
+pub step_row-requires-clause-ranked : goal.step_row-requires-clause-ranked
+step_row-requires-clause-ranked c =
     let rows : List Row = c.args.rows.now in
-    let venues = c.args.venues.now in
-    all_rows_at (IsBefore c.args.entry.now venues.helped venues.count c.args.step.age) rows c.in-Some.i c.index-rows-i.result
+    all_rows_at (IsRowRanked c.args.step.age) rows c.in-Some.i c.index-rows-i.result
     (found_symbol rows c.args.symbol c.in-Some.i c.index-rows-i.result (sym c.find.ensures ∙ c.in-Some.is)).0
-    c.requires.before
+    c.requires.ranked
 
 pub returns-in-Some-clause-applies : goal.returns-in-Some-clause-applies
 returns-in-Some-clause-applies c =

@@ -6,19 +6,16 @@ use Rattle.nbbo_book.specs.declared.row.Row.{Row}
 use Rattle.nbbo_book.specs.declared.change.Change.{Change}
 use Rattle.nbbo_book.specs.Books.{BookState, Fits, venue_of}
 use Rattle.nbbo_book.specs.Changes.{changes_by}
-use Rattle.nbbo_book.specs.Rows.{row_after, row_change, helped_after}
-use Rattle.nbbo_book.specs.Tables.{IsBefore, IsBook, symbols_of}
-use Rattle.nbbo_book.proofs.Stepping.{rows_before, rows_keep_symbols}
+use Rattle.nbbo_book.specs.Rows.{row_after, row_change, helped_after, IsRowRanked}
+use Rattle.nbbo_book.specs.Tables.{IsBook, symbols_of}
+use Rattle.nbbo_book.proofs.Stepping.{rows_are_ranked, rows_keep_symbols}
 use Rattle.nbbo_book.proofs.Whole.{after_is, after_fits, after_changes}
 use Rattle.nbbo_book.proofs.book.Book.apply.Goals as goal
 
-pub apply_step-requires-clause-before : goal.apply_step-requires-clause-before
-apply_step-requires-clause-before c =
-    let count = c.take_self_help.ensures.count in
-    let below : venue_of c.args.entry.now < c.self.inside.venues.count = subst (λ (t : BookState). venue_of c.args.entry.now < t.venues) (sym c.self.view_is) c.requires.venue in
-    subst (λ (t : List Row). AllByRecursion (IsBefore c.args.entry.now c.take_self_help.new.self.helped c.take_self_help.new.self.count (c.self.inside.applied + 1)) t) (sym c.as_mut_slice-rows.ensures.value)
-    (subst (λ (n : ℕ). AllByRecursion (IsBefore c.args.entry.now c.take_self_help.new.self.helped n (c.self.inside.applied + 1)) c.self.inside.rows.items) (sym count)
-    (rows_before c.args.entry.now c.self.inside.venues.helped c.take_self_help.new.self.helped c.self.inside.venues.count (c.self.inside.applied + 1) c.self.inside.rows.items c.take_self_help.ensures.helped below c.self.invariant.rows))
+pub apply_step-requires-clause-ranked : goal.apply_step-requires-clause-ranked
+apply_step-requires-clause-ranked c =
+    subst (λ (t : List Row). AllByRecursion (IsRowRanked (c.self.inside.applied + 1)) t) (sym c.as_mut_slice-rows.ensures.value)
+    (rows_are_ranked c.self.inside.venues.helped (c.self.inside.applied + 1) c.self.inside.rows.items c.self.invariant.rows)
 
 pub invariant_of-self : goal.invariant_of-self
 invariant_of-self c =

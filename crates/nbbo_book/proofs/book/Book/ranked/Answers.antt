@@ -1,13 +1,14 @@
-use Rattle.std.proofs.Common.{List, ◌+◌, get_or, ◌≡◌, ◌∙◌, ap, sym, subst, refl, true, false, Some, None}
+use Rattle.std.proofs.Common.{List, ◌≡◌, ◌∙◌, ap, sym, subst, refl, true, false, Some, None}
 use Rattle.std.specs.Prelude.{position, is_some}
 use Rattle.std.specs.Str.{bytes_eq}
 use Rattle.nbbo_book.specs.Books.{BookState, Fits, is_configured}
-use Rattle.nbbo_book.specs.Rows.{side_at, may_at, rank_at, age_at}
-use Rattle.nbbo_book.specs.Tables.{IsStandings, symbols_of}
-use Rattle.nbbo_book.specs.Ranks.{IsRankingOf}
+use Rattle.feed_types.specs.declared.national.Best.{Best}
+use Rattle.nbbo_book.specs.Nationals.{IsRanking}
+use Rattle.nbbo_book.specs.Rows.{ranks_at}
+use Rattle.nbbo_book.specs.Tables.{symbols_of}
 use Rattle.nbbo_book.specs.declared.row.Row.{Row}
 use Rattle.nbbo_book.proofs.Words.{found_configured, missed_configured}
-use Rattle.nbbo_book.proofs.Whole.{ranking_found, row_found, side_stands}
+use Rattle.nbbo_book.proofs.Whole.{ranking_found}
 use Rattle.nbbo_book.proofs.book.Book.ranked.Goals as goal
 
 pub returns-in_err-place-clause-configured : goal.returns-in_err-place-clause-configured
@@ -32,16 +33,5 @@ returns-clause-ranking c = λ entries fits.
     let b : BookState = record { symbols = symbols_of c.self.inside.rows.items; venues = c.self.inside.venues.count; last = c.self.inside.last; applied = c.self.inside.applied; helped = c.self.inside.venues.helped; rows = c.self.inside.rows.items } in
     let here : Fits b entries = subst (λ (t : BookState). Fits t entries) (sym c.self.view_is) fits in
     let at : position (bytes_eq c.args.symbol.now) (symbols_of c.self.inside.rows.items) ≡ Some c.in_ok-place.place = sym (c.find.ensures ∙ ap (λ (t : List Row). position (bytes_eq c.args.symbol.now) (symbols_of t)) c.as_slice.ensures.value) ∙ was in
-    let ranks = c.ranks_of.result.items in
-    ranking_found b entries c.args.symbol.now c.args.side c.in_ok-place.place c.index-row.result.now ranks here at
-    (subst (λ (t : Row). IsRankingOf 16 c.args.side (rank_at (may_at b.helped t.halted) (side_at c.args.side t).standings) (age_at (side_at c.args.side t).standings) ranks) c.index-row.ensures c.ranks_of.ensures)
-
-pub ranks_of-requires : goal.ranks_of-requires
-ranks_of-requires c =
-    let was : c.find.result ≡ Some c.in_ok-place.place = c.in_ok-place.was in
-    let venues = c.self.inside.venues in
-    let b : BookState = record { symbols = symbols_of c.self.inside.rows.items; venues = venues.count; last = c.self.inside.last; applied = c.self.inside.applied; helped = venues.helped; rows = c.self.inside.rows.items } in
-    let at : position (bytes_eq c.args.symbol.now) (symbols_of c.self.inside.rows.items) ≡ Some c.in_ok-place.place = sym (c.find.ensures ∙ ap (λ (t : List Row). position (bytes_eq c.args.symbol.now) (symbols_of t)) c.as_slice.ensures.value) ∙ was in
-    subst (λ (t : Row). IsStandings venues.count (side_at c.args.side t).standings) (sym c.index-row.ensures)
-    (side_stands c.args.side venues.helped venues.count (c.self.inside.applied + 1) (get_or c.self.inside.rows.items c.in_ok-place.place c.index-row.result.now)
-    (row_found c.self.inside.table.words.keys b c.args.symbol.now c.in_ok-place.place c.index-row.result.now c.self.invariant at))
+    subst (λ (t : List Best). IsRanking entries c.args.symbol.now c.args.side t) (sym (c.ranks.ensures ∙ ap (ranks_at c.args.side) c.index.ensures))
+    (ranking_found c.self.inside.table.words.keys b entries c.args.symbol.now c.args.side c.in_ok-place.place c.index.result.now c.self.invariant here at)
