@@ -8,10 +8,9 @@ use Rattle.mold_packet.specs.Faults.{HasFault}
 use Rattle.line_arbiter.specs.declared.outcome.Outcome.{Outcome}
 use Rattle.line_arbiter.specs.declared.outcome.LineFault.{LineFault}
 use Rattle.line_arbiter.specs.declared.faults.RenewFault.{RenewFault}
-use Rattle.line_arbiter.specs.declared.faults.RenewFault.TheVariants.{NotEnded, SessionUsed, TooManySessions}
 use Rattle.line_arbiter.specs.Packets.{Arrival, arrival_of}
 use Rattle.line_arbiter.specs.Outcomes.{IsOutcome}
-use Rattle.line_arbiter.specs.Renewals.{IsRenewal}
+use Rattle.line_arbiter.proofs.OneOutcome.{one_renewal}
 use Rattle.feed_types.specs.declared.journal.Entry.{Entry}
 use Rattle.feed_types.specs.declared.journal.Entry.TheVariants.{Consumed, SelfHelp}
 use Rattle.feed_text.proofs.Tales.{entries_more}
@@ -46,24 +45,6 @@ one_packet window gaps venue line bytes old n1 n2 l1 l2 one a b =
     let x : a.answer ≡ b.answer = one.outcome old.present.name window (sent_of old) old.present.packets b.packet a.answer b.answer first b.outcome in
     let n : n1 ≡ n2 = a.grown ∙ ap (λ (q : Content). G q a.answer) p ∙ ap (λ (y : Result Outcome LineFault). G b.packet y) x ∙ sym b.grown in
     (a.told_is ∙ ap (λ (y : Result Outcome LineFault). F y n1) x ∙ ap (λ (h : History). F b.answer h) n ∙ sym b.told_is, n)
-
-one_renewal : (sessions : List (List ℕ)) (end : Option ℕ) (sent : ℕ) (name : List ℕ) (a b : Result ℕ RenewFault) → IsRenewal sessions end sent name a → IsRenewal sessions end sent name b → a ≡ b
-one_renewal sessions end sent name (Ok m) (Ok n) x y = ap Ok (x.3 ∙ sym y.3)
-one_renewal sessions end sent name (Ok m) (Err NotEnded) x y = absurd (y x.0)
-one_renewal sessions end sent name (Ok m) (Err SessionUsed) x y = absurd (x.1 y.1)
-one_renewal sessions end sent name (Ok m) (Err TooManySessions) x y = let few = x.2 in let many = y.2 in absurd (omega arith)
-one_renewal sessions end sent name (Err NotEnded) (Ok n) x y = absurd (x y.0)
-one_renewal sessions end sent name (Err NotEnded) (Err NotEnded) x y = refl
-one_renewal sessions end sent name (Err NotEnded) (Err SessionUsed) x y = absurd (x y.0)
-one_renewal sessions end sent name (Err NotEnded) (Err TooManySessions) x y = absurd (x y.0)
-one_renewal sessions end sent name (Err SessionUsed) (Ok n) x y = absurd (y.1 x.1)
-one_renewal sessions end sent name (Err SessionUsed) (Err NotEnded) x y = absurd (y x.0)
-one_renewal sessions end sent name (Err SessionUsed) (Err SessionUsed) x y = refl
-one_renewal sessions end sent name (Err SessionUsed) (Err TooManySessions) x y = absurd (y.1 x.1)
-one_renewal sessions end sent name (Err TooManySessions) (Ok n) x y = let many = x.2 in let few = y.2 in absurd (omega arith)
-one_renewal sessions end sent name (Err TooManySessions) (Err NotEnded) x y = absurd (y x.0)
-one_renewal sessions end sent name (Err TooManySessions) (Err SessionUsed) x y = absurd (x.1 y.1)
-one_renewal sessions end sent name (Err TooManySessions) (Err TooManySessions) x y = refl
 
 one_at : (window : ℕ) (gaps : Bool) (r : CaptureRecord) (old n1 n2 : History) (l1 l2 : List Happening) → Single → TellsAt window gaps r old l1 n1 → TellsAt window gaps r old l2 n2 → (l1 ≡ l2) × (n1 ≡ n2)
 one_at window gaps (datagram_record venue line bytes) old n1 n2 l1 l2 one (inl a) (inl b) = one_fault window gaps venue line bytes old n1 n2 l1 l2 one a b

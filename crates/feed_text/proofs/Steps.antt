@@ -16,7 +16,7 @@ use Rattle.feed_text.specs.Told.{TellsRecord, Tells}
 use Rattle.feed_text.specs.Texts.{text_of, new_histories, TellsAll, HasRoom, lines_told, IsLinesOf, IsTextOf, IsLinesToFull}
 use Rattle.feed_text.specs.Tales.{Tale, IsWithin, GoesOn}
 use Rattle.feed_text.specs.Following.{VenueList, FollowAll, TakesRecord, PrintsLast}
-use Rattle.feed_text.specs.Replays.{venues_in, HasRead, ReplaysAll, ReplaysTo, ReplaysUntil, ReplaysFront}
+use Rattle.feed_text.specs.Replays.{venues_in, HasRead, ReplaysAll, ReplaysTo, ReplaysUntil, ReplaysFront, texts_of}
 use Rattle.journal_book.specs.Running.{RunningState, new_running}
 use Rattle.feed_text.proofs.Tales.{entries_more, text_more, tale_with, tale_from}
 
@@ -228,7 +228,7 @@ refused_of laws x w = replays_until (so_far_moved laws x (record { shown = _; ta
 
 -- the writer failed within the text
 pub front_wrote : {R W : Type 0} {reading : Reading R} {writing : Writing W} {config : ReplayConfig} {from to : R} {calls : ℕ} {before mid after : W} {venues : VenueList} {rest : List ℕ} {t : Tale}
-    → Laws reading writing → SoFar reading writing config from calls to before mid venues rest t → Wrote writing.adds mid t.text after → ReplaysFront reading writing config from to before after
+    → Laws reading writing → SoFar reading writing config from calls to before mid venues rest t → Wrote writing.adds mid t.text after → ReplaysFront reading writing config (texts_of config) from to before after
 front_wrote {writing = writing} {config = config} {before = before} {after = after} {t = t} laws x w =
     let all : x.shown ++ t.text ≡ lines_told config x.told = x.tale_is.all in
     let front : take (length x.shown + w.count) (lines_told config x.told) ≡ x.shown ++ take w.count t.text = rw (← all) (take-append-add x.shown _ _) in
@@ -317,7 +317,7 @@ full_until {writing = writing} {before = before} {after = after} laws x w = reco
 
 -- or a front of it
 pub full_front : {R W : Type 0} {reading : Reading R} {writing : Writing W} {config : ReplayConfig} {from to : R} {calls : ℕ} {before mid after : W} {text : List ℕ}
-    → Laws reading writing → FullHere reading writing config from calls to before mid text → Wrote writing.adds mid text after → ReplaysFront reading writing config from to before after
+    → Laws reading writing → FullHere reading writing config from calls to before mid text → Wrote writing.adds mid text after → ReplaysFront reading writing config (texts_of config) from to before after
 full_front {writing = writing} {before = before} {after = after} {text = text} laws x w =
     let all : x.shown ++ text ≡ x.lines = x.all in
     let front : take (length x.shown + w.count) x.lines ≡ x.shown ++ take w.count text = rw (← all) (take-append-add x.shown _ _) in
@@ -345,7 +345,7 @@ text_closed {config = config} x last = record {
 -- all that was read is records, and the last lines were written
 pub replays_all : {R W : Type 0} {reading : Reading R} {writing : Writing W} {config : ReplayConfig} {from mid to : R} {calls : ℕ} {before written after : W} {venues : VenueList} {rest lines : List ℕ} {t : Tale}
     → calls + 1 ≤ config.turns → Laws reading writing → SoFar reading writing config from calls mid before written venues rest t → t.text ≡ [] → rest ≡ [] → reading.ends mid to → PrintsLast venues [] lines → writing.adds written lines after
-    → ReplaysAll reading writing config from to before after
+    → ReplaysAll reading writing config (IsTextOf config) from to before after
 replays_all {reading = reading} {writing = writing} {config = config} {from = from} {mid = mid} {calls = calls} {before = before} {after = after} {lines = lines} within laws x none e end last w = record {
   records = x.records;
   calls = calls;
@@ -361,7 +361,7 @@ replays_all {reading = reading} {writing = writing} {config = config} {from = fr
 -- the writer failed within the last lines
 pub front_closed : {R W : Type 0} {reading : Reading R} {writing : Writing W} {config : ReplayConfig} {from mid to : R} {calls : ℕ} {before written after : W} {venues : VenueList} {rest lines : List ℕ} {t : Tale}
     → Laws reading writing → SoFar reading writing config from calls mid before written venues rest t → t.text ≡ [] → rest ≡ [] → reading.ends mid to → PrintsLast venues [] lines → Wrote writing.adds written lines after
-    → ReplaysFront reading writing config from to before after
+    → ReplaysFront reading writing config (texts_of config) from to before after
 front_closed {writing = writing} {config = config} {before = before} {after = after} {lines = lines} laws x none e end last w =
     let shown : x.shown ≡ lines_told config x.told = shown_all x none in
     let front : take (length x.shown + w.count) (lines_told config x.told ++ lines) ≡ x.shown ++ take w.count lines = rw (← shown) (take-append-add x.shown _ _) in

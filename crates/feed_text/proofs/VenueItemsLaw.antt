@@ -1,4 +1,4 @@
--- What is told of a venue's items is its streams, and these are its sessions'.
+-- What is told of a venue's items is its streams.
 use Rattle.std.proofs.Common.{◌≡◌, ◌≢◌, ℕ, zero, suc, Bool, true, false, List, [], ◌∷◌, ◌++◌, length, map, drop, Some, None, Option, Result, Ok, Err, refl, sym, ap, subst, ◌∙◌, arith, append_assoc, append-nil, inl, inr}
 use Rattle.std.specs.Prelude.{◌==◌, slice_get, slice_set, if◌then◌else◌}
 use Rattle.std.specs.List.{AllByRecursion}
@@ -7,7 +7,6 @@ use Rattle.std.proofs.lemmas.Bool.Decides.{nat_tests}
 use Rattle.std.proofs.lemmas.Grind.{flat_map-append}
 use Rattle.feed_types.specs.declared.item.Numbered.{Numbered}
 use Rattle.feed_types.specs.declared.line.LineId.{LineId}
-use Rattle.feed_types.specs.Sessions.{Session, whole_session, whole_sessions}
 use Rattle.feed_types.specs.Prefix.{IsPrefix}
 use Rattle.mold_packet.specs.declared.request.Request.{Request}
 use Rattle.line_arbiter.specs.declared.outcome.Outcome.{Outcome}
@@ -15,19 +14,17 @@ use Rattle.line_arbiter.specs.declared.outcome.LineFault.{LineFault}
 use Rattle.line_arbiter.specs.declared.faults.RenewFault.{RenewFault}
 use Rattle.line_arbiter.specs.Packets.{Arrival, arrival_of, end_of}
 use Rattle.line_arbiter.specs.Renewals.{IsRenewal}
-use Rattle.line_arbiter.specs.Streams.{IsComplete, front_of, stream_of, gap_of}
+use Rattle.line_arbiter.specs.Streams.{IsComplete, stream_of, gap_of}
 use Rattle.line_arbiter.specs.Answered.{IsAnswered, AreAnswered}
 use Rattle.line_arbiter.specs.Histories.{Begun, History, new_history, new_session, all_begun, names_of, streams_of, after_arrival, history_after}
 use Rattle.line_arbiter.specs.Histories as histories
-use Rattle.line_arbiter.specs.OfSession.{IsOfSession, AreOfSession, GivesSession, session_stream}
 use Rattle.line_arbiter.proofs.Below.{answered_more, answered_grows, all_sent}
-use Rattle.line_arbiter.proofs.Giving.{gives_session}
 use Rattle.feed_text.specs.declared.replay.ReplayConfig.{ReplayConfig}
 use Rattle.feed_text.specs.Capture.{CaptureRecord, datagram_record, renewal_record, self_help_record, venue_of}
 use Rattle.feed_text.specs.Happenings.{Happening, item_taken, packet_answered, renewal_answered}
 use Rattle.feed_text.specs.Told.{sent_of, gap_happening, gap_told, TellsPacket, TellsAt, TellsRecord, Tells}
 use Rattle.feed_text.specs.Texts.{TellsAll}
-use Rattle.feed_text.specs.VenueItems.{taken_by, items_taken, HoldsOnly, HoldOnly, AreSession, TellsSessions}
+use Rattle.feed_text.specs.VenueItems.{taken_by, items_taken}
 use Rattle.feed_text.proofs.Telling.{get_set_same, get_set_other, same_or_not}
 
 -- ---- what came to a venue
@@ -42,16 +39,10 @@ pub record IsKept (window : ℕ) (h : History) : Type 0 where
   pub over : AllByRecursion (IsOver window) h.earlier
   pub answered : AreAnswered h.present.name window h.present.packets
 
--- of what came, each packet of the session's name is of it
-pub record IsOnly (s : Session) (h : History) : Type 0 where
-  pub earlier : AllByRecursion (λ b. AreOfSession s b.packets) h.earlier
-  pub present : AreOfSession s h.present.packets
-
 -- What a record makes of a venue: what was told of its items comes behind its streams.
-pub record GoesOn (window place : ℕ) (r : CaptureRecord) (old : History) (told : List Happening) (new : History) : Type 0 where
+pub record GoesOn (window place : ℕ) (old : History) (told : List Happening) (new : History) : Type 0 where
   pub items : streams_of new ≡ streams_of old ++ items_taken place told
   pub kept : IsKept window new
-  pub only : (s : Session) → HoldsOnly place s r → IsOnly s old → IsOnly s new
 
 all_push : {X : Type 0} (Q : X → Type 0) (xs : List X) (x : X) → AllByRecursion Q xs → Q x → AllByRecursion Q (xs ++ x ∷ [])
 all_push Q [] x all one = (one, tt)
@@ -68,11 +59,11 @@ same n = grind (arith, nat_tests)
 other : (m n : ℕ) → m ≢ n → (m == n) ≡ false
 other m n h = grind (arith, nat_tests, h)
 
-items_same : (place : ℕ) (xs : List Numbered) → items_taken place (map (item_taken place) xs) ≡ xs
+pub items_same : (place : ℕ) (xs : List Numbered) → items_taken place (map (item_taken place) xs) ≡ xs
 items_same place [] = refl
 items_same place (x ∷ xs) = ap (λ (b : Bool). (if b then x ∷ [] else []) ++ items_taken place (map (item_taken place) xs)) (same place) ∙ ap (λ (ys : List Numbered). x ∷ ys) (items_same place xs)
 
-items_other : (place venue : ℕ) (xs : List Numbered) → venue ≢ place → items_taken place (map (item_taken venue) xs) ≡ []
+pub items_other : (place venue : ℕ) (xs : List Numbered) → venue ≢ place → items_taken place (map (item_taken venue) xs) ≡ []
 items_other place venue [] h = refl
 items_other place venue (x ∷ xs) h = ap (λ (b : Bool). (if b then x ∷ [] else []) ++ items_taken place (map (item_taken venue) xs)) (other venue place h) ∙ items_other place venue xs h
 
@@ -94,11 +85,10 @@ packet_items place window gaps venue line answer xs h =
 
 -- ---- a record of the venue
 
-stays : (window place : ℕ) (r : CaptureRecord) (old new : History) (told : List Happening) → IsKept window old → new ≡ old → items_taken place told ≡ [] → GoesOn window place r old told new
-stays window place r old new told k e none = subst (GoesOn window place r old told) (sym e) (record {
+stays : (window place : ℕ) (old new : History) (told : List Happening) → IsKept window old → new ≡ old → items_taken place told ≡ [] → GoesOn window place old told new
+stays window place old new told k e none = subst (GoesOn window place old told) (sym e) (record {
   items = sym (append-nil (streams_of old)) ∙ ap (λ (xs : List Numbered). streams_of old ++ xs) (sym none);
   kept = k;
-  only = λ s may o. o;
 })
 
 seam : {xs ys : List Numbered} → IsPrefix xs ys → ys ≡ xs ++ drop (length xs) ys
@@ -111,7 +101,7 @@ module _ (window : ℕ) (gaps : Bool) (venue : ℕ) where
       let ready : List Numbered = drop (sent_of old) (stream_of new.present.packets) in
       ap (items_taken venue) t.told_is ∙ packet_items venue window gaps venue line t.answer ready new ∙ items_same venue ready
 
-  packet_goes : (line : LineId) (bytes : List ℕ) (old new : History) (told : List Happening) → IsKept window old → TellsPacket window gaps venue line bytes old told new → GoesOn window venue (datagram_record venue line bytes) old told new
+  packet_goes : (line : LineId) (bytes : List ℕ) (old new : History) (told : List Happening) → IsKept window old → TellsPacket window gaps venue line bytes old told new → GoesOn window venue old told new
   packet_goes line bytes old new told k t =
       let a : Arrival = arrival_of line t.packet t.answer in
       let b : Begun = old.present in
@@ -119,20 +109,19 @@ module _ (window : ℕ) (gaps : Bool) (venue : ℕ) where
       let ready : List Numbered = drop (sent_of old) (stream_of next.packets) in
       let one : IsAnswered b.name window b.packets a = record { content = t.spells.content; sent = sent_of old; outcome = t.outcome } in
       let items : items_taken venue told ≡ ready = ready_items line bytes old new told t ∙ ap (λ (h : History). drop (sent_of old) (stream_of h.present.packets)) t.grown in
-      subst (GoesOn window venue (datagram_record venue line bytes) old told) (sym t.grown) (record {
+      subst (GoesOn window venue old told) (sym t.grown) (record {
         items = items_push old.earlier next
             ∙ ap (λ (xs : List Numbered). histories.items_of old.earlier ++ xs) (seam (answered_grows b.name window b.packets a k.answered one))
             ∙ sym (append_assoc (histories.items_of old.earlier) (stream_of b.packets) ready)
             ∙ ap (λ (xs : List Numbered). xs ++ ready) (sym (items_push old.earlier b))
             ∙ ap (λ (xs : List Numbered). streams_of old ++ xs) (sym items);
         kept = record { over = k.over; answered = answered_more b.name window b.packets a k.answered one };
-        only = λ s may o. record { earlier = o.earlier; present = all_push (λ x. x.packet.session ≡ s.name → IsOfSession s x.packet) b.packets a o.present (may refl t.packet t.rest t.spells) };
       })
 
   renewal_goes : (name : List ℕ) (old new : History) (told : List Happening) (answer : Result ℕ RenewFault) → IsKept window old
-      → IsRenewal (names_of old) (end_of old.present.packets) (sent_of old) name answer → new ≡ history_after old name answer → told ≡ renewal_answered venue answer ∷ [] → GoesOn window venue (renewal_record venue name) old told new
-  renewal_goes name old new told (Err fault) k is after told_is = stays window venue (renewal_record venue name) old new told k after (ap (items_taken venue) told_is)
-  renewal_goes name old new told (Ok ordinal) k is after told_is = subst (GoesOn window venue (renewal_record venue name) old told) (sym after) (record {
+      → IsRenewal (names_of old) (end_of old.present.packets) (sent_of old) name answer → new ≡ history_after old name answer → told ≡ renewal_answered venue answer ∷ [] → GoesOn window venue old told new
+  renewal_goes name old new told (Err fault) k is after told_is = stays window venue old new told k after (ap (items_taken venue) told_is)
+  renewal_goes name old new told (Ok ordinal) k is after told_is = subst (GoesOn window venue old told) (sym after) (record {
     items = items_push (all_begun old) (new_session name) ∙ ap (λ (xs : List Numbered). streams_of old ++ xs) (sym (ap (items_taken venue) told_is));
     kept = record {
       over = all_push (IsOver window) old.earlier old.present k.over (record {
@@ -141,16 +130,15 @@ module _ (window : ℕ) (gaps : Bool) (venue : ℕ) where
       });
       answered = tt;
     };
-    only = λ s may o. record { earlier = all_push (λ b. AreOfSession s b.packets) old.earlier old.present o.earlier o.present; present = tt };
   })
 
-pub here : (window : ℕ) (gaps : Bool) (r : CaptureRecord) (old new : History) (told : List Happening) → IsKept window old → TellsAt window gaps r old told new → GoesOn window (venue_of r) r old told new
+pub here : (window : ℕ) (gaps : Bool) (r : CaptureRecord) (old new : History) (told : List Happening) → IsKept window old → TellsAt window gaps r old told new → GoesOn window (venue_of r) old told new
 here window gaps (datagram_record venue line bytes) old new told k t = elim t [
-  | inl f ↦ stays window venue (datagram_record venue line bytes) old new told k f.same (ap (items_taken venue) f.told_is ∙ no_gap_items venue window gaps venue new)
+  | inl f ↦ stays window venue old new told k f.same (ap (items_taken venue) f.told_is ∙ no_gap_items venue window gaps venue new)
   | inr p ↦ packet_goes window gaps venue line bytes old new told k p
 ]
 here window gaps (renewal_record venue name) old new told k t = renewal_goes window gaps venue name old new told t.answer k t.is t.after t.told_is
-here window gaps (self_help_record venue on) old new told k t = stays window venue (self_help_record venue on) old new told k t.same (ap (items_taken venue) t.told_is)
+here window gaps (self_help_record venue on) old new told k t = stays window venue old new told k t.same (ap (items_taken venue) t.told_is)
 
 -- ---- a record of another venue
 
@@ -164,26 +152,20 @@ no_items window gaps place (datagram_record venue line bytes) old new told away 
 no_items window gaps place (renewal_record venue name) old new told away t = ap (items_taken place) t.told_is
 no_items window gaps place (self_help_record venue on) old new told away t = ap (items_taken place) t.told_is
 
-elsewhere : (place : ℕ) (s : Session) (r : CaptureRecord) → venue_of r ≢ place → HoldsOnly place s r
-elsewhere place s (datagram_record venue line bytes) away = λ at. absurd (away at)
-elsewhere place s (renewal_record venue name) away = tt
-elsewhere place s (self_help_record venue on) away = tt
-
 -- ---- records
 
 abbrev pub Each : ℕ → List History → Type 0
 Each window hs = (place : ℕ) (h : History) → slice_get hs place ≡ Some h → IsKept window h
 
 -- what records make of the venue at a place
-record Came (window place : ℕ) (rs : List CaptureRecord) (old : List History) (told : List Happening) (new : History) : Type 0 where
+record Came (window place : ℕ) (old : List History) (told : List Happening) (new : History) : Type 0 where
   before : History
   at : slice_get old place ≡ Some before
   items : streams_of new ≡ streams_of before ++ items_taken place told
   kept : IsKept window new
-  only : (s : Session) → HoldOnly place rs s → IsOnly s before → IsOnly s new
 
 pub one_came : (window : ℕ) (gaps : Bool) (r : CaptureRecord) (old mid : List History) (told : List Happening) → Each window old → TellsRecord window gaps r old told mid
-    → (place : ℕ) (h : History) → slice_get mid place ≡ Some h → (before : History) × (slice_get old place ≡ Some before) × GoesOn window place r before told h
+    → (place : ℕ) (h : History) → slice_get mid place ≡ Some h → (before : History) × (slice_get old place ≡ Some before) × GoesOn window place before told h
 one_came window gaps r old mid told each t place h at =
     let set : slice_get (slice_set old (venue_of r) t.after) place ≡ Some h = subst (λ (hs : List History). slice_get hs place ≡ Some h) t.others at in
     elim (same_or_not place (venue_of r)) [
@@ -193,10 +175,10 @@ one_came window gaps r old mid told each t place h at =
       | inr away ↦
           let old_at : slice_get old place ≡ Some h = sym (get_set_other old (venue_of r) place t.after away) ∙ set in
           let far : venue_of r ≢ place = λ e. away (sym e) in
-          (h, old_at, stays window place r h h told (each place h old_at) refl (no_items window gaps place r t.before t.after told far t.tells))
+          (h, old_at, stays window place h h told (each place h old_at) refl (no_items window gaps place r t.before t.after told far t.tells))
     ]
 
-all_came : (window : ℕ) (gaps : Bool) (rs : List CaptureRecord) (old new : List History) (told : List Happening) → Each window old → Tells window gaps rs old told new → (place : ℕ) (h : History) → slice_get new place ≡ Some h → Came window place rs old told h
+all_came : (window : ℕ) (gaps : Bool) (rs : List CaptureRecord) (old new : List History) (told : List Happening) → Each window old → Tells window gaps rs old told new → (place : ℕ) (h : History) → slice_get new place ≡ Some h → Came window place old told h
 all_came window gaps [] old new told each t place h at =
     let was : slice_get old place ≡ Some h = subst (λ (hs : List History). slice_get hs place ≡ Some h) t.1 at in
     record {
@@ -204,7 +186,6 @@ all_came window gaps [] old new told each t place h at =
       at = was;
       items = sym (append-nil (streams_of h)) ∙ ap (λ (xs : List Numbered). streams_of h ++ xs) (sym (ap (items_taken place) t.0));
       kept = each place h was;
-      only = λ s may o. o;
     }
 all_came window gaps (r ∷ rs) old new told each t place h at =
     let step = one_came window gaps r old t.0 t.1 each t.3 in
@@ -218,7 +199,6 @@ all_came window gaps (r ∷ rs) old new told each t place h at =
           ∙ append_assoc (streams_of one.0) (items_taken place t.1) (items_taken place t.2)
           ∙ ap (λ (xs : List Numbered). streams_of one.0 ++ xs) (sym (ap (items_taken place) t.5 ∙ flat_map-append (taken_by place) t.1 t.2));
       kept = c.kept;
-      only = λ s may o. c.only s may.1 (one.2.only s may.0 o);
     }
 
 -- ---- from the first record on
@@ -232,72 +212,16 @@ pub new_kept : (config : ReplayConfig) → Each config.window (map new_history c
 new_kept config = λ i k e. new_at (IsKept config.window) config.sessions.now (λ name. record { over = tt; answered = tt }) i k e
 
 came : (config : ReplayConfig) (records : List CaptureRecord) (told : List Happening) (histories : List History) → TellsAll config records told histories
-    → (place : ℕ) (h : History) → slice_get histories place ≡ Some h → Came config.window place records (map new_history config.sessions.now) told h
+    → (place : ℕ) (h : History) → slice_get histories place ≡ Some h → Came config.window place (map new_history config.sessions.now) told h
 came config records told histories t place h at = all_came config.window config.gaps records (map new_history config.sessions.now) histories told (new_kept config) t place h at
 
--- ---- with a session
-
-gives : (window : ℕ) (s : Session) (b : Begun) → AreAnswered b.name window b.packets → AreOfSession s b.packets → b.name ≡ s.name → GivesSession s b.packets
-gives window s b answered only name = gives_session s window b.packets (subst (λ (n : List ℕ). AreAnswered n window b.packets) name answered) only
-
-are_session : (window : ℕ) (s : Session) (h : History) → IsKept window h → IsOnly s h → AreSession s h
-are_session window s h k only = record {
-  earlier = each h.earlier k.over only.earlier;
-  present = λ name. gives window s h.present k.answered only.present name;
-}
-  where
-    each : (bs : List Begun) → AllByRecursion (IsOver window) bs → AllByRecursion (λ b. AreOfSession s b.packets) bs → AllByRecursion (λ b. b.name ≡ s.name → GivesSession s b.packets × (stream_of b.packets ≡ whole_session s)) bs
-    each [] over all = tt
-    each (b ∷ bs) over all = (λ name. (let g = gives window s b over.0.answered all.0 name in (g, (g.whole over.0.complete).1)), each bs over.1 all.1)
-
--- ---- session by session
-
-not_none : (f : Session → List ℕ) (ss : List Session) (t : Session) (e : map f (ss ++ t ∷ []) ≡ []) → ⊥
-not_none f [] t e = cc
-not_none f (s ∷ ss) t e = cc
-
-not_none_begun : (bs : List Begun) (b : Begun) (e : [] ≡ map (λ (x : Begun). x.name) (bs ++ b ∷ [])) → ⊥
-not_none_begun [] b e = cc
-not_none_begun (c ∷ bs) b e = cc
-
-head_is : {X : Type 0} (x y : X) (xs ys : List X) → x ∷ xs ≡ y ∷ ys → x ≡ y
-head_is x y xs ys e = cc
-
-tail_is : {X : Type 0} (x y : X) (xs ys : List X) → x ∷ xs ≡ y ∷ ys → xs ≡ ys
-tail_is x y xs ys e = cc
-
--- what is known of a session that came: where a session that is over has its name, that is whole; where the present one has,
--- it is up to its first gap
-abbrev Known : Session → List Begun → Begun → Type 0
-Known s bs b = AllByRecursion (λ c. c.name ≡ s.name → stream_of c.packets ≡ whole_session s) bs × (b.name ≡ s.name → stream_of b.packets ≡ session_stream s (front_of b.packets) (end_of b.packets))
-
-by_session : (Held : Session → Type 0) (bs : List Begun) (b : Begun) (ss : List Session) (t : Session) → ((s : Session) → Held s → Known s bs b)
-    → map (λ (s : Session). s.name) (ss ++ t ∷ []) ≡ map (λ (x : Begun). x.name) (bs ++ b ∷ []) → AllByRecursion Held (ss ++ t ∷ [])
-    → histories.items_of (bs ++ b ∷ []) ≡ whole_sessions ss ++ session_stream t (front_of b.packets) (end_of b.packets)
-by_session Held [] b [] t known e all = append-nil (stream_of b.packets) ∙ (known t all.0).1 (sym (head_is t.name b.name [] [] e))
-by_session Held [] b (s ∷ ss) t known e all = absurd (not_none (λ (s : Session). s.name) ss t (tail_is s.name b.name _ [] e))
-by_session Held (c ∷ bs) b [] t known e all = absurd (not_none_begun bs b (tail_is t.name c.name [] _ e))
-by_session Held (c ∷ bs) b (s ∷ ss) t known e all =
-    ap (λ (xs : List Numbered). xs ++ histories.items_of (bs ++ b ∷ [])) ((known s all.0).0.0 (sym (head_is s.name c.name _ _ e)))
-    ∙ ap (λ (xs : List Numbered). whole_session s ++ xs) (by_session Held bs b ss t (λ u h. let k = known u h in (k.0.1, k.1)) (tail_is s.name c.name _ _ e) all.1)
-    ∙ sym (append_assoc (whole_session s) (whole_sessions ss) _)
-
-known_of : (s : Session) (h : History) → AreSession s h → Known s h.earlier h.present
-known_of s h are = (wholes h.earlier are.earlier, λ name. (are.present name).stream)
-  where
-    wholes : (bs : List Begun) → AllByRecursion (λ b. b.name ≡ s.name → GivesSession s b.packets × (stream_of b.packets ≡ whole_session s)) bs → AllByRecursion (λ c. c.name ≡ s.name → stream_of c.packets ≡ whole_session s) bs
-    wholes [] all = tt
-    wholes (b ∷ bs) all = (λ name. (all.0 name).1, wholes bs all.1)
-
-pub tells_sessions : (config : ReplayConfig) (records : List CaptureRecord) (told : List Happening) (histories : List History) → TellsAll config records told histories
-    → (place : ℕ) (h : History) → slice_get histories place ≡ Some h → TellsSessions records place told h
-tells_sessions config records told hs t place h at =
+pub taken_are_streams : (config : ReplayConfig) (records : List CaptureRecord) (told : List Happening) (histories : List History) → TellsAll config records told histories
+    → (place : ℕ) (h : History) → slice_get histories place ≡ Some h → items_taken place told ≡ streams_of h
+taken_are_streams config records told hs t place h at =
     let c = came config records told hs t place h at in
-    let first = new_at (λ k. (streams_of k ≡ []) × ((s : Session) → IsOnly s k)) config.sessions.now (λ name. (refl, λ s. record { earlier = tt; present = tt })) place c.before c.at in
-    let items : items_taken place told ≡ streams_of h = sym (c.items ∙ ap (λ (xs : List Numbered). xs ++ items_taken place told) first.0) in
-    let are : (s : Session) → HoldOnly place records s → AreSession s h = λ s may. are_session config.window s h c.kept (c.only s may (first.1 s)) in
-    record {
-      items = items;
-      session = are;
-      sessions = λ earlier present e all. items ∙ by_session (HoldOnly place records) h.earlier h.present earlier present (λ s may. known_of s h (are s may)) e all;
-    }
+    let first = new_at (λ k. streams_of k ≡ []) config.sessions.now (λ name. refl) place c.before c.at in
+    sym (c.items ∙ ap (λ (xs : List Numbered). xs ++ items_taken place told) first)
+
+-- each packet of what came was answered as it should be
+pub all_kept : (config : ReplayConfig) (records : List CaptureRecord) (told : List Happening) (histories : List History) → TellsAll config records told histories → Each config.window histories
+all_kept config records told hs t place h at = (came config records told hs t place h at).kept

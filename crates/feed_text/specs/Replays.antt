@@ -11,6 +11,13 @@ use Rattle.feed_text.specs.Texts.{IsLinesOf, IsTextOf, IsLinesToFull}
 abbrev pub venues_in : ReplayConfig → ℕ
 venues_in config = length config.sessions.now
 
+-- What is said of what a replay writes: of the text of a whole capture, of the lines of its
+-- records, and of the lines up to a full journal.
+pub record TextFacts : Type 1 where
+  pub IsText : List CaptureRecord → List ℕ → Type 0
+  pub AreLines : List CaptureRecord → List ℕ → Type 0
+  pub AreLinesToFull : List CaptureRecord → List ℕ → Type 0
+
 -- By so many calls these records and then this rest were read.
 pub record HasRead {R : Type 0} (reading : Reading R) (config : ReplayConfig)
     (from : R) (calls : ℕ) (to : R) (records : List CaptureRecord) (rest : List ℕ) : Type 0 where
@@ -20,7 +27,8 @@ pub record HasRead {R : Type 0} (reading : Reading R) (config : ReplayConfig)
 -- A whole capture was read by fewer than so many calls, one more call showed the end, and its
 -- text was written, and nothing else.
 pub record ReplaysAll {R W : Type 0} (reading : Reading R) (writing : Writing W)
-    (config : ReplayConfig) (from to : R) (before after : W) : Type 0 where
+    (config : ReplayConfig) (IsText : List CaptureRecord → List ℕ → Type 0)
+    (from to : R) (before after : W) : Type 0 where
   pub records : List CaptureRecord
   pub calls : ℕ
   pub within : calls + 1 ≤ config.turns
@@ -28,7 +36,7 @@ pub record ReplaysAll {R W : Type 0} (reading : Reading R) (writing : Writing W)
   pub read : HasRead reading config from calls mid records []
   pub end : reading.ends mid to
   pub text : List ℕ
-  pub is : IsTextOf config records text
+  pub is : IsText records text
   pub wrote : writing.adds before text after
 
 -- By so many calls records and then a rest of this kind were read, and exactly these lines of the
@@ -57,43 +65,58 @@ pub record ReplaysUntil {R W : Type 0} (reading : Reading R) (writing : Writing 
 -- of their lines, of those up to a full journal, or, where nothing is left and one more call showed
 -- the end, of their lines and the venues'.
 pub record ReplaysFront {R W : Type 0} (reading : Reading R) (writing : Writing W)
-    (config : ReplayConfig) (from to : R) (before after : W) : Type 0 where
+    (config : ReplayConfig) (texts : TextFacts) (from to : R) (before after : W) : Type 0 where
   pub records : List CaptureRecord
   pub rest : List ℕ
   pub calls : ℕ
   pub mid : R
   pub read : HasRead reading config from calls mid records rest
   pub text : List ℕ
-  pub is : (IsLinesOf config records text × (mid ≡ to))
-      ⊎ (IsLinesToFull config records text × (mid ≡ to))
-      ⊎ (IsTextOf config records text × (rest ≡ []) × reading.ends mid to)
+  pub is : (texts.AreLines records text × (mid ≡ to))
+      ⊎ (texts.AreLinesToFull records text × (mid ≡ to))
+      ⊎ (texts.IsText records text × (rest ≡ []) × reading.ends mid to)
   pub wrote : Wrote writing.adds before text after
+
+-- What a replay came to, by its answer, where this is said of what it writes.
+abbrev pub ReplaysBy : {R W : Type 0} (reading : Reading R) (writing : Writing W)
+    (config : ReplayConfig) (texts : TextFacts) (from to : R) (before after : W)
+    → Result (Unit {0}) ReplayFault → Type 0
+ReplaysBy reading writing config texts from to before after (Ok done) =
+    ReplaysAll reading writing config texts.IsText from to before after
+ReplaysBy reading writing config texts from to before after (Err BadRecord) =
+    ReplaysUntil reading writing config texts.AreLines (IsBad (venues_in config))
+    (λ mid. mid ≡ to) from before after
+ReplaysBy reading writing config texts from to before after (Err ShortRecord) =
+    ReplaysUntil reading writing config texts.AreLines (IsShort (venues_in config))
+    (λ mid. reading.ends mid to) from before after
+ReplaysBy reading writing config texts from to before after (Err TooManyTurns) =
+    ReplaysTo reading writing config texts.AreLines (IsUnfinished (venues_in config))
+    from config.turns to before after
+ReplaysBy reading writing config texts from to before after (Err JournalFull) =
+    ReplaysUntil reading writing config texts.AreLinesToFull (λ rest. ⊤) (λ mid. mid ≡ to)
+    from before after
+ReplaysBy reading writing config texts from to before after (Err ReadFailed) =
+    ReplaysUntil reading writing config texts.AreLines (IsUnfinished (venues_in config))
+    (λ mid. ⊤) from before after
+    × (reading.failures to ≡ reading.failures from + 1)
+ReplaysBy reading writing config texts from to before after (Err WriteFailed) =
+    ReplaysFront reading writing config texts from to before after
+    × (writing.failures after ≡ writing.failures before + 1)
+ReplaysBy reading writing config texts from to before after (Err NoMemory) =
+    ReplaysUntil reading writing config texts.AreLines (λ rest. ⊤)
+    (λ mid. (mid ≡ to) ⊎ reading.ends mid to) from before after
+
+-- the text of a capture, and the lines of its records
+abbrev pub texts_of : ReplayConfig → TextFacts
+texts_of config = record {
+  IsText = IsTextOf config;
+  AreLines = IsLinesOf config;
+  AreLinesToFull = IsLinesToFull config;
+}
 
 -- What a replay came to, by its answer.
 abbrev pub Replays : {R W : Type 0} (reading : Reading R) (writing : Writing W)
     (config : ReplayConfig) (from to : R) (before after : W)
     → Result (Unit {0}) ReplayFault → Type 0
-Replays reading writing config from to before after (Ok done) =
-    ReplaysAll reading writing config from to before after
-Replays reading writing config from to before after (Err BadRecord) =
-    ReplaysUntil reading writing config (IsLinesOf config) (IsBad (venues_in config))
-    (λ mid. mid ≡ to) from before after
-Replays reading writing config from to before after (Err ShortRecord) =
-    ReplaysUntil reading writing config (IsLinesOf config) (IsShort (venues_in config))
-    (λ mid. reading.ends mid to) from before after
-Replays reading writing config from to before after (Err TooManyTurns) =
-    ReplaysTo reading writing config (IsLinesOf config) (IsUnfinished (venues_in config))
-    from config.turns to before after
-Replays reading writing config from to before after (Err JournalFull) =
-    ReplaysUntil reading writing config (IsLinesToFull config) (λ rest. ⊤) (λ mid. mid ≡ to)
-    from before after
-Replays reading writing config from to before after (Err ReadFailed) =
-    ReplaysUntil reading writing config (IsLinesOf config) (IsUnfinished (venues_in config))
-    (λ mid. ⊤) from before after
-    × (reading.failures to ≡ reading.failures from + 1)
-Replays reading writing config from to before after (Err WriteFailed) =
-    ReplaysFront reading writing config from to before after
-    × (writing.failures after ≡ writing.failures before + 1)
-Replays reading writing config from to before after (Err NoMemory) =
-    ReplaysUntil reading writing config (IsLinesOf config) (λ rest. ⊤)
-    (λ mid. (mid ≡ to) ⊎ reading.ends mid to) from before after
+Replays reading writing config from to before after answer =
+    ReplaysBy reading writing config (texts_of config) from to before after answer

@@ -1,13 +1,13 @@
 //! What the definitions mean together.
 ghost use Rattle.std.specs.Prelude.{◌≡◌, ℕ, Bool, List, Some, All, slice_get};
-ghost use Rattle.line_arbiter.specs.Histories.{History};
+ghost use Rattle.line_arbiter.specs.Histories.{History, streams_of};
 ghost use Rattle.feed_text.specs.declared.replay.ReplayConfig.{ReplayConfig};
 ghost use Rattle.feed_text.specs.Capture.{CaptureRecord, HoldsBytes, IsRecord, NoRecord, capture_of};
 ghost use Rattle.feed_text.specs.Happenings.{Happening};
 ghost use Rattle.feed_text.specs.Told.{Tells};
 ghost use Rattle.feed_text.specs.Texts.{TellsAll, IsLinesOf, IsTextOf, IsLinesToFull};
 ghost use Rattle.feed_text.specs.Replays.{venues_in};
-ghost use Rattle.feed_text.specs.VenueItems.{TellsSessions};
+ghost use Rattle.feed_text.specs.VenueItems.{items_taken};
 
 /// A capture has one reading: where the same bytes are records and then a rest that begins with none,
 /// the records and the rest are the same.
@@ -48,12 +48,12 @@ pub fn every_capture_tells()
         × TellsAll config records told histories }
 {}
 
-/// What is printed of a venue's items is what its lines brought: its sessions' messages, session by
-/// session up to the first gap, each once, in sequence and none after their session's end.
+/// The items that are told of a venue are its streams: session after session, what its lines
+/// brought up to the first gap, each once and in sequence, whether or not the journal has room.
 pub fn items_are_the_streams()
     ensures { (config : ReplayConfig) (records : List CaptureRecord) (told : List Happening)
         (histories : List History)
         → TellsAll config records told histories
         → (place : ℕ) (h : History) → slice_get histories place ≡ Some h
-        → TellsSessions records place told h }
+        → items_taken place told ≡ streams_of h }
 {}

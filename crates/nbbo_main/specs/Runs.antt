@@ -9,7 +9,8 @@ use Rattle.feed_text.specs.declared.fault.ReplayFault.{ReplayFault}
 use Rattle.feed_text.specs.declared.fault.ReplayFault.TheVariants.{WriteFailed}
 use Rattle.feed_text.specs.declared.replay.ReplayConfig.{ReplayConfig}
 use Rattle.feed_text.specs.Devices.{Reading, Writing, Wrote}
-use Rattle.feed_text.specs.Replays.{Replays}
+use Rattle.feed_text.specs.Replays.{Replays, ReplaysBy}
+use Rattle.replay_run.specs.Printed.{texts_of_run}
 use Rattle.nbbo_main.specs.CommandLine.{Asks, AsksReplay, IsRefused, refusal_status, refusal_text}
 use Rattle.nbbo_main.specs.Ending.{ending_status, ending_text}
 use Rattle.nbbo_main.specs.declared.refusal.Refusal.{Refusal}
@@ -42,8 +43,9 @@ pub record IsConfigOf (settings : ReplaySettings) (config : ReplayConfig) : Type
   pub gaps : config.gaps ≡ settings.gaps
   pub turns : config.turns ≡ 1000000000
 
--- Input was replayed onto output, as the settings say. Standard error has the hint, and then the
--- line of how the replay ended; the status is that of how it ended.
+-- Input was replayed onto output, as the settings say, and what was written is that of a run of the
+-- machine over the records that were read, of which the headline holds. Standard error has the
+-- hint, and then the line of how the replay ended; the status is that of how it ended.
 pub record RunsReplay {R W E : Type 0}
     (reading : Reading R) (writing : Writing W) (telling : Writing E)
     (settings : ReplaySettings) (at_terminal : Bool)
@@ -52,6 +54,7 @@ pub record RunsReplay {R W E : Type 0}
   pub is : IsConfigOf settings config
   pub outcome : Result (Unit {0}) ReplayFault
   pub replays : Replays reading writing config from to before after outcome
+  pub run : ReplaysBy reading writing config (texts_of_run config) from to before after outcome
   pub hinted : E
   pub hint : Says telling (hint_text at_terminal) silent hinted
   pub line : Says telling (ending_text outcome) hinted told

@@ -11,7 +11,8 @@ use crate::task::Task;
 use feed_text::devices::{CaptureIn, TextOut};
 use feed_text::fault::ReplayFault;
 use feed_text::output::write_all;
-use feed_text::replay::{ReplayConfig, replay};
+use feed_text::replay::ReplayConfig;
+use replay_run::replay;
 use std::alloc::Global;
 
 /// How many calls of the reader a replay makes at most.

@@ -26,7 +26,8 @@ use Rattle.feed_core.specs.Worlds.{Lane, is_full, Venue, World, Setting, new_ven
 use Rattle.feed_core.specs.Worlds as worlds
 use Rattle.feed_core.specs.Steps.{Stays, Comes, stays, goes, next_in, next_out, pushed, journaled, consumed, journal_full, unknown_venue, already_so, declared, is_same, Intake, put_venue, with_sent, with_intake, IsTaken, IsRenewed, IsFaulty, IsNext, IsStep, IsRun}
 use Rattle.feed_core.specs.Steps as steps
-use Rattle.feed_core.specs.VenueHalf.{BringsOnly, BringOnly}
+use Rattle.feed_core.specs.VenueHalf.{BringsOnly, BringOnly, VenueHalf}
+use Rattle.feed_core.specs.Headline.{Headline}
 use Rattle.feed_core.proofs.HeadlineLaw.{headline}
 use Rattle.feed_core.proofs.VenueHalfLaw.{items_push}
 use Rattle.feed_text.specs.declared.replay.ReplayConfig.{ReplayConfig}
@@ -38,9 +39,9 @@ use Rattle.feed_text.specs.Texts.{TellsAll, HasRoom}
 use Rattle.feed_text.proofs.Telling.{same_set}
 use Rattle.feed_text.proofs.Tales.{entries_more}
 use Rattle.feed_text.proofs.OneText.{entries_grow}
-use Rattle.feed_text.specs.VenueItems.{HoldsOnly, HoldOnly}
-use Rattle.feed_text.specs.VenueItems as venue_items
-use Rattle.feed_text.proofs.VenueItemsLaw.{IsKept, Each, ready_items, here, one_came, new_kept}
+use Rattle.feed_text.specs.VenueItems.{items_taken}
+use Rattle.feed_text.proofs.VenueItemsLaw.{IsKept, Each, ready_items, here, one_came, new_kept, taken_are_streams}
+use Rattle.replay_run.specs.VenueItems.{HoldsOnly, HoldOnly, TellsSessions}
 use Rattle.replay_run.specs.Events.{slice_of, event_of, drains, AreEvents, outcomes_by, outcomes_of, replay_setting, consumed_all, world_of, IsReplayRun}
 
 -- ---- lists
@@ -50,12 +51,14 @@ set_twice [] i x y = refl
 set_twice (z ∷ xs) zero x y = refl
 set_twice (z ∷ xs) (suc i) x y = ap (λ (ys : List _). z ∷ ys) (set_twice xs i x y)
 
-get_set_here : {X : Type 0} (xs : List X) (i : ℕ) (w x : X) → slice_get xs i ≡ Some w → slice_get (slice_set xs i x) i ≡ Some x
+pub get_set_here : {X : Type 0} (xs : List X) (i : ℕ) (w x : X) → slice_get xs i ≡ Some w
+    → slice_get (slice_set xs i x) i ≡ Some x
 get_set_here [] i w x e = absurd cc
 get_set_here (z ∷ xs) zero w x e = refl
 get_set_here (z ∷ xs) (suc i) w x e = get_set_here xs i w x e
 
-get_map : {X Y : Type 0} (f : X → Y) (xs : List X) (i : ℕ) (x : X) → slice_get xs i ≡ Some x → slice_get (map f xs) i ≡ Some (f x)
+pub get_map : {X Y : Type 0} (f : X → Y) (xs : List X) (i : ℕ) (x : X) → slice_get xs i ≡ Some x
+    → slice_get (map f xs) i ≡ Some (f x)
 get_map f [] i x e = absurd cc
 get_map f (z ∷ xs) zero x e = ap (λ (o : Option _). some_of f o) e
   where
@@ -64,33 +67,40 @@ get_map f (z ∷ xs) zero x e = ap (λ (o : Option _). some_of f o) e
     some_of f (Some y) = Some (f y)
 get_map f (z ∷ xs) (suc i) x e = get_map f xs i x e
 
-set_map : {X Y : Type 0} (f : X → Y) (xs : List X) (i : ℕ) (x : X) → slice_set (map f xs) i (f x) ≡ map f (slice_set xs i x)
+set_map : {X Y : Type 0} (f : X → Y) (xs : List X) (i : ℕ) (x : X)
+    → slice_set (map f xs) i (f x) ≡ map f (slice_set xs i x)
 set_map f [] i x = refl
 set_map f (z ∷ xs) zero x = refl
 set_map f (z ∷ xs) (suc i) x = ap (λ (ys : List _). f z ∷ ys) (set_map f xs i x)
 
-get_seam : {X : Type 0} (xs ys : List X) (x : X) → slice_get (xs ++ x ∷ ys) (length xs) ≡ Some x
+pub get_seam : {X : Type 0} (xs ys : List X) (x : X) → slice_get (xs ++ x ∷ ys) (length xs) ≡ Some x
 get_seam [] ys x = refl
 get_seam (z ∷ xs) ys x = get_seam xs ys x
 
 -- ---- runs
 
-run_more : (s : Setting) (a b c : World) (es fs : List Event) (ds gs : List Done) → IsRun s a es ds b → IsRun s b fs gs c → IsRun s a (es ++ fs) (ds ++ gs) c
+pub run_more : (s : Setting) (a b c : World) (es fs : List Event) (ds gs : List Done) → IsRun s a es ds b
+    → IsRun s b fs gs c → IsRun s a (es ++ fs) (ds ++ gs) c
 run_more s a b c [] fs [] gs x y = subst (λ (w : World). IsRun s w fs gs c) x y
 run_more s a b c [] fs (d ∷ ds) gs x y = absurd x
 run_more s a b c (e ∷ es) fs [] gs x y = absurd x
 run_more s a b c (e ∷ es) fs (d ∷ ds) gs x y = (x.0, x.1, run_more s x.0 b c es fs ds gs x.2 y)
 
-at_venue : (old : World) (place : ℕ) (v : Venue) (d : Done) (new : World) (Known : Venue → Type 0) → slice_get old.venues place ≡ Some v → Known v → MatchOption (slice_get old.venues place) (Stays unknown_venue old d new) Known
-at_venue old place v d new Known e k = subst (λ (o : Option Venue). MatchOption o (Stays unknown_venue old d new) Known) (sym e) k
+pub at_venue : (old : World) (place : ℕ) (v : Venue) (d : Done) (new : World) (Known : Venue → Type 0)
+    → slice_get old.venues place ≡ Some v → Known v
+    → MatchOption (slice_get old.venues place) (Stays unknown_venue old d new) Known
+at_venue old place v d new Known e k =
+    subst (λ (o : Option Venue). MatchOption o (Stays unknown_venue old d new) Known) (sym e) k
 
 -- ---- what was told
 
-outcomes_more : (old : List Entry) (xs ys : List Happening) → outcomes_of old (xs ++ ys) ≡ outcomes_of old xs ++ outcomes_of (entries_of old xs) ys
+pub outcomes_more : (old : List Entry) (xs ys : List Happening)
+    → outcomes_of old (xs ++ ys) ≡ outcomes_of old xs ++ outcomes_of (entries_of old xs) ys
 outcomes_more old [] ys = refl
 outcomes_more old (x ∷ xs) ys =
     ap (λ (ds : List Done). outcomes_by old x ++ ds) (outcomes_more (entries_after old x) xs ys)
-    ∙ sym (append_assoc (outcomes_by old x) (outcomes_of (entries_after old x) xs) (outcomes_of (entries_of (entries_after old x) xs) ys))
+    ∙ sym (append_assoc (outcomes_by old x) (outcomes_of (entries_after old x) xs)
+    (outcomes_of (entries_of (entries_after old x) xs) ys))
 
 -- a gap has no outcome and no entry
 record IsSilent (hs : List Happening) : Type 0 where
@@ -108,36 +118,50 @@ gap_silent window true venue h = at (gap_of h.present.name window (telling.sent_
 -- ---- items are pushed, and each is consumed at once
 
 -- a world with one venue as it is said
-abbrev at : List Venue → ℕ → Venue → List Entry → World
+abbrev pub at : List Venue → ℕ → Venue → List Entry → World
 at vs place v entries = record { venues = slice_set vs place v; entries = entries; subscribers = []; used = 0 }
 
 -- a venue of which so much was consumed
-abbrev venue_at : History → List Numbered → Venue
+abbrev pub venue_at : History → List Numbered → Venue
 venue_at h items = record { history = h; lane = record { sent = items; received = items } }
 
 -- and one item more was pushed
-abbrev venue_more : History → List Numbered → Numbered → Venue
+abbrev pub venue_more : History → List Numbered → Numbered → Venue
 venue_more h items x = record { history = h; lane = record { sent = items ++ x ∷ []; received = items } }
 
-with_venues : (entries : List Entry) (vs us : List Venue) → vs ≡ us → ◌≡◌ {A = World} (record { venues = vs; entries = entries; subscribers = []; used = 0 }) (record { venues = us; entries = entries; subscribers = []; used = 0 })
-with_venues entries vs us e = ap (λ (l : List Venue). record { venues = l; entries = entries; subscribers = []; used = 0 }) e
+pub with_venues : (entries : List Entry) (vs us : List Venue) → vs ≡ us
+    → ◌≡◌ {A = World} (record { venues = vs; entries = entries; subscribers = []; used = 0 })
+    (record { venues = us; entries = entries; subscribers = []; used = 0 })
+with_venues entries vs us e =
+    ap (λ (l : List Venue). record { venues = l; entries = entries; subscribers = []; used = 0 }) e
 
-module _ (s : Setting) (lane : 1 ≤ s.lane) (vs : List Venue) (place : ℕ) (u : Venue) (there : slice_get vs place ≡ Some u) (h : History) where
-  push_step : (items rest : List Numbered) (x : Numbered) (entries : List Entry) → streams_of h ≡ items ++ x ∷ rest → IsStep s (at vs place (venue_at h items) entries) (Push place) (done.Pushed x.number) (at vs place (venue_more h items x) entries)
+module _ (s : Setting) (lane : 1 ≤ s.lane) (vs : List Venue) (place : ℕ) (u : Venue)
+    (there : slice_get vs place ≡ Some u) (h : History) where
+  pub push_step : (items rest : List Numbered) (x : Numbered) (entries : List Entry)
+      → streams_of h ≡ items ++ x ∷ rest
+      → IsStep s (at vs place (venue_at h items) entries) (Push place) (done.Pushed x.number)
+      (at vs place (venue_more h items x) entries)
   push_step items rest x entries e =
       let v : Venue = venue_at h items in
       let w : World = at vs place v entries in
       let d : Done = done.Pushed x.number in
       let new : World = at vs place (venue_more h items x) entries in
-      let room : nat_le s.lane (length items - length items) ≡ false = lt-leb s.lane (length items - length items) (omega arith) in
-      let next : slice_get (streams_of h) (length items) ≡ Some x = ap (λ (l : List Numbered). slice_get l (length items)) e ∙ get_seam items rest x in
-      at_venue w place v d new (λ v. Comes (with_sent w place v) (pushed (is_full s.lane v.lane) (next_in (streams_of v.history) v.lane) v.lane.sent) w d new) (get_set_here vs place u v there)
-      (subst (λ (b : Bool). Comes (with_sent w place v) (pushed b (slice_get (streams_of h) (length items)) items) w d new) (sym room)
+      let room : nat_le s.lane (length items - length items) ≡ false =
+      lt-leb s.lane (length items - length items) (omega arith) in
+      let next : slice_get (streams_of h) (length items) ≡ Some x =
+      ap (λ (l : List Numbered). slice_get l (length items)) e ∙ get_seam items rest x in
+      at_venue w place v d new
+      (λ v. Comes (with_sent w place v)
+      (pushed (is_full s.lane v.lane) (next_in (streams_of v.history) v.lane) v.lane.sent) w d new)
+      (get_set_here vs place u v there)
+      (subst (λ (b : Bool). Comes (with_sent w place v) (pushed b (slice_get (streams_of h) (length items)) items) w d
+      new) (sym room)
       (subst (λ (o : Option Numbered). Comes (with_sent w place v) (pushed false o items) w d new) (sym next)
       (refl, with_venues entries _ _ (sym (set_twice vs place v (venue_more h items x))))))
 
   consume_step : (items : List Numbered) (x : Numbered) (entries : List Entry) → length entries < s.journal
-      → IsStep s (at vs place (venue_more h items x) entries) (Consume place) (done.Consumed (length entries + 1)) (at vs place (venue_at h (items ++ x ∷ [])) (entries ++ entry.Consumed place x ∷ []))
+      → IsStep s (at vs place (venue_more h items x) entries) (Consume place) (done.Consumed (length entries + 1))
+      (at vs place (venue_at h (items ++ x ∷ [])) (entries ++ entry.Consumed place x ∷ []))
   consume_step items x entries short =
       let v : Venue = venue_more h items x in
       let w : World = at vs place v entries in
@@ -146,28 +170,49 @@ module _ (s : Setting) (lane : 1 ≤ s.lane) (vs : List Venue) (place : ℕ) (u 
       let old : Intake = record { received = items; entries = entries } in
       let room : nat_le s.journal (length entries) ≡ false = lt-leb s.journal (length entries) short in
       let next : slice_get (items ++ x ∷ []) (length items) ≡ Some x = get_seam items [] x in
-      at_venue w place v d new (λ v. Comes (with_intake w place v) (consumed s.journal place (next_out v.lane) (record { received = v.lane.received; entries = w.entries })) w d new) (get_set_here vs place u v there)
-      (subst (λ (b : Bool). Comes (with_intake w place v) (if b then stays journal_full else journaled place (slice_get (items ++ x ∷ []) (length items)) old) w d new) (sym room)
-      (subst (λ (o : Option Numbered). Comes (with_intake w place v) (journaled place o old) w d new) (sym next)
-      (refl, with_venues (entries ++ entry.Consumed place x ∷ []) _ _ (sym (set_twice vs place v (venue_at h (items ++ x ∷ [])))))))
+      at_venue w place v d new
+      (λ v. Comes (with_intake w place v)
+      (consumed s.journal place (next_out v.lane) (record { received = v.lane.received; entries = w.entries })) w
+      d new) (get_set_here vs place u v there)
+      (subst (λ (b : Bool). Comes (with_intake w place v)
+      (if b then stays journal_full else journaled place (slice_get (items ++ x ∷ []) (length items)) old) w d
+      new) (sym room)
+      (subst (λ (o : Option Numbered). Comes (with_intake w place v) (journaled place o old) w d new) (sym next) (
+        refl,
+        with_venues (entries ++ entry.Consumed place x ∷ []) _ _
+            (sym (set_twice vs place v (venue_at h (items ++ x ∷ [])))),
+      )))
 
-  drain : (rest items : List Numbered) (entries : List Entry) → streams_of h ≡ items ++ rest → length entries + length rest ≤ s.journal
-      → IsRun s (at vs place (venue_at h items) entries) (drains place (length rest)) (outcomes_of entries (map (item_taken place) rest))
-      (at vs place (venue_at h (streams_of h)) (entries_of entries (map (item_taken place) rest)))
-  drain [] items entries e room = ap (λ (xs : List Numbered). at vs place (venue_at h xs) entries) (e ∙ append-nil items)
-  drain (x ∷ rest) items entries e room = (
+  pub drain : (ready items more : List Numbered) (entries : List Entry) → streams_of h ≡ items ++ (ready ++ more)
+      → length entries + length ready ≤ s.journal
+      → IsRun s (at vs place (venue_at h items) entries) (drains place (length ready))
+      (outcomes_of entries (map (item_taken place) ready))
+      (at vs place (venue_at h (items ++ ready)) (entries_of entries (map (item_taken place) ready)))
+  drain [] items more entries e room =
+      ap (λ (xs : List Numbered). at vs place (venue_at h xs) entries) (append-nil items)
+  drain (x ∷ ready) items more entries e room = (
     at vs place (venue_more h items x) entries,
-    push_step items rest x entries e,
+    push_step items (ready ++ more) x entries e,
     (
       at vs place (venue_at h (items ++ x ∷ [])) (entries ++ entry.Consumed place x ∷ []),
       consume_step items x entries (omega arith),
-      drain rest (items ++ x ∷ []) (entries ++ entry.Consumed place x ∷ []) (e ∙ sym (append_assoc items (x ∷ []) rest)) (let n = length-append entries (entry.Consumed place x ∷ []) in omega arith),
+      subst (λ (xs : List Numbered). IsRun s
+          (at vs place (venue_at h (items ++ x ∷ [])) (entries ++ entry.Consumed place x ∷ []))
+          (drains place (length ready))
+          (outcomes_of (entries ++ entry.Consumed place x ∷ []) (map (item_taken place) ready))
+          (at vs place (venue_at h xs)
+          (entries_of (entries ++ entry.Consumed place x ∷ []) (map (item_taken place) ready))))
+          (append_assoc items (x ∷ []) ready)
+          (drain ready (items ++ x ∷ []) more (entries ++ entry.Consumed place x ∷ [])
+          (e ∙ sym (append_assoc items (x ∷ []) (ready ++ more)))
+          (let n = length-append entries (entry.Consumed place x ∷ []) in omega arith)),
     ),
   )
 
 -- ---- a record
 
-items_len : (venue : ℕ) (xs : List Numbered) (entries : List Entry) → length (entries_of entries (map (item_taken venue) xs)) ≡ length entries + length xs
+pub items_len : (venue : ℕ) (xs : List Numbered) (entries : List Entry)
+    → length (entries_of entries (map (item_taken venue) xs)) ≡ length entries + length xs
 items_len venue [] entries = omega arith
 items_len venue (x ∷ xs) entries =
     let n = length-append entries (entry.Consumed venue x ∷ []) in
@@ -176,56 +221,111 @@ items_len venue (x ∷ xs) entries =
 
 counted : (h : History) → worlds.sent_of (consumed_all h) ≡ telling.sent_of h
 counted h =
-    let n : length (streams_of h) ≡ length (items_of h.earlier) + length (stream_of h.present.packets) = ap length (items_push h.earlier h.present) ∙ length-append (items_of h.earlier) (stream_of h.present.packets) in
+    let n : length (streams_of h) ≡ length (items_of h.earlier) + length (stream_of h.present.packets) =
+    ap length (items_push h.earlier h.present) ∙ length-append (items_of h.earlier) (stream_of h.present.packets) in
     omega arith
 
-same_after : (old : History) (name : List ℕ) (answer : Result ℕ RenewFault) → history_after old name answer ≡ history_after old name answer
+same_after : (old : History) (name : List ℕ) (answer : Result ℕ RenewFault)
+    → history_after old name answer ≡ history_after old name answer
 same_after old name (Ok ordinal) = refl
 same_after old name (Err fault) = refl
 
-same_so : (entries : List Entry) (venue : ℕ) (on : Bool) → is_same (is_self_helped entries venue) on ≡ is_so entries venue on
+pub same_so : (entries : List Entry) (venue : ℕ) (on : Bool)
+    → is_same (is_self_helped entries venue) on ≡ is_so entries venue on
 same_so entries venue on = by (is_self_helped entries venue) on refl
   where
-    by : (b on : Bool) → is_self_helped entries venue ≡ b → is_same (is_self_helped entries venue) on ≡ is_so entries venue on
+    by : (b on : Bool) → is_self_helped entries venue ≡ b
+        → is_same (is_self_helped entries venue) on ≡ is_so entries venue on
     by true true e = ap (λ (x : Bool). is_same x true) e ∙ sym e
     by false true e = ap (λ (x : Bool). is_same x true) e ∙ sym e
     by true false e = ap (λ (x : Bool). is_same x false) e ∙ sym (ap not e)
     by false false e = ap (λ (x : Bool). is_same x false) e ∙ sym (ap not e)
 
-run_as : (s : Setting) (a : World) (es : List Event) (ds gs : List Done) (b c : World) → ds ≡ gs → b ≡ c → IsRun s a es ds b → IsRun s a es gs c
-run_as s a es ds gs b c e f x = subst (λ (w : World). IsRun s a es gs w) f (subst (λ (l : List Done). IsRun s a es l b) e x)
+run_as : (s : Setting) (a : World) (es : List Event) (ds gs : List Done) (b c : World) → ds ≡ gs → b ≡ c
+    → IsRun s a es ds b → IsRun s a es gs c
+run_as s a es ds gs b c e f x =
+    subst (λ (w : World). IsRun s a es gs w) f (subst (λ (l : List Done). IsRun s a es l b) e x)
 
 -- the record's event and so many drains of its venue come to what is told of it
 abbrev Ran : Setting → CaptureRecord → List History → List Entry → List Happening → List History → Type 0
-Ran s r hs entries told new = (n : ℕ) × IsRun s (world_of hs entries) (event_of r ∷ drains (venue_of r) n) (outcomes_of entries told) (world_of new (entries_of entries told))
+Ran s r hs entries told new =
+    (n : ℕ) × IsRun s (world_of hs entries) (event_of r ∷ drains (venue_of r) n) (outcomes_of entries told)
+    (world_of new (entries_of entries told))
 
-module _ (s : Setting) (gaps : Bool) (lane : 1 ≤ s.lane) (hs : List History) (entries : List Entry) (venue : ℕ) (h : History) (there : slice_get hs venue ≡ Some h) (kept : IsKept s.window h) where
+module _ (s : Setting) (gaps : Bool) (lane : 1 ≤ s.lane) (hs : List History) (entries : List Entry) (venue : ℕ)
+    (h : History) (there : slice_get hs venue ≡ Some h) (kept : IsKept s.window h) where
   vs : List Venue
   vs = map consumed_all hs
 
   there_is : slice_get (map consumed_all hs) venue ≡ Some (consumed_all h)
   there_is = get_map consumed_all hs venue h there
 
-  settled : (new : History) (E : List Entry) → at (map consumed_all hs) venue (consumed_all new) E ≡ world_of (slice_set hs venue new) E
+  settled : (new : History) (E : List Entry)
+      → at (map consumed_all hs) venue (consumed_all new) E ≡ world_of (slice_set hs venue new) E
   settled new E = with_venues E _ _ (set_map consumed_all hs venue new)
 
   unmoved : (new : History) (E F : List Entry) → new ≡ h → E ≡ F → world_of hs E ≡ world_of (slice_set hs venue new) F
-  unmoved new E F e f = ap (λ (x : List Entry). world_of hs x) f ∙ ap (λ (l : List History). world_of l F) (sym (same_set hs venue h there)) ∙ ap (λ (k : History). world_of (slice_set hs venue k) F) (sym e)
+  unmoved new E F e f = ap (λ (x : List Entry). world_of hs x) f
+      ∙ ap (λ (l : List History). world_of l F) (sym (same_set hs venue h there))
+      ∙ ap (λ (k : History). world_of (slice_set hs venue k) F) (sym e)
 
-  fault_ran : (line : LineId) (bytes : List ℕ) (told : List Happening) (new : History) → TellsFault s.window gaps venue line bytes h told new → Ran s (datagram_record venue line bytes) hs entries told (slice_set hs venue new)
+  fault_ran : (line : LineId) (bytes : List ℕ) (told : List Happening) (new : History)
+      → TellsFault s.window gaps venue line bytes h told new
+      → Ran s (datagram_record venue line bytes) hs entries told (slice_set hs venue new)
   fault_ran line bytes told new t =
       let w : World = world_of hs entries in
       let d : Done = done.Refused (code_of t.fault) in
       let silent = gap_silent s.window gaps venue new in
-      let step : IsStep s w (Packet venue line (slice_of bytes)) d w = at_venue w venue (consumed_all h) d w (λ v. IsFaulty bytes w d w ⊎ steps.IsAnswered s.window venue v line bytes w d w) there_is (inl (record { fault = t.fault; has = t.has; is = (refl, refl) })) in (
+      let step : IsStep s w (Packet venue line (slice_of bytes)) d w =
+      at_venue w venue (consumed_all h) d w
+      (λ v. IsFaulty bytes w d w ⊎ steps.IsAnswered s.window venue v line bytes w d w) there_is
+      (inl (record { fault = t.fault; has = t.has; is = (refl, refl) })) in (
         0,
-        run_as s w (Packet venue line (slice_of bytes) ∷ []) (d ∷ []) (outcomes_of entries told) w (world_of (slice_set hs venue new) (entries_of entries told))
+        run_as s w (Packet venue line (slice_of bytes) ∷ []) (d ∷ []) (outcomes_of entries told) w
+            (world_of (slice_set hs venue new) (entries_of entries told))
             (sym (ap (outcomes_of entries) t.told_is ∙ ap (λ (ds : List Done). d ∷ ds) (silent.outcomes entries)))
-            (unmoved new entries (entries_of entries told) t.same (sym (ap (entries_of entries) t.told_is ∙ silent.entries entries)))
+            (unmoved new entries (entries_of entries told) t.same
+            (sym (ap (entries_of entries) t.told_is ∙ silent.entries entries)))
             (w, step, refl),
       )
 
-  packet_ran : (line : LineId) (bytes : List ℕ) (told : List Happening) (new : History) → TellsPacket s.window gaps venue line bytes h told new → length (entries_of entries told) ≤ s.journal → Ran s (datagram_record venue line bytes) hs entries told (slice_set hs venue new)
+  -- the packet is answered, and nothing is pushed yet
+  pub packet_begins : (line : LineId) (bytes : List ℕ) (told : List Happening) (new : History)
+      (t : TellsPacket s.window gaps venue line bytes h told new)
+      → IsStep s (world_of hs entries) (Packet venue line (slice_of bytes)) (steps.answered t.answer)
+      (at (map consumed_all hs) venue (venue_at new (streams_of h)) entries)
+  packet_begins line bytes told new t =
+      let w : World = world_of hs entries in
+      let d : Done = steps.answered t.answer in
+      let mid : World = at (map consumed_all hs) venue (venue_at new (streams_of h)) entries in
+      at_venue w venue (consumed_all h) d mid
+      (λ v. IsFaulty bytes w d mid ⊎ steps.IsAnswered s.window venue v line bytes w d mid) there_is (inr (record {
+        packet = t.packet;
+        rest = t.rest;
+        spells = t.spells;
+        answer = t.answer;
+        history = new;
+        taken = record {
+          right =
+              subst (λ (n : ℕ). IsOutcome h.present.name s.window n h.present.packets t.packet t.answer)
+              (sym (counted h)) t.outcome;
+          is = t.grown;
+        };
+        outcome_is = refl;
+        new_is = refl;
+      }))
+
+  -- what it made ready comes behind the streams
+  pub ready_behind : (line : LineId) (bytes : List ℕ) (told : List Happening) (new : History)
+      → TellsPacket s.window gaps venue line bytes h told new
+      → streams_of new ≡ streams_of h ++ drop (telling.sent_of h) (stream_of new.present.packets)
+  ready_behind line bytes told new t =
+      (here s.window gaps (datagram_record venue line bytes) h new told kept (inr t)).items
+      ∙ ap (λ (xs : List Numbered). streams_of h ++ xs) (ready_items s.window gaps venue line bytes h new told t)
+
+  packet_ran : (line : LineId) (bytes : List ℕ) (told : List Happening) (new : History)
+      → TellsPacket s.window gaps venue line bytes h told new → length (entries_of entries told) ≤ s.journal
+      → Ran s (datagram_record venue line bytes) hs entries told (slice_set hs venue new)
   packet_ran line bytes told new t room =
       let w : World = world_of hs entries in
       let d : Done = steps.answered t.answer in
@@ -235,62 +335,90 @@ module _ (s : Setting) (gaps : Bool) (lane : 1 ≤ s.lane) (hs : List History) (
       let hs1 : List Happening = map (item_taken venue) ready in
       let outcomes : outcomes_of entries told ≡ d ∷ outcomes_of entries hs1 =
       ap (outcomes_of entries) t.told_is
-      ∙ ap (λ (ds : List Done). d ∷ ds) (outcomes_more entries hs1 (gap_told s.window gaps venue new) ∙ ap (λ (ds : List Done). outcomes_of entries hs1 ++ ds) (silent.outcomes (entries_of entries hs1)) ∙ append-nil (outcomes_of entries hs1)) in
+      ∙ ap (λ (ds : List Done). d ∷ ds)
+      (outcomes_more entries hs1 (gap_told s.window gaps venue new)
+      ∙ ap (λ (ds : List Done). outcomes_of entries hs1 ++ ds) (silent.outcomes (entries_of entries hs1))
+      ∙ append-nil (outcomes_of entries hs1)) in
       let after : entries_of entries told ≡ entries_of entries hs1 =
-      ap (entries_of entries) t.told_is ∙ entries_more entries hs1 (gap_told s.window gaps venue new) ∙ silent.entries (entries_of entries hs1) in
-      let streams : streams_of new ≡ streams_of h ++ ready =
-      (here s.window gaps (datagram_record venue line bytes) h new told kept (inr t)).items ∙ ap (λ (xs : List Numbered). streams_of h ++ xs) (ready_items s.window gaps venue line bytes h new told t) in
-      let fits : length entries + length ready ≤ s.journal = (let n = items_len venue ready entries in let m : length (entries_of entries told) ≡ length (entries_of entries hs1) = ap length after in omega arith) in
-      let step : IsStep s w (Packet venue line (slice_of bytes)) d mid = at_venue w venue (consumed_all h) d mid (λ v. IsFaulty bytes w d mid ⊎ steps.IsAnswered s.window venue v line bytes w d mid) there_is (inr (record {
-        packet = t.packet;
-        rest = t.rest;
-        spells = t.spells;
-        answer = t.answer;
-        history = new;
-        taken = record { right = subst (λ (n : ℕ). IsOutcome h.present.name s.window n h.present.packets t.packet t.answer) (sym (counted h)) t.outcome; is = t.grown };
-        outcome_is = refl;
-        new_is = refl;
-      })) in (
+      ap (entries_of entries) t.told_is ∙ entries_more entries hs1 (gap_told s.window gaps venue new)
+      ∙ silent.entries (entries_of entries hs1) in
+      let streams : streams_of new ≡ streams_of h ++ ready = ready_behind line bytes told new t in
+      let all : streams_of new ≡ streams_of h ++ (ready ++ []) =
+      streams ∙ ap (λ (xs : List Numbered). streams_of h ++ xs) (sym (append-nil ready)) in
+      let fits : length entries + length ready ≤ s.journal =
+      (let n = items_len venue ready entries in let m : length (entries_of entries told) ≡ length
+      (entries_of entries hs1) = ap length after in omega arith) in (
         length ready,
-        run_as s w (Packet venue line (slice_of bytes) ∷ drains venue (length ready)) (d ∷ outcomes_of entries hs1) (outcomes_of entries told)
-            (at (map consumed_all hs) venue (consumed_all new) (entries_of entries hs1)) (world_of (slice_set hs venue new) (entries_of entries told))
+        run_as s w (Packet venue line (slice_of bytes) ∷ drains venue (length ready)) (d ∷ outcomes_of entries hs1)
+            (outcomes_of entries told)
+            (at (map consumed_all hs) venue (venue_at new (streams_of h ++ ready)) (entries_of entries hs1))
+            (world_of (slice_set hs venue new) (entries_of entries told))
             (sym outcomes)
-            (settled new (entries_of entries hs1) ∙ ap (λ (E : List Entry). world_of (slice_set hs venue new) E) (sym after))
-            (mid, step, drain s lane (map consumed_all hs) venue (consumed_all h) there_is new ready (streams_of h) entries streams fits),
+            (ap (λ (xs : List Numbered). at (map consumed_all hs) venue (venue_at new xs) (entries_of entries hs1))
+            (sym streams) ∙ settled new (entries_of entries hs1)
+            ∙ ap (λ (E : List Entry). world_of (slice_set hs venue new) E) (sym after)) (
+              mid,
+              packet_begins line bytes told new t,
+              drain s lane (map consumed_all hs) venue
+                  (consumed_all h) there_is new ready (streams_of h) [] entries all fits,
+            ),
       )
 
-  renewal_ran : (name : List ℕ) (told : List Happening) (new : History) → TellsRenewal venue name h told new → Ran s (renewal_record venue name) hs entries told (slice_set hs venue new)
+  renewal_ran : (name : List ℕ) (told : List Happening) (new : History) → TellsRenewal venue name h told new
+      → Ran s (renewal_record venue name) hs entries told (slice_set hs venue new)
   renewal_ran name told new t =
       let w : World = world_of hs entries in
       let d : Done = steps.renewal t.answer in
       let mid : World = at (map consumed_all hs) venue (venue_at new (streams_of h)) entries in
       let streams : streams_of new ≡ streams_of h =
-      (here s.window gaps (renewal_record venue name) h new told kept t).items ∙ ap (λ (xs : List Numbered). streams_of h ++ xs) (ap (venue_items.items_taken venue) t.told_is) ∙ append-nil (streams_of h) in
-      let step : IsStep s w (Renew venue name) d mid = at_venue w venue (consumed_all h) d mid (λ v. IsNext venue v name w d mid) there_is (record {
+      (here s.window gaps (renewal_record venue name) h new told kept t).items
+      ∙ ap (λ (xs : List Numbered). streams_of h ++ xs) (ap (items_taken venue) t.told_is)
+      ∙ append-nil (streams_of h) in
+      let step : IsStep s w (Renew venue name) d mid =
+      at_venue w venue (consumed_all h) d mid (λ v. IsNext venue v name w d mid) there_is (record {
         answer = t.answer;
         history = new;
-        renewed = record { right = subst (λ (n : ℕ). IsRenewal (names_of h) (end_of h.present.packets) n name t.answer) (sym (counted h)) t.is; is = t.after ∙ same_after h name t.answer };
+        renewed =
+            record {
+              right =
+                  subst (λ (n : ℕ). IsRenewal (names_of h) (end_of h.present.packets) n name t.answer)
+                  (sym (counted h)) t.is;
+              is = t.after ∙ same_after h name t.answer;
+            };
         outcome_is = refl;
         new_is = refl;
       }) in (
         0,
-        run_as s w (Renew venue name ∷ []) (d ∷ []) (outcomes_of entries told) mid (world_of (slice_set hs venue new) (entries_of entries told))
+        run_as s w (Renew venue name ∷ []) (d ∷ []) (outcomes_of entries told) mid
+            (world_of (slice_set hs venue new) (entries_of entries told))
             (sym (ap (outcomes_of entries) t.told_is))
-            (ap (λ (xs : List Numbered). at (map consumed_all hs) venue (venue_at new xs) entries) (sym streams) ∙ settled new entries ∙ ap (λ (E : List Entry). world_of (slice_set hs venue new) E) (sym (ap (entries_of entries) t.told_is)))
+            (ap (λ (xs : List Numbered). at (map consumed_all hs) venue (venue_at new xs) entries) (sym streams)
+            ∙ settled new entries
+            ∙ ap (λ (E : List Entry). world_of (slice_set hs venue new) E)
+            (sym (ap (entries_of entries) t.told_is)))
             (mid, step, refl),
       )
 
   declared_so : (on b : Bool) → length (if b then entries else entries ++ entry.SelfHelp venue on ∷ []) ≤ s.journal
-      → Comes (λ (E : List Entry). world_of hs E) (if b then stays already_so else (if nat_le s.journal (length entries) then stays journal_full else goes (done.Declared (length entries + 1)) (entries ++ entry.SelfHelp venue on ∷ []))) (world_of hs entries)
-      (if b then already_so else done.Declared (length entries + 1)) (world_of hs (if b then entries else entries ++ entry.SelfHelp venue on ∷ []))
+      → Comes (λ (E : List Entry). world_of hs E)
+      (if b then stays already_so else
+      (if nat_le s.journal (length entries) then stays journal_full else goes (done.Declared (length entries + 1))
+      (entries ++ entry.SelfHelp venue on ∷ []))) (world_of hs entries)
+      (if b then already_so else done.Declared (length entries + 1))
+      (world_of hs (if b then entries else entries ++ entry.SelfHelp venue on ∷ []))
   declared_so on true room = (refl, refl)
   declared_so on false room =
       let n = length-append entries (entry.SelfHelp venue on ∷ []) in
       let free : nat_le s.journal (length entries) ≡ false = lt-leb s.journal (length entries) (omega arith) in
-      subst (λ (b : Bool). Comes (λ (E : List Entry). world_of hs E) (if b then stays journal_full else goes (done.Declared (length entries + 1)) (entries ++ entry.SelfHelp venue on ∷ [])) (world_of hs entries) (done.Declared (length entries + 1)) (world_of hs (entries ++ entry.SelfHelp venue on ∷ [])))
+      subst (λ (b : Bool). Comes (λ (E : List Entry). world_of hs E)
+      (if b then stays journal_full else goes (done.Declared (length entries + 1))
+      (entries ++ entry.SelfHelp venue on ∷ [])) (world_of hs entries) (done.Declared (length entries + 1))
+      (world_of hs (entries ++ entry.SelfHelp venue on ∷ [])))
       (sym free) (refl, refl)
 
-  self_help_ran : (on : Bool) (told : List Happening) (new : History) → TellsSelfHelp venue on h told new → length (entries_of entries told) ≤ s.journal → Ran s (self_help_record venue on) hs entries told (slice_set hs venue new)
+  self_help_ran : (on : Bool) (told : List Happening) (new : History) → TellsSelfHelp venue on h told new
+      → length (entries_of entries told) ≤ s.journal
+      → Ran s (self_help_record venue on) hs entries told (slice_set hs venue new)
   self_help_ran on told new t room =
       let w : World = world_of hs entries in
       let b : Bool = is_so entries venue on in
@@ -299,96 +427,158 @@ module _ (s : Setting) (gaps : Bool) (lane : 1 ≤ s.lane) (hs : List History) (
       let mid : World = world_of hs E in
       let after : entries_of entries told ≡ E = ap (entries_of entries) t.told_is in
       let fits : length E ≤ s.journal = subst (λ (l : List Entry). length l ≤ s.journal) after room in
-      let step : IsStep s w (Declare venue on) d mid = at_venue w venue (consumed_all h) d mid (λ v. Comes (λ (x : List Entry). record w { entries = x }) (declared s.journal venue on entries) w d mid) there_is
-      (subst (λ (x : Bool). Comes (λ (E : List Entry). world_of hs E) (if x then stays already_so else (if nat_le s.journal (length entries) then stays journal_full else goes (done.Declared (length entries + 1)) (entries ++ entry.SelfHelp venue on ∷ []))) w d mid)
+      let step : IsStep s w (Declare venue on) d mid =
+      at_venue w venue (consumed_all h) d mid
+      (λ v. Comes (λ (x : List Entry). record w { entries = x }) (declared s.journal venue on entries) w d mid)
+      there_is
+      (subst (λ (x : Bool). Comes (λ (E : List Entry). world_of hs E)
+      (if x then stays already_so else
+      (if nat_le s.journal (length entries) then stays journal_full else goes (done.Declared (length entries + 1))
+      (entries ++ entry.SelfHelp venue on ∷ []))) w d mid)
       (sym (same_so entries venue on)) (declared_so on b fits)) in (
         0,
-        run_as s w (Declare venue on ∷ []) (d ∷ []) (outcomes_of entries told) mid (world_of (slice_set hs venue new) (entries_of entries told))
+        run_as s w (Declare venue on ∷ []) (d ∷ []) (outcomes_of entries told) mid
+            (world_of (slice_set hs venue new) (entries_of entries told))
             (sym (ap (outcomes_of entries) t.told_is))
             (unmoved new E (entries_of entries told) t.same (sym after))
             (mid, step, refl),
       )
 
-record_ran : (s : Setting) (gaps : Bool) → 1 ≤ s.lane → (hs new : List History) (entries : List Entry) (r : CaptureRecord) (told : List Happening) → Each s.window hs → TellsRecord s.window gaps r hs told new → length (entries_of entries told) ≤ s.journal → Ran s r hs entries told new
+record_ran : (s : Setting) (gaps : Bool) → 1 ≤ s.lane
+    → (hs new : List History) (entries : List Entry) (r : CaptureRecord) (told : List Happening) → Each s.window hs
+    → TellsRecord s.window gaps r hs told new → length (entries_of entries told) ≤ s.journal
+    → Ran s r hs entries told new
 record_ran s gaps lane hs new entries r told each t room =
     subst (Ran s r hs entries told) (sym t.others) (by r t.at (each (venue_of r) t.before t.at) t.tells)
   where
-    by : (r : CaptureRecord) → slice_get hs (venue_of r) ≡ Some t.before → IsKept s.window t.before → TellsAt s.window gaps r t.before told t.after → Ran s r hs entries told (slice_set hs (venue_of r) t.after)
+    by : (r : CaptureRecord) → slice_get hs (venue_of r) ≡ Some t.before → IsKept s.window t.before
+        → TellsAt s.window gaps r t.before told t.after → Ran s r hs entries told (slice_set hs (venue_of r) t.after)
     by (datagram_record venue line bytes) at kept x = elim x [
       | inl f ↦ fault_ran s gaps lane hs entries venue t.before at kept line bytes told t.after f
       | inr p ↦ packet_ran s gaps lane hs entries venue t.before at kept line bytes told t.after p room
     ]
-    by (renewal_record venue name) at kept x = renewal_ran s gaps lane hs entries venue t.before at kept name told t.after x
-    by (self_help_record venue on) at kept x = self_help_ran s gaps lane hs entries venue t.before at kept on told t.after x room
+    by (renewal_record venue name) at kept x =
+        renewal_ran s gaps lane hs entries venue t.before at kept name told t.after x
+    by (self_help_record venue on) at kept x =
+        self_help_ran s gaps lane hs entries venue t.before at kept on told t.after x room
 
 -- ---- records
 
-abbrev RanAll : Setting → List CaptureRecord → List History → List Entry → List Happening → List History → Type 0
-RanAll s rs hs entries told new = (events : List Event) × AreEvents rs events × IsRun s (world_of hs entries) events (outcomes_of entries told) (world_of new (entries_of entries told))
+abbrev pub RanAll : Setting → List CaptureRecord → List History → List Entry → List Happening → List History → Type 0
+RanAll s rs hs entries told new =
+    (events : List Event) × AreEvents rs events × IsRun s (world_of hs entries) events (outcomes_of entries told)
+    (world_of new (entries_of entries told))
 
-all_ran : (s : Setting) (gaps : Bool) → 1 ≤ s.lane → (rs : List CaptureRecord) (hs new : List History) (entries : List Entry) (told : List Happening) → Each s.window hs → Tells s.window gaps rs hs told new → length (entries_of entries told) ≤ s.journal → RanAll s rs hs entries told new
+pub all_ran : (s : Setting) (gaps : Bool) → 1 ≤ s.lane
+    → (rs : List CaptureRecord) (hs new : List History) (entries : List Entry) (told : List Happening)
+    → Each s.window hs → Tells s.window gaps rs hs told new → length (entries_of entries told) ≤ s.journal
+    → RanAll s rs hs entries told new
 all_ran s gaps lane [] hs new entries told each t room = (
   [],
   refl,
-  run_as s (world_of hs entries) [] [] (outcomes_of entries told) (world_of hs entries) (world_of new (entries_of entries told))
+  run_as s (world_of hs entries) [] [] (outcomes_of entries told) (world_of hs entries)
+      (world_of new (entries_of entries told))
       (sym (ap (outcomes_of entries) t.0))
-      (ap (λ (l : List History). world_of l entries) (sym t.1) ∙ ap (λ (E : List Entry). world_of new E) (sym (ap (entries_of entries) t.0)))
+      (ap (λ (l : List History). world_of l entries) (sym t.1)
+      ∙ ap (λ (E : List Entry). world_of new E) (sym (ap (entries_of entries) t.0)))
       refl,
 )
 all_ran s gaps lane (r ∷ rs) hs new entries told each (mid, first, others, one, rest, whole) room =
     let E : List Entry = entries_of entries first in
-    let after : entries_of entries told ≡ entries_of E others = ap (entries_of entries) whole ∙ entries_more entries first others in
+    let after : entries_of entries told ≡ entries_of E others = ap (entries_of entries) whole
+    ∙ entries_more entries first others in
     let fits : length (entries_of E others) ≤ s.journal = subst (λ (l : List Entry). length l ≤ s.journal) after room in
     let fits_first : length E ≤ s.journal = (let g = entries_grow E others in omega arith) in
     let a = record_ran s gaps lane hs mid entries r first each one fits_first in
-    let b = all_ran s gaps lane rs mid new E others (λ i k e. (one_came s.window gaps r hs mid first each one i k e).2.kept) rest fits in
+    let b = all_ran s gaps lane rs mid new E others
+    (λ i k e. (one_came s.window gaps r hs mid first each one i k e).2.kept) rest fits in
     let own : List Event = event_of r ∷ drains (venue_of r) a.0 in (
       own ++ b.0,
       (a.0, b.0, b.1, refl),
-      run_as s (world_of hs entries) (own ++ b.0) (outcomes_of entries first ++ outcomes_of E others) (outcomes_of entries told) (world_of new (entries_of E others)) (world_of new (entries_of entries told))
+      run_as s (world_of hs entries) (own ++ b.0) (outcomes_of entries first ++ outcomes_of E others)
+          (outcomes_of entries told) (world_of new (entries_of E others)) (world_of new (entries_of entries told))
           (sym (ap (outcomes_of entries) whole ∙ outcomes_more entries first others))
           (ap (λ (x : List Entry). world_of new x) (sym after))
-          (run_more s (world_of hs entries) (world_of mid E) (world_of new (entries_of E others)) own b.0 (outcomes_of entries first) (outcomes_of E others) a.1 b.2),
+          (run_more s (world_of hs entries) (world_of mid E) (world_of new (entries_of E others)) own b.0
+          (outcomes_of entries first) (outcomes_of E others) a.1 b.2),
     )
 
 -- ---- the premise of the sessions
 
-all_more : {X : Type 0} (Q : X → Type 0) (xs ys : List X) → AllByRecursion Q xs → AllByRecursion Q ys → AllByRecursion Q (xs ++ ys)
+pub all_more : {X : Type 0} (Q : X → Type 0) (xs ys : List X) → AllByRecursion Q xs → AllByRecursion Q ys
+    → AllByRecursion Q (xs ++ ys)
 all_more Q [] ys all more = more
 all_more Q (x ∷ xs) ys all more = (all.0, all_more Q xs ys all.1 more)
 
-drains_only : (place venue : ℕ) (session : Session) (n : ℕ) → BringOnly place (drains venue n) session
+pub drains_only : (place venue : ℕ) (session : Session) (n : ℕ) → BringOnly place (drains venue n) session
 drains_only place venue session zero = tt
 drains_only place venue session (suc n) = (tt, (tt, drains_only place venue session n))
 
-event_only : (place : ℕ) (session : Session) (r : CaptureRecord) → HoldsOnly place session r → BringsOnly place session (event_of r)
+pub event_only : (place : ℕ) (session : Session) (r : CaptureRecord) → HoldsOnly place session r
+    → BringsOnly place session (event_of r)
 event_only place session (datagram_record venue line bytes) may = may
 event_only place session (renewal_record venue name) may = tt
 event_only place session (self_help_record venue on) may = tt
 
-events_only : (place : ℕ) (session : Session) (rs : List CaptureRecord) (events : List Event) → AreEvents rs events → HoldOnly place rs session → BringOnly place events session
+pub events_only : (place : ℕ) (session : Session) (rs : List CaptureRecord) (events : List Event)
+    → AreEvents rs events → HoldOnly place rs session → BringOnly place events session
 events_only place session [] events are may = subst (λ (es : List Event). BringOnly place es session) (sym are) tt
 events_only place session (r ∷ rs) events (ready, others, more, is) may =
     subst (λ (es : List Event). BringOnly place es session) (sym is)
-    (all_more (BringsOnly place session) (event_of r ∷ drains (venue_of r) ready) others (event_only place session r may.0, drains_only place (venue_of r) session ready) (events_only place session rs others more may.1))
+    (all_more (BringsOnly place session) (event_of r ∷ drains (venue_of r) ready) others
+    (event_only place session r may.0, drains_only place (venue_of r) session ready)
+    (events_only place session rs others more may.1))
+
+-- ---- the items that were told
+
+brought : (place : ℕ) (records : List CaptureRecord) (events : List Event)
+    → ((session : Session) → HoldOnly place records session → BringOnly place events session)
+    → (sessions : List Session) → AllByRecursion (HoldOnly place records) sessions
+    → AllByRecursion (BringOnly place events) sessions
+brought place records events only [] all = tt
+brought place records events only (session ∷ sessions) all =
+    (only session all.0, brought place records events only sessions all.1)
+
+tells_sessions : (place : ℕ) (records : List CaptureRecord) (events : List Event) (told : List Happening)
+    (h : History) → ((session : Session) → HoldOnly place records session → BringOnly place events session)
+    → items_taken place told ≡ streams_of h → VenueHalf events place (consumed_all h)
+    → TellsSessions records place told h
+tells_sessions place records events told h only items half = record {
+  items = items;
+  session = λ s may. half.session s (only s may);
+  sessions = λ earlier present e all. items ∙ sym half.items
+      ∙ half.sessions earlier present e (brought place records events only (earlier ++ present ∷ []) all);
+}
 
 -- ---- from the first record on
 
-begins : (names : List (List ℕ)) → map consumed_all (map new_history names) ≡ map new_venue names
+pub begins : (names : List (List ℕ)) → map consumed_all (map new_history names) ≡ map new_venue names
 begins [] = refl
 begins (name ∷ names) = ap (λ (vs : List Venue). new_venue name ∷ vs) (begins names)
 
-pub replay_run : (config : ReplayConfig) (lane : ℕ) (filters : List Terms) (records : List CaptureRecord) (told : List Happening) (histories : List History) → 1 ≤ lane
-    → TellsAll config records told histories → HasRoom config told → IsReplayRun (replay_setting config lane filters) records told histories
+pub replay_run : (config : ReplayConfig) (lane : ℕ) (filters : List Terms) (records : List CaptureRecord)
+    (told : List Happening) (histories : List History) → 1 ≤ lane
+    → TellsAll config records told histories → HasRoom config told
+    → IsReplayRun (replay_setting config lane filters) records told histories
 replay_run config lane filters records told hs some tells room =
     let s : Setting = replay_setting config lane filters in
-    let ran : RanAll s records (map new_history config.sessions.now) [] told hs = all_ran s config.gaps some records (map new_history config.sessions.now) hs [] told (new_kept config) tells room in
+    let ran : RanAll s records (map new_history config.sessions.now) [] told hs =
+    all_ran s config.gaps some records (map new_history config.sessions.now) hs [] told
+    (new_kept config) tells room in
     let run : IsRun s (new_world s) ran.0 (outcomes_of [] told) (world_of hs (entries_of [] told)) =
-    subst (λ (w : World). IsRun s w ran.0 (outcomes_of [] told) (world_of hs (entries_of [] told))) (with_venues [] _ _ (begins config.sessions.now)) ran.2 in
+    subst (λ (w : World). IsRun s w ran.0 (outcomes_of [] told) (world_of hs (entries_of [] told)))
+    (with_venues [] _ _ (begins config.sessions.now)) ran.2 in
+    let head : Headline s ran.0 (world_of hs (entries_of [] told)) =
+    headline s ran.0 (outcomes_of [] told) (world_of hs (entries_of [] told)) run in
+    let only : (place : ℕ) (session : Session) → HoldOnly place records session → BringOnly place ran.0 session =
+    λ place session may. events_only place session records ran.0 ran.1 may in
     record {
       events = ran.0;
       are = ran.1;
-      only = λ place session may. events_only place session records ran.0 ran.1 may;
+      only = only;
       run = run;
-      headline = headline s ran.0 (outcomes_of [] told) (world_of hs (entries_of [] told)) run;
+      headline = head;
+      items = λ place h at. tells_sessions place records ran.0 told h (only place)
+          (taken_are_streams config records told hs tells place h at)
+          (head.venues place (consumed_all h) (get_map consumed_all hs place h at));
     }

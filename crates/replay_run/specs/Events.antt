@@ -1,6 +1,6 @@
 -- A replay as a run of the machine over events: each record is an event, and each item that is
 -- ready behind it is pushed and consumed at once.
-use Rattle.std.specs.Prelude.{◌≡◌, ℕ, zero, suc, ◌+◌, List, [], ◌∷◌, ◌++◌, length, map, if◌then◌else◌}
+use Rattle.std.specs.Prelude.{◌≡◌, ℕ, zero, suc, ◌+◌, List, [], ◌∷◌, ◌++◌, length, map, Some, slice_get, if◌then◌else◌}
 use Rattle.std.specs.Borrow.{Bor}
 use Rattle.feed_types.specs.declared.journal.Entry.{Entry}
 use Rattle.feed_types.specs.Sessions.{Session}
@@ -16,9 +16,9 @@ use Rattle.feed_core.specs.Steps.{answered, renewal, already_so, IsRun}
 use Rattle.feed_core.specs.VenueHalf.{BringOnly}
 use Rattle.feed_core.specs.Headline.{Headline}
 use Rattle.feed_text.specs.declared.replay.ReplayConfig.{ReplayConfig}
-use Rattle.feed_text.specs.VenueItems.{HoldOnly}
 use Rattle.feed_text.specs.Capture.{CaptureRecord, datagram_record, renewal_record, self_help_record, venue_of}
 use Rattle.feed_text.specs.Happenings.{Happening, packet_answered, packet_refused, item_taken, gap_left, renewal_answered, self_help_declared, is_so, entries_after, entries_of}
+use Rattle.replay_run.specs.VenueItems.{HoldOnly, TellsSessions}
 
 -- a slice of these bytes, wherever they lie
 abbrev pub slice_of : List ℕ → Bor (List ℕ)
@@ -30,7 +30,7 @@ event_of (datagram_record venue line bytes) = Packet venue line (slice_of bytes)
 event_of (renewal_record venue name) = Renew venue name
 event_of (self_help_record venue on) = Declare venue on
 
--- so many items of a venue are pushed, and each is consumed at once
+-- the next items of a venue, this many, are pushed, and each is consumed at once
 abbrev pub drains : ℕ → ℕ → List Event
 drains venue zero = []
 drains venue (suc n) = Push venue ∷ Consume venue ∷ drains venue n
@@ -88,7 +88,8 @@ world_of histories entries = record {
 
 -- What was told of these records is a run of the machine: over the records as events, with the
 -- outcomes that were told, to the world of these histories and of what was journaled; and the
--- headline holds of it. The premise of its sessions is one of the records.
+-- headline holds of it. The premise of its sessions is one of the records, and what it says of a
+-- venue's items is so of those that were told.
 pub record IsReplayRun (s : Setting) (records : List CaptureRecord) (told : List Happening)
     (histories : List History) : Type 0 where
   pub events : List Event
@@ -98,3 +99,5 @@ pub record IsReplayRun (s : Setting) (records : List CaptureRecord) (told : List
   pub run : IsRun s (new_world s) events (outcomes_of [] told)
       (world_of histories (entries_of [] told))
   pub headline : Headline s events (world_of histories (entries_of [] told))
+  pub items : (place : ℕ) (h : History) → slice_get histories place ≡ Some h
+      → TellsSessions records place told h

@@ -1,2 +1,4 @@
 pub mod Events
+pub mod Full
 pub mod Printed
+pub mod VenueItems

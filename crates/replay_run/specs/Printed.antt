@@ -1,39 +1,42 @@
 -- What a replay prints is what a run of the machine comes to.
-use Rattle.std.specs.Prelude.{◌≡◌, ℕ, ◌≤◌, List, ◌++◌}
+use Rattle.std.specs.Prelude.{ℕ, ◌≤◌, List, ◌++◌}
 use Rattle.line_arbiter.specs.Histories.{History}
 use Rattle.filter_terms.specs.declared.terms.Terms.{Terms}
+use Rattle.feed_core.specs.Worlds.{Setting}
 use Rattle.feed_text.specs.declared.replay.ReplayConfig.{ReplayConfig}
 use Rattle.feed_text.specs.Capture.{CaptureRecord}
-use Rattle.feed_text.specs.Devices.{Reading, Writing}
-use Rattle.feed_text.specs.Happenings.{Happening}
-use Rattle.feed_text.specs.Texts.{last_lines, lines_told}
-use Rattle.feed_text.specs.Replays.{ReplaysAll}
+use Rattle.feed_text.specs.Texts.{IsLinesOf, IsLinesToFull, IsTextOf}
+use Rattle.feed_text.specs.Replays.{TextFacts}
 use Rattle.replay_run.specs.Events.{replay_setting, IsReplayRun}
+use Rattle.replay_run.specs.Full.{IsRunToFull}
 
--- so it is whatever the lanes hold and whatever filters are handed in
-abbrev pub AreRun : ReplayConfig → List CaptureRecord → List Happening → List History → Type 0
-AreRun config records told histories =
-    (lane : ℕ) (filters : List Terms) → 1 ≤ lane
-    → IsReplayRun (replay_setting config lane filters) records told histories
+-- it is so whatever the lanes hold, and whatever filters are handed in, of which a replay uses none
+abbrev pub InAnySetting : ReplayConfig → (Setting → Type 0) → Type 0
+InAnySetting config Is =
+    (lane : ℕ) (filters : List Terms) → 1 ≤ lane → Is (replay_setting config lane filters)
 
--- the lines of a run
+-- the lines of records, and what they tell is a run
 pub record AreLinesOfRun (config : ReplayConfig) (records : List CaptureRecord) (lines : List ℕ)
     : Type 0 where
-  pub told : List Happening
-  pub histories : List History
-  pub run : AreRun config records told histories
-  pub lines_are : lines ≡ lines_told config told
+  pub are : IsLinesOf config records lines
+  pub run : InAnySetting config (λ s. IsReplayRun s records are.told are.histories)
 
--- the text of a run: its lines, and then those of its venues
+-- the text of a capture, and what its records tell is a run
 pub record IsTextOfRun (config : ReplayConfig) (records : List CaptureRecord) (text : List ℕ)
     : Type 0 where
-  pub told : List Happening
-  pub histories : List History
-  pub run : AreRun config records told histories
-  pub text_is : text ≡ lines_told config told ++ last_lines 0 histories
+  pub is : IsTextOf config records text
+  pub run : InAnySetting config (λ s. IsReplayRun s records is.told is.histories)
 
--- A whole capture was read, and what was written is the text of a run over its records.
-pub record ReplaysRun {R W : Type 0} (reading : Reading R) (writing : Writing W)
-    (config : ReplayConfig) (from to : R) (before after : W) : Type 0 where
-  pub replays : ReplaysAll reading writing config from to before after
-  pub run : IsTextOfRun config replays.records replays.text
+-- the lines of records up to a full journal, and what they tell is a run up to it
+pub record AreLinesOfRunToFull (config : ReplayConfig) (records : List CaptureRecord)
+    (lines : List ℕ) : Type 0 where
+  pub are : IsLinesToFull config records lines
+  pub run : InAnySetting config (λ s. IsRunToFull s are.earlier are.last (are.told ++ are.first))
+
+-- what a replay writes is that of a run
+abbrev pub texts_of_run : ReplayConfig → TextFacts
+texts_of_run config = record {
+  IsText = IsTextOfRun config;
+  AreLines = AreLinesOfRun config;
+  AreLinesToFull = AreLinesOfRunToFull config;
+}

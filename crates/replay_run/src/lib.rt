@@ -1,12 +1,13 @@
 //! A replay is a run of the machine over events, so that the headline holds of what it prints.
 //!
-//! A replay takes a record at a time, and keeps no list of events and no machine. What it tells of a
-//! capture is all the same what the machine comes to over the capture's records as events, with each
-//! item that is ready pushed and consumed at once (`specs/Events.antt`). So a text that is printed
-//! is that of a run (`specs/Printed.antt`), and [`replay`] says it of what it wrote.
+//! A replay takes a record at a time, and keeps no list of events and no machine. All the same, what
+//! it tells of a capture is what the machine comes to over the capture's records as events, with
+//! each item that is ready pushed and consumed at once (`specs/Events.antt`); and where it stops
+//! since its journal is full, the machine refuses the next event for that (`specs/Full.antt`). So
+//! what is printed is that of a run (`specs/Printed.antt`), and [`replay`] says it of what it wrote.
 #![tactic(auto)]
 
-ghost use Rattle.std.specs.Prelude.{◌≡◌, ◌≤◌, ℕ, List, length, OnOk};
+ghost use Rattle.std.specs.Prelude.{◌≡◌, ◌≤◌, ℕ, List, length};
 ghost use Rattle.std.specs.List.{IsDistinct};
 ghost use Rattle.std.specs.Str.{bytes_eq};
 ghost use Rattle.line_arbiter.specs.Histories.{History};
@@ -14,10 +15,10 @@ ghost use Rattle.filter_terms.specs.declared.terms.Terms.{Terms};
 ghost use Rattle.feed_text.specs.declared.replay.ReplayConfig.{ReplayConfig};
 ghost use Rattle.feed_text.specs.Capture.{CaptureRecord};
 ghost use Rattle.feed_text.specs.Happenings.{Happening};
-ghost use Rattle.feed_text.specs.Texts.{TellsAll, HasRoom, IsLinesOf, IsTextOf};
-ghost use Rattle.feed_text.specs.Replays.{Replays};
+ghost use Rattle.feed_text.specs.Texts.{TellsAll, HasRoom, IsLinesOf, IsLinesToFull, IsTextOf};
+ghost use Rattle.feed_text.specs.Replays.{Replays, ReplaysBy};
 ghost use Rattle.replay_run.specs.Events.{IsReplayRun, replay_setting};
-ghost use Rattle.replay_run.specs.Printed.{AreLinesOfRun, IsTextOfRun, ReplaysRun};
+ghost use Rattle.replay_run.specs.Printed.{AreLinesOfRun, AreLinesOfRunToFull, IsTextOfRun, texts_of_run};
 
 use feed_text::devices::{CaptureIn, TextOut};
 use feed_text::fault::ReplayFault;
@@ -34,16 +35,20 @@ pub fn a_replay_is_a_run()
         → IsReplayRun (replay_setting config lane filters) records told histories }
 {}
 
-/// So the lines of records, and the text of a whole capture, are those of a run.
+/// So the text of a whole capture, the lines of its records and the lines up to a full journal are
+/// those of a run.
 pub fn a_text_is_that_of_a_run()
-    ensures lines { (config : ReplayConfig) (records : List CaptureRecord) (lines : List ℕ)
-        → IsLinesOf config records lines → AreLinesOfRun config records lines }
     ensures text { (config : ReplayConfig) (records : List CaptureRecord) (text : List ℕ)
         → IsTextOf config records text → IsTextOfRun config records text }
+    ensures lines { (config : ReplayConfig) (records : List CaptureRecord) (lines : List ℕ)
+        → IsLinesOf config records lines → AreLinesOfRun config records lines }
+    ensures full { (config : ReplayConfig) (records : List CaptureRecord) (lines : List ℕ)
+        → IsLinesToFull config records lines → AreLinesOfRunToFull config records lines }
 {}
 
-/// Reads a capture to its end, and writes its text ([`feed_text::replay::replay`]), which is that of
-/// a run of the machine over the capture's records, of which the headline holds.
+/// Reads a capture to its end, and writes its text ([`feed_text::replay::replay`]): that of a run of
+/// the machine over the capture's records, of which the headline holds. So are the lines that are
+/// written before a fault is answered.
 pub fn replay<R: CaptureIn, W: TextOut>(
     alloc: Global,
     config: &ReplayConfig<'_>,
@@ -60,10 +65,10 @@ pub fn replay<R: CaptureIn, W: TextOut>(
         (record { gives = R.gives; ends = R.ends; failures = R.failures })
         (record { adds = W.adds; failures = W.failures })
         config.now reader.old reader.new writer.old writer.new result }
-    ensures headline { OnOk result (ReplaysRun
+    ensures headline { ReplaysBy
         (record { gives = R.gives; ends = R.ends; failures = R.failures })
         (record { adds = W.adds; failures = W.failures })
-        config.now reader.old reader.new writer.old writer.new) }
+        config.now (texts_of_run config.now) reader.old reader.new writer.old writer.new result }
 {
     feed_text::replay::replay(alloc, config, reader, writer)
 }

@@ -1,5 +1,5 @@
-use Rattle.feed_text.proofs.VenueItemsLaw.{tells_sessions}
+use Rattle.feed_text.proofs.VenueItemsLaw.{taken_are_streams}
 use Rattle.feed_text.proofs.laws.items_are_the_streams.Goals as goal
 
 pub returns : goal.returns
-returns c = tells_sessions
+returns c = taken_are_streams

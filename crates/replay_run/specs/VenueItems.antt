@@ -1,0 +1,40 @@
+-- Whose sessions' messages the items are that were told of a venue.
+use Rattle.std.specs.Prelude.{◌≡◌, ℕ, List, [], ◌∷◌, ◌++◌, map}
+use Rattle.std.specs.List.{AllByRecursion}
+use Rattle.feed_types.specs.Sessions.{Session, whole_sessions}
+use Rattle.mold_packet.specs.Content.{Content, Spells}
+use Rattle.line_arbiter.specs.Packets.{end_of}
+use Rattle.line_arbiter.specs.Streams.{front_of}
+use Rattle.line_arbiter.specs.OfSession.{IsOfSession, session_stream}
+use Rattle.line_arbiter.specs.Histories.{History, names_of, streams_of}
+use Rattle.feed_core.specs.VenueHalf.{AreSession}
+use Rattle.feed_text.specs.Capture.{CaptureRecord, datagram_record, renewal_record, self_help_record}
+use Rattle.feed_text.specs.Happenings.{Happening}
+use Rattle.feed_text.specs.VenueItems.{items_taken}
+
+-- the premise: a packet of the session's name in the record is of the session, where the record is
+-- the venue's
+abbrev pub HoldsOnly : ℕ → Session → CaptureRecord → Type 0
+HoldsOnly place s (datagram_record venue line bytes) =
+    venue ≡ place → (p : Content) (rest : List ℕ)
+    → Spells bytes p rest → p.session ≡ s.name → IsOfSession s p
+HoldsOnly place s (renewal_record venue name) = Unit {0}
+HoldsOnly place s (self_help_record venue on) = Unit {0}
+
+abbrev pub HoldOnly : ℕ → List CaptureRecord → Session → Type 0
+HoldOnly place records s = AllByRecursion (HoldsOnly place s) records
+
+-- What was told of the venue at a place, to which this came: its items are its streams; each
+-- session of which the records hold the packets alone is the one that came under its name; and
+-- where that is so of all that the venue began, the items are these sessions, each whole but the
+-- last, which comes up to its first gap.
+pub record TellsSessions (records : List CaptureRecord) (place : ℕ) (told : List Happening)
+    (h : History) : Type 0 where
+  pub items : items_taken place told ≡ streams_of h
+  pub session : (s : Session) → HoldOnly place records s → AreSession s h
+  pub sessions : (earlier : List Session) (present : Session)
+      → map (λ s. s.name) (earlier ++ present ∷ []) ≡ names_of h
+      → AllByRecursion (HoldOnly place records) (earlier ++ present ∷ [])
+      → items_taken place told
+      ≡ whole_sessions earlier
+      ++ session_stream present (front_of h.present.packets) (end_of h.present.packets)
