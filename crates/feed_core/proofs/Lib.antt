@@ -4,6 +4,8 @@ pub mod KeptVenues
 pub mod VenueHalfLaw
 pub mod KeptSubscribers
 pub mod SubscriberHalfLaw
+mod KeptTerms
+mod FirstNames
 pub mod HeadlineLaw
 pub mod OneRunLaw
 pub mod EveryRun

@@ -19,6 +19,7 @@ use Rattle.line_arbiter.specs.Histories.{Begun, History, new_session, all_begun,
 use Rattle.line_arbiter.specs.OfSession.{IsOfSession, AreOfSession, GivesSession, session_stream}
 use Rattle.line_arbiter.proofs.Below.{answered_more, answered_grows, all_sent}
 use Rattle.line_arbiter.proofs.Giving.{gives_session}
+use Rattle.line_arbiter.proofs.Fronts.{front_is}
 use Rattle.feed_core.specs.declared.event.Event.{Event}
 use Rattle.feed_core.specs.declared.event.Done.{Done}
 use Rattle.feed_core.specs.Worlds.{Venue, sent_of, World, Setting, new_venue, new_world}
@@ -102,7 +103,7 @@ new_at Q [] f i v e = absurd cc
 new_at Q (name ∷ names) f zero v e = subst (Q 0) (let same : new_venue name ≡ v = cc in same) (f 0 name)
 new_at Q (name ∷ names) f (suc i) v e = new_at (λ j. Q (suc j)) names (λ j n. f (suc j) n) i v e
 
-none_asked : (events : List Event) → AllByRecursion (λ e. Unit {0}) events
+pub none_asked : (events : List Event) → AllByRecursion (λ e. Unit {0}) events
 none_asked [] = tt
 none_asked (e ∷ es) = (tt, none_asked es)
 
@@ -198,5 +199,7 @@ venue_half s events ds w run place v at =
     record {
       items = items;
       session = are;
+      taken = (front_is v.history.present.packets).all;
+      gap = (front_is v.history.present.packets).next;
       sessions = λ earlier present e all. items ∙ by_session (BringOnly place events) v.history.earlier v.history.present earlier present (λ t may. known_of t v.history (are t may)) e all;
     }

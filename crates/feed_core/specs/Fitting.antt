@@ -15,9 +15,6 @@ use Rattle.line_arbiter.specs.Histories.{History, names_of, items_of, streams_of
 use Rattle.feed_core.specs.declared.event.Done.{Done}
 use Rattle.feed_core.specs.declared.event.Done.TheVariants as done
 use Rattle.feed_core.specs.Worlds.{Lane, inside, is_full, Venue, sent_of, Subscriber, World, Setting, new_world}
-use Rattle.filter_terms.specs.declared.terms.Terms.{Terms}
-use Rattle.filter_terms.specs.declared.filter.Filter.{Filter}
-use Rattle.filter_terms.specs.Filters.{terms_of}
 use Rattle.feed_core.specs.declared.event.Event.{Event}
 use Rattle.feed_core.specs.VenueHalf.{waiting}
 use Rattle.feed_core.specs.Headline.{ShownVenue, ShownSubscriber, Shown}
@@ -167,10 +164,6 @@ pub record Reached (s : Setting) (events : List Event) (outcomes : List Done)
   pub world : World
   pub fits : FitsWorld s m world
   pub run : IsRun s (new_world s) events outcomes world
-
--- the terms of filters
-abbrev pub all_terms : {g F m : _} → List (Filter g F m) → List Terms
-all_terms filters = map (λ f. terms_of f) filters
 
 -- how the parts of a machine are shown
 abbrev pub venue_shown : VenueView → ShownVenue

@@ -1,13 +1,13 @@
 -- The venue half of the headline: each venue's items, consumed and then waiting, are its sessions'
 -- messages, session by session up to the first gap, each once, in sequence and none after their
 -- session's end.
-use Rattle.std.specs.Prelude.{◌≡◌, ℕ, List, [], ◌∷◌, ◌++◌, length, drop, map}
+use Rattle.std.specs.Prelude.{◌≡◌, ℕ, ◌+◌, List, [], ◌∷◌, ◌++◌, length, drop, map, None}
 use Rattle.std.specs.List.{AllByRecursion}
 use Rattle.feed_types.specs.declared.item.Numbered.{Numbered}
 use Rattle.feed_types.specs.Sessions.{Session, whole_session, whole_sessions}
 use Rattle.mold_packet.specs.Content.{Content, Spells}
-use Rattle.line_arbiter.specs.Packets.{end_of}
-use Rattle.line_arbiter.specs.Streams.{front_of, stream_of}
+use Rattle.line_arbiter.specs.Packets.{carried, end_of}
+use Rattle.line_arbiter.specs.Streams.{AreTaken, front_of, stream_of}
 use Rattle.line_arbiter.specs.OfSession.{IsOfSession, GivesSession, session_stream}
 use Rattle.line_arbiter.specs.Histories.{History, names_of, streams_of}
 use Rattle.feed_core.specs.declared.event.Event.{Event}
@@ -43,17 +43,24 @@ pub record AreSession (s : Session) (h : History) : Type 0 where
       h.earlier
   pub present : h.present.name ≡ s.name → GivesSession s h.present.packets
 
--- The half, for the venue at a place: consumed and then waiting are its streams; each session of
+-- These are the items of the venue at a place, to which this came: its streams; each session of
 -- which the events bring the packets alone is the one that came under its name; and where that is
--- so of all that the venue began, the streams are these sessions, each whole but the last, which
--- comes up to its first gap.
-pub record VenueHalf (events : List Event) (place : ℕ) (v : Venue) : Type 0 where
-  pub items : v.lane.received ++ waiting v ≡ streams_of v.history
-  pub session : (s : Session) → BringOnly place events s → AreSession s v.history
+-- so of all that the venue began, they are these sessions, each whole but the last, which comes up
+-- to its first gap: each message before it was taken, and the one there was not.
+pub record AreVenueItems (events : List Event) (place : ℕ) (all : List Numbered) (h : History)
+    : Type 0 where
+  pub items : all ≡ streams_of h
+  pub session : (s : Session) → BringOnly place events s → AreSession s h
   pub sessions : (earlier : List Session) (present : Session)
-      → map (λ s. s.name) (earlier ++ present ∷ []) ≡ names_of v.history
+      → map (λ s. s.name) (earlier ++ present ∷ []) ≡ names_of h
       → AllByRecursion (BringOnly place events) (earlier ++ present ∷ [])
-      → v.lane.received ++ waiting v
+      → all
       ≡ whole_sessions earlier
-      ++ session_stream present
-      (front_of v.history.present.packets) (end_of v.history.present.packets)
+      ++ session_stream present (front_of h.present.packets) (end_of h.present.packets)
+  pub taken : AreTaken h.present.packets (front_of h.present.packets)
+  pub gap : carried h.present.packets (front_of h.present.packets + 1) ≡ None
+
+-- The half: consumed and then waiting are the venue's items.
+abbrev pub VenueHalf : List Event → ℕ → Venue → Type 0
+VenueHalf events place v =
+    AreVenueItems events place (v.lane.received ++ waiting v) v.history

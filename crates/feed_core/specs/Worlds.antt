@@ -6,6 +6,8 @@ use Rattle.feed_types.specs.declared.journal.Notice.{Notice}
 use Rattle.feed_types.specs.declared.config.FeedConfig.{FeedConfig}
 use Rattle.line_arbiter.specs.Histories.{History, new_history, items_of}
 use Rattle.filter_terms.specs.declared.terms.Terms.{Terms}
+use Rattle.filter_terms.specs.declared.filter.Filter.{Filter}
+use Rattle.filter_terms.specs.Filters.{terms_of}
 
 -- a lane: what was ever put in at one end, and what was taken out at the other
 pub record Lane (X : Type 0) : Type 0 where
@@ -54,6 +56,10 @@ pub record Setting : Type 0 where
   pub lane : ℕ
   pub journal : ℕ
   pub filters : List Terms
+
+-- the terms of filters
+abbrev pub all_terms : {g F m : _} → List (Filter g F m) → List Terms
+all_terms filters = map (λ f. terms_of f) filters
 
 abbrev pub setting_of : FeedConfig → List Terms → Setting
 setting_of config filters = record {

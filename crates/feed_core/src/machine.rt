@@ -3,9 +3,9 @@
 ghost use Rattle.std.specs.Prelude.{◌≡◌, ℕ, ◌<◌, ◌≤◌, List, length, IfOk, OnOk, map};
 ghost use Rattle.filter_terms.specs.declared.terms.Terms.{Terms};
 ghost use Rattle.feed_core.specs.declared.event.Event.{Event};
-ghost use Rattle.feed_core.specs.Worlds.{Venue, World as WorldView, Setting, new_venue, new_world, setting_of};
+ghost use Rattle.feed_core.specs.Worlds.{Venue, World as WorldView, Setting, all_terms, new_venue, new_world, setting_of};
 ghost use Rattle.feed_core.specs.Configs.{journal_of};
-ghost use Rattle.feed_core.specs.Fitting.{all_terms, FitVenues, ShowVenues, FitsWorld, Stepped, Reached};
+ghost use Rattle.feed_core.specs.Fitting.{FitVenues, ShowVenues, FitsWorld, Stepped, Reached};
 ghost use Rattle.feed_core.specs.Headline.{IsRunOf};
 
 use crate::event::{Done, Event};

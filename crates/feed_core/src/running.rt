@@ -1,10 +1,9 @@
 //! The run over a list of events.
 
 ghost use Rattle.std.specs.Prelude.{◌≡◌, ◌≤◌, length, IfOk, IfErr, OnOk};
-ghost use Rattle.feed_core.specs.Worlds.{setting_of};
+ghost use Rattle.feed_core.specs.Worlds.{all_terms, setting_of};
 ghost use Rattle.feed_core.specs.Headline.{IsRunOf, ShowsHeadline};
 ghost use Rattle.feed_core.specs.Configs.{IsGood, Explains, journal_of};
-ghost use Rattle.feed_core.specs.Fitting.{all_terms};
 
 use crate::config::CoreFault;
 use crate::configured::new_journal;

@@ -1,6 +1,5 @@
 use Rattle.std.proofs.Common.{refl}
-use Rattle.feed_core.specs.Worlds.{setting_of}
-use Rattle.feed_core.specs.Fitting.{all_terms}
+use Rattle.feed_core.specs.Worlds.{all_terms, setting_of}
 use Rattle.feed_core.proofs.MachineMoves.{if_ok}
 use Rattle.feed_core.proofs.running.run_over.Goals as goal
 

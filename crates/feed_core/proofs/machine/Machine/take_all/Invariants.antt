@@ -1,6 +1,6 @@
 use Rattle.std.proofs.Common.{◌≡◌, ◌≤◌, length, take}
-use Rattle.feed_core.specs.Worlds.{Setting, new_world}
-use Rattle.feed_core.specs.Fitting.{all_terms, FitsWorld, Reached}
+use Rattle.feed_core.specs.Worlds.{Setting, all_terms, new_world}
+use Rattle.feed_core.specs.Fitting.{FitsWorld, Reached}
 use Rattle.feed_core.proofs.machine.Machine.take_all.Given as goal
 
 abbrev pub invariant-loop-event : goal.invariant-loop-event
