@@ -15,7 +15,8 @@ use Rattle.feed_core.specs.declared.event.Event.TheVariants.{Packet, Push, Consu
 use Rattle.feed_core.specs.declared.event.Done.{Done}
 use Rattle.feed_core.specs.declared.event.Done.TheVariants as done
 use Rattle.feed_core.specs.Worlds.{Venue, sent_of, World, Setting}
-use Rattle.feed_core.specs.Steps.{Came, stays, goes, Stays, Comes, put_venue, IsFaulty, answered, IsAnswered, renewal, IsNext, IsSubscribed, IsStep, IsRun, BringsBytes}
+use Rattle.feed_core.specs.Steps.{Came, stays, goes, Stays, Comes, put_venue, IsFaulty, answered, IsAnswered, renewal, IsNext, IsSubscribed}
+use Rattle.feed_core.specs.Runs.{IsStep, IsRun, BringsBytes}
 
 -- some outcome and some world
 abbrev HasStep : (Done → World → Type 0) → Type 0

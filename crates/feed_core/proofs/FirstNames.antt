@@ -3,11 +3,11 @@ use Rattle.std.proofs.Common.{◌≡◌, ℕ, zero, suc, List, [], ◌∷◌, �
 use Rattle.std.specs.Prelude.{slice_get}
 use Rattle.std.specs.List.{AllByRecursion}
 use Rattle.line_arbiter.specs.declared.faults.RenewFault.{RenewFault}
-use Rattle.line_arbiter.specs.Histories.{Begun, History, new_session, names_of}
+use Rattle.line_arbiter.specs.Histories.{Begun, History, new_session, names_of, history_after}
 use Rattle.feed_core.specs.declared.event.Event.{Event}
 use Rattle.feed_core.specs.declared.event.Done.{Done}
 use Rattle.feed_core.specs.Worlds.{Venue, World, Setting, new_venue, new_world}
-use Rattle.feed_core.specs.Steps.{history_after, IsRun}
+use Rattle.feed_core.specs.Runs.{IsRun}
 use Rattle.feed_core.proofs.KeptVenues.{MoveKept, run_keeps}
 use Rattle.feed_core.proofs.VenueHalfLaw.{none_asked}
 

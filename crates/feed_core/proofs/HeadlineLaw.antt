@@ -6,7 +6,7 @@ use Rattle.journal_book.specs.Changes.{changes_of}
 use Rattle.feed_core.specs.declared.event.Event.{Event}
 use Rattle.feed_core.specs.declared.event.Done.{Done}
 use Rattle.feed_core.specs.Worlds.{Venue, Subscriber, World, Setting, new_world}
-use Rattle.feed_core.specs.Steps.{IsRun}
+use Rattle.feed_core.specs.Runs.{IsRun}
 use Rattle.feed_core.specs.VenueHalf.{AreVenueItems}
 use Rattle.feed_core.specs.SubscriberHalf.{AreNotices}
 use Rattle.feed_core.specs.Headline.{Headline, ShownVenue, ShownSubscriber, Shown, shown_venue, shown_subscriber, IsRunOf, ShownVenueHalf, ShownSubscriberHalf, ShowsHeadline}

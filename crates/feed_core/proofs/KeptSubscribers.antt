@@ -13,7 +13,8 @@ use Rattle.feed_core.specs.declared.event.Event.{Event}
 use Rattle.feed_core.specs.declared.event.Event.TheVariants.{Packet, Push, Consume, Declare, Renew, Subscribe, Offer, Dequeue}
 use Rattle.feed_core.specs.declared.event.Done.{Done}
 use Rattle.feed_core.specs.Worlds.{empty_lane, is_full, Venue, Subscriber, World, Setting}
-use Rattle.feed_core.specs.Steps.{stays, goes, next_in, next_out, pushed, journaled, is_same, offered, dequeued, journal_full, already_so, too_many_subscribers, unknown_venue, unknown_subscriber, put_subscriber, Stays, Comes, with_sent, with_intake, with_offered, with_dequeued, IsSubscribed, IsStep, IsRun}
+use Rattle.feed_core.specs.Steps.{stays, goes, next_in, next_out, pushed, journaled, is_same, offered, dequeued, journal_full, already_so, too_many_subscribers, unknown_venue, unknown_subscriber, put_subscriber, Stays, Comes, with_sent, with_intake, with_offered, with_dequeued, IsSubscribed}
+use Rattle.feed_core.specs.Runs.{IsStep, IsRun}
 use Rattle.feed_core.specs.declared.event.Done.TheVariants as done
 use Rattle.feed_core.proofs.Lists.{get_set, get_push}
 

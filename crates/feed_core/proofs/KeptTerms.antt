@@ -14,7 +14,8 @@ use Rattle.feed_core.specs.declared.event.Event.TheVariants.{Packet, Push, Consu
 use Rattle.feed_core.specs.declared.event.Done.{Done}
 use Rattle.feed_core.specs.declared.event.Done.TheVariants as done
 use Rattle.feed_core.specs.Worlds.{empty_lane, is_full, Venue, Subscriber, World, Setting, new_world}
-use Rattle.feed_core.specs.Steps.{Came, stays, goes, next_in, next_out, pushed, consumed, declared, offered, dequeued, too_many_subscribers, unknown_venue, unknown_subscriber, put_subscriber, Stays, Comes, with_sent, with_intake, IsSubscribed, IsStep, IsRun}
+use Rattle.feed_core.specs.Steps.{Came, stays, goes, next_in, next_out, pushed, consumed, declared, offered, dequeued, too_many_subscribers, unknown_venue, unknown_subscriber, put_subscriber, Stays, Comes, with_sent, with_intake, IsSubscribed}
+use Rattle.feed_core.specs.Runs.{IsStep, IsRun}
 use Rattle.feed_core.proofs.Lists.{get_set, get_push}
 
 -- each subscriber has the terms of the filter at its place, and as long as there is place no other filter was used up

@@ -15,7 +15,8 @@ use Rattle.feed_core.specs.declared.event.Event.{Event}
 use Rattle.feed_core.specs.declared.event.Event.TheVariants.{Packet, Push, Consume, Declare, Renew, Subscribe, Offer, Dequeue}
 use Rattle.feed_core.specs.declared.event.Done.{Done}
 use Rattle.feed_core.specs.Worlds.{is_full, Venue, sent_of, Subscriber, World, Setting}
-use Rattle.feed_core.specs.Steps.{Came, stays, goes, next_in, next_out, IsTaken, IsRenewed, pushed, journaled, declared, subscribed, offered, dequeued, journal_full, unknown_venue, unknown_subscriber, put_venue, Stays, Comes, with_sent, with_intake, with_offered, with_dequeued, IsSubscribed, IsStep, IsRun}
+use Rattle.feed_core.specs.Steps.{Came, stays, goes, next_in, next_out, IsTaken, IsRenewed, pushed, journaled, declared, subscribed, offered, dequeued, journal_full, unknown_venue, unknown_subscriber, put_venue, Stays, Comes, with_sent, with_intake, with_offered, with_dequeued, IsSubscribed}
+use Rattle.feed_core.specs.Runs.{IsStep, IsRun}
 use Rattle.feed_core.proofs.Lists.{get_set}
 
 pub record MoveKept (s : Setting) (May : Event → Type 0) (Q : ℕ → Venue → Type 0) : Type 0 where

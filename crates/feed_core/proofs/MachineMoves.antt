@@ -22,7 +22,8 @@ use Rattle.feed_core.specs.declared.event.Event.TheVariants as events
 use Rattle.feed_core.specs.declared.event.Done.{Done}
 use Rattle.feed_core.specs.declared.event.Done.TheVariants as done
 use Rattle.feed_core.specs.Worlds.{Lane, empty_lane, is_full, Venue, Subscriber, World, Setting, new_world}
-use Rattle.feed_core.specs.Steps.{Came, stays, goes, journal_full, already_so, is_same, next_in, next_out, pushed, Intake, journaled, consumed, declared, offered, dequeued, put_venue, put_subscriber, Comes, ComesTo, with_sent, with_intake, with_offered, with_dequeued, too_many_subscribers, IsSubscribed, IsStep, IsRun}
+use Rattle.feed_core.specs.Steps.{Came, stays, goes, journal_full, already_so, is_same, next_in, next_out, pushed, Intake, journaled, consumed, declared, offered, dequeued, put_venue, put_subscriber, Comes, ComesTo, with_sent, with_intake, with_offered, with_dequeued, too_many_subscribers, IsSubscribed}
+use Rattle.feed_core.specs.Runs.{IsStep, IsRun}
 use Rattle.feed_core.specs.Fitting.{VenueView, FitsVenue, LeftFaulty, LeftAnswered, LeftRenewed, LeftPushed, SubscriberView, FitsSubscriber, LeftOffered, intake_of, KeepsJournal, MachineView, FitSubscribers, FitsWorld, Stepped, Reached}
 use Rattle.journal_book.proofs.Growth.{changes_begin}
 use Rattle.feed_core.proofs.Lists.{get_set, get_push, get_within}

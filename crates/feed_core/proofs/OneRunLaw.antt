@@ -18,7 +18,8 @@ use Rattle.feed_core.specs.declared.event.Event.TheVariants.{Packet, Push, Consu
 use Rattle.feed_core.specs.declared.event.Done.{Done}
 use Rattle.feed_core.specs.declared.event.Done.TheVariants as done
 use Rattle.feed_core.specs.Worlds.{Venue, sent_of, World, Setting}
-use Rattle.feed_core.specs.Steps.{Came, stays, goes, Stays, Comes, put_venue, IsFaulty, answered, IsAnswered, renewal, IsNext, IsSubscribed, IsStep, IsRun}
+use Rattle.feed_core.specs.Steps.{Came, stays, goes, Stays, Comes, put_venue, IsFaulty, answered, IsAnswered, renewal, IsNext, IsSubscribed}
+use Rattle.feed_core.specs.Runs.{IsStep, IsRun}
 
 pub record Same (a b : Done) (v w : World) : Type 0 where
   pub outcome : a ≡ b

@@ -8,7 +8,7 @@ use Rattle.journal_book.specs.Changes.{RisesPast}
 use Rattle.feed_core.specs.declared.event.Event.{Event}
 use Rattle.feed_core.specs.declared.event.Done.{Done}
 use Rattle.feed_core.specs.Worlds.{Subscriber, World, Setting, new_world}
-use Rattle.feed_core.specs.Steps.{IsRun}
+use Rattle.feed_core.specs.Runs.{IsRun}
 use Rattle.feed_core.specs.SubscriberHalf.{SubscriberHalf}
 use Rattle.journal_book.proofs.Prefixes.{wanted_begin}
 use Rattle.journal_book.proofs.Rising.{wanted_rise}

@@ -23,7 +23,8 @@ use Rattle.line_arbiter.proofs.Fronts.{front_is}
 use Rattle.feed_core.specs.declared.event.Event.{Event}
 use Rattle.feed_core.specs.declared.event.Done.{Done}
 use Rattle.feed_core.specs.Worlds.{Venue, sent_of, World, Setting, new_venue, new_world}
-use Rattle.feed_core.specs.Steps.{IsTaken, IsRenewed, IsRun}
+use Rattle.feed_core.specs.Steps.{IsTaken, IsRenewed}
+use Rattle.feed_core.specs.Runs.{IsRun}
 use Rattle.feed_core.specs.VenueHalf.{BringsOnly, BringOnly, AreSession, VenueHalf}
 use Rattle.feed_core.proofs.Lists.{begins_self, begins_then, begins_len, begins_all, all_push}
 use Rattle.feed_core.proofs.Lanes.{Serves, serve_in, serve_out, serve_more, serve_all}

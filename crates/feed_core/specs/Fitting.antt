@@ -24,7 +24,8 @@ use Rattle.filter_terms.specs.Terms.{meets}
 use Rattle.journal_book.specs.Changes.{changes_of}
 use Rattle.journal_book.specs.Wanted.{wanted_of}
 use Rattle.journal_book.specs.Journals.{JournalState}
-use Rattle.feed_core.specs.Steps.{next_in, IsTaken, IsRenewed, answered, renewal, pushed, offered, ComesTo, Intake, IsStep, IsRun}
+use Rattle.feed_core.specs.Steps.{next_in, IsTaken, IsRenewed, answered, renewal, pushed, offered, ComesTo, Intake}
+use Rattle.feed_core.specs.Runs.{IsStep, IsRun}
 
 -- a venue's arbiter, and its lane
 pub record VenueView : Type 0 where

@@ -9,7 +9,7 @@ use Rattle.journal_book.specs.Changes.{changes_of}
 use Rattle.feed_core.specs.declared.event.Event.{Event}
 use Rattle.feed_core.specs.declared.event.Done.{Done}
 use Rattle.feed_core.specs.Worlds.{inside, Venue, Subscriber, World, Setting, new_world}
-use Rattle.feed_core.specs.Steps.{IsRun}
+use Rattle.feed_core.specs.Runs.{IsRun}
 use Rattle.feed_core.specs.VenueHalf.{waiting, AreVenueItems, VenueHalf}
 use Rattle.feed_core.specs.SubscriberHalf.{AreNotices, SubscriberHalf}
 

@@ -1,14 +1,13 @@
--- What one event makes of the world. Each event is said of the part of the world that it looks at,
--- which in a running feed one lock or one end of a lane sees; the step then puts that part back in
--- its place. The refusals stand in the order in which they are looked for.
-use Rattle.std.specs.Prelude.{◌≡◌, ◌⊎◌, ℕ, ◌+◌, Bool, true, false, nat_le, List, [], ◌∷◌, ◌++◌, length, Option, Some, None, MatchOption, Result, Ok, Err, slice_get, slice_set, if◌then◌else◌}
+-- What one event makes of its part of the world: of that which it looks at, and which in a running
+-- feed one lock or one end of a lane sees. The step (Runs.antt) puts that part back in its place.
+-- The refusals stand in the order in which they are looked for.
+use Rattle.std.specs.Prelude.{◌≡◌, ℕ, ◌+◌, Bool, true, false, nat_le, List, [], ◌∷◌, ◌++◌, length, Option, Some, None, Result, Ok, Err, slice_get, slice_set, if◌then◌else◌}
 use Rattle.feed_types.specs.declared.item.Numbered.{Numbered}
 use Rattle.feed_types.specs.declared.line.LineId.{LineId}
 use Rattle.feed_types.specs.declared.journal.Entry.{Entry}
 use Rattle.feed_types.specs.declared.journal.Entry.TheVariants as entry
 use Rattle.feed_types.specs.declared.journal.Notice.{Notice}
 use Rattle.mold_packet.specs.declared.fault.PacketFault.{PacketFault}
-use Rattle.mold_packet.specs.Bytes.{AreBytes}
 use Rattle.mold_packet.specs.Content.{Content, Spells}
 use Rattle.mold_packet.specs.Faults.{HasFault, code_of}
 use Rattle.line_arbiter.specs.declared.outcome.Outcome.{Outcome}
@@ -18,15 +17,13 @@ use Rattle.line_arbiter.specs.Codes.{line_fault_code, renew_fault_code}
 use Rattle.line_arbiter.specs.Packets.{end_of}
 use Rattle.line_arbiter.specs.Outcomes.{IsOutcome}
 use Rattle.line_arbiter.specs.Renewals.{IsRenewal}
-use Rattle.line_arbiter.specs.Histories.{History, names_of, streams_of, after_arrival, history_after}
+use Rattle.line_arbiter.specs.Histories.{History, names_of, after_arrival, history_after}
 use Rattle.filter_terms.specs.declared.terms.Terms.{Terms}
-use Rattle.journal_book.specs.Wanted.{wanted_of}
 use Rattle.nbbo_book.specs.Eligible.{is_self_helped}
-use Rattle.feed_core.specs.declared.event.Event.{Event}
 use Rattle.feed_core.specs.declared.event.Event.TheVariants.{Packet, Push, Consume, Declare, Renew, Subscribe, Offer, Dequeue}
 use Rattle.feed_core.specs.declared.event.Done.{Done}
 use Rattle.feed_core.specs.declared.event.Done.TheVariants as done
-use Rattle.feed_core.specs.Worlds.{Lane, empty_lane, is_full, Venue, sent_of, Subscriber, World, Setting}
+use Rattle.feed_core.specs.Worlds.{Lane, empty_lane, Venue, sent_of, Subscriber, World}
 
 -- the refusals that are the machine's own, by their numbers
 abbrev pub journal_full : Done
@@ -167,7 +164,7 @@ abbrev pub with_dequeued : World → ℕ → Subscriber → List Notice → Worl
 with_dequeued w id x received =
     put_subscriber w id (record x { lane = record x.lane { received = received } })
 
--- ---- the step
+-- ---- what the step cites
 
 -- the datagram is no packet, and nothing changes
 pub record IsFaulty (bytes : List ℕ) (old : World) (outcome : Done) (new : World) : Type 0 where
@@ -210,60 +207,3 @@ IsSubscribed (Some terms) old outcome new =
     let after : World = record old { used = old.used + 1 } in
     Comes (λ xs. record after { subscribers = xs })
     (subscribed terms old.subscribers) after outcome new
-
--- first of all a venue that isn't there, or a subscriber
-abbrev pub AtVenue : World → ℕ → Done → World → (Venue → Type 0) → Type 0
-AtVenue old place outcome new Known =
-    MatchOption (slice_get old.venues place) (Stays unknown_venue old outcome new) Known
-
-abbrev pub AtSubscriber : World → ℕ → Done → World → (Subscriber → Type 0) → Type 0
-AtSubscriber old id outcome new Known =
-    MatchOption (slice_get old.subscribers id) (Stays unknown_subscriber old outcome new) Known
-
--- one event, from the old world to the new one, with its outcome
-abbrev pub IsStep : Setting → World → Event → Done → World → Type 0
-IsStep s old (Packet venue line bytes) outcome new = AtVenue old venue outcome new
-    (λ v. IsFaulty bytes.now old outcome new
-    ⊎ IsAnswered s.window venue v line bytes.now old outcome new)
-IsStep s old (Renew venue name) outcome new = AtVenue old venue outcome new
-    (λ v. IsNext venue v name old outcome new)
-IsStep s old (Push venue) outcome new = AtVenue old venue outcome new
-    (λ v. Comes (with_sent old venue v)
-    (pushed (is_full s.lane v.lane) (next_in (streams_of v.history) v.lane) v.lane.sent)
-    old outcome new)
-IsStep s old (Consume venue) outcome new = AtVenue old venue outcome new
-    (λ v. Comes (with_intake old venue v)
-    (consumed s.journal venue (next_out v.lane)
-    (record { received = v.lane.received; entries = old.entries }))
-    old outcome new)
-IsStep s old (Declare venue on) outcome new = AtVenue old venue outcome new
-    (λ v. Comes (λ entries. record old { entries = entries })
-    (declared s.journal venue on old.entries) old outcome new)
-IsStep s old Subscribe outcome new = IsSubscribed (slice_get s.filters old.used) old outcome new
-IsStep s old (Offer id) outcome new = AtSubscriber old id outcome new
-    (λ x. Comes (with_offered old id x)
-    (offered (is_full s.lane x.lane)
-    (next_in (wanted_of s.symbols x.terms old.entries) x.lane) x.lane.sent)
-    old outcome new)
-IsStep s old (Dequeue id) outcome new = AtSubscriber old id outcome new
-    (λ x. Comes (with_dequeued old id x)
-    (dequeued (next_out x.lane) x.lane.received) old outcome new)
-
--- a run: the events are taken one after another, each with its outcome
-abbrev pub IsRun : Setting → World → List Event → List Done → World → Type 0
-IsRun s old [] [] new = new ≡ old
-IsRun s old (e ∷ es) (d ∷ ds) new = (mid : World) × IsStep s old e d mid × IsRun s mid es ds new
-IsRun s old [] (d ∷ ds) new = ⊥
-IsRun s old (e ∷ es) [] new = ⊥
-
--- A datagram's numbers are bytes. The type of an event knows it; a law, which speaks of all lists
--- of numbers, asks for it.
-abbrev pub BringsBytes : Event → Type 0
-BringsBytes (Packet venue line bytes) = AreBytes bytes.now
-BringsBytes (Push venue) = Unit {0}
-BringsBytes (Consume venue) = Unit {0}
-BringsBytes (Declare venue on) = Unit {0}
-BringsBytes (Renew venue name) = Unit {0}
-BringsBytes Subscribe = Unit {0}
-BringsBytes (Offer id) = Unit {0}
-BringsBytes (Dequeue id) = Unit {0}

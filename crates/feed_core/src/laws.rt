@@ -5,7 +5,7 @@ ghost use Rattle.std.specs.List.{AllByRecursion};
 ghost use Rattle.feed_core.specs.declared.event.Event.{Event};
 ghost use Rattle.feed_core.specs.declared.event.Done.{Done};
 ghost use Rattle.feed_core.specs.Worlds.{Venue, Subscriber, World, Setting, new_world};
-ghost use Rattle.feed_core.specs.Steps.{BringsBytes, IsRun};
+ghost use Rattle.feed_core.specs.Runs.{BringsBytes, IsRun};
 ghost use Rattle.feed_core.specs.VenueHalf.{VenueHalf};
 ghost use Rattle.feed_core.specs.SubscriberHalf.{SubscriberHalf};
 ghost use Rattle.feed_core.specs.Headline.{Headline};

@@ -5,9 +5,9 @@
 //! threads: a running feed does the same events, each in one section under one lock or as one step
 //! of a queue.
 //!
-//! Contract: what is shown is that of the one run over the events (`specs/Steps.antt`), and the
-//! headline holds of it (`specs/Headline.antt`, law [`headline`]). Begin at `specs/Worlds.antt` and
-//! `specs/Steps.antt` for what an event does, and at `running.rt` for the code.
+//! Contract: what is shown is that of the one run over the events (`specs/Runs.antt`), and the
+//! headline holds of it (`specs/Headline.antt`, law [`headline`]). Begin at `specs/Worlds.antt`,
+//! `specs/Runs.antt` and `specs/Steps.antt` for what an event does, and at `running.rt` for the code.
 #![tactic(auto)]
 
 mod config;

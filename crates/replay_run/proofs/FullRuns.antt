@@ -18,7 +18,8 @@ use Rattle.feed_core.specs.declared.event.Event.TheVariants.{Packet, Push, Consu
 use Rattle.feed_core.specs.declared.event.Done.{Done}
 use Rattle.feed_core.specs.declared.event.Done.TheVariants as outcome
 use Rattle.feed_core.specs.Worlds.{Venue, World, Setting, new_venue, new_world}
-use Rattle.feed_core.specs.Steps.{Comes, stays, goes, next_out, journaled, consumed, journal_full, already_so, declared, with_intake, IsStep, IsRun}
+use Rattle.feed_core.specs.Steps.{Comes, stays, goes, next_out, journaled, consumed, journal_full, already_so, declared, with_intake}
+use Rattle.feed_core.specs.Runs.{IsStep, IsRun}
 use Rattle.feed_core.specs.Steps as steps
 use Rattle.feed_core.specs.VenueHalf.{BringsOnly, BringOnly}
 use Rattle.feed_core.proofs.HeadlineLaw.{headline}

@@ -1,3 +1,4 @@
 pub mod Runs
 pub mod FullRuns
+mod Coming
 pub mod Prints

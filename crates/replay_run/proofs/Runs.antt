@@ -24,7 +24,8 @@ use Rattle.feed_core.specs.declared.event.Done.{Done}
 use Rattle.feed_core.specs.declared.event.Done.TheVariants as done
 use Rattle.feed_core.specs.Worlds.{Lane, is_full, Venue, World, Setting, new_venue, new_world}
 use Rattle.feed_core.specs.Worlds as worlds
-use Rattle.feed_core.specs.Steps.{Stays, Comes, stays, goes, next_in, next_out, pushed, journaled, consumed, journal_full, unknown_venue, already_so, declared, is_same, Intake, put_venue, with_sent, with_intake, IsTaken, IsRenewed, IsFaulty, IsNext, IsStep, IsRun}
+use Rattle.feed_core.specs.Steps.{Stays, Comes, stays, goes, next_in, next_out, pushed, journaled, consumed, journal_full, unknown_venue, already_so, declared, is_same, Intake, put_venue, with_sent, with_intake, IsTaken, IsRenewed, IsFaulty, IsNext}
+use Rattle.feed_core.specs.Runs.{IsStep, IsRun}
 use Rattle.feed_core.specs.Steps as steps
 use Rattle.feed_core.specs.VenueHalf.{BringsOnly, BringOnly, VenueHalf}
 use Rattle.feed_core.specs.Headline.{Headline}
@@ -225,11 +226,6 @@ counted h =
     ap length (items_push h.earlier h.present) ∙ length-append (items_of h.earlier) (stream_of h.present.packets) in
     omega arith
 
-same_after : (old : History) (name : List ℕ) (answer : Result ℕ RenewFault)
-    → history_after old name answer ≡ history_after old name answer
-same_after old name (Ok ordinal) = refl
-same_after old name (Err fault) = refl
-
 pub same_so : (entries : List Entry) (venue : ℕ) (on : Bool)
     → is_same (is_self_helped entries venue) on ≡ is_so entries venue on
 same_so entries venue on = by (is_self_helped entries venue) on refl
@@ -383,7 +379,7 @@ module _ (s : Setting) (gaps : Bool) (lane : 1 ≤ s.lane) (hs : List History) (
               right =
                   subst (λ (n : ℕ). IsRenewal (names_of h) (end_of h.present.packets) n name t.answer)
                   (sym (counted h)) t.is;
-              is = t.after ∙ same_after h name t.answer;
+              is = t.after;
             };
         outcome_is = refl;
         new_is = refl;

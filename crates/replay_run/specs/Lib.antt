@@ -1,4 +1,5 @@
 pub mod Events
 pub mod Full
+pub mod Moving
 pub mod Printed
 pub mod VenueItems

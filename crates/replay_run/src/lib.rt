@@ -7,17 +7,20 @@
 //! what is printed is that of a run (`specs/Printed.antt`), and [`replay`] says it of what it wrote.
 #![tactic(auto)]
 
-ghost use Rattle.std.specs.Prelude.{◌≡◌, ◌≤◌, ℕ, List, length};
-ghost use Rattle.std.specs.List.{IsDistinct};
+ghost use Rattle.std.specs.Prelude.{◌≡◌, ◌<◌, ◌≤◌, ◌+◌, ◌^◌, ℕ, List, Some, length, slice_get};
+ghost use Rattle.std.specs.List.{AllByRecursion, IsDistinct};
 ghost use Rattle.std.specs.Str.{bytes_eq};
+ghost use Rattle.mold_packet.specs.Block.{IsMessage};
 ghost use Rattle.line_arbiter.specs.Histories.{History};
 ghost use Rattle.filter_terms.specs.declared.terms.Terms.{Terms};
+ghost use Rattle.feed_core.specs.Worlds.{Setting};
 ghost use Rattle.feed_text.specs.declared.replay.ReplayConfig.{ReplayConfig};
 ghost use Rattle.feed_text.specs.Capture.{CaptureRecord};
 ghost use Rattle.feed_text.specs.Happenings.{Happening};
 ghost use Rattle.feed_text.specs.Texts.{TellsAll, HasRoom, IsLinesOf, IsLinesToFull, IsTextOf};
 ghost use Rattle.feed_text.specs.Replays.{Replays, ReplaysBy};
 ghost use Rattle.replay_run.specs.Events.{IsReplayRun, replay_setting};
+ghost use Rattle.replay_run.specs.Moving.{ComesThrough, session_of};
 ghost use Rattle.replay_run.specs.Printed.{AreLinesOfRun, AreLinesOfRunToFull, IsTextOfRun, texts_of_run};
 
 use feed_text::devices::{CaptureIn, TextOut};
@@ -44,6 +47,17 @@ pub fn a_text_is_that_of_a_run()
         → IsLinesOf config records lines → AreLinesOfRun config records lines }
     ensures full { (config : ReplayConfig) (records : List CaptureRecord) (lines : List ℕ)
         → IsLinesToFull config records lines → AreLinesOfRunToFull config records lines }
+{}
+
+/// And the machine moves: whatever the messages of a session are, some events bring its packets to
+/// the venue whose first session has its name, and all of its items are consumed, and End, for any
+/// window and lane. So the headline isn't one of a machine that takes nothing.
+pub fn a_session_comes_through()
+    ensures { (s : Setting) (place : ℕ) (name : List ℕ) (messages : List (List ℕ))
+        → 1 ≤ s.window → 1 ≤ s.lane → length messages < s.journal
+        → slice_get s.sessions place ≡ Some name → length name ≡ 10
+        → AllByRecursion IsMessage messages → length messages + 1 < 2 ^ 64
+        → ComesThrough s place (session_of name messages) }
 {}
 
 /// Reads a capture to its end, and writes its text ([`feed_text::replay::replay`]): that of a run of

@@ -1,0 +1,25 @@
+-- That the machine moves: a session whose packets come is consumed to its end.
+use Rattle.std.specs.Prelude.{◌≡◌, ℕ, List, map, Some, slice_get}
+use Rattle.feed_types.specs.Sessions.{Session, whole_session}
+use Rattle.quote_payload.specs.Payload.{item_of}
+use Rattle.feed_core.specs.declared.event.Event.{Event}
+use Rattle.feed_core.specs.declared.event.Done.{Done}
+use Rattle.feed_core.specs.Worlds.{Venue, World, Setting, new_world}
+use Rattle.feed_core.specs.Runs.{IsRun}
+use Rattle.feed_core.specs.VenueHalf.{BringOnly}
+
+-- the session of these messages
+abbrev pub session_of : List ℕ → List (List ℕ) → Session
+session_of name messages = record { name = name; items = map item_of messages }
+
+-- There are events that bring the venue at a place packets of the session alone under its name, and
+-- they lead to a world where all of its items were consumed, and End.
+pub record ComesThrough (s : Setting) (place : ℕ) (session : Session) : Type 0 where
+  pub events : List Event
+  pub outcomes : List Done
+  pub world : World
+  pub only : BringOnly place events session
+  pub run : IsRun s (new_world s) events outcomes world
+  pub venue : Venue
+  pub there : slice_get world.venues place ≡ Some venue
+  pub consumed : venue.lane.received ≡ whole_session session
