@@ -51,7 +51,8 @@ pub fn a_text_is_that_of_a_run()
 
 /// And the machine moves: whatever the messages of a session are, some events bring its packets to
 /// the venue whose first session has its name, and all of its items are consumed, and End, for any
-/// window and lane. So the headline isn't one of a machine that takes nothing.
+/// window and lane and a journal with room for them. So the headline isn't one of a machine that
+/// takes nothing.
 pub fn a_session_comes_through()
     ensures { (s : Setting) (place : ℕ) (name : List ℕ) (messages : List (List ℕ))
         → 1 ≤ s.window → 1 ≤ s.lane → length messages < s.journal
