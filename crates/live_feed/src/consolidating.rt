@@ -1,13 +1,13 @@
 //! The work of the consolidator's thread.
 
+use crate::bells::Bells;
 use crate::feed_name::FeedName;
-use crate::hub_calls::{consume_some, offer_some};
+use crate::hub_calls::{consume_some, offer_each};
 use crate::hub_cell::HubCell;
 use crate::idle::{is_tired, rest};
 use crate::open_feed::OpenFeed;
 use crate::report::Stop;
 use crate::signals::Signals;
-use crate::unsent::Unsent;
 use feed_types::{Genuine, SubscriberId, VenueId};
 use journal_book::JournalFault;
 use std::sync::Wait;
@@ -20,8 +20,6 @@ const ITEMS_A_TURN: u32 = 64;
 struct Turn {
     /// Whether it moved anything.
     moved: bool,
-    /// Whether it left a lane full from which notices are taken.
-    waits: bool,
     /// Of which venues it journaled something.
     gave: [bool; 16],
     /// Why journaling was refused, if it was.
@@ -80,30 +78,6 @@ fn consume_each<G: Genuine, N: FeedName, W: Wait>(
     }
 }
 
-/// Offers each subscriber what it wants.
-fn offer_each<G: Genuine, N: FeedName, W: Wait>(
-    rt: &W,
-    hub: &mut HubCell<G, N>,
-    signals: &Signals,
-    turn: &mut Turn,
-) {
-    for place in 0..32u8 {
-        let Some(id) = SubscriberId::new(place) else {
-            break;
-        };
-        let Some((pushed, unsent)) = offer_some(rt, hub, id) else {
-            break;
-        };
-        if pushed > 0 {
-            turn.moved = true;
-            signals.notices(id).notify_one();
-        }
-        if unsent == Unsent::LaneFull && signals.is_polling(id) {
-            turn.waits = true;
-        }
-    }
-}
-
 /// Takes the consolidator's lock once, and journals what is in the venues' lanes, unless the run
 /// stops early, and offers each subscriber what it wants.
 fn take_turn<G: Genuine, N: FeedName, W: Wait>(
@@ -113,7 +87,6 @@ fn take_turn<G: Genuine, N: FeedName, W: Wait>(
 ) -> Turn {
     let mut turn = Turn {
         moved: false,
-        waits: false,
         gave: [false; 16],
         stop: None,
     };
@@ -121,25 +94,43 @@ fn take_turn<G: Genuine, N: FeedName, W: Wait>(
     if !signals.is_stopped() {
         consume_each(rt, &mut hub, &mut turn);
     }
-    offer_each(rt, &mut hub, signals, &mut turn);
+    if offer_each(rt, &mut hub, feed.venues.bells()) > 0 {
+        turn.moved = true;
+    }
     turn
+}
+
+/// Whether a notice waits for room in a lane from which a thread of the run takes notices.
+fn is_room_wanted(signals: &Signals, bells: &Bells) -> bool {
+    for place in 0..32u8 {
+        let Some(id) = SubscriberId::new(place) else {
+            break;
+        };
+        if signals.is_polling(id) && bells.is_room_wanted(id) {
+            return true;
+        }
+    }
+    false
 }
 
 /// Journals what the lines bring and offers what the subscribers want, until the lines have ended
 /// and nothing is left to do, and gives why the run stopped early, if journaling was the reason.
 /// Once the lines have ended, what is ready is pushed in any case.
+///
+/// It sleeps after it has looked in vain for a while. The wait is announced before the last of these
+/// looks, so whatever comes after that look ends the sleep.
 pub(crate) fn consolidate<G: Genuine, N: FeedName, W: Wait>(
     rt: &W,
     feed: &OpenFeed<G, N>,
     signals: &Signals,
 ) -> Option<Stop> {
+    let bells = feed.venues.bells();
     let mut stopped = None;
     let mut first = true;
     let mut looks: u32 = 0;
-    let mut waits = false;
     for _ in rt.forever() {
         let key = if is_tired(looks) {
-            Some(feed.venues.news().prepare_wait())
+            Some(bells.work().prepare_wait())
         } else {
             None
         };
@@ -155,16 +146,12 @@ pub(crate) fn consolidate<G: Genuine, N: FeedName, W: Wait>(
             looks = 0;
             continue;
         }
-        if last && !turn.waits {
+        if last && !is_room_wanted(signals, bells) {
             break;
-        }
-        if turn.waits != waits {
-            waits = turn.waits;
-            signals.want_room(waits);
-            continue;
         }
         looks = rest(rt, looks, key);
     }
     signals.end_offers();
+    bells.ring_subscribers();
     stopped
 }

@@ -4,6 +4,7 @@ ghost use Rattle.std.specs.Prelude.{◌≡◌, ◌≤◌, All, length, vec_len, 
 ghost use Rattle.feed_core.specs.Configs.{IsGood, Explains};
 ghost use Rattle.live_feed.specs.Feeds.{AreNamed, HasItsLane};
 
+use crate::bells::Bells;
 use crate::feed_name::FeedName;
 use crate::hub_cell::HubCell;
 use crate::hub_core::HubCore;
@@ -21,7 +22,7 @@ use journal_book::Journal;
 use std::alloc::Global;
 use std::collections::VecDeque;
 use std::marker::Model;
-use std::sync::Mutex;
+use std::sync::{Arc, Mutex};
 
 /// How many subscribers there are at most.
 const MAX_SUBSCRIBERS: usize = 32;
@@ -108,10 +109,11 @@ impl<G: Genuine> LiveFeed<G> {
         requires { self ≡ N.lanes }
         ensures { IfErr result (λ feed. feed ≡ self) }
     {
-        let (Ok(venues), Ok(senders), Ok(filters)) = (
+        let (Ok(venues), Ok(senders), Ok(filters), Ok(bells)) = (
             Vec::with_capacity(alloc, self.starts.len()),
             Vec::with_capacity(alloc, MAX_SUBSCRIBERS),
             Vec::with_capacity(alloc, MAX_SUBSCRIBERS),
+            Arc::new(alloc, Bells::new()),
         ) else {
             return Err(self);
         };
@@ -124,7 +126,7 @@ impl<G: Genuine> LiveFeed<G> {
         } = self;
         let core = HubCore::new(kept, from_venues, senders, spare_lanes);
         let hub = CachePadded::new(Mutex::new(HubCell { core, filters }));
-        let venues = VenueLocks::new(locked(starts, venues));
+        let venues = VenueLocks::new(locked(starts, venues), bells);
         Ok(OpenFeed {
             venues,
             hub,

@@ -2,6 +2,7 @@
 
 ghost use Rattle.std.specs.Prelude.{◌≡◌, ◌≤◌, ◌↔◌, length, IfOk, IsErrOf, OnErr};
 
+use crate::bells::Bells;
 use crate::feed_name::FeedName;
 use crate::hub_cell::HubCell;
 use crate::unsent::Unsent;
@@ -16,6 +17,21 @@ pub struct Consolidated {
     pub consumed: u32,
     /// How many notices were offered, to all subscribers.
     pub offered: u64,
+}
+
+/// Journals the next item of the venue's lane, and gives its position; None where nothing was inside.
+/// A refused call changes nothing.
+pub(crate) fn consume_next<G: Genuine, N: FeedName, W: Wait>(
+    rt: &W,
+    hub: &mut HubCell<G, N>,
+    venue: VenueId,
+) -> Result<Option<u64>, JournalFault>
+    ensures unknown { IsErrOf result JournalFault.UnknownVenue ↔ (length N.lanes.venues ≤ venue) }
+{
+    if venue.index() >= hub.core.venue_count() {
+        return Err(JournalFault::UnknownVenue);
+    }
+    hub.consume(rt, venue)
 }
 
 /// Journals the items that are in the venue's lane, at most so many, and gives how many there were.
@@ -46,14 +62,16 @@ pub(crate) fn consume_some<G: Genuine, N: FeedName, W: Wait>(
     Ok(most)
 }
 
-/// Offers the subscriber what it wants, until there is nothing more or its lane is full. Gives how
-/// many notices were pushed, and why no more were; None where there is no such subscriber.
+/// Offers the subscriber what it wants, until there is nothing more or its lane is full, and wakes
+/// its thread where notices were pushed. Gives how many were; None where there is no such
+/// subscriber. A lane that is full is looked at once more, after it was said that room is wanted.
 #[inline(always)]
 pub(crate) fn offer_some<G: Genuine, N: FeedName, W: Wait>(
     rt: &W,
     hub: &mut HubCell<G, N>,
+    bells: &Bells,
     id: SubscriberId,
-) -> Option<(u64, Unsent)> {
+) -> Option<u64> {
     let mut pushed: u64 = 0;
     for _ in rt.forever() {
         if !hub.core.has(id) {
@@ -61,20 +79,31 @@ pub(crate) fn offer_some<G: Genuine, N: FeedName, W: Wait>(
         }
         match hub.offer_one(rt, id) {
             Ok(_) => pushed = pushed.saturating_add(1),
-            Err(unsent) => return Some((pushed, unsent)),
+            Err(Unsent::LaneFull) if !bells.is_room_wanted(id) => bells.want_room(id, true),
+            Err(unsent) => {
+                bells.want_room(id, unsent == Unsent::LaneFull);
+                if pushed > 0 {
+                    bells.notices(id).notify_all();
+                }
+                return Some(pushed);
+            }
         }
     }
     None
 }
 
 /// Offers each subscriber what it wants, and gives how many notices were pushed.
-pub(crate) fn offer_each<G: Genuine, N: FeedName, W: Wait>(rt: &W, hub: &mut HubCell<G, N>) -> u64 {
+pub(crate) fn offer_each<G: Genuine, N: FeedName, W: Wait>(
+    rt: &W,
+    hub: &mut HubCell<G, N>,
+    bells: &Bells,
+) -> u64 {
     let mut offered: u64 = 0;
     for place in 0..32u8 {
         let Some(id) = SubscriberId::new(place) else {
             break;
         };
-        let Some((pushed, _)) = offer_some(rt, hub, id) else {
+        let Some(pushed) = offer_some(rt, hub, bells, id) else {
             break;
         };
         offered = offered.saturating_add(pushed);

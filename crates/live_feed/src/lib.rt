@@ -22,6 +22,7 @@
 
 mod advising;
 mod agreeing;
+mod bells;
 mod closing;
 mod consolidating;
 mod datagram;

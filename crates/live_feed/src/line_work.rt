@@ -93,7 +93,7 @@ pub(crate) fn work_line<G: Genuine, N: FeedName, S: LineSource<G>, W: Wait>(
         }
     }
     signals.end_line();
-    venues.news().notify_one();
+    venues.bells().ring_work();
     LineEnd {
         seat,
         source,

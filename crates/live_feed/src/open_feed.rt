@@ -7,7 +7,7 @@ ghost use Rattle.live_feed.specs.Datagrams.{AreGenuineBytes, AcceptsTheirs, IsTa
 use crate::datagram::Datagram;
 use crate::faults::{FeedFault, RenewalFault, TakeFault};
 use crate::feed_name::FeedName;
-use crate::hub_calls::{Consolidated, consume_some, offer_each, offer_some};
+use crate::hub_calls::{Consolidated, consume_next, consume_some, offer_each, offer_some};
 use crate::hub_cell::HubCell;
 use crate::seat::LineSeat;
 use crate::subscriber::Subscriber;
@@ -148,11 +148,11 @@ impl<G: Genuine, N: FeedName> OpenFeed<G, N> {
         ensures unknown { IsErrOf result JournalFault.UnknownVenue
             ↔ (length N.lanes.venues ≤ venue) }
     {
-        let mut hub = self.hub.lock(rt);
-        if venue.index() >= hub.core.venue_count() {
-            return Err(JournalFault::UnknownVenue);
+        let consumed = consume_next(rt, &mut self.hub.lock(rt), venue);
+        if let Ok(Some(_)) = consumed {
+            self.venues.bells().ring_work();
         }
-        hub.consume(rt, venue)
+        consumed
     }
 
     /// Journals the next items of the venue's lane as `consume` does, at most so many, under the
@@ -168,8 +168,11 @@ impl<G: Genuine, N: FeedName> OpenFeed<G, N> {
             ↔ (length N.lanes.venues ≤ venue) }
         ensures most { IfOk result (λ count. count ≤ most) }
     {
-        let mut hub = self.hub.lock(rt);
-        consume_some(rt, &mut hub, venue, most)
+        let consumed = consume_some(rt, &mut self.hub.lock(rt), venue, most)?;
+        if consumed > 0 {
+            self.venues.bells().ring_work();
+        }
+        Ok(consumed)
     }
 
     /// Journals the next items of the venue's lane as `consume_up_to` does, and then offers each
@@ -185,9 +188,14 @@ impl<G: Genuine, N: FeedName> OpenFeed<G, N> {
             ↔ (length N.lanes.venues ≤ venue) }
         ensures most { IfOk result (λ done. done.consumed ≤ most) }
     {
+        let bells = self.venues.bells();
         let mut hub = self.hub.lock(rt);
         let consumed = consume_some(rt, &mut hub, venue, most)?;
-        let offered = offer_each(rt, &mut hub);
+        let offered = offer_each(rt, &mut hub, bells);
+        drop(hub);
+        if consumed > 0 {
+            bells.ring_work();
+        }
         Ok(Consolidated { consumed, offered })
     }
 
@@ -199,7 +207,9 @@ impl<G: Genuine, N: FeedName> OpenFeed<G, N> {
             ↔ (length N.lanes.venues ≤ venue) }
     {
         let declared = self.hub.lock(rt).declare(venue, on);
-        self.venues.news().notify_one();
+        if declared.is_ok() {
+            self.venues.bells().ring_work();
+        }
         declared
     }
 
@@ -217,11 +227,22 @@ impl<G: Genuine, N: FeedName> OpenFeed<G, N> {
             × (made.tape.limits ≡ strategy.limits)) }
         ensures back { IfErr result (λ refused. (refused.1 ≡ filter) × (refused.2 ≡ strategy)) }
     {
-        let made = self.hub.lock(rt).subscribe(filter);
+        let mut hub = self.hub.lock(rt);
+        let Ok(bells) = self.venues.share_bells() else {
+            let fault = if hub.core.subscriber_count() >= 32 {
+                JournalFault::TooManySubscribers
+            } else {
+                JournalFault::NoMemory
+            };
+            return Err((fault, filter, strategy));
+        };
+        let made = hub.subscribe(filter);
+        drop(hub);
         match made {
             Ok((id, lane)) => {
+                self.venues.bells().ring_work();
                 let limits = strategy.limits();
-                let tape = Tape::new(alloc, id, lane, self.log_lines, limits);
+                let tape = Tape::new(alloc, id, lane, self.log_lines, limits, bells);
                 Ok(Subscriber { tape, strategy })
             }
             Err((fault, filter)) => Err((fault, filter, strategy)),
@@ -231,9 +252,8 @@ impl<G: Genuine, N: FeedName> OpenFeed<G, N> {
     /// Pushes the notices that the subscriber wants, until there is none or its lane is full, and
     /// gives how many were pushed.
     pub fn offer<W: Wait>(&self, rt: &W, id: SubscriberId) -> Result<u64, FeedFault> {
-        let mut hub = self.hub.lock(rt);
-        match offer_some(rt, &mut hub, id) {
-            Some((pushed, _)) => Ok(pushed),
+        match offer_some(rt, &mut self.hub.lock(rt), self.venues.bells(), id) {
+            Some(pushed) => Ok(pushed),
             None => Err(FeedFault::UnknownSubscriber),
         }
     }

@@ -123,7 +123,7 @@ where
         rt,
         scope,
         signals,
-        feed.venues.news(),
+        feed.venues.bells(),
         tapes,
         strategies,
         tape_lists.threads,

@@ -5,6 +5,7 @@ ghost use Rattle.live_feed.specs.Settlements.{AllAgree, AreInOrder, AreVenues, I
 ghost use Rattle.live_feed.specs.Closings.{HasRoom, IsClosedFeed};
 
 use crate::agreeing::{all_agree, are_in_order, has_its_seats};
+use crate::bells::Bells;
 use crate::closing::{close_subscribers, close_venues};
 use crate::faults::SettleFault;
 use crate::feed_name::FeedName;
@@ -19,7 +20,7 @@ use crate::venue_locks::{VenueLock, VenueLocks};
 use crossbeam_utils::CachePadded;
 use feed_types::Genuine;
 use std::alloc::Global;
-use std::sync::{Mutex, Wait};
+use std::sync::{Arc, Mutex, Wait};
 
 /// A feed out of its locks, and an empty list with room for the venues' locks.
 #[derive(Drop)]
@@ -27,6 +28,7 @@ struct Unlocked<G: Genuine, N: FeedName> {
     venues: Vec<Guarded<G, N>>,
     hub: HubCell<G, N>,
     locks: Vec<VenueLock<G, N>>,
+    bells: Arc<Bells, Global>,
     log_lines: u32,
 }
 
@@ -79,10 +81,12 @@ fn unlock<G: Genuine, N: FeedName>(
         hub,
         log_lines,
     } = feed;
+    let (behind, bells) = behind.into_parts();
     Ok(Unlocked {
-        venues: out_of_locks(behind.into_locks(), venues),
+        venues: out_of_locks(behind, venues),
         hub: hub.into_inner().into_inner(),
         locks,
+        bells,
         log_lines,
     })
 }
@@ -97,10 +101,11 @@ fn locked<G: Genuine, N: FeedName>(unlocked: Unlocked<G, N>) -> OpenFeed<G, N>
         venues,
         hub,
         locks,
+        bells,
         log_lines,
     } = unlocked;
     OpenFeed {
-        venues: VenueLocks::new(behind_locks(venues, locks)),
+        venues: VenueLocks::new(behind_locks(venues, locks), bells),
         hub: CachePadded::new(Mutex::new(hub)),
         log_lines,
     }
@@ -175,6 +180,7 @@ fn closed<G: Genuine, N: FeedName, W: Wait>(
         venues,
         hub,
         locks: _,
+        bells: _,
         log_lines: _,
     } = unlocked;
     let HubCell { core, filters: _ } = hub;

@@ -1,6 +1,5 @@
 //! What the threads of a run tell each other.
 
-use crossbeam_utils::sync::EventCount;
 use feed_types::SubscriberId;
 use std::array;
 use std::sync::atomic::{AtomicBool, AtomicU64, Ordering};
@@ -18,10 +17,6 @@ pub(crate) struct Signals {
     offered: AtomicBool,
     /// By id, whether the subscriber's thread takes notices.
     polling: [AtomicBool; 32],
-    /// The consolidator waits until a full lane has room.
-    wants_room: AtomicBool,
-    /// By id, where the subscriber's thread sleeps while there are no notices.
-    notices: [EventCount; 32],
 }
 
 impl Signals {
@@ -33,8 +28,6 @@ impl Signals {
             lines_left: AtomicU64::new(lines),
             offered: AtomicBool::new(false),
             polling: array::from_fn(|_| AtomicBool::new(false)),
-            wants_room: AtomicBool::new(false),
-            notices: array::from_fn(|_| EventCount::new()),
         }
     }
 
@@ -72,29 +65,11 @@ impl Signals {
     /// All that can be offered was offered.
     pub(crate) fn end_offers(&self) {
         self.offered.store(true, Ordering::SeqCst);
-        for bell in &self.notices {
-            bell.notify_all();
-        }
     }
 
     /// Whether all that can be offered was offered.
     pub(crate) fn have_offers_ended(&self) -> bool {
         self.offered.load(Ordering::SeqCst)
-    }
-
-    /// Where the subscriber's thread sleeps while there are no notices.
-    pub(crate) fn notices(&self, id: SubscriberId) -> &EventCount {
-        &self.notices[id.index()]
-    }
-
-    /// Whether the consolidator waits until a full lane has room.
-    pub(crate) fn is_room_wanted(&self) -> bool {
-        self.wants_room.load(Ordering::SeqCst)
-    }
-
-    /// Whether the consolidator waits until a full lane has room, from now on.
-    pub(crate) fn want_room(&self, is_wanted: bool) {
-        self.wants_room.store(is_wanted, Ordering::SeqCst);
     }
 
     /// Whether the subscriber's thread takes notices, from now on.

@@ -3,11 +3,11 @@
 ghost use Rattle.std.specs.Prelude.{◌≡◌, ◌≤◌, [], MatchResult, vec_len, vec_capacity};
 ghost use Rattle.live_feed.specs.Runs.{Pairwise, HasPolled};
 
+use crate::bells::Bells;
 use crate::feed_name::FeedName;
 use crate::signals::Signals;
 use crate::subscriber_work::{TapeOf, work_subscriber};
 use crate::tape::Tape;
-use crossbeam_utils::sync::EventCount;
 use filter_terms::Strategy;
 use std::snapshot::Snapshot;
 use std::sync::{Mutex, Wait};
@@ -21,7 +21,7 @@ pub(crate) fn start_subscriber<'s, E, N, R>(
     rt: &'s R,
     scope: &Scope<'s, E>,
     signals: &'s Signals,
-    news: &'s EventCount,
+    bells: &'s Bells,
     tape: Tape<N>,
     strategy: &'s Mutex<Strategy>,
 ) -> TapeThread<N>
@@ -38,7 +38,7 @@ where
     };
     let job = move || -> Tape<N>
         ensures { HasPolled tape result }
-    { work_subscriber(rt, signals, news, tape, strategy) };
+    { work_subscriber(rt, signals, bells, tape, strategy) };
     signals.set_polling(id, true);
     match scope.spawn_with(promise, job) {
         Ok(handle) => Ok(handle),
@@ -57,7 +57,7 @@ pub(crate) fn start_subscribers<'s, E, N, R>(
     rt: &'s R,
     scope: &Scope<'s, E>,
     signals: &'s Signals,
-    news: &'s EventCount,
+    bells: &'s Bells,
     tapes: Vec<Tape<N>>,
     strategies: &'s Vec<Mutex<Strategy>>,
     mut threads: Vec<TapeThread<N>>,
@@ -76,7 +76,7 @@ where
 {
     for tape in tapes {
         let strategy = &strategies[threads.len()];
-        let thread = start_subscriber(rt, scope, signals, news, tape, strategy);
+        let thread = start_subscriber(rt, scope, signals, bells, tape, strategy);
         threads.push_reserved(thread);
     }
     threads

@@ -2,11 +2,11 @@
 
 ghost use Rattle.live_feed.specs.Runs.{HasPolled};
 
+use crate::bells::Bells;
 use crate::feed_name::FeedName;
 use crate::idle::{is_tired, rest};
 use crate::signals::Signals;
 use crate::tape::Tape;
-use crossbeam_utils::sync::EventCount;
 use filter_terms::Strategy;
 use std::snapshot::Snapshot;
 use std::sync::{Mutex, Wait};
@@ -30,7 +30,7 @@ impl<N: FeedName> Promise<Tape<N>> for TapeOf<N> {
 pub(crate) fn work_subscriber<N: FeedName, W: Wait>(
     rt: &W,
     signals: &Signals,
-    news: &EventCount,
+    bells: &Bells,
     tape: Tape<N>,
     strategy: &Mutex<Strategy>,
 ) -> Tape<N>
@@ -45,18 +45,13 @@ pub(crate) fn work_subscriber<N: FeedName, W: Wait>(
             break;
         }
         let key = if is_tired(looks) {
-            Some(signals.notices(id).prepare_wait())
+            Some(bells.notices(id).prepare_wait())
         } else {
             None
         };
         let last = signals.have_offers_ended();
         match tape.poll(rt, &mut *strategy) {
-            Ok(Some(_)) => {
-                looks = 0;
-                if signals.is_room_wanted() {
-                    news.notify_one();
-                }
-            }
+            Ok(Some(_)) => looks = 0,
             Ok(None) => {
                 if last {
                     break;
@@ -67,6 +62,6 @@ pub(crate) fn work_subscriber<N: FeedName, W: Wait>(
         }
     }
     signals.set_polling(id, false);
-    news.notify_one();
+    bells.ring_work();
     tape
 }

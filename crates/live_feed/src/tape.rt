@@ -5,6 +5,7 @@ ghost use Rattle.filter_terms.specs.Allowed.{IsAllowed};
 ghost use Rattle.live_feed.specs.Tapes.{IsTape, Polls, logged};
 
 use crate::advising::advise;
+use crate::bells::Bells;
 use crate::feed_name::FeedName;
 use crate::logged::{Logged, PollFault};
 use feed_types::{Best, National, Notice, SubscriberId, SymbolName, VenueId};
@@ -12,7 +13,7 @@ use fifo_lane::{LaneRule, Receiver, RisingNotices};
 use filter_terms::{Advice, Limits, Strategy};
 use std::alloc::Global;
 use std::marker::{Model, PhantomData};
-use std::sync::Wait;
+use std::sync::{Arc, Wait};
 
 /// The receiving end of a subscriber's lane, and the log of what it took.
 #[derive(Drop)]
@@ -22,6 +23,7 @@ pub struct Tape<N: FeedName> {
     lines: Vec<Logged>,
     most_lines: u32,
     bounds: Limits,
+    bells: Arc<Bells, Global>,
     feed: PhantomData<N>,
 }
 
@@ -92,6 +94,7 @@ impl<N: FeedName> Tape<N> {
         lane: Receiver<Notice, RisingNotices>,
         most: u32,
         limits: Limits,
+        bells: Arc<Bells, Global>,
     ) -> Tape<N>
         requires tag { lane.tag ≡ id }
         requires lane { slice_get N.lanes.subscribers id ≡ Some lane.lane }
@@ -105,6 +108,7 @@ impl<N: FeedName> Tape<N> {
             lines: Vec::new(alloc),
             most_lines: most,
             bounds: limits,
+            bells,
             feed: PhantomData,
         }
     }
@@ -120,6 +124,7 @@ impl<N: FeedName> Tape<N> {
             lines,
             most_lines: _,
             bounds: _,
+            bells: _,
             feed: _,
         } = self;
         (lines, notices)
@@ -139,7 +144,8 @@ impl<N: FeedName> Tape<N> {
         self.owner
     }
 
-    /// Takes the next notice and logs the strategy's advice on it.
+    /// Takes the next notice and logs the strategy's advice on it. Where another notice waits for
+    /// the room that this makes, the consolidators are woken.
     pub(crate) fn poll<W: Wait>(
         &mut self,
         rt: &W,
@@ -156,6 +162,7 @@ impl<N: FeedName> Tape<N> {
         let Some(notice) = self.notices.pop(rt) else {
             return Ok(None);
         };
+        self.bells.ring_room(self.owner);
         let advice = log_line(&mut self.lines, strategy, self.bounds, &notice);
         Ok(Some(advice))
     }

@@ -141,7 +141,7 @@ impl<G: Genuine, N: FeedName> VenueLocks<G, N> {
         *gap = guarded.cell.has_gap();
         drop(guarded);
         if pushed > 0 || !is_repeat(&answer) {
-            self.news().notify_one();
+            self.bells().ring_work();
         }
         answer
     }
@@ -162,7 +162,7 @@ impl<G: Genuine, N: FeedName> VenueLocks<G, N> {
         self.set_held_back(venue, unsent == Unsent::LaneFull);
         drop(guarded);
         if pushed > 0 {
-            self.news().notify_one();
+            self.bells().ring_work();
         }
         Ok(pushed)
     }

@@ -2,14 +2,15 @@
 
 ghost use Rattle.std.specs.Prelude.{◌≡◌, ◌<◌, ◌↔◌, length, IsSome};
 
+use crate::bells::Bells;
 use crate::feed_name::FeedName;
 use crate::open_feed::Guarded;
 use crossbeam_utils::CachePadded;
-use crossbeam_utils::sync::EventCount;
 use feed_types::{Genuine, VenueId};
+use std::alloc::{AllocError, Global};
 use std::marker::Model;
 use std::sync::atomic::{AtomicBool, Ordering};
-use std::sync::{Mutex, MutexGuard, Wait};
+use std::sync::{Arc, Mutex, MutexGuard, Wait};
 use std::{array, hint};
 
 /// How often a lock that another thread holds is tried before its thread sleeps for it.
@@ -46,8 +47,7 @@ pub struct VenueLocks<G: Genuine, N: FeedName> {
     /// By venue, whether something is ready that the lane had no room for. It changes under the
     /// venue's lock alone, and only where it is another than before.
     held_back: [AtomicBool; 16],
-    /// Where the consolidator sleeps while there is nothing to do.
-    news: EventCount,
+    bells: Arc<Bells, Global>,
 }
 
 impl<G: Genuine, N: FeedName> Model for VenueLocks<G, N> {
@@ -61,20 +61,24 @@ impl<G: Genuine, N: FeedName> Model for VenueLocks<G, N> {
 }
 
 impl<G: Genuine, N: FeedName> VenueLocks<G, N> {
-    pub(crate) fn new(locks: Vec<VenueLock<G, N>>) -> VenueLocks<G, N>
+    pub(crate) fn new(locks: Vec<VenueLock<G, N>>, bells: Arc<Bells, Global>) -> VenueLocks<G, N>
         requires { length locks.items ≡ length N.lanes.venues }
     {
         VenueLocks {
             locks,
             held_back: array::from_fn(|_| AtomicBool::new(false)),
-            news: EventCount::new(),
+            bells,
         }
     }
 
-    /// Where the consolidator sleeps while there is nothing to do. Whoever has made work for it
-    /// notifies it.
-    pub(crate) fn news(&self) -> &EventCount {
-        &self.news
+    /// Where the threads of the feed sleep.
+    pub(crate) fn bells(&self) -> &Bells {
+        &self.bells
+    }
+
+    /// The same bells, for a subscriber.
+    pub(crate) fn share_bells(&self) -> Result<Arc<Bells, Global>, AllocError> {
+        Arc::try_clone(&self.bells)
     }
 
     /// Whether something is ready at the venue that its lane had no room for.
@@ -111,14 +115,14 @@ impl<G: Genuine, N: FeedName> VenueLocks<G, N> {
         self.locks.as_slice()
     }
 
-    pub(crate) fn into_locks(self) -> Vec<VenueLock<G, N>>
-        ensures { length result.items ≡ length N.lanes.venues }
+    pub(crate) fn into_parts(self) -> (Vec<VenueLock<G, N>>, Arc<Bells, Global>)
+        ensures { length result.0.items ≡ length N.lanes.venues }
     {
         let VenueLocks {
             locks,
             held_back: _,
-            news: _,
+            bells,
         } = self;
-        locks
+        (locks, bells)
     }
 }

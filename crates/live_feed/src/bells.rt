@@ -1,0 +1,75 @@
+//! Where the threads of a feed sleep, and how they are woken.
+
+use crossbeam_utils::sync::EventCount;
+use feed_types::SubscriberId;
+use std::array;
+use std::sync::atomic::{AtomicBool, Ordering};
+
+/// Where the threads of a feed sleep that have nothing to do, and who waits for room. The feed and
+/// its subscribers share it: whoever has made work for another thread wakes it, once it has let go
+/// of the lock.
+#[derive(Drop)]
+pub(crate) struct Bells {
+    /// Where the consolidators of runs sleep.
+    work: EventCount,
+    /// By id, where the subscriber's thread sleeps.
+    notices: [EventCount; 32],
+    /// By id, whether a notice waits for room in the subscriber's lane. It changes under the
+    /// consolidator's lock alone, and only where it is another than before.
+    full: [AtomicBool; 32],
+}
+
+impl Bells {
+    /// Bells of a feed where nobody sleeps or waits.
+    pub(crate) fn new() -> Bells {
+        Bells {
+            work: EventCount::new(),
+            notices: array::from_fn(|_| EventCount::new()),
+            full: array::from_fn(|_| AtomicBool::new(false)),
+        }
+    }
+
+    /// Where consolidators sleep while there is nothing to journal, push or offer.
+    pub(crate) fn work(&self) -> &EventCount {
+        &self.work
+    }
+
+    /// Wakes the consolidators: there is something to journal, push or offer, or a run has ended
+    /// sooner. Two runs of one feed have two of them, and each has to look.
+    pub(crate) fn ring_work(&self) {
+        self.work.notify_all();
+    }
+
+    /// Where the subscriber's thread sleeps while there are no notices.
+    pub(crate) fn notices(&self, id: SubscriberId) -> &EventCount {
+        &self.notices[id.index()]
+    }
+
+    /// Wakes the thread of each subscriber.
+    pub(crate) fn ring_subscribers(&self) {
+        for bell in &self.notices {
+            bell.notify_all();
+        }
+    }
+
+    /// Whether a notice waits for room in the subscriber's lane.
+    pub(crate) fn is_room_wanted(&self, id: SubscriberId) -> bool {
+        self.full[id.index()].load(Ordering::SeqCst)
+    }
+
+    /// Says whether a notice waits for room in the subscriber's lane. Whoever says so looks once more
+    /// whether there is room: what was taken before isn't told.
+    pub(crate) fn want_room(&self, id: SubscriberId, is_wanted: bool) {
+        if self.is_room_wanted(id) != is_wanted {
+            self.full[id.index()].store(is_wanted, Ordering::SeqCst);
+        }
+    }
+
+    /// Wakes the consolidators where a notice waits for the room that was just made in the
+    /// subscriber's lane.
+    pub(crate) fn ring_room(&self, id: SubscriberId) {
+        if self.is_room_wanted(id) {
+            self.ring_work();
+        }
+    }
+}
