@@ -6,8 +6,7 @@ use std::array;
 use std::sync::atomic::{AtomicBool, Ordering};
 
 /// Where the threads of a feed sleep that have nothing to do, and who waits for room. The feed and
-/// its subscribers share it: whoever has made work for another thread wakes it, once it has let go
-/// of the lock.
+/// its subscribers share it: whoever has made work for another thread wakes it then.
 #[derive(Drop)]
 pub(crate) struct Bells {
     /// Where the consolidators of runs sleep.
@@ -57,11 +56,18 @@ impl Bells {
         self.full[id.index()].load(Ordering::SeqCst)
     }
 
-    /// Says whether a notice waits for room in the subscriber's lane. Whoever says so looks once more
-    /// whether there is room: what was taken before isn't told.
-    pub(crate) fn want_room(&self, id: SubscriberId, is_wanted: bool) {
-        if self.is_room_wanted(id) != is_wanted {
-            self.full[id.index()].store(is_wanted, Ordering::SeqCst);
+    /// Says that a notice waits for room in the subscriber's lane. Whoever says so looks once more
+    /// whether there is room: a poll before that has rung nobody.
+    pub(crate) fn want_room(&self, id: SubscriberId) {
+        self.full[id.index()].store(true, Ordering::SeqCst);
+    }
+
+    /// Says that no notice waits for room in the subscriber's lane. Where one did, the consolidators
+    /// are woken: one that hasn't offered it itself may wait for that alone.
+    pub(crate) fn end_want_of_room(&self, id: SubscriberId) {
+        if self.is_room_wanted(id) {
+            self.full[id.index()].store(false, Ordering::SeqCst);
+            self.ring_work();
         }
     }
 

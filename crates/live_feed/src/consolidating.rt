@@ -12,7 +12,8 @@ use feed_types::{Genuine, SubscriberId, VenueId};
 use journal_book::JournalFault;
 use std::sync::Wait;
 
-/// How many items of a venue are journaled before the next venue's turn.
+/// How many items of a venue are journaled, or pushed by the consolidator, before the next venue's
+/// turn: a line that brings something waits no longer.
 const ITEMS_A_TURN: u32 = 64;
 
 /// What a turn under the consolidator's lock came to.
@@ -35,7 +36,7 @@ fn feed_venue<G: Genuine, N: FeedName>(feed: &OpenFeed<G, N>, place: u8) -> Opti
 }
 
 /// Pushes what is ready of the venues, and gives whether there was anything that had room: at each
-/// where `all` says so, else where the lane had no room before and has run empty.
+/// where `all` says so, else where something was left before and the lane has run empty.
 fn flush_each<G: Genuine, N: FeedName, W: Wait>(
     rt: &W,
     feed: &OpenFeed<G, N>,
@@ -48,7 +49,8 @@ fn flush_each<G: Genuine, N: FeedName, W: Wait>(
             break;
         };
         if all || (!turn.gave[venue.index()] && feed.venues.is_held_back(venue)) {
-            let pushed = feed.flush(rt, venue).unwrap_or(0);
+            let pushed = feed.venues.flush_some(rt, venue, u64::from(ITEMS_A_TURN));
+            let pushed = pushed.unwrap_or(0);
             moved = moved || pushed > 0;
         }
     }

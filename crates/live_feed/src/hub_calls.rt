@@ -79,9 +79,11 @@ pub(crate) fn offer_some<G: Genuine, N: FeedName, W: Wait>(
         }
         match hub.offer_one(rt, id) {
             Ok(_) => pushed = pushed.saturating_add(1),
-            Err(Unsent::LaneFull) if !bells.is_room_wanted(id) => bells.want_room(id, true),
+            Err(Unsent::LaneFull) if !bells.is_room_wanted(id) => bells.want_room(id),
             Err(unsent) => {
-                bells.want_room(id, unsent == Unsent::LaneFull);
+                if unsent == Unsent::Nothing {
+                    bells.end_want_of_room(id);
+                }
                 if pushed > 0 {
                     bells.notices(id).notify_all();
                 }

@@ -18,20 +18,20 @@ use line_arbiter::{LineFault, Outcome};
 use mold_packet::{Packet, Request, read_packet};
 use std::sync::Wait;
 
-/// Pushes what is ready of the venue, until nothing is or the lane is full. Gives how many items
-/// were pushed, and why no more were.
+/// Pushes what is ready of the venue, at most so many items, until nothing is or the lane is full.
+/// Gives how many were pushed, and whether something may be ready still.
 fn push_ready<G: Genuine, N: FeedName, W: Wait>(
     rt: &W,
     cell: &mut VenueCell<G, N>,
-) -> (u64, Unsent) {
-    let mut pushed: u64 = 0;
-    for _ in rt.forever() {
+    most: u64,
+) -> (u64, bool) {
+    for pushed in 0..most {
         match cell.push_one(rt) {
-            Ok(_) => pushed = pushed.saturating_add(1),
-            Err(unsent) => return (pushed, unsent),
+            Ok(_) => {}
+            Err(unsent) => return (pushed, unsent == Unsent::LaneFull),
         }
     }
-    (pushed, Unsent::Nothing)
+    (most, true)
 }
 
 /// Whether a packet brought nothing.
@@ -136,8 +136,8 @@ impl<G: Genuine, N: FeedName> VenueLocks<G, N> {
         };
         let mut guarded = enter(rt, lock);
         let answer = take_in(rt, &mut guarded.cell, seat, packet);
-        let (pushed, unsent) = push_ready(rt, &mut guarded.cell);
-        self.set_held_back(seat.venue(), unsent == Unsent::LaneFull);
+        let (pushed, is_held_back) = push_ready(rt, &mut guarded.cell, u64::MAX);
+        self.set_held_back(seat.venue(), is_held_back);
         *gap = guarded.cell.has_gap();
         drop(guarded);
         if pushed > 0 || !is_repeat(&answer) {
@@ -151,6 +151,19 @@ impl<G: Genuine, N: FeedName> VenueLocks<G, N> {
     pub(crate) fn flush<W: Wait>(&self, rt: &W, venue: VenueId) -> Result<u64, FeedFault>
         ensures unknown { IsErrOf result FeedFault.UnknownVenue ↔ (length N.lanes.venues ≤ venue) }
     {
+        self.flush_some(rt, venue, u64::MAX)
+    }
+
+    /// Pushes what is ready of the venue as `flush` does, at most so many items. Where something may
+    /// be ready still, the venue is held back.
+    pub(crate) fn flush_some<W: Wait>(
+        &self,
+        rt: &W,
+        venue: VenueId,
+        most: u64,
+    ) -> Result<u64, FeedFault>
+        ensures unknown { IsErrOf result FeedFault.UnknownVenue ↔ (length N.lanes.venues ≤ venue) }
+    {
         let Some(lock) = self.get(venue) else {
             return Err(FeedFault::UnknownVenue);
         };
@@ -158,8 +171,8 @@ impl<G: Genuine, N: FeedName> VenueLocks<G, N> {
         if guarded.cell.venue() != venue {
             return Ok(0);
         }
-        let (pushed, unsent) = push_ready(rt, &mut guarded.cell);
-        self.set_held_back(venue, unsent == Unsent::LaneFull);
+        let (pushed, is_held_back) = push_ready(rt, &mut guarded.cell, most);
+        self.set_held_back(venue, is_held_back);
         drop(guarded);
         if pushed > 0 {
             self.bells().ring_work();

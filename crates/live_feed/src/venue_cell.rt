@@ -273,9 +273,10 @@ impl<G: Genuine, N: FeedName> VenueCell<G, N> {
         }
     }
 
-    /// Whether messages are missing.
+    /// Whether messages are missing: it is known that the session goes past the front.
     pub(crate) fn has_gap(&self) -> bool {
-        self.lines.gap().is_some()
+        let status = self.lines.status();
+        status.front < status.known
     }
 
     /// The request for the gap to send now, if any: see [`Pacer::due`].

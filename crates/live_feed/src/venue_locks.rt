@@ -44,7 +44,7 @@ pub(crate) type VenueLock<G, N> = CachePadded<Mutex<Guarded<G, N>>>;
 #[derive(Drop)]
 pub struct VenueLocks<G: Genuine, N: FeedName> {
     locks: Vec<VenueLock<G, N>>,
-    /// By venue, whether something is ready that the lane had no room for. It changes under the
+    /// By venue, whether something may be ready that wasn't pushed. It changes under the
     /// venue's lock alone, and only where it is another than before.
     held_back: [AtomicBool; 16],
     bells: Arc<Bells, Global>,
@@ -81,12 +81,12 @@ impl<G: Genuine, N: FeedName> VenueLocks<G, N> {
         Arc::try_clone(&self.bells)
     }
 
-    /// Whether something is ready at the venue that its lane had no room for.
+    /// Whether something may be ready at the venue that wasn't pushed.
     pub(crate) fn is_held_back(&self, venue: VenueId) -> bool {
         self.held_back[venue.index()].load(Ordering::SeqCst)
     }
 
-    /// Says whether something is ready at the venue that its lane had no room for.
+    /// Says whether something may be ready at the venue that wasn't pushed.
     pub(crate) fn set_held_back(&self, venue: VenueId, is_held_back: bool) {
         if self.is_held_back(venue) != is_held_back {
             self.held_back[venue.index()].store(is_held_back, Ordering::SeqCst);
