@@ -1,0 +1,71 @@
+/* Refuses requests for memory where a test says so, and counts the threads that are started. tests/run-unproved
+   puts it beside the tests that say `mod refusing;` (tests/refusing.source), whose programs are built with
+   AddressSanitizer: that leaves the names with two underscores to whoever wants to stand before its own functions,
+   which have three. */
+#include <errno.h>
+#include <pthread.h>
+#include <stddef.h>
+#include <stdint.h>
+
+void *___interceptor_malloc(size_t size);
+void *___interceptor_realloc(void *old, size_t size);
+int ___interceptor_pthread_create(pthread_t *thread, const pthread_attr_t *how, void *(*start)(void *), void *word);
+
+/* The requests from number `first` to number `last` are refused, counted from 1 since they were named. */
+static uint64_t first, last, requests, refused, threads;
+
+static uint64_t load(const uint64_t *number)
+{
+    return __atomic_load_n(number, __ATOMIC_SEQ_CST);
+}
+
+static void store(uint64_t *number, uint64_t value)
+{
+    __atomic_store_n(number, value, __ATOMIC_SEQ_CST);
+}
+
+static int is_refused(void)
+{
+    uint64_t present = __atomic_add_fetch(&requests, 1, __ATOMIC_SEQ_CST);
+    if (present < load(&first) || present > load(&last))
+        return 0;
+    __atomic_add_fetch(&refused, 1, __ATOMIC_SEQ_CST);
+    errno = ENOMEM;
+    return 1;
+}
+
+void *__interceptor_malloc(size_t size)
+{
+    return is_refused() ? NULL : ___interceptor_malloc(size);
+}
+
+void *__interceptor_realloc(void *old, size_t size)
+{
+    return is_refused() ? NULL : ___interceptor_realloc(old, size);
+}
+
+int __interceptor_pthread_create(pthread_t *thread, const pthread_attr_t *how, void *(*start)(void *), void *word)
+{
+    __atomic_add_fetch(&threads, 1, __ATOMIC_SEQ_CST);
+    return ___interceptor_pthread_create(thread, how, start, word);
+}
+
+void refuse_requests(uint64_t from, uint64_t to)
+{
+    store(&last, 0);
+    store(&requests, 0);
+    store(&refused, 0);
+    store(&threads, 0);
+    store(&first, from);
+    store(&last, to);
+}
+
+uint64_t requests_refused(void)
+{
+    return load(&refused);
+}
+
+uint64_t threads_started(void)
+{
+    return load(&threads);
+}
