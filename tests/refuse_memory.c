@@ -1,7 +1,8 @@
 /* Refuses requests for memory where a test says so, and counts the threads that are started. tests/run-unproved
    puts it beside the tests that say `mod refusing;` (tests/refusing.source), whose programs are built with
    AddressSanitizer: that leaves the names with two underscores to whoever wants to stand before its own functions,
-   which have three. */
+   which have three. Requests that the C library and AddressSanitizer make for themselves are neither refused nor
+   counted: the program's own come from two functions, by which all Rattle code asks for memory. */
 #include <errno.h>
 #include <pthread.h>
 #include <stddef.h>
@@ -9,6 +10,7 @@
 
 void *___interceptor_malloc(size_t size);
 void *___interceptor_realloc(void *old, size_t size);
+extern const char rattle_alloc[], rattle_realloc[];
 int ___interceptor_pthread_create(pthread_t *thread, const pthread_attr_t *how, void *(*start)(void *), void *word);
 
 /* The requests from number `first` to number `last` are refused, counted from 1 since they were named. */
@@ -24,8 +26,16 @@ static void store(uint64_t *number, uint64_t value)
     __atomic_store_n(number, value, __ATOMIC_SEQ_CST);
 }
 
-static int is_refused(void)
+/* Whether a call that returns to this place is made by the function, which is shorter than 64 bytes. */
+static int is_within(const char *function, const char *place)
 {
+    return place > function && place - function < 64;
+}
+
+static int is_refused(const char *place)
+{
+    if (!is_within(rattle_alloc, place) && !is_within(rattle_realloc, place))
+        return 0;
     uint64_t present = __atomic_add_fetch(&requests, 1, __ATOMIC_SEQ_CST);
     if (present < load(&first) || present > load(&last))
         return 0;
@@ -36,12 +46,12 @@ static int is_refused(void)
 
 void *__interceptor_malloc(size_t size)
 {
-    return is_refused() ? NULL : ___interceptor_malloc(size);
+    return is_refused(__builtin_return_address(0)) ? NULL : ___interceptor_malloc(size);
 }
 
 void *__interceptor_realloc(void *old, size_t size)
 {
-    return is_refused() ? NULL : ___interceptor_realloc(old, size);
+    return is_refused(__builtin_return_address(0)) ? NULL : ___interceptor_realloc(old, size);
 }
 
 int __interceptor_pthread_create(pthread_t *thread, const pthread_attr_t *how, void *(*start)(void *), void *word)
