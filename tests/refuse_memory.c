@@ -13,8 +13,9 @@ void *___interceptor_realloc(void *old, size_t size);
 extern const char rattle_alloc[], rattle_realloc[];
 int ___interceptor_pthread_create(pthread_t *thread, const pthread_attr_t *how, void *(*start)(void *), void *word);
 
-/* The requests from number `first` to number `last` are refused, counted from 1 since they were named. */
-static uint64_t first, last, requests, refused, threads;
+/* The requests from number `first` to number `last` are refused, counted from 1 since they were named, and those of
+   more than `largest` bytes. */
+static uint64_t first, last, largest = UINT64_MAX, requests, refused, threads;
 
 static uint64_t load(const uint64_t *number)
 {
@@ -32,12 +33,12 @@ static int is_within(const char *function, const char *place)
     return place > function && place - function < 64;
 }
 
-static int is_refused(const char *place)
+static int is_refused(const char *place, size_t size)
 {
     if (!is_within(rattle_alloc, place) && !is_within(rattle_realloc, place))
         return 0;
     uint64_t present = __atomic_add_fetch(&requests, 1, __ATOMIC_SEQ_CST);
-    if (present < load(&first) || present > load(&last))
+    if ((present < load(&first) || present > load(&last)) && size <= load(&largest))
         return 0;
     __atomic_add_fetch(&refused, 1, __ATOMIC_SEQ_CST);
     errno = ENOMEM;
@@ -46,12 +47,12 @@ static int is_refused(const char *place)
 
 void *__interceptor_malloc(size_t size)
 {
-    return is_refused(__builtin_return_address(0)) ? NULL : ___interceptor_malloc(size);
+    return is_refused(__builtin_return_address(0), size) ? NULL : ___interceptor_malloc(size);
 }
 
 void *__interceptor_realloc(void *old, size_t size)
 {
-    return is_refused(__builtin_return_address(0)) ? NULL : ___interceptor_realloc(old, size);
+    return is_refused(__builtin_return_address(0), size) ? NULL : ___interceptor_realloc(old, size);
 }
 
 int __interceptor_pthread_create(pthread_t *thread, const pthread_attr_t *how, void *(*start)(void *), void *word)
@@ -63,11 +64,18 @@ int __interceptor_pthread_create(pthread_t *thread, const pthread_attr_t *how, v
 void refuse_requests(uint64_t from, uint64_t to)
 {
     store(&last, 0);
+    store(&largest, UINT64_MAX);
     store(&requests, 0);
     store(&refused, 0);
     store(&threads, 0);
     store(&first, from);
     store(&last, to);
+}
+
+void refuse_larger_requests(uint64_t bytes)
+{
+    refuse_requests(0, 0);
+    store(&largest, bytes);
 }
 
 uint64_t requests_refused(void)
