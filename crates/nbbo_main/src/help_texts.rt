@@ -134,8 +134,9 @@ whose datagrams come by multicast needs a relay that has joined the group: see b
 
 pub const REQUEST_HELP: &str = "\
 Where messages that are missing are asked for: the address of a retransmission server.
-A request goes there from the socket of the line that found the gap, at once and then
-every 250 ms while the gap stands, and its reply is read on that line. Without this
+A request goes there from the socket of the line that found the gap, at once, and again
+while the gap stands, with the venue's next datagram that comes 250 ms or more later,
+from the line that it came on. A reply is read on the line that asked. Without this
 option nothing is asked for";
 
 pub const DATAGRAMS_HELP: &str = "\
