@@ -90,16 +90,16 @@ pub(crate) fn first_number(marks: &[u64], marked: bool, from: u64, end: u64) -> 
 {
     let mut at = from;
     while at < end {
-        let bit = (at % WORD_BITS) as u32;
-        let found = first_in_word(marks[word_of(at)], marked, bit);
-        let step = u64::from(found - bit);
-        if end - at <= step {
+        let bit = at % WORD_BITS;
+        let found = first_in_word(marks[word_of(at)], marked, bit as u32);
+        if found < 64 {
+            return end.min(at - bit + u64::from(found));
+        }
+        let last = at - bit + (WORD_BITS - 1);
+        if last >= end - 1 {
             return end;
         }
-        at += step;
-        if found < 64 {
-            return at;
-        }
+        at = last + 1;
     }
     end
 }
