@@ -103,9 +103,10 @@ fn take_messages(venue: VenueId, packet: &Packet<'_>, report: &mut Report) -> Re
     Ok(())
 }
 
-/// Has the book read at once what the quotations among the first of these messages will read of it.
+/// Has the book prefetch at once what the quotations among the first of these messages will read of it,
+/// where that pays.
 #[inline(never)]
-fn read_ahead(venue: VenueId, mut messages: Messages<'_>, report: &mut Report)
+fn prefetch(venue: VenueId, mut messages: Messages<'_>, report: &mut Report)
     ensures { report.new ≡ report.old }
 {
     for _ in 0..MOST_AHEAD {
@@ -113,18 +114,20 @@ fn read_ahead(venue: VenueId, mut messages: Messages<'_>, report: &mut Report)
             break;
         };
         if let Some(field) = symbol_field(message) {
-            report.journal.read_ahead(venue, field);
+            if !report.journal.prefetch(venue, field) {
+                break;
+            }
         }
     }
 }
 
-/// Looks ahead at a packet of several messages, where the book is large.
+/// Looks ahead at a packet of several messages.
 #[inline(always)]
 fn look_ahead(venue: VenueId, packet: &Packet<'_>, report: &mut Report)
     ensures { report.new ≡ report.old }
 {
-    if packet.count() > 1 && report.journal.is_large() {
-        read_ahead(venue, packet.messages(), report);
+    if packet.count() > 1 {
+        prefetch(venue, packet.messages(), report);
     }
 }
 

@@ -128,21 +128,13 @@ impl RunningJournal {
         self.add(&Entry::Consumed { venue, numbered })
     }
 
-    /// Whether there are so many symbols, more than 512, that looking ahead pays.
-    #[inline(always)]
-    pub fn is_large(&self) -> bool
-        ensures { IsTrue result ↔ (512 < length self.now.symbols) }
-    {
-        self.book.is_large()
-    }
-
     /// Reads what the venue's quotation of a symbol will read of the book, where a message to come has
-    /// this field, as [`Book::read_ahead`] does. It changes no answer.
+    /// this field, as [`Book::prefetch`] does. It changes no answer. Returns whether that pays.
     #[inline(always)]
-    pub fn read_ahead(&mut self, venue: VenueId, field: [u8; 8])
+    pub fn prefetch(&mut self, venue: VenueId, field: [u8; 8]) -> bool
         ensures { self.new ≡ self.old }
     {
-        self.book.read_ahead(venue, field);
+        self.book.prefetch(venue, field)
     }
 
     /// Declares self-help on the venue, or withdraws it, and gives the entry's position. It is

@@ -5,7 +5,7 @@ use Rattle.std.specs.List.{AllByRecursion, Contains}
 use Rattle.feed_types.specs.declared.journal.Entry.{Entry}
 use Rattle.feed_types.specs.declared.line.Side.{Side}
 use Rattle.feed_types.specs.declared.national.Best.{Best}
-use Rattle.nbbo_book.specs.declared.shown.Shown.{Shown}
+use Rattle.nbbo_book.specs.declared.side_quote.SideQuote.{SideQuote}
 use Rattle.nbbo_book.specs.Sides.{side_of, age_of}
 use Rattle.nbbo_book.specs.Eligible.{IsEligible, is_protected, ranked_by, may_rank, eligible_of, is_self_helped, is_halted}
 use Rattle.nbbo_book.specs.Nationals.{beats, IsRanking}
@@ -14,21 +14,21 @@ use Rattle.nbbo_book.proofs.Ranking.{some_same}
 use Rattle.nbbo_book.proofs.Said.{and_left, and_right}
 
 -- what a venue is ranked with is what it shows, and that counts
-record Ranked (m : Bool) (o : Option Shown) (x : Best) : Type 0 where
+record Ranked (m : Bool) (o : Option SideQuote) (x : Best) : Type 0 where
   may : m ≡ true
-  shown : Shown
-  is : o ≡ Some shown
-  counts : is_protected shown ≡ true
-  price : shown.price ≡ x.price
-  size : shown.size ≡ x.size
+  quote : SideQuote
+  is : o ≡ Some quote
+  is_protected : is_protected quote ≡ true
+  price : quote.price ≡ x.price
+  size : quote.size ≡ x.size
 
-ranked_with : (m : Bool) (v : ℕ) (o : Option Shown) (x : Best) → ranked_by m v o ≡ Some x → Ranked m o x
+ranked_with : (m : Bool) (v : ℕ) (o : Option SideQuote) (x : Best) → ranked_by m v o ≡ Some x → Ranked m o x
 ranked_with false v o x e = cc
 ranked_with true v None x e = cc
-ranked_with true v (Some shown) x e =
-    let R : Bool → Type 0 = λ t. is_protected shown ≡ t → cond t (Some (record { venue = v; price = shown.price; size = shown.size })) None ≡ Some x → Ranked true (Some shown) x in
-    (elim (is_protected shown) as R [
-      | true ↦ λ p k. record { may = refl; shown = shown; is = refl; counts = p; price = ap (λ (y : Best). y.price) (some_same k); size = ap (λ (y : Best). y.size) (some_same k) }
+ranked_with true v (Some quote) x e =
+    let R : Bool → Type 0 = λ t. is_protected quote ≡ t → cond t (Some (record { venue = v; price = quote.price; size = quote.size })) None ≡ Some x → Ranked true (Some quote) x in
+    (elim (is_protected quote) as R [
+      | true ↦ λ p k. record { may = refl; quote = quote; is = refl; is_protected = p; price = ap (λ (y : Best). y.price) (some_same k); size = ap (λ (y : Best). y.size) (some_same k) }
       | false ↦ λ p k. cc
     ]) refl e
 
@@ -49,13 +49,13 @@ is_not false h = refl
 pub eligible_told : (es : List Entry) (s : List ℕ) (b : Side) (x : Best) → x.venue < 16 → eligible_of es s b x.venue ≡ Some x → IsEligible es s b x
 eligible_told es s b x below e =
     let r = ranked_with (may_rank es x.venue s) x.venue (side_of es x.venue s b) x e in
-    let flag : r.shown.automated ≡ true = and_left r.shown.automated (nat_lt 0 r.shown.price && nat_lt 0 r.shown.size) r.counts in
-    let sums : (nat_lt 0 r.shown.price && nat_lt 0 r.shown.size) ≡ true = and_right r.shown.automated (nat_lt 0 r.shown.price && nat_lt 0 r.shown.size) r.counts in
+    let flag : r.quote.automated ≡ true = and_left r.quote.automated (nat_lt 0 r.quote.price && nat_lt 0 r.quote.size) r.is_protected in
+    let sums : (nat_lt 0 r.quote.price && nat_lt 0 r.quote.size) ≡ true = and_right r.quote.automated (nat_lt 0 r.quote.price && nat_lt 0 r.quote.size) r.is_protected in
     record {
       venue = below;
-      automated = r.is ∙ ap Some (ap (λ t. record { price = t; size = r.shown.size; automated = r.shown.automated }) r.price ∙ ap (λ t. record { price = x.price; size = t; automated = r.shown.automated }) r.size ∙ ap (λ t. record { price = x.price; size = x.size; automated = t }) flag);
-      priced = subst (λ (n : ℕ). 0 < n) r.price (lt_of 0 r.shown.price (and_left (nat_lt 0 r.shown.price) (nat_lt 0 r.shown.size) sums));
-      sized = subst (λ (n : ℕ). 0 < n) r.size (lt_of 0 r.shown.size (and_right (nat_lt 0 r.shown.price) (nat_lt 0 r.shown.size) sums));
+      automated = r.is ∙ ap Some (ap (λ t. record { price = t; size = r.quote.size; automated = r.quote.automated }) r.price ∙ ap (λ t. record { price = x.price; size = t; automated = r.quote.automated }) r.size ∙ ap (λ t. record { price = x.price; size = x.size; automated = t }) flag);
+      priced = subst (λ (n : ℕ). 0 < n) r.price (lt_of 0 r.quote.price (and_left (nat_lt 0 r.quote.price) (nat_lt 0 r.quote.size) sums));
+      sized = subst (λ (n : ℕ). 0 < n) r.size (lt_of 0 r.quote.size (and_right (nat_lt 0 r.quote.price) (nat_lt 0 r.quote.size) sums));
       no_self_help = not_true (is_self_helped es x.venue) (and_left (not (is_self_helped es x.venue)) (not (is_halted es x.venue s)) r.may);
       no_halt = not_true (is_halted es x.venue s) (and_right (not (is_self_helped es x.venue)) (not (is_halted es x.venue s)) r.may);
     }

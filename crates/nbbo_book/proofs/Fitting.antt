@@ -7,17 +7,17 @@ use Rattle.feed_types.specs.declared.item.Item.{Item}
 use Rattle.feed_types.specs.declared.item.Item.TheVariants as item
 use Rattle.feed_types.specs.declared.line.Side.{Side}
 use Rattle.feed_types.specs.declared.line.Side.TheVariants.{Bid, Offer}
-use Rattle.nbbo_book.specs.declared.shown.Shown.{Shown}
-use Rattle.nbbo_book.specs.declared.shown.Standing.{Standing}
+use Rattle.nbbo_book.specs.declared.side_quote.SideQuote.{SideQuote}
+use Rattle.nbbo_book.specs.declared.venue_side.VenueSide.{VenueSide}
 use Rattle.nbbo_book.specs.declared.row.Row.{Row}
-use Rattle.nbbo_book.specs.Sides.{shown_by, side_said, side_of, is_same_side, age_of}
+use Rattle.nbbo_book.specs.Sides.{quoted_by, side_said, side_of, is_same_side, age_of}
 use Rattle.nbbo_book.specs.Eligible.{is_self_helped, halt_said, is_halted}
-use Rattle.nbbo_book.specs.Books.{standing_at, SideFits, RowFits, venue_of}
-use Rattle.nbbo_book.specs.Rows.{BookSide, may_at, side_at, side_set, side_shown, row_quoted, row_halted, row_after, row_after_item, helped_after}
+use Rattle.nbbo_book.specs.Books.{venue_side_at, SideFits, RowFits, venue_of}
+use Rattle.nbbo_book.specs.Rows.{BookSide, may_at, side_at, side_set, side_quoted, row_quoted, row_halted, row_after, row_after_item, helped_after}
 use Rattle.nbbo_book.specs.Tables.{IsRow}
 use Rattle.nbbo_book.proofs.Ranking.{nat_refl, nat_split}
 use Rattle.nbbo_book.proofs.Said.{side_of-put, helped-put, halted-put, age-kept, age-new, same_side_sound}
-use Rattle.nbbo_book.proofs.Kept.{set_at, set_off, apart_from, standing_set, standing_off}
+use Rattle.nbbo_book.proofs.Kept.{set_at, set_off, apart_from, venue_side_set, venue_side_off}
 
 cond_same : {T : Type 0} (b : Bool) (x : T) → cond b x x ≡ x
 cond_same true x = refl
@@ -29,41 +29,41 @@ nat_other w v h = grind (arith, h)
 unsaid : (es : List Entry) (e : Entry) (w : ℕ) (s : List ℕ) (b : Side) → side_said w s b e ≡ None → side_of (es ++ e ∷ []) w s b ≡ side_of es w s b
 unsaid es e w s b h = side_of-put es e w s b ∙ ap (λ o. unwrap_or o (side_of es w s b)) h
 
-told : (es : List Entry) (e : Entry) (w : ℕ) (s : List ℕ) (b : Side) (o : Option Shown) → side_said w s b e ≡ Some o → side_of (es ++ e ∷ []) w s b ≡ o
+told : (es : List Entry) (e : Entry) (w : ℕ) (s : List ℕ) (b : Side) (o : Option SideQuote) → side_said w s b e ≡ Some o → side_of (es ++ e ∷ []) w s b ≡ o
 told es e w s b o h = side_of-put es e w s b ∙ ap (λ t. unwrap_or t (side_of es w s b)) h
 
-abbrev standing_of : List Entry → ℕ → List ℕ → Side → Standing
-standing_of es v s b = record { shown = side_of es v s b; age = age_of es v s b }
+abbrev venue_side_of : List Entry → ℕ → List ℕ → Side → VenueSide
+venue_side_of es v s b = record { quote = side_of es v s b; age = age_of es v s b }
 
-stands_same : (es : List Entry) (e : Entry) (v : ℕ) (s : List ℕ) (b : Side) → side_of (es ++ e ∷ []) v s b ≡ side_of es v s b → standing_of (es ++ e ∷ []) v s b ≡ standing_of es v s b
-stands_same es e v s b h = ap (λ t. record { shown = t; age = age_of (es ++ e ∷ []) v s b }) h ∙ ap (λ t. record { shown = side_of es v s b; age = t }) (age-kept es e v s b h)
+stands_same : (es : List Entry) (e : Entry) (v : ℕ) (s : List ℕ) (b : Side) → side_of (es ++ e ∷ []) v s b ≡ side_of es v s b → venue_side_of (es ++ e ∷ []) v s b ≡ venue_side_of es v s b
+stands_same es e v s b h = ap (λ t. record { quote = t; age = age_of (es ++ e ∷ []) v s b }) h ∙ ap (λ t. record { quote = side_of es v s b; age = t }) (age-kept es e v s b h)
 
 -- where each side stays as it is
-pub fits_stay : (es : List Entry) (e : Entry) (s : List ℕ) (b : Side) (ss : List Standing) → ((w : ℕ) → w < 16 → side_of (es ++ e ∷ []) w s b ≡ side_of es w s b) → SideFits es s b ss → SideFits (es ++ e ∷ []) s b ss
+pub fits_stay : (es : List Entry) (e : Entry) (s : List ℕ) (b : Side) (ss : List VenueSide) → ((w : ℕ) → w < 16 → side_of (es ++ e ∷ []) w s b ≡ side_of es w s b) → SideFits es s b ss → SideFits (es ++ e ∷ []) s b ss
 fits_stay es e s b ss same h = λ w l. h w l ∙ sym (stands_same es e w s b (same w l))
 
 -- where one venue's side is told
-fits_shown : (es : List Entry) (e : Entry) (v : ℕ) (o : Option Shown) (s : List ℕ) (b : Side) (k : BookSide) (n : ℕ) (may : Bool) → v < 16 → length k.standings ≡ 16 → n ≡ suc (length es) → ((w : ℕ) → side_said w s b e ≡ cond (nat_eq v w) (Some o) None) → SideFits es s b k.standings → SideFits (es ++ e ∷ []) s b (side_shown b v o n may k).standings
-fits_shown es e v o s b k n may below long young says h =
-    let ss : List Standing = k.standings in
+fits_quoted : (es : List Entry) (e : Entry) (v : ℕ) (o : Option SideQuote) (s : List ℕ) (b : Side) (k : BookSide) (n : ℕ) (may : Bool) → v < 16 → length k.venue_sides ≡ 16 → n ≡ suc (length es) → ((w : ℕ) → side_said w s b e ≡ cond (nat_eq v w) (Some o) None) → SideFits es s b k.venue_sides → SideFits (es ++ e ∷ []) s b (side_quoted b v o n may k).venue_sides
+fits_quoted es e v o s b k n may below long young says h =
+    let ss : List VenueSide = k.venue_sides in
     let away : (w : ℕ) → nat_eq w v ≡ false → side_of (es ++ e ∷ []) w s b ≡ side_of es w s b = λ w d. unsaid es e w s b (says w ∙ ap (λ t. cond t (Some o) None) (nat_other w v d)) in
     let now : side_of (es ++ e ∷ []) v s b ≡ o = told es e v s b o (says v ∙ ap (λ t. cond t (Some o) None) (nat_refl v)) in
-    let was : (standing_at ss v).shown ≡ side_of es v s b = ap (λ (t : Standing). t.shown) (h v below) in
-    let st : Standing = record { shown = o; age = n } in
-    let R : Bool → Type 0 = λ t. is_same_side (standing_at ss v).shown o ≡ t → SideFits (es ++ e ∷ []) s b (cond t k (side_set b v st may k)).standings in
-    (elim (is_same_side (standing_at ss v).shown o) as R [
+    let was : (venue_side_at ss v).quote ≡ side_of es v s b = ap (λ (t : VenueSide). t.quote) (h v below) in
+    let st : VenueSide = record { quote = o; age = n } in
+    let R : Bool → Type 0 = λ t. is_same_side (venue_side_at ss v).quote o ≡ t → SideFits (es ++ e ∷ []) s b (cond t k (side_set b v st may k)).venue_sides in
+    (elim (is_same_side (venue_side_at ss v).quote o) as R [
       | true ↦ λ q. fits_stay es e s b ss (λ w l. nat_split w v (side_of (es ++ e ∷ []) w s b ≡ side_of es w s b)
-          (λ same. ap (λ (u : ℕ). side_of (es ++ e ∷ []) u s b) same ∙ now ∙ sym (same_side_sound (standing_at ss v).shown o q) ∙ was ∙ ap (λ (u : ℕ). side_of es u s b) (sym same))
+          (λ same. ap (λ (u : ℕ). side_of (es ++ e ∷ []) u s b) same ∙ now ∙ sym (same_side_sound (venue_side_at ss v).quote o q) ∙ was ∙ ap (λ (u : ℕ). side_of es u s b) (sym same))
           (away w)) h
-      | false ↦ λ q. λ w l. nat_split w v (standing_at (set ss v st) w ≡ standing_of (es ++ e ∷ []) w s b)
+      | false ↦ λ q. λ w l. nat_split w v (venue_side_at (set ss v st) w ≡ venue_side_of (es ++ e ∷ []) w s b)
           (λ same.
-          let differs : is_same_side (side_of es v s b) (side_of (es ++ e ∷ []) v s b) ≡ false = ap (λ t. is_same_side t (side_of (es ++ e ∷ []) v s b)) (sym was) ∙ ap (is_same_side (standing_at ss v).shown) now ∙ q in
-          let there : standing_at (set ss v st) v ≡ standing_of (es ++ e ∷ []) v s b =
-          standing_set ss v st (omega (arith, below, long))
-          ∙ ap (λ t. record { shown = t; age = n }) (sym now)
-          ∙ ap (λ t. record { shown = side_of (es ++ e ∷ []) v s b; age = t }) (young ∙ sym (age-new es e v s b differs)) in
-          subst (λ (u : ℕ). standing_at (set ss v st) u ≡ standing_of (es ++ e ∷ []) u s b) (sym same) there)
-          (λ d. standing_off ss v w st d ∙ h w l ∙ sym (stands_same es e w s b (away w d)))
+          let differs : is_same_side (side_of es v s b) (side_of (es ++ e ∷ []) v s b) ≡ false = ap (λ t. is_same_side t (side_of (es ++ e ∷ []) v s b)) (sym was) ∙ ap (is_same_side (venue_side_at ss v).quote) now ∙ q in
+          let there : venue_side_at (set ss v st) v ≡ venue_side_of (es ++ e ∷ []) v s b =
+          venue_side_set ss v st (omega (arith, below, long))
+          ∙ ap (λ t. record { quote = t; age = n }) (sym now)
+          ∙ ap (λ t. record { quote = side_of (es ++ e ∷ []) v s b; age = t }) (young ∙ sym (age-new es e v s b differs)) in
+          subst (λ (u : ℕ). venue_side_at (set ss v st) u ≡ venue_side_of (es ++ e ∷ []) u s b) (sym same) there)
+          (λ d. venue_side_off ss v w st d ∙ h w l ∙ sym (stands_same es e w s b (away w d)))
     ]) refl
 
 -- the halts of a symbol are those of the entries
@@ -81,8 +81,8 @@ halts_set es e v x s xs below long says h = λ w l. nat_split w v (get_or (set x
 
 row_waits : (es : List Entry) (e : Entry) (r : Row) → ((w : ℕ) (b : Side) → side_said w r.symbol b e ≡ None) → ((w : ℕ) → halt_said w r.symbol e ≡ None) → RowFits es r → RowFits (es ++ e ∷ []) r
 row_waits es e r sides halts h = record {
-  bids = fits_stay es e r.symbol Bid r.standings.bids (λ w l. unsaid es e w r.symbol Bid (sides w Bid)) h.bids;
-  offers = fits_stay es e r.symbol Offer r.standings.offers (λ w l. unsaid es e w r.symbol Offer (sides w Offer)) h.offers;
+  bids = fits_stay es e r.symbol Bid r.venue_sides.bids (λ w l. unsaid es e w r.symbol Bid (sides w Bid)) h.bids;
+  offers = fits_stay es e r.symbol Offer r.venue_sides.offers (λ w l. unsaid es e w r.symbol Offer (sides w Offer)) h.offers;
   halted = halts_stay es e r.symbol r.halted halts h.halted;
 }
 
@@ -92,19 +92,19 @@ item_fits es v number n m (item.Quote q) helped flags r below young is h =
     let R : Bool → Type 0 = λ t. bytes_eq q.symbol r.symbol ≡ t → RowFits (es ++ e ∷ []) (cond t (row_quoted helped v q n r) r) in
     (elim (bytes_eq q.symbol r.symbol) as R [
       | true ↦ λ k. record {
-        bids = fits_shown es e v (Some (shown_by q Bid)) r.symbol Bid (side_at Bid r) n (may_at helped r.halted v) below is.bids.count young (λ w. ap (λ t. cond (nat_eq v w) (cond t (Some (Some (shown_by q Bid))) None) None) k) h.bids;
-        offers = fits_shown es e v (Some (shown_by q Offer)) r.symbol Offer (side_at Offer r) n (may_at helped r.halted v) below is.offers.count young (λ w. ap (λ t. cond (nat_eq v w) (cond t (Some (Some (shown_by q Offer))) None) None) k) h.offers;
+        bids = fits_quoted es e v (Some (quoted_by q Bid)) r.symbol Bid (side_at Bid r) n (may_at helped r.halted v) below is.bids.count young (λ w. ap (λ t. cond (nat_eq v w) (cond t (Some (Some (quoted_by q Bid))) None) None) k) h.bids;
+        offers = fits_quoted es e v (Some (quoted_by q Offer)) r.symbol Offer (side_at Offer r) n (may_at helped r.halted v) below is.offers.count young (λ w. ap (λ t. cond (nat_eq v w) (cond t (Some (Some (quoted_by q Offer))) None) None) k) h.offers;
         halted = halts_stay es e r.symbol r.halted (λ w. cond_same (nat_eq v w) None) h.halted;
       }
-      | false ↦ λ k. row_waits es e r (λ w b. ap (λ t. cond (nat_eq v w) (cond t (Some (Some (shown_by q b))) None) None) k ∙ cond_same (nat_eq v w) None) (λ w. cond_same (nat_eq v w) None) h
+      | false ↦ λ k. row_waits es e r (λ w b. ap (λ t. cond (nat_eq v w) (cond t (Some (Some (quoted_by q b))) None) None) k ∙ cond_same (nat_eq v w) None) (λ w. cond_same (nat_eq v w) None) h
     ]) refl
 item_fits es v number n m (item.Halt s x) helped flags r below young is h =
     let e : Entry = Consumed v (record { number = number; item = item.Halt s x }) in
     let R : Bool → Type 0 = λ t. bytes_eq s r.symbol ≡ t → RowFits (es ++ e ∷ []) (cond t (row_halted helped v x r) r) in
     (elim (bytes_eq s r.symbol) as R [
       | true ↦ λ k. record {
-        bids = fits_stay es e r.symbol Bid r.standings.bids (λ w l. unsaid es e w r.symbol Bid (cond_same (nat_eq v w) None)) h.bids;
-        offers = fits_stay es e r.symbol Offer r.standings.offers (λ w l. unsaid es e w r.symbol Offer (cond_same (nat_eq v w) None)) h.offers;
+        bids = fits_stay es e r.symbol Bid r.venue_sides.bids (λ w l. unsaid es e w r.symbol Bid (cond_same (nat_eq v w) None)) h.bids;
+        offers = fits_stay es e r.symbol Offer r.venue_sides.offers (λ w l. unsaid es e w r.symbol Offer (cond_same (nat_eq v w) None)) h.offers;
         halted = halts_set es e v x r.symbol r.halted below is.count (λ w. ap (λ t. cond (nat_eq v w) (cond t (Some x) None) None) k) h.halted;
       }
       | false ↦ λ k. row_waits es e r (λ w b. cond_same (nat_eq v w) None) (λ w. ap (λ t. cond (nat_eq v w) (cond t (Some x) None) None) k ∙ cond_same (nat_eq v w) None) h
@@ -114,8 +114,8 @@ item_fits es v number n m item.Other helped flags r below young is h =
 item_fits es v number n m item.End helped flags r below young is h =
     let e : Entry = Consumed v (record { number = number; item = item.End }) in
     record {
-      bids = fits_shown es e v None r.symbol Bid (side_at Bid r) n false below is.bids.count young (λ w. refl) h.bids;
-      offers = fits_shown es e v None r.symbol Offer (side_at Offer r) n false below is.offers.count young (λ w. refl) h.offers;
+      bids = fits_quoted es e v None r.symbol Bid (side_at Bid r) n false below is.bids.count young (λ w. refl) h.bids;
+      offers = fits_quoted es e v None r.symbol Offer (side_at Offer r) n false below is.offers.count young (λ w. refl) h.offers;
       halted = halts_set es e v false r.symbol r.halted below is.count (λ w. refl) h.halted;
     }
 
@@ -123,8 +123,8 @@ item_fits es v number n m item.End helped flags r below young is h =
 pub row_fits : (es : List Entry) (e : Entry) (n m : ℕ) (helped flags : List Bool) (r : Row) → venue_of e < 16 → n ≡ suc (length es) → IsRow flags m r → RowFits es r → RowFits (es ++ e ∷ []) (row_after helped n e r)
 row_fits es (Consumed v x) n m helped flags r below young is h = item_fits es v x.number n m x.item helped flags r below young is h
 row_fits es (SelfHelp v on) n m helped flags r below young is h = record {
-  bids = fits_stay es (SelfHelp v on) r.symbol Bid r.standings.bids (λ w l. unsaid es (SelfHelp v on) w r.symbol Bid refl) h.bids;
-  offers = fits_stay es (SelfHelp v on) r.symbol Offer r.standings.offers (λ w l. unsaid es (SelfHelp v on) w r.symbol Offer refl) h.offers;
+  bids = fits_stay es (SelfHelp v on) r.symbol Bid r.venue_sides.bids (λ w l. unsaid es (SelfHelp v on) w r.symbol Bid refl) h.bids;
+  offers = fits_stay es (SelfHelp v on) r.symbol Offer r.venue_sides.offers (λ w l. unsaid es (SelfHelp v on) w r.symbol Offer refl) h.offers;
   halted = halts_stay es (SelfHelp v on) r.symbol r.halted (λ w. refl) h.halted;
 }
 

@@ -3,7 +3,8 @@ use Rattle.std.proofs.Common.{ℕ, zero, suc, ◌<◌, ◌≤◌, ◌≡◌, Lis
 use Rattle.std.specs.Prelude.{◌&&◌, ◌||◌}
 use Rattle.std.specs.List.{insert, remove}
 use Rattle.feed_types.specs.declared.national.Best.{Best}
-use Rattle.nbbo_book.specs.Changes.{is_same_best}
+use Rattle.feed_types.specs.declared.national.National.{National}
+use Rattle.nbbo_book.specs.Changes.{is_same_best, is_same_national}
 use Rattle.nbbo_book.specs.Ranks.{IsIn, HasNone, front_of}
 use Rattle.nbbo_book.proofs.Said.{and_left, and_right}
 use Rattle.nbbo_book.proofs.Ranking.{nat_same, nat_refl, nat_apart}
@@ -25,6 +26,11 @@ same_best_sound (Some x) (Some y) h =
     (nat_same x.venue y.venue (and_left (nat_eq x.venue y.venue) (nat_eq x.price y.price && nat_eq x.size y.size) h))
     (nat_same x.price y.price (and_left (nat_eq x.price y.price) (nat_eq x.size y.size) rest))
     (nat_same x.size y.size (and_right (nat_eq x.price y.price) (nat_eq x.size y.size) rest)))
+
+pub same_national_sound : (x y : National) → is_same_national x y ≡ true → x ≡ y
+same_national_sound x y h =
+    ap (λ o. record { bid = o; offer = x.offer }) (same_best_sound x.bid y.bid (and_left (is_same_best x.bid y.bid) (is_same_best x.offer y.offer) h))
+    ∙ ap (λ o. record { bid = y.bid; offer = o }) (same_best_sound x.offer y.offer (and_right (is_same_best x.bid y.bid) (is_same_best x.offer y.offer) h))
 
 some_is : {T : Type 0} {x y : T} → Some x ≡ Some y → x ≡ y
 some_is e = cc

@@ -1,16 +1,16 @@
--- What a book keeps of a side, after a venue's standing was set or its leave to be ranked changed.
+-- What a book keeps of a side, after a venue's side was set or its leave to be ranked changed.
 use Rattle.std.proofs.Common.{ℕ, zero, suc, ◌<◌, ◌≤◌, ◌≡◌, ◌+◌, List, [], ◌∷◌, Bool, true, false, refl, ap, sym, ◌∙◌, subst, arith, length, cond, nat_eq, nat_lt, Option, Some, None, set, get_or}
 use Rattle.std.proofs.lemmas.List.{get_or_past}
 use Rattle.std.specs.Prelude.{◌&&◌, IsSome, is_some, ◌≢◌}
 use Rattle.feed_types.specs.declared.line.Side.{Side}
 use Rattle.feed_types.specs.declared.national.Best.{Best}
-use Rattle.nbbo_book.specs.declared.shown.Shown.{Shown}
-use Rattle.nbbo_book.specs.declared.shown.Standing.{Standing}
+use Rattle.nbbo_book.specs.declared.side_quote.SideQuote.{SideQuote}
+use Rattle.nbbo_book.specs.declared.venue_side.VenueSide.{VenueSide}
 use Rattle.nbbo_book.specs.Sides.{is_same_side}
 use Rattle.nbbo_book.specs.Eligible.{ranked_by, is_protected}
-use Rattle.nbbo_book.specs.Books.{standing_at}
+use Rattle.nbbo_book.specs.Books.{venue_side_at}
 use Rattle.nbbo_book.specs.Ranks.{InRank, IsIn, IsNewest, without, placed, IsRankingOf}
-use Rattle.nbbo_book.specs.Rows.{BookSide, age_at, rank_at, side_set, side_shown, side_gated, IsPast, IsRanked}
+use Rattle.nbbo_book.specs.Rows.{BookSide, age_at, rank_at, side_set, side_quoted, side_rechecked, IsPast, IsRanked}
 use Rattle.nbbo_book.specs.Tables.{IsSide}
 use Rattle.nbbo_book.proofs.Said.{and_left}
 use Rattle.nbbo_book.proofs.Ranking.{nat_split, some_same, ranking_same, ranking_set, ranking_room, without_none, without_nobody, InRank-ages, InRank-without, all_from_in, in_all}
@@ -36,38 +36,38 @@ long_set (y ∷ xs) zero x = refl
 long_set (y ∷ xs) (suc i) x = ap suc (long_set xs i x)
 
 -- a venue is ranked under its own number, and with what it shows
-pub ranked_own : (m : Bool) (v : ℕ) (o : Option Shown) (x : Best) → ranked_by m v o ≡ Some x → x.venue ≡ v
+pub ranked_own : (m : Bool) (v : ℕ) (o : Option SideQuote) (x : Best) → ranked_by m v o ≡ Some x → x.venue ≡ v
 ranked_own false v o x e = cc
 ranked_own true v None x e = cc
-ranked_own true v (Some shown) x e =
-    let R : Bool → Type 0 = λ t. cond t (Some (record { venue = v; price = shown.price; size = shown.size })) None ≡ Some x → x.venue ≡ v in
-    (elim (is_protected shown) as R [ true ↦ λ k. ap (λ (y : Best). y.venue) (sym (some_same k)) | false ↦ λ k. cc ]) e
+ranked_own true v (Some quote) x e =
+    let R : Bool → Type 0 = λ t. cond t (Some (record { venue = v; price = quote.price; size = quote.size })) None ≡ Some x → x.venue ≡ v in
+    (elim (is_protected quote) as R [ true ↦ λ k. ap (λ (y : Best). y.venue) (sym (some_same k)) | false ↦ λ k. cc ]) e
 
-pub ranked_shown : (m : Bool) (v : ℕ) (o : Option Shown) (x : Best) → ranked_by m v o ≡ Some x → IsSome o
-ranked_shown false v o x e = cc
-ranked_shown true v None x e = cc
-ranked_shown true v (Some shown) x e = refl
+pub ranked_quote : (m : Bool) (v : ℕ) (o : Option SideQuote) (x : Best) → ranked_by m v o ≡ Some x → IsSome o
+ranked_quote false v o x e = cc
+ranked_quote true v None x e = cc
+ranked_quote true v (Some quote) x e = refl
 
 pub ranked_nothing : (m : Bool) (v : ℕ) → ranked_by m v None ≡ None
 ranked_nothing false v = refl
 ranked_nothing true v = refl
 
--- the standing of a venue, after one was set
-pub standing_set : (xs : List Standing) (v : ℕ) (st : Standing) → v < length xs → standing_at (set xs v st) v ≡ st
-standing_set xs v st h = set_at xs v st _ h
+-- the side of a venue, after one was set
+pub venue_side_set : (xs : List VenueSide) (v : ℕ) (st : VenueSide) → v < length xs → venue_side_at (set xs v st) v ≡ st
+venue_side_set xs v st h = set_at xs v st _ h
 
-pub standing_off : (xs : List Standing) (v w : ℕ) (st : Standing) → nat_eq w v ≡ false → standing_at (set xs v st) w ≡ standing_at xs w
-standing_off xs v w st h = set_off xs v w st _ (apart_from v w h)
+pub venue_side_off : (xs : List VenueSide) (v w : ℕ) (st : VenueSide) → nat_eq w v ≡ false → venue_side_at (set xs v st) w ≡ venue_side_at xs w
+venue_side_off xs v w st h = set_off xs v w st _ (apart_from v w h)
 
 -- what a venue is ranked with is what it shows
-pub ranked_as : (m : Bool) (v : ℕ) (o : Option Shown) (x : Best) → ranked_by m v o ≡ Some x → o ≡ Some (record { price = x.price; size = x.size; automated = true })
+pub ranked_as : (m : Bool) (v : ℕ) (o : Option SideQuote) (x : Best) → ranked_by m v o ≡ Some x → o ≡ Some (record { price = x.price; size = x.size; automated = true })
 ranked_as false v o x e = cc
 ranked_as true v None x e = cc
-ranked_as true v (Some shown) x e =
-    (elim (is_protected shown) as (λ t. is_protected shown ≡ t → cond t (Some (record { venue = v; price = shown.price; size = shown.size })) None ≡ Some x → Some shown ≡ Some (record { price = x.price; size = x.size; automated = true })) [
+ranked_as true v (Some quote) x e =
+    (elim (is_protected quote) as (λ t. is_protected quote ≡ t → cond t (Some (record { venue = v; price = quote.price; size = quote.size })) None ≡ Some x → Some quote ≡ Some (record { price = x.price; size = x.size; automated = true })) [
       | true ↦ λ p k.
-          let same : record { venue = v; price = shown.price; size = shown.size } ≡ x = some_same k in
-          ap (λ t. Some (record { price = shown.price; size = shown.size; automated = t })) (and_left shown.automated (nat_lt 0 shown.price && nat_lt 0 shown.size) p)
+          let same : record { venue = v; price = quote.price; size = quote.size } ≡ x = some_same k in
+          ap (λ t. Some (record { price = quote.price; size = quote.size; automated = t })) (and_left quote.automated (nat_lt 0 quote.price && nat_lt 0 quote.size) p)
           ∙ ap (λ (t : Best). Some (record { price = t.price; size = t.size; automated = true })) same
       | false ↦ λ p k. cc
     ]) refl e
@@ -77,131 +77,131 @@ pub side_is_ranked : (b : Side) (may : ℕ → Bool) (n : ℕ) (k : BookSide) �
 side_is_ranked b may n k h = record {
   count = h.count;
   order = h.ranked.order;
-  shown = λ x i. ranked_as (may x.venue) x.venue (standing_at k.standings x.venue).shown x ((h.ranked.members x).0 i).1;
-  once = λ v. without_none b (age_at k.standings) (rank_at may k.standings) v k.ranks (λ x i. ((h.ranked.members x).0 i).1) h.ranked.order;
-  room = λ v l. ranking_room b (rank_at may k.standings) (age_at k.standings) v k.ranks l h.ranked;
+  quote = λ x i. ranked_as (may x.venue) x.venue (venue_side_at k.venue_sides x.venue).quote x ((h.ranked.members x).0 i).1;
+  once = λ v. without_none b (age_at k.venue_sides) (rank_at may k.venue_sides) v k.ranks (λ x i. ((h.ranked.members x).0 i).1) h.ranked.order;
+  room = λ v l. ranking_room b (rank_at may k.venue_sides) (age_at k.venue_sides) v k.ranks l h.ranked;
 }
 
 -- a venue that shows nothing isn't ranked
-not_ranked : (b : Side) (k : BookSide) (v : ℕ) → IsRanked b k → (standing_at k.standings v).shown ≡ None → (x : Best) → IsIn k.ranks x → nat_eq x.venue v ≡ false
+not_ranked : (b : Side) (k : BookSide) (v : ℕ) → IsRanked b k → (venue_side_at k.venue_sides v).quote ≡ None → (x : Best) → IsIn k.ranks x → nat_eq x.venue v ≡ false
 not_ranked b k v h none x i = nat_split x.venue v (nat_eq x.venue v ≡ false)
-    (λ q. (let no : None ≡ Some (record { price = x.price; size = x.size; automated = true }) = sym none ∙ ap (λ (w : ℕ). (standing_at k.standings w).shown) (sym q) ∙ h.shown x i in cc))
+    (λ q. (let no : None ≡ Some (record { price = x.price; size = x.size; automated = true }) = sym none ∙ ap (λ (w : ℕ). (venue_side_at k.venue_sides w).quote) (sym q) ∙ h.quote x i in cc))
     (λ d. d)
 
-pub absent_stays : (b : Side) (k : BookSide) (v : ℕ) → IsRanked b k → (standing_at k.standings v).shown ≡ None → without v k.ranks ≡ k.ranks
+pub absent_stays : (b : Side) (k : BookSide) (v : ℕ) → IsRanked b k → (venue_side_at k.venue_sides v).quote ≡ None → without v k.ranks ≡ k.ranks
 absent_stays b k v h none = without_nobody v k.ranks (not_ranked b k v h none)
 
 -- the others are in order, also by ages of which the venue's is another one
-pub others_in_order : (b : Side) (k : BookSide) (v : ℕ) → IsRanked b k → InRank b (age_at k.standings) (without v k.ranks)
-others_in_order b k v h = InRank-without b (age_at k.standings) v k.ranks h.order
+pub others_in_order : (b : Side) (k : BookSide) (v : ℕ) → IsRanked b k → InRank b (age_at k.venue_sides) (without v k.ranks)
+others_in_order b k v h = InRank-without b (age_at k.venue_sides) v k.ranks h.order
 
-pub others_stay : (b : Side) (k : BookSide) (v : ℕ) (st : Standing) → IsRanked b k → InRank b (age_at (set k.standings v st)) (without v k.ranks)
-others_stay b k v st h = InRank-ages b (age_at k.standings) (age_at (set k.standings v st)) (without v k.ranks)
-    (λ x i. ap (λ (t : Standing). t.age) (sym (set_off k.standings v x.venue st _ (apart_from v x.venue (in_all (λ y. nat_eq y.venue v ≡ false) (without v k.ranks) (h.once v) x i)))))
+pub others_stay : (b : Side) (k : BookSide) (v : ℕ) (st : VenueSide) → IsRanked b k → InRank b (age_at (set k.venue_sides v st)) (without v k.ranks)
+others_stay b k v st h = InRank-ages b (age_at k.venue_sides) (age_at (set k.venue_sides v st)) (without v k.ranks)
+    (λ x i. ap (λ (t : VenueSide). t.age) (sym (set_off k.venue_sides v x.venue st _ (apart_from v x.venue (in_all (λ y. nat_eq y.venue v ≡ false) (without v k.ranks) (h.once v) x i)))))
     (others_in_order b k v h)
 
 -- none of them is newer than a side that is of the next entry
-age_at_most : (next : ℕ) (ss : List Standing) (w : ℕ) → IsPast next ss → length ss ≡ 16 → age_at ss w ≤ next
+age_at_most : (next : ℕ) (ss : List VenueSide) (w : ℕ) → IsPast next ss → length ss ≡ 16 → age_at ss w ≤ next
 age_at_most next ss w past count =
     (elim (nat_lt w 16) as (λ t. nat_lt w 16 ≡ t → age_at ss w ≤ next) [
       | true ↦ λ e. (let p = past w (grind (arith, e)) in omega (arith, p))
-      | false ↦ λ e. subst (λ (t : Standing). t.age ≤ next) (sym (get_or_past ss w _ (grind (arith, e, count)))) (omega arith)
+      | false ↦ λ e. subst (λ (t : VenueSide). t.age ≤ next) (sym (get_or_past ss w _ (grind (arith, e, count)))) (omega arith)
     ]) refl
 
-pub others_older : (b : Side) (k : BookSide) (v : ℕ) (x : Best) (st : Standing) → v < 16 → x.venue ≡ v → IsPast st.age k.standings → IsRanked b k → IsNewest (age_at (set k.standings v st)) x (without v k.ranks)
+pub others_older : (b : Side) (k : BookSide) (v : ℕ) (x : Best) (st : VenueSide) → v < 16 → x.venue ≡ v → IsPast st.age k.venue_sides → IsRanked b k → IsNewest (age_at (set k.venue_sides v st)) x (without v k.ranks)
 others_older b k v x st below at past h =
-    let ss = set k.standings v st in
-    let own : age_at ss x.venue ≡ st.age = ap (age_at ss) at ∙ ap (λ (t : Standing). t.age) (standing_set k.standings v st (omega (arith, below, h.count))) in
+    let ss = set k.venue_sides v st in
+    let own : age_at ss x.venue ≡ st.age = ap (age_at ss) at ∙ ap (λ (t : VenueSide). t.age) (venue_side_set k.venue_sides v st (omega (arith, below, h.count))) in
     all_from_in (λ y. nat_lt (age_at ss x.venue) (age_at ss y.venue) ≡ false) (without v k.ranks) (λ y i.
     let other : nat_eq y.venue v ≡ false = in_all (λ z. nat_eq z.venue v ≡ false) (without v k.ranks) (h.once v) y i in
-    let its : age_at ss y.venue ≤ st.age = subst (λ (n : ℕ). n ≤ st.age) (sym (ap (λ (t : Standing). t.age) (standing_off k.standings v y.venue st other))) (age_at_most st.age k.standings y.venue past h.count) in
+    let its : age_at ss y.venue ≤ st.age = subst (λ (n : ℕ). n ≤ st.age) (sym (ap (λ (t : VenueSide). t.age) (venue_side_off k.venue_sides v y.venue st other))) (age_at_most st.age k.venue_sides y.venue past h.count) in
     grind (arith, own, its))
 
 -- leave to rank changes nothing where the venue shows nothing
-pub gated_absent : (b : Side) (k : BookSide) (v : ℕ) (may : Bool) → IsRanked b k → (standing_at k.standings v).shown ≡ None → (side_gated b v may k).ranks ≡ k.ranks
-gated_absent b k v may h none =
-    ap (λ o. placed b (age_at k.standings) o (without v k.ranks)) (ap (ranked_by may v) none ∙ ranked_nothing may v)
+pub rechecked_absent : (b : Side) (k : BookSide) (v : ℕ) (may : Bool) → IsRanked b k → (venue_side_at k.venue_sides v).quote ≡ None → (side_rechecked b v may k).ranks ≡ k.ranks
+rechecked_absent b k v may h none =
+    ap (λ o. placed b (age_at k.venue_sides) o (without v k.ranks)) (ap (ranked_by may v) none ∙ ranked_nothing may v)
     ∙ absent_stays b k v h none
 
 -- more entries, of which none concerns the side
-pub side_waits : (b : Side) (may more : ℕ → Bool) (n m : ℕ) (k : BookSide) → n ≤ m → ((w : ℕ) → w < 16 → rank_at may k.standings w ≡ rank_at more k.standings w) → IsSide b may n k → IsSide b more m k
+pub side_waits : (b : Side) (may more : ℕ → Bool) (n m : ℕ) (k : BookSide) → n ≤ m → ((w : ℕ) → w < 16 → rank_at may k.venue_sides w ≡ rank_at more k.venue_sides w) → IsSide b may n k → IsSide b more m k
 side_waits b may more n m k l same h = record {
   count = h.count;
   past = λ v u. (let p = h.past v u in omega (arith, p, l));
   apart = h.apart;
-  ranked = ranking_same b (rank_at may k.standings) (rank_at more k.standings) (age_at k.standings) (age_at k.standings) k.ranks same (λ w u. refl) h.ranked;
+  ranked = ranking_same b (rank_at may k.venue_sides) (rank_at more k.venue_sides) (age_at k.venue_sides) (age_at k.venue_sides) k.ranks same (λ w u. refl) h.ranked;
 }
 
--- a venue's standing is another one, of an age of its own
-pub side_set-is : (b : Side) (may more : ℕ → Bool) (n m : ℕ) (k : BookSide) (v : ℕ) (st : Standing) (here : Bool) → v < 16 → n ≤ m → st.age < m → (IsSome st.shown → (w : ℕ) → w < 16 → nat_eq w v ≡ false → IsSome (standing_at k.standings w).shown → st.age ≡ age_at k.standings w → ⊥) → ((w : ℕ) → nat_eq w v ≡ false → more w ≡ may w) → ranked_by (more v) v st.shown ≡ ranked_by here v st.shown → IsSide b may n k → IsSide b more m (side_set b v st here k)
+-- a venue's side is another one, of an age of its own
+pub side_set-is : (b : Side) (may more : ℕ → Bool) (n m : ℕ) (k : BookSide) (v : ℕ) (st : VenueSide) (here : Bool) → v < 16 → n ≤ m → st.age < m → (IsSome st.quote → (w : ℕ) → w < 16 → nat_eq w v ≡ false → IsSome (venue_side_at k.venue_sides w).quote → st.age ≡ age_at k.venue_sides w → ⊥) → ((w : ℕ) → nat_eq w v ≡ false → more w ≡ may w) → ranked_by (more v) v st.quote ≡ ranked_by here v st.quote → IsSide b may n k → IsSide b more m (side_set b v st here k)
 side_set-is b may more n m k v st here below l young own_age same leave h =
-    let under : v < length k.standings = omega (arith, below, h.count) in
-    let ss = set k.standings v st in
-    let at : standing_at ss v ≡ st = standing_set k.standings v st under in
-    let off : (w : ℕ) → nat_eq w v ≡ false → standing_at ss w ≡ standing_at k.standings w = λ w e. standing_off k.standings v w st e in
-    let apart : (u w : ℕ) → u < 16 → w < 16 → u ≢ w → IsSome (standing_at ss u).shown → IsSome (standing_at ss w).shown → age_at ss u ≢ age_at ss w = λ u w a c differ there too same_age.
+    let under : v < length k.venue_sides = omega (arith, below, h.count) in
+    let ss = set k.venue_sides v st in
+    let at : venue_side_at ss v ≡ st = venue_side_set k.venue_sides v st under in
+    let off : (w : ℕ) → nat_eq w v ≡ false → venue_side_at ss w ≡ venue_side_at k.venue_sides w = λ w e. venue_side_off k.venue_sides v w st e in
+    let apart : (u w : ℕ) → u < 16 → w < 16 → u ≢ w → IsSome (venue_side_at ss u).quote → IsSome (venue_side_at ss w).quote → age_at ss u ≢ age_at ss w = λ u w a c differ there too same_age.
     nat_split u v ⊥
     (λ eu. nat_split w v ⊥ (λ ew. differ (eu ∙ sym ew))
     (λ nw. own_age
-    (sym (ap (λ (t : Standing). is_some t.shown) (ap (standing_at ss) eu ∙ at)) ∙ there)
+    (sym (ap (λ (t : VenueSide). is_some t.quote) (ap (venue_side_at ss) eu ∙ at)) ∙ there)
     w c nw
-    (sym (ap (λ (t : Standing). is_some t.shown) (off w nw)) ∙ too)
-    (sym (ap (λ (t : Standing). t.age) (ap (standing_at ss) eu ∙ at)) ∙ same_age ∙ ap (λ (t : Standing). t.age) (off w nw))))
+    (sym (ap (λ (t : VenueSide). is_some t.quote) (off w nw)) ∙ too)
+    (sym (ap (λ (t : VenueSide). t.age) (ap (venue_side_at ss) eu ∙ at)) ∙ same_age ∙ ap (λ (t : VenueSide). t.age) (off w nw))))
     (λ nu. nat_split w v ⊥
     (λ ew. own_age
-    (sym (ap (λ (t : Standing). is_some t.shown) (ap (standing_at ss) ew ∙ at)) ∙ too)
+    (sym (ap (λ (t : VenueSide). is_some t.quote) (ap (venue_side_at ss) ew ∙ at)) ∙ too)
     u a nu
-    (sym (ap (λ (t : Standing). is_some t.shown) (off u nu)) ∙ there)
-    (sym (ap (λ (t : Standing). t.age) (ap (standing_at ss) ew ∙ at)) ∙ sym same_age ∙ ap (λ (t : Standing). t.age) (off u nu)))
+    (sym (ap (λ (t : VenueSide). is_some t.quote) (off u nu)) ∙ there)
+    (sym (ap (λ (t : VenueSide). t.age) (ap (venue_side_at ss) ew ∙ at)) ∙ sym same_age ∙ ap (λ (t : VenueSide). t.age) (off u nu)))
     (λ nw. h.apart u w a c differ
-    (sym (ap (λ (t : Standing). is_some t.shown) (off u nu)) ∙ there)
-    (sym (ap (λ (t : Standing). is_some t.shown) (off w nw)) ∙ too)
-    (sym (ap (λ (t : Standing). t.age) (off u nu)) ∙ same_age ∙ ap (λ (t : Standing). t.age) (off w nw)))) in
+    (sym (ap (λ (t : VenueSide). is_some t.quote) (off u nu)) ∙ there)
+    (sym (ap (λ (t : VenueSide). is_some t.quote) (off w nw)) ∙ too)
+    (sym (ap (λ (t : VenueSide). t.age) (off u nu)) ∙ same_age ∙ ap (λ (t : VenueSide). t.age) (off w nw)))) in
     let ranked : IsRankingOf b (rank_at more ss) (age_at ss) (placed b (age_at ss) (rank_at more ss v) (without v k.ranks)) =
-    ranking_set b (rank_at may k.standings) (rank_at more ss) (age_at k.standings) (age_at ss) v k.ranks below
-    (λ w x e. ranked_own (more w) w (standing_at ss w).shown x e)
-    (λ w e. ap (λ (t : Standing). ranked_by (more w) w t.shown) (off w e) ∙ ap (λ t. ranked_by t w (standing_at k.standings w).shown) (same w e))
-    (λ w e. ap (λ (t : Standing). t.age) (off w e))
-    (λ w x y c e gw gv same_age. apart v w below c (λ q. apart_from v w e q) (ranked_shown (more v) v (standing_at ss v).shown x gv) (ranked_shown (more w) w (standing_at ss w).shown y gw) same_age)
+    ranking_set b (rank_at may k.venue_sides) (rank_at more ss) (age_at k.venue_sides) (age_at ss) v k.ranks below
+    (λ w x e. ranked_own (more w) w (venue_side_at ss w).quote x e)
+    (λ w e. ap (λ (t : VenueSide). ranked_by (more w) w t.quote) (off w e) ∙ ap (λ t. ranked_by t w (venue_side_at k.venue_sides w).quote) (same w e))
+    (λ w e. ap (λ (t : VenueSide). t.age) (off w e))
+    (λ w x y c e gw gv same_age. apart v w below c (λ q. apart_from v w e q) (ranked_quote (more v) v (venue_side_at ss v).quote x gv) (ranked_quote (more w) w (venue_side_at ss w).quote y gw) same_age)
     h.ranked in
-    let rank : rank_at more ss v ≡ ranked_by here v st.shown = ap (λ (t : Standing). ranked_by (more v) v t.shown) at ∙ leave in
+    let rank : rank_at more ss v ≡ ranked_by here v st.quote = ap (λ (t : VenueSide). ranked_by (more v) v t.quote) at ∙ leave in
     record {
-      count = long_set k.standings v st ∙ h.count;
+      count = long_set k.venue_sides v st ∙ h.count;
       past = λ w c. nat_split w v (age_at ss w < m)
-          (λ e. subst (λ (t : ℕ). t < m) (sym (ap (λ (t : Standing). t.age) (ap (standing_at ss) e ∙ at))) young)
-          (λ e. (let p = h.past w c in subst (λ (t : ℕ). t < m) (sym (ap (λ (t : Standing). t.age) (off w e))) (omega (arith, p, l))));
+          (λ e. subst (λ (t : ℕ). t < m) (sym (ap (λ (t : VenueSide). t.age) (ap (venue_side_at ss) e ∙ at))) young)
+          (λ e. (let p = h.past w c in subst (λ (t : ℕ). t < m) (sym (ap (λ (t : VenueSide). t.age) (off w e))) (omega (arith, p, l))));
       apart = apart;
       ranked = subst (λ (o : Option Best). IsRankingOf b (rank_at more ss) (age_at ss) (placed b (age_at ss) o (without v k.ranks))) rank ranked;
     }
 
 -- a venue may be ranked, or may not, from now on
-pub side_gated-is : (b : Side) (may more : ℕ → Bool) (n m : ℕ) (k : BookSide) (v : ℕ) (here : Bool) → v < 16 → n ≤ m → ((w : ℕ) → nat_eq w v ≡ false → more w ≡ may w) → more v ≡ here → IsSide b may n k → IsSide b more m (side_gated b v here k)
-side_gated-is b may more n m k v here below l same leave h =
-    let ss = k.standings in
+pub side_rechecked-is : (b : Side) (may more : ℕ → Bool) (n m : ℕ) (k : BookSide) (v : ℕ) (here : Bool) → v < 16 → n ≤ m → ((w : ℕ) → nat_eq w v ≡ false → more w ≡ may w) → more v ≡ here → IsSide b may n k → IsSide b more m (side_rechecked b v here k)
+side_rechecked-is b may more n m k v here below l same leave h =
+    let ss = k.venue_sides in
     let ranked : IsRankingOf b (rank_at more ss) (age_at ss) (placed b (age_at ss) (rank_at more ss v) (without v k.ranks)) =
     ranking_set b (rank_at may ss) (rank_at more ss) (age_at ss) (age_at ss) v k.ranks below
-    (λ w x e. ranked_own (more w) w (standing_at ss w).shown x e)
-    (λ w e. ap (λ t. ranked_by t w (standing_at ss w).shown) (same w e))
+    (λ w x e. ranked_own (more w) w (venue_side_at ss w).quote x e)
+    (λ w e. ap (λ t. ranked_by t w (venue_side_at ss w).quote) (same w e))
     (λ w e. refl)
-    (λ w x y c e gw gv same_age. h.apart v w below c (λ q. apart_from v w e q) (ranked_shown (more v) v (standing_at ss v).shown x gv) (ranked_shown (more w) w (standing_at ss w).shown y gw) same_age)
+    (λ w x y c e gw gv same_age. h.apart v w below c (λ q. apart_from v w e q) (ranked_quote (more v) v (venue_side_at ss v).quote x gv) (ranked_quote (more w) w (venue_side_at ss w).quote y gw) same_age)
     h.ranked in
     record {
       count = h.count;
       past = λ v u. (let p = h.past v u in omega (arith, p, l));
       apart = h.apart;
-      ranked = subst (λ t. IsRankingOf b (rank_at more ss) (age_at ss) (placed b (age_at ss) (ranked_by t v (standing_at ss v).shown) (without v k.ranks))) leave ranked;
+      ranked = subst (λ t. IsRankingOf b (rank_at more ss) (age_at ss) (placed b (age_at ss) (ranked_by t v (venue_side_at ss v).quote) (without v k.ranks))) leave ranked;
     }
 
 -- a venue shows this, or nothing, from now on; where that is new, its age is later than all
-pub side_shown-is : (b : Side) (may more : ℕ → Bool) (n : ℕ) (k : BookSide) (v : ℕ) (o : Option Shown) (here : Bool) → v < 16 → ((w : ℕ) → nat_eq w v ≡ false → more w ≡ may w) → ranked_by (more v) v o ≡ ranked_by here v o → ranked_by (may v) v o ≡ ranked_by (more v) v o → (is_same_side (standing_at k.standings v).shown o ≡ true → (standing_at k.standings v).shown ≡ o) → IsSide b may n k → IsSide b more (n + 1) (side_shown b v o n here k)
-side_shown-is b may more n k v o here below same leave alike sound h =
-    let st : Standing = record { shown = o; age = n } in
-    let R : Bool → Type 0 = λ t. is_same_side (standing_at k.standings v).shown o ≡ t → IsSide b more (n + 1) (cond t k (side_set b v st here k)) in
-    (elim (is_same_side (standing_at k.standings v).shown o) as R [
+pub side_quoted-is : (b : Side) (may more : ℕ → Bool) (n : ℕ) (k : BookSide) (v : ℕ) (o : Option SideQuote) (here : Bool) → v < 16 → ((w : ℕ) → nat_eq w v ≡ false → more w ≡ may w) → ranked_by (more v) v o ≡ ranked_by here v o → ranked_by (may v) v o ≡ ranked_by (more v) v o → (is_same_side (venue_side_at k.venue_sides v).quote o ≡ true → (venue_side_at k.venue_sides v).quote ≡ o) → IsSide b may n k → IsSide b more (n + 1) (side_quoted b v o n here k)
+side_quoted-is b may more n k v o here below same leave alike sound h =
+    let st : VenueSide = record { quote = o; age = n } in
+    let R : Bool → Type 0 = λ t. is_same_side (venue_side_at k.venue_sides v).quote o ≡ t → IsSide b more (n + 1) (cond t k (side_set b v st here k)) in
+    (elim (is_same_side (venue_side_at k.venue_sides v).quote o) as R [
       | true ↦ λ e. side_waits b may more n (n + 1) k (omega arith)
-          (λ w c. nat_split w v (rank_at may k.standings w ≡ rank_at more k.standings w)
-          (λ q. subst (λ (u : ℕ). rank_at may k.standings u ≡ rank_at more k.standings u) (sym q) (ap (ranked_by (may v) v) (sound e) ∙ alike ∙ ap (ranked_by (more v) v) (sym (sound e))))
-          (λ d. ap (λ t. ranked_by t w (standing_at k.standings w).shown) (sym (same w d)))) h
+          (λ w c. nat_split w v (rank_at may k.venue_sides w ≡ rank_at more k.venue_sides w)
+          (λ q. subst (λ (u : ℕ). rank_at may k.venue_sides u ≡ rank_at more k.venue_sides u) (sym q) (ap (ranked_by (may v) v) (sound e) ∙ alike ∙ ap (ranked_by (more v) v) (sym (sound e))))
+          (λ d. ap (λ t. ranked_by t w (venue_side_at k.venue_sides w).quote) (sym (same w d)))) h
       | false ↦ λ e. side_set-is b may more n (n + 1) k v st here below (omega arith) (omega arith)
           (λ there w c d too same_age. (let p = h.past w c in omega (arith, p, same_age)))
           same leave h

@@ -5,7 +5,7 @@ use Rattle.feed_types.specs.declared.journal.Entry.{Entry}
 use Rattle.feed_types.specs.declared.journal.Entry.TheVariants.{Consumed, SelfHelp}
 use Rattle.feed_types.specs.declared.line.Side.{Side}
 use Rattle.feed_types.specs.declared.national.Best.{Best}
-use Rattle.nbbo_book.specs.declared.shown.Shown.{Shown}
+use Rattle.nbbo_book.specs.declared.side_quote.SideQuote.{SideQuote}
 use Rattle.nbbo_book.specs.Sides.{side_said, side_said_by, side_of, is_same_side, since, age_of}
 use Rattle.nbbo_book.specs.Eligible.{IsEligible, may_rank, eligible_of}
 use Rattle.nbbo_book.specs.Nationals.{beats, IsBest, best_of}
@@ -13,7 +13,7 @@ use Rattle.nbbo_book.specs.Books.{venue_of}
 use Rattle.nbbo_book.proofs.Beating.{beats_either}
 use Rattle.nbbo_book.proofs.Ranking.{nat_same, nat_refl, nat_apart, nat_split, some_same}
 use Rattle.nbbo_book.proofs.Said.{side_of-put, age-kept, age-new, age-≤, since-≤, same_side_sound, same_side_refl}
-use Rattle.nbbo_book.proofs.Kept.{ranked_own, ranked_shown, apart_from}
+use Rattle.nbbo_book.proofs.Kept.{ranked_own, ranked_quote, apart_from}
 use Rattle.nbbo_book.proofs.Firsts.{IsOwn, IsApart, IsTop, IsBelow, top_found, top_is}
 use Rattle.nbbo_book.proofs.Eligibility.{eligible_told, eligible_is}
 
@@ -84,7 +84,7 @@ eligible_own es s b = λ w x e. ranked_own (may_rank es w s) w (side_of es w s b
 
 eligible_apart : (es : List Entry) (s : List ℕ) (b : Side) → IsApart (λ v. age_of es v s b) (eligible_of es s b)
 eligible_apart es s b = λ v w x y l m d e k same. apart_all es s b v w (apart_from v w (nat_apart v w d))
-    (ranked_shown (may_rank es v s) v (side_of es v s b) x e) (ranked_shown (may_rank es w s) w (side_of es w s b) y k) same
+    (ranked_quote (may_rank es v s) v (side_of es v s b) x e) (ranked_quote (may_rank es w s) w (side_of es w s b) y k) same
 
 -- the side that beats every other one is found
 pub best_found : (es : List Entry) (s : List ℕ) (b : Side) (x : Best) → IsBest es s b x → best_of es s b ≡ Some x
@@ -128,7 +128,7 @@ pub is_nobody : (es : List Entry) (s : List ℕ) (b : Side) → ((x : Best) → 
 is_nobody es s b h = elim (best_cases es s b) [ inl k ↦ k.0 | inr k ↦ absurd (h k.0 k.2.eligible) ]
 
 -- ages: from the age on each prefix has the side, and from no earlier number on
-since_holds : (f : ℕ → Option Shown) (x : Option Shown) (n k : ℕ) → since f x n ≤ k → k < n → f k ≡ x
+since_holds : (f : ℕ → Option SideQuote) (x : Option SideQuote) (n k : ℕ) → since f x n ≤ k → k < n → f k ≡ x
 since_holds f x zero k low high = absurd (omega (arith, high))
 since_holds f x (suc n) k low high =
     (elim (is_same_side (f n) x) as (λ t. is_same_side (f n) x ≡ t → cond t (since f x n) (suc n) ≤ k → f k ≡ x) [
@@ -138,7 +138,7 @@ since_holds f x (suc n) k low high =
       | false ↦ λ e l. absurd (omega (arith, l, high))
     ]) refl low
 
-since_least : (f : ℕ → Option Shown) (x : Option Shown) (n p : ℕ) → ((k : ℕ) → p ≤ k → k < n → f k ≡ x) → p ≤ n → since f x n ≤ p
+since_least : (f : ℕ → Option SideQuote) (x : Option SideQuote) (n p : ℕ) → ((k : ℕ) → p ≤ k → k < n → f k ≡ x) → p ≤ n → since f x n ≤ p
 since_least f x zero p h l = omega arith
 since_least f x (suc n) p h l =
     (elim (is_same_side (f n) x) as (λ t. is_same_side (f n) x ≡ t → cond t (since f x n) (suc n) ≤ p) [

@@ -5,7 +5,7 @@ use Rattle.std.proofs.Math.Seq.{take-append_seam}
 use Rattle.std.specs.Prelude.{◌&&◌}
 use Rattle.feed_types.specs.declared.journal.Entry.{Entry}
 use Rattle.feed_types.specs.declared.line.Side.{Side}
-use Rattle.nbbo_book.specs.declared.shown.Shown.{Shown}
+use Rattle.nbbo_book.specs.declared.side_quote.SideQuote.{SideQuote}
 use Rattle.nbbo_book.specs.Sides.{later, last_said, side_said, side_of, is_same_flag, is_same_side, since, age_of}
 use Rattle.nbbo_book.specs.Eligible.{self_help_said, is_self_helped, halt_said, is_halted}
 use Rattle.nbbo_book.proofs.Ranking.{nat_same, nat_refl}
@@ -53,26 +53,26 @@ pub and_right : (a b : Bool) → (a && b) ≡ true → b ≡ true
 and_right true b h = h
 and_right false b h = cc
 
-shown_same : (x y : Shown) → x.price ≡ y.price → x.size ≡ y.size → x.automated ≡ y.automated → x ≡ y
-shown_same x y p q r = ap (λ t. record { price = t; size = x.size; automated = x.automated }) p ∙ ap (λ t. record { price = y.price; size = t; automated = x.automated }) q ∙ ap (λ t. record { price = y.price; size = y.size; automated = t }) r
+quote_same : (x y : SideQuote) → x.price ≡ y.price → x.size ≡ y.size → x.automated ≡ y.automated → x ≡ y
+quote_same x y p q r = ap (λ t. record { price = t; size = x.size; automated = x.automated }) p ∙ ap (λ t. record { price = y.price; size = t; automated = x.automated }) q ∙ ap (λ t. record { price = y.price; size = y.size; automated = t }) r
 
-pub same_side_sound : (x y : Option Shown) → is_same_side x y ≡ true → x ≡ y
+pub same_side_sound : (x y : Option SideQuote) → is_same_side x y ≡ true → x ≡ y
 same_side_sound None None h = refl
 same_side_sound None (Some y) h = cc
 same_side_sound (Some x) None h = cc
 same_side_sound (Some x) (Some y) h =
     let rest = and_right (nat_eq x.price y.price) ((nat_eq x.size y.size) && is_same_flag x.automated y.automated) h in
-    ap Some (shown_same x y (nat_same x.price y.price (and_left (nat_eq x.price y.price) _ h)) (nat_same x.size y.size (and_left (nat_eq x.size y.size) (is_same_flag x.automated y.automated) rest)) (same_flag_sound x.automated y.automated (and_right (nat_eq x.size y.size) (is_same_flag x.automated y.automated) rest)))
+    ap Some (quote_same x y (nat_same x.price y.price (and_left (nat_eq x.price y.price) _ h)) (nat_same x.size y.size (and_left (nat_eq x.size y.size) (is_same_flag x.automated y.automated) rest)) (same_flag_sound x.automated y.automated (and_right (nat_eq x.size y.size) (is_same_flag x.automated y.automated) rest)))
 
-pub same_side_refl : (x : Option Shown) → is_same_side x x ≡ true
+pub same_side_refl : (x : Option SideQuote) → is_same_side x x ≡ true
 same_side_refl None = refl
 same_side_refl (Some x) = ap (λ t. t && ((nat_eq x.size x.size) && is_same_flag x.automated x.automated)) (nat_refl x.price) ∙ ap (λ t. t && is_same_flag x.automated x.automated) (nat_refl x.size) ∙ same_flag_refl x.automated
 
-pub since-≤ : (f : ℕ → Option Shown) (x : Option Shown) (n : ℕ) → since f x n ≤ n
+pub since-≤ : (f : ℕ → Option SideQuote) (x : Option SideQuote) (n : ℕ) → since f x n ≤ n
 since-≤ f x zero = omega arith
 since-≤ f x (suc n) = elim (is_same_side (f n) x) as (λ b. cond b (since f x n) (suc n) ≤ suc n) [ true ↦ omega (arith, since-≤ f x n) | false ↦ omega arith ]
 
-since-same : (f g : ℕ → Option Shown) (x : Option Shown) (n : ℕ) → ((k : ℕ) → k < n → f k ≡ g k) → since f x n ≡ since g x n
+since-same : (f g : ℕ → Option SideQuote) (x : Option SideQuote) (n : ℕ) → ((k : ℕ) → k < n → f k ≡ g k) → since f x n ≡ since g x n
 since-same f g x zero h = refl
 since-same f g x (suc n) h = ap (λ t. cond (is_same_side t x) (since f x n) (suc n)) (h n (omega arith)) ∙ ap (λ t. cond (is_same_side (g n) x) t (suc n)) (since-same f g x n (λ k b. h k (omega (arith, b))))
 
@@ -85,7 +85,7 @@ prefix_same es e v s b k h = ap (λ t. side_of t v s b) (take-append-le k es (e 
 age_step : (es : List Entry) (e : Entry) (v : ℕ) (s : List ℕ) (b : Side) → age_of (es ++ e ∷ []) v s b ≡ cond (is_same_side (side_of es v s b) (side_of (es ++ e ∷ []) v s b)) (since (λ n. side_of (take n es) v s b) (side_of (es ++ e ∷ []) v s b) (length es)) (suc (length es))
 age_step es e v s b =
     let new = side_of (es ++ e ∷ []) v s b in
-    let f : ℕ → Option Shown = λ n. side_of (take n (es ++ e ∷ [])) v s b in
+    let f : ℕ → Option SideQuote = λ n. side_of (take n (es ++ e ∷ [])) v s b in
     let long : length (es ++ e ∷ []) ≡ suc (length es) = omega (arith, length-append es (e ∷ [])) in
     ap (λ n. since f new n) long
     ∙ ap (λ t. cond (is_same_side t new) (since f new (length es)) (suc (length es))) (ap (λ t. side_of t v s b) (take-append_seam es (e ∷ [])))

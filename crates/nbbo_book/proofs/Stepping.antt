@@ -14,20 +14,20 @@ use Rattle.feed_types.specs.declared.item.Numbered.{Numbered}
 use Rattle.feed_types.specs.declared.line.Side.{Side}
 use Rattle.feed_types.specs.declared.line.Side.TheVariants.{Bid, Offer}
 use Rattle.feed_types.specs.declared.national.National.{National}
-use Rattle.nbbo_book.specs.declared.shown.Standing.{Standing}
+use Rattle.nbbo_book.specs.declared.venue_side.VenueSide.{VenueSide}
 use Rattle.nbbo_book.specs.Rows.{BookSide, side_at}
 use Rattle.nbbo_book.specs.declared.row.Row.{Row}
 use Rattle.nbbo_book.specs.declared.change.Change.{Change}
-use Rattle.nbbo_book.specs.Sides.{shown_by, side_of, age_of}
+use Rattle.nbbo_book.specs.Sides.{quoted_by, side_of, age_of}
 use Rattle.nbbo_book.specs.Eligible.{ranked_by, may_rank, is_self_helped, eligible_of}
 use Rattle.nbbo_book.specs.Nationals.{national_of, best_of}
 use Rattle.nbbo_book.specs.Changes.{is_same_best, is_same_national, change_of, changes_by}
-use Rattle.nbbo_book.specs.Books.{standing_at, SideFits, RowFits, venue_of}
+use Rattle.nbbo_book.specs.Books.{venue_side_at, SideFits, RowFits, venue_of}
 use Rattle.nbbo_book.specs.Ranks.{front_of, IsRankingOf}
-use Rattle.nbbo_book.specs.Rows.{age_at, may_at, rank_at, row_quoted, row_gated, row_halted, row_after, row_after_item, row_change, national_at, helped_after, symbol_in, symbol_in_item, IsRowRanked}
+use Rattle.nbbo_book.specs.Rows.{age_at, may_at, rank_at, row_quoted, row_rechecked, row_halted, row_after, row_after_item, row_change, national_at, helped_after, symbol_in, symbol_in_item, IsRowRanked}
 use Rattle.nbbo_book.specs.Tables.{IsSide, IsRow, symbols_of}
 use Rattle.nbbo_book.proofs.Ranking.{ranking_same}
-use Rattle.nbbo_book.proofs.Kept.{long_set, set_off, apart_from, ranked_own, ranked_nothing, side_is_ranked, side_waits, side_gated-is, side_shown-is}
+use Rattle.nbbo_book.proofs.Kept.{long_set, set_off, apart_from, ranked_own, ranked_nothing, side_is_ranked, side_waits, side_rechecked-is, side_quoted-is}
 use Rattle.nbbo_book.proofs.Said.{same_side_sound}
 use Rattle.nbbo_book.proofs.Firsts.{front_is_best}
 use Rattle.nbbo_book.proofs.Fitting.{row_fits, helped_fits}
@@ -42,10 +42,10 @@ row_waits helped n r h = record {
 }
 
 -- one venue's halt, or its self-help, is another one
-row_gated-is : (helped flags : List Bool) (n v : ℕ) (halted : List Bool) (r : Row) → v < 16 → length halted ≡ 16 → ((w : ℕ) → nat_eq w v ≡ false → may_at flags halted w ≡ may_at helped r.halted w) → IsRow helped n r → IsRow flags (n + 1) (row_gated flags v halted r)
-row_gated-is helped flags n v halted r below long others h = record {
-  bids = side_gated-is Bid (may_at helped r.halted) (may_at flags halted) n (n + 1) (side_at Bid r) v (may_at flags halted v) below (omega arith) others refl h.bids;
-  offers = side_gated-is Offer (may_at helped r.halted) (may_at flags halted) n (n + 1) (side_at Offer r) v (may_at flags halted v) below (omega arith) others refl h.offers;
+row_rechecked-is : (helped flags : List Bool) (n v : ℕ) (halted : List Bool) (r : Row) → v < 16 → length halted ≡ 16 → ((w : ℕ) → nat_eq w v ≡ false → may_at flags halted w ≡ may_at helped r.halted w) → IsRow helped n r → IsRow flags (n + 1) (row_rechecked flags v halted r)
+row_rechecked-is helped flags n v halted r below long others h = record {
+  bids = side_rechecked-is Bid (may_at helped r.halted) (may_at flags halted) n (n + 1) (side_at Bid r) v (may_at flags halted v) below (omega arith) others refl h.bids;
+  offers = side_rechecked-is Offer (may_at helped r.halted) (may_at flags halted) n (n + 1) (side_at Offer r) v (may_at flags halted v) below (omega arith) others refl h.offers;
   count = long;
 }
 
@@ -55,8 +55,8 @@ item_is helped n v (item.Quote q) r below h =
     let R : Bool → Type 0 = λ t. IsRow helped (n + 1) (cond t (row_quoted helped v q n r) r) in
     elim (bytes_eq q.symbol r.symbol) as R [
       | true ↦ record {
-        bids = side_shown-is Bid may may n (side_at Bid r) v (Some (shown_by q Bid)) (may v) below (λ w e. refl) refl refl (same_side_sound (standing_at r.standings.bids v).shown (Some (shown_by q Bid))) h.bids;
-        offers = side_shown-is Offer may may n (side_at Offer r) v (Some (shown_by q Offer)) (may v) below (λ w e. refl) refl refl (same_side_sound (standing_at r.standings.offers v).shown (Some (shown_by q Offer))) h.offers;
+        bids = side_quoted-is Bid may may n (side_at Bid r) v (Some (quoted_by q Bid)) (may v) below (λ w e. refl) refl refl (same_side_sound (venue_side_at r.venue_sides.bids v).quote (Some (quoted_by q Bid))) h.bids;
+        offers = side_quoted-is Offer may may n (side_at Offer r) v (Some (quoted_by q Offer)) (may v) below (λ w e. refl) refl refl (same_side_sound (venue_side_at r.venue_sides.offers v).quote (Some (quoted_by q Offer))) h.offers;
         count = h.count;
       }
       | false ↦ row_waits helped n r h
@@ -64,7 +64,7 @@ item_is helped n v (item.Quote q) r below h =
 item_is helped n v (item.Halt s x) r below h =
     let R : Bool → Type 0 = λ t. IsRow helped (n + 1) (cond t (row_halted helped v x r) r) in
     elim (bytes_eq s r.symbol) as R [
-      | true ↦ row_gated-is helped helped n v (set r.halted v x) r below (long_set r.halted v x ∙ h.count)
+      | true ↦ row_rechecked-is helped helped n v (set r.halted v x) r below (long_set r.halted v x ∙ h.count)
           (λ w e. ap (λ t. not (slice_index_or helped w false) && not t) (set_off r.halted v w x false (apart_from v w e))) h
       | false ↦ row_waits helped n r h
     ]
@@ -74,8 +74,8 @@ item_is helped n v item.End r below h =
     let more = may_at helped (set r.halted v false) in
     let others : (w : ℕ) → nat_eq w v ≡ false → more w ≡ may w = λ w e. ap (λ t. not (slice_index_or helped w false) && not t) (set_off r.halted v w false false (apart_from v w e)) in
     record {
-      bids = side_shown-is Bid may more n (side_at Bid r) v None false below others (ranked_nothing (more v) v) (ranked_nothing (may v) v ∙ sym (ranked_nothing (more v) v)) (same_side_sound (standing_at r.standings.bids v).shown None) h.bids;
-      offers = side_shown-is Offer may more n (side_at Offer r) v None false below others (ranked_nothing (more v) v) (ranked_nothing (may v) v ∙ sym (ranked_nothing (more v) v)) (same_side_sound (standing_at r.standings.offers v).shown None) h.offers;
+      bids = side_quoted-is Bid may more n (side_at Bid r) v None false below others (ranked_nothing (more v) v) (ranked_nothing (may v) v ∙ sym (ranked_nothing (more v) v)) (same_side_sound (venue_side_at r.venue_sides.bids v).quote None) h.bids;
+      offers = side_quoted-is Offer may more n (side_at Offer r) v None false below others (ranked_nothing (more v) v) (ranked_nothing (may v) v ∙ sym (ranked_nothing (more v) v)) (same_side_sound (venue_side_at r.venue_sides.offers v).quote None) h.offers;
       count = long_set r.halted v false ∙ h.count;
     }
 
@@ -83,7 +83,7 @@ item_is helped n v item.End r below h =
 pub row_is : (helped : List Bool) (n : ℕ) (e : Entry) (r : Row) → venue_of e < 16 → IsRow helped n r → IsRow (helped_after e helped) (n + 1) (row_after (helped_after e helped) n e r)
 row_is helped n (Consumed v x) r below h = item_is helped n v x.item r below h
 row_is helped n (SelfHelp v on) r below h =
-    row_gated-is helped (set helped v on) n v r.halted r below h.count
+    row_rechecked-is helped (set helped v on) n v r.halted r below h.count
     (λ w e. ap (λ t. not t && not (slice_index_or r.halted w false)) (set_off helped v w on false (apart_from v w e))) h
 
 row_is_ranked : (helped : List Bool) (n : ℕ) (r : Row) → IsRow helped n r → IsRowRanked n r
@@ -113,15 +113,15 @@ rows_keep_symbols helped n e [] = refl
 rows_keep_symbols helped n e (r ∷ rs) = ap (λ s. s ∷ symbols_of (map (row_after helped n e) rs)) (row_keeps_symbol helped n e r) ∙ ap (λ ss. r.symbol ∷ ss) (rows_keep_symbols helped n e rs)
 
 -- a side's ranks are those of the entries
-pub side_ranking : (es : List Entry) (s : List ℕ) (b : Side) (may : ℕ → Bool) (n : ℕ) (k : BookSide) → ((w : ℕ) → w < 16 → may w ≡ may_rank es w s) → SideFits es s b k.standings → IsSide b may n k → IsRankingOf b (eligible_of es s b) (λ w. age_of es w s b) k.ranks
+pub side_ranking : (es : List Entry) (s : List ℕ) (b : Side) (may : ℕ → Bool) (n : ℕ) (k : BookSide) → ((w : ℕ) → w < 16 → may w ≡ may_rank es w s) → SideFits es s b k.venue_sides → IsSide b may n k → IsRankingOf b (eligible_of es s b) (λ w. age_of es w s b) k.ranks
 side_ranking es s b may n k leave fits h =
-    ranking_same b (rank_at may k.standings) (eligible_of es s b) (age_at k.standings) (λ w. age_of es w s b) k.ranks
-    (λ w l. ap (λ t. ranked_by t w (standing_at k.standings w).shown) (leave w l) ∙ ap (λ (t : Standing). ranked_by (may_rank es w s) w t.shown) (fits w l))
-    (λ w l. ap (λ (t : Standing). t.age) (fits w l))
+    ranking_same b (rank_at may k.venue_sides) (eligible_of es s b) (age_at k.venue_sides) (λ w. age_of es w s b) k.ranks
+    (λ w l. ap (λ t. ranked_by t w (venue_side_at k.venue_sides w).quote) (leave w l) ∙ ap (λ (t : VenueSide). ranked_by (may_rank es w s) w t.quote) (fits w l))
+    (λ w l. ap (λ (t : VenueSide). t.age) (fits w l))
     h.ranked
 
 -- and the first of them is the best of the entries
-best_is : (es : List Entry) (s : List ℕ) (b : Side) (may : ℕ → Bool) (n : ℕ) (k : BookSide) → ((w : ℕ) → w < 16 → may w ≡ may_rank es w s) → SideFits es s b k.standings → IsSide b may n k → front_of k.ranks ≡ best_of es s b
+best_is : (es : List Entry) (s : List ℕ) (b : Side) (may : ℕ → Bool) (n : ℕ) (k : BookSide) → ((w : ℕ) → w < 16 → may w ≡ may_rank es w s) → SideFits es s b k.venue_sides → IsSide b may n k → front_of k.ranks ≡ best_of es s b
 best_is es s b may n k leave fits h =
     front_is_best b (λ w. age_of es w s b) (eligible_of es s b) k.ranks
     (λ w x e. ranked_own (may_rank es w s) w (side_of es w s b) x e) (side_ranking es s b may n k leave fits h)

@@ -7,13 +7,13 @@ use Rattle.feed_types.specs.declared.journal.Entry.{Entry}
 use Rattle.feed_types.specs.declared.journal.Entry.TheVariants.{Consumed, SelfHelp}
 use Rattle.feed_types.specs.declared.line.Side.{Side}
 use Rattle.feed_types.specs.declared.line.Side.TheVariants.{Bid, Offer}
-use Rattle.nbbo_book.specs.declared.shown.Standing.{Standing}
+use Rattle.nbbo_book.specs.declared.venue_side.VenueSide.{VenueSide}
 use Rattle.nbbo_book.specs.declared.row.Row.{Row}
 use Rattle.nbbo_book.specs.Eligible.{ranked_by, is_self_helped}
 use Rattle.nbbo_book.specs.Nationals.{national_of, IsRanking}
 use Rattle.nbbo_book.specs.Changes.{changes_by}
-use Rattle.nbbo_book.specs.Books.{BookState, standing_at, RowFits, Fits, venue_of}
-use Rattle.nbbo_book.specs.Rows.{may_at, ranks_at, side_at, row_after, row_change, national_at, helped_after, empty_standings, empty_row}
+use Rattle.nbbo_book.specs.Books.{BookState, venue_side_at, RowFits, Fits, venue_of}
+use Rattle.nbbo_book.specs.Rows.{may_at, ranks_at, side_at, row_after, row_change, national_at, helped_after, empty_venue_sides, empty_row}
 use Rattle.nbbo_book.specs.Tables.{IsSide, IsRow, IsBook, IsTable, symbols_of}
 use Rattle.nbbo_book.proofs.Eligibility.{ranking_is}
 use Rattle.nbbo_book.proofs.Kept.{ranked_nothing, long_set}
@@ -84,19 +84,19 @@ all_alike zero v x = refl
 all_alike (suc n) zero x = refl
 all_alike (suc n) (suc v) x = all_alike n v x
 
-abbrev unknown : Standing
-unknown = record { shown = None; age = 0 }
+abbrev unknown : VenueSide
+unknown = record { quote = None; age = 0 }
 
-nothing_stands : (v : ℕ) → standing_at empty_standings v ≡ unknown
+nothing_stands : (v : ℕ) → venue_side_at empty_venue_sides v ≡ unknown
 nothing_stands v = all_alike 16 v unknown
 
-empty_side_is : (b : Side) (may : ℕ → Bool) → IsSide b may 1 (record { standings = empty_standings; ranks = [] })
+empty_side_is : (b : Side) (may : ℕ → Bool) → IsSide b may 1 (record { venue_sides = empty_venue_sides; ranks = [] })
 empty_side_is b may = record {
   count = refl;
-  past = λ v l. subst (λ (t : ℕ). t < 1) (sym (ap (λ (t : Standing). t.age) (nothing_stands v))) (omega arith);
-  apart = λ v w l m n there too same. (let no : false ≡ true = sym (ap (λ (t : Standing). is_some t.shown) (nothing_stands v)) ∙ there in cc);
+  past = λ v l. subst (λ (t : ℕ). t < 1) (sym (ap (λ (t : VenueSide). t.age) (nothing_stands v))) (omega arith);
+  apart = λ v w l m n there too same. (let no : false ≡ true = sym (ap (λ (t : VenueSide). is_some t.quote) (nothing_stands v)) ∙ there in cc);
   ranked = record {
-    members = λ x. (λ i. absurd i, λ k. (let no : None ≡ Some x = sym (ap (λ (t : Standing). ranked_by (may x.venue) x.venue t.shown) (nothing_stands x.venue) ∙ ranked_nothing (may x.venue) x.venue) ∙ k.1 in cc));
+    members = λ x. (λ i. absurd i, λ k. (let no : None ≡ Some x = sym (ap (λ (t : VenueSide). ranked_by (may x.venue) x.venue t.quote) (nothing_stands x.venue) ∙ ranked_nothing (may x.venue) x.venue) ∙ k.1 in cc));
     order = tt;
   };
 }

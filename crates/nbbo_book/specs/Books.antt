@@ -6,7 +6,7 @@ use Rattle.feed_types.specs.declared.journal.Entry.{Entry}
 use Rattle.feed_types.specs.declared.journal.Entry.TheVariants.{Consumed, SelfHelp}
 use Rattle.feed_types.specs.declared.line.Side.{Side}
 use Rattle.feed_types.specs.declared.line.Side.TheVariants.{Bid, Offer}
-use Rattle.nbbo_book.specs.declared.shown.Standing.{Standing}
+use Rattle.nbbo_book.specs.declared.venue_side.VenueSide.{VenueSide}
 use Rattle.nbbo_book.specs.declared.row.Row.{Row}
 use Rattle.nbbo_book.specs.Sides.{side_of, age_of}
 use Rattle.nbbo_book.specs.Eligible.{is_self_helped, is_halted}
@@ -21,23 +21,23 @@ pub record BookState : Type 0 where
   pub rows : List Row
 
 -- what stands at a venue's place
-abbrev pub standing_at : List Standing → ℕ → Standing
-standing_at standings venue = slice_index_or standings venue (record { shown = None; age = 0 })
+abbrev pub venue_side_at : List VenueSide → ℕ → VenueSide
+venue_side_at venue_sides venue = slice_index_or venue_sides venue (record { quote = None; age = 0 })
 
 -- each venue's side, with its age, is that of the entries
-abbrev pub SideFits : List Entry → List ℕ → Side → List Standing → Type 0
-SideFits entries symbol side standings =
+abbrev pub SideFits : List Entry → List ℕ → Side → List VenueSide → Type 0
+SideFits entries symbol side venue_sides =
     (venue : ℕ) → venue < 16
-    → standing_at standings venue
+    → venue_side_at venue_sides venue
     ≡ record {
-      shown = side_of entries venue symbol side;
+      quote = side_of entries venue symbol side;
       age = age_of entries venue symbol side;
     }
 
 -- a symbol's sides and halts are those of the entries
 pub record RowFits (entries : List Entry) (row : Row) : Type 0 where
-  pub bids : SideFits entries row.symbol Bid row.standings.bids
-  pub offers : SideFits entries row.symbol Offer row.standings.offers
+  pub bids : SideFits entries row.symbol Bid row.venue_sides.bids
+  pub offers : SideFits entries row.symbol Offer row.venue_sides.offers
   pub halted : (venue : ℕ) → venue < 16
       → slice_index_or row.halted venue false ≡ is_halted entries venue row.symbol
 

@@ -8,7 +8,7 @@ use Rattle.feed_types.specs.declared.item.Item.{Item}
 use Rattle.feed_types.specs.declared.item.Item.TheVariants as item
 use Rattle.feed_types.specs.declared.line.Side.{Side}
 use Rattle.feed_types.specs.declared.national.Best.{Best}
-use Rattle.nbbo_book.specs.declared.shown.Shown.{Shown}
+use Rattle.nbbo_book.specs.declared.side_quote.SideQuote.{SideQuote}
 use Rattle.nbbo_book.specs.Sides.{last_said, side_of}
 
 -- what an entry says of self-help on a venue
@@ -56,16 +56,16 @@ pub record IsEligible
   pub no_halt : ¬ IsHalted entries x.venue symbol
 
 -- its flag is set, and its price and size aren't 0
-abbrev pub is_protected : Shown → Bool
-is_protected shown = shown.automated && (nat_lt 0 shown.price && nat_lt 0 shown.size)
+abbrev pub is_protected : SideQuote → Bool
+is_protected quote = quote.automated && (nat_lt 0 quote.price && nat_lt 0 quote.size)
 
 -- what a venue may be ranked with, where it may be ranked at all
-abbrev pub ranked_by : Bool → ℕ → Option Shown → Option Best
-ranked_by false venue shown = None
+abbrev pub ranked_by : Bool → ℕ → Option SideQuote → Option Best
+ranked_by false venue quote = None
 ranked_by true venue None = None
-ranked_by true venue (Some shown) =
-    if is_protected shown
-    then Some (record { venue = venue; price = shown.price; size = shown.size }) else None
+ranked_by true venue (Some quote) =
+    if is_protected quote
+    then Some (record { venue = venue; price = quote.price; size = quote.size }) else None
 
 -- neither self-help nor a halt stands in the way
 abbrev pub may_rank : List Entry → ℕ → List ℕ → Bool

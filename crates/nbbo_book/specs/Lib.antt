@@ -1,4 +1,4 @@
-pub mod Standings
+pub mod VenueSides
 pub mod Sides
 pub mod Eligible
 pub mod Nationals

@@ -9,7 +9,7 @@ use Rattle.feed_types.specs.declared.item.Item.TheVariants as item
 use Rattle.feed_types.specs.declared.item.Quote.{Quote}
 use Rattle.feed_types.specs.declared.line.Side.{Side}
 use Rattle.feed_types.specs.declared.line.Side.TheVariants.{Bid, Offer}
-use Rattle.nbbo_book.specs.declared.shown.Shown.{Shown}
+use Rattle.nbbo_book.specs.declared.side_quote.SideQuote.{SideQuote}
 
 -- the second, or where it is none the first
 abbrev pub later : {T : Type 0} → Option T → Option T → Option T
@@ -22,30 +22,30 @@ last_said says [] = None
 last_said says (entry ∷ entries) = later (says entry) (last_said says entries)
 
 -- one side of a quotation
-abbrev pub shown_by : Quote → Side → Shown
-shown_by quote Bid =
+abbrev pub quoted_by : Quote → Side → SideQuote
+quoted_by quote Bid =
     record { price = quote.bid_price; size = quote.bid_size; automated = quote.bid_auto }
-shown_by quote Offer =
+quoted_by quote Offer =
     record { price = quote.offer_price; size = quote.offer_size; automated = quote.offer_auto }
 
 -- What a venue's item says of its side in a symbol: a quotation in that symbol what the side is, an
 -- end of session that there is none, and every other item nothing.
-abbrev pub side_said_by : List ℕ → Side → Item → Option (Option Shown)
+abbrev pub side_said_by : List ℕ → Side → Item → Option (Option SideQuote)
 side_said_by symbol side (item.Quote quote) =
-    if bytes_eq quote.symbol symbol then Some (Some (shown_by quote side)) else None
+    if bytes_eq quote.symbol symbol then Some (Some (quoted_by quote side)) else None
 side_said_by symbol side (item.Halt halting halted) = None
 side_said_by symbol side item.Other = None
 side_said_by symbol side item.End = Some None
 
 -- what an entry says of a venue's side in a symbol
-abbrev pub side_said : ℕ → List ℕ → Side → Entry → Option (Option Shown)
+abbrev pub side_said : ℕ → List ℕ → Side → Entry → Option (Option SideQuote)
 side_said venue symbol side (Consumed of numbered) =
     if of == venue then side_said_by symbol side numbered.item else None
 side_said venue symbol side (SelfHelp of on) = None
 
 -- The venue's side in the symbol: what the last of its quotations in that symbol says, or none
 -- where there is no such quotation or an end of its session came after it.
-abbrev pub side_of : List Entry → ℕ → List ℕ → Side → Option Shown
+abbrev pub side_of : List Entry → ℕ → List ℕ → Side → Option SideQuote
 side_of entries venue symbol side =
     unwrap_or (last_said (side_said venue symbol side) entries) None
 
@@ -55,7 +55,7 @@ is_same_flag false true = false
 is_same_flag false false = true
 
 -- the same price, size and flag, or twice none
-abbrev pub is_same_side : Option Shown → Option Shown → Bool
+abbrev pub is_same_side : Option SideQuote → Option SideQuote → Bool
 is_same_side None None = true
 is_same_side None (Some y) = false
 is_same_side (Some x) None = false
@@ -63,7 +63,7 @@ is_same_side (Some x) (Some y) =
     (x.price == y.price) && ((x.size == y.size) && is_same_flag x.automated y.automated)
 
 -- Walks back from n: the first number from which on, up to n, a sequence is x.
-abbrev pub since : (ℕ → Option Shown) → Option Shown → ℕ → ℕ
+abbrev pub since : (ℕ → Option SideQuote) → Option SideQuote → ℕ → ℕ
 since side_at x zero = zero
 since side_at x (suc n) = if is_same_side (side_at n) x then since side_at x n else suc n
 

@@ -6,7 +6,7 @@ use Rattle.feed_types.specs.Symbols.{word_of}
 use Rattle.feed_types.specs.declared.line.Side.{Side}
 use Rattle.feed_types.specs.declared.line.Side.TheVariants.{Bid, Offer}
 use Rattle.nbbo_book.specs.declared.row.Row.{Row}
-use Rattle.nbbo_book.specs.Books.{BookState, standing_at}
+use Rattle.nbbo_book.specs.Books.{BookState, venue_side_at}
 use Rattle.nbbo_book.specs.Ranks.{IsRankingOf}
 use Rattle.nbbo_book.specs.Rows.{BookSide, age_at, may_at, rank_at, side_at, IsPast}
 
@@ -26,12 +26,12 @@ pub record IsTable (symbols : List (List ℕ)) (keys : List ℕ) : Type 0 where
 -- No two venues' sides have the same age, the ages are those of entries before the next one, and the
 -- ranks are those of the venues that may be ranked.
 pub record IsSide (side : Side) (may : ℕ → Bool) (next : ℕ) (kept : BookSide) : Type 0 where
-  pub count : length kept.standings ≡ 16
-  pub past : IsPast next kept.standings
+  pub count : length kept.venue_sides ≡ 16
+  pub past : IsPast next kept.venue_sides
   pub apart : (v w : ℕ) → v < 16 → w < 16 → v ≢ w
-      → IsSome (standing_at kept.standings v).shown → IsSome (standing_at kept.standings w).shown
-      → age_at kept.standings v ≢ age_at kept.standings w
-  pub ranked : IsRankingOf side (rank_at may kept.standings) (age_at kept.standings) kept.ranks
+      → IsSome (venue_side_at kept.venue_sides v).quote → IsSome (venue_side_at kept.venue_sides w).quote
+      → age_at kept.venue_sides v ≢ age_at kept.venue_sides w
+  pub ranked : IsRankingOf side (rank_at may kept.venue_sides) (age_at kept.venue_sides) kept.ranks
 
 pub record IsRow (helped : List Bool) (next : ℕ) (row : Row) : Type 0 where
   pub bids : IsSide Bid (may_at helped row.halted) next (side_at Bid row)

@@ -14,9 +14,9 @@ ghost use Rattle.nbbo_book.specs.Rows.{empty_row};
 use crate::change::Change;
 use crate::fault::BookFault;
 use crate::row::Row;
-use crate::standings::Standings;
 use crate::steps::{Step, apply_step};
 use crate::table::{Table, find, symbol_table};
+use crate::venue_sides::VenueSides;
 use crate::venues::Venues;
 use arrayvec::ArrayVec;
 use feed_types::{Best, Entry, National, Side, SymbolName, VenueId};
@@ -26,7 +26,7 @@ use std::marker::Model;
 /// How many venues there are at most.
 const MAX_VENUES: usize = 16;
 
-/// The rows of so many symbols lie near the processor anyway.
+/// The rows of this many symbols lie near the processor anyway.
 const FEW_SYMBOLS: usize = 512;
 
 /// The protected sides of the configured symbols, and the best of them.
@@ -37,8 +37,8 @@ pub struct Book {
     venues: Venues,
     last: u64,
     applied: u64,
-    /// The sum of what was read ahead, kept so that it is read: it has no meaning.
-    glances: u64,
+    /// What was prefetched, mixed: it is kept so that it is read at all.
+    prefetched: u64,
 }
 
 impl Model for Book {
@@ -63,7 +63,7 @@ fn empty_rows(alloc: Global, symbols: &[SymbolName]) -> Result<Vec<Row>, AllocEr
             symbol: *symbol,
             bids: ArrayVec::new(),
             offers: ArrayVec::new(),
-            standings: Standings::new(),
+            venue_sides: VenueSides::new(),
         })?;
     }
     Ok(rows)
@@ -107,7 +107,7 @@ impl Book {
             },
             last: 0,
             applied: 0,
-            glances: 0,
+            prefetched: 0,
         })
     }
 
@@ -141,24 +141,21 @@ impl Book {
         self.last = position;
     }
 
-    /// Whether there are so many symbols, more than 512, that looking ahead pays.
+    /// Reads what the venue's quotation of a symbol will read, where a message to come has this field, so
+    /// that it lies near the processor then. It changes no answer. Returns whether that pays: a book of few
+    /// symbols lies near the processor anyway, and reads nothing.
     #[inline(always)]
-    pub fn is_large(&self) -> bool
-        ensures { IsTrue result ↔ (512 < length self.now.symbols) }
-    {
-        self.rows.len() > FEW_SYMBOLS
-    }
-
-    /// Reads what the venue's quotation of a symbol will read of it, where a message to come has this
-    /// field. It changes no answer.
-    #[inline(always)]
-    pub fn read_ahead(&mut self, venue: VenueId, field: [u8; 8])
+    pub fn prefetch(&mut self, venue: VenueId, field: [u8; 8]) -> bool
         ensures { self.new ≡ self.old }
     {
-        let guess = self.table.guesses.place_of(u64::from_be_bytes(field));
-        if guess < self.rows.len() {
-            self.glances = self.glances.wrapping_add(self.rows[guess].glance(venue));
+        if self.rows.len() <= FEW_SYMBOLS {
+            return false;
         }
+        let place = self.table.cache.place_of(u64::from_be_bytes(field));
+        if place < self.rows.len() {
+            self.prefetched = self.prefetched ^ self.rows[place].peek(venue);
+        }
+        true
     }
 
     /// The national best of the symbol, `None` exactly where it isn't configured.

@@ -3,17 +3,18 @@
 ghost use Rattle.std.specs.Prelude.{◌≡◌, not, false, None};
 ghost use Rattle.nbbo_book.specs.Changes.{is_same_best};
 ghost use Rattle.nbbo_book.specs.Ranks.{front_of};
-ghost use Rattle.nbbo_book.specs.Rows.{IsPast, IsRanked, book_side, side_shown, side_gated};
-ghost use Rattle.nbbo_book.specs.Standings.{standings_on, with_standings};
+ghost use Rattle.nbbo_book.specs.Rows.{IsPast, IsRanked, book_side, side_quoted, side_rechecked};
+ghost use Rattle.nbbo_book.specs.VenueSides.{venue_sides_on, with_venue_sides};
 
 use crate::ranks::{Ranks, move_newest, put_back, take_out};
-use crate::shown::{Standing, is_same, rank_of};
-use crate::standings::Standings;
+use crate::side_quote::{is_same, rank_of};
+use crate::venue_side::VenueSide;
+use crate::venue_sides::VenueSides;
 use feed_types::{Side, VenueId};
 
-/// One side of a venue, and whether the venue may be ranked.
+/// Who quotes which side, and whether that venue may be ranked.
 #[derive(Clone, Copy)]
-pub struct SideOfVenue {
+pub struct Quoter {
     pub side: Side,
     pub venue: VenueId,
     pub may_rank: bool,
@@ -23,30 +24,32 @@ pub struct SideOfVenue {
 /// before. Returns whether the best side is another one then.
 #[inline(always)]
 pub fn set_quote(
-    of: SideOfVenue,
-    standing: Standing,
-    standings: &mut Standings,
+    quoter: Quoter,
+    venue_side: VenueSide,
+    venue_sides: &mut VenueSides,
     ranks: &mut Ranks,
 ) -> bool
-    requires ranked { IsRanked of.side (book_side of.side standings.old ranks.old.items) }
-    requires past { IsPast standing.age (standings_on of.side standings.old) }
-    ensures standings { standings.new ≡ with_standings of.side (side_shown of.side of.venue
-        standing.shown standing.age of.may_rank
-        (book_side of.side standings.old ranks.old.items)).standings
-        standings.old }
-    ensures ranks { ranks.new.items ≡ (side_shown of.side of.venue
-        standing.shown standing.age of.may_rank
-        (book_side of.side standings.old ranks.old.items)).ranks }
+    requires ranked { IsRanked quoter.side (book_side quoter.side venue_sides.old ranks.old.items) }
+    requires past { IsPast venue_side.age (venue_sides_on quoter.side venue_sides.old) }
+    ensures venue_sides { venue_sides.new ≡ with_venue_sides quoter.side
+        (side_quoted quoter.side quoter.venue venue_side.quote venue_side.age quoter.may_rank
+        (book_side quoter.side venue_sides.old ranks.old.items)).venue_sides venue_sides.old }
+    ensures ranks { ranks.new.items
+        ≡ (side_quoted quoter.side quoter.venue venue_side.quote venue_side.age quoter.may_rank
+        (book_side quoter.side venue_sides.old ranks.old.items)).ranks }
     ensures moved { result
         ≡ not (is_same_best (front_of ranks.old.items) (front_of ranks.new.items)) }
 {
-    if is_same(standings.at(of.side, of.venue).shown(), standing.shown()) {
+    if is_same(
+        venue_sides.at(quoter.side, quoter.venue).quote(),
+        venue_side.quote(),
+    ) {
         return false;
     }
-    standings.set(of.side, of.venue, standing);
-    match rank_of(of.may_rank, of.venue, standing.shown()) {
-        Some(best) => move_newest(of.side, ranks, best),
-        None => take_out(ranks, of.venue),
+    venue_sides.set(quoter.side, quoter.venue, venue_side);
+    match rank_of(quoter.may_rank, quoter.venue, venue_side.quote()) {
+        Some(best) => move_newest(quoter.side, ranks, best),
+        None => take_out(ranks, quoter.venue),
     }
 }
 
@@ -57,24 +60,21 @@ pub fn clear_quote(
     side: Side,
     venue: VenueId,
     age: u64,
-    standings: &mut Standings,
+    venue_sides: &mut VenueSides,
     ranks: &mut Ranks,
 ) -> bool
-    requires { IsRanked side (book_side side standings.old ranks.old.items) }
-    ensures standings { standings.new ≡ with_standings side (side_shown side venue
-        None age false
-        (book_side side standings.old ranks.old.items)).standings
-        standings.old }
-    ensures ranks { ranks.new.items ≡ (side_shown side venue
-        None age false
-        (book_side side standings.old ranks.old.items)).ranks }
+    requires { IsRanked side (book_side side venue_sides.old ranks.old.items) }
+    ensures venue_sides { venue_sides.new ≡ with_venue_sides side (side_quoted side venue None age false
+        (book_side side venue_sides.old ranks.old.items)).venue_sides venue_sides.old }
+    ensures ranks { ranks.new.items ≡ (side_quoted side venue None age false
+        (book_side side venue_sides.old ranks.old.items)).ranks }
     ensures moved { result
         ≡ not (is_same_best (front_of ranks.old.items) (front_of ranks.new.items)) }
 {
-    match standings.at(side, venue).shown() {
+    match venue_sides.at(side, venue).quote() {
         None => false,
         Some(_) => {
-            standings.set(side, venue, Standing::new(None, age));
+            venue_sides.set(side, venue, VenueSide::new(None, age));
             take_out(ranks, venue)
         }
     }
@@ -82,18 +82,18 @@ pub fn clear_quote(
 
 /// The venue may be ranked, or may not, from now on. Returns whether the best side is another one then.
 #[inline(always)]
-pub fn recheck_eligibility(of: SideOfVenue, standings: &Standings, ranks: &mut Ranks) -> bool
-    requires { IsRanked of.side (book_side of.side standings.now ranks.old.items) }
-    ensures ranks { ranks.new.items ≡ (side_gated of.side of.venue of.may_rank
-        (book_side of.side standings.now ranks.old.items)).ranks }
+pub fn recheck_eligibility(quoter: Quoter, venue_sides: &VenueSides, ranks: &mut Ranks) -> bool
+    requires { IsRanked quoter.side (book_side quoter.side venue_sides.now ranks.old.items) }
+    ensures ranks { ranks.new.items ≡ (side_rechecked quoter.side quoter.venue quoter.may_rank
+        (book_side quoter.side venue_sides.now ranks.old.items)).ranks }
     ensures moved { result
         ≡ not (is_same_best (front_of ranks.old.items) (front_of ranks.new.items)) }
 {
-    match standings.at(of.side, of.venue).shown() {
+    match venue_sides.at(quoter.side, quoter.venue).quote() {
         None => false,
-        shown => match rank_of(of.may_rank, of.venue, shown) {
-            Some(best) => put_back(of.side, standings, ranks, best),
-            None => take_out(ranks, of.venue),
+        quote => match rank_of(quoter.may_rank, quoter.venue, quote) {
+            Some(best) => put_back(quoter.side, venue_sides, ranks, best),
+            None => take_out(ranks, quoter.venue),
         },
     }
 }

@@ -1,12 +1,14 @@
 //! What the definitions mean, beside the regulation.
 
-ghost use Rattle.std.specs.Prelude.{◌≡◌, ◌≢◌, ◌↔◌, ◌⊎◌, ℕ, ◌≤◌, List, length, take, Some, None};
+ghost use Rattle.std.specs.Prelude.{◌≡◌, ◌≢◌, ◌↔◌, ◌⊎◌, ℕ, ◌≤◌, List, length, take, Some, None, IsTrue};
 ghost use Rattle.feed_types.specs.declared.journal.Entry.{Entry};
 ghost use Rattle.feed_types.specs.declared.line.Side.{Side};
 ghost use Rattle.feed_types.specs.declared.national.Best.{Best};
+ghost use Rattle.feed_types.specs.declared.national.National.{National};
 ghost use Rattle.nbbo_book.specs.Sides.{side_of, age_of};
 ghost use Rattle.nbbo_book.specs.Eligible.{IsEligible};
 ghost use Rattle.nbbo_book.specs.Nationals.{Beats, IsBest, best_of};
+ghost use Rattle.nbbo_book.specs.Changes.{is_same_national};
 
 /// The best law: the best of a side is the eligible one that beats every other one. There is at
 /// most one, and none only where none is eligible.
@@ -40,4 +42,9 @@ pub fn age_is_the_first()
         ((n : ℕ) → p ≤ n → n ≤ length entries →
         side_of (take n entries) venue symbol side ≡ side_of entries venue symbol side) →
         age_of entries venue symbol side ≤ p }
+{}
+
+/// Two national bests are the same exactly where they are equal.
+pub fn same_is_equal()
+    ensures { (x y : National) → IsTrue (is_same_national x y) ↔ (x ≡ y) }
 {}

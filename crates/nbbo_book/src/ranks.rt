@@ -5,9 +5,9 @@ ghost use Rattle.nbbo_book.specs.Nationals.{is_better_price, beats};
 ghost use Rattle.nbbo_book.specs.Changes.{is_same_best};
 ghost use Rattle.nbbo_book.specs.Ranks.{is_better as is_better_side, InRank, IsIn, HasNone, IsNewest, IsPlace, without, with_rank, front_of};
 ghost use Rattle.nbbo_book.specs.Rows.{age_at};
-ghost use Rattle.nbbo_book.specs.Standings.{standings_on};
+ghost use Rattle.nbbo_book.specs.VenueSides.{venue_sides_on};
 
-use crate::standings::Standings;
+use crate::venue_sides::VenueSides;
 use arrayvec::ArrayVec;
 use feed_types::{Best, Side, VenueId};
 
@@ -28,10 +28,10 @@ fn is_better(side: Side, x: &Best, y: &Best) -> bool
 }
 
 /// Whether `x` ranks before `y`.
-fn is_ahead(side: Side, standings: &Standings, x: &Best, y: &Best) -> bool
-    ensures { result ≡ beats side (age_at (standings_on side standings.now)) x.now y.now }
+fn is_ahead(side: Side, venue_sides: &VenueSides, x: &Best, y: &Best) -> bool
+    ensures { result ≡ beats side (age_at (venue_sides_on side venue_sides.now)) x.now y.now }
 {
-    let is_older = standings.at(side, x.venue).age() < standings.at(side, y.venue).age();
+    let is_older = venue_sides.at(side, x.venue).age() < venue_sides.at(side, y.venue).age();
     let is_equal = (x.price == y.price) & (x.size == y.size);
     is_better(side, x, y) | is_equal & is_older
 }
@@ -170,13 +170,13 @@ pub fn take_out(ranks: &mut Ranks, venue: VenueId) -> bool
 }
 
 /// The place of `x` by its age: that of the first that it ranks before, or the end.
-fn place_by_age(side: Side, standings: &Standings, ranks: &[Best], x: &Best) -> usize
+fn place_by_age(side: Side, venue_sides: &VenueSides, ranks: &[Best], x: &Best) -> usize
     ensures within { result ≤ length ranks.now }
     ensures rank { insert ranks.now result x.now
-        ≡ with_rank side (age_at (standings_on side standings.now)) x.now ranks.now }
+        ≡ with_rank side (age_at (venue_sides_on side venue_sides.now)) x.now ranks.now }
 {
     for place in 0..ranks.len() {
-        if is_ahead(side, standings, x, &ranks[place]) {
+        if is_ahead(side, venue_sides, x, &ranks[place]) {
             return place;
         }
     }
@@ -186,20 +186,20 @@ fn place_by_age(side: Side, standings: &Standings, ranks: &[Best], x: &Best) -> 
 /// Ranks a side by its age, where it isn't ranked yet. Returns whether the best side is another one
 /// then.
 #[inline(never)]
-pub fn put_back(side: Side, standings: &Standings, ranks: &mut Ranks, x: Best) -> bool
-    requires order { InRank side (age_at (standings_on side standings.now)) ranks.old.items }
+pub fn put_back(side: Side, venue_sides: &VenueSides, ranks: &mut Ranks, x: Best) -> bool
+    requires order { InRank side (age_at (venue_sides_on side venue_sides.now)) ranks.old.items }
     requires room { length (without x.venue ranks.old.items) < 16 }
     requires once { HasNone x.venue (without x.venue ranks.old.items) }
     requires same { (y : Best) → IsIn ranks.old.items y → y.venue ≡ x.venue → y ≡ x }
     ensures ranks { ranks.new.items ≡ with_rank side
-        (age_at (standings_on side standings.now)) x (without x.venue ranks.old.items) }
+        (age_at (venue_sides_on side venue_sides.now)) x (without x.venue ranks.old.items) }
     ensures moved { result
         ≡ not (is_same_best (front_of ranks.old.items) (front_of ranks.new.items)) }
 {
     if let Some(_) = place_of(ranks.as_slice(), x.venue) {
         return false;
     }
-    let place = place_by_age(side, standings, ranks.as_slice(), &x);
+    let place = place_by_age(side, venue_sides, ranks.as_slice(), &x);
     ranks.insert(place, x);
     place == 0
 }

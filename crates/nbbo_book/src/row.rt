@@ -6,10 +6,11 @@ ghost use Rattle.feed_types.specs.declared.line.Side.TheVariants.{Bid, Offer};
 ghost use Rattle.nbbo_book.specs.Changes.{is_same_national};
 ghost use Rattle.nbbo_book.specs.Rows.{IsRanked, IsRowRanked, row_quoted, row_ended, row_halted, row_helped, row_after_item, row_after, national_at, ranks_at, side_at};
 
-use crate::book_side::{SideOfVenue, clear_quote, recheck_eligibility, set_quote};
+use crate::book_side::{Quoter, clear_quote, recheck_eligibility, set_quote};
 use crate::ranks::{Ranks, front};
-use crate::shown::{Standing, bid_of, offer_of};
-use crate::standings::Standings;
+use crate::side_quote::{bid_of, offer_of};
+use crate::venue_side::VenueSide;
+use crate::venue_sides::VenueSides;
 use crate::venues::Venues;
 use feed_types::{Best, Entry, Item, National, Quote, Side, SymbolName, VenueId};
 
@@ -24,7 +25,7 @@ pub struct Row {
     pub bids: Ranks,
     /// The offers that are eligible, best first.
     pub offers: Ranks,
-    pub standings: Standings,
+    pub venue_sides: VenueSides,
 }
 
 impl Row {
@@ -44,21 +45,21 @@ impl Row {
             ≡ not (is_same_national (national_at self.old) (national_at self.new)) }
     {
         let may_rank = venues.may_rank(&self.halted, venue);
-        let bids = SideOfVenue {
+        let bids = Quoter {
             side: Side::Bid,
             venue,
             may_rank,
         };
-        let offers = SideOfVenue {
+        let offers = Quoter {
             side: Side::Offer,
             venue,
             may_rank,
         };
-        let bid = Standing::new(Some(bid_of(quote)), age);
-        let offer = Standing::new(Some(offer_of(quote)), age);
-        let standings = &mut self.standings;
-        let bid = set_quote(bids, bid, standings, &mut self.bids);
-        let offer = set_quote(offers, offer, standings, &mut self.offers);
+        let bid = VenueSide::new(Some(bid_of(quote)), age);
+        let offer = VenueSide::new(Some(offer_of(quote)), age);
+        let venue_sides = &mut self.venue_sides;
+        let bid = set_quote(bids, bid, venue_sides, &mut self.bids);
+        let offer = set_quote(offers, offer, venue_sides, &mut self.offers);
         bid || offer
     }
 
@@ -70,9 +71,9 @@ impl Row {
             ≡ not (is_same_national (national_at self.old) (national_at self.new)) }
     {
         self.halted[venue.index()] = false;
-        let standings = &mut self.standings;
-        let bid = clear_quote(Side::Bid, venue, age, standings, &mut self.bids);
-        let offer = clear_quote(Side::Offer, venue, age, standings, &mut self.offers);
+        let venue_sides = &mut self.venue_sides;
+        let bid = clear_quote(Side::Bid, venue, age, venue_sides, &mut self.bids);
+        let offer = clear_quote(Side::Offer, venue, age, venue_sides, &mut self.offers);
         bid || offer
     }
 
@@ -85,19 +86,19 @@ impl Row {
             ≡ not (is_same_national (national_at self.old) (national_at self.new)) }
     {
         let may_rank = venues.may_rank(&self.halted, venue);
-        let bids = SideOfVenue {
+        let bids = Quoter {
             side: Side::Bid,
             venue,
             may_rank,
         };
-        let offers = SideOfVenue {
+        let offers = Quoter {
             side: Side::Offer,
             venue,
             may_rank,
         };
-        let standings = &self.standings;
-        let bid = recheck_eligibility(bids, standings, &mut self.bids);
-        let offer = recheck_eligibility(offers, standings, &mut self.offers);
+        let venue_sides = &self.venue_sides;
+        let bid = recheck_eligibility(bids, venue_sides, &mut self.bids);
+        let offer = recheck_eligibility(offers, venue_sides, &mut self.offers);
         bid || offer
     }
 
@@ -148,13 +149,14 @@ impl Row {
         }
     }
 
-    /// Reads something of each part that a quotation of the venue reads. The sum has no meaning.
+    /// Reads something of each part that a quotation of the venue reads: of the halts and the first bids,
+    /// of the first offers, and of the venue's two sides.
     #[inline(always)]
-    pub fn glance(&self, venue: VenueId) -> u64 {
-        u64::from(self.halted[venue.index()])
-            .wrapping_add(self.bids.len() as u64)
-            .wrapping_add(self.offers.len() as u64)
-            .wrapping_add(self.standings.glance(venue))
+    pub fn peek(&self, venue: VenueId) -> u64 {
+        let ranked = self.bids.len() as u64 ^ self.offers.len() as u64;
+        let bid = self.venue_sides.at(Side::Bid, venue).size();
+        let offer = self.venue_sides.at(Side::Offer, venue).price();
+        u64::from(self.halted[venue.index()]) ^ ranked ^ bid ^ u64::from(offer)
     }
 
     /// The eligible sides, best first.

@@ -6,8 +6,8 @@ ghost use Rattle.std.specs.Str.{bytes_eq};
 ghost use Rattle.nbbo_book.specs.Tables.{IsTable, symbols_of};
 
 use crate::fault::BookFault;
-use crate::guesses::Guesses;
 use crate::row::Row;
+use crate::symbol_cache::SymbolCache;
 use feed_types::SymbolName;
 use indexmap::IndexSet;
 use std::alloc::Global;
@@ -22,7 +22,7 @@ pub type Words = IndexSet<u64>;
 #[derive(Drop)]
 pub struct Table {
     pub words: Words,
-    pub guesses: Guesses,
+    pub cache: SymbolCache,
 }
 
 /// The words of these symbols.
@@ -62,8 +62,8 @@ pub fn symbol_table(alloc: Global, symbols: &[SymbolName]) -> Result<Table, Book
     ensures count { ¬ IsErrOf result BookFault.BadVenueCount }
 {
     let words = symbol_words(alloc, symbols)?;
-    match Guesses::of(alloc, symbols) {
-        Ok(guesses) => Ok(Table { words, guesses }),
+    match SymbolCache::of(alloc, symbols) {
+        Ok(cache) => Ok(Table { words, cache }),
         Err(_) => Err(BookFault::NoMemory),
     }
 }
@@ -74,7 +74,7 @@ pub fn find(table: &Table, rows: &[Row], symbol: SymbolName) -> Option<usize>
     requires { IsTable (symbols_of rows.now) table.now.words.keys }
     ensures { result ≡ position (bytes_eq symbol) (symbols_of rows.now) }
 {
-    let guess = table.guesses.place_of(symbol.word());
+    let guess = table.cache.place_of(symbol.word());
     if guess < rows.len() && rows[guess].is_of(symbol) {
         return Some(guess);
     }

@@ -3,7 +3,7 @@ use Rattle.feed_types.specs.declared.national.Best.{Best}
 use Rattle.nbbo_book.specs.Changes.{is_same_best}
 use Rattle.nbbo_book.specs.Ranks.{HasNone, IsIn, front_of, without}
 use Rattle.nbbo_book.specs.Rows.{age_at}
-use Rattle.nbbo_book.specs.Standings.{standings_on}
+use Rattle.nbbo_book.specs.VenueSides.{venue_sides_on}
 use Rattle.nbbo_book.proofs.Fronts.{added_moves}
 use Rattle.nbbo_book.proofs.Moving.{in_at, ranked_stays}
 use Rattle.nbbo_book.proofs.ranks.put_back.Goals as goal
@@ -16,7 +16,7 @@ returns-in-Some-clause-ranks c =
     let found : at < length xs = subst (λ (t : List Best). at < length t) c.as_slice.ensures.value c.in-Some.ensures.found in
     let own : (get_or xs at x).venue ≡ x.venue = subst (λ (t : List Best). (get_or t at x).venue ≡ x.venue) c.as_slice.ensures.value (c.in-Some.ensures.own x) in
     let there : IsIn xs (get_or xs at x) = in_at xs at x found in
-    sym (ranked_stays c.args.side (age_at (standings_on c.args.side c.args.standings.now)) x xs c.requires.order
+    sym (ranked_stays c.args.side (age_at (venue_sides_on c.args.side c.args.venue_sides.now)) x xs c.requires.order
     (subst (λ (t : Best). IsIn xs t) (c.requires.same (get_or xs at x) there own) there) c.requires.same)
 
 pub returns-clause-moved : goal.returns-clause-moved
