@@ -36,7 +36,8 @@ BringOnly place events s = AllByRecursion (BringsOnly place s) events
 
 -- Each session of this name that the venue began is the one that came: its items from the first up
 -- to the first gap, each once, and then End exactly where the end was announced and nothing is
--- missing; no packet of it was refused; and one that is over is whole.
+-- missing; no packet of it that came while it was the present one was refused; and one that is
+-- over is whole.
 pub record AreSession (s : Session) (h : History) : Type 0 where
   pub earlier : AllByRecursion
       (λ b. b.name ≡ s.name → GivesSession s b.packets × (stream_of b.packets ≡ whole_session s))
