@@ -22,7 +22,8 @@ pub record BookState : Type 0 where
 
 -- what stands at a venue's place
 abbrev pub venue_side_at : List VenueSide → ℕ → VenueSide
-venue_side_at venue_sides venue = slice_index_or venue_sides venue (record { quote = None; age = 0 })
+venue_side_at venue_sides venue =
+    slice_index_or venue_sides venue (record { quote = None; age = 0 })
 
 -- each venue's side, with its age, is that of the entries
 abbrev pub SideFits : List Entry → List ℕ → Side → List VenueSide → Type 0

@@ -23,13 +23,14 @@ pub record IsTable (symbols : List (List ℕ)) (keys : List ℕ) : Type 0 where
   pub told : AllByRecursion HasWord symbols
   pub distinct : IsDistinct nat_eq keys
 
--- No two venues' sides have the same age, the ages are those of entries before the next one, and the
--- ranks are those of the venues that may be ranked.
+-- No two venues' sides have the same age, the ages are those of entries before the next one, and
+-- the ranks are those of the venues that may be ranked.
 pub record IsSide (side : Side) (may : ℕ → Bool) (next : ℕ) (kept : BookSide) : Type 0 where
   pub count : length kept.venue_sides ≡ 16
   pub past : IsPast next kept.venue_sides
   pub apart : (v w : ℕ) → v < 16 → w < 16 → v ≢ w
-      → IsSome (venue_side_at kept.venue_sides v).quote → IsSome (venue_side_at kept.venue_sides w).quote
+      → IsSome (venue_side_at kept.venue_sides v).quote
+      → IsSome (venue_side_at kept.venue_sides w).quote
       → age_at kept.venue_sides v ≢ age_at kept.venue_sides w
   pub ranked : IsRankingOf side (rank_at may kept.venue_sides) (age_at kept.venue_sides) kept.ranks
 

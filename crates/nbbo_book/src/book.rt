@@ -141,9 +141,9 @@ impl Book {
         self.last = position;
     }
 
-    /// Reads what the venue's quotation of a symbol will read, where a message to come has this field, so
-    /// that it lies near the processor then. It changes no answer. Returns whether that pays: a book of few
-    /// symbols lies near the processor anyway, and reads nothing.
+    /// Reads what the venue's quotation of a symbol will read, where a message to come has this
+    /// field, so that it lies near the processor then. It changes no answer. Returns whether that
+    /// pays: a book of few symbols lies near the processor anyway, and reads nothing.
     #[inline(always)]
     pub fn prefetch(&mut self, venue: VenueId, field: [u8; 8]) -> bool
         ensures { self.new ≡ self.old }

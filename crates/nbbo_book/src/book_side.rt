@@ -53,8 +53,8 @@ pub fn set_quote(
     }
 }
 
-/// The venue shows nothing from now on, and isn't ranked. Returns whether the best side is another one
-/// then.
+/// The venue shows nothing from now on, and isn't ranked. Returns whether the best side is another
+/// one then.
 #[inline(always)]
 pub fn clear_quote(
     side: Side,
@@ -64,7 +64,8 @@ pub fn clear_quote(
     ranks: &mut Ranks,
 ) -> bool
     requires { IsRanked side (book_side side venue_sides.old ranks.old.items) }
-    ensures venue_sides { venue_sides.new ≡ with_venue_sides side (side_quoted side venue None age false
+    ensures venue_sides { venue_sides.new ≡ with_venue_sides side
+        (side_quoted side venue None age false
         (book_side side venue_sides.old ranks.old.items)).venue_sides venue_sides.old }
     ensures ranks { ranks.new.items ≡ (side_quoted side venue None age false
         (book_side side venue_sides.old ranks.old.items)).ranks }
@@ -80,7 +81,8 @@ pub fn clear_quote(
     }
 }
 
-/// The venue may be ranked, or may not, from now on. Returns whether the best side is another one then.
+/// The venue may be ranked, or may not, from now on. Returns whether the best side is another one
+/// then.
 #[inline(always)]
 pub fn recheck_eligibility(quoter: Quoter, venue_sides: &VenueSides, ranks: &mut Ranks) -> bool
     requires { IsRanked quoter.side (book_side quoter.side venue_sides.now ranks.old.items) }

@@ -14,8 +14,8 @@ use feed_types::{Best, Side, VenueId};
 /// At most one side of each venue.
 pub type Ranks = ArrayVec<Best, 16>;
 
-/// Whether `x` is ahead of `y` by its price or its size. Which of two sides is a coin's toss: price and
-/// size are compared at once, so that few branches hang on it.
+/// Whether `x` is ahead of `y` by its price or its size. Which of two sides is a coin's toss: price
+/// and size are compared at once, so that few branches hang on it.
 #[inline(always)]
 fn is_better(side: Side, x: &Best, y: &Best) -> bool
     ensures { result ≡ is_better_side side x.now y.now }
@@ -36,8 +36,8 @@ fn is_ahead(side: Side, venue_sides: &VenueSides, x: &Best, y: &Best) -> bool
     is_better(side, x, y) | is_equal & is_older
 }
 
-/// Moves each side before `from` that `x` is ahead of one place back, over the side at `from`. Returns
-/// the place that is free for `x` then.
+/// Moves each side before `from` that `x` is ahead of one place back, over the side at `from`.
+/// Returns the place that is free for `x` then.
 #[inline(always)]
 fn rise(side: Side, ranks: &mut [Best], from: usize, x: &Best) -> usize
     requires { from < length ranks.old }
@@ -81,8 +81,8 @@ fn fall(side: Side, ranks: &mut [Best], from: usize, x: &Best) -> usize
     at
 }
 
-/// Puts `x` in the place of the side at `from`, and moves it past its neighbours to its rank. Returns
-/// its place.
+/// Puts `x` in the place of the side at `from`, and moves it past its neighbours to its rank.
+/// Returns its place.
 #[inline(always)]
 fn settle(side: Side, ranks: &mut [Best], from: usize, x: &Best) -> usize
     requires { from < length ranks.old }
@@ -115,8 +115,8 @@ fn place_of(ranks: &[Best], venue: VenueId) -> Option<usize>
     None
 }
 
-/// Ranks a side that is the newest of all, of a venue that isn't ranked. Returns whether the best side
-/// is another one then.
+/// Ranks a side that is the newest of all, of a venue that isn't ranked. Returns whether the best
+/// side is another one then.
 #[inline(never)]
 fn add_newest(side: Side, ranks: &mut Ranks, x: Best) -> bool
     requires room { length ranks.old.items < 16 }
@@ -132,8 +132,8 @@ fn add_newest(side: Side, ranks: &mut Ranks, x: Best) -> bool
 }
 
 /// Ranks a side that is the newest of all: where its venue is ranked already, it moves past its
-/// neighbours from there. Returns whether the best side is another one then, which the places tell: it
-/// comes from the first one or goes to it.
+/// neighbours from there. Returns whether the best side is another one then, which the places tell:
+/// it comes from the first one or goes to it.
 #[inline(always)]
 pub fn move_newest(side: Side, ranks: &mut Ranks, x: Best) -> bool
     requires room { length (without x.venue ranks.old.items) < 16 }

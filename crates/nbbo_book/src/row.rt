@@ -149,8 +149,8 @@ impl Row {
         }
     }
 
-    /// Reads something of each part that a quotation of the venue reads: of the halts and the first bids,
-    /// of the first offers, and of the venue's two sides.
+    /// Reads something of each part that a quotation of the venue reads: of the halts and the first
+    /// bids, of the first offers, and of the venue's two sides.
     #[inline(always)]
     pub fn peek(&self, venue: VenueId) -> u64 {
         let ranked = self.bids.len() as u64 ^ self.offers.len() as u64;

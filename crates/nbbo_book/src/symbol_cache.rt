@@ -1,8 +1,8 @@
 //! Where a symbol most likely stands, by one look at a slot of a direct-mapped cache.
 //!
-//! A slot may name another symbol's place: two symbols with one hash share a slot, and who looks there
-//! checks whether the symbol stands at that place. Nothing here changes an answer, so no contract says
-//! anything of it.
+//! A slot may name another symbol's place: two symbols with one hash share a slot, and who looks
+//! there checks whether the symbol stands at that place. Nothing here changes an answer, so no
+//! contract says anything of it.
 
 use feed_types::SymbolName;
 use std::alloc::{AllocError, Global};
@@ -15,12 +15,12 @@ pub struct SymbolCache {
     shift: u32,
 }
 
-/// By this odd number few of 4,096 keys share a hash of fifteen bits, of names of seven usual kinds (S17,
-/// SYM0017, AAB, X01A, ..): at most 177, of several thousand numbers that were tried.
+/// By this odd number few of 4,096 keys share a hash of fifteen bits, of names of seven usual kinds
+/// (S17, SYM0017, AAB, X01A, ..): at most 177, of several thousand numbers that were tried.
 const MULTIPLIER: u64 = 0x5572_c90a_83e3_0409;
 
-/// How many slots there are for this many symbols, and the shift that goes with it. There are at least
-/// eight slots a symbol, so that few symbols share one.
+/// How many slots there are for this many symbols, and the shift that goes with it. There are at
+/// least eight slots a symbol, so that few symbols share one.
 fn slots_for(symbol_count: usize) -> (usize, u32) {
     if symbol_count <= 16 {
         (128, 57)
