@@ -12,8 +12,8 @@ use Rattle.line_arbiter.specs.States.{ordinal_of}
 use Rattle.line_arbiter.proofs.OfSession.{part_of}
 use Rattle.line_arbiter.proofs.Accepting.{accepted}
 use Rattle.live_feed.specs.Lanes.{FeedLanes}
-use Rattle.live_feed.specs.Cells.{CellState, IsKept}
-use Rattle.live_feed.specs.Sections.{AcceptsTheirPacket}
+use Rattle.live_feed.specs.venue.Cells.{CellState, IsKept}
+use Rattle.live_feed.specs.venue.Sections.{AcceptsTheirPacket}
 use Rattle.live_feed.proofs.Histories.{given_genuine, present_given}
 use Rattle.live_feed.proofs.CellMoves.{ordinal_is}
 

@@ -31,9 +31,9 @@ use Rattle.line_arbiter.specs.Fits.{Fits}
 use Rattle.fifo_lane.specs.Lane.{LaneEnd, with_items, WasFull}
 use Rattle.feed_core.proofs.VenueHalfLaw.{items_push}
 use Rattle.live_feed.specs.Lanes.{FeedLanes}
-use Rattle.live_feed.specs.Sums.{Sums, no_sums, sums_after, accepted_on, sums_on, line_sums_after, LineSums}
-use Rattle.live_feed.specs.Cells.{CellState, FitsCell, AreGivenFrom, IsKept, arrivals_of, new_cell}
-use Rattle.live_feed.specs.Sections.{TakesPacket, IsAnsweredBy, TakesAndPushes, PushesOne, RenewsSession}
+use Rattle.live_feed.specs.venue.Sums.{Sums, no_sums, sums_after, accepted_on, sums_on, line_sums_after, LineSums}
+use Rattle.live_feed.specs.venue.Cells.{CellState, FitsCell, AreGivenFrom, IsKept, arrivals_of, new_cell}
+use Rattle.live_feed.specs.venue.Sections.{TakesPacket, IsAnsweredBy, TakesAndPushes, PushesOne, RenewsSession}
 use Rattle.line_arbiter.specs.Renewals.{IsRenewal}
 use Rattle.live_feed.specs.declared.unsent.Unsent.TheVariants as unsent
 use Rattle.live_feed.proofs.Histories.{take_same, take_next, get_sent, names_same, names_length, arrivals_push, arrivals_more, given_more, present_more, next_given, streams_sequence}

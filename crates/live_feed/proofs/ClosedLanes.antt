@@ -17,9 +17,9 @@ use Rattle.line_arbiter.specs.Histories.{items_of}
 use Rattle.fifo_lane.specs.Lane.{Keeps}
 use Rattle.feed_core.proofs.VenueHalfLaw.{items_push}
 use Rattle.live_feed.specs.Lanes.{FeedLanes}
-use Rattle.live_feed.specs.Cells.{CellState, IsKept}
-use Rattle.live_feed.specs.Hubs.{item_by, items_in}
-use Rattle.live_feed.specs.Settlements.{IsSettled}
+use Rattle.live_feed.specs.venue.Cells.{CellState, IsKept}
+use Rattle.live_feed.specs.hub.Hubs.{item_by, items_in}
+use Rattle.live_feed.specs.settle.Settlements.{IsSettled}
 use Rattle.live_feed.proofs.CellMoves.{wins_are}
 
 -- ---- what is ready

@@ -11,10 +11,10 @@ use Rattle.journal_book.specs.declared.cursor.Cursor.{Cursor}
 use Rattle.journal_book.specs.Journals.{JournalState, changes, terms_at, seen_at}
 use Rattle.fifo_lane.specs.Lane.{Keeps, LaneEnd}
 use Rattle.feed_core.proofs.Lists.{get_within}
-use Rattle.live_feed.specs.declared.logged.Logged.{Logged}
+use Rattle.live_feed.specs.declared.subscriber.logged.Logged.{Logged}
 use Rattle.live_feed.specs.Lanes.{FeedLanes}
-use Rattle.live_feed.specs.Hubs.{IsOffered}
-use Rattle.live_feed.specs.Settlements.{IsServed}
+use Rattle.live_feed.specs.hub.Hubs.{IsOffered}
+use Rattle.live_feed.specs.settle.Settlements.{IsServed}
 use Rattle.live_feed.proofs.ClosedLanes.{next_drop}
 use Rattle.live_feed.proofs.HubMoves.{one_there}
 

@@ -9,10 +9,10 @@ use Rattle.feed_types.specs.Sequence.{Carries, Ends, IsInSequence}
 use Rattle.journal_book.specs.Journals.{JournalState}
 use Rattle.fifo_lane.specs.Lane.{LaneEnd}
 use Rattle.feed_core.proofs.Lists.{get_push}
-use Rattle.live_feed.specs.declared.spare.SpareLane.{SpareLane}
+use Rattle.live_feed.specs.declared.hub.spare.SpareLane.{SpareLane}
 use Rattle.live_feed.specs.Lanes.{FeedLanes}
-use Rattle.live_feed.specs.Feeds.{StartState, AreStarts, IsUnused, AreUnused, lanes_of, IsClosed, HasItsLane}
-use Rattle.live_feed.specs.Hubs.{IsHub, items_in}
+use Rattle.live_feed.specs.feed.Feeds.{StartState, AreStarts, IsUnused, AreUnused, lanes_of, IsClosed, HasItsLane}
+use Rattle.live_feed.specs.hub.Hubs.{IsHub, items_in}
 
 get_last : {X : Type 0} (xs : List X) (x : X) → slice_get (xs ++ x ∷ []) (length xs) ≡ Some x
 get_last [] x = refl

@@ -15,7 +15,7 @@ use Rattle.line_arbiter.proofs.Below.{answered_more}
 use Rattle.line_arbiter.proofs.Arrivals.{genuine_grows}
 use Rattle.line_arbiter.proofs.InSequence.{streams_in_sequence}
 use Rattle.feed_core.proofs.Lists.{all_push}
-use Rattle.live_feed.specs.Cells.{AreGiven, AreGivenFrom, arrivals_of}
+use Rattle.live_feed.specs.venue.Cells.{AreGiven, AreGivenFrom, arrivals_of}
 
 -- ---- lists
 

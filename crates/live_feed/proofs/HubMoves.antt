@@ -25,10 +25,10 @@ use Rattle.journal_book.proofs.Rising.{wanted_rise, pairs_rise}
 use Rattle.fifo_lane.specs.Lane.{LaneEnd, with_items, WasEmpty, WasFull}
 use Rattle.fifo_lane.specs.Rising.{AllPairs-prefix}
 use Rattle.feed_core.proofs.Lists.{begins_len, get_push}
-use Rattle.live_feed.specs.declared.spare.SpareLane.{SpareLane}
+use Rattle.live_feed.specs.declared.hub.spare.SpareLane.{SpareLane}
 use Rattle.live_feed.specs.Lanes.{FeedLanes}
-use Rattle.live_feed.specs.Hubs.{HubState, IsConsumed, IsHub, IsOffered, IsSpare, item_by, items_in}
-use Rattle.live_feed.specs.HubSections.{Consumes, ConsumesOne, OffersOne, intake_of}
+use Rattle.live_feed.specs.hub.Hubs.{HubState, IsConsumed, IsHub, IsOffered, IsSpare, item_by, items_in}
+use Rattle.live_feed.specs.hub.Sections.{Consumes, ConsumesOne, OffersOne, intake_of}
 use Rattle.live_feed.specs.declared.unsent.Unsent.TheVariants as unsent
 use Rattle.live_feed.proofs.Histories.{take_same, take_next}
 

@@ -8,14 +8,14 @@ use Rattle.filter_terms.specs.declared.advice.Advice.{Advice}
 use Rattle.line_arbiter.specs.declared.outcome.Outcome.{Outcome}
 use Rattle.live_feed.specs.declared.faults.TakeFault.{TakeFault}
 use Rattle.live_feed.specs.declared.faults.TakeFault.TheVariants as faults
-use Rattle.live_feed.specs.declared.source.SourceFault.{SourceFault}
-use Rattle.live_feed.specs.declared.logged.PollFault.{PollFault}
-use Rattle.live_feed.specs.declared.logged.PollFault.TheVariants.{NoMemory, LogFull}
+use Rattle.live_feed.specs.declared.run.source.SourceFault.{SourceFault}
+use Rattle.live_feed.specs.declared.subscriber.logged.PollFault.{PollFault}
+use Rattle.live_feed.specs.declared.subscriber.logged.PollFault.TheVariants.{NoMemory, LogFull}
 use Rattle.live_feed.specs.Lanes.{FeedLanes}
-use Rattle.live_feed.specs.Seats.{SeatState}
-use Rattle.live_feed.specs.Datagrams.{AreGenuineBytes, IsTakenBy}
-use Rattle.live_feed.specs.Tapes.{TapeState, Polls, logged}
-use Rattle.live_feed.specs.Runs.{Taking, AreTakenBy, HasTaken, HasEnded, HasPolled, Pairwise}
+use Rattle.live_feed.specs.venue.Seats.{SeatState}
+use Rattle.live_feed.specs.venue.Datagrams.{AreGenuineBytes, IsTakenBy}
+use Rattle.live_feed.specs.subscriber.Logs.{TapeState, Polls, logged}
+use Rattle.live_feed.specs.run.Runs.{Taking, AreTakenBy, HasTaken, HasEnded, HasPolled, Pairwise}
 
 -- a datagram leaves a seat where it is
 pub seat_stays : (sessions : SessionNames) (carries : Carries) (ends : Ends) (lanes : FeedLanes)

@@ -5,13 +5,13 @@ use Rattle.feed_types.specs.Sequence.{Carries, Ends}
 use Rattle.line_arbiter.specs.Counts.{count_on}
 use Rattle.journal_book.specs.Journals.{JournalState}
 use Rattle.feed_core.proofs.Lists.{get_within}
-use Rattle.live_feed.specs.Cells.{CellState}
-use Rattle.live_feed.specs.Hubs.{HubState}
-use Rattle.live_feed.specs.Seats.{SeatState}
-use Rattle.live_feed.specs.Sums.{sums_on}
-use Rattle.live_feed.specs.Tapes.{TapeState}
-use Rattle.live_feed.specs.Settlements.{AllAgree, IsClosedVenue, IsSettlement, SettlementState, ShowsSubscriber, ShowsVenue, VenueEndState, tally_of}
-use Rattle.live_feed.specs.Closings.{IsClosedFeed}
+use Rattle.live_feed.specs.venue.Cells.{CellState}
+use Rattle.live_feed.specs.hub.Hubs.{HubState}
+use Rattle.live_feed.specs.venue.Seats.{SeatState}
+use Rattle.live_feed.specs.venue.Sums.{sums_on}
+use Rattle.live_feed.specs.subscriber.Logs.{TapeState}
+use Rattle.live_feed.specs.settle.Settlements.{AllAgree, IsClosedVenue, IsSettlement, SettlementState, ShowsSubscriber, ShowsVenue, VenueEndState, tally_of}
+use Rattle.live_feed.specs.settle.Closings.{IsClosedFeed}
 use Rattle.live_feed.proofs.HubMoves.{below_of}
 use Rattle.live_feed.proofs.Sides.{two_long, two_at_start}
 

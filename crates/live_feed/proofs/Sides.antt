@@ -4,7 +4,7 @@ use Rattle.std.specs.Prelude.{slice_get, ◌⊎◌}
 use Rattle.std.specs.Option.{option_map}
 use Rattle.std.proofs.lemmas.Option.{slice_get-map}
 use Rattle.feed_core.proofs.Lists.{get_push}
-use Rattle.live_feed.specs.SideBySide.{AreTwo, AreThree}
+use Rattle.live_feed.specs.settle.SideBySide.{AreTwo, AreThree}
 use Rattle.live_feed.proofs.HubMoves.{below_of, one_there}
 use Rattle.live_feed.proofs.ClosedLanes.{next_drop, drop_past}
 

@@ -12,8 +12,8 @@ use Rattle.line_arbiter.specs.declared.outcome.LineFault.TheVariants.{OtherSessi
 use Rattle.line_arbiter.specs.OfSession.{IsOfSession}
 use Rattle.live_feed.specs.declared.faults.TakeFault.{TakeFault}
 use Rattle.live_feed.specs.declared.faults.TakeFault.TheVariants as faults
-use Rattle.live_feed.specs.Sections.{AcceptsTheirPacket}
-use Rattle.live_feed.specs.Datagrams.{AcceptsTheirs}
+use Rattle.live_feed.specs.venue.Sections.{AcceptsTheirPacket}
+use Rattle.live_feed.specs.venue.Datagrams.{AcceptsTheirs}
 
 abbrev as_taken : Result Outcome LineFault → Result Outcome TakeFault
 as_taken (Ok outcome) = Ok outcome

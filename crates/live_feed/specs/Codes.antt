@@ -10,8 +10,8 @@ use Rattle.live_feed.specs.declared.faults.RenewalFault.{RenewalFault}
 use Rattle.live_feed.specs.declared.faults.RenewalFault.TheVariants as renewal
 use Rattle.live_feed.specs.declared.faults.SettleFault.{SettleFault}
 use Rattle.live_feed.specs.declared.faults.SettleFault.TheVariants as settling
-use Rattle.live_feed.specs.declared.logged.PollFault.{PollFault}
-use Rattle.live_feed.specs.declared.logged.PollFault.TheVariants.{NoMemory, LogFull}
+use Rattle.live_feed.specs.declared.subscriber.logged.PollFault.{PollFault}
+use Rattle.live_feed.specs.declared.subscriber.logged.PollFault.TheVariants.{NoMemory, LogFull}
 
 abbrev pub feed_fault_code : FeedFault → ℕ
 feed_fault_code UnknownVenue = 18

@@ -1,22 +1,13 @@
--- a feed's lanes, and what is counted of packets
+-- the lanes of a feed, and the numbers of faults in logs
 pub mod Lanes
-pub mod Sums
-pub mod Seats
-pub mod Datagrams
--- a feed that isn't open
-pub mod Feeds
--- what stands behind the locks, and the sections under them
-pub mod Cells
-pub mod Sections
-pub mod Hubs
-pub mod HubSections
--- a subscriber
-pub mod Tapes
 pub mod Codes
--- how a lane is closed
-pub mod Rooms
-pub mod SideBySide
-pub mod Settlements
+-- a venue, the consolidator and a subscriber: what each keeps, and the sections under the locks
+pub mod venue
+pub mod hub
+pub mod subscriber
+-- a feed that isn't open
+pub mod feed
+-- how a feed is settled
+pub mod settle
 -- a run by threads
-pub mod Runs
-pub mod Closings
+pub mod run

@@ -2,18 +2,21 @@
 
 ghost use Rattle.std.specs.Prelude.{◌≡◌, ◌≤◌, All, length, vec_len, vec_capacity, IfOk, IfErr, OnOk};
 ghost use Rattle.feed_core.specs.Configs.{IsGood, Explains};
-ghost use Rattle.live_feed.specs.Feeds.{AreNamed, HasItsLane};
+ghost use Rattle.live_feed.specs.feed.Feeds.{AreNamed, HasItsLane};
+
+mod making;
+pub(crate) mod open_feed;
 
 use crate::bells::Bells;
+use crate::feed::making::{new_spares, new_starts};
+use crate::feed::open_feed::{Guarded, OpenFeed};
 use crate::feed_name::FeedName;
-use crate::hub_cell::HubCell;
-use crate::hub_core::HubCore;
-use crate::making::{new_spares, new_starts};
-use crate::open_feed::{Guarded, OpenFeed};
-use crate::spare::SpareLane;
-use crate::venue_cell::VenueCell;
-use crate::venue_locks::{VenueLock, VenueLocks};
-use crate::venue_start::VenueStart;
+use crate::hub::cell::HubCell;
+use crate::hub::journal_and_lanes::HubCore;
+use crate::hub::spare::SpareLane;
+use crate::venue::cell::VenueCell;
+use crate::venue::locks::{VenueLock, VenueLocks};
+use crate::venue::start::VenueStart;
 use crossbeam_utils::CachePadded;
 use feed_core::{CoreFault, new_journal};
 use feed_types::{FeedConfig, Genuine, Numbered};
@@ -39,7 +42,7 @@ pub struct LiveFeed<G: Genuine> {
 
 impl<G: Genuine> Model for LiveFeed<G> {
     ghost use Rattle.live_feed.specs.Lanes.{FeedLanes};
-    ghost use Rattle.live_feed.specs.Feeds.{IsClosed, lanes_of, feed_lanes_code};
+    ghost use Rattle.live_feed.specs.feed.Feeds.{IsClosed, lanes_of, feed_lanes_code};
 
     ghost Value = { FeedLanes };
 

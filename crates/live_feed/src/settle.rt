@@ -1,22 +1,33 @@
 //! How a feed is settled.
 
 ghost use Rattle.std.specs.Prelude.{◌≡◌, ◌≤◌, length, map, vec_len, vec_capacity, IfOk, IfErr, OnOk};
-ghost use Rattle.live_feed.specs.Settlements.{AllAgree, AreInOrder, AreVenues, IsSettlement};
-ghost use Rattle.live_feed.specs.Closings.{HasRoom, IsClosedFeed};
+ghost use Rattle.live_feed.specs.settle.Settlements.{AllAgree, AreInOrder, AreVenues, IsSettlement};
+ghost use Rattle.live_feed.specs.settle.Closings.{HasRoom, IsClosedFeed};
 
-use crate::agreeing::{all_agree, are_in_order, has_its_seats};
+mod agreeing;
+mod closing;
+mod rooms;
+pub(crate) mod settlement;
+mod subscriber_end;
+mod subscriber_lane;
+mod tally;
+pub(crate) mod unsettled;
+mod venue_end;
+mod venue_lane;
+
 use crate::bells::Bells;
-use crate::closing::{close_subscribers, close_venues};
 use crate::faults::SettleFault;
+use crate::feed::open_feed::{Guarded, OpenFeed};
 use crate::feed_name::FeedName;
-use crate::hub_cell::HubCell;
-use crate::open_feed::{Guarded, OpenFeed};
-use crate::rooms::{FeedRoom, feed_room};
-use crate::seat::LineSeat;
-use crate::settlement::Settlement;
+use crate::hub::cell::HubCell;
+use crate::settle::agreeing::{all_agree, are_in_order, has_its_seats};
+use crate::settle::closing::{close_subscribers, close_venues};
+use crate::settle::rooms::{FeedRoom, feed_room};
+use crate::settle::settlement::Settlement;
+use crate::settle::unsettled::Unsettled;
 use crate::subscriber::Subscriber;
-use crate::unsettled::Unsettled;
-use crate::venue_locks::{VenueLock, VenueLocks};
+use crate::venue::locks::{VenueLock, VenueLocks};
+use crate::venue::seat::LineSeat;
 use crossbeam_utils::CachePadded;
 use feed_types::Genuine;
 use std::alloc::Global;

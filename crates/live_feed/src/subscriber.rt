@@ -1,11 +1,15 @@
 //! A subscriber of a feed.
 
 ghost use Rattle.std.specs.Prelude.{◌≡◌};
-ghost use Rattle.live_feed.specs.Tapes.{Polls};
+ghost use Rattle.live_feed.specs.subscriber.Logs.{Polls};
+
+mod advising;
+pub(crate) mod log;
+pub(crate) mod logged;
 
 use crate::feed_name::FeedName;
-use crate::logged::{Logged, PollFault};
-use crate::tape::Tape;
+use crate::subscriber::log::Tape;
+use crate::subscriber::logged::{Logged, PollFault};
 use feed_types::{Notice, SubscriberId};
 use fifo_lane::{LaneRule, RisingNotices};
 use filter_terms::{Advice, Strategy};

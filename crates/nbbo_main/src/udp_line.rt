@@ -1,7 +1,7 @@
 //! A line that is received by UDP.
 ghost use Rattle.std.specs.Prelude.{◌≡◌, ◌≢◌, ◌≤◌, IfOk, IfErr, false, length};
 ghost use Rattle.nbbo_main.specs.UdpLines.{failures_of};
-ghost use Rattle.live_feed.specs.declared.source.SourceFault.TheVariants.{NoMemory};
+ghost use Rattle.live_feed.specs.declared.run.source.SourceFault.TheVariants.{NoMemory};
 
 use feed_types::{Anything, VenueId};
 use live_feed::{Datagram, LineSource, SourceFault};

@@ -6,9 +6,9 @@ use Rattle.feed_types.specs.declared.item.Numbered.{Numbered}
 use Rattle.feed_types.specs.declared.journal.Notice.{Notice}
 use Rattle.journal_book.specs.Journals.{JournalState}
 use Rattle.fifo_lane.specs.Lane.{LaneEnd}
-use Rattle.live_feed.specs.Hubs.{IsConsumed, IsOffered}
-use Rattle.live_feed.specs.Rooms.{HasVenueRoom, HasSubscriberRoom}
-use Rattle.live_feed.specs.Closings.{IsToClose, IsToServe}
+use Rattle.live_feed.specs.hub.Hubs.{IsConsumed, IsOffered}
+use Rattle.live_feed.specs.settle.Rooms.{HasVenueRoom, HasSubscriberRoom}
+use Rattle.live_feed.specs.settle.Closings.{IsToClose, IsToServe}
 use Rattle.live_feed.proofs.HubMoves.{below_of}
 use Rattle.live_feed.proofs.Sides.{three_at_start}
 use Rattle.live_feed.proofs.settle.closed.Goals as goal

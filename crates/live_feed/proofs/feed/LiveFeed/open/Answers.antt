@@ -1,7 +1,7 @@
 use Rattle.std.proofs.Common.{List, sym, subst, ◌∙◌}
 use Rattle.feed_types.specs.declared.journal.Notice.{Notice}
 use Rattle.fifo_lane.specs.Lane.{LaneEnd}
-use Rattle.live_feed.specs.Hubs.{IsHub}
+use Rattle.live_feed.specs.hub.Hubs.{IsHub}
 use Rattle.live_feed.proofs.FeedMoves.{fresh, have_lanes, starts_count}
 use Rattle.live_feed.proofs.feed.LiveFeed.open.Goals as goal
 

@@ -1,7 +1,0 @@
-use Rattle.std.proofs.Common.{◌≡◌, map, ℕ}
-use Rattle.live_feed.specs.Tapes.{TapeState}
-use Rattle.live_feed.proofs.Sides.{UpTo}
-use Rattle.live_feed.proofs.agreeing.are_in_order.Given as goal
-
-abbrev pub invariant-loop-place : goal.invariant-loop-place
-invariant-loop-place g l = UpTo (λ (id : ℕ) (t : TapeState). t.id ≡ id) l.place (map (λ s. s.tape) l.subscribers)

@@ -1,0 +1,11 @@
+use Rattle.std.proofs.Common.{ℕ, ◌+◌, [], ◌∷◌, sym, ap, ◌∙◌, length-append}
+use Rattle.live_feed.proofs.FeedMoves.{starts_more}
+use Rattle.live_feed.proofs.feed.making.new_starts.Goals as goal
+
+pub loop-place-preserved : goal.loop-place-preserved
+loop-place-preserved g c =
+    let i = c.loop-place.invariant in
+    let e = c.in_ok-start.ensures in
+    let receivers = c.loop-place.receivers.items in
+    let more = starts_more c.loop-place.starts.items receivers c.in_ok-start.start c.in_ok-start.receiver i.0 e.0 (e.1 ∙ c.venue_at.ensures ∙ sym i.1) e.2 in
+    rw (c.in_ok-push.ensures.items, c.in_ok-push-2.ensures.items) (more, length-append receivers (c.in_ok-start.receiver ∷ []) ∙ ap (λ (n : ℕ). n + 1) i.1)

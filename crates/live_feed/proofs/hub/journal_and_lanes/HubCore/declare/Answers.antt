@@ -1,0 +1,6 @@
+use Rattle.live_feed.proofs.HubMoves.{declare_kept}
+use Rattle.live_feed.proofs.hub.journal_and_lanes.HubCore.declare.Goals as goal
+
+pub invariant_of-self : goal.invariant_of-self
+invariant_of-self g c =
+    declare_kept g.G.Genuine.carries g.G.Genuine.ends g.N.FeedName.lanes _ c.args.venue c.args.on c.declare.result c.declare.new.self c.self.invariant c.declare.ensures.declares

@@ -1,0 +1,11 @@
+use Rattle.std.proofs.Common.{◌≡◌, map, length, vec_len, vec_capacity}
+use Rattle.live_feed.proofs.run.apart.Given as goal
+
+abbrev pub invariant-loop-subscriber : goal.invariant-loop-subscriber
+invariant-loop-subscriber g l =
+    (goal.iterator-loop-subscriber g).can_next l.subscriber-iterator
+    × (goal.iterator-loop-subscriber g).is_finite l.subscriber-iterator
+    × (l.tapes.items ≡ map (λ subscriber. subscriber.tape) l.yielded)
+    × (vec_len l.tapes ≡ length l.yielded) × (vec_len l.strategies ≡ length l.yielded)
+    × (vec_capacity l.tapes ≡ vec_capacity l.fn.tapes)
+    × (vec_capacity l.strategies ≡ vec_capacity l.fn.strategies)

@@ -1,0 +1,33 @@
+use Rattle.std.proofs.Common.{◌≡◌, subst}
+use Rattle.live_feed.specs.run.Runs.{HasTaken, HasEnded, HasPolled}
+use Rattle.live_feed.proofs.RunMoves.{joined, ended_of}
+use Rattle.live_feed.proofs.run.run_in.Goals as goal
+
+pub returns-clause-lines : goal.returns-clause-lines
+returns-clause-lines g c =
+    let takes = HasTaken g.G.Genuine.sessions g.G.Genuine.carries g.G.Genuine.ends
+    g.N.FeedName.lanes in
+    let brings = g.S.LineSource.brings in let failures = g.S.LineSource.failures in
+    joined
+    (λ line handle. (handle.promise.seat.value ≡ line.seat)
+    × (handle.promise.source.value ≡ line.source))
+    (λ line ended. HasEnded takes brings failures line.seat line.source ended.seat ended.source
+    ended.fault)
+    (λ handle ended. HasEnded takes brings failures handle.promise.seat.value
+    handle.promise.source.value ended.seat ended.source ended.fault)
+    (λ line handle ended made kept. ended_of takes brings failures handle.promise.seat.value line.seat
+    handle.promise.source.value line.source ended.seat ended.source ended.fault made.0 made.1
+    kept)
+    c.args.lines.items c.start_lines-line_threads.result.items c.join_lines-ends.result.items
+    c.start_lines-line_threads.ensures.threads c.join_lines-ends.ensures
+
+pub returns-clause-tapes : goal.returns-clause-tapes
+returns-clause-tapes g c =
+    joined
+    (λ tape handle. handle.promise.tape.value ≡ tape)
+    (λ tape back. HasPolled tape back)
+    (λ handle back. HasPolled handle.promise.tape.value back)
+    (λ tape handle back made kept. subst (λ given. HasPolled given back) made kept)
+    c.args.tapes.items c.start_subscribers-tape_threads.result.items
+    c.join_subscribers-tapes.result.items
+    c.start_subscribers-tape_threads.ensures.threads c.join_subscribers-tapes.ensures.tapes

@@ -1,0 +1,2 @@
+-- A feed that isn't open yet.
+pub mod Feeds

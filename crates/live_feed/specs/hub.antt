@@ -1,0 +1,3 @@
+-- What the consolidator's lock keeps, and its sections.
+pub mod Hubs
+pub mod Sections

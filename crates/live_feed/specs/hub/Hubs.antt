@@ -1,0 +1,67 @@
+-- What stands behind the consolidator's lock.
+use Rattle.std.specs.Prelude.{◌≡◌, ℕ, ◌+◌, ◌≤◌, ◌==◌, List, [], ◌∷◌, flat_map, length, Some, slice_get, if◌then◌else◌}
+use Rattle.feed_types.specs.declared.item.Numbered.{Numbered}
+use Rattle.feed_types.specs.declared.journal.Entry.{Entry}
+use Rattle.feed_types.specs.declared.journal.Entry.TheVariants as entry
+use Rattle.feed_types.specs.declared.journal.Notice.{Notice}
+use Rattle.feed_types.specs.Sequence.{Carries, Ends, IsInSequence}
+use Rattle.journal_book.specs.declared.cursor.Cursor.{Cursor}
+use Rattle.journal_book.specs.Journals.{JournalState, changes, offered_of}
+use Rattle.fifo_lane.specs.Lane.{LaneEnd}
+use Rattle.live_feed.specs.Lanes.{FeedLanes}
+use Rattle.live_feed.specs.declared.hub.spare.SpareLane.{SpareLane}
+
+-- the journal, the receiving ends of the venues' lanes, the sending ends of the subscribers' lanes,
+-- and the lanes that are left for further subscribers
+pub record HubState : Type 0 where
+  pub journal : JournalState
+  pub receivers : List (LaneEnd Numbered)
+  pub senders : List (LaneEnd Notice)
+  pub spare : List SpareLane
+
+-- the venue's items in the entries, in order
+abbrev pub item_by : ℕ → Entry → List Numbered
+item_by venue (entry.Consumed v x) = if v == venue then x ∷ [] else []
+item_by venue (entry.SelfHelp v on) = []
+
+abbrev pub items_in : List Entry → ℕ → List Numbered
+items_in entries venue = flat_map (item_by venue) entries
+
+-- The venue's lane: what was received is the venue's items in the entries, and they obey the rule of
+-- a venue's items.
+pub record IsConsumed (carries : Carries) (ends : Ends) (lanes : FeedLanes) (entries : List Entry)
+    (venue : ℕ) (e : LaneEnd Numbered) : Type 0 where
+  pub tag : e.tag ≡ venue
+  pub lane : slice_get lanes.venues venue ≡ Some e.lane
+  pub items : e.items ≡ items_in entries venue
+  pub sequence : IsInSequence carries ends venue (items_in entries venue)
+
+-- The subscriber's lane: what was sent is what the journal counts as offered to it, those that meet
+-- its terms of the changes that were looked at.
+pub record IsOffered (lanes : FeedLanes) (state : JournalState) (id : ℕ)
+    (e : LaneEnd Notice) : Type 0 where
+  pub tag : e.tag ≡ id
+  pub lane : slice_get lanes.subscribers id ≡ Some e.lane
+  pub items : (cursor : Cursor) → slice_get state.cursors id ≡ Some cursor
+      → (cursor.seen ≤ length (changes state)) × (e.items ≡ offered_of (changes state) cursor)
+
+-- a lane that is left: nothing was sent, and it is the next subscriber's, or one after it
+pub record IsSpare (lanes : FeedLanes) (id : ℕ) (s : SpareLane) : Type 0 where
+  pub tag : s.sender.tag ≡ id
+  pub lane : slice_get lanes.subscribers id ≡ Some s.sender.lane
+  pub items : s.sender.items ≡ []
+  pub same : s.receiver ≡ s.sender
+
+-- What is so whenever the consolidator's lock is free. (The journal's changes are those of its
+-- entries, by its own contract.)
+pub record IsHub (carries : Carries) (ends : Ends) (lanes : FeedLanes) (s : HubState) : Type 0 where
+  pub venues : length s.receivers ≡ s.journal.venues
+  pub count : length lanes.venues ≡ s.journal.venues
+  pub subscribers : length s.senders ≡ length s.journal.cursors
+  pub consumed : (venue : ℕ) (e : LaneEnd Numbered) → slice_get s.receivers venue ≡ Some e
+      → IsConsumed carries ends lanes s.journal.entries venue e
+  pub offered : (id : ℕ) (e : LaneEnd Notice) → slice_get s.senders id ≡ Some e
+      → IsOffered lanes s.journal id e
+  pub many : length s.journal.cursors + length s.spare ≡ 32
+  pub spare : (k : ℕ) (x : SpareLane) → slice_get s.spare k ≡ Some x
+      → IsSpare lanes (length s.journal.cursors + k) x

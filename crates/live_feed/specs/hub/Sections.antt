@@ -1,0 +1,119 @@
+-- Each section under the consolidator's lock is one event of the machine (feed_core), on the part
+-- that the lock keeps.
+use Rattle.std.specs.Prelude.{◌≡◌, ℕ, ◌<◌, ◌≤◌, Bool, true, List, [], ◌∷◌, ◌++◌, length, slice_get, slice_set, Option, Some, None, Result, Ok, Err}
+use Rattle.feed_types.specs.declared.item.Numbered.{Numbered}
+use Rattle.feed_types.specs.declared.journal.Notice.{Notice}
+use Rattle.filter_terms.specs.declared.terms.Terms.{Terms}
+use Rattle.journal_book.specs.declared.fault.JournalFault.{JournalFault}
+use Rattle.journal_book.specs.declared.fault.JournalFault.TheVariants.{NoMemory, JournalFull, UnknownVenue, AlreadySo, TooManySubscribers}
+use Rattle.journal_book.specs.Codes.{journal_fault_code}
+use Rattle.journal_book.specs.Journals.{JournalState, terms_at}
+use Rattle.journal_book.specs.Consolidators.{StaysButCursors}
+use Rattle.journal_book.specs.Wanted.{wanted_of}
+use Rattle.fifo_lane.specs.Lane.{LaneEnd, WasEmpty, WasFull, with_items}
+use Rattle.feed_core.specs.declared.event.Done.{Done}
+use Rattle.feed_core.specs.declared.event.Done.TheVariants as done
+use Rattle.feed_core.specs.Steps.{Intake, consumed, offered, ComesTo}
+use Rattle.live_feed.specs.declared.unsent.Unsent.{Unsent}
+use Rattle.live_feed.specs.declared.unsent.Unsent.TheVariants as unsent
+use Rattle.live_feed.specs.Lanes.{FeedLanes}
+use Rattle.live_feed.specs.hub.Hubs.{HubState}
+
+-- what Consume looks at
+abbrev pub intake_of : LaneEnd Numbered → JournalState → Intake
+intake_of lane journal = record { received = lane.items; entries = journal.entries }
+
+-- the outcome of Consume that an answer is
+abbrev pub consume_done : Result (Option ℕ) JournalFault → Done
+consume_done (Ok (Some position)) = done.Consumed position
+consume_done (Ok None) = done.LaneEmpty
+consume_done (Err fault) = done.Refused (journal_fault_code fault)
+
+-- Consume: the next item of the venue's lane was journaled; or nothing was inside it at a moment of
+-- the call, or the journal is full.
+pub record ConsumesOne (may_send : ℕ → List Numbered → Type 0) (venue : ℕ)
+    (answer : Result (Option ℕ) JournalFault) (old new : HubState) : Type 0 where
+  pub lane : LaneEnd Numbered
+  pub at : slice_get old.receivers venue ≡ Some lane
+  pub next : Option Numbered
+  pub was_empty : answer ≡ Ok None → WasEmpty may_send lane
+  pub after : Intake
+  pub comes : ComesTo
+      (consumed old.journal.journal venue next (intake_of lane old.journal))
+      (intake_of lane old.journal) (consume_done answer) after
+  pub received : new.receivers ≡ slice_set old.receivers venue (with_items lane after.received)
+  pub entries : new.journal.entries ≡ after.entries
+
+-- The answer to `consume`, by cases: want of memory changes nothing, every other answer is Consume.
+abbrev pub Consumes : (ℕ → List Numbered → Type 0) → ℕ → Result (Option ℕ) JournalFault
+    → HubState → HubState → Type 0
+Consumes may_send venue (Ok answer) old new = ConsumesOne may_send venue (Ok answer) old new
+Consumes may_send venue (Err JournalFull) old new =
+    ConsumesOne may_send venue (Err JournalFull) old new
+Consumes may_send venue (Err NoMemory) old new = new ≡ old
+Consumes may_send venue (Err UnknownVenue) old new = ⊥
+Consumes may_send venue (Err AlreadySo) old new = ⊥
+Consumes may_send venue (Err TooManySubscribers) old new = ⊥
+
+-- and nothing else has changed, but for the room
+abbrev pub KeepsButIntake : HubState → HubState → Type 0
+KeepsButIntake old new = new ≡ record old {
+  journal = record old.journal { entries = new.journal.entries; ready = new.journal.ready };
+  receivers = new.receivers;
+}
+
+-- the outcome of Offer that an answer is
+abbrev pub offer_done : Result ℕ Unsent → Done
+offer_done (Ok number) = done.Offered number
+offer_done (Err unsent.Nothing) = done.NothingWanted
+offer_done (Err unsent.LaneFull) = done.LaneFull
+
+-- Offer: the next notice that the subscriber wants was sent to it, or was refused by a lane that was
+-- full at a moment of the call.
+pub record OffersOne (may_send : ℕ → List Notice → Type 0) (id : ℕ) (answer : Result ℕ Unsent)
+    (old new : HubState) : Type 0 where
+  pub lane : LaneEnd Notice
+  pub at : slice_get old.senders id ≡ Some lane
+  pub terms : Terms
+  pub terms_is : terms_at old.journal id ≡ Some terms
+  pub full : Bool
+  pub was_full : full ≡ true → WasFull may_send lane
+  pub sent : List Notice
+  pub comes : ComesTo
+      (offered full
+      (slice_get (wanted_of old.journal.symbols terms old.journal.entries) (length lane.items))
+      lane.items)
+      lane.items (offer_done answer) sent
+  pub sent_is : new.senders ≡ slice_set old.senders id (with_items lane sent)
+
+-- and nothing else has changed, but how far the changes were looked at
+pub record KeepsButOffers (old new : HubState) : Type 0 where
+  pub journal : StaysButCursors old.journal new.journal
+  pub others : new ≡ record old { journal = new.journal; senders = new.senders }
+
+-- Subscribe: one more subscriber with these terms, to whom nothing was offered, and with the lane
+-- that the feed has for it.
+pub record AddsSubscriber (lanes : FeedLanes) (terms : Terms) (id : ℕ) (e : LaneEnd Notice)
+    (old new : HubState) : Type 0 where
+  pub few : length old.journal.cursors < 32
+  pub id_is : id ≡ length old.journal.cursors
+  pub tag : e.tag ≡ id
+  pub lane : slice_get lanes.subscribers id ≡ Some e.lane
+  pub empty : e.items ≡ []
+  pub journal : new.journal ≡ record old.journal {
+    cursors = old.journal.cursors ++ record { terms = terms; seen = 0 } ∷ [];
+  }
+  pub senders : new.senders ≡ old.senders ++ e ∷ []
+  pub receivers : new.receivers ≡ old.receivers
+
+-- the answer to `subscribe`, by cases: a refused call hands the terms back and changes nothing
+abbrev pub Subscribes : FeedLanes → Terms → Result (ℕ × LaneEnd Notice) (JournalFault × Terms)
+    → HubState → HubState → Type 0
+Subscribes lanes terms (Ok (id, e)) old new = AddsSubscriber lanes terms id e old new
+Subscribes lanes terms (Err (TooManySubscribers, back)) old new =
+    (32 ≤ length old.journal.cursors) × (back ≡ terms) × (new ≡ old)
+Subscribes lanes terms (Err (NoMemory, back)) old new =
+    (length old.journal.cursors < 32) × (back ≡ terms) × (new ≡ old)
+Subscribes lanes terms (Err (JournalFull, back)) old new = ⊥
+Subscribes lanes terms (Err (UnknownVenue, back)) old new = ⊥
+Subscribes lanes terms (Err (AlreadySo, back)) old new = ⊥

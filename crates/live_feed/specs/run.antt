@@ -1,0 +1,2 @@
+-- A run by threads.
+pub mod Runs

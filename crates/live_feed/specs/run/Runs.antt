@@ -1,0 +1,81 @@
+-- What a run of a feed hands back.
+use Rattle.std.specs.Prelude.{◌≡◌, ℕ, ◌+◌, List, [], ◌∷◌, map, Option, MatchOption, Result}
+use Rattle.feed_types.specs.Prefix.{IsPrefix}
+use Rattle.feed_types.specs.Sequence.{Carries, Ends}
+use Rattle.feed_types.specs.Sessions.{SessionNames}
+use Rattle.line_arbiter.specs.declared.outcome.Outcome.{Outcome}
+use Rattle.live_feed.specs.declared.faults.TakeFault.{TakeFault}
+use Rattle.live_feed.specs.declared.run.source.SourceFault.{SourceFault}
+use Rattle.live_feed.specs.declared.run.source.SourceFault.TheVariants as faults
+use Rattle.live_feed.specs.declared.run.report.Stop.{Stop}
+use Rattle.live_feed.specs.declared.run.report.Stop.TheVariants as stops
+use Rattle.live_feed.specs.venue.Datagrams.{IsTakenBy}
+use Rattle.live_feed.specs.Lanes.{FeedLanes}
+use Rattle.live_feed.specs.venue.Seats.{SeatState}
+use Rattle.live_feed.specs.subscriber.Logs.{TapeState}
+
+abbrev pub source_fault_code : SourceFault → ℕ
+source_fault_code faults.NoMemory = 12
+source_fault_code faults.TooManyTurns = 28
+source_fault_code faults.Device = 33
+
+abbrev pub stop_code : Stop → ℕ
+stop_code stops.NoMemory = 12
+stop_code stops.JournalFull = 17
+stop_code stops.NoThread = 34
+
+-- The count of a source's failures after a call that was refused so: want of memory is none.
+abbrev pub failures_after : ℕ → SourceFault → ℕ
+failures_after failures faults.Device = failures + 1
+failures_after failures faults.TooManyTurns = failures + 1
+failures_after failures faults.NoMemory = failures
+
+-- The lists are as long as one another, and the relation holds at each place.
+abbrev pub Pairwise : {A B : Type 0} → (A → B → Type 0) → List A → List B → Type 0
+Pairwise R [] [] = Unit {0}
+Pairwise R [] (y ∷ ys) = ⊥
+Pairwise R (x ∷ xs) [] = ⊥
+Pairwise R (x ∷ xs) (y ∷ ys) = R x y × Pairwise R xs ys
+
+-- a datagram that a seat took: its bytes, the answer, and the seat then
+pub record Taking : Type 0 where
+  pub bytes : List ℕ
+  pub answer : Result Outcome TakeFault
+  pub seat : SeatState
+
+-- The seat took these datagrams, one after the other, and is the last one then.
+abbrev pub AreTakenBy : SessionNames → Carries → Ends → FeedLanes → SeatState → List Taking
+    → SeatState → Type 0
+AreTakenBy sessions carries ends lanes old [] last = last ≡ old
+AreTakenBy sessions carries ends lanes old (t ∷ more) last =
+    IsTakenBy sessions carries ends lanes t.bytes old t.answer t.seat
+    × AreTakenBy sessions carries ends lanes t.seat more last
+
+-- A seat, later on: it took the datagrams of these bytes, in order, and nothing else changed it.
+pub record HasTaken (sessions : SessionNames) (carries : Carries) (ends : Ends)
+    (lanes : FeedLanes) (old : SeatState) (brought : List (List ℕ)) (last : SeatState)
+    : Type 0 where
+  pub takings : List Taking
+  pub bytes : map (λ t. t.bytes) takings ≡ brought
+  pub taken : AreTakenBy sessions carries ends lanes old takings last
+
+-- A line that has ended: its seat took each datagram that its source brought, in order and once,
+-- and of the source's calls none failed but the last, where the line has a fault.
+pub record HasEnded {S : Type 0} (takes : SeatState → List (List ℕ) → SeatState → Type 0)
+    (brings : S → List (List ℕ) → S → Type 0) (failures : S → ℕ)
+    (seat : SeatState) (source : S) (last_seat : SeatState) (last_source : S)
+    (fault : Option SourceFault) : Type 0 where
+  pub venue : last_seat.venue ≡ seat.venue
+  pub line : last_seat.line ≡ seat.line
+  pub brought : List (List ℕ)
+  pub taken : takes seat brought last_seat
+  pub later : brings source brought last_source
+  pub counted : MatchOption fault (failures last_source ≡ failures source)
+      (λ fault. failures last_source ≡ failures_after (failures source) fault)
+
+-- A subscriber that took notices: it is the one that it was, and its log has grown at its end.
+pub record HasPolled (old new : TapeState) : Type 0 where
+  pub id : new.id ≡ old.id
+  pub limits : new.limits ≡ old.limits
+  pub most : new.most ≡ old.most
+  pub log : IsPrefix old.log new.log

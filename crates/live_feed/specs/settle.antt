@@ -1,0 +1,5 @@
+-- How a feed is settled.
+pub mod Rooms
+pub mod SideBySide
+pub mod Settlements
+pub mod Closings

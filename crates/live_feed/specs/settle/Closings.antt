@@ -1,0 +1,49 @@
+-- A feed whose lanes are closed one after the other.
+use Rattle.std.specs.Prelude.{◌≡◌, ℕ, ◌≤◌, ◌<◌, List, length, vec_capacity}
+use Rattle.feed_types.specs.declared.item.Numbered.{Numbered}
+use Rattle.feed_types.specs.declared.journal.Entry.{Entry}
+use Rattle.feed_types.specs.declared.journal.Notice.{Notice}
+use Rattle.feed_types.specs.Sequence.{Carries, Ends}
+use Rattle.journal_book.specs.Journals.{JournalState}
+use Rattle.fifo_lane.specs.Lane.{LaneEnd}
+use Rattle.live_feed.specs.Lanes.{FeedLanes}
+use Rattle.live_feed.specs.venue.Cells.{CellState}
+use Rattle.live_feed.specs.hub.Hubs.{HubState, IsConsumed, IsOffered}
+use Rattle.live_feed.specs.subscriber.Logs.{TapeState}
+use Rattle.live_feed.specs.settle.Rooms.{HasVenueRoom, HasSubscriberRoom, HaveVenueRooms, HaveSubscriberRooms}
+use Rattle.live_feed.specs.settle.Settlements.{IsClosedVenue, SettlementState, ShowsSubscriber}
+use Rattle.live_feed.specs.settle.SideBySide.{AreTwo}
+use Rattle.live_feed.specs.declared.settle.rooms.VenueRoom.{VenueRoom}
+use Rattle.live_feed.specs.declared.settle.rooms.SubscriberRoom.{SubscriberRoom}
+use Rattle.live_feed.specs.declared.settle.rooms.FeedRoom.{FeedRoom}
+
+-- the venue's cell, the receiving end of its lane, and room for what is left of it
+pub record IsToClose (carries : Carries) (ends : Ends) (lanes : FeedLanes) (entries : List Entry)
+    (venue : ℕ) (c : CellState) (e : LaneEnd Numbered) (r : VenueRoom) : Type 0 where
+  pub venue_is : c.arbiter.venue ≡ venue
+  pub consumed : IsConsumed carries ends lanes entries venue e
+  pub room : HasVenueRoom entries c r
+
+-- what the subscriber keeps, the sending end of its lane, and room for what is left of it
+pub record IsToServe (lanes : FeedLanes) (journal : JournalState) (id : ℕ) (t : TapeState)
+    (e : LaneEnd Notice) (r : SubscriberRoom) : Type 0 where
+  pub known : (t.id ≡ id) × (id < length journal.cursors)
+  pub offered : IsOffered lanes journal id e
+  pub room : HasSubscriberRoom journal id e r
+
+-- there is room for all that is left of the feed
+pub record HasRoom (cells : List CellState) (hub : HubState) (r : FeedRoom) : Type 0 where
+  pub venue_count : length r.venues.items ≡ length cells
+  pub venues : HaveVenueRooms hub.journal.entries cells r.venues.items
+  pub venue_ends : (length r.venue_ends.items ≡ 0) × (length cells ≤ vec_capacity r.venue_ends)
+  pub subscriber_count : length r.subscribers.items ≡ length hub.senders
+  pub subscribers : HaveSubscriberRooms hub.journal hub.senders r.subscribers.items
+  pub subscriber_ends : (length r.subscriber_ends.items ≡ 0)
+      × (length hub.senders ≤ vec_capacity r.subscriber_ends)
+
+-- what these cells and this consolidator's part have come to, with these subscribers
+pub record IsClosedFeed (carries : Carries) (ends : Ends) (cells : List CellState) (hub : HubState)
+    (tapes : List TapeState) (s : SettlementState) : Type 0 where
+  pub journal : s.journal ≡ hub.journal
+  pub venues : AreTwo (IsClosedVenue carries ends s.journal.entries) 0 cells s.venues
+  pub subscribers : AreTwo (ShowsSubscriber s.journal) 0 tapes s.subscribers

@@ -1,0 +1,148 @@
+-- What a feed shows once its threads have returned.
+use Rattle.std.specs.Prelude.{◌≡◌, ℕ, ◌+◌, ◌==◌, ◌&&◌, Bool, List, ◌++◌, fold, length, map, Some, slice_get, if◌then◌else◌}
+use Rattle.feed_types.specs.declared.item.Numbered.{Numbered}
+use Rattle.feed_types.specs.declared.journal.Entry.{Entry}
+use Rattle.feed_types.specs.declared.journal.Notice.{Notice}
+use Rattle.feed_types.specs.declared.line.LineId.{LineId}
+use Rattle.feed_types.specs.Sequence.{Carries, Ends}
+use Rattle.line_arbiter.specs.Streams.{is_same_line}
+use Rattle.line_arbiter.specs.Histories.{History, all_begun, streams_of, wins_in}
+use Rattle.line_arbiter.specs.Counts.{Counts, count_on, shown}
+use Rattle.filter_terms.specs.declared.terms.Terms.{Terms}
+use Rattle.journal_book.specs.Journals.{JournalState, terms_at}
+use Rattle.journal_book.specs.Wanted.{wanted_of}
+use Rattle.live_feed.specs.declared.subscriber.logged.Logged.{Logged}
+use Rattle.live_feed.specs.venue.Cells.{AreGivenFrom, CellState, arrivals_of}
+use Rattle.live_feed.specs.hub.Hubs.{items_in}
+use Rattle.live_feed.specs.venue.Seats.{SeatState}
+use Rattle.live_feed.specs.venue.Sums.{LineSums, Sums, accepted_on, no_sums, sums_on, sums_together}
+use Rattle.live_feed.specs.subscriber.Logs.{TapeState}
+
+-- A venue whose lane is closed: there are packets that it was given, session by session, each
+-- answered as it should be and genuine; what was consumed, then what is in the lane, then what is
+-- ready are the sessions' streams; and what is counted per line is that of these packets.
+pub record IsSettled (carries : Carries) (ends : Ends) (venue window : ℕ)
+    (consumed in_lane ready : List Numbered) (won : Counts) (sums : LineSums) : Type 0 where
+  pub history : History
+  pub given : AreGivenFrom carries ends venue window 1 history.earlier history.present
+  pub whole : consumed ++ (in_lane ++ ready) ≡ streams_of history
+  pub wins : (line : LineId) → count_on line won ≡ shown (wins_in (all_begun history) line)
+  pub accepted : (line : LineId)
+      → sums_on line sums ≡ accepted_on line (arrivals_of (all_begun history))
+
+-- A subscriber whose lane is closed: the notices of its log, then those in the lane, then those
+-- that weren't offered are what it wants of the entries.
+pub record IsServed (journal : JournalState) (id : ℕ) (log : List Logged)
+    (queued unoffered : List Notice) : Type 0 where
+  pub terms : Terms
+  pub terms_is : terms_at journal id ≡ Some terms
+  pub whole : map (λ line. line.notice) log ++ (queued ++ unoffered)
+      ≡ wanted_of journal.symbols terms journal.entries
+
+-- what is left of a venue: its items that were consumed, that are in the lane and that are ready,
+-- and, line by line, how many numbers came first and the sums of accepted packets
+pub record VenueEndState : Type 0 where
+  pub consumed : List Numbered
+  pub in_lane : List Numbered
+  pub ready : List Numbered
+  pub wins : Counts
+  pub accepted : LineSums
+
+-- what is left of a subscriber: its log, and the notices in its lane and those that weren't offered
+pub record SubscriberEndState : Type 0 where
+  pub log : List Logged
+  pub queued : List Notice
+  pub unoffered : List Notice
+
+-- a closed feed: the journal, the venues in order, and the subscribers in the order of their ids
+pub record SettlementState : Type 0 where
+  pub journal : JournalState
+  pub venues : List VenueEndState
+  pub subscribers : List SubscriberEndState
+
+-- What a line's seats show, added up: how many numbers they brought first, as a u64 shows it, and
+-- the sums of accepted packets.
+pub record Tally : Type 0 where
+  pub wins : ℕ
+  pub accepted : Sums
+
+abbrev pub no_tally : Tally
+no_tally = record { wins = 0; accepted = no_sums }
+
+abbrev pub is_seat_of : ℕ → LineId → SeatState → Bool
+is_seat_of venue line s = (s.venue == venue) && is_same_line s.line line
+
+-- with one seat more
+abbrev pub tally_after : ℕ → LineId → Tally → SeatState → Tally
+tally_after venue line t s =
+    if is_seat_of venue line s
+    then record {
+      wins = shown (t.wins + s.wins);
+      accepted = sums_together t.accepted s.accepted;
+    }
+    else t
+
+abbrev pub tally_of : ℕ → LineId → List SeatState → Tally
+tally_of venue line seats = fold (tally_after venue line) no_tally seats
+
+-- the cell counts on the line what the line's seats show
+pub record AgreesOn (seats : List SeatState) (c : CellState) (line : LineId) : Type 0 where
+  pub wins : count_on line c.arbiter.wins ≡ (tally_of c.arbiter.venue line seats).wins
+  pub accepted : sums_on line c.accepted ≡ (tally_of c.arbiter.venue line seats).accepted
+
+-- it is the cell of the venue, and agrees with the seats
+pub record Agrees (seats : List SeatState) (venue : ℕ) (c : CellState) : Type 0 where
+  pub venue_is : c.arbiter.venue ≡ venue
+  pub on : (line : LineId) → AgreesOn seats c line
+
+-- so do the cells of all venues, which are in order
+abbrev pub AllAgree : List SeatState → List CellState → Type 0
+AllAgree seats cells =
+    (venue : ℕ) (c : CellState) → slice_get cells venue ≡ Some c → Agrees seats venue c
+
+-- the cells are those of the venues, in order
+abbrev pub AreVenues : List CellState → Type 0
+AreVenues cells =
+    (venue : ℕ) (c : CellState) → slice_get cells venue ≡ Some c → c.arbiter.venue ≡ venue
+
+-- the subscribers are in the order of their ids
+abbrev pub AreInOrder : List TapeState → Type 0
+AreInOrder tapes = (id : ℕ) (t : TapeState) → slice_get tapes id ≡ Some t → t.id ≡ id
+
+-- a venue's cell and what is left of it once its lane is closed
+pub record IsClosedVenue (carries : Carries) (ends : Ends) (entries : List Entry) (venue : ℕ)
+    (c : CellState) (v : VenueEndState) : Type 0 where
+  pub settled : IsSettled carries ends venue c.arbiter.window v.consumed v.in_lane v.ready v.wins
+      v.accepted
+  pub consumed : v.consumed ≡ items_in entries venue
+  pub wins : v.wins ≡ c.arbiter.wins
+  pub accepted : v.accepted ≡ c.accepted
+
+-- A venue of a closed feed: its lane is closed (for some window), what was consumed is its items in
+-- the entries, and what is counted per line is what the line's seats show, added up.
+pub record ShowsVenue (carries : Carries) (ends : Ends) (entries : List Entry)
+    (seats : List SeatState) (venue : ℕ) (v : VenueEndState) : Type 0 where
+  pub window : ℕ
+  pub settled : IsSettled carries ends venue window v.consumed v.in_lane v.ready v.wins v.accepted
+  pub consumed : v.consumed ≡ items_in entries venue
+  pub wins : (line : LineId) → count_on line v.wins ≡ (tally_of venue line seats).wins
+  pub accepted : (line : LineId) → sums_on line v.accepted ≡ (tally_of venue line seats).accepted
+
+-- a subscriber of a closed feed: its lane is closed, and the log is its own
+pub record ShowsSubscriber (journal : JournalState) (id : ℕ) (t : TapeState)
+    (x : SubscriberEndState) : Type 0 where
+  pub served : IsServed journal id x.log x.queued x.unoffered
+  pub own : (t.id ≡ id) × (x.log ≡ t.log)
+
+-- What a feed has come to, once these seats and these subscribers were handed in: each of its
+-- venues and each of its subscribers is closed.
+pub record IsSettlement (carries : Carries) (ends : Ends) (seats : List SeatState)
+    (tapes : List TapeState) (s : SettlementState) : Type 0 where
+  pub venue_count : length s.venues ≡ s.journal.venues
+  pub venues : (venue : ℕ) (v : VenueEndState) → slice_get s.venues venue ≡ Some v
+      → ShowsVenue carries ends s.journal.entries seats venue v
+  pub subscriber_count : length s.subscribers ≡ length s.journal.cursors
+  pub all : length s.subscribers ≡ length tapes
+  pub subscribers : (id : ℕ) (t : TapeState) (x : SubscriberEndState)
+      → slice_get tapes id ≡ Some t → slice_get s.subscribers id ≡ Some x
+      → ShowsSubscriber s.journal id t x

@@ -1,0 +1,2 @@
+-- What a subscriber keeps.
+pub mod Logs

@@ -1,0 +1,48 @@
+-- What a subscriber keeps.
+use Rattle.std.specs.Prelude.{◌≡◌, ℕ, ◌≤◌, ◌<◌, List, [], ◌∷◌, ◌++◌, map, length, Option, Some, None, Result, Ok, Err, slice_get}
+use Rattle.std.specs.List.{AllByRecursion}
+use Rattle.feed_types.specs.declared.journal.Notice.{Notice}
+use Rattle.filter_terms.specs.declared.advice.Advice.{Advice}
+use Rattle.filter_terms.specs.declared.advice.Limits.{Limits}
+use Rattle.filter_terms.specs.Allowed.{IsAllowed}
+use Rattle.fifo_lane.specs.Lane.{LaneEnd, WasEmpty, with_items}
+use Rattle.live_feed.specs.declared.subscriber.logged.Logged.{Logged}
+use Rattle.live_feed.specs.declared.subscriber.logged.PollFault.{PollFault}
+use Rattle.live_feed.specs.declared.subscriber.logged.PollFault.TheVariants.{NoMemory, LogFull}
+use Rattle.live_feed.specs.Lanes.{FeedLanes}
+
+-- the subscriber's id, the receiving end of its lane, its log, how many lines that holds, and the
+-- limits of its strategy
+pub record TapeState : Type 0 where
+  pub id : ℕ
+  pub lane : LaneEnd Notice
+  pub log : List Logged
+  pub most : ℕ
+  pub limits : Limits
+
+abbrev pub logged : Notice → Advice → Logged
+logged notice advice = record { notice = notice; advice = advice }
+
+-- What is so after every poll: the log has one advice for each notice that was taken, in order, each
+-- allowed by the limits; and the lane is the one that the feed has for the subscriber.
+pub record IsTape (lanes : FeedLanes) (t : TapeState) : Type 0 where
+  pub notices : map (λ line. line.notice) t.log ≡ t.lane.items
+  pub allowed : AllByRecursion (λ line. IsAllowed t.limits line.notice line.advice) t.log
+  pub tag : t.lane.tag ≡ t.id
+  pub lane : slice_get lanes.subscribers t.id ≡ Some t.lane.lane
+
+-- The answer to `poll`, by cases: LogFull exactly where the log is full; nothing is taken by a
+-- refused poll, nor where nothing was inside the lane at a moment of the call; else the next notice
+-- was taken (Dequeue of the machine) and logged with its advice.
+abbrev pub Polls : (ℕ → List Notice → Type 0) → Result (Option Advice) PollFault
+    → TapeState → TapeState → Type 0
+Polls may_send (Err LogFull) old new = (old.most ≤ length old.log) × (new ≡ old)
+Polls may_send (Err NoMemory) old new = (length old.log < old.most) × (new ≡ old)
+Polls may_send (Ok None) old new =
+    (length old.log < old.most) × (new ≡ old) × WasEmpty may_send old.lane
+Polls may_send (Ok (Some advice)) old new =
+    (length old.log < old.most) × (notice : Notice) × IsAllowed old.limits notice advice
+    × (new ≡ record old {
+      lane = with_items old.lane (old.lane.items ++ notice ∷ []);
+      log = old.log ++ logged notice advice ∷ [];
+    })

@@ -1,0 +1,81 @@
+-- What stands behind a venue's lock.
+use Rattle.std.specs.Prelude.{◌≡◌, ℕ, ◌+◌, List, [], ◌∷◌, ◌++◌, take, flat_map, Some, None, slice_get}
+use Rattle.std.specs.List.{AllByRecursion}
+use Rattle.feed_types.specs.declared.item.Numbered.{Numbered}
+use Rattle.feed_types.specs.declared.line.LineId.{LineId}
+use Rattle.feed_types.specs.Sequence.{Carries, Ends}
+use Rattle.feed_types.specs.Sessions.{SessionNames}
+use Rattle.line_arbiter.specs.Packets.{Arrival}
+use Rattle.line_arbiter.specs.Streams.{IsComplete, stream_of}
+use Rattle.line_arbiter.specs.Answered.{AreAnswered}
+use Rattle.line_arbiter.specs.Genuine.{IsGenuineAt}
+use Rattle.line_arbiter.specs.Histories.{Begun, History, all_begun, items_of, names_of, wins_in}
+use Rattle.line_arbiter.specs.Counts.{count_on, shown}
+use Rattle.line_arbiter.specs.States.{State, ordinal_of}
+use Rattle.line_arbiter.specs.Fits.{Fits}
+use Rattle.line_arbiter.specs.Pacing.{Pace}
+use Rattle.fifo_lane.specs.Lane.{LaneEnd}
+use Rattle.live_feed.specs.Lanes.{FeedLanes}
+use Rattle.live_feed.specs.venue.Sums.{LineSums, accepted_on, no_line_sums, sums_on}
+
+-- a venue's arbiter, the sending end of its lane, when it asked last for a gap, and the sums of
+-- accepted packets, line by line
+pub record CellState : Type 0 where
+  pub arbiter : State
+  pub lane : LaneEnd Numbered
+  pub pace : Pace
+  pub accepted : LineSums
+
+-- a gap is asked for again after this many milliseconds
+abbrev pub new_pace : Pace
+new_pace = record { interval = 250; last = None }
+
+-- the cell of an arbiter and a lane, where nothing came yet
+abbrev pub new_cell : State → LaneEnd Numbered → CellState
+new_cell arbiter lane =
+    record { arbiter = arbiter; lane = lane; pace = new_pace; accepted = no_line_sums }
+
+-- all packets that a venue was given, in all its sessions
+abbrev pub arrivals_of : List Begun → List Arrival
+arrivals_of sessions = flat_map (λ session. session.packets) sessions
+
+-- The cell stands for what came to the venue, session by session: its arbiter for the packets of
+-- the present session, the lane was sent the streams of the earlier sessions and then the first
+-- items of the present one's, and what is counted per line is that of all packets.
+pub record FitsCell (c : CellState) (h : History) : Type 0 where
+  pub fits : Fits c.arbiter h.present.packets
+  pub names : c.arbiter.sessions ≡ names_of h
+  pub session : c.arbiter.session ≡ h.present.name
+  pub sent : c.lane.items
+      ≡ items_of h.earlier ++ take c.arbiter.sent (stream_of h.present.packets)
+  pub earlier : (line : LineId) → count_on line c.arbiter.earlier ≡ shown (wins_in h.earlier line)
+  pub accepted : (line : LineId)
+      → sums_on line c.accepted ≡ accepted_on line (arrivals_of (all_begun h))
+
+module _ (carries : Carries) (ends : Ends) (venue window : ℕ) where
+  -- The packets of a session: each was answered as it should be (so one with an outcome is of the
+  -- session), and each that is of the session is genuine.
+  pub record AreGiven (ordinal : ℕ) (b : Begun) : Type 0 where
+    pub answered : AreAnswered b.name window b.packets
+    pub genuine : AllByRecursion
+        (λ a. a.packet.session ≡ b.name → IsGenuineAt carries ends venue ordinal a.packet) b.packets
+
+  -- so were those of the sessions from this ordinal on, and all but the present one are over
+  abbrev pub AreGivenFrom : ℕ → List Begun → Begun → Type 0
+  AreGivenFrom ordinal [] present = AreGiven ordinal present
+  AreGivenFrom ordinal (b ∷ bs) present =
+      AreGiven ordinal b × IsComplete b.packets × AreGivenFrom (ordinal + 1) bs present
+
+-- What is so whenever a venue's lock is free: there are packets that the venue was given, session
+-- by session, and the cell stands for them; each was answered as it should be and is genuine; the
+-- present session has a name that the lines may use; and the lane is the one that the feed has for
+-- the venue.
+pub record IsKept (sessions : SessionNames) (carries : Carries) (ends : Ends) (lanes : FeedLanes)
+    (c : CellState) : Type 0 where
+  pub history : History
+  pub fits : FitsCell c history
+  pub given : AreGivenFrom carries ends c.arbiter.venue c.arbiter.window 1
+      history.earlier history.present
+  pub named : sessions c.arbiter.venue (ordinal_of c.arbiter) c.arbiter.session
+  pub tag : c.lane.tag ≡ c.arbiter.venue
+  pub lane : slice_get lanes.venues c.arbiter.venue ≡ Some c.lane.lane

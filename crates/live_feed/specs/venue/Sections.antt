@@ -1,0 +1,120 @@
+-- Each section under a lock is one event of the machine (feed_core), on the part that the lock
+-- keeps.
+use Rattle.std.specs.Prelude.{◌≡◌, ◌⊎◌, ℕ, Bool, true, false, List, length, slice_get, Result, Ok, Err, IsOk}
+use Rattle.feed_types.specs.declared.item.Numbered.{Numbered}
+use Rattle.feed_types.specs.declared.line.LineId.{LineId}
+use Rattle.feed_types.specs.Sequence.{Carries, Ends}
+use Rattle.feed_types.specs.Sessions.{Session, SessionNames, IsSessionAt, Names}
+use Rattle.mold_packet.specs.Content.{Content}
+use Rattle.line_arbiter.specs.declared.outcome.Outcome.{Outcome}
+use Rattle.line_arbiter.specs.declared.outcome.LineFault.{LineFault}
+use Rattle.line_arbiter.specs.declared.outcome.LineFault.TheVariants.{OtherSession}
+use Rattle.line_arbiter.specs.declared.faults.RenewFault.{RenewFault}
+use Rattle.line_arbiter.specs.Histories.{History, streams_of}
+use Rattle.line_arbiter.specs.OfSession.{IsOfSession}
+use Rattle.line_arbiter.specs.InOrder.{IsNextPacket}
+use Rattle.line_arbiter.specs.States.{KeepsItsPlace, KeepsItsSession, KeepsAllButSent}
+use Rattle.fifo_lane.specs.Lane.{WasFull, with_items}
+use Rattle.feed_core.specs.declared.event.Done.{Done}
+use Rattle.feed_core.specs.declared.event.Done.TheVariants as done
+use Rattle.feed_core.specs.Steps.{IsTaken, IsRenewed, pushed, ComesTo}
+use Rattle.live_feed.specs.declared.unsent.Unsent.{Unsent}
+use Rattle.live_feed.specs.declared.unsent.Unsent.TheVariants as unsent
+use Rattle.live_feed.specs.Lanes.{FeedLanes}
+use Rattle.live_feed.specs.venue.Cells.{CellState, FitsCell, IsKept, new_pace}
+
+-- Packet: what came to the venue has grown by the packet, and the cell stands for it.
+pub record TakesPacket (line : LineId) (p : Content) (answer : Result Outcome LineFault)
+    (h : History) (old new : CellState) : Type 0 where
+  pub after : History
+  pub taken : IsTaken old.arbiter.window old.arbiter.sent line p h answer after
+  pub fits : FitsCell new after
+
+-- Where the lines bring exactly these sessions, a packet of one of them is accepted, or is of another
+-- session than the present one.
+abbrev pub AcceptsTheirPacket : SessionNames → Carries → Ends → ℕ → Content
+    → Result Outcome LineFault → Type 0
+AcceptsTheirPacket sessions carries ends venue p answer =
+    (all : List Session) (ordinal : ℕ) (session : Session)
+    → Names sessions carries ends venue all → IsSessionAt all ordinal session
+    → IsOfSession session p → IsOk answer ⊎ (answer ≡ Err OtherSession)
+
+-- Packet, where the cell is known by what its lock keeps alone: there is such a cell of this venue,
+-- which answers so.
+pub record IsAnsweredBy (sessions : SessionNames) (carries : Carries) (ends : Ends)
+    (lanes : FeedLanes) (venue : ℕ) (line : LineId) (p : Content)
+    (answer : Result Outcome LineFault) : Type 0 where
+  pub old : CellState
+  pub kept : IsKept sessions carries ends lanes old
+  pub venue_is : old.arbiter.venue ≡ venue
+  pub new : CellState
+  pub takes : TakesPacket line p answer kept.history old new
+
+-- and nothing else has changed
+pub record KeepsButPackets (old new : CellState) : Type 0 where
+  pub arbiter : KeepsItsPlace old.arbiter new.arbiter
+  pub others : new ≡ record old { arbiter = new.arbiter; accepted = new.accepted }
+
+-- the outcome of Push that an answer is
+abbrev pub push_done : Result ℕ Unsent → Done
+push_done (Ok number) = done.Pushed number
+push_done (Err unsent.Nothing) = done.NothingReady
+push_done (Err unsent.LaneFull) = done.LaneFull
+
+-- Push: the next item of the venue's streams was sent, or was refused by a lane that was full at a
+-- moment of the call.
+pub record PushesOne (may_send : ℕ → List Numbered → Type 0) (answer : Result ℕ Unsent)
+    (h : History) (old new : CellState) : Type 0 where
+  pub full : Bool
+  pub was_full : full ≡ true → WasFull may_send old.lane
+  pub comes : ComesTo
+      (pushed full (slice_get (streams_of h) (length old.lane.items)) old.lane.items)
+      old.lane.items (push_done answer) new.lane.items
+  pub fits : FitsCell new h
+
+-- and nothing else has changed
+pub record KeepsButSent (old new : CellState) : Type 0 where
+  pub arbiter : KeepsAllButSent old.arbiter new.arbiter
+  pub lane : new.lane ≡ with_items old.lane new.lane.items
+  pub others : new ≡ record old { arbiter = new.arbiter; lane = new.lane }
+
+-- Packet and then Push, in one section: what came to the venue has grown by the packet, the next item
+-- of its streams was sent, and the cell stands for both.
+pub record TakesAndPushes (line : LineId) (p : Content) (outcome : Outcome) (h : History)
+    (old new : CellState) : Type 0 where
+  pub takes : TakesPacket line p (Ok outcome) h old new
+  pub comes : ComesTo
+      (pushed false (slice_get (streams_of takes.after) (length old.lane.items)) old.lane.items)
+      old.lane.items (done.Pushed p.number) new.lane.items
+
+-- and nothing else has changed
+pub record KeepsButPushed (old new : CellState) : Type 0 where
+  pub arbiter : KeepsItsSession old.arbiter new.arbiter
+  pub lane : new.lane ≡ with_items old.lane new.lane.items
+  pub others : new ≡ record old {
+    arbiter = new.arbiter;
+    lane = new.lane;
+    accepted = new.accepted;
+  }
+
+-- A packet that isn't taken so: the lane was full at a moment of the call, or the packet doesn't go
+-- on where nothing is held, or hasn't one message.
+abbrev pub IsLeft : (ℕ → List Numbered → Type 0) → Content → CellState → Type 0
+IsLeft may_send p c =
+    WasFull may_send c.lane
+    ⊎ ((h : History) → FitsCell c h
+    → IsNextPacket c.arbiter.session c.arbiter.window c.arbiter.sent h.present.packets p
+    → length p.messages ≡ 1 → ⊥)
+
+-- Renew: the present session is over and the next one begins, or nothing changes.
+pub record RenewsSession (name : List ℕ) (answer : Result ℕ RenewFault) (h : History)
+    (old new : CellState) : Type 0 where
+  pub after : History
+  pub renewed : IsRenewed old.arbiter.sent name h answer after
+  pub fits : FitsCell new after
+
+-- the next session of the cell's venue, with no request to be repeated
+pub record BeginsNext (old new : CellState) : Type 0 where
+  pub venue : new.arbiter.venue ≡ old.arbiter.venue
+  pub window : new.arbiter.window ≡ old.arbiter.window
+  pub others : new ≡ record old { arbiter = new.arbiter; pace = new_pace }

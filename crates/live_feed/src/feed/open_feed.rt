@@ -1,0 +1,260 @@
+//! A feed behind its locks.
+
+ghost use Rattle.std.specs.Prelude.{◌≡◌, ◌≤◌, ◌↔◌, [], length, IfOk, IfErr, IsErrOf};
+ghost use Rattle.live_feed.specs.venue.Seats.{new_seat};
+ghost use Rattle.live_feed.specs.venue.Datagrams.{AreGenuineBytes, AcceptsTheirs, IsTakenBy, bytes_of};
+
+use crate::faults::{FeedFault, RenewalFault, TakeFault};
+use crate::feed_name::FeedName;
+use crate::hub::calls::{Consolidated, consume_next, consume_some, offer_each, offer_some};
+use crate::hub::cell::HubCell;
+use crate::subscriber::Subscriber;
+use crate::subscriber::log::Tape;
+use crate::venue::cell::VenueCell;
+use crate::venue::datagram::Datagram;
+use crate::venue::locks::VenueLocks;
+use crate::venue::seat::LineSeat;
+use crossbeam_utils::CachePadded;
+use feed_types::{Genuine, LineId, SubscriberId, VenueId};
+use filter_terms::{Filter, Strategy};
+use journal_book::JournalFault;
+use line_arbiter::Outcome;
+use mold_packet::Request;
+use std::alloc::Global;
+use std::sync::{Mutex, Wait};
+
+/// What a venue's lock guards: the cell, and which lines have their seats.
+#[derive(Drop)]
+pub(crate) struct Guarded<G: Genuine, N: FeedName> {
+    pub(crate) cell: VenueCell<G, N>,
+    pub(crate) a: bool,
+    pub(crate) b: bool,
+    pub(crate) recovery: bool,
+}
+
+/// A feed behind its locks: one for each venue, and the consolidator's. No call holds two of them.
+#[derive(Drop)]
+pub struct OpenFeed<G: Genuine, N: FeedName> {
+    pub(crate) venues: VenueLocks<G, N>,
+    pub(crate) hub: CachePadded<Mutex<HubCell<G, N>>>,
+    pub(crate) log_lines: u32,
+}
+
+impl<G: Genuine, N: FeedName> OpenFeed<G, N> {
+    /// The seat of the venue's line, which has brought nothing. UnknownVenue, else SeatTaken where
+    /// the line has its seat.
+    pub fn line_seat<W: Wait>(
+        &self,
+        rt: &W,
+        venue: VenueId,
+        line: LineId,
+    ) -> Result<LineSeat<G, N>, FeedFault>
+        ensures seat { IfOk result (λ seat. seat ≡ new_seat venue line) }
+        ensures unknown { IsErrOf result FeedFault.UnknownVenue ↔ (length N.lanes.venues ≤ venue) }
+    {
+        let Some(lock) = self.venues.get(venue) else {
+            return Err(FeedFault::UnknownVenue);
+        };
+        let mut guarded = lock.lock(rt);
+        let taken = match line {
+            LineId::A => guarded.a,
+            LineId::B => guarded.b,
+            LineId::Recovery => guarded.recovery,
+        };
+        if taken || guarded.cell.venue() != venue {
+            return Err(FeedFault::SeatTaken);
+        }
+        match line {
+            LineId::A => guarded.a = true,
+            LineId::B => guarded.b = true,
+            LineId::Recovery => guarded.recovery = true,
+        }
+        Ok(LineSeat::new(venue, line))
+    }
+
+    /// Takes a datagram that came on the seat's line, which is genuine at its venue, and answers
+    /// what became of it: the packet's fault, else the line's, else the outcome. What is ready then,
+    /// after a fault too, is pushed, until nothing is or the lane is full. The datagram is read
+    /// before the venue's lock is taken.
+    pub fn take<W: Wait>(
+        &self,
+        rt: &W,
+        seat: &mut LineSeat<G, N>,
+        datagram: &Datagram,
+    ) -> Result<Outcome, TakeFault>
+        requires { AreGenuineBytes G.sessions G.carries G.ends seat.old.venue
+            (bytes_of datagram.now) }
+        ensures taken { IsTakenBy G.sessions G.carries G.ends N.lanes (bytes_of datagram.now)
+            seat.old result seat.new }
+
+        // Where it is known which sessions the lines bring, a packet of one of them is refused only
+        // where it isn't of the present one.
+        ensures accepts { AcceptsTheirs G.sessions G.carries G.ends seat.old.venue
+            (bytes_of datagram.now) result }
+    {
+        self.venues.take(rt, seat, datagram)
+    }
+
+    /// Pushes what is ready of the venue, until nothing is or the lane is full, and gives how many
+    /// items were pushed.
+    pub fn flush<W: Wait>(&self, rt: &W, venue: VenueId) -> Result<u64, FeedFault>
+        ensures unknown { IsErrOf result FeedFault.UnknownVenue ↔ (length N.lanes.venues ≤ venue) }
+    {
+        self.venues.flush(rt, venue)
+    }
+
+    /// The request for the venue's gap to send now, if any.
+    pub fn due<W: Wait>(
+        &self,
+        rt: &W,
+        venue: VenueId,
+        now_ms: u64,
+    ) -> Result<Option<Request>, FeedFault>
+        ensures unknown { IsErrOf result FeedFault.UnknownVenue ↔ (length N.lanes.venues ≤ venue) }
+    {
+        self.venues.due(rt, venue, now_ms)
+    }
+
+    /// Begins the venue's session of this ordinal and name, once End of the one before it was sent,
+    /// and gives the ordinal.
+    pub fn renew<W: Wait>(
+        &self,
+        rt: &W,
+        venue: VenueId,
+        ordinal: u64,
+        session: [u8; 10],
+    ) -> Result<u64, RenewalFault>
+        requires { G.sessions venue ordinal session }
+        ensures ordinal { IfOk result (λ begun. begun ≡ ordinal) }
+        ensures unknown { IsErrOf result RenewalFault.UnknownVenue
+            ↔ (length N.lanes.venues ≤ venue) }
+    {
+        let Some(lock) = self.venues.get(venue) else {
+            return Err(RenewalFault::UnknownVenue);
+        };
+        let mut guarded = lock.lock(rt);
+        if guarded.cell.venue() != venue || guarded.cell.ordinal() + 1 != ordinal {
+            return Err(RenewalFault::WrongOrdinal);
+        }
+        match guarded.cell.renew(session) {
+            Ok(begun) => Ok(begun),
+            Err(fault) => Err(RenewalFault::Venue(fault)),
+        }
+    }
+
+    /// Journals the next item of the venue's lane, and gives its position; None where nothing was
+    /// inside. UnknownVenue, JournalFull or NoMemory come before an item is taken out of the lane.
+    pub fn consume<W: Wait>(&self, rt: &W, venue: VenueId) -> Result<Option<u64>, JournalFault>
+        ensures unknown { IsErrOf result JournalFault.UnknownVenue
+            ↔ (length N.lanes.venues ≤ venue) }
+    {
+        let consumed = consume_next(rt, &mut self.hub.lock(rt), venue);
+        if let Ok(Some(_)) = consumed {
+            self.venues.bells().ring_work();
+        }
+        consumed
+    }
+
+    /// Journals the next items of the venue's lane as `consume` does, at most so many, under the
+    /// consolidator's lock taken once, and gives how many there were. A refusal is answered where it
+    /// comes before any of them; else the next call answers it.
+    pub fn consume_up_to<W: Wait>(
+        &self,
+        rt: &W,
+        venue: VenueId,
+        most: u32,
+    ) -> Result<u32, JournalFault>
+        ensures unknown { IsErrOf result JournalFault.UnknownVenue
+            ↔ (length N.lanes.venues ≤ venue) }
+        ensures most { IfOk result (λ count. count ≤ most) }
+    {
+        let consumed = consume_some(rt, &mut self.hub.lock(rt), venue, most)?;
+        if consumed > 0 {
+            self.venues.bells().ring_work();
+        }
+        Ok(consumed)
+    }
+
+    /// Journals the next items of the venue's lane as `consume_up_to` does, and then offers each
+    /// subscriber what it wants, as `offer` does, under the consolidator's lock taken once. A refused
+    /// call offers nothing.
+    pub fn consolidate<W: Wait>(
+        &self,
+        rt: &W,
+        venue: VenueId,
+        most: u32,
+    ) -> Result<Consolidated, JournalFault>
+        ensures unknown { IsErrOf result JournalFault.UnknownVenue
+            ↔ (length N.lanes.venues ≤ venue) }
+        ensures most { IfOk result (λ done. done.consumed ≤ most) }
+    {
+        let bells = self.venues.bells();
+        let mut hub = self.hub.lock(rt);
+        let consumed = consume_some(rt, &mut hub, venue, most)?;
+        let offered = offer_each(rt, &mut hub, bells);
+        drop(hub);
+        if consumed > 0 {
+            bells.ring_work();
+        }
+        Ok(Consolidated { consumed, offered })
+    }
+
+    /// Declares self-help on the venue, or withdraws it, and gives the entry's position. It is
+    /// refused as UnknownVenue, AlreadySo (the venue's self-help is in that state), JournalFull or
+    /// NoMemory: the first of these that fits. A refused call changes nothing.
+    pub fn declare<W: Wait>(&self, rt: &W, venue: VenueId, on: bool) -> Result<u64, JournalFault>
+        ensures unknown { IsErrOf result JournalFault.UnknownVenue
+            ↔ (length N.lanes.venues ≤ venue) }
+    {
+        let declared = self.hub.lock(rt).declare(venue, on);
+        if declared.is_ok() {
+            self.venues.bells().ring_work();
+        }
+        declared
+    }
+
+    /// Adds a subscriber with this filter and strategy, whose log is empty. Its notices begin with
+    /// the first change of the journal. It is refused, with both, as TooManySubscribers where there
+    /// are 32, else as NoMemory.
+    pub fn subscribe<W: Wait>(
+        &self,
+        rt: &W,
+        alloc: Global,
+        filter: Filter,
+        strategy: Strategy,
+    ) -> Result<Subscriber<N>, (JournalFault, Filter, Strategy)>
+        ensures new { IfOk result (λ made. (made.tape.log ≡ [])
+            × (made.tape.limits ≡ strategy.limits)) }
+        ensures back { IfErr result (λ refused. (refused.1 ≡ filter) × (refused.2 ≡ strategy)) }
+    {
+        let mut hub = self.hub.lock(rt);
+        let Ok(bells) = self.venues.share_bells() else {
+            let fault = if hub.core.subscriber_count() >= 32 {
+                JournalFault::TooManySubscribers
+            } else {
+                JournalFault::NoMemory
+            };
+            return Err((fault, filter, strategy));
+        };
+        let made = hub.subscribe(filter);
+        drop(hub);
+        match made {
+            Ok((id, lane)) => {
+                self.venues.bells().ring_work();
+                let limits = strategy.limits();
+                let tape = Tape::new(alloc, id, lane, self.log_lines, limits, bells);
+                Ok(Subscriber { tape, strategy })
+            }
+            Err((fault, filter)) => Err((fault, filter, strategy)),
+        }
+    }
+
+    /// Pushes the notices that the subscriber wants, until there is none or its lane is full, and
+    /// gives how many were pushed.
+    pub fn offer<W: Wait>(&self, rt: &W, id: SubscriberId) -> Result<u64, FeedFault> {
+        match offer_some(rt, &mut self.hub.lock(rt), self.venues.bells(), id) {
+            Some(pushed) => Ok(pushed),
+            None => Err(FeedFault::UnknownSubscriber),
+        }
+    }
+}

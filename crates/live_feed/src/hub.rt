@@ -1,0 +1,7 @@
+//! The consolidator: what stands behind its lock, and the sections under that lock.
+
+pub(crate) mod calls;
+pub(crate) mod cell;
+pub(crate) mod journal_and_lanes;
+mod next_wanted;
+pub(crate) mod spare;

@@ -1,0 +1,114 @@
+//! What the calls of a feed do under the consolidator's lock.
+
+ghost use Rattle.std.specs.Prelude.{◌≡◌, ◌≤◌, ◌↔◌, length, IfOk, IsErrOf, OnErr};
+
+use crate::bells::Bells;
+use crate::feed_name::FeedName;
+use crate::hub::cell::HubCell;
+use crate::unsent::Unsent;
+use feed_types::{Genuine, SubscriberId, VenueId};
+use journal_book::JournalFault;
+use std::sync::Wait;
+
+/// What `OpenFeed::consolidate` did.
+#[derive(Clone, Copy, Debug, PartialEq, Eq)]
+pub struct Consolidated {
+    /// How many items were journaled.
+    pub consumed: u32,
+    /// How many notices were offered, to all subscribers.
+    pub offered: u64,
+}
+
+/// Journals the next item of the venue's lane, and gives its position; None where nothing was inside.
+/// A refused call changes nothing.
+pub(crate) fn consume_next<G: Genuine, N: FeedName, W: Wait>(
+    rt: &W,
+    hub: &mut HubCell<G, N>,
+    venue: VenueId,
+) -> Result<Option<u64>, JournalFault>
+    ensures unknown { IsErrOf result JournalFault.UnknownVenue ↔ (length N.lanes.venues ≤ venue) }
+{
+    if venue.index() >= hub.core.venue_count() {
+        return Err(JournalFault::UnknownVenue);
+    }
+    hub.consume(rt, venue)
+}
+
+/// Journals the items that are in the venue's lane, at most so many, and gives how many there were.
+/// UnknownVenue, else a refusal where it comes before any of them, whether or not there is one; then
+/// nothing has changed.
+pub(crate) fn consume_some<G: Genuine, N: FeedName, W: Wait>(
+    rt: &W,
+    hub: &mut HubCell<G, N>,
+    venue: VenueId,
+    most: u32,
+) -> Result<u32, JournalFault>
+    ensures unknown { IsErrOf result JournalFault.UnknownVenue ↔ (length N.lanes.venues ≤ venue) }
+    ensures most { IfOk result (λ count. count ≤ most) }
+    ensures refused { OnErr result (hub.new.core ≡ hub.old.core) }
+{
+    if venue.index() >= hub.core.venue_count() {
+        return Err(JournalFault::UnknownVenue);
+    }
+    let waiting = u32::try_from(hub.core.waiting(rt, venue)).unwrap_or(most);
+    let most = most.min(waiting.max(1));
+    for count in 0..most {
+        match hub.consume(rt, venue) {
+            Ok(Some(_)) => {}
+            Err(fault) if count == 0 => return Err(fault),
+            Ok(None) | Err(_) => return Ok(count),
+        }
+    }
+    Ok(most)
+}
+
+/// Offers the subscriber what it wants, until there is nothing more or its lane is full, and wakes
+/// its thread where notices were pushed. Gives how many were; None where there is no such
+/// subscriber. A lane that is full is looked at once more, after it was said that room is wanted.
+#[inline(always)]
+pub(crate) fn offer_some<G: Genuine, N: FeedName, W: Wait>(
+    rt: &W,
+    hub: &mut HubCell<G, N>,
+    bells: &Bells,
+    id: SubscriberId,
+) -> Option<u64> {
+    let mut pushed: u64 = 0;
+    for _ in rt.forever() {
+        if !hub.core.has(id) {
+            break;
+        }
+        match hub.offer_one(rt, id) {
+            Ok(_) => pushed = pushed.saturating_add(1),
+            Err(Unsent::LaneFull) if !bells.is_room_wanted(id) => bells.want_room(id),
+            Err(unsent) => {
+                if unsent == Unsent::Nothing {
+                    bells.end_want_of_room(id);
+                }
+                if pushed > 0 {
+                    bells.notices(id).notify_all();
+                }
+                return Some(pushed);
+            }
+        }
+    }
+    None
+}
+
+/// Offers each subscriber what it wants, and gives how many notices were pushed.
+pub(crate) fn offer_each<G: Genuine, N: FeedName, W: Wait>(
+    rt: &W,
+    hub: &mut HubCell<G, N>,
+    bells: &Bells,
+) -> u64 {
+    let mut offered: u64 = 0;
+    for place in 0..32u8 {
+        let Some(id) = SubscriberId::new(place) else {
+            break;
+        };
+        let Some(pushed) = offer_some(rt, hub, bells, id) else {
+            break;
+        };
+        offered = offered.saturating_add(pushed);
+    }
+    offered
+}

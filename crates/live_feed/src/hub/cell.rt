@@ -1,0 +1,94 @@
+//! What stands behind the consolidator's lock.
+
+ghost use Rattle.std.specs.Prelude.{◌≡◌, ◌<◌, length, IfOk, IfErr, OnErr};
+ghost use Rattle.journal_book.specs.Journals.{Declares};
+ghost use Rattle.live_feed.specs.hub.Sections.{Consumes, KeepsButIntake, OffersOne, KeepsButOffers, AddsSubscriber};
+ghost use Rattle.filter_terms.specs.declared.terms.Terms.{Terms};
+ghost use Rattle.filter_terms.specs.Copies.{IsCopy};
+ghost use Rattle.filter_terms.specs.Filters.{terms_of};
+
+use crate::feed_name::FeedName;
+use crate::hub::journal_and_lanes::HubCore;
+use crate::unsent::Unsent;
+use feed_types::{Genuine, Notice, Numbered, SubscriberId, VenueId};
+use fifo_lane::{LaneRule, Receiver, RisingNotices, VenueItems};
+use filter_terms::Filter;
+use journal_book::JournalFault;
+use std::sync::Wait;
+
+/// The journal and the lanes that meet at it, with the subscribers' filters beside them.
+#[derive(Drop)]
+pub struct HubCell<G: Genuine, N: FeedName> {
+    /// The journal and the lanes.
+    pub core: HubCore<G, N>,
+    pub(crate) filters: Vec<Filter>,
+}
+
+impl<G: Genuine, N: FeedName> HubCell<G, N> {
+    /// Journals the next item of the venue's lane, and gives its position; None where nothing was
+    /// inside. The venue is below the count. JournalFull and NoMemory come before an item is taken
+    /// out of the lane, and change nothing.
+    pub fn consume<W: Wait>(&mut self, rt: &W, venue: VenueId) -> Result<Option<u64>, JournalFault>
+        requires { venue < self.old.core.journal.venues }
+        ensures consume { Consumes ⟦<VenueItems<G> as LaneRule<Numbered>>⟧.may_send venue result
+            self.old.core self.new.core }
+        ensures kept { KeepsButIntake self.old.core self.new.core }
+        ensures refused { OnErr result (self.new.core ≡ self.old.core) }
+    {
+        self.core.consume(rt, venue)
+    }
+
+    /// Declares self-help on the venue, or withdraws it, and gives the entry's position. It is
+    /// refused as UnknownVenue, AlreadySo, JournalFull or NoMemory: the first of these that fits.
+    pub fn declare(&mut self, venue: VenueId, on: bool) -> Result<u64, JournalFault>
+        ensures declares { Declares self.old.core.journal venue on result self.new.core.journal }
+        ensures venues { self.old.core.journal.venues ≡ length N.lanes.venues }
+        ensures kept { self.new.core
+            ≡ record self.old.core { journal = self.new.core.journal } }
+    {
+        self.core.declare(venue, on)
+    }
+
+    /// Adds a subscriber, to whom nothing was offered, and gives its id and the receiving end of its
+    /// lane. It is refused, with the filter, as TooManySubscribers where there are 32, else as
+    /// NoMemory.
+    pub(crate) fn subscribe(
+        &mut self,
+        filter: Filter,
+    ) -> Result<(SubscriberId, Receiver<Notice, RisingNotices>), (JournalFault, Filter)>
+        ensures added { IfOk result (λ made. (copy : Terms) × IsCopy (terms_of filter) copy
+            × AddsSubscriber N.lanes copy made.0 made.1 self.old.core self.new.core) }
+        ensures back { IfErr result (λ refused. refused.1 ≡ filter) }
+        ensures refused { OnErr result (self.new.core ≡ self.old.core) }
+    {
+        if self.core.subscriber_count() >= 32 {
+            return Err((JournalFault::TooManySubscribers, filter));
+        }
+        if self.filters.reserve(1).is_err() {
+            return Err((JournalFault::NoMemory, filter));
+        }
+        let Ok(terms) = filter.terms().clone() else {
+            return Err((JournalFault::NoMemory, filter));
+        };
+        match self.core.subscribe(terms) {
+            Ok(made) => {
+                self.filters.push_reserved(filter);
+                Ok(made)
+            }
+            Err((fault, _)) => Err((fault, filter)),
+        }
+    }
+
+    /// Pushes the next notice that the subscriber wants, and gives its number. The id is of this
+    /// feed.
+    #[inline(always)]
+    pub fn offer_one<W: Wait>(&mut self, rt: &W, id: SubscriberId) -> Result<u64, Unsent>
+        requires { id < length self.old.core.journal.cursors }
+        ensures offer { OffersOne ⟦<RisingNotices as LaneRule<Notice>>⟧.may_send id result
+            self.old.core self.new.core }
+        ensures kept { KeepsButOffers self.old.core self.new.core }
+    {
+        let place = self.core.next_place(self.filters.get(id.index()), id);
+        self.core.offer_at(rt, id, place)
+    }
+}

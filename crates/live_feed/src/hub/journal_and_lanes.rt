@@ -1,0 +1,262 @@
+//! The journal with the lanes that meet at it.
+
+ghost use Rattle.std.specs.Prelude.{◌≡◌, ◌<◌, ◌^◌, ◌↔◌, length, slice_get, OnErr, IsTrue};
+ghost use Rattle.journal_book.specs.Journals.{Declares};
+ghost use Rattle.journal_book.specs.Places.{IsNextOf};
+ghost use Rattle.live_feed.specs.hub.Hubs.{IsHub};
+ghost use Rattle.live_feed.specs.hub.Sections.{Consumes, KeepsButIntake, OffersOne, KeepsButOffers, Subscribes};
+
+use crate::feed_name::FeedName;
+use crate::hub::next_wanted::next_wanted;
+use crate::hub::spare::SpareLane;
+use crate::unsent::Unsent;
+use feed_types::{Genuine, Notice, Numbered, SubscriberId, VenueId};
+use fifo_lane::{LaneRule, Receiver, RisingNotices, Sender, VenueItems};
+use filter_terms::{Filter, Terms};
+use journal_book::{Journal, JournalFault};
+use std::collections::VecDeque;
+use std::marker::{Model, PhantomData};
+use std::sync::Wait;
+
+/// The journal, the receiving ends of the venues' lanes and the sending ends of the subscribers'.
+type HubParts<G> = (
+    Journal,
+    Vec<Receiver<Numbered, VenueItems<G>>>,
+    Vec<Sender<Notice, RisingNotices>>,
+);
+
+/// The journal, the receiving ends of the venues' lanes, and the sending ends of the subscribers'.
+///
+/// Whenever it is let go, each venue's items in the entries are what its receiver popped, and what
+/// was sent to each subscriber is what it wants of the changes that were looked at for it (`IsHub`
+/// in `specs/hub/Hubs.antt`). It holds no closure.
+#[derive(Drop)]
+pub struct HubCore<G: Genuine, N: FeedName> {
+    kept: Journal,
+    from_venues: Vec<Receiver<Numbered, VenueItems<G>>>,
+    to_subscribers: Vec<Sender<Notice, RisingNotices>>,
+    spare_lanes: VecDeque<SpareLane>,
+    feed: PhantomData<N>,
+}
+
+impl<G: Genuine, N: FeedName> Model for HubCore<G, N> {
+    ghost use Rattle.std.specs.Coded.{codes};
+    ghost use Rattle.filter_terms.specs.contracts.terms.Terms as terms_type;
+    ghost use Rattle.live_feed.specs.hub.Hubs.{HubState, IsHub};
+
+    ghost Value = { HubState };
+
+    ghost coded = { Prim.hlevel (codes, terms_type.the_row.coded) };
+
+    ghost view = { λ h. record {
+      journal = h.kept;
+      receivers = h.from_venues.items;
+      senders = h.to_subscribers.items;
+      spare = h.spare_lanes.items;
+    } };
+
+    ghost invariant = { λ h. IsHub G.carries G.ends N.lanes (record {
+      journal = h.kept;
+      receivers = h.from_venues.items;
+      senders = h.to_subscribers.items;
+      spare = h.spare_lanes.items;
+    }) };
+}
+
+fn notice_at(notices: &[Notice], place: usize) -> Option<Notice>
+    ensures { result ≡ slice_get notices.now place }
+{
+    notices.get(place).copied()
+}
+
+impl<G: Genuine, N: FeedName> HubCore<G, N> {
+    /// A journal with the lanes of its venues, those of its subscribers, and those that are left for
+    /// further ones.
+    pub(crate) fn new(
+        journal: Journal,
+        receivers: Vec<Receiver<Numbered, VenueItems<G>>>,
+        senders: Vec<Sender<Notice, RisingNotices>>,
+        spare: VecDeque<SpareLane>,
+    ) -> HubCore<G, N>
+        requires { IsHub G.carries G.ends N.lanes (record {
+          journal = journal;
+          receivers = receivers.items;
+          senders = senders.items;
+          spare = spare.items;
+        }) }
+        ensures { result ≡ record {
+          journal = journal;
+          receivers = receivers.items;
+          senders = senders.items;
+          spare = spare.items;
+        } }
+    {
+        HubCore {
+            kept: journal,
+            from_venues: receivers,
+            to_subscribers: senders,
+            spare_lanes: spare,
+            feed: PhantomData,
+        }
+    }
+
+    /// What the lock kept, once it is gone.
+    pub(crate) fn into_parts(self) -> HubParts<G>
+        ensures parts { (result.0 ≡ self.journal) × (result.1.items ≡ self.receivers)
+            × (result.2.items ≡ self.senders) }
+        ensures hub { IsHub G.carries G.ends N.lanes self }
+    {
+        let HubCore {
+            kept,
+            from_venues,
+            to_subscribers,
+            spare_lanes: _,
+            feed: _,
+        } = self;
+        (kept, from_venues, to_subscribers)
+    }
+
+    /// The journal.
+    pub(crate) fn journal(&self) -> &Journal
+        ensures { result.now ≡ self.now.journal }
+    {
+        &self.kept
+    }
+
+    /// The sending ends of the subscribers' lanes.
+    pub(crate) fn senders(&self) -> &[Sender<Notice, RisingNotices>]
+        ensures value { result.now ≡ self.now.senders }
+        ensures count { length result.now ≡ length self.now.journal.cursors }
+    {
+        self.to_subscribers.as_slice()
+    }
+
+    /// How many venues there are.
+    pub(crate) fn venue_count(&self) -> usize
+        ensures value { result ≡ self.now.journal.venues }
+        ensures lanes { result ≡ length N.lanes.venues }
+    {
+        self.from_venues.len()
+    }
+
+    /// How many subscribers there are.
+    pub(crate) fn subscriber_count(&self) -> usize
+        ensures { result ≡ length self.now.journal.cursors }
+    {
+        self.kept.subscriber_count()
+    }
+
+    /// Whether there is a subscriber of this id.
+    pub(crate) fn has(&self, id: SubscriberId) -> bool
+        ensures { IsTrue result ↔ (id < length self.now.journal.cursors) }
+    {
+        self.kept.has(id)
+    }
+
+    /// How many items were in the venue's lane at a moment of the call.
+    pub(crate) fn waiting<W: Wait>(&mut self, rt: &W, venue: VenueId) -> usize
+        requires { venue < self.old.journal.venues }
+        ensures { self.new ≡ self.old }
+    {
+        self.from_venues[venue.index()].len(rt)
+    }
+
+    /// Journals the next item of the venue's lane. All room is made before it is popped.
+    pub(crate) fn consume<W: Wait>(
+        &mut self,
+        rt: &W,
+        venue: VenueId,
+    ) -> Result<Option<u64>, JournalFault>
+        requires { venue < self.old.journal.venues }
+        ensures consume { Consumes ⟦<VenueItems<G> as LaneRule<Numbered>>⟧.may_send venue result
+            self.old self.new }
+        ensures kept { KeepsButIntake self.old self.new }
+        ensures refused { OnErr result (self.new ≡ self.old) }
+    {
+        match self.kept.reserve_one() {
+            Ok(()) => {}
+            Err(fault) => return Err(fault),
+        }
+        let receiver = &mut self.from_venues[venue.index()];
+        let Some(numbered) = receiver.pop(rt) else {
+            return Ok(None);
+        };
+        Ok(Some(self.kept.record(venue, numbered)))
+    }
+
+    /// Declares self-help on the venue, or withdraws it, and gives the entry's position.
+    pub(crate) fn declare(&mut self, venue: VenueId, on: bool) -> Result<u64, JournalFault>
+        ensures declares { Declares self.old.journal venue on result self.new.journal }
+        ensures venues { self.old.journal.venues ≡ length N.lanes.venues }
+        ensures kept { self.new ≡ record self.old { journal = self.new.journal } }
+    {
+        self.kept.declare(venue, on)
+    }
+
+    /// Adds a subscriber of these terms, and gives its id and the receiving end of its lane.
+    pub(crate) fn subscribe(
+        &mut self,
+        terms: Terms,
+    ) -> Result<(SubscriberId, Receiver<Notice, RisingNotices>), (JournalFault, Terms)>
+        ensures { Subscribes N.lanes terms result self.old self.new }
+    {
+        if self.kept.subscriber_count() >= 32 {
+            return Err((JournalFault::TooManySubscribers, terms));
+        }
+        if self.to_subscribers.reserve(1).is_err() {
+            return Err((JournalFault::NoMemory, terms));
+        }
+        let id = match self.kept.subscribe(terms) {
+            Ok(id) => id,
+            Err(refused) => return Err(refused),
+        };
+        let Some(spare) = self.spare_lanes.pop_front() else {
+            unreachable!()
+        };
+        let SpareLane { sender, receiver } = spare;
+        self.to_subscribers.push_reserved(sender);
+        Ok((id, receiver))
+    }
+
+    /// The place of the next notice that the subscriber wants, or the end.
+    pub(crate) fn next_place(&self, filter: Option<&Filter>, id: SubscriberId) -> usize
+        requires { id < length self.now.journal.cursors }
+        ensures next { IsNextOf self.now.journal id result }
+        ensures small { result < 2 ^ 63 }
+    {
+        let from = self.kept.seen(id);
+        next_wanted(filter, self.kept.terms(id), self.kept.changes(), from)
+    }
+
+    /// Pushes the next notice that the subscriber wants, which stands at the place.
+    pub(crate) fn offer_at<W: Wait>(
+        &mut self,
+        rt: &W,
+        id: SubscriberId,
+        place: usize,
+    ) -> Result<u64, Unsent>
+        requires known { id < length self.old.journal.cursors }
+        requires next { IsNextOf self.old.journal id place }
+        requires small { place < 2 ^ 63 }
+        ensures offer { OffersOne ⟦<RisingNotices as LaneRule<Notice>>⟧.may_send id result
+            self.old self.new }
+        ensures kept { KeepsButOffers self.old self.new }
+    {
+        let Some(notice) = notice_at(self.kept.changes(), place) else {
+            self.kept.look_to(id, place);
+            return Err(Unsent::Nothing);
+        };
+        let number = notice.number;
+        let sender = &mut self.to_subscribers[id.index()];
+        match sender.push(rt, notice) {
+            Ok(()) => {
+                self.kept.look_to(id, place + 1);
+                Ok(number)
+            }
+            Err(_) => {
+                self.kept.look_to(id, place);
+                Err(Unsent::LaneFull)
+            }
+        }
+    }
+}

@@ -1,0 +1,292 @@
+//! A run: each line and each subscriber in a thread of its own, and the consolidator in the calling
+//! one.
+
+ghost use Rattle.std.specs.Prelude.{◌≡◌, ◌≤◌, [], map, IfOk, IfErr, vec_len, vec_capacity};
+ghost use Rattle.live_feed.specs.run.Runs.{Pairwise, HasTaken, HasEnded, HasPolled};
+
+mod consolidating;
+mod idle;
+pub(crate) mod line;
+mod line_threads;
+mod line_work;
+pub(crate) mod report;
+mod signals;
+pub(crate) mod source;
+mod subscriber_threads;
+mod subscriber_work;
+
+use crate::feed::open_feed::OpenFeed;
+use crate::feed_name::FeedName;
+use crate::run::consolidating::consolidate;
+use crate::run::line::{Line, LineEnd};
+use crate::run::line_threads::{LineThread, join_lines, start_lines};
+use crate::run::report::{RunReport, Stop};
+use crate::run::signals::Signals;
+use crate::run::source::LineSource;
+use crate::run::subscriber_threads::{TapeThread, join_subscribers, start_subscribers};
+use crate::subscriber::Subscriber;
+use crate::subscriber::log::Tape;
+use feed_types::Genuine;
+use filter_terms::Strategy;
+use std::alloc::{AllocError, Global};
+use std::collections::VecDeque;
+use std::sync::{Mutex, Wait};
+use std::thread;
+use std::thread::{Scope, Threads};
+
+/// Empty lists with room for the lines of a run.
+#[derive(Drop)]
+struct LineLists<G: Genuine, N: FeedName, S: LineSource<G>> {
+    threads: Vec<LineThread<G, N, S>>,
+    ends: Vec<LineEnd<G, N, S>>,
+}
+
+/// Empty lists with room for the tapes of a run's subscribers.
+#[derive(Drop)]
+struct TapeLists<N: FeedName> {
+    threads: Vec<TapeThread<N>>,
+    back: Vec<Tape<N>>,
+}
+
+/// What the threads of a run hand back.
+#[derive(Drop)]
+struct Joined<G: Genuine, N: FeedName, S: LineSource<G>> {
+    ends: Vec<LineEnd<G, N, S>>,
+    tapes: Vec<Tape<N>>,
+    stopped: Option<Stop>,
+}
+
+fn line_lists<G: Genuine, N: FeedName, S: LineSource<G>>(
+    alloc: Global,
+    count: usize,
+) -> Result<LineLists<G, N, S>, AllocError>
+    ensures empty { IfOk result (λ lists. (lists.threads.items ≡ []) × (lists.ends.items ≡ [])) }
+    ensures room { IfOk result (λ lists. (vec_capacity lists.threads ≡ count)
+        × (vec_capacity lists.ends ≡ count)) }
+{
+    let threads = Vec::with_capacity(alloc, count)?;
+    let ends = Vec::with_capacity(alloc, count)?;
+    Ok(LineLists { threads, ends })
+}
+
+fn tape_lists<N: FeedName>(alloc: Global, count: usize) -> Result<TapeLists<N>, AllocError>
+    ensures empty { IfOk result (λ lists. (lists.threads.items ≡ []) × (lists.back.items ≡ [])) }
+    ensures room { IfOk result (λ lists. (vec_capacity lists.threads ≡ count)
+        × (vec_capacity lists.back ≡ count)) }
+{
+    let threads = Vec::with_capacity(alloc, count)?;
+    let back = Vec::with_capacity(alloc, count)?;
+    Ok(TapeLists { threads, back })
+}
+
+/// Takes the subscribers apart, in order.
+fn apart<N: FeedName>(
+    subscribers: Vec<Subscriber<N>>,
+    mut tapes: Vec<Tape<N>>,
+    mut strategies: Vec<Mutex<Strategy>>,
+) -> (Vec<Tape<N>>, Vec<Mutex<Strategy>>)
+    requires empty { (tapes.items ≡ []) × (strategies.items ≡ []) }
+    requires room { (vec_len subscribers ≤ vec_capacity tapes)
+        × (vec_len subscribers ≤ vec_capacity strategies) }
+    ensures tapes { result.0.items ≡ map (λ subscriber. subscriber.tape) subscribers.items }
+    ensures tapes_count { vec_len result.0 ≡ vec_len subscribers }
+    ensures count { vec_len result.1 ≡ vec_len subscribers }
+{
+    for subscriber in subscribers {
+        let Subscriber { tape, strategy } = subscriber;
+        tapes.push_reserved(tape);
+        strategies.push_reserved(Mutex::new(strategy));
+    }
+    (tapes, strategies)
+}
+
+/// Starts the threads of a run, consolidates, and waits for all threads.
+fn run_in<'s, E, G, N, S, R>(
+    rt: &'s R,
+    scope: &Scope<'s, E>,
+    feed: &'s OpenFeed<G, N>,
+    signals: &'s Signals,
+    lines: Vec<Line<G, N, S>>,
+    line_lists: LineLists<G, N, S>,
+    tapes: Vec<Tape<N>>,
+    strategies: &'s Vec<Mutex<Strategy>>,
+    tape_lists: TapeLists<N>,
+) -> Joined<G, N, S>
+where
+    G: Genuine + Send + Sync + 's,
+    N: FeedName + Send + Sync + 's,
+    S: LineSource<G> + Send + 's,
+    R: Threads + Wait + Sync,
+    requires strategies { vec_len tapes ≤ vec_len strategies.now }
+    requires lines { (line_lists.threads.items ≡ []) × (line_lists.ends.items ≡ [])
+        × (vec_len lines ≤ vec_capacity line_lists.threads)
+        × (vec_len lines ≤ vec_capacity line_lists.ends) }
+    requires tapes { (tape_lists.threads.items ≡ []) × (tape_lists.back.items ≡ [])
+        × (vec_len tapes ≤ vec_capacity tape_lists.threads)
+        × (vec_len tapes ≤ vec_capacity tape_lists.back) }
+    ensures lines { Pairwise (λ line ended. HasEnded (HasTaken G.sessions G.carries G.ends
+        N.lanes) S.brings S.failures line.seat line.source ended.seat ended.source ended.fault)
+        lines.items result.ends.items }
+    ensures tapes { Pairwise HasPolled tapes.items result.tapes.items }
+    ensures count { vec_len result.tapes ≡ vec_len tapes }
+{
+    let tape_threads = start_subscribers(
+        rt,
+        scope,
+        signals,
+        feed.venues.bells(),
+        tapes,
+        strategies,
+        tape_lists.threads,
+    );
+    let line_threads = start_lines(rt, scope, &feed.venues, signals, lines, line_lists.threads);
+    let stopped = consolidate(rt, feed, signals);
+    let ends = join_lines(rt, line_threads, line_lists.ends);
+    let tapes = join_subscribers(rt, tape_threads, tape_lists.back);
+    let stopped = if signals.lacks_thread() {
+        Some(Stop::NoThread)
+    } else {
+        stopped
+    };
+    Joined {
+        ends,
+        tapes,
+        stopped,
+    }
+}
+
+/// Puts the subscribers together again, in order.
+fn reassembled<N: FeedName>(
+    tapes: Vec<Tape<N>>,
+    strategies: Vec<Mutex<Strategy>>,
+    mut subscribers: Vec<Subscriber<N>>,
+) -> Vec<Subscriber<N>>
+    requires count { vec_len tapes ≡ vec_len strategies }
+    requires empty { subscribers.items ≡ [] }
+    requires room { vec_len tapes ≤ vec_capacity subscribers }
+    ensures { map (λ subscriber. subscriber.tape) result.items ≡ tapes.items }
+{
+    let mut cells = strategies.into_iter();
+    for tape in tapes {
+        let Some(cell) = cells.next() else {
+            unreachable!()
+        };
+        let strategy = cell.into_inner();
+        subscribers.push_reserved(Subscriber { tape, strategy });
+    }
+    subscribers
+}
+
+impl<G: Genuine + Send + Sync, N: FeedName + Send + Sync> OpenFeed<G, N> {
+    /// Runs each line and each subscriber in a thread of its own, and the consolidator in this one,
+    /// until all lines have ended; what is ready is then pushed, journaled and offered. Each line's
+    /// seat and source and each subscriber come back in the order given.
+    ///
+    /// Where memory for the lists of this is refused, nothing is started, and all come back.
+    pub fn run<S: LineSource<G> + Send, R: Threads + Wait + Sync>(
+        &self,
+        rt: &R,
+        alloc: Global,
+        lines: Vec<Line<G, N, S>>,
+        subscribers: Vec<Subscriber<N>>,
+    ) -> Result<RunReport<G, N, S>, (Vec<Line<G, N, S>>, Vec<Subscriber<N>>)>
+        ensures back { IfErr result (λ back. (back.0 ≡ lines) × (back.1 ≡ subscribers)) }
+        ensures lines { IfOk result (λ report. Pairwise (λ line ended.
+            HasEnded (HasTaken G.sessions G.carries G.ends N.lanes) S.brings S.failures
+            line.seat line.source ended.seat ended.source ended.fault)
+            lines.items report.lines.items) }
+        ensures subscribers { IfOk result (λ report. Pairwise (λ given back.
+            HasPolled given.tape back.tape) subscribers.items report.subscribers.items) }
+    {
+        let Ok(line_lists) = line_lists(alloc, lines.len()) else {
+            return Err((lines, subscribers));
+        };
+        let Ok(tape_lists) = tape_lists(alloc, subscribers.len()) else {
+            return Err((lines, subscribers));
+        };
+        let Ok(tapes) = Vec::with_capacity(alloc, subscribers.len()) else {
+            return Err((lines, subscribers));
+        };
+        let Ok(strategies) = Vec::with_capacity(alloc, subscribers.len()) else {
+            return Err((lines, subscribers));
+        };
+        let Ok(back) = Vec::with_capacity(alloc, subscribers.len()) else {
+            return Err((lines, subscribers));
+        };
+        let signals = Signals::new(lines.len() as u64);
+        let (tapes, strategies) = apart(subscribers, tapes, strategies);
+        let Joined {
+            ends,
+            tapes,
+            stopped,
+        } = run_scoped(
+            rt,
+            self,
+            &signals,
+            lines,
+            line_lists,
+            tapes,
+            &strategies,
+            tape_lists,
+        );
+        let subscribers = reassembled(tapes, strategies, back);
+        Ok(RunReport {
+            lines: ends,
+            subscribers,
+            stopped,
+        })
+    }
+}
+
+/// Runs all threads in a scope.
+fn run_scoped<G, N, S, R>(
+    rt: &R,
+    feed: &OpenFeed<G, N>,
+    signals: &Signals,
+    lines: Vec<Line<G, N, S>>,
+    line_lists: LineLists<G, N, S>,
+    tapes: Vec<Tape<N>>,
+    strategies: &Vec<Mutex<Strategy>>,
+    tape_lists: TapeLists<N>,
+) -> Joined<G, N, S>
+where
+    G: Genuine + Send + Sync,
+    N: FeedName + Send + Sync,
+    S: LineSource<G> + Send,
+    R: Threads + Wait + Sync,
+    requires { (vec_len tapes ≤ vec_len strategies.now)
+        × (line_lists.threads.items ≡ []) × (line_lists.ends.items ≡ [])
+        × (vec_len lines ≤ vec_capacity line_lists.threads)
+        × (vec_len lines ≤ vec_capacity line_lists.ends)
+        × (tape_lists.threads.items ≡ []) × (tape_lists.back.items ≡ [])
+        × (vec_len tapes ≤ vec_capacity tape_lists.threads)
+        × (vec_len tapes ≤ vec_capacity tape_lists.back) }
+    ensures lines { Pairwise (λ line ended. HasEnded (HasTaken G.sessions G.carries G.ends
+        N.lanes) S.brings S.failures line.seat line.source ended.seat ended.source ended.fault)
+        lines.items result.ends.items }
+    ensures tapes { Pairwise HasPolled tapes.items result.tapes.items }
+    ensures count { vec_len result.tapes ≡ vec_len tapes }
+{
+    thread::scope(
+        thread::scope_env(),
+        rt,
+        move |scope| -> Joined<G, N, S>
+            requires { (vec_len tapes ≤ vec_len strategies.now)
+                × (line_lists.threads.items ≡ []) × (line_lists.ends.items ≡ [])
+                × (vec_len lines ≤ vec_capacity line_lists.threads)
+                × (vec_len lines ≤ vec_capacity line_lists.ends)
+                × (tape_lists.threads.items ≡ []) × (tape_lists.back.items ≡ [])
+                × (vec_len tapes ≤ vec_capacity tape_lists.threads)
+                × (vec_len tapes ≤ vec_capacity tape_lists.back) }
+            ensures lines { Pairwise (λ line ended. HasEnded (HasTaken G.sessions G.carries
+                G.ends N.lanes) S.brings S.failures line.seat line.source ended.seat
+                ended.source ended.fault) lines.items result.ends.items }
+            ensures tapes { Pairwise HasPolled tapes.items result.tapes.items }
+            ensures count { vec_len result.tapes ≡ vec_len tapes }
+        {
+            run_in(
+                rt, scope, feed, signals, lines, line_lists, tapes, strategies, tape_lists,
+            )
+        },
+    )
+}

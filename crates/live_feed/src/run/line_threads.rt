@@ -1,0 +1,134 @@
+//! The threads of a run's lines.
+
+ghost use Rattle.std.specs.Prelude.{◌≡◌, ◌≤◌, [], MatchResult, vec_len, vec_capacity};
+ghost use Rattle.live_feed.specs.run.Runs.{Pairwise, HasTaken, HasEnded};
+
+use crate::feed_name::FeedName;
+use crate::run::line::{Line, LineEnd};
+use crate::run::line_work::{LineOf, work_line};
+use crate::run::signals::Signals;
+use crate::run::source::LineSource;
+use crate::venue::locks::VenueLocks;
+use feed_types::Genuine;
+use std::snapshot::Snapshot;
+use std::sync::Wait;
+use std::thread::{PromisedHandle, Scope, Threads};
+
+/// A line's thread, or the line where none could be started: it has read nothing.
+pub(crate) type LineThread<G, N, S> = Result<
+    PromisedHandle<LineEnd<G, N, S>, LineOf<G, N, S>>,
+    LineEnd<G, N, S>,
+>;
+
+/// Starts a thread for a line. Where that can't be, the run stops early.
+fn start_line<'s, E, G, N, S, R>(
+    rt: &'s R,
+    scope: &Scope<'s, E>,
+    venues: &'s VenueLocks<G, N>,
+    signals: &'s Signals,
+    line: Line<G, N, S>,
+) -> LineThread<G, N, S>
+where
+    G: Genuine + Send + Sync + 's,
+    N: FeedName + Send + Sync + 's,
+    S: LineSource<G> + Send + 's,
+    R: Threads + Wait + Sync,
+    ensures { MatchResult result
+        (λ handle. (handle.promise.seat.value ≡ line.seat)
+        × (handle.promise.source.value ≡ line.source))
+        (λ ended. HasEnded (HasTaken G.sessions G.carries G.ends N.lanes) S.brings S.failures
+        line.seat line.source ended.seat ended.source ended.fault) }
+{
+    let promise = LineOf {
+        seat: Snapshot::of(&line.seat),
+        source: Snapshot::of(&line.source),
+    };
+    let job = move || -> LineEnd<G, N, S>
+        ensures { HasEnded (HasTaken G.sessions G.carries G.ends N.lanes) S.brings S.failures
+            line.seat line.source result.seat result.source result.fault }
+    { work_line(rt, venues, signals, line) };
+    match scope.spawn_with(promise, job) {
+        Ok(handle) => Ok(handle),
+        Err(refused) => {
+            signals.lack_thread();
+            Err((refused.value)())
+        }
+    }
+}
+
+/// Starts a thread for each line, in order. Where one can't be started, the run stops early.
+#[tactic(auto, using(crate::proofs::RunMoves::pairwise_all))]
+pub(crate) fn start_lines<'s, E, G, N, S, R>(
+    rt: &'s R,
+    scope: &Scope<'s, E>,
+    venues: &'s VenueLocks<G, N>,
+    signals: &'s Signals,
+    lines: Vec<Line<G, N, S>>,
+    mut threads: Vec<LineThread<G, N, S>>,
+) -> Vec<LineThread<G, N, S>>
+where
+    G: Genuine + Send + Sync + 's,
+    N: FeedName + Send + Sync + 's,
+    S: LineSource<G> + Send + 's,
+    R: Threads + Wait + Sync,
+    requires empty { threads.items ≡ [] }
+    requires room { vec_len lines ≤ vec_capacity threads }
+    ensures count { vec_len result ≡ vec_len lines }
+    ensures threads { Pairwise (λ line thread. MatchResult thread
+        (λ handle. (handle.promise.seat.value ≡ line.seat)
+        × (handle.promise.source.value ≡ line.source))
+        (λ ended. HasEnded (HasTaken G.sessions G.carries G.ends N.lanes) S.brings S.failures
+        line.seat line.source ended.seat ended.source ended.fault))
+        lines.items result.items }
+{
+    for line in lines {
+        let thread = start_line(rt, scope, venues, signals, line);
+        threads.push_reserved(thread);
+    }
+    threads
+}
+
+/// Waits for a line's thread.
+fn join_line<G, N, S, R>(rt: &R, thread: LineThread<G, N, S>) -> LineEnd<G, N, S>
+where
+    G: Genuine,
+    N: FeedName,
+    S: LineSource<G>,
+    R: Threads,
+    ensures { MatchResult thread
+        (λ handle. HasEnded (HasTaken G.sessions G.carries G.ends N.lanes) S.brings S.failures
+        handle.promise.seat.value handle.promise.source.value result.seat result.source
+        result.fault)
+        (λ here. result ≡ here) }
+{
+    match thread {
+        Ok(handle) => handle.join(rt),
+        Err(here) => here,
+    }
+}
+
+/// Waits for each line's thread, in order.
+#[tactic(auto, using(crate::proofs::RunMoves::pairwise_all))]
+pub(crate) fn join_lines<G, N, S, R>(
+    rt: &R,
+    threads: Vec<LineThread<G, N, S>>,
+    mut ends: Vec<LineEnd<G, N, S>>,
+) -> Vec<LineEnd<G, N, S>>
+where
+    G: Genuine,
+    N: FeedName,
+    S: LineSource<G>,
+    R: Threads,
+    requires empty { ends.items ≡ [] }
+    requires room { vec_len threads ≤ vec_capacity ends }
+    ensures { Pairwise (λ thread ended. MatchResult thread
+        (λ handle. HasEnded (HasTaken G.sessions G.carries G.ends N.lanes) S.brings S.failures
+        handle.promise.seat.value handle.promise.source.value ended.seat ended.source ended.fault)
+        (λ here. ended ≡ here))
+        threads.items result.items }
+{
+    for thread in threads {
+        ends.push_reserved(join_line(rt, thread));
+    }
+    ends
+}

@@ -1,0 +1,103 @@
+//! The work of a line's thread.
+
+ghost use Rattle.std.specs.Prelude.{◌≡◌, [], IfOk, IfErr};
+ghost use Rattle.live_feed.specs.run.Runs.{HasTaken, HasEnded, failures_after};
+
+use crate::feed_name::FeedName;
+use crate::run::line::{Line, LineEnd};
+use crate::run::signals::Signals;
+use crate::run::source::{LineSource, SourceFault};
+use crate::venue::locks::VenueLocks;
+use crate::venue::seat::LineSeat;
+use feed_types::{Genuine, VenueId};
+use std::snapshot::Snapshot;
+use std::sync::Wait;
+use std::thread::Promise;
+
+/// The line that a thread has. What the thread returns is that line, ended.
+#[derive(Drop)]
+pub(crate) struct LineOf<G, N, S> {
+    pub(crate) seat: Snapshot<LineSeat<G, N>>,
+    pub(crate) source: Snapshot<S>,
+}
+
+impl<G: Genuine, N: FeedName, S: LineSource<G>> Promise<LineEnd<G, N, S>> for LineOf<G, N, S> {
+    ghost use Rattle.live_feed.specs.run.Runs.{HasTaken, HasEnded};
+
+    ghost kept_by = { λ p r. HasEnded (HasTaken G.sessions G.carries G.ends N.lanes) S.brings
+        S.failures p.seat.value p.source.value r.seat r.source r.fault };
+}
+
+/// Has the source send the request for the venue's gap that is due, if any. Where no gap stands,
+/// nothing is due, and the clock isn't read.
+fn request_due<G: Genuine, N: FeedName, S: LineSource<G>, W: Wait>(
+    rt: &W,
+    venues: &VenueLocks<G, N>,
+    venue: VenueId,
+    gap: bool,
+    source: &mut S,
+) -> Result<(), SourceFault>
+    ensures venue { S.venue_of source.new ≡ S.venue_of source.old }
+    ensures brings { S.brings source.old [] source.new }
+    ensures sound { IfOk result (λ _. S.failures source.new ≡ S.failures source.old) }
+    ensures failed { IfErr result (λ fault. S.failures source.new
+        ≡ failures_after (S.failures source.old) fault) }
+{
+    if !gap {
+        return Ok(());
+    }
+    let now_ms = source.now_ms();
+    match venues.due(rt, venue, now_ms) {
+        Ok(Some(request)) => source.request(&request),
+        _ => Ok(()),
+    }
+}
+
+/// Reads the line's datagrams, and takes each and asks for what is lacking then, until the source
+/// ends or fails or the run stops early.
+pub(crate) fn work_line<G: Genuine, N: FeedName, S: LineSource<G>, W: Wait>(
+    rt: &W,
+    venues: &VenueLocks<G, N>,
+    signals: &Signals,
+    line: Line<G, N, S>,
+) -> LineEnd<G, N, S>
+    ensures { HasEnded (HasTaken G.sessions G.carries G.ends N.lanes) S.brings S.failures
+        line.seat line.source result.seat result.source result.fault }
+{
+    let Line {
+        mut seat,
+        mut source,
+    } = line;
+    let venue = seat.venue();
+    let mut datagrams: u64 = 0;
+    let mut fault = None;
+    let mut gap = false;
+    for _ in rt.forever() {
+        if signals.is_stopped() {
+            break;
+        }
+        match source.next() {
+            Ok(Some(datagram)) => {
+                datagrams = datagrams.saturating_add(1);
+                let _answer = venues.take_and_look(rt, &mut seat, &datagram, &mut gap);
+            }
+            Ok(None) => break,
+            Err(failed) => {
+                fault = Some(failed);
+                break;
+            }
+        }
+        if let Err(failed) = request_due(rt, venues, venue, gap, &mut source) {
+            fault = Some(failed);
+            break;
+        }
+    }
+    signals.end_line();
+    venues.bells().ring_work();
+    LineEnd {
+        seat,
+        source,
+        datagrams,
+        fault,
+    }
+}

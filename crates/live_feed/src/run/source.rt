@@ -1,0 +1,96 @@
+//! Where a line's datagrams come from.
+//!
+//! A feed can't know what a device brings, so the trait speaks of a source by relations between its
+//! states, with laws.
+
+ghost use Rattle.std.specs.Prelude.{◌≡◌, [], ◌++◌, Ok, Some, IfOk, IfErr};
+ghost use Rattle.live_feed.specs.venue.Datagrams.{AreGenuineBytes, brought_by, bytes_of};
+ghost use Rattle.live_feed.specs.run.Runs.{failures_after, source_fault_code};
+
+use crate::venue::datagram::Datagram;
+use feed_types::{Genuine, VenueId};
+use mold_packet::Request;
+use thiserror::Error;
+
+/// Why a source gave no datagram, or sent no request.
+#[derive(Clone, Copy, Debug, PartialEq, Eq, Hash, Error)]
+pub enum SourceFault {
+    /// The device failed.
+    #[error("the line's device failed")]
+    Device,
+    /// Memory for a datagram was refused.
+    #[error("memory was refused")]
+    NoMemory,
+    /// The device was asked as often as one call may, and each time it was broken off.
+    #[error("the line's device was asked too many times")]
+    TooManyTurns,
+}
+
+impl SourceFault {
+    /// The number that stands for the fault: 12, 28 or 33.
+    pub fn code(self) -> u8
+        ensures { result ≡ source_fault_code self }
+    {
+        match self {
+            SourceFault::NoMemory => 12,
+            SourceFault::TooManyTurns => 28,
+            SourceFault::Device => 33,
+        }
+    }
+}
+
+/// What brings a line's datagrams, and takes requests for those that were lost. A line's thread
+/// calls it under no lock, so each call may wait.
+pub trait LineSource<G: Genuine>: Drop {
+    ghost use Rattle.std.specs.Prelude.{ℕ, List, [], ◌++◌};
+
+    /// The number of the venue whose datagrams it brings.
+    ghost venue_of: { Self → ℕ };
+
+    /// How many calls failed.
+    ghost failures: { Self → ℕ };
+
+    /// Calls that bring the datagrams of these bytes, in order, make the one state of the other: it is
+    /// the same source, later on.
+    ghost brings: { Self → List (List ℕ) → Self → Type 0 };
+
+    /// The venue whose datagrams it brings.
+    fn venue(&self) -> VenueId
+        ensures { result ≡ venue_of self.now };
+
+    /// The next datagram, which is genuine at the source's venue; None at the end of the line.
+    ///
+    /// Device where the device failed, TooManyTurns where it was broken off as often as one call
+    /// may ask it: each is a failure. NoMemory where memory for the datagram was refused, which is
+    /// none.
+    fn next(&mut self) -> Result<Option<Datagram>, SourceFault>
+        ensures venue { venue_of self.new ≡ venue_of self.old }
+        ensures brings { brings self.old (brought_by result) self.new }
+        ensures genuine { (datagram : Datagram) → result ≡ Ok (Some datagram)
+            → AreGenuineBytes G.sessions G.carries G.ends (venue_of self.old) (bytes_of datagram) }
+        ensures sound { IfOk result (λ _. failures self.new ≡ failures self.old) }
+        ensures failed { IfErr result (λ fault. failures self.new
+            ≡ failures_after (failures self.old) fault) };
+
+    /// The milliseconds of a clock that the source has, from any moment on. It needn't go on.
+    fn now_ms(&mut self) -> u64
+        ensures venue { venue_of self.new ≡ venue_of self.old }
+        ensures brings { brings self.old [] self.new }
+        ensures sound { failures self.new ≡ failures self.old };
+
+    /// Sends a request for messages that were lost, or drops it where there is nobody to ask. The
+    /// faults are those of `next`.
+    fn request(&mut self, request: &Request) -> Result<(), SourceFault>
+        ensures venue { venue_of self.new ≡ venue_of self.old }
+        ensures brings { brings self.old [] self.new }
+        ensures sound { IfOk result (λ _. failures self.new ≡ failures self.old) }
+        ensures failed { IfErr result (λ fault. failures self.new
+            ≡ failures_after (failures self.old) fault) };
+
+    /// By no call it is what it was, and nothing is brought.
+    ghost brings_nothing: { (s : Self) → brings s [] s };
+
+    /// Calls after calls are calls, and bring what those bring and then what these do.
+    ghost brings_more: { (s t u : Self) (xs ys : List (List ℕ))
+        → brings s xs t → brings t ys u → brings s (xs ++ ys) u };
+}

@@ -1,0 +1,86 @@
+//! Whether all is there that a feed is to be settled with.
+
+ghost use Rattle.std.specs.Prelude.{IsTrue, map};
+ghost use Rattle.live_feed.specs.settle.Settlements.{AgreesOn, Agrees, AllAgree, AreInOrder};
+
+use crate::feed::open_feed::Guarded;
+use crate::feed_name::FeedName;
+use crate::settle::tally::{is_of, seats_together};
+use crate::subscriber::Subscriber;
+use crate::venue::cell::VenueCell;
+use crate::venue::seat::LineSeat;
+use feed_types::{Genuine, LineId, VenueId};
+
+/// Whether one of the seats is of the venue's line.
+fn is_among<G, N>(seats: &[LineSeat<G, N>], venue: VenueId, line: LineId) -> bool {
+    for seat in seats {
+        if is_of(seat, venue, line) {
+            return true;
+        }
+    }
+    false
+}
+
+/// Whether each seat of the venue that was handed out is here.
+pub(crate) fn has_its_seats<G: Genuine, N: FeedName>(
+    guarded: &Guarded<G, N>,
+    seats: &[LineSeat<G, N>],
+) -> bool {
+    let venue = guarded.cell.venue();
+    (!guarded.a || is_among(seats, venue, LineId::A))
+        && (!guarded.b || is_among(seats, venue, LineId::B))
+        && (!guarded.recovery || is_among(seats, venue, LineId::Recovery))
+}
+
+/// Whether the cell counts on the line what the line's seats show.
+fn agrees_on<G: Genuine, N: FeedName>(
+    cell: &VenueCell<G, N>,
+    seats: &[LineSeat<G, N>],
+    line: LineId,
+) -> bool
+    ensures { IsTrue result → AgreesOn seats.now cell.now line }
+{
+    let tally = seats_together(seats, cell.venue(), line);
+    cell.wins(line) == tally.wins() && cell.accepted(line).are(tally.accepted())
+}
+
+/// Whether it is the cell of the venue of this number, and counts what the venue's seats show.
+fn agrees<G: Genuine, N: FeedName>(
+    cell: &VenueCell<G, N>,
+    place: usize,
+    seats: &[LineSeat<G, N>],
+) -> bool
+    ensures { IsTrue result → Agrees seats.now place cell.now }
+{
+    cell.venue().index() == place
+        && agrees_on(cell, seats, LineId::A)
+        && agrees_on(cell, seats, LineId::B)
+        && agrees_on(cell, seats, LineId::Recovery)
+}
+
+/// Whether the cells are those of the venues, in order, and each counts what its seats show.
+pub(crate) fn all_agree<G: Genuine, N: FeedName>(
+    venues: &[Guarded<G, N>],
+    seats: &[LineSeat<G, N>],
+) -> bool
+    ensures { IsTrue result → AllAgree seats.now (map (λ g. g.cell) venues.now) }
+{
+    for place in 0..venues.len() {
+        if !agrees(&venues[place].cell, place, seats) {
+            return false;
+        }
+    }
+    true
+}
+
+/// Whether the subscribers are in the order of their ids.
+pub(crate) fn are_in_order<N: FeedName>(subscribers: &[Subscriber<N>]) -> bool
+    ensures { IsTrue result → AreInOrder (map (λ s. s.tape) subscribers.now) }
+{
+    for place in 0..subscribers.len() {
+        if subscribers[place].id().index() != place {
+            return false;
+        }
+    }
+    true
+}

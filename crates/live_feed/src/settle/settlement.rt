@@ -1,0 +1,172 @@
+//! What a feed has come to.
+
+ghost use Rattle.std.specs.Prelude.{◌≡◌, ◌<◌, length, IfSome, Some, slice_get};
+ghost use Rattle.line_arbiter.specs.Counts.{count_on};
+ghost use Rattle.journal_book.specs.Journals.{changes, terms_at};
+ghost use Rattle.live_feed.specs.venue.Sums.{sums_list, sums_on};
+
+use crate::settle::subscriber_end::SubscriberEnd;
+use crate::settle::venue_end::VenueEnd;
+use crate::subscriber::logged::Logged;
+use feed_types::{Entry, LineId, Notice, Numbered, SubscriberId, VenueId};
+use filter_terms::Terms;
+use journal_book::Journal;
+use std::marker::Model;
+
+/// What a feed has come to once its threads have returned: its journal, and what is left of each
+/// venue and each subscriber.
+///
+/// A venue's items that were consumed, then those in its lane, then those that are ready are the
+/// streams of its sessions. The notices of a subscriber's log, then those in its lane, then those
+/// that weren't offered are what it wants of the entries (`IsSettlement` in
+/// `specs/settle/Settlements.antt`).
+#[derive(Drop)]
+pub struct Settlement {
+    kept: Journal,
+    venue_ends: Vec<VenueEnd>,
+    subscriber_ends: Vec<SubscriberEnd>,
+}
+
+impl Model for Settlement {
+    ghost use Rattle.std.specs.Coded.{codes};
+    ghost use Rattle.filter_terms.specs.contracts.terms.Terms as terms_type;
+    ghost use Rattle.live_feed.specs.settle.Settlements.{SettlementState};
+
+    ghost Value = { SettlementState };
+
+    ghost coded = { Prim.hlevel (codes, terms_type.the_row.coded) };
+
+    ghost view = { λ s. record {
+      journal = s.kept;
+      venues = s.venue_ends.items;
+      subscribers = s.subscriber_ends.items;
+    } };
+}
+
+impl Settlement {
+    pub(crate) fn new(
+        kept: Journal,
+        venue_ends: Vec<VenueEnd>,
+        subscriber_ends: Vec<SubscriberEnd>,
+    ) -> Settlement
+        ensures { result ≡ record {
+          journal = kept;
+          venues = venue_ends.items;
+          subscribers = subscriber_ends.items;
+        } }
+    {
+        Settlement {
+            kept,
+            venue_ends,
+            subscriber_ends,
+        }
+    }
+
+    /// How many venues there are.
+    pub fn venue_count(&self) -> usize
+        ensures { result ≡ length self.now.venues }
+    {
+        self.venue_ends.len()
+    }
+
+    /// How many subscribers there are.
+    pub fn subscriber_count(&self) -> usize
+        ensures { result ≡ length self.now.subscribers }
+    {
+        self.subscriber_ends.len()
+    }
+
+    /// The journal's entries.
+    pub fn entries(&self) -> &[Entry]
+        ensures { result.now ≡ self.now.journal.entries }
+    {
+        self.kept.entries()
+    }
+
+    /// The changes of the national best that the entries make, numbered from 1.
+    pub fn changes(&self) -> &[Notice]
+        ensures { result.now ≡ changes self.now.journal }
+    {
+        self.kept.changes()
+    }
+
+    /// The venue's items that were consumed. The venue is below the number of venues.
+    pub fn consumed(&self, venue: VenueId) -> &[Numbered]
+        requires { venue < length self.now.venues }
+        ensures { IfSome (slice_get self.now.venues venue) (λ v. result.now ≡ v.consumed) }
+    {
+        self.venue_ends[venue.index()].consumed()
+    }
+
+    /// The venue's items that still lay in its lane. The venue is below the number of venues.
+    pub fn in_lane(&self, venue: VenueId) -> &[Numbered]
+        requires { venue < length self.now.venues }
+        ensures { IfSome (slice_get self.now.venues venue) (λ v. result.now ≡ v.in_lane) }
+    {
+        self.venue_ends[venue.index()].in_lane()
+    }
+
+    /// The venue's items that are in sequence and weren't pushed. The venue is below the number of
+    /// venues.
+    pub fn ready(&self, venue: VenueId) -> &[Numbered]
+        requires { venue < length self.now.venues }
+        ensures { IfSome (slice_get self.now.venues venue) (λ v. result.now ≡ v.ready) }
+    {
+        self.venue_ends[venue.index()].ready()
+    }
+
+    /// How many numbers the venue's line brought first, over all sessions. The count stays at
+    /// 2^64 - 1 once it is there. The venue is below the number of venues.
+    pub fn wins(&self, venue: VenueId, line: LineId) -> u64
+        requires { venue < length self.now.venues }
+        ensures { IfSome (slice_get self.now.venues venue) (λ v. result ≡ count_on line v.wins) }
+    {
+        self.venue_ends[venue.index()].wins(line)
+    }
+
+    /// Four sums modulo 2^64, of the line's packets answered Taken, Heartbeat, Ended and Ahead:
+    /// each adds up the numbers of these packets, of a packet of messages the last message's. The
+    /// venue is below the number of venues.
+    pub fn accepted(&self, venue: VenueId, line: LineId) -> [u64; 4]
+        requires { venue < length self.now.venues }
+        ensures { IfSome (slice_get self.now.venues venue)
+            (λ v. result ≡ sums_list (sums_on line v.accepted)) }
+    {
+        self.venue_ends[venue.index()].accepted(line)
+    }
+
+    /// The subscriber's log, its oldest line first. The id is below the number of subscribers.
+    pub fn log(&self, id: SubscriberId) -> &[Logged]
+        requires { id < length self.now.subscribers }
+        ensures { IfSome (slice_get self.now.subscribers id) (λ x. result.now ≡ x.log) }
+    {
+        self.subscriber_ends[id.index()].log()
+    }
+
+    /// The notices that still lay in the subscriber's lane. The id is below the number of
+    /// subscribers.
+    pub fn queued(&self, id: SubscriberId) -> &[Notice]
+        requires { id < length self.now.subscribers }
+        ensures { IfSome (slice_get self.now.subscribers id) (λ x. result.now ≡ x.queued) }
+    {
+        self.subscriber_ends[id.index()].queued()
+    }
+
+    /// The notices that the subscriber wants and wasn't offered. The id is below the number of
+    /// subscribers.
+    pub fn unoffered(&self, id: SubscriberId) -> &[Notice]
+        requires { id < length self.now.subscribers }
+        ensures { IfSome (slice_get self.now.subscribers id) (λ x. result.now ≡ x.unoffered) }
+    {
+        self.subscriber_ends[id.index()].unoffered()
+    }
+
+    /// The terms of the subscriber's filter. The journal has as many subscribers as there are, and
+    /// the id is below that number.
+    pub fn terms(&self, id: SubscriberId) -> &Terms
+        requires { id < length self.now.journal.cursors }
+        ensures { terms_at self.now.journal id ≡ Some result.now }
+    {
+        self.kept.terms(id)
+    }
+}

@@ -1,0 +1,80 @@
+//! How a subscriber's lane is closed.
+
+ghost use Rattle.std.specs.Prelude.{◌≡◌, ◌≤◌, ◌<◌, ◌+◌, ◌++◌, ◌∷◌, [], drop, filter, length, vec_len, vec_capacity};
+ghost use Rattle.filter_terms.specs.Terms.{meets};
+ghost use Rattle.live_feed.specs.hub.Hubs.{IsOffered};
+ghost use Rattle.live_feed.specs.settle.Settlements.{IsServed};
+ghost use Rattle.live_feed.specs.settle.Rooms.{HasSubscriberRoom};
+
+use crate::feed_name::FeedName;
+use crate::settle::rooms::SubscriberRoom;
+use crate::settle::subscriber_end::SubscriberEnd;
+use crate::settle::venue_lane::drained;
+use crate::subscriber::log::Tape;
+use feed_types::{Best, National, Notice, SymbolName, VenueId};
+use fifo_lane::{RisingNotices, Sender, settle};
+use filter_terms::Terms;
+use journal_book::Journal;
+use std::sync::Wait;
+
+/// Appends the notice, for which there is room.
+fn push_notice(room: &mut Vec<Notice>, notice: &Notice)
+    requires { vec_len room.old < vec_capacity room.old }
+    ensures items { room.new.items ≡ room.old.items ++ notice.now ∷ [] }
+    ensures count { vec_len room.new ≡ vec_len room.old + 1 }
+    ensures capacity { vec_capacity room.new ≡ vec_capacity room.old }
+{
+    let _named: Option<(National, Best, SymbolName, VenueId)> = None;
+    room.push_reserved(*notice);
+}
+
+/// Appends the notice where it meets the terms. There is room for it.
+fn push_wanted(room: &mut Vec<Notice>, terms: &Terms, notice: &Notice)
+    requires { vec_len room.old < vec_capacity room.old }
+    ensures items { room.new.items
+        ≡ room.old.items ++ filter (meets terms.now) (notice.now ∷ []) }
+    ensures count { vec_len room.new ≤ vec_len room.old + 1 }
+    ensures capacity { vec_capacity room.new ≡ vec_capacity room.old }
+{
+    if terms.meets(notice) {
+        push_notice(room, notice);
+    }
+}
+
+/// The notices from this place on that meet the terms, in order. There is room for all from there.
+fn wanted_past(terms: &Terms, notices: &[Notice], from: usize, mut room: Vec<Notice>) -> Vec<Notice>
+    requires from { from ≤ length notices.now }
+    requires room { (length room.items ≡ 0) × (length notices.now ≤ from + vec_capacity room) }
+    ensures { result.items ≡ filter (meets terms.now) (drop from notices.now) }
+{
+    for place in from..notices.len() {
+        push_wanted(&mut room, terms, &notices[place]);
+    }
+    room
+}
+
+/// Closes a subscriber's lane, whose two ends these are. There is room for its lists.
+pub(crate) fn settle_subscriber<N: FeedName, W: Wait>(
+    rt: &W,
+    journal: &Journal,
+    sender: Sender<Notice, RisingNotices>,
+    tape: Tape<N>,
+    room: SubscriberRoom,
+) -> SubscriberEnd
+    requires known { tape.id < length journal.now.cursors }
+    requires offered { IsOffered N.lanes journal.now tape.id sender }
+    requires room { HasSubscriberRoom journal.now tape.id sender room }
+    ensures served { IsServed journal.now tape.id result.log result.queued result.unoffered }
+    ensures log { result.log ≡ tape.log }
+{
+    let SubscriberRoom { queued, unoffered } = room;
+    let id = tape.id();
+    let capacity = sender.capacity();
+    let from = journal.seen(id);
+    let terms = journal.terms(id);
+    let (lines, receiver) = tape.into_parts();
+    let inside = settle(sender, receiver);
+    let queued = drained(rt, inside, capacity, queued);
+    let unoffered = wanted_past(terms, journal.changes(), from, unoffered);
+    SubscriberEnd::new(lines, queued, unoffered)
+}

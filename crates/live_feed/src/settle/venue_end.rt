@@ -1,0 +1,132 @@
+//! What is left of a venue once its lane is closed.
+
+ghost use Rattle.std.specs.Prelude.{◌≡◌};
+ghost use Rattle.line_arbiter.specs.Counts.{count_on};
+ghost use Rattle.live_feed.specs.venue.Sums.{sums_list, sums_on};
+
+use crate::venue::sums::VenueSums;
+use feed_types::{Genuine, LineId, Numbered};
+use line_arbiter::Arbiter;
+use std::marker::Model;
+
+/// How many numbers each line of a venue brought first.
+#[derive(Clone, Copy, Debug)]
+pub(crate) struct VenueWins {
+    of_a: u64,
+    of_b: u64,
+    of_recovery: u64,
+}
+
+impl Model for VenueWins {
+    ghost use Rattle.line_arbiter.specs.Counts.{Counts};
+
+    ghost Value = { Counts };
+
+    ghost view = { λ w. record { a = w.of_a; b = w.of_b; recovery = w.of_recovery } };
+
+    ghost inverse = { λ c. record { of_a = c.a; of_b = c.b; of_recovery = c.recovery } };
+}
+
+impl VenueWins {
+    /// As the venue's arbiter counted.
+    pub(crate) fn counted<G: Genuine>(lines: &Arbiter<G>) -> VenueWins
+        ensures { result ≡ lines.now.wins }
+    {
+        VenueWins {
+            of_a: lines.wins(LineId::A),
+            of_b: lines.wins(LineId::B),
+            of_recovery: lines.wins(LineId::Recovery),
+        }
+    }
+
+    fn on(&self, line: LineId) -> u64
+        ensures { result ≡ count_on line self.now }
+    {
+        match line {
+            LineId::A => self.of_a,
+            LineId::B => self.of_b,
+            LineId::Recovery => self.of_recovery,
+        }
+    }
+}
+
+/// A venue's items, parted in those that were consumed, those that still lay in the lane and those
+/// that are ready behind it, and what is counted per line.
+#[derive(Drop)]
+pub(crate) struct VenueEnd {
+    journaled: Vec<Numbered>,
+    inside: Vec<Numbered>,
+    unsent: Vec<Numbered>,
+    won: VenueWins,
+    sums: VenueSums,
+}
+
+impl Model for VenueEnd {
+    ghost use Rattle.live_feed.specs.settle.Settlements.{VenueEndState};
+
+    ghost Value = { VenueEndState };
+
+    ghost view = { λ e. record {
+      consumed = e.journaled.items;
+      in_lane = e.inside.items;
+      ready = e.unsent.items;
+      wins = e.won;
+      accepted = e.sums;
+    } };
+}
+
+impl VenueEnd {
+    pub(crate) fn new(
+        consumed: Vec<Numbered>,
+        in_lane: Vec<Numbered>,
+        ready: Vec<Numbered>,
+        won: VenueWins,
+        sums: VenueSums,
+    ) -> VenueEnd
+        ensures { result ≡ record {
+          consumed = consumed.items;
+          in_lane = in_lane.items;
+          ready = ready.items;
+          wins = won;
+          accepted = sums;
+        } }
+    {
+        VenueEnd {
+            journaled: consumed,
+            inside: in_lane,
+            unsent: ready,
+            won,
+            sums,
+        }
+    }
+
+    pub(crate) fn consumed(&self) -> &[Numbered]
+        ensures { result.now ≡ self.now.consumed }
+    {
+        self.journaled.as_slice()
+    }
+
+    pub(crate) fn in_lane(&self) -> &[Numbered]
+        ensures { result.now ≡ self.now.in_lane }
+    {
+        self.inside.as_slice()
+    }
+
+    pub(crate) fn ready(&self) -> &[Numbered]
+        ensures { result.now ≡ self.now.ready }
+    {
+        self.unsent.as_slice()
+    }
+
+    pub(crate) fn wins(&self, line: LineId) -> u64
+        ensures { result ≡ count_on line self.now.wins }
+    {
+        self.won.on(line)
+    }
+
+    pub(crate) fn accepted(&self, line: LineId) -> [u64; 4]
+        ensures { result ≡ sums_list (sums_on line self.now.accepted) }
+    {
+        self.sums.on(line).all()
+    }
+}

@@ -1,0 +1,139 @@
+//! How a venue's lane is closed.
+
+ghost use Rattle.std.specs.Prelude.{◌≡◌, ◌≤◌, ◌<◌, ◌+◌, ◌++◌, List, drop, length, vec_len, vec_capacity};
+ghost use Rattle.line_arbiter.specs.Packets.{Arrival};
+ghost use Rattle.line_arbiter.specs.Streams.{stream_of};
+ghost use Rattle.line_arbiter.specs.Fits.{Fits};
+ghost use Rattle.live_feed.specs.hub.Hubs.{IsConsumed, item_by, items_in};
+ghost use Rattle.live_feed.specs.settle.Settlements.{IsClosedVenue};
+ghost use Rattle.live_feed.specs.settle.Rooms.{HasVenueRoom};
+
+use crate::feed_name::FeedName;
+use crate::settle::rooms::VenueRoom;
+use crate::settle::venue_end::{VenueEnd, VenueWins};
+use crate::venue::cell::VenueCell;
+use feed_types::{Entry, Genuine, Item, Numbered, Quote, SymbolName, VenueId};
+use fifo_lane::{LaneRule, Receiver, Settled, VenueItems, settle};
+use line_arbiter::Arbiter;
+use std::sync::Wait;
+
+/// The items inside the lane, in order. There is room for as many as it holds.
+pub(crate) fn drained<T: Drop, R: LaneRule<T>, W: Wait>(
+    rt: &W,
+    mut inside: Settled<T, R>,
+    capacity: usize,
+    mut room: Vec<T>,
+) -> Vec<T>
+    requires room { (length room.items ≡ 0) × (capacity ≤ vec_capacity room) }
+    requires inside { length inside ≤ capacity }
+    ensures { result.items ≡ inside }
+{
+    for _ in 0..capacity {
+        let Some(item) = inside.next(rt) else {
+            break;
+        };
+        room.push_reserved(item);
+    }
+    room
+}
+
+/// How many items of the venue the entry is, one or none.
+fn count_item(venue: VenueId, entry: &Entry) -> usize
+    ensures value { result ≡ length (item_by venue entry.now) }
+    ensures few { result ≤ 1 }
+{
+    match entry {
+        Entry::Consumed { venue: of, .. } => { if *of == venue { 1 } else { 0 } }
+        Entry::SelfHelp { .. } => 0,
+    }
+}
+
+/// How many of the entries are items of the venue.
+pub(crate) fn count_items(entries: &[Entry], venue: VenueId) -> usize
+    ensures { result ≡ length (items_in entries.now venue) }
+{
+    let mut count = 0;
+    for place in 0..entries.len() {
+        count += count_item(venue, &entries[place]);
+    }
+    count
+}
+
+/// Appends the entry's item where it is the venue's. There is room for it.
+fn push_item(room: &mut Vec<Numbered>, venue: VenueId, entry: &Entry)
+    requires { vec_len room.old + length (item_by venue entry.now) ≤ vec_capacity room.old }
+    ensures items { room.new.items ≡ room.old.items ++ item_by venue entry.now }
+    ensures capacity { vec_capacity room.new ≡ vec_capacity room.old }
+{
+    let _named: Option<(Item, Quote, SymbolName)> = None;
+    match entry {
+        Entry::Consumed {
+            venue: of,
+            numbered,
+        } => {
+            if *of == venue {
+                room.push_reserved(*numbered);
+            }
+        }
+        Entry::SelfHelp { .. } => {}
+    }
+}
+
+/// The venue's items in the entries, in order. There is room for them.
+pub(crate) fn consumed_of(
+    entries: &[Entry],
+    venue: VenueId,
+    mut room: Vec<Numbered>,
+) -> Vec<Numbered>
+    requires { (length room.items ≡ 0)
+        × (length (items_in entries.now venue) ≤ vec_capacity room) }
+    ensures { result.items ≡ items_in entries.now venue }
+{
+    for place in 0..entries.len() {
+        push_item(&mut room, venue, &entries[place]);
+    }
+    room
+}
+
+/// The items that are ready, in order. There is room for all up to the front, and for End.
+fn take_ready<G: Genuine>(lines: &mut Arbiter<G>, mut room: Vec<Numbered>) -> Vec<Numbered>
+    requires room { (length room.items ≡ 0)
+        × (lines.old.front + 1 ≤ lines.old.sent + vec_capacity room) }
+    requires fits { (packets : List Arrival) × Fits lines.old packets }
+    ensures ready { (packets : List Arrival) → Fits lines.old packets
+        → result.items ≡ drop lines.old.sent (stream_of packets) }
+    ensures wins { lines.new.wins ≡ lines.old.wins }
+{
+    while let Some(next) = lines.next_ready() {
+        room.push_reserved(next);
+        lines.advance();
+    }
+    room
+}
+
+/// Closes a venue's lane, whose two ends these are. There is room for its lists.
+pub(crate) fn settle_venue<G: Genuine, N: FeedName, W: Wait>(
+    rt: &W,
+    entries: &[Entry],
+    cell: VenueCell<G, N>,
+    receiver: Receiver<Numbered, VenueItems<G>>,
+    room: VenueRoom,
+) -> VenueEnd
+    requires end { IsConsumed G.carries G.ends N.lanes entries.now cell.arbiter.venue receiver }
+    requires room { HasVenueRoom entries.now cell room }
+    ensures { IsClosedVenue G.carries G.ends entries.now cell.arbiter.venue cell result }
+{
+    let VenueRoom {
+        consumed,
+        in_lane,
+        ready,
+    } = room;
+    let capacity = cell.capacity();
+    let consumed = consumed_of(entries, cell.venue(), consumed);
+    let (mut lines, sender, sums) = cell.into_parts();
+    let inside = settle(sender, receiver);
+    let in_lane = drained(rt, inside, capacity, in_lane);
+    let ready = take_ready(&mut lines, ready);
+    let wins = VenueWins::counted(&lines);
+    VenueEnd::new(consumed, in_lane, ready, wins, sums)
+}

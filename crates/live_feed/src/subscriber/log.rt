@@ -1,0 +1,169 @@
+//! What a subscriber keeps beside its strategy.
+
+ghost use Rattle.std.specs.Prelude.{◌≡◌, ◌<◌, [], ◌∷◌, ◌++◌, Some, slice_get, vec_len, vec_capacity};
+ghost use Rattle.filter_terms.specs.Allowed.{IsAllowed};
+ghost use Rattle.live_feed.specs.subscriber.Logs.{IsTape, Polls, logged};
+
+use crate::bells::Bells;
+use crate::feed_name::FeedName;
+use crate::subscriber::advising::advise;
+use crate::subscriber::logged::{Logged, PollFault};
+use feed_types::{Best, National, Notice, SubscriberId, SymbolName, VenueId};
+use fifo_lane::{LaneRule, Receiver, RisingNotices};
+use filter_terms::{Advice, Limits, Strategy};
+use std::alloc::Global;
+use std::marker::{Model, PhantomData};
+use std::sync::{Arc, Wait};
+
+/// The receiving end of a subscriber's lane, and the log of what it took.
+#[derive(Drop)]
+pub struct Tape<N: FeedName> {
+    owner: SubscriberId,
+    notices: Receiver<Notice, RisingNotices>,
+    lines: Vec<Logged>,
+    most_lines: u32,
+    bounds: Limits,
+    bells: Arc<Bells, Global>,
+    feed: PhantomData<N>,
+}
+
+impl<N: FeedName> Model for Tape<N> {
+    ghost use Rattle.live_feed.specs.subscriber.Logs.{TapeState, IsTape};
+
+    ghost Value = { TapeState };
+
+    ghost view = { λ t. record {
+      id = t.owner;
+      lane = t.notices;
+      log = t.lines.items;
+      most = t.most_lines;
+      limits = t.bounds;
+    } };
+
+    ghost invariant = { λ t. IsTape N.lanes (record {
+      id = t.owner;
+      lane = t.notices;
+      log = t.lines.items;
+      most = t.most_lines;
+      limits = t.bounds;
+    }) };
+}
+
+/// What the strategy advises, where its limits are these; another one, which no subscriber has, is
+/// asked and holds. It is shown a copy, so that the notice itself goes into the log as it was read.
+fn advised(strategy: &mut Strategy, bounds: Limits, notice: &Notice) -> Advice
+    ensures { IsAllowed bounds notice.now result }
+{
+    let same = strategy.limits == bounds;
+    let shown = *notice;
+    let advice = advise(strategy, &shown);
+    if same { advice } else { Advice::Hold }
+}
+
+/// Appends a line, for which there is room.
+fn push_line(lines: &mut Vec<Logged>, notice: &Notice, advice: &Advice)
+    requires { vec_len lines.old < vec_capacity lines.old }
+    ensures { lines.new.items ≡ lines.old.items ++ logged notice.now advice.now ∷ [] }
+{
+    let _named: Option<(National, Best, SymbolName, VenueId)> = None;
+    let notice = *notice;
+    let advice = *advice;
+    lines.push_reserved(Logged { notice, advice });
+}
+
+/// Asks for advice on the notice and logs it. There is room for a line.
+fn log_line(
+    lines: &mut Vec<Logged>,
+    strategy: &mut Strategy,
+    bounds: Limits,
+    notice: &Notice,
+) -> Advice
+    requires { vec_len lines.old < vec_capacity lines.old }
+    ensures logged { lines.new.items ≡ lines.old.items ++ logged notice.now result ∷ [] }
+    ensures allowed { IsAllowed bounds notice.now result }
+{
+    let advice = advised(strategy, bounds, notice);
+    push_line(lines, notice, &advice);
+    advice
+}
+
+impl<N: FeedName> Tape<N> {
+    pub(crate) fn new(
+        alloc: Global,
+        id: SubscriberId,
+        lane: Receiver<Notice, RisingNotices>,
+        most: u32,
+        limits: Limits,
+        bells: Arc<Bells, Global>,
+    ) -> Tape<N>
+        requires tag { lane.tag ≡ id }
+        requires lane { slice_get N.lanes.subscribers id ≡ Some lane.lane }
+        requires new { lane.items ≡ [] }
+        ensures { result
+            ≡ record { id = id; lane = lane; log = []; most = most; limits = limits } }
+    {
+        Tape {
+            owner: id,
+            notices: lane,
+            lines: Vec::new(alloc),
+            most_lines: most,
+            bounds: limits,
+            bells,
+            feed: PhantomData,
+        }
+    }
+
+    /// The log, and the receiving end of the lane.
+    pub(crate) fn into_parts(self) -> (Vec<Logged>, Receiver<Notice, RisingNotices>)
+        ensures parts { (result.0.items ≡ self.log) × (result.1 ≡ self.lane) }
+        ensures tape { IsTape N.lanes self }
+    {
+        let Tape {
+            owner: _,
+            notices,
+            lines,
+            most_lines: _,
+            bounds: _,
+            bells: _,
+            feed: _,
+        } = self;
+        (lines, notices)
+    }
+
+    /// The log, its oldest line first.
+    pub fn log(&self) -> &[Logged]
+        ensures { result.now ≡ self.now.log }
+    {
+        self.lines.as_slice()
+    }
+
+    /// The subscriber's id.
+    pub fn id(&self) -> SubscriberId
+        ensures { result ≡ self.now.id }
+    {
+        self.owner
+    }
+
+    /// Takes the next notice and logs the strategy's advice on it. Where another notice waits for
+    /// the room that this makes, the consolidators are woken.
+    pub(crate) fn poll<W: Wait>(
+        &mut self,
+        rt: &W,
+        strategy: &mut Strategy,
+    ) -> Result<Option<Advice>, PollFault>
+        ensures { Polls ⟦<RisingNotices as LaneRule<Notice>>⟧.may_send result self.old self.new }
+    {
+        if self.lines.len() >= self.most_lines as usize {
+            return Err(PollFault::LogFull);
+        }
+        if self.lines.reserve(1).is_err() {
+            return Err(PollFault::NoMemory);
+        }
+        let Some(notice) = self.notices.pop(rt) else {
+            return Ok(None);
+        };
+        self.bells.ring_room(self.owner);
+        let advice = log_line(&mut self.lines, strategy, self.bounds, &notice);
+        Ok(Some(advice))
+    }
+}

@@ -1,0 +1,9 @@
+//! A venue: what stands behind its lock, the sections under that lock, and what its lines show.
+
+mod calls;
+pub(crate) mod cell;
+pub(crate) mod datagram;
+pub(crate) mod locks;
+pub(crate) mod seat;
+pub(crate) mod start;
+pub(crate) mod sums;

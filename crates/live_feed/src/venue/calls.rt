@@ -1,0 +1,201 @@
+//! The calls of a feed that take a venue's lock alone.
+
+ghost use Rattle.std.specs.Prelude.{◌≡◌, ◌≤◌, ◌↔◌, length, IsErrOf};
+ghost use Rattle.line_arbiter.specs.Genuine.{IsGenuine};
+ghost use Rattle.live_feed.specs.venue.Seats.{seat_after};
+ghost use Rattle.live_feed.specs.venue.Sections.{AcceptsTheirPacket};
+ghost use Rattle.live_feed.specs.venue.Datagrams.{AreGenuineBytes, AcceptsTheirs, IsAnsweredAt, IsTakenBy, bytes_of};
+
+use crate::faults::{FeedFault, TakeFault};
+use crate::feed_name::FeedName;
+use crate::unsent::Unsent;
+use crate::venue::cell::VenueCell;
+use crate::venue::datagram::Datagram;
+use crate::venue::locks::{VenueLocks, enter};
+use crate::venue::seat::LineSeat;
+use feed_types::{Genuine, VenueId};
+use line_arbiter::{LineFault, Outcome};
+use mold_packet::{Packet, Request, read_packet};
+use std::sync::Wait;
+
+/// Pushes what is ready of the venue, at most so many items, until nothing is or the lane is full.
+/// Gives how many were pushed, and whether something may be ready still.
+fn push_ready<G: Genuine, N: FeedName, W: Wait>(
+    rt: &W,
+    cell: &mut VenueCell<G, N>,
+    most: u64,
+) -> (u64, bool) {
+    for pushed in 0..most {
+        match cell.push_one(rt) {
+            Ok(_) => {}
+            Err(unsent) => return (pushed, unsent == Unsent::LaneFull),
+        }
+    }
+    (most, true)
+}
+
+/// Whether a packet brought nothing.
+fn is_repeat(answer: &Result<Outcome, LineFault>) -> bool {
+    matches!(answer, Ok(Outcome::Taken { new: 0, .. }))
+}
+
+/// Takes the packet where the cell is of the seat's venue. Most bring the next message alone.
+fn take_in<G: Genuine, N: FeedName, W: Wait>(
+    rt: &W,
+    cell: &mut VenueCell<G, N>,
+    seat: &mut LineSeat<G, N>,
+    packet: &Packet<'_>,
+) -> Result<Outcome, LineFault>
+    requires { IsGenuine G.sessions G.carries G.ends seat.old.venue packet.now }
+    ensures seat { seat.new ≡ seat_after seat.old packet.now result }
+    ensures answer { IsAnsweredAt G.sessions G.carries G.ends N.lanes seat.old packet.now result }
+    ensures accepts { AcceptsTheirPacket G.sessions G.carries G.ends seat.old.venue packet.now
+        result }
+{
+    if cell.venue() != seat.venue() {
+        return Err(LineFault::OtherSession);
+    }
+    if let Some(outcome) = cell.take_and_push(rt, seat, packet) {
+        return Ok(outcome);
+    }
+    cell.take(seat, packet)
+}
+
+impl<G: Genuine, N: FeedName> VenueLocks<G, N> {
+    /// Takes a datagram that came on the seat's line, which is genuine at its venue, and answers
+    /// what became of it: the packet's fault, else the line's, else the outcome. What is ready then,
+    /// after a fault too, is pushed, until nothing is or the lane is full. The datagram is read
+    /// before the venue's lock is taken.
+    pub(crate) fn take<W: Wait>(
+        &self,
+        rt: &W,
+        seat: &mut LineSeat<G, N>,
+        datagram: &Datagram,
+    ) -> Result<Outcome, TakeFault>
+        requires { AreGenuineBytes G.sessions G.carries G.ends seat.old.venue
+            (bytes_of datagram.now) }
+        ensures taken { IsTakenBy G.sessions G.carries G.ends N.lanes (bytes_of datagram.now)
+            seat.old result seat.new }
+
+        // Where it is known which sessions the lines bring, a packet of one of them is refused only
+        // where it isn't of the present one.
+        ensures accepts { AcceptsTheirs G.sessions G.carries G.ends seat.old.venue
+            (bytes_of datagram.now) result }
+    {
+        let mut gap = false;
+        self.take_and_look(rt, seat, datagram, &mut gap)
+    }
+
+    /// Takes a datagram as `take` does, and says whether a gap stands then, all under the venue's
+    /// lock taken once.
+    pub(crate) fn take_and_look<W: Wait>(
+        &self,
+        rt: &W,
+        seat: &mut LineSeat<G, N>,
+        datagram: &Datagram,
+        gap: &mut bool,
+    ) -> Result<Outcome, TakeFault>
+        requires { AreGenuineBytes G.sessions G.carries G.ends seat.old.venue
+            (bytes_of datagram.now) }
+        ensures taken { IsTakenBy G.sessions G.carries G.ends N.lanes (bytes_of datagram.now)
+            seat.old result seat.new }
+        ensures accepts { AcceptsTheirs G.sessions G.carries G.ends seat.old.venue
+            (bytes_of datagram.now) result }
+    {
+        match read_packet(datagram.bytes()) {
+            Ok(packet) => match self.take_packet(rt, seat, &packet, gap) {
+                Ok(outcome) => Ok(outcome),
+                Err(fault) => Err(TakeFault::Line(fault)),
+            },
+            Err(fault) => {
+                let _ = self.flush(rt, seat.venue());
+                *gap = true;
+                Err(TakeFault::Packet(fault))
+            }
+        }
+    }
+
+    /// Takes a packet that was read, under the lock of the seat's venue, pushes what is ready, and
+    /// says whether a gap stands then.
+    fn take_packet<W: Wait>(
+        &self,
+        rt: &W,
+        seat: &mut LineSeat<G, N>,
+        packet: &Packet<'_>,
+        gap: &mut bool,
+    ) -> Result<Outcome, LineFault>
+        requires { IsGenuine G.sessions G.carries G.ends seat.old.venue packet.now }
+        ensures seat { seat.new ≡ seat_after seat.old packet.now result }
+        ensures answer { IsAnsweredAt G.sessions G.carries G.ends N.lanes seat.old packet.now
+            result }
+        ensures accepts { AcceptsTheirPacket G.sessions G.carries G.ends seat.old.venue packet.now
+            result }
+    {
+        let Some(lock) = self.get(seat.venue()) else {
+            return Err(LineFault::OtherSession);
+        };
+        let mut guarded = enter(rt, lock);
+        let answer = take_in(rt, &mut guarded.cell, seat, packet);
+        let (pushed, is_held_back) = push_ready(rt, &mut guarded.cell, u64::MAX);
+        self.set_held_back(seat.venue(), is_held_back);
+        *gap = guarded.cell.has_gap();
+        drop(guarded);
+        if pushed > 0 || !is_repeat(&answer) {
+            self.bells().ring_work();
+        }
+        answer
+    }
+
+    /// Pushes what is ready of the venue, until nothing is or the lane is full, and gives how many
+    /// items were pushed.
+    pub(crate) fn flush<W: Wait>(&self, rt: &W, venue: VenueId) -> Result<u64, FeedFault>
+        ensures unknown { IsErrOf result FeedFault.UnknownVenue ↔ (length N.lanes.venues ≤ venue) }
+    {
+        self.flush_some(rt, venue, u64::MAX)
+    }
+
+    /// Pushes what is ready of the venue as `flush` does, at most so many items. Where something may
+    /// be ready still, the venue is held back.
+    pub(crate) fn flush_some<W: Wait>(
+        &self,
+        rt: &W,
+        venue: VenueId,
+        most: u64,
+    ) -> Result<u64, FeedFault>
+        ensures unknown { IsErrOf result FeedFault.UnknownVenue ↔ (length N.lanes.venues ≤ venue) }
+    {
+        let Some(lock) = self.get(venue) else {
+            return Err(FeedFault::UnknownVenue);
+        };
+        let mut guarded = enter(rt, lock);
+        if guarded.cell.venue() != venue {
+            return Ok(0);
+        }
+        let (pushed, is_held_back) = push_ready(rt, &mut guarded.cell, most);
+        self.set_held_back(venue, is_held_back);
+        drop(guarded);
+        if pushed > 0 {
+            self.bells().ring_work();
+        }
+        Ok(pushed)
+    }
+
+    /// The request for the venue's gap to send now, if any.
+    pub(crate) fn due<W: Wait>(
+        &self,
+        rt: &W,
+        venue: VenueId,
+        now_ms: u64,
+    ) -> Result<Option<Request>, FeedFault>
+        ensures unknown { IsErrOf result FeedFault.UnknownVenue ↔ (length N.lanes.venues ≤ venue) }
+    {
+        let Some(lock) = self.get(venue) else {
+            return Err(FeedFault::UnknownVenue);
+        };
+        let mut guarded = enter(rt, lock);
+        if guarded.cell.venue() != venue {
+            return Ok(None);
+        }
+        Ok(guarded.cell.due(now_ms))
+    }
+}

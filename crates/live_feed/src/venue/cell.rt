@@ -1,0 +1,292 @@
+//! What stands behind a venue's lock.
+
+ghost use Rattle.std.specs.Prelude.{◌≡◌, ◌≤◌, ◌+◌, [], ◌∷◌, Some, Ok, OnOk, OnErr, IfOk, IfSome, IfNone, length, map, slice_get};
+ghost use Rattle.feed_types.specs.declared.item.Numbered.{Numbered};
+ghost use Rattle.feed_types.specs.Sessions.{numbered_from};
+ghost use Rattle.quote_payload.specs.Payload.{item_of};
+ghost use Rattle.line_arbiter.specs.Genuine.{IsGenuine};
+ghost use Rattle.line_arbiter.specs.Histories.{History};
+ghost use Rattle.line_arbiter.specs.Streams.{gap_of};
+ghost use Rattle.line_arbiter.specs.Pacing.{IsPaced};
+ghost use Rattle.line_arbiter.specs.Fits.{Fits};
+ghost use Rattle.line_arbiter.specs.States.{IsNew, ordinal_of};
+ghost use Rattle.line_arbiter.specs.Counts.{count_on};
+ghost use Rattle.live_feed.specs.venue.Seats.{seat_after};
+ghost use Rattle.live_feed.specs.venue.Sums.{sums_on};
+ghost use Rattle.live_feed.specs.venue.Cells.{FitsCell, IsKept, new_cell};
+ghost use Rattle.live_feed.specs.venue.Sections.{TakesPacket, IsAnsweredBy, AcceptsTheirPacket, KeepsButPackets, TakesAndPushes, KeepsButPushed, IsLeft, PushesOne, KeepsButSent, RenewsSession, BeginsNext};
+
+use crate::feed_name::FeedName;
+use crate::unsent::Unsent;
+use crate::venue::seat::LineSeat;
+use crate::venue::sums::{PacketSums, VenueSums};
+use feed_types::{Genuine, LineId, Numbered, VenueId};
+use fifo_lane::{LaneRule, Sender, VenueItems};
+use line_arbiter::{Arbiter, InOrder, LineFault, Outcome, Pacer, RenewFault};
+use mold_packet::{Packet, Request};
+use quote_payload::read_item;
+use std::marker::{Model, PhantomData};
+use std::sync::Wait;
+
+/// How long it takes until the same gap is asked for again, in milliseconds.
+const REQUEST_INTERVAL_MS: u64 = 250;
+
+/// A venue's arbiter with the sending end of its lane.
+///
+/// Whenever it is let go there are packets that the venue was given, session by session, for which
+/// it stands (`IsKept` in `specs/venue/Cells.antt`).
+#[derive(Drop)]
+pub struct VenueCell<G: Genuine, N: FeedName> {
+    items: Sender<Numbered, VenueItems<G>>,
+    pacer: Pacer,
+    sums: VenueSums,
+    lines: Arbiter<G>,
+    feed: PhantomData<N>,
+}
+
+impl<G: Genuine, N: FeedName> Model for VenueCell<G, N> {
+    ghost use Rattle.live_feed.specs.venue.Cells.{CellState, IsKept};
+
+    ghost Value = { CellState };
+
+    ghost view = { λ c. record {
+      arbiter = c.lines;
+      lane = c.items;
+      pace = c.pacer;
+      accepted = c.sums;
+    } };
+
+    ghost invariant = { λ c. IsKept G.sessions G.carries G.ends N.lanes (record {
+      arbiter = c.lines;
+      lane = c.items;
+      pace = c.pacer;
+      accepted = c.sums;
+    }) };
+}
+
+/// The item of the packet's message, where it has one and no more.
+fn only_item(packet: &Packet<'_>) -> Option<Numbered>
+    ensures item { IfSome result (λ next.
+        next ∷ [] ≡ numbered_from packet.now.number (map item_of packet.now.messages)) }
+    ensures none { IfNone result (length packet.now.messages ≡ 1 → ⊥) }
+{
+    if packet.count() != 1 {
+        return None;
+    }
+    let message = packet.messages().next()?;
+    Some(Numbered {
+        number: packet.number(),
+        item: read_item(message),
+    })
+}
+
+impl<G: Genuine, N: FeedName> VenueCell<G, N> {
+    /// A venue to which nothing came.
+    pub(crate) fn new(arbiter: Arbiter<G>, lane: Sender<Numbered, VenueItems<G>>) -> VenueCell<G, N>
+        requires arbiter { IsNew arbiter lane.tag arbiter.session arbiter.window }
+        requires fits { Fits arbiter [] }
+        requires named { G.sessions lane.tag 1 arbiter.session }
+        requires lane { (lane.items ≡ []) × (slice_get N.lanes.venues lane.tag ≡ Some lane.lane) }
+        ensures { result ≡ new_cell arbiter lane }
+    {
+        VenueCell {
+            lines: arbiter,
+            items: lane,
+            pacer: Pacer::new(REQUEST_INTERVAL_MS),
+            sums: VenueSums::none(),
+            feed: PhantomData,
+        }
+    }
+
+    /// The venue whose cell it is.
+    pub fn venue(&self) -> VenueId
+        ensures { result ≡ self.now.arbiter.venue }
+    {
+        self.lines.venue()
+    }
+
+    /// Which of the venue's sessions the present one is, counted from 1 to 64.
+    pub fn ordinal(&self) -> u64
+        ensures value { result ≡ ordinal_of self.now.arbiter }
+        ensures range { (1 ≤ result) × (result ≤ 64) }
+    {
+        self.lines.ordinal()
+    }
+
+    /// How many items the lane has room for.
+    pub(crate) fn capacity(&self) -> usize
+        ensures { result ≡ self.now.lane.capacity }
+    {
+        self.items.capacity()
+    }
+
+    /// How many numbers the line brought first.
+    pub(crate) fn wins(&self, line: LineId) -> u64
+        ensures { result ≡ count_on line self.now.arbiter.wins }
+    {
+        self.lines.wins(line)
+    }
+
+    /// The sums of the line's accepted packets.
+    pub(crate) fn accepted(&self, line: LineId) -> PacketSums
+        ensures { result ≡ sums_on line self.now.accepted }
+    {
+        self.sums.on(line)
+    }
+
+    /// Room enough for what is ready, the items up to the front and End; None past a `usize`.
+    pub(crate) fn most_ready(&self) -> Option<usize>
+        ensures { IfSome result (λ most.
+            self.now.arbiter.front + 1 ≤ self.now.arbiter.sent + most) }
+    {
+        let status = self.lines.status();
+        let messages = status.front.saturating_sub(status.sent) as usize;
+        messages.checked_add(1)
+    }
+
+    /// What the lock kept, once it is gone.
+    pub(crate) fn into_parts(self) -> (Arbiter<G>, Sender<Numbered, VenueItems<G>>, VenueSums)
+        ensures parts { (result.0 ≡ self.arbiter) × (result.1 ≡ self.lane)
+            × (result.2 ≡ self.accepted) }
+        ensures kept { IsKept G.sessions G.carries G.ends N.lanes self }
+    {
+        let VenueCell {
+            lines,
+            items,
+            pacer: _,
+            sums,
+            feed: _,
+        } = self;
+        (lines, items, sums)
+    }
+
+    /// Takes a packet that came on a line of this venue, and answers what became of it. A packet of
+    /// the present session has to be genuine. A refused packet changes nothing.
+    pub fn take(
+        &mut self,
+        seat: &mut LineSeat<G, N>,
+        packet: &Packet<'_>,
+    ) -> Result<Outcome, LineFault>
+        requires venue { seat.old.venue ≡ self.old.arbiter.venue }
+        requires genuine { IsGenuine G.sessions G.carries G.ends seat.old.venue packet.now }
+        ensures packet { (h : History) → FitsCell self.old h
+            → TakesPacket seat.old.line packet.now result h self.old self.new }
+        ensures kept { KeepsButPackets self.old self.new }
+        ensures seat { seat.new ≡ seat_after seat.old packet.now result }
+
+        ensures answered { IsAnsweredBy G.sessions G.carries G.ends N.lanes seat.old.venue
+            seat.old.line packet.now result }
+
+        // Where it is known which sessions the lines bring, a packet of one of them is refused only
+        // where it isn't of the present one.
+        ensures accepts { AcceptsTheirPacket G.sessions G.carries G.ends seat.old.venue packet.now
+            result }
+        ensures refused { OnErr result (self.new ≡ self.old) }
+    {
+        // for the prover: the packet's ranges
+        let _number = packet.number();
+        match self.lines.take(seat.line(), packet) {
+            Ok(outcome) => {
+                self.sums.add(seat.line(), packet, outcome);
+                seat.count(packet, outcome);
+                Ok(outcome)
+            }
+            Err(fault) => Err(fault),
+        }
+    }
+
+    /// Takes a packet of one message, which is the next one where nothing is held, and pushes its
+    /// item, which needn't be held first: what `take` and then `push_one` do. `None` for any other
+    /// packet, and where the lane is full; then nothing has changed, and `take` takes it.
+    pub fn take_and_push<W: Wait>(
+        &mut self,
+        rt: &W,
+        seat: &mut LineSeat<G, N>,
+        packet: &Packet<'_>,
+    ) -> Option<Outcome>
+        requires venue { seat.old.venue ≡ self.old.arbiter.venue }
+        requires genuine { IsGenuine G.sessions G.carries G.ends seat.old.venue packet.now }
+        ensures packet { (h : History) → FitsCell self.old h
+            → IfSome result (λ outcome. TakesAndPushes seat.old.line packet.now outcome h
+            self.old self.new) }
+        ensures kept { IfSome result (λ _. KeepsButPushed self.old self.new) }
+        ensures seat { IfSome result (λ outcome. seat.new
+            ≡ seat_after seat.old packet.now (Ok outcome)) }
+        ensures answered { IfSome result (λ outcome. IsAnsweredBy G.sessions G.carries G.ends
+            N.lanes seat.old.venue seat.old.line packet.now (Ok outcome)) }
+        ensures left { IfNone result
+            (IsLeft ⟦<VenueItems<G> as LaneRule<Numbered>>⟧.may_send packet.now self.old) }
+        ensures none { IfNone result ((self.new ≡ self.old) × (seat.new ≡ seat.old)) }
+    {
+        let order = self.lines.peek_in_order(packet)?;
+        let InOrder::Next { .. } = order else {
+            return None;
+        };
+        let next = only_item(packet)?;
+        let Ok(()) = self.items.push(rt, next) else {
+            return None;
+        };
+        let line = seat.line();
+        let outcome = self.lines.take_in_order(line, order, packet);
+        self.sums.add(line, packet, outcome);
+        seat.count(packet, outcome);
+        Some(outcome)
+    }
+
+    /// Pushes the next item of the venue, where one is ready and the lane has room.
+    pub fn push_one<W: Wait>(&mut self, rt: &W) -> Result<u64, Unsent>
+        ensures push { (h : History) → FitsCell self.old h
+            → PushesOne ⟦<VenueItems<G> as LaneRule<Numbered>>⟧.may_send result h
+            self.old self.new }
+        ensures kept { KeepsButSent self.old self.new }
+        ensures refused { OnErr result (self.new ≡ self.old) }
+    {
+        let Some(ready) = self.lines.next_ready() else {
+            return Err(Unsent::Nothing);
+        };
+        let number = ready.number;
+        match self.items.push(rt, ready) {
+            Ok(()) => {
+                self.lines.advance();
+                Ok(number)
+            }
+            Err(_) => Err(Unsent::LaneFull),
+        }
+    }
+
+    /// Begins the venue's next session, as [`Arbiter::renew`] does. The last request for a gap is
+    /// forgotten. A refused call changes nothing.
+    pub fn renew(&mut self, session: [u8; 10]) -> Result<u64, RenewFault>
+        requires { G.sessions self.old.arbiter.venue (ordinal_of self.old.arbiter + 1) session }
+        ensures renew { (h : History) → FitsCell self.old h
+            → RenewsSession session result h self.old self.new }
+        ensures ok { OnOk result (BeginsNext self.old self.new) }
+        ensures ordinal { IfOk result (λ ordinal. ordinal ≡ ordinal_of self.old.arbiter + 1) }
+        ensures refused { OnErr result (self.new ≡ self.old) }
+    {
+        match self.lines.renew(session) {
+            Ok(ordinal) => {
+                self.pacer = Pacer::new(REQUEST_INTERVAL_MS);
+                Ok(ordinal)
+            }
+            Err(fault) => Err(fault),
+        }
+    }
+
+    /// Whether messages are missing: it is known that the session goes past the front.
+    pub(crate) fn has_gap(&self) -> bool {
+        let status = self.lines.status();
+        status.front < status.known
+    }
+
+    /// The request for the gap to send now, if any: see [`Pacer::due`].
+    pub fn due(&mut self, now_ms: u64) -> Option<Request>
+        ensures due { (h : History) → FitsCell self.old h
+            → IsPaced self.old.pace (gap_of self.old.arbiter.session self.old.arbiter.window
+            self.old.arbiter.sent h.present.packets) now_ms result self.new.pace }
+        ensures kept { self.new ≡ record self.old { pace = self.new.pace } }
+    {
+        let gap = self.lines.gap();
+        self.pacer.due(gap, now_ms)
+    }
+}

@@ -1,0 +1,128 @@
+//! The venues of a feed behind their locks.
+
+ghost use Rattle.std.specs.Prelude.{◌≡◌, ◌<◌, ◌↔◌, length, IsSome};
+
+use crate::bells::Bells;
+use crate::feed::open_feed::Guarded;
+use crate::feed_name::FeedName;
+use crossbeam_utils::CachePadded;
+use feed_types::{Genuine, VenueId};
+use std::alloc::{AllocError, Global};
+use std::marker::Model;
+use std::sync::atomic::{AtomicBool, Ordering};
+use std::sync::{Arc, Mutex, MutexGuard, Wait};
+use std::{array, hint};
+
+/// How often a lock that another thread holds is tried before its thread sleeps for it.
+const TRIES: u32 = 40;
+
+/// How many pauses lie between two tries at most: longer than a section takes.
+const MOST_PAUSES: u32 = 64;
+
+/// Locks it. A thread that finds it held tries again for a while, each time after twice as long a
+/// pause: a section is short, and one that sleeps has to be woken by a system call. Meanwhile the
+/// other thread, whose caches have what the lock guards, takes what else came on its line.
+pub(crate) fn enter<'l, T, W: Wait>(rt: &W, lock: &'l Mutex<T>) -> MutexGuard<'l, T> {
+    let mut pauses: u32 = 16;
+    for _ in 0..TRIES {
+        if let Some(guard) = lock.try_lock() {
+            return guard;
+        }
+        for _ in 0..pauses {
+            hint::spin_loop();
+        }
+        pauses = pauses.saturating_mul(2).min(MOST_PAUSES);
+    }
+    lock.lock(rt)
+}
+
+/// A venue behind its lock, on cache lines of its own.
+pub(crate) type VenueLock<G, N> = CachePadded<Mutex<Guarded<G, N>>>;
+
+/// The venues behind their locks, in order. There are as many as the feed has lanes for. Contracts
+/// see how many.
+#[derive(Drop)]
+pub struct VenueLocks<G: Genuine, N: FeedName> {
+    locks: Vec<VenueLock<G, N>>,
+    /// By venue, whether something may be ready that wasn't pushed. It changes under the
+    /// venue's lock alone, and only where it is another than before.
+    held_back: [AtomicBool; 16],
+    bells: Arc<Bells, Global>,
+}
+
+impl<G: Genuine, N: FeedName> Model for VenueLocks<G, N> {
+    ghost use Rattle.std.specs.Prelude.{◌≡◌, ℕ, length};
+
+    ghost Value = { ℕ };
+
+    ghost view = { λ v. length v.locks.items };
+
+    ghost invariant = { λ v. length v.locks.items ≡ length N.lanes.venues };
+}
+
+impl<G: Genuine, N: FeedName> VenueLocks<G, N> {
+    pub(crate) fn new(locks: Vec<VenueLock<G, N>>, bells: Arc<Bells, Global>) -> VenueLocks<G, N>
+        requires { length locks.items ≡ length N.lanes.venues }
+    {
+        VenueLocks {
+            locks,
+            held_back: array::from_fn(|_| AtomicBool::new(false)),
+            bells,
+        }
+    }
+
+    /// Where the threads of the feed sleep.
+    pub(crate) fn bells(&self) -> &Bells {
+        &self.bells
+    }
+
+    /// The same bells, for a subscriber.
+    pub(crate) fn share_bells(&self) -> Result<Arc<Bells, Global>, AllocError> {
+        Arc::try_clone(&self.bells)
+    }
+
+    /// Whether something may be ready at the venue that wasn't pushed.
+    pub(crate) fn is_held_back(&self, venue: VenueId) -> bool {
+        self.held_back[venue.index()].load(Ordering::SeqCst)
+    }
+
+    /// Says whether something may be ready at the venue that wasn't pushed.
+    pub(crate) fn set_held_back(&self, venue: VenueId, is_held_back: bool) {
+        if self.is_held_back(venue) != is_held_back {
+            self.held_back[venue.index()].store(is_held_back, Ordering::SeqCst);
+        }
+    }
+
+    /// How many venues there are.
+    pub(crate) fn len(&self) -> usize
+        ensures { result ≡ length N.lanes.venues }
+    {
+        self.locks.len()
+    }
+
+    /// The venue's lock, where there is such a venue.
+    pub(crate) fn get(&self, venue: VenueId) -> Option<&Mutex<Guarded<G, N>>>
+        ensures { IsSome result ↔ (venue < length N.lanes.venues) }
+    {
+        match self.locks.get(venue.index()) {
+            Some(lock) => Some(&**lock),
+            None => None,
+        }
+    }
+
+    /// All locks.
+    pub(crate) fn as_slice(&self) -> &[VenueLock<G, N>] {
+        self.locks.as_slice()
+    }
+
+    pub(crate) fn into_parts(self) -> (Vec<VenueLock<G, N>>, Arc<Bells, Global>)
+        ensures { length result.0.items ≡ length N.lanes.venues }
+    {
+        let VenueLocks {
+            locks,
+            held_back: _,
+            bells,
+        } = self;
+        (locks, bells)
+    }
+}
