@@ -12,12 +12,12 @@ use Rattle.line_arbiter.specs.States.{ordinal_of}
 use Rattle.line_arbiter.proofs.OfSession.{part_of}
 use Rattle.line_arbiter.proofs.Accepting.{accepted}
 use Rattle.live_feed.specs.Lanes.{FeedLanes}
-use Rattle.live_feed.specs.venue.Cells.{CellState, IsKept}
+use Rattle.live_feed.specs.venue.Cells.{CellState, VenueLockInvariant}
 use Rattle.live_feed.specs.venue.Sections.{AcceptsTheirPacket}
 use Rattle.live_feed.proofs.Histories.{given_genuine, present_given}
 use Rattle.live_feed.proofs.CellMoves.{ordinal_is}
 
-pub accepts : (sessions : SessionNames) (carries : Carries) (ends : Ends) (lanes : FeedLanes) (c : CellState) (k : IsKept sessions carries ends lanes c) (p : Content) (answer : Result Outcome LineFault) → IsContent p
+pub accepts : (sessions : SessionNames) (carries : Carries) (ends : Ends) (lanes : FeedLanes) (c : CellState) (k : VenueLockInvariant sessions carries ends lanes c) (p : Content) (answer : Result Outcome LineFault) → IsContent p
     → IsOutcome c.arbiter.session c.arbiter.window c.arbiter.sent k.history.present.packets p answer
     → AcceptsTheirPacket sessions carries ends c.arbiter.venue p answer
 accepts sessions carries ends lanes c k p answer content o all ordinal s names at of = elim o [

@@ -32,7 +32,7 @@ use Rattle.fifo_lane.specs.Lane.{LaneEnd, with_items, WasFull}
 use Rattle.feed_core.proofs.VenueHalfLaw.{items_push}
 use Rattle.live_feed.specs.Lanes.{FeedLanes}
 use Rattle.live_feed.specs.venue.Sums.{Sums, no_sums, sums_after, accepted_on, sums_on, line_sums_after, LineSums}
-use Rattle.live_feed.specs.venue.Cells.{CellState, FitsCell, AreGivenFrom, IsKept, arrivals_of, new_cell}
+use Rattle.live_feed.specs.venue.Cells.{CellState, FitsCell, AreGivenFrom, VenueLockInvariant, arrivals_of, new_cell}
 use Rattle.live_feed.specs.venue.Sections.{TakesPacket, IsAnsweredBy, TakesAndPushes, PushesOne, RenewsSession}
 use Rattle.line_arbiter.specs.Renewals.{IsRenewal}
 use Rattle.live_feed.specs.declared.unsent.Unsent.TheVariants as unsent
@@ -95,7 +95,7 @@ module _ (old new : CellState) (h : History) (line : LineId) (p : Content) (answ
   pub takes : IsOutcome old.arbiter.session old.arbiter.window old.arbiter.sent h.present.packets p answer → TakesPacket line p answer h old new
   takes o = record { after = after_arrival h a; taken = record { right = right_at o; is = refl }; fits = packet_fits }
 
-pub answered : (sessions : SessionNames) (carries : Carries) (ends : Ends) (lanes : FeedLanes) (old new : CellState) (venue : ℕ) (line : LineId) (p : Content) (answer : Result Outcome LineFault) (k : IsKept sessions carries ends lanes old)
+pub answered : (sessions : SessionNames) (carries : Carries) (ends : Ends) (lanes : FeedLanes) (old new : CellState) (venue : ℕ) (line : LineId) (p : Content) (answer : Result Outcome LineFault) (k : VenueLockInvariant sessions carries ends lanes old)
     → old.arbiter.venue ≡ venue → TakesPacket line p answer k.history old new → IsAnsweredBy sessions carries ends lanes venue line p answer
 answered sessions carries ends lanes old new venue line p answer k venue_is takes = record { old = old; kept = k; venue_is = venue_is; new = new; takes = takes }
 
@@ -103,7 +103,7 @@ pub ordinal_is : (c : CellState) (h : History) → FitsCell c h → ordinal_of c
 ordinal_is c h f = ap length f.names ∙ names_length h
 
 -- what was given, with one packet more
-pub given_after : (sessions : SessionNames) (carries : Carries) (ends : Ends) (lanes : FeedLanes) (old : CellState) (line : LineId) (p : Content) (answer : Result Outcome LineFault) (k : IsKept sessions carries ends lanes old) → IsContent p
+pub given_after : (sessions : SessionNames) (carries : Carries) (ends : Ends) (lanes : FeedLanes) (old : CellState) (line : LineId) (p : Content) (answer : Result Outcome LineFault) (k : VenueLockInvariant sessions carries ends lanes old) → IsContent p
     → IsOutcome old.arbiter.session old.arbiter.window old.arbiter.sent k.history.present.packets p answer → IsGenuine sessions carries ends old.arbiter.venue p
     → AreGivenFrom carries ends old.arbiter.venue old.arbiter.window 1 k.history.earlier (after_arrival k.history (arrival_of line p answer)).present
 given_after sessions carries ends lanes old line p answer k content o genuine =
@@ -119,10 +119,10 @@ given_after sessions carries ends lanes old line p answer k content o genuine =
     k.given
 
 -- a cell of the same session, which was given one packet more
-module _ (sessions : SessionNames) (carries : Carries) (ends : Ends) (lanes : FeedLanes) (old new : CellState) (line : LineId) (p : Content) (answer : Result Outcome LineFault) (k : IsKept sessions carries ends lanes old)
+module _ (sessions : SessionNames) (carries : Carries) (ends : Ends) (lanes : FeedLanes) (old new : CellState) (line : LineId) (p : Content) (answer : Result Outcome LineFault) (k : VenueLockInvariant sessions carries ends lanes old)
     (kept : KeepsItsSession old.arbiter new.arbiter) (tag : new.lane.tag ≡ old.lane.tag) (lane : new.lane.lane ≡ old.lane.lane) (fits : FitsCell new (after_arrival k.history (arrival_of line p answer))) (content : IsContent p)
     (o : IsOutcome old.arbiter.session old.arbiter.window old.arbiter.sent k.history.present.packets p answer) (genuine : IsGenuine sessions carries ends old.arbiter.venue p) where
-  pub more_kept : IsKept sessions carries ends lanes new
+  pub more_kept : VenueLockInvariant sessions carries ends lanes new
   more_kept = record {
     history = after_arrival k.history (arrival_of line p answer);
     fits = fits;
@@ -133,9 +133,9 @@ module _ (sessions : SessionNames) (carries : Carries) (ends : Ends) (lanes : Fe
     lane = ap (slice_get lanes.venues) kept.venue ∙ k.lane ∙ ap Some (sym lane);
   }
 
-pub packet_kept : (sessions : SessionNames) (carries : Carries) (ends : Ends) (lanes : FeedLanes) (old new : CellState) (line : LineId) (p : Content) (answer : Result Outcome LineFault) (k : IsKept sessions carries ends lanes old)
+pub packet_kept : (sessions : SessionNames) (carries : Carries) (ends : Ends) (lanes : FeedLanes) (old new : CellState) (line : LineId) (p : Content) (answer : Result Outcome LineFault) (k : VenueLockInvariant sessions carries ends lanes old)
     → new.lane ≡ old.lane → KeepsItsPlace old.arbiter new.arbiter → FitsCell new (after_arrival k.history (arrival_of line p answer)) → IsContent p
-    → IsOutcome old.arbiter.session old.arbiter.window old.arbiter.sent k.history.present.packets p answer → IsGenuine sessions carries ends old.arbiter.venue p → IsKept sessions carries ends lanes new
+    → IsOutcome old.arbiter.session old.arbiter.window old.arbiter.sent k.history.present.packets p answer → IsGenuine sessions carries ends old.arbiter.venue p → VenueLockInvariant sessions carries ends lanes new
 packet_kept sessions carries ends lanes old new line p answer k lane kept fits content o genuine =
     let same : KeepsItsSession old.arbiter new.arbiter = record { venue = kept.venue; sessions = kept.sessions; session = kept.session; window = kept.window; earlier = kept.earlier } in
     more_kept sessions carries ends lanes old new line p answer k same (ap (λ (e : LaneEnd Numbered). e.tag) lane) (ap (λ (e : LaneEnd Numbered). e.lane) lane) fits content o genuine
@@ -207,8 +207,8 @@ module _ (c : CellState) (h : History) (f : FitsCell c h) where
     fits = f;
   }
 
-pub push_kept : (sessions : SessionNames) (carries : Carries) (ends : Ends) (lanes : FeedLanes) (old new : CellState) (x : Numbered) (k : IsKept sessions carries ends lanes old)
-    → new.lane ≡ with_items old.lane (old.lane.items ++ x ∷ []) → IsAdvanced old.arbiter new.arbiter → FitsCell new k.history → IsKept sessions carries ends lanes new
+pub push_kept : (sessions : SessionNames) (carries : Carries) (ends : Ends) (lanes : FeedLanes) (old new : CellState) (x : Numbered) (k : VenueLockInvariant sessions carries ends lanes old)
+    → new.lane ≡ with_items old.lane (old.lane.items ++ x ∷ []) → IsAdvanced old.arbiter new.arbiter → FitsCell new k.history → VenueLockInvariant sessions carries ends lanes new
 push_kept sessions carries ends lanes old new x k lane advanced fits = record {
   history = k.history;
   fits = fits;
@@ -342,7 +342,7 @@ new_fits arbiter lane new fits empty = record {
 }
 
 pub new_kept : (sessions : SessionNames) (carries : Carries) (ends : Ends) (lanes : FeedLanes) (arbiter : State) (lane : LaneEnd Numbered) → IsNew arbiter lane.tag arbiter.session arbiter.window → Fits arbiter [] → lane.items ≡ []
-    → sessions lane.tag 1 arbiter.session → slice_get lanes.venues lane.tag ≡ Some lane.lane → IsKept sessions carries ends lanes (new_cell arbiter lane)
+    → sessions lane.tag 1 arbiter.session → slice_get lanes.venues lane.tag ≡ Some lane.lane → VenueLockInvariant sessions carries ends lanes (new_cell arbiter lane)
 new_kept sessions carries ends lanes arbiter lane new fits empty named at = record {
   history = new_history arbiter.session;
   fits = new_fits arbiter lane new fits empty;
@@ -394,8 +394,8 @@ module _ (old new : CellState) (h : History) (name : List ℕ) (f : FitsCell old
     accepted = λ l. ap (sums_on l) sums ∙ f.accepted l ∙ ap (accepted_on l) (sym (arrivals_push (all_begun h) (new_session name) ∙ append-nil (arrivals_of (all_begun h))));
   }
 
-  pub renewed_kept : (sessions : SessionNames) (carries : Carries) (ends : Ends) (lanes : FeedLanes) (k : IsKept sessions carries ends lanes old) → k.history ≡ h → sessions old.arbiter.venue (ordinal_of old.arbiter + 1) name
-      → IsKept sessions carries ends lanes new
+  pub renewed_kept : (sessions : SessionNames) (carries : Carries) (ends : Ends) (lanes : FeedLanes) (k : VenueLockInvariant sessions carries ends lanes old) → k.history ≡ h → sessions old.arbiter.venue (ordinal_of old.arbiter + 1) name
+      → VenueLockInvariant sessions carries ends lanes new
   renewed_kept sessions carries ends lanes k is named =
       let given = subst (λ (x : History). AreGivenFrom carries ends old.arbiter.venue old.arbiter.window 1 x.earlier x.present) is k.given in
       record {

@@ -17,7 +17,7 @@ use Rattle.line_arbiter.specs.Histories.{items_of}
 use Rattle.fifo_lane.specs.Lane.{Keeps}
 use Rattle.feed_core.proofs.VenueHalfLaw.{items_push}
 use Rattle.live_feed.specs.Lanes.{FeedLanes}
-use Rattle.live_feed.specs.venue.Cells.{CellState, IsKept}
+use Rattle.live_feed.specs.venue.Cells.{CellState, VenueLockInvariant}
 use Rattle.live_feed.specs.hub.Hubs.{item_by, items_in}
 use Rattle.live_feed.specs.settle.Settlements.{IsSettled}
 use Rattle.live_feed.proofs.CellMoves.{wins_are}
@@ -126,7 +126,7 @@ module _ (v : ℕ) (entries : List Entry) (place : ℕ) where
 
 -- ---- a closed lane
 
-pub settled : (sessions : SessionNames) (carries : Carries) (ends : Ends) (lanes : FeedLanes) (may_send : ℕ → List Numbered → Type 0) (c : CellState) (k : IsKept sessions carries ends lanes c) (received inside ready : List Numbered) (won : Counts)
+pub settled : (sessions : SessionNames) (carries : Carries) (ends : Ends) (lanes : FeedLanes) (may_send : ℕ → List Numbered → Type 0) (c : CellState) (k : VenueLockInvariant sessions carries ends lanes c) (received inside ready : List Numbered) (won : Counts)
     → Keeps may_send c.lane.tag c.lane.capacity c.lane.items received inside → ready ≡ drop c.arbiter.sent (stream_of k.history.present.packets) → won ≡ c.arbiter.wins
     → IsSettled carries ends c.arbiter.venue c.arbiter.window received inside ready won c.accepted
 settled sessions carries ends lanes may_send c k received inside ready won keeps rest same =

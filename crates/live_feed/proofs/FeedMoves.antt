@@ -12,7 +12,7 @@ use Rattle.feed_core.proofs.Lists.{get_push}
 use Rattle.live_feed.specs.declared.hub.spare.SpareLane.{SpareLane}
 use Rattle.live_feed.specs.Lanes.{FeedLanes}
 use Rattle.live_feed.specs.feed.Feeds.{StartState, AreStarts, IsUnused, AreUnused, lanes_of, IsClosed, HasItsLane}
-use Rattle.live_feed.specs.hub.Hubs.{IsHub, items_in}
+use Rattle.live_feed.specs.hub.Hubs.{HubLockInvariant, items_in}
 
 get_last : {X : Type 0} (xs : List X) (x : X) → slice_get (xs ++ x ∷ []) (length xs) ≡ Some x
 get_last [] x = refl
@@ -65,7 +65,7 @@ module _ (starts : List StartState) (receivers : List (LaneEnd Numbered)) (journ
   starts_count = h.begun.count ∙ sym lanes_count
 
   -- an empty journal with these lanes
-  pub fresh : (carries : Carries) (ends : Ends) → IsHub carries ends lanes (record { journal = journal; receivers = receivers; senders = []; spare = spare })
+  pub fresh : (carries : Carries) (ends : Ends) → HubLockInvariant carries ends lanes (record { journal = journal; receivers = receivers; senders = []; spare = spare })
   fresh carries ends = record {
     venues = h.venues;
     count = lanes_count ∙ h.venues;

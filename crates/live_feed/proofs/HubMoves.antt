@@ -27,7 +27,7 @@ use Rattle.fifo_lane.specs.Rising.{AllPairs-prefix}
 use Rattle.feed_core.proofs.Lists.{begins_len, get_push}
 use Rattle.live_feed.specs.declared.hub.spare.SpareLane.{SpareLane}
 use Rattle.live_feed.specs.Lanes.{FeedLanes}
-use Rattle.live_feed.specs.hub.Hubs.{HubState, IsConsumed, IsHub, IsOffered, IsSpare, item_by, items_in}
+use Rattle.live_feed.specs.hub.Hubs.{HubState, IsConsumed, HubLockInvariant, IsOffered, IsSpare, item_by, items_in}
 use Rattle.live_feed.specs.hub.Sections.{Consumes, ConsumesOne, OffersOne, intake_of}
 use Rattle.live_feed.specs.declared.unsent.Unsent.TheVariants as unsent
 use Rattle.live_feed.proofs.Histories.{take_same, take_next}
@@ -88,8 +88,8 @@ offered_still lanes j e ready id l o = record {
 }
 
 -- an entry of self-help changes no venue's items
-pub declares : (carries : Carries) (ends : Ends) (lanes : FeedLanes) (s : HubState) (k : ℕ) (on ready : Bool) → IsHub carries ends lanes s
-    → IsHub carries ends lanes (record s { journal = record s.journal { entries = s.journal.entries ++ entry.SelfHelp k on ∷ []; ready = ready } })
+pub declares : (carries : Carries) (ends : Ends) (lanes : FeedLanes) (s : HubState) (k : ℕ) (on ready : Bool) → HubLockInvariant carries ends lanes s
+    → HubLockInvariant carries ends lanes (record s { journal = record s.journal { entries = s.journal.entries ++ entry.SelfHelp k on ∷ []; ready = ready } })
 declares carries ends lanes s k on ready h = record {
   venues = h.venues;
   count = h.count;
@@ -103,9 +103,9 @@ declares carries ends lanes s k on ready h = record {
   spare = h.spare;
 }
 
-pub consumes : (carries : Carries) (ends : Ends) (lanes : FeedLanes) (s : HubState) (k : ℕ) (r : LaneEnd Numbered) (x : Numbered) (ready : Bool) → IsHub carries ends lanes s → slice_get s.receivers k ≡ Some r
+pub consumes : (carries : Carries) (ends : Ends) (lanes : FeedLanes) (s : HubState) (k : ℕ) (r : LaneEnd Numbered) (x : Numbered) (ready : Bool) → HubLockInvariant carries ends lanes s → slice_get s.receivers k ≡ Some r
     → IsInSequence carries ends r.tag (r.items ++ x ∷ [])
-    → IsHub carries ends lanes (record s { journal = record s.journal { entries = s.journal.entries ++ entry.Consumed k x ∷ []; ready = ready }; receivers = slice_set s.receivers k (with_items r (r.items ++ x ∷ [])) })
+    → HubLockInvariant carries ends lanes (record s { journal = record s.journal { entries = s.journal.entries ++ entry.Consumed k x ∷ []; ready = ready }; receivers = slice_set s.receivers k (with_items r (r.items ++ x ∷ [])) })
 consumes carries ends lanes s k r x ready h at may = record {
   venues = length_put s.receivers k w ∙ h.venues;
   count = h.count;
@@ -137,9 +137,9 @@ consumes carries ends lanes s k r x ready h at may = record {
 -- ---- one notice more, or none
 
 -- the cursor has come to a place, and what was sent is what was wanted up to there
-pub moves : (carries : Carries) (ends : Ends) (lanes : FeedLanes) (s : HubState) (id : ℕ) (c : Cursor) (l : LaneEnd Notice) (place : ℕ) (sent : List Notice) → IsHub carries ends lanes s
+pub moves : (carries : Carries) (ends : Ends) (lanes : FeedLanes) (s : HubState) (id : ℕ) (c : Cursor) (l : LaneEnd Notice) (place : ℕ) (sent : List Notice) → HubLockInvariant carries ends lanes s
     → slice_get s.journal.cursors id ≡ Some c → slice_get s.senders id ≡ Some l → place ≤ length (changes s.journal) → sent ≡ filter (meets c.terms) (take place (changes s.journal))
-    → IsHub carries ends lanes (record s { journal = record s.journal { cursors = slice_set s.journal.cursors id (record c { seen = place }) }; senders = slice_set s.senders id (with_items l sent) })
+    → HubLockInvariant carries ends lanes (record s { journal = record s.journal { cursors = slice_set s.journal.cursors id (record c { seen = place }) }; senders = slice_set s.senders id (with_items l sent) })
 moves carries ends lanes s id c l place sent h at from within is = record {
   venues = h.venues;
   count = h.count;
@@ -211,8 +211,8 @@ full_is m n h = grind (arith, nat_tests)
 room_is : (m n : ℕ) → n < m → nat_le m n ≡ false
 room_is m n h = grind (arith, nat_tests)
 
-pub ready_still : (carries : Carries) (ends : Ends) (lanes : FeedLanes) (s : HubState) (j : JournalState) → IsHub carries ends lanes s → j ≡ record s.journal { ready = true } → IsHub carries ends lanes (record s { journal = j })
-ready_still carries ends lanes s j h is = subst (λ (x : JournalState). IsHub carries ends lanes (record s { journal = x })) (sym is) (record {
+pub ready_still : (carries : Carries) (ends : Ends) (lanes : FeedLanes) (s : HubState) (j : JournalState) → HubLockInvariant carries ends lanes s → j ≡ record s.journal { ready = true } → HubLockInvariant carries ends lanes (record s { journal = j })
+ready_still carries ends lanes s j h is = subst (λ (x : JournalState). HubLockInvariant carries ends lanes (record s { journal = x })) (sym is) (record {
   venues = h.venues;
   count = h.count;
   subscribers = h.subscribers;
@@ -252,9 +252,9 @@ module _ (may_send : ℕ → List Numbered → Type 0) (venue : ℕ) (s : HubSta
       entries = ap (λ (x : JournalState). x.entries) is;
     }
 
-    pub consume_none_kept : (carries : Carries) (ends : Ends) (lanes : FeedLanes) → IsHub carries ends lanes s → w ≡ r → IsHub carries ends lanes (record s { journal = j; receivers = slice_set s.receivers venue w })
+    pub consume_none_kept : (carries : Carries) (ends : Ends) (lanes : FeedLanes) → HubLockInvariant carries ends lanes s → w ≡ r → HubLockInvariant carries ends lanes (record s { journal = j; receivers = slice_set s.receivers venue w })
     consume_none_kept carries ends lanes h same =
-        subst (λ (x : List (LaneEnd Numbered)). IsHub carries ends lanes (record s { journal = j; receivers = x })) (sym (ap (slice_set s.receivers venue) same ∙ put_same s.receivers venue r at)) (ready_still carries ends lanes s j h is)
+        subst (λ (x : List (LaneEnd Numbered)). HubLockInvariant carries ends lanes (record s { journal = j; receivers = x })) (sym (ap (slice_set s.receivers venue) same ∙ put_same s.receivers venue r at)) (ready_still carries ends lanes s j h is)
 
     module _ (x : Numbered) (k : JournalState) (position : ℕ) (grown : w ≡ with_items r (r.items ++ x ∷ [])) (journals : Journals j (entry.Consumed venue x) k) where
       k_is : k ≡ record s.journal { entries = s.journal.entries ++ entry.Consumed venue x ∷ []; ready = k.ready }
@@ -275,15 +275,15 @@ module _ (may_send : ℕ → List Numbered → Type 0) (venue : ℕ) (s : HubSta
             entries = entries;
           }
 
-      pub consume_one_kept : (carries : Carries) (ends : Ends) (lanes : FeedLanes) → IsHub carries ends lanes s → IsInSequence carries ends r.tag w.items
-          → IsHub carries ends lanes (record s { journal = k; receivers = slice_set s.receivers venue w })
+      pub consume_one_kept : (carries : Carries) (ends : Ends) (lanes : FeedLanes) → HubLockInvariant carries ends lanes s → IsInSequence carries ends r.tag w.items
+          → HubLockInvariant carries ends lanes (record s { journal = k; receivers = slice_set s.receivers venue w })
       consume_one_kept carries ends lanes h may =
-          subst (λ (y : JournalState × LaneEnd Numbered). IsHub carries ends lanes (record s { journal = y.0; receivers = slice_set s.receivers venue y.1 })) (λ i. (sym k_is i, sym grown i))
+          subst (λ (y : JournalState × LaneEnd Numbered). HubLockInvariant carries ends lanes (record s { journal = y.0; receivers = slice_set s.receivers venue y.1 })) (λ i. (sym k_is i, sym grown i))
           (consumes carries ends lanes s venue r x k.ready h at (subst (λ (e : LaneEnd Numbered). IsInSequence carries ends r.tag e.items) grown may))
 
 -- ---- offer
 
-module _ (carries : Carries) (ends : Ends) (lanes : FeedLanes) (s : HubState) (id place : ℕ) (h : IsHub carries ends lanes s) (l : LaneEnd Notice) (from : slice_get s.senders id ≡ Some l)
+module _ (carries : Carries) (ends : Ends) (lanes : FeedLanes) (s : HubState) (id place : ℕ) (h : HubLockInvariant carries ends lanes s) (l : LaneEnd Notice) (from : slice_get s.senders id ≡ Some l)
     (c : Cursor) (at : slice_get s.journal.cursors id ≡ Some c) (found : IsNextPlace (meets c.terms) (changes s.journal) c.seen place) where
   items_are : l.items ≡ filter (meets c.terms) (take c.seen (changes s.journal))
   items_are = ((h.offered id l from).items c at).1
@@ -294,19 +294,19 @@ module _ (carries : Carries) (ends : Ends) (lanes : FeedLanes) (s : HubState) (i
   terms_here : terms_at s.journal id ≡ Some c.terms
   terms_here = ap (option_map (λ (x : Cursor). x.terms)) at
 
-  pub looks_kept : (j : JournalState) (w : LaneEnd Notice) → j ≡ record s.journal { cursors = slice_set s.journal.cursors id (record c { seen = place }) } → w ≡ l → IsHub carries ends lanes (record s { journal = j; senders = slice_set s.senders id w })
+  pub looks_kept : (j : JournalState) (w : LaneEnd Notice) → j ≡ record s.journal { cursors = slice_set s.journal.cursors id (record c { seen = place }) } → w ≡ l → HubLockInvariant carries ends lanes (record s { journal = j; senders = slice_set s.senders id w })
   looks_kept j w is same =
-      subst (λ (y : JournalState × LaneEnd Notice). IsHub carries ends lanes (record s { journal = y.0; senders = slice_set s.senders id y.1 })) (λ i. (sym is i, sym same i))
+      subst (λ (y : JournalState × LaneEnd Notice). HubLockInvariant carries ends lanes (record s { journal = y.0; senders = slice_set s.senders id y.1 })) (λ i. (sym is i, sym same i))
       (moves carries ends lanes s id c l place l.items h at from found.within (items_are ∙ sym found.passed))
 
-  pub looks_only : (j : JournalState) → j ≡ record s.journal { cursors = slice_set s.journal.cursors id (record c { seen = place }) } → IsHub carries ends lanes (record s { journal = j })
-  looks_only j is = subst (λ (x : List (LaneEnd Notice)). IsHub carries ends lanes (record s { journal = j; senders = x })) (put_same s.senders id l from) (looks_kept j l is refl)
+  pub looks_only : (j : JournalState) → j ≡ record s.journal { cursors = slice_set s.journal.cursors id (record c { seen = place }) } → HubLockInvariant carries ends lanes (record s { journal = j })
+  looks_only j is = subst (λ (x : List (LaneEnd Notice)). HubLockInvariant carries ends lanes (record s { journal = j; senders = x })) (put_same s.senders id l from) (looks_kept j l is refl)
 
   pub offers_kept : (j : JournalState) (w : LaneEnd Notice) (n : Notice) → Some n ≡ slice_get (changes s.journal) place → j ≡ record s.journal { cursors = slice_set s.journal.cursors id (record c { seen = place + 1 }) }
-      → w ≡ with_items l (l.items ++ n ∷ []) → IsHub carries ends lanes (record s { journal = j; senders = slice_set s.senders id w })
+      → w ≡ with_items l (l.items ++ n ∷ []) → HubLockInvariant carries ends lanes (record s { journal = j; senders = slice_set s.senders id w })
   offers_kept j w n here is grown =
       let below = below_of (changes s.journal) place n here in
-      subst (λ (y : JournalState × LaneEnd Notice). IsHub carries ends lanes (record s { journal = y.0; senders = slice_set s.senders id y.1 })) (λ i. (sym is i, sym grown i))
+      subst (λ (y : JournalState × LaneEnd Notice). HubLockInvariant carries ends lanes (record s { journal = y.0; senders = slice_set s.senders id y.1 })) (λ i. (sym is i, sym grown i))
       (moves carries ends lanes s id c l (place + 1) (l.items ++ n ∷ []) h at from (omega arith)
       (ap (λ (xs : List Notice). xs ++ n ∷ []) items_are ∙ sym (filter_next (meets c.terms) (changes s.journal) c.seen place n found here below)))
 
@@ -366,29 +366,29 @@ found_at s id place c found at = subst (λ (o : Option Cursor). MatchOption o �
 
 -- ---- declare
 
-pub declare_kept : (carries : Carries) (ends : Ends) (lanes : FeedLanes) (s : HubState) (venue : ℕ) (on : Bool) (answer : Result ℕ JournalFault) (j : JournalState) → IsHub carries ends lanes s → Declares s.journal venue on answer j
-    → IsHub carries ends lanes (record s { journal = j })
+pub declare_kept : (carries : Carries) (ends : Ends) (lanes : FeedLanes) (s : HubState) (venue : ℕ) (on : Bool) (answer : Result ℕ JournalFault) (j : JournalState) → HubLockInvariant carries ends lanes s → Declares s.journal venue on answer j
+    → HubLockInvariant carries ends lanes (record s { journal = j })
 declare_kept carries ends lanes s venue on answer j h d = by_answer answer d
   where
-    stays : j ≡ s.journal → IsHub carries ends lanes (record s { journal = j })
-    stays is = subst (λ (x : JournalState). IsHub carries ends lanes (record s { journal = x })) (sym is) h
+    stays : j ≡ s.journal → HubLockInvariant carries ends lanes (record s { journal = j })
+    stays is = subst (λ (x : JournalState). HubLockInvariant carries ends lanes (record s { journal = x })) (sym is) h
 
-    by_answer : (a : Result ℕ JournalFault) → Declares s.journal venue on a j → IsHub carries ends lanes (record s { journal = j })
+    by_answer : (a : Result ℕ JournalFault) → Declares s.journal venue on a j → HubLockInvariant carries ends lanes (record s { journal = j })
     by_answer (Err UnknownVenue) e = stays e.1
     by_answer (Err AlreadySo) e = stays e.2
     by_answer (Err JournalFull) e = stays e.3
     by_answer (Err NoMemory) e = stays e.3
     by_answer (Err TooManySubscribers) e = absurd e
-    by_answer (Ok position) e = subst (λ (x : JournalState). IsHub carries ends lanes (record s { journal = x })) (sym e.3) (declares carries ends lanes s venue on j.ready h)
+    by_answer (Ok position) e = subst (λ (x : JournalState). HubLockInvariant carries ends lanes (record s { journal = x })) (sym e.3) (declares carries ends lanes s venue on j.ready h)
 
 -- ---- subscribe
 
 -- one more subscriber, with the first of the lanes that were left
-pub subscribes : (carries : Carries) (ends : Ends) (lanes : FeedLanes) (s : HubState) (x : SpareLane) (rest : List SpareLane) (j : JournalState) (senders : List (LaneEnd Notice)) (terms : Terms) → IsHub carries ends lanes s
+pub subscribes : (carries : Carries) (ends : Ends) (lanes : FeedLanes) (s : HubState) (x : SpareLane) (rest : List SpareLane) (j : JournalState) (senders : List (LaneEnd Notice)) (terms : Terms) → HubLockInvariant carries ends lanes s
     → s.spare ≡ x ∷ rest → j ≡ record s.journal { cursors = s.journal.cursors ++ record { terms = terms; seen = 0 } ∷ [] } → senders ≡ s.senders ++ x.sender ∷ []
-    → IsHub carries ends lanes (record s { journal = j; senders = senders; spare = rest })
+    → HubLockInvariant carries ends lanes (record s { journal = j; senders = senders; spare = rest })
 subscribes carries ends lanes s x rest j senders terms h first is more =
-    subst (λ (y : JournalState × List (LaneEnd Notice)). IsHub carries ends lanes (record s { journal = y.0; senders = y.1; spare = rest })) (λ i. (sym is i, sym more i)) (record {
+    subst (λ (y : JournalState × List (LaneEnd Notice)). HubLockInvariant carries ends lanes (record s { journal = y.0; senders = y.1; spare = rest })) (λ i. (sym is i, sym more i)) (record {
       venues = h.venues;
       count = h.count;
       subscribers = length-append s.senders (x.sender ∷ []) ∙ ap (λ (n : ℕ). n + 1) h.subscribers ∙ sym count;
@@ -433,7 +433,7 @@ subscribes carries ends lanes s x rest j senders terms h first is more =
           items = λ cursor got. elim (get_push s.journal.cursors id (record { terms = terms; seen = 0 }) cursor got) [ inl here ↦ absurd (let k = here.0 in omega arith) | inr there ↦ o.items cursor there.1 ];
         }
 
-pub spare_end : (carries : Carries) (ends : Ends) (lanes : FeedLanes) (s : HubState) (x : SpareLane) (rest : List SpareLane) → IsHub carries ends lanes s → s.spare ≡ x ∷ rest
+pub spare_end : (carries : Carries) (ends : Ends) (lanes : FeedLanes) (s : HubState) (x : SpareLane) (rest : List SpareLane) → HubLockInvariant carries ends lanes s → s.spare ≡ x ∷ rest
     → (x.receiver ≡ x.sender) × (x.receiver.tag ≡ length s.journal.cursors) × (x.receiver.items ≡ []) × (slice_get lanes.subscribers (length s.journal.cursors) ≡ Some x.receiver.lane)
 spare_end carries ends lanes s x rest h first =
     let i = h.spare 0 x (ap (λ (l : List SpareLane). slice_get l 0) first) in

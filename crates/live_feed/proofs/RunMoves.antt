@@ -14,7 +14,7 @@ use Rattle.live_feed.specs.declared.subscriber.logged.PollFault.TheVariants.{NoM
 use Rattle.live_feed.specs.Lanes.{FeedLanes}
 use Rattle.live_feed.specs.venue.Seats.{SeatState}
 use Rattle.live_feed.specs.venue.Datagrams.{AreGenuineBytes, IsTakenBy}
-use Rattle.live_feed.specs.subscriber.Logs.{TapeState, Polls, logged}
+use Rattle.live_feed.specs.subscriber.Logs.{SubscriberLogState, Polls, logged}
 use Rattle.live_feed.specs.run.Runs.{Taking, AreTakenBy, HasTaken, HasEnded, HasPolled, Pairwise}
 
 -- a datagram leaves a seat where it is
@@ -74,21 +74,21 @@ genuine_at sessions carries ends v w bytes same genuine =
     let P : ℕ → Type 0 = λ x. AreGenuineBytes sessions carries ends x bytes in
     subst P same genuine
 
-pub polled_itself : (t : TapeState) → HasPolled t t
+pub polled_itself : (t : SubscriberLogState) → HasPolled t t
 polled_itself t = record {
   id = refl;
   limits = refl;
   most = refl;
-  log = record { rest = []; is = sym (append-nil t.log) };
+  log = record { rest = []; is = sym (append-nil t.lines) };
 }
 
-polled_same : (t u v : TapeState) → HasPolled t u → v ≡ u → HasPolled t v
-polled_same t u v so_far same = let P : TapeState → Type 0 = λ x. HasPolled t x in
+polled_same : (t u v : SubscriberLogState) → HasPolled t u → v ≡ u → HasPolled t v
+polled_same t u v so_far same = let P : SubscriberLogState → Type 0 = λ x. HasPolled t x in
     rw same so_far
 
 -- one poll more
 pub polled_more : (may_send : ℕ → List Notice → Type 0)
-    (answer : Result (Option Advice) PollFault) (t u v : TapeState)
+    (answer : Result (Option Advice) PollFault) (t u v : SubscriberLogState)
     → HasPolled t u → Polls may_send answer u v → HasPolled t v
 polled_more may_send (Err LogFull) t u v so_far polled = polled_same t u v so_far polled.1
 polled_more may_send (Err NoMemory) t u v so_far polled = polled_same t u v so_far polled.1
@@ -100,8 +100,8 @@ polled_more may_send (Ok (Some advice)) t u v so_far polled =
       most = ap (λ x. x.most) polled.3 ∙ so_far.most;
       log = record {
         rest = so_far.log.rest ++ line ∷ [];
-        is = ap (λ x. x.log) polled.3 ∙ (ap (λ xs. xs ++ line ∷ []) so_far.log.is
-            ∙ append_assoc t.log so_far.log.rest (line ∷ []));
+        is = ap (λ x. x.lines) polled.3 ∙ (ap (λ xs. xs ++ line ∷ []) so_far.log.is
+            ∙ append_assoc t.lines so_far.log.rest (line ∷ []));
       };
     }
 
@@ -160,9 +160,9 @@ pairwise_seen R f g (x ∷ xs) (y ∷ ys) pairs = (pairs.0, pairwise_seen R f g 
 
 -- what is seen of those handed back is what came of those given
 pub handed_back : {A X : Type 0} (R : X → X → Type 0) (f : A → X) (given back : List A)
-    (tapes ends : List X) → tapes ≡ map f given → map f back ≡ ends → Pairwise R tapes ends
+    (logs ends : List X) → logs ≡ map f given → map f back ≡ ends → Pairwise R logs ends
     → Pairwise (λ x y. R (f x) (f y)) given back
-handed_back R f given back tapes ends first last pairs =
+handed_back R f given back logs ends first last pairs =
     pairwise_seen R f f given back
     (subst (λ xs. Pairwise R xs (map f back)) first
-    (subst (λ ys. Pairwise R tapes ys) (sym last) pairs))
+    (subst (λ ys. Pairwise R logs ys) (sym last) pairs))

@@ -9,13 +9,13 @@ use Rattle.live_feed.specs.venue.Cells.{CellState}
 use Rattle.live_feed.specs.hub.Hubs.{HubState}
 use Rattle.live_feed.specs.venue.Seats.{SeatState}
 use Rattle.live_feed.specs.venue.Sums.{sums_on}
-use Rattle.live_feed.specs.subscriber.Logs.{TapeState}
+use Rattle.live_feed.specs.subscriber.Logs.{SubscriberLogState}
 use Rattle.live_feed.specs.settle.Settlements.{AllAgree, IsClosedVenue, IsSettlement, SettlementState, ShowsSubscriber, ShowsVenue, VenueEndState, tally_of}
 use Rattle.live_feed.specs.settle.Closings.{IsClosedFeed}
 use Rattle.live_feed.proofs.HubMoves.{below_of}
 use Rattle.live_feed.proofs.Sides.{two_long, two_at_start}
 
-module _ (carries : Carries) (ends : Ends) (seats : List SeatState) (cells : List CellState) (hub : HubState) (tapes : List TapeState) (s : SettlementState) (f : IsClosedFeed carries ends cells hub tapes s) (agree : AllAgree seats cells) where
+module _ (carries : Carries) (ends : Ends) (seats : List SeatState) (cells : List CellState) (hub : HubState) (logs : List SubscriberLogState) (s : SettlementState) (f : IsClosedFeed carries ends cells hub logs s) (agree : AllAgree seats cells) where
   shows : (venue : ℕ) (v : VenueEndState) → slice_get s.venues venue ≡ Some v → ShowsVenue carries ends s.journal.entries seats venue v
   shows venue v at =
       let S = IsClosedVenue carries ends s.journal.entries in
@@ -33,14 +33,14 @@ module _ (carries : Carries) (ends : Ends) (seats : List SeatState) (cells : Lis
         accepted = λ line. ap (sums_on line) closed.accepted ∙ (same.on line).accepted ∙ (λ i. (tally_of (same.venue_is i) line seats).accepted);
       }
 
-  pub settlement : length cells ≡ hub.journal.venues → length tapes ≡ length hub.journal.cursors → IsSettlement carries ends seats tapes s
+  pub settlement : length cells ≡ hub.journal.venues → length logs ≡ length hub.journal.cursors → IsSettlement carries ends seats logs s
   settlement venues subscribers =
       let long = two_long (IsClosedVenue carries ends s.journal.entries) 0 cells s.venues f.venues in
-      let all = two_long (ShowsSubscriber s.journal) 0 tapes s.subscribers f.subscribers in
+      let all = two_long (ShowsSubscriber s.journal) 0 logs s.subscribers f.subscribers in
       record {
         venue_count = long ∙ venues ∙ ap (λ (j : JournalState). j.venues) (sym f.journal);
         venues = shows;
         subscriber_count = all ∙ subscribers ∙ ap (λ (j : JournalState). length j.cursors) (sym f.journal);
         all = all;
-        subscribers = λ id t x left right. two_at_start (ShowsSubscriber s.journal) tapes s.subscribers f.subscribers id t x left right;
+        subscribers = λ id t x left right. two_at_start (ShowsSubscriber s.journal) logs s.subscribers f.subscribers id t x left right;
       }

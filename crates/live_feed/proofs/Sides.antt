@@ -4,7 +4,7 @@ use Rattle.std.specs.Prelude.{slice_get, ◌⊎◌}
 use Rattle.std.specs.Option.{option_map}
 use Rattle.std.proofs.lemmas.Option.{slice_get-map}
 use Rattle.feed_core.proofs.Lists.{get_push}
-use Rattle.live_feed.specs.settle.SideBySide.{AreTwo, AreThree}
+use Rattle.live_feed.specs.settle.Zips.{Zip2, Zip3}
 use Rattle.live_feed.proofs.HubMoves.{below_of, one_there}
 use Rattle.live_feed.proofs.ClosedLanes.{next_drop, drop_past}
 
@@ -72,7 +72,7 @@ module _ {X Y : Type 0} (Q : ℕ → X → Y → Type 0) where
 module _ {A B C : Type 0} (R : ℕ → A → B → C → Type 0) where
   -- what holds at each place of three lists of one length
   pub three_of : (k : ℕ) (xs : List A) (ys : List B) (zs : List C) → length ys ≡ length xs → length zs ≡ length xs
-      → ((p : ℕ) (x : A) (y : B) (z : C) → slice_get xs p ≡ Some x → slice_get ys p ≡ Some y → slice_get zs p ≡ Some z → R (k + p) x y z) → AreThree R k xs ys zs
+      → ((p : ℕ) (x : A) (y : B) (z : C) → slice_get xs p ≡ Some x → slice_get ys p ≡ Some y → slice_get zs p ≡ Some z → R (k + p) x y z) → Zip3 R k xs ys zs
   three_of k [] [] [] m n h = tt
   three_of k [] [] (z ∷ zs) m n h = absurd (omega arith)
   three_of k [] (y ∷ ys) zs m n h = absurd (omega arith)
@@ -83,10 +83,10 @@ module _ {A B C : Type 0} (R : ℕ → A → B → C → Type 0) where
       (subst (λ (i : ℕ). R i x y z) here (h 0 x y z refl refl refl), three_of (k + 1) xs ys zs (omega arith) (omega arith) (λ p a b c left mid right. (let next : k + suc p ≡ (k + 1) + p = omega arith in subst (λ (i : ℕ). R i a b c) next (h (suc p) a b c left mid right))))
 
   pub three_at_start : (xs : List A) (ys : List B) (zs : List C) → length ys ≡ length xs → length zs ≡ length xs
-      → ((p : ℕ) (x : A) (y : B) (z : C) → slice_get xs p ≡ Some x → slice_get ys p ≡ Some y → slice_get zs p ≡ Some z → R p x y z) → AreThree R 0 xs ys zs
+      → ((p : ℕ) (x : A) (y : B) (z : C) → slice_get xs p ≡ Some x → slice_get ys p ≡ Some y → slice_get zs p ≡ Some z → R p x y z) → Zip3 R 0 xs ys zs
   three_at_start xs ys zs m n h = three_of 0 xs ys zs m n (λ p x y z left mid right. (let same : p ≡ 0 + p = omega arith in subst (λ (i : ℕ). R i x y z) same (h p x y z left mid right)))
 
-  pub three_long : (k : ℕ) (xs : List A) (ys : List B) (zs : List C) → AreThree R k xs ys zs → (length ys ≡ length xs) × (length zs ≡ length xs)
+  pub three_long : (k : ℕ) (xs : List A) (ys : List B) (zs : List C) → Zip3 R k xs ys zs → (length ys ≡ length xs) × (length zs ≡ length xs)
   three_long k [] [] [] h = (refl, refl)
   three_long k [] [] (z ∷ zs) h = absurd h
   three_long k [] (y ∷ ys) zs h = absurd h
@@ -95,38 +95,38 @@ module _ {A B C : Type 0} (R : ℕ → A → B → C → Type 0) where
   three_long k (x ∷ xs) (y ∷ ys) (z ∷ zs) h = let rest = three_long (k + 1) xs ys zs h.1 in (ap suc rest.0, ap suc rest.1)
 
   pub three_next : (k : ℕ) (xs as_left : List A) (ys bs_left : List B) (zs cs_left : List C) (x : A) (y : B) (z : C) → xs ≡ x ∷ as_left → ys ≡ y ∷ bs_left → zs ≡ z ∷ cs_left
-      → AreThree R k xs ys zs → R k x y z × AreThree R (k + 1) as_left bs_left cs_left
+      → Zip3 R k xs ys zs → R k x y z × Zip3 R (k + 1) as_left bs_left cs_left
   three_next k xs as_left ys bs_left zs cs_left x y z first second third h =
-      subst (λ (l : List A × (List B × List C)). AreThree R k l.0 l.1.0 l.1.1) (λ i. (first i, (second i, third i))) h
+      subst (λ (l : List A × (List B × List C)). Zip3 R k l.0 l.1.0 l.1.1) (λ i. (first i, (second i, third i))) h
 
 -- ---- two lists
 
 module _ {A D : Type 0} (S : ℕ → A → D → Type 0) where
   -- of all items of the first list these are left, and the second list holds what came of the others
   abbrev pub Until : List A → List D → List A → Type 0
-  Until all done left = (rest : List D) → AreTwo S (length done) left rest → AreTwo S 0 all (done ++ rest)
+  Until all done left = (rest : List D) → Zip2 S (length done) left rest → Zip2 S 0 all (done ++ rest)
 
   pub none_done : (all left : List A) (done : List D) → length done ≡ 0 → left ≡ all → Until all done left
-  none_done all left [] none same = λ rest two. subst (λ (l : List A). AreTwo S 0 l rest) same two
+  none_done all left [] none same = λ rest two. subst (λ (l : List A). Zip2 S 0 l rest) same two
   none_done all left (d ∷ done) none same = absurd (omega arith)
 
   pub one_done : (all left more_left : List A) (done more : List D) (x : A) (d : D) → left ≡ x ∷ more_left → more ≡ done ++ d ∷ [] → S (length done) x d → Until all done left → Until all more more_left
   one_done all left more_left done more x d is grown here until = λ rest two.
       (let n : length more ≡ length done + 1 = ap length grown ∙ length-append done (d ∷ []) in
       let whole : more ++ rest ≡ done ++ d ∷ rest = ap (λ (l : List D). l ++ rest) grown ∙ append_assoc done (d ∷ []) rest in
-      subst (λ (l : List D). AreTwo S 0 all l) (sym whole)
-      (until (d ∷ rest) (subst (λ (l : List A). AreTwo S (length done) l (d ∷ rest)) (sym is) (here, subst (λ (k : ℕ). AreTwo S k more_left rest) n two))))
+      subst (λ (l : List D). Zip2 S 0 all l) (sym whole)
+      (until (d ∷ rest) (subst (λ (l : List A). Zip2 S (length done) l (d ∷ rest)) (sym is) (here, subst (λ (k : ℕ). Zip2 S k more_left rest) n two))))
 
-  pub all_done : (all left : List A) (done : List D) → left ≡ [] → Until all done left → AreTwo S 0 all done
-  all_done all left done none until = subst (λ (l : List D). AreTwo S 0 all l) (append-nil done) (until [] (subst (λ (l : List A). AreTwo S (length done) l []) (sym none) tt))
+  pub all_done : (all left : List A) (done : List D) → left ≡ [] → Until all done left → Zip2 S 0 all done
+  all_done all left done none until = subst (λ (l : List D). Zip2 S 0 all l) (append-nil done) (until [] (subst (λ (l : List A). Zip2 S (length done) l []) (sym none) tt))
 
-  pub two_long : (k : ℕ) (xs : List A) (ds : List D) → AreTwo S k xs ds → length ds ≡ length xs
+  pub two_long : (k : ℕ) (xs : List A) (ds : List D) → Zip2 S k xs ds → length ds ≡ length xs
   two_long k [] [] h = refl
   two_long k [] (d ∷ ds) h = absurd h
   two_long k (x ∷ xs) [] h = absurd h
   two_long k (x ∷ xs) (d ∷ ds) h = ap suc (two_long (k + 1) xs ds h.1)
 
-  pub two_at : (k : ℕ) (xs : List A) (ds : List D) → AreTwo S k xs ds → (p : ℕ) (x : A) (d : D) → slice_get xs p ≡ Some x → slice_get ds p ≡ Some d → S (k + p) x d
+  pub two_at : (k : ℕ) (xs : List A) (ds : List D) → Zip2 S k xs ds → (p : ℕ) (x : A) (d : D) → slice_get xs p ≡ Some x → slice_get ds p ≡ Some d → S (k + p) x d
   two_at k [] ds h p x d left right = absurd cc
   two_at k (y ∷ xs) [] h p x d left right = absurd cc
   two_at k (y ∷ xs) (e ∷ ds) h zero x d left right =
@@ -138,5 +138,5 @@ module _ {A D : Type 0} (S : ℕ → A → D → Type 0) where
       let next : (k + 1) + p ≡ k + suc p = omega arith in
       subst (λ (n : ℕ). S n x d) next (two_at (k + 1) xs ds h.1 p x d left right)
 
-  pub two_at_start : (xs : List A) (ds : List D) → AreTwo S 0 xs ds → (p : ℕ) (x : A) (d : D) → slice_get xs p ≡ Some x → slice_get ds p ≡ Some d → S p x d
+  pub two_at_start : (xs : List A) (ds : List D) → Zip2 S 0 xs ds → (p : ℕ) (x : A) (d : D) → slice_get xs p ≡ Some x → slice_get ds p ≡ Some d → S p x d
   two_at_start xs ds h p x d left right = let same : 0 + p ≡ p = omega arith in subst (λ (n : ℕ). S n x d) same (two_at 0 xs ds h p x d left right)

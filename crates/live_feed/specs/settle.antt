@@ -1,5 +1,5 @@
 -- How a feed is settled.
 pub mod Rooms
-pub mod SideBySide
+pub mod Zips
 pub mod Settlements
 pub mod Closings

@@ -12,7 +12,7 @@ use crate::feed::making::{new_spares, new_starts};
 use crate::feed::open_feed::{Guarded, OpenFeed};
 use crate::feed_name::FeedName;
 use crate::hub::cell::HubCell;
-use crate::hub::journal_and_lanes::HubCore;
+use crate::hub::journal_and_lanes::JournalAndLanes;
 use crate::hub::spare::SpareLane;
 use crate::venue::cell::VenueCell;
 use crate::venue::locks::{VenueLock, VenueLocks};
@@ -127,7 +127,7 @@ impl<G: Genuine> LiveFeed<G> {
             spare_lanes,
             log_lines,
         } = self;
-        let core = HubCore::new(kept, from_venues, senders, spare_lanes);
+        let core = JournalAndLanes::new(kept, from_venues, senders, spare_lanes);
         let hub = CachePadded::new(Mutex::new(HubCell { core, filters }));
         let venues = VenueLocks::new(locked(starts, venues), bells);
         Ok(OpenFeed {

@@ -9,15 +9,17 @@
 //! Contract: whenever a lock is free, what stands behind it is a part of a world of the event
 //! machine (`feed_core`), and each section under the lock is one of its events
 //! (`specs/venue/Sections.antt`, `specs/hub/Sections.antt`). Begin at `specs/venue/Cells.antt`,
-//! `specs/hub/Hubs.antt` and `specs/subscriber/Logs.antt`, and at `venue/cell.rt` and `hub/cell.rt` for the code.
+//! `specs/hub/Hubs.antt` and `specs/subscriber/Logs.antt`, and at `venue/cell.rt` and `hub/cell.rt`
+//! for the code.
 //!
-//! A [`LiveFeed`] has all lanes of a feed, to which nothing came yet (`specs/feed/Feeds.antt`). Opened
-//! as an [`OpenFeed`] it stands behind its locks; each call takes one of them. Once all threads have
-//! returned, `OpenFeed::settle` closes all lanes and gives a [`Settlement`]: per venue, what was
-//! consumed, is in the lane and is ready are the sessions' streams; per subscriber, its log, what is
-//! queued and what wasn't offered are what it wants (`specs/settle/Settlements.antt`). `settle/venue_lane.rt` closes
-//! a venue's lane, `settle/subscriber_lane.rt` a subscriber's, `settle/closing.rt` all. `run.rt` runs a feed by threads: a
-//! [`Line`] brings what its [`LineSource`] gives (`specs/run/Runs.antt`).
+//! A [`LiveFeed`] has all lanes of a feed, to which nothing came yet (`specs/feed/Feeds.antt`).
+//! Opened as an [`OpenFeed`] it stands behind its locks; each call takes one of them. Once all
+//! threads have returned, `OpenFeed::settle` closes all lanes and gives a [`Settlement`]: per venue,
+//! what was consumed, is in the lane and is ready are the sessions' streams; per subscriber, its log,
+//! what is queued and what wasn't offered are what it wants (`specs/settle/Settlements.antt`).
+//! `settle/venue_lane.rt` closes a venue's lane, `settle/subscriber_lane.rt` a subscriber's,
+//! `settle/closing.rt` all. `run.rt` runs a feed by threads: a [`Line`] brings what its
+//! [`LineSource`] gives (`specs/run/Runs.antt`).
 #![tactic(auto)]
 
 mod bells;
@@ -37,7 +39,7 @@ pub use feed::open_feed::OpenFeed;
 pub use feed_name::FeedName;
 pub use hub::calls::Consolidated;
 pub use hub::cell::HubCell;
-pub use hub::journal_and_lanes::HubCore;
+pub use hub::journal_and_lanes::JournalAndLanes;
 pub use hub::spare::SpareLane;
 pub use run::line::{Line, LineEnd};
 pub use run::report::{RunReport, Stop};
@@ -45,7 +47,7 @@ pub use run::source::{LineSource, SourceFault};
 pub use settle::settlement::Settlement;
 pub use settle::unsettled::Unsettled;
 pub use subscriber::Subscriber;
-pub use subscriber::log::Tape;
+pub use subscriber::log::SubscriberLog;
 pub use subscriber::logged::{Logged, PollFault};
 pub use unsent::Unsent;
 pub use venue::cell::VenueCell;

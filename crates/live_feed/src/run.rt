@@ -23,9 +23,9 @@ use crate::run::line_threads::{LineThread, join_lines, start_lines};
 use crate::run::report::{RunReport, Stop};
 use crate::run::signals::Signals;
 use crate::run::source::LineSource;
-use crate::run::subscriber_threads::{TapeThread, join_subscribers, start_subscribers};
+use crate::run::subscriber_threads::{LogThread, join_subscribers, start_subscribers};
 use crate::subscriber::Subscriber;
-use crate::subscriber::log::Tape;
+use crate::subscriber::log::SubscriberLog;
 use feed_types::Genuine;
 use filter_terms::Strategy;
 use std::alloc::{AllocError, Global};
@@ -41,18 +41,18 @@ struct LineLists<G: Genuine, N: FeedName, S: LineSource<G>> {
     ends: Vec<LineEnd<G, N, S>>,
 }
 
-/// Empty lists with room for the tapes of a run's subscribers.
+/// Empty lists with room for the logs of a run's subscribers.
 #[derive(Drop)]
-struct TapeLists<N: FeedName> {
-    threads: Vec<TapeThread<N>>,
-    back: Vec<Tape<N>>,
+struct LogLists<N: FeedName> {
+    threads: Vec<LogThread<N>>,
+    back: Vec<SubscriberLog<N>>,
 }
 
 /// What the threads of a run hand back.
 #[derive(Drop)]
 struct Joined<G: Genuine, N: FeedName, S: LineSource<G>> {
     ends: Vec<LineEnd<G, N, S>>,
-    tapes: Vec<Tape<N>>,
+    logs: Vec<SubscriberLog<N>>,
     stopped: Option<Stop>,
 }
 
@@ -69,35 +69,35 @@ fn line_lists<G: Genuine, N: FeedName, S: LineSource<G>>(
     Ok(LineLists { threads, ends })
 }
 
-fn tape_lists<N: FeedName>(alloc: Global, count: usize) -> Result<TapeLists<N>, AllocError>
+fn log_lists<N: FeedName>(alloc: Global, count: usize) -> Result<LogLists<N>, AllocError>
     ensures empty { IfOk result (λ lists. (lists.threads.items ≡ []) × (lists.back.items ≡ [])) }
     ensures room { IfOk result (λ lists. (vec_capacity lists.threads ≡ count)
         × (vec_capacity lists.back ≡ count)) }
 {
     let threads = Vec::with_capacity(alloc, count)?;
     let back = Vec::with_capacity(alloc, count)?;
-    Ok(TapeLists { threads, back })
+    Ok(LogLists { threads, back })
 }
 
 /// Takes the subscribers apart, in order.
 fn apart<N: FeedName>(
     subscribers: Vec<Subscriber<N>>,
-    mut tapes: Vec<Tape<N>>,
+    mut logs: Vec<SubscriberLog<N>>,
     mut strategies: Vec<Mutex<Strategy>>,
-) -> (Vec<Tape<N>>, Vec<Mutex<Strategy>>)
-    requires empty { (tapes.items ≡ []) × (strategies.items ≡ []) }
-    requires room { (vec_len subscribers ≤ vec_capacity tapes)
+) -> (Vec<SubscriberLog<N>>, Vec<Mutex<Strategy>>)
+    requires empty { (logs.items ≡ []) × (strategies.items ≡ []) }
+    requires room { (vec_len subscribers ≤ vec_capacity logs)
         × (vec_len subscribers ≤ vec_capacity strategies) }
-    ensures tapes { result.0.items ≡ map (λ subscriber. subscriber.tape) subscribers.items }
-    ensures tapes_count { vec_len result.0 ≡ vec_len subscribers }
+    ensures logs { result.0.items ≡ map (λ subscriber. subscriber.log) subscribers.items }
+    ensures logs_count { vec_len result.0 ≡ vec_len subscribers }
     ensures count { vec_len result.1 ≡ vec_len subscribers }
 {
     for subscriber in subscribers {
-        let Subscriber { tape, strategy } = subscriber;
-        tapes.push_reserved(tape);
+        let Subscriber { log, strategy } = subscriber;
+        logs.push_reserved(log);
         strategies.push_reserved(Mutex::new(strategy));
     }
-    (tapes, strategies)
+    (logs, strategies)
 }
 
 /// Starts the threads of a run, consolidates, and waits for all threads.
@@ -108,41 +108,41 @@ fn run_in<'s, E, G, N, S, R>(
     signals: &'s Signals,
     lines: Vec<Line<G, N, S>>,
     line_lists: LineLists<G, N, S>,
-    tapes: Vec<Tape<N>>,
+    logs: Vec<SubscriberLog<N>>,
     strategies: &'s Vec<Mutex<Strategy>>,
-    tape_lists: TapeLists<N>,
+    log_lists: LogLists<N>,
 ) -> Joined<G, N, S>
 where
     G: Genuine + Send + Sync + 's,
     N: FeedName + Send + Sync + 's,
     S: LineSource<G> + Send + 's,
     R: Threads + Wait + Sync,
-    requires strategies { vec_len tapes ≤ vec_len strategies.now }
+    requires strategies { vec_len logs ≤ vec_len strategies.now }
     requires lines { (line_lists.threads.items ≡ []) × (line_lists.ends.items ≡ [])
         × (vec_len lines ≤ vec_capacity line_lists.threads)
         × (vec_len lines ≤ vec_capacity line_lists.ends) }
-    requires tapes { (tape_lists.threads.items ≡ []) × (tape_lists.back.items ≡ [])
-        × (vec_len tapes ≤ vec_capacity tape_lists.threads)
-        × (vec_len tapes ≤ vec_capacity tape_lists.back) }
+    requires logs { (log_lists.threads.items ≡ []) × (log_lists.back.items ≡ [])
+        × (vec_len logs ≤ vec_capacity log_lists.threads)
+        × (vec_len logs ≤ vec_capacity log_lists.back) }
     ensures lines { Pairwise (λ line ended. HasEnded (HasTaken G.sessions G.carries G.ends
         N.lanes) S.brings S.failures line.seat line.source ended.seat ended.source ended.fault)
         lines.items result.ends.items }
-    ensures tapes { Pairwise HasPolled tapes.items result.tapes.items }
-    ensures count { vec_len result.tapes ≡ vec_len tapes }
+    ensures logs { Pairwise HasPolled logs.items result.logs.items }
+    ensures count { vec_len result.logs ≡ vec_len logs }
 {
-    let tape_threads = start_subscribers(
+    let log_threads = start_subscribers(
         rt,
         scope,
         signals,
         feed.venues.bells(),
-        tapes,
+        logs,
         strategies,
-        tape_lists.threads,
+        log_lists.threads,
     );
     let line_threads = start_lines(rt, scope, &feed.venues, signals, lines, line_lists.threads);
     let stopped = consolidate(rt, feed, signals);
     let ends = join_lines(rt, line_threads, line_lists.ends);
-    let tapes = join_subscribers(rt, tape_threads, tape_lists.back);
+    let logs = join_subscribers(rt, log_threads, log_lists.back);
     let stopped = if signals.lacks_thread() {
         Some(Stop::NoThread)
     } else {
@@ -150,29 +150,29 @@ where
     };
     Joined {
         ends,
-        tapes,
+        logs,
         stopped,
     }
 }
 
 /// Puts the subscribers together again, in order.
 fn reassembled<N: FeedName>(
-    tapes: Vec<Tape<N>>,
+    logs: Vec<SubscriberLog<N>>,
     strategies: Vec<Mutex<Strategy>>,
     mut subscribers: Vec<Subscriber<N>>,
 ) -> Vec<Subscriber<N>>
-    requires count { vec_len tapes ≡ vec_len strategies }
+    requires count { vec_len logs ≡ vec_len strategies }
     requires empty { subscribers.items ≡ [] }
-    requires room { vec_len tapes ≤ vec_capacity subscribers }
-    ensures { map (λ subscriber. subscriber.tape) result.items ≡ tapes.items }
+    requires room { vec_len logs ≤ vec_capacity subscribers }
+    ensures { map (λ subscriber. subscriber.log) result.items ≡ logs.items }
 {
     let mut cells = strategies.into_iter();
-    for tape in tapes {
+    for log in logs {
         let Some(cell) = cells.next() else {
             unreachable!()
         };
         let strategy = cell.into_inner();
-        subscribers.push_reserved(Subscriber { tape, strategy });
+        subscribers.push_reserved(Subscriber { log, strategy });
     }
     subscribers
 }
@@ -196,15 +196,15 @@ impl<G: Genuine + Send + Sync, N: FeedName + Send + Sync> OpenFeed<G, N> {
             line.seat line.source ended.seat ended.source ended.fault)
             lines.items report.lines.items) }
         ensures subscribers { IfOk result (λ report. Pairwise (λ given back.
-            HasPolled given.tape back.tape) subscribers.items report.subscribers.items) }
+            HasPolled given.log back.log) subscribers.items report.subscribers.items) }
     {
         let Ok(line_lists) = line_lists(alloc, lines.len()) else {
             return Err((lines, subscribers));
         };
-        let Ok(tape_lists) = tape_lists(alloc, subscribers.len()) else {
+        let Ok(log_lists) = log_lists(alloc, subscribers.len()) else {
             return Err((lines, subscribers));
         };
-        let Ok(tapes) = Vec::with_capacity(alloc, subscribers.len()) else {
+        let Ok(logs) = Vec::with_capacity(alloc, subscribers.len()) else {
             return Err((lines, subscribers));
         };
         let Ok(strategies) = Vec::with_capacity(alloc, subscribers.len()) else {
@@ -214,10 +214,10 @@ impl<G: Genuine + Send + Sync, N: FeedName + Send + Sync> OpenFeed<G, N> {
             return Err((lines, subscribers));
         };
         let signals = Signals::new(lines.len() as u64);
-        let (tapes, strategies) = apart(subscribers, tapes, strategies);
+        let (logs, strategies) = apart(subscribers, logs, strategies);
         let Joined {
             ends,
-            tapes,
+            logs,
             stopped,
         } = run_scoped(
             rt,
@@ -225,11 +225,11 @@ impl<G: Genuine + Send + Sync, N: FeedName + Send + Sync> OpenFeed<G, N> {
             &signals,
             lines,
             line_lists,
-            tapes,
+            logs,
             &strategies,
-            tape_lists,
+            log_lists,
         );
-        let subscribers = reassembled(tapes, strategies, back);
+        let subscribers = reassembled(logs, strategies, back);
         Ok(RunReport {
             lines: ends,
             subscribers,
@@ -245,47 +245,47 @@ fn run_scoped<G, N, S, R>(
     signals: &Signals,
     lines: Vec<Line<G, N, S>>,
     line_lists: LineLists<G, N, S>,
-    tapes: Vec<Tape<N>>,
+    logs: Vec<SubscriberLog<N>>,
     strategies: &Vec<Mutex<Strategy>>,
-    tape_lists: TapeLists<N>,
+    log_lists: LogLists<N>,
 ) -> Joined<G, N, S>
 where
     G: Genuine + Send + Sync,
     N: FeedName + Send + Sync,
     S: LineSource<G> + Send,
     R: Threads + Wait + Sync,
-    requires { (vec_len tapes ≤ vec_len strategies.now)
+    requires { (vec_len logs ≤ vec_len strategies.now)
         × (line_lists.threads.items ≡ []) × (line_lists.ends.items ≡ [])
         × (vec_len lines ≤ vec_capacity line_lists.threads)
         × (vec_len lines ≤ vec_capacity line_lists.ends)
-        × (tape_lists.threads.items ≡ []) × (tape_lists.back.items ≡ [])
-        × (vec_len tapes ≤ vec_capacity tape_lists.threads)
-        × (vec_len tapes ≤ vec_capacity tape_lists.back) }
+        × (log_lists.threads.items ≡ []) × (log_lists.back.items ≡ [])
+        × (vec_len logs ≤ vec_capacity log_lists.threads)
+        × (vec_len logs ≤ vec_capacity log_lists.back) }
     ensures lines { Pairwise (λ line ended. HasEnded (HasTaken G.sessions G.carries G.ends
         N.lanes) S.brings S.failures line.seat line.source ended.seat ended.source ended.fault)
         lines.items result.ends.items }
-    ensures tapes { Pairwise HasPolled tapes.items result.tapes.items }
-    ensures count { vec_len result.tapes ≡ vec_len tapes }
+    ensures logs { Pairwise HasPolled logs.items result.logs.items }
+    ensures count { vec_len result.logs ≡ vec_len logs }
 {
     thread::scope(
         thread::scope_env(),
         rt,
         move |scope| -> Joined<G, N, S>
-            requires { (vec_len tapes ≤ vec_len strategies.now)
+            requires { (vec_len logs ≤ vec_len strategies.now)
                 × (line_lists.threads.items ≡ []) × (line_lists.ends.items ≡ [])
                 × (vec_len lines ≤ vec_capacity line_lists.threads)
                 × (vec_len lines ≤ vec_capacity line_lists.ends)
-                × (tape_lists.threads.items ≡ []) × (tape_lists.back.items ≡ [])
-                × (vec_len tapes ≤ vec_capacity tape_lists.threads)
-                × (vec_len tapes ≤ vec_capacity tape_lists.back) }
+                × (log_lists.threads.items ≡ []) × (log_lists.back.items ≡ [])
+                × (vec_len logs ≤ vec_capacity log_lists.threads)
+                × (vec_len logs ≤ vec_capacity log_lists.back) }
             ensures lines { Pairwise (λ line ended. HasEnded (HasTaken G.sessions G.carries
                 G.ends N.lanes) S.brings S.failures line.seat line.source ended.seat
                 ended.source ended.fault) lines.items result.ends.items }
-            ensures tapes { Pairwise HasPolled tapes.items result.tapes.items }
-            ensures count { vec_len result.tapes ≡ vec_len tapes }
+            ensures logs { Pairwise HasPolled logs.items result.logs.items }
+            ensures count { vec_len result.logs ≡ vec_len logs }
         {
             run_in(
-                rt, scope, feed, signals, lines, line_lists, tapes, strategies, tape_lists,
+                rt, scope, feed, signals, lines, line_lists, logs, strategies, log_lists,
             )
         },
     )

@@ -151,7 +151,7 @@ fn room_for<G: Genuine, N: FeedName>(
     subscribers: &[Subscriber<N>],
 ) -> Result<FeedRoom, SettleFault>
     ensures agree { OnOk result (AllAgree seats.now (map (λ g. g.cell) unlocked.now.venues.items)) }
-    ensures order { OnOk result (AreInOrder (map (λ s. s.tape) subscribers.now)) }
+    ensures order { OnOk result (AreInOrder (map (λ s. s.log) subscribers.now)) }
     ensures counts { OnOk result
         ((length unlocked.now.venues.items ≡ unlocked.now.hub.core.journal.venues)
         × (length subscribers.now ≡ length unlocked.now.hub.core.journal.cursors)) }
@@ -180,12 +180,12 @@ fn closed<G: Genuine, N: FeedName, W: Wait>(
     room: FeedRoom,
 ) -> Settlement
     requires venues { AreVenues (map (λ g. g.cell) unlocked.venues.items) }
-    requires order { AreInOrder (map (λ s. s.tape) subscribers.items) }
+    requires order { AreInOrder (map (λ s. s.log) subscribers.items) }
     requires counts { (length unlocked.venues.items ≡ unlocked.hub.core.journal.venues)
         × (length subscribers.items ≡ length unlocked.hub.core.journal.cursors) }
     requires room { HasRoom (map (λ g. g.cell) unlocked.venues.items) unlocked.hub.core room }
     ensures { IsClosedFeed G.carries G.ends (map (λ g. g.cell) unlocked.venues.items)
-        unlocked.hub.core (map (λ s. s.tape) subscribers.items) result }
+        unlocked.hub.core (map (λ s. s.log) subscribers.items) result }
 {
     let Unlocked {
         venues,
@@ -226,7 +226,7 @@ impl<G: Genuine, N: FeedName> OpenFeed<G, N> {
         subscribers: Vec<Subscriber<N>>,
     ) -> Result<Settlement, Unsettled<G, N>>
         ensures settled { IfOk result (IsSettlement G.carries G.ends seats.items
-            (map (λ s. s.tape) subscribers.items)) }
+            (map (λ s. s.log) subscribers.items)) }
         ensures back { IfErr result (λ back. (back.seats.items ≡ seats.items)
             × (back.subscribers.items ≡ subscribers.items)) }
     {

@@ -8,7 +8,7 @@ pub(crate) mod log;
 pub(crate) mod logged;
 
 use crate::feed_name::FeedName;
-use crate::subscriber::log::Tape;
+use crate::subscriber::log::SubscriberLog;
 use crate::subscriber::logged::{Logged, PollFault};
 use feed_types::{Notice, SubscriberId};
 use fifo_lane::{LaneRule, RisingNotices};
@@ -20,23 +20,23 @@ use std::sync::Wait;
 #[derive(Drop)]
 pub struct Subscriber<N: FeedName> {
     /// The lane's end and the log.
-    pub tape: Tape<N>,
+    pub log: SubscriberLog<N>,
     pub(crate) strategy: Strategy,
 }
 
 impl<N: FeedName> Subscriber<N> {
     /// The id that the feed gave it.
     pub fn id(&self) -> SubscriberId
-        ensures { result ≡ self.now.tape.id }
+        ensures { result ≡ self.now.log.id }
     {
-        self.tape.id()
+        self.log.id()
     }
 
     /// One line for each notice that was taken, in order, with what the strategy advised.
     pub fn log(&self) -> &[Logged]
-        ensures { result.now ≡ self.now.tape.log }
+        ensures { result.now ≡ self.now.log.lines }
     {
-        self.tape.log()
+        self.log.log()
     }
 
     /// Takes the next notice out of the lane, and logs and gives what the strategy advises on it;
@@ -44,9 +44,9 @@ impl<N: FeedName> Subscriber<N> {
     /// configured, else NoMemory where the room for one more was refused: both before a notice is
     /// taken. A refused call changes nothing.
     pub fn poll<W: Wait>(&mut self, rt: &W) -> Result<Option<Advice>, PollFault>
-        ensures { Polls ⟦<RisingNotices as LaneRule<Notice>>⟧.may_send result self.old.tape
-            self.new.tape }
+        ensures { Polls ⟦<RisingNotices as LaneRule<Notice>>⟧.may_send result self.old.log
+            self.new.log }
     {
-        self.tape.poll(rt, &mut self.strategy)
+        self.log.poll(rt, &mut self.strategy)
     }
 }

@@ -54,7 +54,8 @@ pub record IsSpare (lanes : FeedLanes) (id : ℕ) (s : SpareLane) : Type 0 where
 
 -- What is so whenever the consolidator's lock is free. (The journal's changes are those of its
 -- entries, by its own contract.)
-pub record IsHub (carries : Carries) (ends : Ends) (lanes : FeedLanes) (s : HubState) : Type 0 where
+pub record HubLockInvariant (carries : Carries) (ends : Ends) (lanes : FeedLanes) (s : HubState)
+    : Type 0 where
   pub venues : length s.receivers ≡ s.journal.venues
   pub count : length lanes.venues ≡ s.journal.venues
   pub subscribers : length s.senders ≡ length s.journal.cursors

@@ -12,7 +12,7 @@ use Rattle.live_feed.specs.declared.run.report.Stop.TheVariants as stops
 use Rattle.live_feed.specs.venue.Datagrams.{IsTakenBy}
 use Rattle.live_feed.specs.Lanes.{FeedLanes}
 use Rattle.live_feed.specs.venue.Seats.{SeatState}
-use Rattle.live_feed.specs.subscriber.Logs.{TapeState}
+use Rattle.live_feed.specs.subscriber.Logs.{SubscriberLogState}
 
 abbrev pub source_fault_code : SourceFault → ℕ
 source_fault_code faults.NoMemory = 12
@@ -74,8 +74,8 @@ pub record HasEnded {S : Type 0} (takes : SeatState → List (List ℕ) → Seat
       (λ fault. failures last_source ≡ failures_after (failures source) fault)
 
 -- A subscriber that took notices: it is the one that it was, and its log has grown at its end.
-pub record HasPolled (old new : TapeState) : Type 0 where
+pub record HasPolled (old new : SubscriberLogState) : Type 0 where
   pub id : new.id ≡ old.id
   pub limits : new.limits ≡ old.limits
   pub most : new.most ≡ old.most
-  pub log : IsPrefix old.log new.log
+  pub log : IsPrefix old.lines new.lines

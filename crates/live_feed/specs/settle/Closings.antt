@@ -9,10 +9,10 @@ use Rattle.fifo_lane.specs.Lane.{LaneEnd}
 use Rattle.live_feed.specs.Lanes.{FeedLanes}
 use Rattle.live_feed.specs.venue.Cells.{CellState}
 use Rattle.live_feed.specs.hub.Hubs.{HubState, IsConsumed, IsOffered}
-use Rattle.live_feed.specs.subscriber.Logs.{TapeState}
+use Rattle.live_feed.specs.subscriber.Logs.{SubscriberLogState}
 use Rattle.live_feed.specs.settle.Rooms.{HasVenueRoom, HasSubscriberRoom, HaveVenueRooms, HaveSubscriberRooms}
 use Rattle.live_feed.specs.settle.Settlements.{IsClosedVenue, SettlementState, ShowsSubscriber}
-use Rattle.live_feed.specs.settle.SideBySide.{AreTwo}
+use Rattle.live_feed.specs.settle.Zips.{Zip2}
 use Rattle.live_feed.specs.declared.settle.rooms.VenueRoom.{VenueRoom}
 use Rattle.live_feed.specs.declared.settle.rooms.SubscriberRoom.{SubscriberRoom}
 use Rattle.live_feed.specs.declared.settle.rooms.FeedRoom.{FeedRoom}
@@ -25,7 +25,7 @@ pub record IsToClose (carries : Carries) (ends : Ends) (lanes : FeedLanes) (entr
   pub room : HasVenueRoom entries c r
 
 -- what the subscriber keeps, the sending end of its lane, and room for what is left of it
-pub record IsToServe (lanes : FeedLanes) (journal : JournalState) (id : ℕ) (t : TapeState)
+pub record IsToServe (lanes : FeedLanes) (journal : JournalState) (id : ℕ) (t : SubscriberLogState)
     (e : LaneEnd Notice) (r : SubscriberRoom) : Type 0 where
   pub known : (t.id ≡ id) × (id < length journal.cursors)
   pub offered : IsOffered lanes journal id e
@@ -43,7 +43,7 @@ pub record HasRoom (cells : List CellState) (hub : HubState) (r : FeedRoom) : Ty
 
 -- what these cells and this consolidator's part have come to, with these subscribers
 pub record IsClosedFeed (carries : Carries) (ends : Ends) (cells : List CellState) (hub : HubState)
-    (tapes : List TapeState) (s : SettlementState) : Type 0 where
+    (logs : List SubscriberLogState) (s : SettlementState) : Type 0 where
   pub journal : s.journal ≡ hub.journal
-  pub venues : AreTwo (IsClosedVenue carries ends s.journal.entries) 0 cells s.venues
-  pub subscribers : AreTwo (ShowsSubscriber s.journal) 0 tapes s.subscribers
+  pub venues : Zip2 (IsClosedVenue carries ends s.journal.entries) 0 cells s.venues
+  pub subscribers : Zip2 (ShowsSubscriber s.journal) 0 logs s.subscribers

@@ -16,7 +16,7 @@ use Rattle.live_feed.specs.venue.Cells.{AreGivenFrom, CellState, arrivals_of}
 use Rattle.live_feed.specs.hub.Hubs.{items_in}
 use Rattle.live_feed.specs.venue.Seats.{SeatState}
 use Rattle.live_feed.specs.venue.Sums.{LineSums, Sums, accepted_on, no_sums, sums_on, sums_together}
-use Rattle.live_feed.specs.subscriber.Logs.{TapeState}
+use Rattle.live_feed.specs.subscriber.Logs.{SubscriberLogState}
 
 -- A venue whose lane is closed: there are packets that it was given, session by session, each
 -- answered as it should be and genuine; what was consumed, then what is in the lane, then what is
@@ -106,8 +106,8 @@ AreVenues cells =
     (venue : ℕ) (c : CellState) → slice_get cells venue ≡ Some c → c.arbiter.venue ≡ venue
 
 -- the subscribers are in the order of their ids
-abbrev pub AreInOrder : List TapeState → Type 0
-AreInOrder tapes = (id : ℕ) (t : TapeState) → slice_get tapes id ≡ Some t → t.id ≡ id
+abbrev pub AreInOrder : List SubscriberLogState → Type 0
+AreInOrder logs = (id : ℕ) (t : SubscriberLogState) → slice_get logs id ≡ Some t → t.id ≡ id
 
 -- a venue's cell and what is left of it once its lane is closed
 pub record IsClosedVenue (carries : Carries) (ends : Ends) (entries : List Entry) (venue : ℕ)
@@ -129,20 +129,20 @@ pub record ShowsVenue (carries : Carries) (ends : Ends) (entries : List Entry)
   pub accepted : (line : LineId) → sums_on line v.accepted ≡ (tally_of venue line seats).accepted
 
 -- a subscriber of a closed feed: its lane is closed, and the log is its own
-pub record ShowsSubscriber (journal : JournalState) (id : ℕ) (t : TapeState)
+pub record ShowsSubscriber (journal : JournalState) (id : ℕ) (t : SubscriberLogState)
     (x : SubscriberEndState) : Type 0 where
   pub served : IsServed journal id x.log x.queued x.unoffered
-  pub own : (t.id ≡ id) × (x.log ≡ t.log)
+  pub own : (t.id ≡ id) × (x.log ≡ t.lines)
 
 -- What a feed has come to, once these seats and these subscribers were handed in: each of its
 -- venues and each of its subscribers is closed.
 pub record IsSettlement (carries : Carries) (ends : Ends) (seats : List SeatState)
-    (tapes : List TapeState) (s : SettlementState) : Type 0 where
+    (logs : List SubscriberLogState) (s : SettlementState) : Type 0 where
   pub venue_count : length s.venues ≡ s.journal.venues
   pub venues : (venue : ℕ) (v : VenueEndState) → slice_get s.venues venue ≡ Some v
       → ShowsVenue carries ends s.journal.entries seats venue v
   pub subscriber_count : length s.subscribers ≡ length s.journal.cursors
-  pub all : length s.subscribers ≡ length tapes
-  pub subscribers : (id : ℕ) (t : TapeState) (x : SubscriberEndState)
-      → slice_get tapes id ≡ Some t → slice_get s.subscribers id ≡ Some x
+  pub all : length s.subscribers ≡ length logs
+  pub subscribers : (id : ℕ) (t : SubscriberLogState) (x : SubscriberEndState)
+      → slice_get logs id ≡ Some t → slice_get s.subscribers id ≡ Some x
       → ShowsSubscriber s.journal id t x

@@ -11,12 +11,12 @@ use Rattle.live_feed.specs.declared.subscriber.logged.PollFault.{PollFault}
 use Rattle.live_feed.specs.declared.subscriber.logged.PollFault.TheVariants.{NoMemory, LogFull}
 use Rattle.live_feed.specs.Lanes.{FeedLanes}
 
--- the subscriber's id, the receiving end of its lane, its log, how many lines that holds, and the
+-- the subscriber's id, the receiving end of its lane, its log's lines, how many it holds, and the
 -- limits of its strategy
-pub record TapeState : Type 0 where
+pub record SubscriberLogState : Type 0 where
   pub id : ℕ
   pub lane : LaneEnd Notice
-  pub log : List Logged
+  pub lines : List Logged
   pub most : ℕ
   pub limits : Limits
 
@@ -25,9 +25,9 @@ logged notice advice = record { notice = notice; advice = advice }
 
 -- What is so after every poll: the log has one advice for each notice that was taken, in order, each
 -- allowed by the limits; and the lane is the one that the feed has for the subscriber.
-pub record IsTape (lanes : FeedLanes) (t : TapeState) : Type 0 where
-  pub notices : map (λ line. line.notice) t.log ≡ t.lane.items
-  pub allowed : AllByRecursion (λ line. IsAllowed t.limits line.notice line.advice) t.log
+pub record SubscriberLogInvariant (lanes : FeedLanes) (t : SubscriberLogState) : Type 0 where
+  pub notices : map (λ line. line.notice) t.lines ≡ t.lane.items
+  pub allowed : AllByRecursion (λ line. IsAllowed t.limits line.notice line.advice) t.lines
   pub tag : t.lane.tag ≡ t.id
   pub lane : slice_get lanes.subscribers t.id ≡ Some t.lane.lane
 
@@ -35,14 +35,14 @@ pub record IsTape (lanes : FeedLanes) (t : TapeState) : Type 0 where
 -- refused poll, nor where nothing was inside the lane at a moment of the call; else the next notice
 -- was taken (Dequeue of the machine) and logged with its advice.
 abbrev pub Polls : (ℕ → List Notice → Type 0) → Result (Option Advice) PollFault
-    → TapeState → TapeState → Type 0
-Polls may_send (Err LogFull) old new = (old.most ≤ length old.log) × (new ≡ old)
-Polls may_send (Err NoMemory) old new = (length old.log < old.most) × (new ≡ old)
+    → SubscriberLogState → SubscriberLogState → Type 0
+Polls may_send (Err LogFull) old new = (old.most ≤ length old.lines) × (new ≡ old)
+Polls may_send (Err NoMemory) old new = (length old.lines < old.most) × (new ≡ old)
 Polls may_send (Ok None) old new =
-    (length old.log < old.most) × (new ≡ old) × WasEmpty may_send old.lane
+    (length old.lines < old.most) × (new ≡ old) × WasEmpty may_send old.lane
 Polls may_send (Ok (Some advice)) old new =
-    (length old.log < old.most) × (notice : Notice) × IsAllowed old.limits notice advice
+    (length old.lines < old.most) × (notice : Notice) × IsAllowed old.limits notice advice
     × (new ≡ record old {
       lane = with_items old.lane (old.lane.items ++ notice ∷ []);
-      log = old.log ++ logged notice advice ∷ [];
+      lines = old.lines ++ logged notice advice ∷ [];
     })

@@ -70,8 +70,8 @@ module _ (carries : Carries) (ends : Ends) (venue window : ℕ) where
 -- by session, and the cell stands for them; each was answered as it should be and is genuine; the
 -- present session has a name that the lines may use; and the lane is the one that the feed has for
 -- the venue.
-pub record IsKept (sessions : SessionNames) (carries : Carries) (ends : Ends) (lanes : FeedLanes)
-    (c : CellState) : Type 0 where
+pub record VenueLockInvariant (sessions : SessionNames) (carries : Carries) (ends : Ends)
+    (lanes : FeedLanes) (c : CellState) : Type 0 where
   pub history : History
   pub fits : FitsCell c history
   pub given : AreGivenFrom carries ends c.arbiter.venue c.arbiter.window 1

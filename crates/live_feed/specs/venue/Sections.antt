@@ -21,7 +21,7 @@ use Rattle.feed_core.specs.Steps.{IsTaken, IsRenewed, pushed, ComesTo}
 use Rattle.live_feed.specs.declared.unsent.Unsent.{Unsent}
 use Rattle.live_feed.specs.declared.unsent.Unsent.TheVariants as unsent
 use Rattle.live_feed.specs.Lanes.{FeedLanes}
-use Rattle.live_feed.specs.venue.Cells.{CellState, FitsCell, IsKept, new_pace}
+use Rattle.live_feed.specs.venue.Cells.{CellState, FitsCell, VenueLockInvariant, new_pace}
 
 -- Packet: what came to the venue has grown by the packet, and the cell stands for it.
 pub record TakesPacket (line : LineId) (p : Content) (answer : Result Outcome LineFault)
@@ -45,7 +45,7 @@ pub record IsAnsweredBy (sessions : SessionNames) (carries : Carries) (ends : En
     (lanes : FeedLanes) (venue : ℕ) (line : LineId) (p : Content)
     (answer : Result Outcome LineFault) : Type 0 where
   pub old : CellState
-  pub kept : IsKept sessions carries ends lanes old
+  pub kept : VenueLockInvariant sessions carries ends lanes old
   pub venue_is : old.arbiter.venue ≡ venue
   pub new : CellState
   pub takes : TakesPacket line p answer kept.history old new

@@ -9,7 +9,7 @@ use crate::feed_name::FeedName;
 use crate::hub::calls::{Consolidated, consume_next, consume_some, offer_each, offer_some};
 use crate::hub::cell::HubCell;
 use crate::subscriber::Subscriber;
-use crate::subscriber::log::Tape;
+use crate::subscriber::log::SubscriberLog;
 use crate::venue::cell::VenueCell;
 use crate::venue::datagram::Datagram;
 use crate::venue::locks::VenueLocks;
@@ -158,7 +158,7 @@ impl<G: Genuine, N: FeedName> OpenFeed<G, N> {
     /// Journals the next items of the venue's lane as `consume` does, at most so many, under the
     /// consolidator's lock taken once, and gives how many there were. A refusal is answered where it
     /// comes before any of them; else the next call answers it.
-    pub fn consume_up_to<W: Wait>(
+    pub fn consume_batch<W: Wait>(
         &self,
         rt: &W,
         venue: VenueId,
@@ -175,7 +175,7 @@ impl<G: Genuine, N: FeedName> OpenFeed<G, N> {
         Ok(consumed)
     }
 
-    /// Journals the next items of the venue's lane as `consume_up_to` does, and then offers each
+    /// Journals the next items of the venue's lane as `consume_batch` does, and then offers each
     /// subscriber what it wants, as `offer` does, under the consolidator's lock taken once. A refused
     /// call offers nothing.
     pub fn consolidate<W: Wait>(
@@ -223,8 +223,8 @@ impl<G: Genuine, N: FeedName> OpenFeed<G, N> {
         filter: Filter,
         strategy: Strategy,
     ) -> Result<Subscriber<N>, (JournalFault, Filter, Strategy)>
-        ensures new { IfOk result (λ made. (made.tape.log ≡ [])
-            × (made.tape.limits ≡ strategy.limits)) }
+        ensures new { IfOk result (λ made. (made.log.lines ≡ [])
+            × (made.log.limits ≡ strategy.limits)) }
         ensures back { IfErr result (λ refused. (refused.1 ≡ filter) × (refused.2 ≡ strategy)) }
     {
         let mut hub = self.hub.lock(rt);
@@ -242,8 +242,8 @@ impl<G: Genuine, N: FeedName> OpenFeed<G, N> {
             Ok((id, lane)) => {
                 self.venues.bells().ring_work();
                 let limits = strategy.limits();
-                let tape = Tape::new(alloc, id, lane, self.log_lines, limits, bells);
-                Ok(Subscriber { tape, strategy })
+                let log = SubscriberLog::new(alloc, id, lane, self.log_lines, limits, bells);
+                Ok(Subscriber { log, strategy })
             }
             Err((fault, filter)) => Err((fault, filter, strategy)),
         }

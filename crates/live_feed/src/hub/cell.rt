@@ -8,7 +8,7 @@ ghost use Rattle.filter_terms.specs.Copies.{IsCopy};
 ghost use Rattle.filter_terms.specs.Filters.{terms_of};
 
 use crate::feed_name::FeedName;
-use crate::hub::journal_and_lanes::HubCore;
+use crate::hub::journal_and_lanes::JournalAndLanes;
 use crate::unsent::Unsent;
 use feed_types::{Genuine, Notice, Numbered, SubscriberId, VenueId};
 use fifo_lane::{LaneRule, Receiver, RisingNotices, VenueItems};
@@ -20,7 +20,7 @@ use std::sync::Wait;
 #[derive(Drop)]
 pub struct HubCell<G: Genuine, N: FeedName> {
     /// The journal and the lanes.
-    pub core: HubCore<G, N>,
+    pub core: JournalAndLanes<G, N>,
     pub(crate) filters: Vec<Filter>,
 }
 

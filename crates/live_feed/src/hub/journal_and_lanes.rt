@@ -3,7 +3,7 @@
 ghost use Rattle.std.specs.Prelude.{◌≡◌, ◌<◌, ◌^◌, ◌↔◌, length, slice_get, OnErr, IsTrue};
 ghost use Rattle.journal_book.specs.Journals.{Declares};
 ghost use Rattle.journal_book.specs.Places.{IsNextOf};
-ghost use Rattle.live_feed.specs.hub.Hubs.{IsHub};
+ghost use Rattle.live_feed.specs.hub.Hubs.{HubLockInvariant};
 ghost use Rattle.live_feed.specs.hub.Sections.{Consumes, KeepsButIntake, OffersOne, KeepsButOffers, Subscribes};
 
 use crate::feed_name::FeedName;
@@ -28,10 +28,10 @@ type HubParts<G> = (
 /// The journal, the receiving ends of the venues' lanes, and the sending ends of the subscribers'.
 ///
 /// Whenever it is let go, each venue's items in the entries are what its receiver popped, and what
-/// was sent to each subscriber is what it wants of the changes that were looked at for it (`IsHub`
-/// in `specs/hub/Hubs.antt`). It holds no closure.
+/// was sent to each subscriber is what it wants of the changes that were looked at for it
+/// (`HubLockInvariant` in `specs/hub/Hubs.antt`). It holds no closure.
 #[derive(Drop)]
-pub struct HubCore<G: Genuine, N: FeedName> {
+pub struct JournalAndLanes<G: Genuine, N: FeedName> {
     kept: Journal,
     from_venues: Vec<Receiver<Numbered, VenueItems<G>>>,
     to_subscribers: Vec<Sender<Notice, RisingNotices>>,
@@ -39,10 +39,10 @@ pub struct HubCore<G: Genuine, N: FeedName> {
     feed: PhantomData<N>,
 }
 
-impl<G: Genuine, N: FeedName> Model for HubCore<G, N> {
+impl<G: Genuine, N: FeedName> Model for JournalAndLanes<G, N> {
     ghost use Rattle.std.specs.Coded.{codes};
     ghost use Rattle.filter_terms.specs.contracts.terms.Terms as terms_type;
-    ghost use Rattle.live_feed.specs.hub.Hubs.{HubState, IsHub};
+    ghost use Rattle.live_feed.specs.hub.Hubs.{HubState, HubLockInvariant};
 
     ghost Value = { HubState };
 
@@ -55,7 +55,7 @@ impl<G: Genuine, N: FeedName> Model for HubCore<G, N> {
       spare = h.spare_lanes.items;
     } };
 
-    ghost invariant = { λ h. IsHub G.carries G.ends N.lanes (record {
+    ghost invariant = { λ h. HubLockInvariant G.carries G.ends N.lanes (record {
       journal = h.kept;
       receivers = h.from_venues.items;
       senders = h.to_subscribers.items;
@@ -69,7 +69,7 @@ fn notice_at(notices: &[Notice], place: usize) -> Option<Notice>
     notices.get(place).copied()
 }
 
-impl<G: Genuine, N: FeedName> HubCore<G, N> {
+impl<G: Genuine, N: FeedName> JournalAndLanes<G, N> {
     /// A journal with the lanes of its venues, those of its subscribers, and those that are left for
     /// further ones.
     pub(crate) fn new(
@@ -77,8 +77,8 @@ impl<G: Genuine, N: FeedName> HubCore<G, N> {
         receivers: Vec<Receiver<Numbered, VenueItems<G>>>,
         senders: Vec<Sender<Notice, RisingNotices>>,
         spare: VecDeque<SpareLane>,
-    ) -> HubCore<G, N>
-        requires { IsHub G.carries G.ends N.lanes (record {
+    ) -> JournalAndLanes<G, N>
+        requires { HubLockInvariant G.carries G.ends N.lanes (record {
           journal = journal;
           receivers = receivers.items;
           senders = senders.items;
@@ -91,7 +91,7 @@ impl<G: Genuine, N: FeedName> HubCore<G, N> {
           spare = spare.items;
         } }
     {
-        HubCore {
+        JournalAndLanes {
             kept: journal,
             from_venues: receivers,
             to_subscribers: senders,
@@ -104,9 +104,9 @@ impl<G: Genuine, N: FeedName> HubCore<G, N> {
     pub(crate) fn into_parts(self) -> HubParts<G>
         ensures parts { (result.0 ≡ self.journal) × (result.1.items ≡ self.receivers)
             × (result.2.items ≡ self.senders) }
-        ensures hub { IsHub G.carries G.ends N.lanes self }
+        ensures hub { HubLockInvariant G.carries G.ends N.lanes self }
     {
-        let HubCore {
+        let JournalAndLanes {
             kept,
             from_venues,
             to_subscribers,

@@ -6,15 +6,15 @@ ghost use Rattle.live_feed.specs.run.Runs.{Pairwise, HasPolled};
 use crate::bells::Bells;
 use crate::feed_name::FeedName;
 use crate::run::signals::Signals;
-use crate::run::subscriber_work::{TapeOf, work_subscriber};
-use crate::subscriber::log::Tape;
+use crate::run::subscriber_work::{LogOf, work_subscriber};
+use crate::subscriber::log::SubscriberLog;
 use filter_terms::Strategy;
 use std::snapshot::Snapshot;
 use std::sync::{Mutex, Wait};
 use std::thread::{PromisedHandle, Scope, Threads};
 
-/// A subscriber's thread, or its tape where none could be started: it has taken nothing.
-pub(crate) type TapeThread<N> = Result<PromisedHandle<Tape<N>, TapeOf<N>>, Tape<N>>;
+/// A subscriber's thread, or its log where none could be started: it has taken nothing.
+pub(crate) type LogThread<N> = Result<PromisedHandle<SubscriberLog<N>, LogOf<N>>, SubscriberLog<N>>;
 
 /// Starts a thread for a subscriber. Where that can't be, the run stops early.
 pub(crate) fn start_subscriber<'s, E, N, R>(
@@ -22,23 +22,23 @@ pub(crate) fn start_subscriber<'s, E, N, R>(
     scope: &Scope<'s, E>,
     signals: &'s Signals,
     bells: &'s Bells,
-    tape: Tape<N>,
+    log: SubscriberLog<N>,
     strategy: &'s Mutex<Strategy>,
-) -> TapeThread<N>
+) -> LogThread<N>
 where
     N: FeedName + Send + Sync + 's,
     R: Threads + Wait + Sync,
     ensures { MatchResult result
-        (λ handle. handle.promise.tape.value ≡ tape)
-        (λ back. HasPolled tape back) }
+        (λ handle. handle.promise.log.value ≡ log)
+        (λ back. HasPolled log back) }
 {
-    let id = tape.id();
-    let promise = TapeOf {
-        tape: Snapshot::of(&tape),
+    let id = log.id();
+    let promise = LogOf {
+        log: Snapshot::of(&log),
     };
-    let job = move || -> Tape<N>
-        ensures { HasPolled tape result }
-    { work_subscriber(rt, signals, bells, tape, strategy) };
+    let job = move || -> SubscriberLog<N>
+        ensures { HasPolled log result }
+    { work_subscriber(rt, signals, bells, log, strategy) };
     signals.set_polling(id, true);
     match scope.spawn_with(promise, job) {
         Ok(handle) => Ok(handle),
@@ -58,37 +58,37 @@ pub(crate) fn start_subscribers<'s, E, N, R>(
     scope: &Scope<'s, E>,
     signals: &'s Signals,
     bells: &'s Bells,
-    tapes: Vec<Tape<N>>,
+    logs: Vec<SubscriberLog<N>>,
     strategies: &'s Vec<Mutex<Strategy>>,
-    mut threads: Vec<TapeThread<N>>,
-) -> Vec<TapeThread<N>>
+    mut threads: Vec<LogThread<N>>,
+) -> Vec<LogThread<N>>
 where
     N: FeedName + Send + Sync + 's,
     R: Threads + Wait + Sync,
-    requires strategies { vec_len tapes ≤ vec_len strategies.now }
+    requires strategies { vec_len logs ≤ vec_len strategies.now }
     requires empty { threads.items ≡ [] }
-    requires room { vec_len tapes ≤ vec_capacity threads }
-    ensures count { vec_len result ≡ vec_len tapes }
-    ensures threads { Pairwise (λ tape thread. MatchResult thread
-        (λ handle. handle.promise.tape.value ≡ tape)
-        (λ back. HasPolled tape back))
-        tapes.items result.items }
+    requires room { vec_len logs ≤ vec_capacity threads }
+    ensures count { vec_len result ≡ vec_len logs }
+    ensures threads { Pairwise (λ log thread. MatchResult thread
+        (λ handle. handle.promise.log.value ≡ log)
+        (λ back. HasPolled log back))
+        logs.items result.items }
 {
-    for tape in tapes {
+    for log in logs {
         let strategy = &strategies[threads.len()];
-        let thread = start_subscriber(rt, scope, signals, bells, tape, strategy);
+        let thread = start_subscriber(rt, scope, signals, bells, log, strategy);
         threads.push_reserved(thread);
     }
     threads
 }
 
 /// Waits for a subscriber's thread.
-fn join_subscriber<N, R>(rt: &R, thread: TapeThread<N>) -> Tape<N>
+fn join_subscriber<N, R>(rt: &R, thread: LogThread<N>) -> SubscriberLog<N>
 where
     N: FeedName,
     R: Threads,
     ensures { MatchResult thread
-        (λ handle. HasPolled handle.promise.tape.value result)
+        (λ handle. HasPolled handle.promise.log.value result)
         (λ here. result ≡ here) }
 {
     match thread {
@@ -101,22 +101,22 @@ where
 #[tactic(auto, using(crate::proofs::RunMoves::pairwise_all))]
 pub(crate) fn join_subscribers<N, R>(
     rt: &R,
-    threads: Vec<TapeThread<N>>,
-    mut tapes: Vec<Tape<N>>,
-) -> Vec<Tape<N>>
+    threads: Vec<LogThread<N>>,
+    mut logs: Vec<SubscriberLog<N>>,
+) -> Vec<SubscriberLog<N>>
 where
     N: FeedName,
     R: Threads,
-    requires empty { tapes.items ≡ [] }
-    requires room { vec_len threads ≤ vec_capacity tapes }
+    requires empty { logs.items ≡ [] }
+    requires room { vec_len threads ≤ vec_capacity logs }
     ensures count { vec_len result ≡ vec_len threads }
-    ensures tapes { Pairwise (λ thread back. MatchResult thread
-        (λ handle. HasPolled handle.promise.tape.value back)
+    ensures logs { Pairwise (λ thread back. MatchResult thread
+        (λ handle. HasPolled handle.promise.log.value back)
         (λ here. back ≡ here))
         threads.items result.items }
 {
     for thread in threads {
-        tapes.push_reserved(join_subscriber(rt, thread));
+        logs.push_reserved(join_subscriber(rt, thread));
     }
-    tapes
+    logs
 }

@@ -6,22 +6,22 @@ use crate::bells::Bells;
 use crate::feed_name::FeedName;
 use crate::run::idle::{is_tired, rest};
 use crate::run::signals::Signals;
-use crate::subscriber::log::Tape;
+use crate::subscriber::log::SubscriberLog;
 use filter_terms::Strategy;
 use std::snapshot::Snapshot;
 use std::sync::{Mutex, Wait};
 use std::thread::Promise;
 
-/// The tape that a subscriber's thread has. What the thread returns is that tape, later on.
+/// The log that a subscriber's thread has. What the thread returns is that log, later on.
 #[derive(Drop)]
-pub(crate) struct TapeOf<N: FeedName> {
-    pub(crate) tape: Snapshot<Tape<N>>,
+pub(crate) struct LogOf<N: FeedName> {
+    pub(crate) log: Snapshot<SubscriberLog<N>>,
 }
 
-impl<N: FeedName> Promise<Tape<N>> for TapeOf<N> {
+impl<N: FeedName> Promise<SubscriberLog<N>> for LogOf<N> {
     ghost use Rattle.live_feed.specs.run.Runs.{HasPolled};
 
-    ghost kept_by = { λ p r. HasPolled p.tape.value r };
+    ghost kept_by = { λ p r. HasPolled p.log.value r };
 }
 
 /// Takes what comes to the subscriber, until all was offered and its lane is empty, or a poll is
@@ -31,13 +31,13 @@ pub(crate) fn work_subscriber<N: FeedName, W: Wait>(
     rt: &W,
     signals: &Signals,
     bells: &Bells,
-    tape: Tape<N>,
+    log: SubscriberLog<N>,
     strategy: &Mutex<Strategy>,
-) -> Tape<N>
-    ensures { HasPolled tape result }
+) -> SubscriberLog<N>
+    ensures { HasPolled log result }
 {
-    let mut tape = tape;
-    let id = tape.id();
+    let mut log = log;
+    let id = log.id();
     let mut strategy = strategy.lock(rt);
     let mut looks: u32 = 0;
     for _ in rt.forever() {
@@ -50,7 +50,7 @@ pub(crate) fn work_subscriber<N: FeedName, W: Wait>(
             None
         };
         let last = signals.have_offers_ended();
-        match tape.poll(rt, &mut *strategy) {
+        match log.poll(rt, &mut *strategy) {
             Ok(Some(_)) => looks = 0,
             Ok(None) => {
                 if last {
@@ -63,5 +63,5 @@ pub(crate) fn work_subscriber<N: FeedName, W: Wait>(
     }
     signals.set_polling(id, false);
     bells.ring_work();
-    tape
+    log
 }

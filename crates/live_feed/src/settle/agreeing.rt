@@ -75,7 +75,7 @@ pub(crate) fn all_agree<G: Genuine, N: FeedName>(
 
 /// Whether the subscribers are in the order of their ids.
 pub(crate) fn are_in_order<N: FeedName>(subscribers: &[Subscriber<N>]) -> bool
-    ensures { IsTrue result → AreInOrder (map (λ s. s.tape) subscribers.now) }
+    ensures { IsTrue result → AreInOrder (map (λ s. s.log) subscribers.now) }
 {
     for place in 0..subscribers.len() {
         if subscribers[place].id().index() != place {

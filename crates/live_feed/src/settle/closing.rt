@@ -1,7 +1,7 @@
 //! How all lanes of a feed are closed, one after the other.
 
 ghost use Rattle.std.specs.Prelude.{◌≡◌, ◌≤◌, length, map, vec_capacity};
-ghost use Rattle.live_feed.specs.settle.SideBySide.{AreTwo, AreThree};
+ghost use Rattle.live_feed.specs.settle.Zips.{Zip2, Zip3};
 ghost use Rattle.live_feed.specs.settle.Settlements.{IsClosedVenue, ShowsSubscriber};
 ghost use Rattle.live_feed.specs.settle.Closings.{IsToClose, IsToServe};
 
@@ -28,10 +28,10 @@ pub(crate) fn close_venues<G: Genuine, N: FeedName, W: Wait>(
     rooms: Vec<VenueRoom>,
     mut ends: Vec<VenueEnd>,
 ) -> Vec<VenueEnd>
-    requires ready { AreThree (IsToClose G.carries G.ends N.lanes entries.now) 0
+    requires ready { Zip3 (IsToClose G.carries G.ends N.lanes entries.now) 0
         (map (λ g. g.cell) venues.items) receivers.items rooms.items }
     requires room { (length ends.items ≡ 0) × (length venues.items ≤ vec_capacity ends) }
-    ensures { AreTwo (IsClosedVenue G.carries G.ends entries.now) 0
+    ensures { Zip2 (IsClosedVenue G.carries G.ends entries.now) 0
         (map (λ g. g.cell) venues.items) result.items }
 {
     let mut venues = VecDeque::from_vec(venues);
@@ -58,11 +58,11 @@ pub(crate) fn close_subscribers<N: FeedName, W: Wait>(
     rooms: Vec<SubscriberRoom>,
     mut ends: Vec<SubscriberEnd>,
 ) -> Vec<SubscriberEnd>
-    requires ready { AreThree (IsToServe N.lanes journal.now) 0
-        (map (λ s. s.tape) subscribers.items) senders.items rooms.items }
+    requires ready { Zip3 (IsToServe N.lanes journal.now) 0
+        (map (λ s. s.log) subscribers.items) senders.items rooms.items }
     requires room { (length ends.items ≡ 0) × (length subscribers.items ≤ vec_capacity ends) }
-    ensures { AreTwo (ShowsSubscriber journal.now) 0
-        (map (λ s. s.tape) subscribers.items) result.items }
+    ensures { Zip2 (ShowsSubscriber journal.now) 0
+        (map (λ s. s.log) subscribers.items) result.items }
 {
     let mut subscribers = VecDeque::from_vec(subscribers);
     let mut senders = VecDeque::from_vec(senders);
@@ -74,7 +74,7 @@ pub(crate) fn close_subscribers<N: FeedName, W: Wait>(
         let Some(room) = rooms.pop_front() else {
             unreachable!()
         };
-        ends.push_reserved(settle_subscriber(rt, journal, sender, subscriber.tape, room));
+        ends.push_reserved(settle_subscriber(rt, journal, sender, subscriber.log, room));
     }
     ends
 }

@@ -6,7 +6,7 @@ ghost use Rattle.live_feed.specs.settle.Closings.{HasRoom};
 
 use crate::feed::open_feed::Guarded;
 use crate::feed_name::FeedName;
-use crate::hub::journal_and_lanes::HubCore;
+use crate::hub::journal_and_lanes::JournalAndLanes;
 use crate::settle::subscriber_end::SubscriberEnd;
 use crate::settle::venue_end::VenueEnd;
 use crate::settle::venue_lane::count_items;
@@ -126,7 +126,7 @@ fn subscriber_rooms(
 pub(crate) fn feed_room<G: Genuine, N: FeedName>(
     alloc: Global,
     venues: &[Guarded<G, N>],
-    core: &HubCore<G, N>,
+    core: &JournalAndLanes<G, N>,
 ) -> Result<FeedRoom, AllocError>
     ensures { IfOk result (HasRoom (map (λ g. g.cell) venues.now) core.now) }
 {

@@ -10,7 +10,7 @@ use crate::feed_name::FeedName;
 use crate::settle::rooms::SubscriberRoom;
 use crate::settle::subscriber_end::SubscriberEnd;
 use crate::settle::venue_lane::drained;
-use crate::subscriber::log::Tape;
+use crate::subscriber::log::SubscriberLog;
 use feed_types::{Best, National, Notice, SymbolName, VenueId};
 use fifo_lane::{RisingNotices, Sender, settle};
 use filter_terms::Terms;
@@ -58,21 +58,21 @@ pub(crate) fn settle_subscriber<N: FeedName, W: Wait>(
     rt: &W,
     journal: &Journal,
     sender: Sender<Notice, RisingNotices>,
-    tape: Tape<N>,
+    log: SubscriberLog<N>,
     room: SubscriberRoom,
 ) -> SubscriberEnd
-    requires known { tape.id < length journal.now.cursors }
-    requires offered { IsOffered N.lanes journal.now tape.id sender }
-    requires room { HasSubscriberRoom journal.now tape.id sender room }
-    ensures served { IsServed journal.now tape.id result.log result.queued result.unoffered }
-    ensures log { result.log ≡ tape.log }
+    requires known { log.id < length journal.now.cursors }
+    requires offered { IsOffered N.lanes journal.now log.id sender }
+    requires room { HasSubscriberRoom journal.now log.id sender room }
+    ensures served { IsServed journal.now log.id result.log result.queued result.unoffered }
+    ensures log { result.log ≡ log.lines }
 {
     let SubscriberRoom { queued, unoffered } = room;
-    let id = tape.id();
+    let id = log.id();
     let capacity = sender.capacity();
     let from = journal.seen(id);
     let terms = journal.terms(id);
-    let (lines, receiver) = tape.into_parts();
+    let (lines, receiver) = log.into_parts();
     let inside = settle(sender, receiver);
     let queued = drained(rt, inside, capacity, queued);
     let unoffered = wanted_past(terms, journal.changes(), from, unoffered);

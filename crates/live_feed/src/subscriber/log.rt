@@ -2,7 +2,7 @@
 
 ghost use Rattle.std.specs.Prelude.{◌≡◌, ◌<◌, [], ◌∷◌, ◌++◌, Some, slice_get, vec_len, vec_capacity};
 ghost use Rattle.filter_terms.specs.Allowed.{IsAllowed};
-ghost use Rattle.live_feed.specs.subscriber.Logs.{IsTape, Polls, logged};
+ghost use Rattle.live_feed.specs.subscriber.Logs.{SubscriberLogInvariant, Polls, logged};
 
 use crate::bells::Bells;
 use crate::feed_name::FeedName;
@@ -17,7 +17,7 @@ use std::sync::{Arc, Wait};
 
 /// The receiving end of a subscriber's lane, and the log of what it took.
 #[derive(Drop)]
-pub struct Tape<N: FeedName> {
+pub struct SubscriberLog<N: FeedName> {
     owner: SubscriberId,
     notices: Receiver<Notice, RisingNotices>,
     lines: Vec<Logged>,
@@ -27,23 +27,23 @@ pub struct Tape<N: FeedName> {
     feed: PhantomData<N>,
 }
 
-impl<N: FeedName> Model for Tape<N> {
-    ghost use Rattle.live_feed.specs.subscriber.Logs.{TapeState, IsTape};
+impl<N: FeedName> Model for SubscriberLog<N> {
+    ghost use Rattle.live_feed.specs.subscriber.Logs.{SubscriberLogState, SubscriberLogInvariant};
 
-    ghost Value = { TapeState };
+    ghost Value = { SubscriberLogState };
 
     ghost view = { λ t. record {
       id = t.owner;
       lane = t.notices;
-      log = t.lines.items;
+      lines = t.lines.items;
       most = t.most_lines;
       limits = t.bounds;
     } };
 
-    ghost invariant = { λ t. IsTape N.lanes (record {
+    ghost invariant = { λ t. SubscriberLogInvariant N.lanes (record {
       id = t.owner;
       lane = t.notices;
-      log = t.lines.items;
+      lines = t.lines.items;
       most = t.most_lines;
       limits = t.bounds;
     }) };
@@ -87,7 +87,7 @@ fn log_line(
     advice
 }
 
-impl<N: FeedName> Tape<N> {
+impl<N: FeedName> SubscriberLog<N> {
     pub(crate) fn new(
         alloc: Global,
         id: SubscriberId,
@@ -95,14 +95,14 @@ impl<N: FeedName> Tape<N> {
         most: u32,
         limits: Limits,
         bells: Arc<Bells, Global>,
-    ) -> Tape<N>
+    ) -> SubscriberLog<N>
         requires tag { lane.tag ≡ id }
         requires lane { slice_get N.lanes.subscribers id ≡ Some lane.lane }
         requires new { lane.items ≡ [] }
         ensures { result
-            ≡ record { id = id; lane = lane; log = []; most = most; limits = limits } }
+            ≡ record { id = id; lane = lane; lines = []; most = most; limits = limits } }
     {
-        Tape {
+        SubscriberLog {
             owner: id,
             notices: lane,
             lines: Vec::new(alloc),
@@ -115,10 +115,10 @@ impl<N: FeedName> Tape<N> {
 
     /// The log, and the receiving end of the lane.
     pub(crate) fn into_parts(self) -> (Vec<Logged>, Receiver<Notice, RisingNotices>)
-        ensures parts { (result.0.items ≡ self.log) × (result.1 ≡ self.lane) }
-        ensures tape { IsTape N.lanes self }
+        ensures parts { (result.0.items ≡ self.lines) × (result.1 ≡ self.lane) }
+        ensures log { SubscriberLogInvariant N.lanes self }
     {
-        let Tape {
+        let SubscriberLog {
             owner: _,
             notices,
             lines,
@@ -132,7 +132,7 @@ impl<N: FeedName> Tape<N> {
 
     /// The log, its oldest line first.
     pub fn log(&self) -> &[Logged]
-        ensures { result.now ≡ self.now.log }
+        ensures { result.now ≡ self.now.lines }
     {
         self.lines.as_slice()
     }

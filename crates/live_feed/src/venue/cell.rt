@@ -13,7 +13,7 @@ ghost use Rattle.line_arbiter.specs.States.{IsNew, ordinal_of};
 ghost use Rattle.line_arbiter.specs.Counts.{count_on};
 ghost use Rattle.live_feed.specs.venue.Seats.{seat_after};
 ghost use Rattle.live_feed.specs.venue.Sums.{sums_on};
-ghost use Rattle.live_feed.specs.venue.Cells.{FitsCell, IsKept, new_cell};
+ghost use Rattle.live_feed.specs.venue.Cells.{FitsCell, VenueLockInvariant, new_cell};
 ghost use Rattle.live_feed.specs.venue.Sections.{TakesPacket, IsAnsweredBy, AcceptsTheirPacket, KeepsButPackets, TakesAndPushes, KeepsButPushed, IsLeft, PushesOne, KeepsButSent, RenewsSession, BeginsNext};
 
 use crate::feed_name::FeedName;
@@ -34,7 +34,7 @@ const REQUEST_INTERVAL_MS: u64 = 250;
 /// A venue's arbiter with the sending end of its lane.
 ///
 /// Whenever it is let go there are packets that the venue was given, session by session, for which
-/// it stands (`IsKept` in `specs/venue/Cells.antt`).
+/// it stands (`VenueLockInvariant` in `specs/venue/Cells.antt`).
 #[derive(Drop)]
 pub struct VenueCell<G: Genuine, N: FeedName> {
     items: Sender<Numbered, VenueItems<G>>,
@@ -45,7 +45,7 @@ pub struct VenueCell<G: Genuine, N: FeedName> {
 }
 
 impl<G: Genuine, N: FeedName> Model for VenueCell<G, N> {
-    ghost use Rattle.live_feed.specs.venue.Cells.{CellState, IsKept};
+    ghost use Rattle.live_feed.specs.venue.Cells.{CellState, VenueLockInvariant};
 
     ghost Value = { CellState };
 
@@ -56,7 +56,7 @@ impl<G: Genuine, N: FeedName> Model for VenueCell<G, N> {
       accepted = c.sums;
     } };
 
-    ghost invariant = { λ c. IsKept G.sessions G.carries G.ends N.lanes (record {
+    ghost invariant = { λ c. VenueLockInvariant G.sessions G.carries G.ends N.lanes (record {
       arbiter = c.lines;
       lane = c.items;
       pace = c.pacer;
@@ -148,7 +148,7 @@ impl<G: Genuine, N: FeedName> VenueCell<G, N> {
     pub(crate) fn into_parts(self) -> (Arbiter<G>, Sender<Numbered, VenueItems<G>>, VenueSums)
         ensures parts { (result.0 ≡ self.arbiter) × (result.1 ≡ self.lane)
             × (result.2 ≡ self.accepted) }
-        ensures kept { IsKept G.sessions G.carries G.ends N.lanes self }
+        ensures kept { VenueLockInvariant G.sessions G.carries G.ends N.lanes self }
     {
         let VenueCell {
             lines,

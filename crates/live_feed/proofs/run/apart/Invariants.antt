@@ -5,7 +5,7 @@ abbrev pub invariant-loop-subscriber : goal.invariant-loop-subscriber
 invariant-loop-subscriber g l =
     (goal.iterator-loop-subscriber g).can_next l.subscriber-iterator
     × (goal.iterator-loop-subscriber g).is_finite l.subscriber-iterator
-    × (l.tapes.items ≡ map (λ subscriber. subscriber.tape) l.yielded)
-    × (vec_len l.tapes ≡ length l.yielded) × (vec_len l.strategies ≡ length l.yielded)
-    × (vec_capacity l.tapes ≡ vec_capacity l.fn.tapes)
+    × (l.logs.items ≡ map (λ subscriber. subscriber.log) l.yielded)
+    × (vec_len l.logs ≡ length l.yielded) × (vec_len l.strategies ≡ length l.yielded)
+    × (vec_capacity l.logs ≡ vec_capacity l.fn.logs)
     × (vec_capacity l.strategies ≡ vec_capacity l.fn.strategies)

@@ -21,13 +21,13 @@ returns-clause-lines g c =
     c.args.lines.items c.start_lines-line_threads.result.items c.join_lines-ends.result.items
     c.start_lines-line_threads.ensures.threads c.join_lines-ends.ensures
 
-pub returns-clause-tapes : goal.returns-clause-tapes
-returns-clause-tapes g c =
+pub returns-clause-logs : goal.returns-clause-logs
+returns-clause-logs g c =
     joined
-    (λ tape handle. handle.promise.tape.value ≡ tape)
-    (λ tape back. HasPolled tape back)
-    (λ handle back. HasPolled handle.promise.tape.value back)
-    (λ tape handle back made kept. subst (λ given. HasPolled given back) made kept)
-    c.args.tapes.items c.start_subscribers-tape_threads.result.items
-    c.join_subscribers-tapes.result.items
-    c.start_subscribers-tape_threads.ensures.threads c.join_subscribers-tapes.ensures.tapes
+    (λ log handle. handle.promise.log.value ≡ log)
+    (λ log back. HasPolled log back)
+    (λ handle back. HasPolled handle.promise.log.value back)
+    (λ log handle back made kept. subst (λ given. HasPolled given back) made kept)
+    c.args.logs.items c.start_subscribers-log_threads.result.items
+    c.join_subscribers-logs.result.items
+    c.start_subscribers-log_threads.ensures.threads c.join_subscribers-logs.ensures.logs

@@ -44,15 +44,15 @@ close_subscribers-subscriber_ends-requires-clause-ready g c =
     let parts = made.ensures.parts in
     let hub = made.ensures.hub in
     let subscribers = c.args.subscribers.items in
-    let tapes = map (λ s. s.tape) subscribers in
-    let same = length-map subscribers (λ s. s.tape) in
+    let logs = map (λ s. s.log) subscribers in
+    let same = length-map subscribers (λ s. s.log) in
     let sent = ap length parts.2 in
     let of_hub = hub.subscribers in
     let counted = c.requires.counts.1 in
     let rooms = c.requires.room.subscriber_count in
-    three_at_start (IsToServe lanes made.result.0) tapes made.result.2.items c.args.room.subscribers.items (omega arith) (omega arith)
+    three_at_start (IsToServe lanes made.result.0) logs made.result.2.items c.args.room.subscribers.items (omega arith) (omega arith)
     (λ id t e r left mid right.
-    (let below = below_of tapes id t (sym left) in
+    (let below = below_of logs id t (sym left) in
     let at = ap (λ (l : List (LaneEnd Notice)). slice_get l id) (sym parts.2) ∙ mid in
     record {
       known = (c.requires.order id t left, (let cursors = ap (λ (j : JournalState). length j.cursors) parts.0 in omega arith));

@@ -1,7 +1,7 @@
 use Rattle.std.proofs.Common.{List, sym, subst, ◌∙◌}
 use Rattle.feed_types.specs.declared.journal.Notice.{Notice}
 use Rattle.fifo_lane.specs.Lane.{LaneEnd}
-use Rattle.live_feed.specs.hub.Hubs.{IsHub}
+use Rattle.live_feed.specs.hub.Hubs.{HubLockInvariant}
 use Rattle.live_feed.proofs.FeedMoves.{fresh, have_lanes, starts_count}
 use Rattle.live_feed.proofs.feed.LiveFeed.open.Goals as goal
 
@@ -11,7 +11,7 @@ new-core-requires g c =
     let carries = g.G.Genuine.carries in
     let ends = g.G.Genuine.ends in
     let lanes = g.N.FeedName.lanes in
-    subst (λ (l : List (LaneEnd Notice)). IsHub carries ends lanes (record { journal = inside.kept; receivers = inside.from_venues.items; senders = l; spare = inside.spare_lanes.items })) (sym c.in-Ok-Ok-Ok-Ok.ensures'.items)
+    subst (λ (l : List (LaneEnd Notice)). HubLockInvariant carries ends lanes (record { journal = inside.kept; receivers = inside.from_venues.items; senders = l; spare = inside.spare_lanes.items })) (sym c.in-Ok-Ok-Ok-Ok.ensures'.items)
     (fresh inside.starts.items inside.from_venues.items inside.kept inside.spare_lanes.items lanes c.self.invariant (c.self.view_is ∙ c.requires) carries ends)
 
 pub locked-requires-clause-lanes : goal.locked-requires-clause-lanes

@@ -10,7 +10,7 @@ loop-thread-preserved g c =
       tt,
       tt,
       rw pushed.items
-          (pairwise_more _ c.loop-thread.yielded c.loop-thread.tapes.items c.in-Some.thread
+          (pairwise_more _ c.loop-thread.yielded c.loop-thread.logs.items c.in-Some.thread
           c.join_subscriber.result i.2 c.join_subscriber.ensures),
       omega (arith, more, pushed.len, i.3),
       omega (arith, pushed.capacity, i.4),

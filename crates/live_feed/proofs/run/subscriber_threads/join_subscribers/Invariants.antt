@@ -7,8 +7,8 @@ invariant-loop-thread g l =
     (goal.iterator-loop-thread g).can_next l.thread-iterator
     × (goal.iterator-loop-thread g).is_finite l.thread-iterator
     × Pairwise (λ thread back. MatchResult thread
-    (λ handle. HasPolled handle.promise.tape.value back)
+    (λ handle. HasPolled handle.promise.log.value back)
     (λ here. back ≡ here))
-    l.yielded l.tapes.items
-    × (vec_len l.tapes ≡ length l.yielded)
-    × (vec_capacity l.tapes ≡ vec_capacity l.fn.tapes)
+    l.yielded l.logs.items
+    × (vec_len l.logs ≡ length l.yielded)
+    × (vec_capacity l.logs ≡ vec_capacity l.fn.logs)

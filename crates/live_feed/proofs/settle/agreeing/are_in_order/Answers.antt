@@ -1,7 +1,7 @@
 use Rattle.std.proofs.Common.{◌≡◌, ℕ, map, refl, arith}
 use Rattle.std.proofs.lemmas.List.{length-map}
 use Rattle.journal_book.proofs.Offering.{at_index}
-use Rattle.live_feed.specs.subscriber.Logs.{TapeState}
+use Rattle.live_feed.specs.subscriber.Logs.{SubscriberLogState}
 use Rattle.live_feed.proofs.Sides.{at_map, one_more, all_places}
 use Rattle.live_feed.proofs.settle.agreeing.are_in_order.Goals as goal
 
@@ -14,12 +14,12 @@ loop-place-preserved g c =
     let id = c.id.ensures in
     let index = c.index.ensures.value in
     let same = c.if-index-place.false in
-    one_more (λ (id : ℕ) (t : TapeState). t.id ≡ id) place (map (λ s. s.tape) all) x.tape (at_map (λ s. s.tape) all place x at) (omega arith) c.loop-place.invariant
+    one_more (λ (id : ℕ) (t : SubscriberLogState). t.id ≡ id) place (map (λ s. s.log) all) x.log (at_map (λ s. s.log) all place x at) (omega arith) c.loop-place.invariant
 
 pub returns : goal.returns
 returns g c = λ yes.
     (let all = c.args.subscribers.now in
     let place = c.loop-place.place in
     let past = c.loop-place-test.false in
-    let long = length-map all (λ s. s.tape) in
-    all_places (λ (id : ℕ) (t : TapeState). t.id ≡ id) place (map (λ s. s.tape) all) (omega arith) c.loop-place.invariant)
+    let long = length-map all (λ s. s.log) in
+    all_places (λ (id : ℕ) (t : SubscriberLogState). t.id ≡ id) place (map (λ s. s.log) all) (omega arith) c.loop-place.invariant)

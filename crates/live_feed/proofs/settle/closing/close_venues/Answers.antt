@@ -2,7 +2,7 @@ use Rattle.std.proofs.Common.{ℕ, ◌+◌, ◌≡◌, List, ◌∷◌, [], leng
 use Rattle.std.proofs.lemmas.List.{length-map}
 use Rattle.feed_types.specs.declared.item.Numbered.{Numbered}
 use Rattle.fifo_lane.specs.Lane.{LaneEnd}
-use Rattle.live_feed.specs.settle.SideBySide.{AreThree}
+use Rattle.live_feed.specs.settle.Zips.{Zip3}
 use Rattle.live_feed.specs.venue.Cells.{CellState}
 use Rattle.live_feed.specs.hub.Hubs.{IsConsumed}
 use Rattle.live_feed.specs.settle.Settlements.{IsClosedVenue}
@@ -31,7 +31,7 @@ loop-guarded-init g c =
     let none = c.requires.room.0 in
     let room = c.requires.room.1 in
     record {
-      left = subst (λ (x : ℕ × (List CellState × (List (LaneEnd Numbered) × List VenueRoom))). AreThree R x.0 x.1.0 x.1.1.0 x.1.1.1)
+      left = subst (λ (x : ℕ × (List CellState × (List (LaneEnd Numbered) × List VenueRoom))). Zip3 R x.0 x.1.0 x.1.1.0 x.1.1.1)
           (λ i. (sym none i, (map (λ v. v.cell) (sym venues.ensures.items i), (sym receivers.ensures.items i, sym rooms.ensures.items i)))) c.requires.ready;
       done = none_done S (map (λ v. v.cell) c.args.venues.items) (map (λ v. v.cell) venues.result.items) c.args.ends.items none (ap (map (λ v. v.cell)) venues.ensures.items);
       receivers = omega arith;
@@ -76,7 +76,7 @@ loop-guarded-preserved g c =
     let fits = i.fits in
     let capacity = c.push_reserved.ensures.capacity in
     record {
-      left = subst (λ (k : ℕ). AreThree R k left c.pop_front-in-Some.new.self.items c.pop_front-in-Some-2.new.self.items) (sym longer) next.1;
+      left = subst (λ (k : ℕ). Zip3 R k left c.pop_front-in-Some.new.self.items c.pop_front-in-Some-2.new.self.items) (sym longer) next.1;
       done = one_done S (map (λ v. v.cell) c.args.venues.items) (map (λ v. v.cell) c.loop-guarded.venues.items) left old more cell v first grown closed i.done;
       receivers = omega arith;
       rooms = omega arith;

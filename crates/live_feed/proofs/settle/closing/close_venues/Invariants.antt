@@ -1,5 +1,5 @@
 use Rattle.std.proofs.Common.{◌≡◌, ◌≤◌, ◌+◌, length, map, vec_capacity, deque_len}
-use Rattle.live_feed.specs.settle.SideBySide.{AreThree}
+use Rattle.live_feed.specs.settle.Zips.{Zip3}
 use Rattle.live_feed.specs.settle.Settlements.{IsClosedVenue}
 use Rattle.live_feed.specs.settle.Closings.{IsToClose}
 use Rattle.live_feed.proofs.Sides.{Until}
@@ -7,7 +7,7 @@ use Rattle.live_feed.proofs.settle.closing.close_venues.Given as goal
 
 abbrev pub invariant-loop-guarded : goal.invariant-loop-guarded
 invariant-loop-guarded g l = record {
-  left : AreThree (IsToClose g.G.Genuine.carries g.G.Genuine.ends g.N.FeedName.lanes l.entries) (length l.ends.items) (map (λ x. x.cell) l.venues.items) l.receivers.items l.rooms.items;
+  left : Zip3 (IsToClose g.G.Genuine.carries g.G.Genuine.ends g.N.FeedName.lanes l.entries) (length l.ends.items) (map (λ x. x.cell) l.venues.items) l.receivers.items l.rooms.items;
   done : Until (IsClosedVenue g.G.Genuine.carries g.G.Genuine.ends l.entries) (map (λ x. x.cell) l.fn.venues.items) l.ends.items (map (λ x. x.cell) l.venues.items);
   receivers : deque_len l.receivers ≡ deque_len l.venues;
   rooms : deque_len l.rooms ≡ deque_len l.venues;

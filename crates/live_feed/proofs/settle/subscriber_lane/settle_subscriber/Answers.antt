@@ -13,8 +13,8 @@ use Rattle.live_feed.proofs.settle.subscriber_lane.settle_subscriber.Goals as go
 pub settle-inside-requires : goal.settle-inside-requires
 settle-inside-requires g c =
     let parts = c.into_parts-lines.ensures.parts in
-    let tape = c.args.tape in
-    one_there (slice_get g.N.FeedName.lanes.subscribers tape.id) c.args.sender.lane tape.lane.lane c.requires.offered.lane c.into_parts-lines.ensures.tape.lane
+    let log = c.args.log in
+    one_there (slice_get g.N.FeedName.lanes.subscribers log.id) c.args.sender.lane log.lane.lane c.requires.offered.lane c.into_parts-lines.ensures.log.lane
     ∙ ap (λ (e : LaneEnd Notice). e.lane) (sym parts.1)
 
 pub returns-clause-served : goal.returns-clause-served
@@ -23,18 +23,18 @@ returns-clause-served g c =
     let parts = c.into_parts-lines.ensures.parts in
     let sender = c.args.sender in
     let journal = c.args.journal.now in
-    let tape = c.args.tape in
+    let log = c.args.log in
     let inside = c.settle-inside.result in
-    let received = tape.lane.items in
+    let received = log.lane.items in
     let terms = c.terms-terms.result.now in
     let unoffered = c.wanted_past-unoffered.result.items in
     let keeps = subst (λ (e : LaneEnd Notice). Keeps may sender.tag sender.capacity sender.items e.items inside) parts.1 c.settle-inside.ensures in
     let own = sym c.id-id.ensures in
-    let whole = served g.N.FeedName.lanes may journal tape.id sender terms c.seen-from.result tape.log received inside unoffered
+    let whole = served g.N.FeedName.lanes may journal log.id sender terms c.seen-from.result log.lines received inside unoffered
     c.requires.offered c.requires.known (ap (terms_at journal) own ∙ c.terms-terms.ensures) (ap (seen_at journal) own ∙ c.seen-from.ensures.value)
-    c.into_parts-lines.ensures.tape.notices keeps (c.wanted_past-unoffered.ensures ∙ (λ i. filter (meets terms) (drop c.seen-from.result (c.changes.ensures i)))) in
-    subst (λ (x : SubscriberEndState). IsServed journal tape.id x.log x.queued x.unoffered) (sym c.new.ensures)
-    (subst (λ (x : List Logged × List Notice). IsServed journal tape.id x.0 x.1 unoffered) (λ i. (sym parts.0 i, sym c.drained-queued.ensures i)) whole)
+    c.into_parts-lines.ensures.log.notices keeps (c.wanted_past-unoffered.ensures ∙ (λ i. filter (meets terms) (drop c.seen-from.result (c.changes.ensures i)))) in
+    subst (λ (x : SubscriberEndState). IsServed journal log.id x.log x.queued x.unoffered) (sym c.new.ensures)
+    (subst (λ (x : List Logged × List Notice). IsServed journal log.id x.0 x.1 unoffered) (λ i. (sym parts.0 i, sym c.drained-queued.ensures i)) whole)
 
 pub returns-clause-log : goal.returns-clause-log
 returns-clause-log g c = ap (λ (x : SubscriberEndState). x.log) c.new.ensures ∙ c.into_parts-lines.ensures.parts.0

@@ -4,7 +4,7 @@ use Rattle.live_feed.proofs.feed.open_feed.OpenFeed.run.Goals as goal
 
 pub returns-clause-subscribers : goal.returns-clause-subscribers
 returns-clause-subscribers g c =
-    handed_back HasPolled (λ subscriber. subscriber.tape) c.args.subscribers.items
-    c.reassembled-subscribers.result.items c.apart-tapes.result.0.items
-    c.run_scoped-ends.result.tapes.items c.apart-tapes.ensures.tapes
-    c.reassembled-subscribers.ensures c.run_scoped-ends.ensures.tapes
+    handed_back HasPolled (λ subscriber. subscriber.log) c.args.subscribers.items
+    c.reassembled-subscribers.result.items c.apart-logs.result.0.items
+    c.run_scoped-ends.result.logs.items c.apart-logs.ensures.logs
+    c.reassembled-subscribers.ensures c.run_scoped-ends.ensures.logs

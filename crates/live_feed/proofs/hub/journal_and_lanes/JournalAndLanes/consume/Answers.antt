@@ -7,7 +7,7 @@ use Rattle.feed_core.proofs.Lists.{get_within}
 use Rattle.live_feed.specs.hub.Hubs.{HubState}
 use Rattle.live_feed.specs.hub.Sections.{Consumes, ConsumesOne}
 use Rattle.live_feed.proofs.HubMoves.{consume_refused, consume_none, consume_none_kept, consume_one, consume_one_kept}
-use Rattle.live_feed.proofs.hub.journal_and_lanes.HubCore.consume.Goals as goal
+use Rattle.live_feed.proofs.hub.journal_and_lanes.JournalAndLanes.consume.Goals as goal
 
 pub returns-in-Err-clause-consume : goal.returns-in-Err-clause-consume
 returns-in-Err-clause-consume g c =

@@ -9,7 +9,7 @@ use Rattle.live_feed.specs.hub.Hubs.{HubState}
 use Rattle.live_feed.specs.hub.Sections.{OffersOne}
 use Rattle.live_feed.specs.declared.unsent.Unsent.TheVariants as unsent
 use Rattle.live_feed.proofs.HubMoves.{below_of, looked, found_at, looks_only, looks_kept, offers_kept, offer_may, offer_nothing, offer_full, offer_one}
-use Rattle.live_feed.proofs.hub.journal_and_lanes.HubCore.offer_at.Goals as goal
+use Rattle.live_feed.proofs.hub.journal_and_lanes.JournalAndLanes.offer_at.Goals as goal
 
 abbrev RisingNotices : ℕ → List Notice → Type 0
 RisingNotices id notices = AllPairs (λ (x y : Notice). x.number < y.number) notices

@@ -1,5 +1,5 @@
 use Rattle.live_feed.proofs.HubMoves.{declare_kept}
-use Rattle.live_feed.proofs.hub.journal_and_lanes.HubCore.declare.Goals as goal
+use Rattle.live_feed.proofs.hub.journal_and_lanes.JournalAndLanes.declare.Goals as goal
 
 pub invariant_of-self : goal.invariant_of-self
 invariant_of-self g c =

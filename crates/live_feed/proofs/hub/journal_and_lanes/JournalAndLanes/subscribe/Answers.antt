@@ -5,7 +5,7 @@ use Rattle.fifo_lane.specs.Lane.{LaneEnd}
 use Rattle.live_feed.specs.hub.Hubs.{HubState}
 use Rattle.live_feed.specs.hub.Sections.{AddsSubscriber}
 use Rattle.live_feed.proofs.HubMoves.{subscribes, spare_end}
-use Rattle.live_feed.proofs.hub.journal_and_lanes.HubCore.subscribe.Goals as goal
+use Rattle.live_feed.proofs.hub.journal_and_lanes.JournalAndLanes.subscribe.Goals as goal
 
 pub invariant_of-self-2 : goal.invariant_of-self-2
 invariant_of-self-2 g c =
