@@ -209,11 +209,9 @@ declared_is false false place on old new d h = inr (entry.SelfHelp place on, h.1
 -- what a step needs of a changed lane: nothing else of the venue changed
 received_fits : (window place : ℕ) (c new : VenueView) (v : Venue) → FitsVenue window place c v → new ≡ record c { lane = record c.lane { received = new.lane.received } } → length new.lane.received ≤ length v.lane.sent → FitsVenue window place new (record v { lane = record v.lane { received = new.lane.received } })
 received_fits window place c new v f is within = subst (λ (h : VenueView). FitsVenue window place h (record v { lane = record v.lane { received = new.lane.received } })) (sym is) (record {
-  fits = f.fits;
+  history = f.history;
   number = f.number;
   width = f.width;
-  names = f.names;
-  session = f.session;
   sent = f.sent;
   begun = f.begun;
   lane = ap (λ (l : List Numbered). record { sent = l; received = new.lane.received }) (ap (λ (l : Lane Numbered). l.sent) f.lane);

@@ -2,7 +2,6 @@
 use Rattle.std.proofs.Common.{◌≡◌, ℕ, zero, suc, ◌+◌, List, [], ◌∷◌, ◌++◌, length, map, Some, Result, Ok, Err, refl, sym, ap, subst, ◌∙◌, arith, append_assoc, append-nil, length-append}
 use Rattle.std.specs.Prelude.{slice_get}
 use Rattle.std.specs.List.{AllByRecursion}
-use Rattle.std.proofs.lemmas.Grind.{flat_map-append}
 use Rattle.feed_types.specs.declared.item.Numbered.{Numbered}
 use Rattle.feed_types.specs.declared.line.LineId.{LineId}
 use Rattle.feed_types.specs.Sessions.{Session, whole_session, whole_sessions}
@@ -17,6 +16,7 @@ use Rattle.line_arbiter.specs.Answered.{IsAnswered, AreAnswered}
 use Rattle.line_arbiter.specs.Renewals.{HasEnded}
 use Rattle.line_arbiter.specs.Histories.{Begun, History, new_session, all_begun, items_of, streams_of}
 use Rattle.line_arbiter.specs.OfSession.{IsOfSession, AreOfSession, GivesSession, session_stream}
+use Rattle.line_arbiter.proofs.Histories.{items_push}
 use Rattle.line_arbiter.proofs.Below.{answered_more, answered_grows, all_sent}
 use Rattle.line_arbiter.proofs.Giving.{gives_session}
 use Rattle.line_arbiter.proofs.Fronts.{front_is}
@@ -42,9 +42,6 @@ pub record IsKept (window : ℕ) (v : Venue) : Type 0 where
   pub begun : IsPrefix (items_of v.history.earlier) v.lane.sent
   pub over : AllByRecursion (IsOver window) v.history.earlier
   pub answered : AreAnswered v.history.present.name window v.history.present.packets
-
-pub items_push : (earlier : List Begun) (b : Begun) → items_of (earlier ++ b ∷ []) ≡ items_of earlier ++ stream_of b.packets
-items_push earlier b = flat_map-append (λ (b : Begun). stream_of b.packets) earlier (b ∷ []) ∙ ap (λ (xs : List Numbered). items_of earlier ++ xs) (append-nil (stream_of b.packets))
 
 grown : (earlier : List Begun) (b c : Begun) → IsPrefix (stream_of b.packets) (stream_of c.packets) → IsPrefix (items_of (earlier ++ b ∷ [])) (items_of (earlier ++ c ∷ []))
 grown earlier b c g = record {

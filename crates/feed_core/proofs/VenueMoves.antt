@@ -1,38 +1,35 @@
 -- What a venue's moves leave, said of plain states.
-use Rattle.std.proofs.Common.{◌≡◌, ℕ, zero, suc, ◌+◌, ◌-◌, ◌≤◌, Bool, true, false, List, [], ◌∷◌, ◌++◌, length, map, drop, Option, Some, None, Result, refl, sym, ap, subst, ◌∙◌, arith, length-append, append_assoc, append-nil}
+use Rattle.std.proofs.Common.{◌≡◌, ℕ, zero, suc, ◌+◌, ◌-◌, ◌≤◌, Bool, true, false, List, [], ◌∷◌, ◌++◌, length, map, drop, Option, Some, None, Result, Ok, Err, refl, sym, ap, subst, ◌∙◌, arith, length-append, append_assoc, append-nil}
 use Rattle.std.proofs.lemmas.List.{drop-append-le}
-use Rattle.std.specs.Prelude.{slice_get}
+use Rattle.std.specs.Prelude.{slice_get, OnErr, OnOk}
 use Rattle.feed_types.specs.declared.item.Numbered.{Numbered}
 use Rattle.feed_types.specs.declared.line.LineId.{LineId}
 use Rattle.mold_packet.specs.Content.{Content, Spells}
 use Rattle.line_arbiter.specs.declared.outcome.Outcome.{Outcome}
 use Rattle.line_arbiter.specs.declared.outcome.LineFault.{LineFault}
-use Rattle.line_arbiter.specs.Packets.{Arrival, arrival_of}
-use Rattle.line_arbiter.specs.Streams.{stream_of}
+use Rattle.line_arbiter.specs.declared.faults.RenewFault.{RenewFault}
+use Rattle.line_arbiter.specs.Packets.{Arrival, arrival_of, end_of}
+use Rattle.line_arbiter.specs.Streams.{IsComplete, stream_of}
+use Rattle.line_arbiter.specs.Renewals.{IsRenewal}
 use Rattle.line_arbiter.specs.Outcomes.{IsOutcome}
-use Rattle.line_arbiter.specs.States.{State, KeepsItsPlace, IsAdvanced}
+use Rattle.line_arbiter.specs.States.{State, IsAdvanced, IsNew, IsRenewed, KeepsItsPlace}
 use Rattle.line_arbiter.specs.Fits.{Fits}
-use Rattle.line_arbiter.specs.Histories.{Begun, items_of, streams_of, after_arrival}
+use Rattle.line_arbiter.specs.Histories.{all_begun, items_of, names_of, streams_of, after_arrival, after_renewal}
 use Rattle.feed_core.specs.declared.event.Done.{Done}
 use Rattle.feed_core.specs.declared.event.Done.TheVariants as done
-use Rattle.feed_core.specs.Worlds.{Lane, inside, is_full, Venue, sent_of}
-use Rattle.feed_core.specs.Steps.{next_in, answered, pushed, ComesTo}
-use Rattle.feed_core.specs.Fitting.{VenueView, FitsVenue, LeftAnswered, LeftPushed, ShowsVenue}
-use Rattle.feed_core.proofs.VenueHalfLaw.{items_push}
-
-same_names : (bs : List Begun) (b c : Begun) → b.name ≡ c.name → map (λ (x : Begun). x.name) (bs ++ b ∷ []) ≡ map (λ (x : Begun). x.name) (bs ++ c ∷ [])
-same_names [] b c e = ap (λ (n : List ℕ). n ∷ []) e
-same_names (a ∷ bs) b c e = ap (λ (l : List (List ℕ)). a.name ∷ l) (same_names bs b c e)
+use Rattle.feed_core.specs.Worlds.{Lane, empty_lane, inside, is_full, new_venue, Venue, sent_of}
+use Rattle.feed_core.specs.Steps.{next_in, answered, pushed, renewal, ComesTo}
+use Rattle.feed_core.specs.Fitting.{VenueView, FitsVenue, LeftAnswered, LeftPushed, LeftRenewed, ShowsVenue}
+use Rattle.line_arbiter.proofs.Histories.{items_push}
+use Rattle.line_arbiter.proofs.FitsHistory.{fits_new, fits_packet, fits_push, fits_renewal, keeps_session, outcome_in, renewal_in}
 
 -- one more packet
 packet_fits : (window place : ℕ) (old new : State) (lane : Lane Numbered) (v : Venue) (a : Arrival) → FitsVenue window place (record { arbiter = old; lane = lane }) v → KeepsItsPlace old new → Fits new (v.history.present.packets ++ a ∷ [])
     → FitsVenue window place (record { arbiter = new; lane = lane }) (record v { history = after_arrival v.history a })
 packet_fits window place old new lane v a f kept fits = record {
-  fits = fits;
+  history = fits_packet v.history a f.history (keeps_session kept) fits;
   number = kept.venue ∙ f.number;
   width = kept.window ∙ f.width;
-  names = kept.sessions ∙ f.names ∙ same_names v.history.earlier v.history.present (after_arrival v.history a).present refl;
-  session = kept.session ∙ f.session;
   sent = kept.sent ∙ f.sent;
   begun = f.begun;
   lane = f.lane;
@@ -54,9 +51,66 @@ answered_so window place old new lane v line bytes rest p answer d f spells kept
 }
   where
     moved : IsOutcome v.history.present.name window (sent_of v) v.history.present.packets p answer
-    moved = subst (λ (n : List ℕ). IsOutcome n window (sent_of v) v.history.present.packets p answer) f.session
-        (subst (λ (w : ℕ). IsOutcome old.session w (sent_of v) v.history.present.packets p answer) f.width
-        (subst (λ (s : ℕ). IsOutcome old.session old.window s v.history.present.packets p answer) f.sent right))
+    moved = subst (λ (w : ℕ). IsOutcome v.history.present.name w (sent_of v) v.history.present.packets p answer) f.width
+        (subst (λ (s : ℕ). IsOutcome v.history.present.name old.window s v.history.present.packets p answer) f.sent (outcome_in v.history p answer f.history right))
+
+-- a venue to which nothing came
+pub new_fits : (window place : ℕ) (s : State) (session : List ℕ) → IsNew s place session window → Fits s [] → FitsVenue window place (record { arbiter = s; lane = empty_lane }) (new_venue session)
+new_fits window place s session new fits = record {
+  history = fits_new new fits;
+  number = new.venue;
+  width = new.window;
+  sent = new.begun.sent;
+  begun = omega arith;
+  lane = refl;
+  within = omega arith;
+}
+
+-- the next session
+renewed_so : (window place : ℕ) (old new : State) (lane : Lane Numbered) (v : Venue) (name : List ℕ) (ordinal : ℕ)
+    → FitsVenue window place (record { arbiter = old; lane = lane }) v → IsRenewal old.sessions old.end old.sent name (Ok ordinal) → IsRenewed old new name → Fits new []
+    → IsComplete v.history.present.packets × (old.sent ≡ length (stream_of v.history.present.packets)) → LeftRenewed window place v name (done.Renewed ordinal) (record { arbiter = new; lane = lane })
+renewed_so window place old new lane v name ordinal f right renewed fits whole = record {
+  answer = Ok ordinal;
+  history = after_renewal v.history name;
+  renewed = record { right = subst (λ (n : ℕ). IsRenewal (names_of v.history) (end_of v.history.present.packets) n name (Ok ordinal)) f.sent (renewal_in v.history name (Ok ordinal) f.history right); is = refl };
+  outcome_is = refl;
+  fits = record {
+    history = fits_renewal v.history name f.history renewed fits;
+    number = renewed.venue ∙ f.number;
+    width = renewed.window ∙ f.width;
+    sent = (let a = renewed.begun.sent in let b = all_sent in omega arith);
+    begun = (let b = all_sent in omega arith);
+    lane = f.lane;
+    within = f.within;
+  };
+}
+  where
+    -- all items of the sessions so far were sent
+    all_sent : length (items_of (all_begun v.history)) ≡ length v.lane.sent
+    all_sent =
+        let stream = stream_of v.history.present.packets in
+        let e = ap length (items_push v.history.earlier v.history.present) ∙ length-append (items_of v.history.earlier) stream in
+        let a = f.sent in
+        let b = f.begun in
+        let c = whole.1 in
+        omega arith
+
+not_renewed : (window place : ℕ) (s : State) (lane : Lane Numbered) (v : Venue) (name : List ℕ) (fault : RenewFault)
+    → FitsVenue window place (record { arbiter = s; lane = lane }) v → IsRenewal s.sessions s.end s.sent name (Err fault) → LeftRenewed window place v name (renewal (Err fault)) (record { arbiter = s; lane = lane })
+not_renewed window place s lane v name fault f right = record {
+  answer = Err fault;
+  history = v.history;
+  renewed = record { right = subst (λ (n : ℕ). IsRenewal (names_of v.history) (end_of v.history.present.packets) n name (Err fault)) f.sent (renewal_in v.history name (Err fault) f.history right); is = refl };
+  outcome_is = refl;
+  fits = f;
+}
+
+pub renewal_left : (window place : ℕ) (old new : State) (lane : Lane Numbered) (v : Venue) (name : List ℕ) (answer : Result ℕ RenewFault)
+    → FitsVenue window place (record { arbiter = old; lane = lane }) v → IsRenewal old.sessions old.end old.sent name answer → OnOk answer (IsRenewed old new name) → OnOk answer (Fits new [])
+    → OnOk answer (IsComplete v.history.present.packets × (old.sent ≡ length (stream_of v.history.present.packets))) → OnErr answer (new ≡ old) → LeftRenewed window place v name (renewal answer) (record { arbiter = new; lane = lane })
+renewal_left window place old new lane v name (Ok ordinal) f right renewed fits whole same = renewed_so window place old new lane v name ordinal f right renewed fits whole
+renewal_left window place old new lane v name (Err fault) f right renewed fits whole same = subst (λ (s : State). LeftRenewed window place v name (renewal (Err fault)) (record { arbiter = s; lane = lane })) (sym same) (not_renewed window place old lane v name fault f right)
 
 get_past : {X : Type 0} (xs ys : List X) (n : ℕ) → length xs ≤ n → slice_get (xs ++ ys) n ≡ slice_get ys (n - length xs)
 get_past [] ys n h = ap (slice_get ys) (omega arith)
@@ -99,11 +153,9 @@ module _ (window place capacity : ℕ) (v : Venue) (c : VenueView) (f : FitsVenu
         comes = subst (λ (o : Option Numbered). ComesTo (pushed (is_full capacity v.lane) o v.lane.sent) v.lane.sent (done.Pushed x.number) lane.sent) (e ∙ sym (next_is window place c v f))
             (subst (λ (b : Bool). ComesTo (pushed b (Some x) v.lane.sent) v.lane.sent (done.Pushed x.number) lane.sent) (sym (ap (is_full capacity) (sym f.lane) ∙ room)) (refl, sent));
         fits = record {
-          fits = fits;
+          history = fits_push v.history f.history advanced.kept fits;
           number = advanced.kept.venue ∙ f.number;
           width = advanced.kept.window ∙ f.width;
-          names = advanced.kept.sessions ∙ f.names;
-          session = advanced.kept.session ∙ f.session;
           sent = (let a = advanced.sent in let b = f.sent in let d = f.begun in omega arith);
           begun = (let d = f.begun in omega arith);
           lane = lane_is is (ap (λ (l : Lane Numbered). l.received) f.lane);

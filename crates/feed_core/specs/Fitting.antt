@@ -10,8 +10,8 @@ use Rattle.line_arbiter.specs.declared.outcome.LineFault.{LineFault}
 use Rattle.line_arbiter.specs.declared.faults.RenewFault.{RenewFault}
 use Rattle.std.specs.Prelude.{Result}
 use Rattle.line_arbiter.specs.States.{State}
-use Rattle.line_arbiter.specs.Fits.{Fits}
-use Rattle.line_arbiter.specs.Histories.{History, names_of, items_of, streams_of}
+use Rattle.line_arbiter.specs.Fits.{FitsHistory}
+use Rattle.line_arbiter.specs.Histories.{History, items_of, streams_of}
 use Rattle.feed_core.specs.declared.event.Done.{Done}
 use Rattle.feed_core.specs.declared.event.Done.TheVariants as done
 use Rattle.feed_core.specs.Worlds.{Lane, inside, is_full, Venue, sent_of, Subscriber, World, Setting, new_world}
@@ -34,11 +34,9 @@ pub record VenueView : Type 0 where
 
 -- they are the venue's at this place
 pub record FitsVenue (window place : ℕ) (c : VenueView) (v : Venue) : Type 0 where
-  pub fits : Fits c.arbiter v.history.present.packets
+  pub history : FitsHistory c.arbiter v.history
   pub number : c.arbiter.venue ≡ place
   pub width : c.arbiter.window ≡ window
-  pub names : c.arbiter.sessions ≡ names_of v.history
-  pub session : c.arbiter.session ≡ v.history.present.name
   pub sent : c.arbiter.sent ≡ sent_of v
   pub begun : length (items_of v.history.earlier) ≤ length v.lane.sent
   pub lane : c.lane ≡ v.lane

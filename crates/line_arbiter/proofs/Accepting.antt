@@ -4,19 +4,19 @@ use Rattle.std.specs.Prelude.{IsOk}
 use Rattle.std.proofs.lemmas.Option.{slice_get_within}
 use Rattle.feed_types.specs.declared.item.Item.{Item}
 use Rattle.feed_types.specs.Sessions.{Session}
-use Rattle.line_arbiter.specs.Packets.{Arrival, end_of, last_of, message_item}
+use Rattle.line_arbiter.specs.Packets.{Arrival, end_of, message_item}
+use Rattle.mold_packet.specs.Content.{last_number, Content, IsContent, KindFits}
 use Rattle.line_arbiter.specs.Outcomes.{IsPast, Disagrees, ToMessages, ToHeartbeat, ToEnd, ToKind, IsOutcome}
 use Rattle.line_arbiter.specs.OfSession.{IsOfSession}
 use Rattle.mold_packet.specs.declared.packet.Kind.{Kind}
 use Rattle.mold_packet.specs.declared.packet.Kind.TheVariants as kinds
-use Rattle.mold_packet.specs.Content.{Content, IsContent, KindFits}
 use Rattle.line_arbiter.specs.declared.outcome.Outcome.{Outcome}
 use Rattle.line_arbiter.specs.declared.outcome.LineFault.{LineFault}
 use Rattle.line_arbiter.specs.declared.outcome.LineFault.TheVariants.{OtherSession, PastEnd, EndMoved, EndTooEarly, Conflict}
 use Rattle.line_arbiter.proofs.OfSession.{IsPartOf, taken_within}
 
 module _ (s : Session) (packets : List Arrival) (part : IsPartOf s packets) where
-  not_past : (p : Content) → IsOfSession s p → 1 ≤ length p.messages → IsPast (end_of packets) (last_of p) → ⊥
+  not_past : (p : Content) → IsOfSession s p → 1 ≤ length p.messages → IsPast (end_of packets) (last_number p) → ⊥
   not_past p of some past =
       let end = part.end past.at past.announced in
       let last = slice_get_within s.items (p.number + (length p.messages - 1) - 1) (message_item p (length p.messages - 1)) (of.messages (length p.messages - 1) (omega arith)) in

@@ -4,14 +4,15 @@ use Rattle.std.specs.Prelude.{nat_le, nat_lt, ◌&&◌, IsSome, is_none, if◌th
 use Rattle.std.proofs.lemmas.Bool.{cases_lt, le-leb, lt-ltb, le-ltb}
 use Rattle.feed_types.specs.declared.item.Item.{Item}
 use Rattle.feed_types.specs.declared.line.LineId.{LineId}
-use Rattle.mold_packet.specs.Content.{Content, IsContent}
+use Rattle.mold_packet.specs.Content.{Content, IsContent, last_number}
 use Rattle.line_arbiter.specs.declared.outcome.Outcome.{Outcome}
 use Rattle.line_arbiter.specs.declared.outcome.Outcome.TheVariants.{Taken, Heartbeat, Ended, Ahead}
 use Rattle.line_arbiter.specs.declared.outcome.LineFault.{LineFault}
 use Rattle.line_arbiter.specs.declared.outcome.LineFault.TheVariants.{OtherSession, PastEnd, EndMoved, EndTooEarly, Conflict}
-use Rattle.line_arbiter.specs.Packets.{Arrival, carried, end_of, last_of}
+use Rattle.line_arbiter.specs.Packets.{Arrival, carried, end_of}
 use Rattle.line_arbiter.specs.Outcomes.{Agrees, Disagrees, IsBefore, IsPast, ToMessages, new_count, IsOutcome, ToEnd, ToHeartbeat, ToKind}
-use Rattle.line_arbiter.specs.Holding.{HeldAgrees, HeldDisagrees, fresh_to, held_at}
+use Rattle.line_arbiter.specs.Holding.{held_at}
+use Rattle.line_arbiter.specs.Filling.{HeldAgrees, HeldDisagrees, fresh_to}
 use Rattle.line_arbiter.specs.States.{State, held_of}
 use Rattle.line_arbiter.specs.Steps.{MessagesStep, EndStep, HeartbeatStep, KindStep, PacketStep}
 use Rattle.line_arbiter.proofs.Standing.{Stands}
@@ -50,7 +51,7 @@ sent_taken s packets m fits one most before = elim (cursor s packets fits) [
 ]
 
 -- the numbers past the last item sent that are not held are those that were not taken
-pub new_is : (s : State) (packets : List Arrival) (p : Content) → Stands s packets → 1 ≤ p.number → IsBefore (end_of packets) (last_of p) → fresh_to (length p.messages) s.sent (held_of s) p ≡ new_count packets p
+pub new_is : (s : State) (packets : List Arrival) (p : Content) → Stands s packets → 1 ≤ p.number → IsBefore (end_of packets) (last_number p) → fresh_to (length p.messages) s.sent (held_of s) p ≡ new_count packets p
 new_is s packets p fits one before = count_same (λ m. nat_lt s.sent m && is_none (held_at (held_of s) m)) (λ m. is_none (carried packets m)) p.number (length p.messages) (λ m low high.
     elim (cases_lt s.sent m) [
       | inl lt ↦ ap (λ (b : Bool). b && is_none (held_at (held_of s) m)) (lt-ltb s.sent m lt) ∙ ap (λ (o : Option Item). is_none o) (held_is s packets fits m lt)
@@ -62,10 +63,10 @@ before_is s packets n fits h e is = h e (fits.end ∙ is)
 
 -- messages
 messages_answer : (line : LineId) (old new : State) (packets : List Arrival) (p : Content) (answer : Result Outcome LineFault) → 1 ≤ p.number → Stands old packets → MessagesStep line old new p answer → ToMessages old.window old.sent packets p answer
-messages_answer line old new packets p (Err PastEnd) one fits h = subst (λ (o : Option ℕ). IsPast o (last_of p)) fits.end h.1
-messages_answer line old new packets p (Ok Ahead) one fits h = (before_is old packets (last_of p) fits h.1, h.2)
-messages_answer line old new packets p (Err Conflict) one fits h = (before_is old packets (last_of p) fits h.1, h.2, disagrees old packets p fits h.3)
-messages_answer line old new packets p (Ok (Taken fresh repeated)) one fits h = (before_is old packets (last_of p) fits h.1, h.2, agrees old packets p fits h.3, h.4 ∙ new_is old packets p fits one (before_is old packets (last_of p) fits h.1), h.5)
+messages_answer line old new packets p (Err PastEnd) one fits h = subst (λ (o : Option ℕ). IsPast o (last_number p)) fits.end h.1
+messages_answer line old new packets p (Ok Ahead) one fits h = (before_is old packets (last_number p) fits h.1, h.2)
+messages_answer line old new packets p (Err Conflict) one fits h = (before_is old packets (last_number p) fits h.1, h.2, disagrees old packets p fits h.3)
+messages_answer line old new packets p (Ok (Taken fresh repeated)) one fits h = (before_is old packets (last_number p) fits h.1, h.2, agrees old packets p fits h.3, h.4 ∙ new_is old packets p fits one (before_is old packets (last_number p) fits h.1), h.5)
 messages_answer line old new packets p (Ok Heartbeat) one fits h = h
 messages_answer line old new packets p (Ok Ended) one fits h = h
 messages_answer line old new packets p (Err OtherSession) one fits h = h

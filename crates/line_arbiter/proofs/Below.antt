@@ -7,13 +7,13 @@ use Rattle.feed_types.specs.declared.item.Item.{Item}
 use Rattle.feed_types.specs.declared.line.LineId.{LineId}
 use Rattle.mold_packet.specs.declared.packet.Kind.{Kind}
 use Rattle.mold_packet.specs.declared.packet.Kind.TheVariants as kinds
-use Rattle.mold_packet.specs.Content.{Content, IsContent}
+use Rattle.mold_packet.specs.Content.{Content, IsContent, last_number}
 use Rattle.line_arbiter.specs.declared.outcome.Outcome.{Outcome}
 use Rattle.line_arbiter.specs.declared.outcome.Outcome.TheVariants.{Taken, Heartbeat, Ended, Ahead}
 use Rattle.line_arbiter.specs.declared.outcome.LineFault.{LineFault}
 use Rattle.line_arbiter.specs.declared.outcome.LineFault.TheVariants.{OtherSession}
 use Rattle.feed_types.specs.Prefix.{IsPrefix}
-use Rattle.line_arbiter.specs.Packets.{Arrival, carried, end_of, last_of, has_number, is_taken, is_ended, item_at}
+use Rattle.line_arbiter.specs.Packets.{Arrival, carried, end_of, has_number, is_taken, is_ended, item_at}
 use Rattle.line_arbiter.specs.Streams.{front_of, stream_of, IsComplete}
 use Rattle.line_arbiter.specs.Outcomes.{IsOutcome, ToKind, IsBefore}
 use Rattle.line_arbiter.specs.Answered.{IsAnswered, AreAnswered, AreAnsweredAfter}
@@ -42,7 +42,7 @@ some_or (Some y) b x h = inl refl
 some_or None true x h = inr refl
 some_or None false x h = absurd (false≢true h)
 
-taken : (packets : List Arrival) (a : Arrival) → is_taken a.answer ≡ true → is_ended a.answer ≡ false → IsBefore (end_of packets) (last_of a.packet) → IsBelow packets → IsBelow (packets ++ a ∷ [])
+taken : (packets : List Arrival) (a : Arrival) → is_taken a.answer ≡ true → is_ended a.answer ≡ false → IsBefore (end_of packets) (last_number a.packet) → IsBelow packets → IsBelow (packets ++ a ∷ [])
 taken packets a t f before b = record {
   least = λ e h. b.least e (sym (end_same packets a f) ∙ h);
   above = λ e m h s.

@@ -4,14 +4,15 @@ use Rattle.std.specs.Prelude.{◌&&◌, fold, max, find, if◌then◌else◌}
 use Rattle.std.specs.Option.{option_map, option_or, option_map_or}
 use Rattle.std.proofs.lemmas.List.Folds.{find-append}
 use Rattle.std.proofs.lemmas.List.Sums.{fold_push, fold-append}
-use Rattle.line_arbiter.specs.Packets.{Arrival, bringer, brings, carried, has_number, is_taken, item_at, last_of, top_of, end_of, heard, is_ended, known_of}
+use Rattle.line_arbiter.specs.Packets.{Arrival, bringer, brings, carried, has_number, is_taken, item_at, top_of, end_of, heard, is_ended, known_of}
+use Rattle.mold_packet.specs.Content.{last_number}
 use Rattle.line_arbiter.specs.Steps.{raised}
 use Rattle.line_arbiter.proofs.Options.{or_none, map_or, picked}
 
 abbrev higher : ℕ → Arrival → ℕ
-higher n a = if is_taken a.answer then max n (last_of a.packet) else n
+higher n a = if is_taken a.answer then max n (last_number a.packet) else n
 
-pub top_of-push : (packets : List Arrival) (a : Arrival) → top_of (packets ++ a ∷ []) ≡ (if is_taken a.answer then max (top_of packets) (last_of a.packet) else top_of packets)
+pub top_of-push : (packets : List Arrival) (a : Arrival) → top_of (packets ++ a ∷ []) ≡ (if is_taken a.answer then max (top_of packets) (last_number a.packet) else top_of packets)
 top_of-push packets a = fold_push higher 0 packets a
 
 pub bringer-push : (packets : List Arrival) (a : Arrival) (m : ℕ) → bringer (packets ++ a ∷ []) m ≡ option_or (bringer packets m) (if brings m a then Some a else None)

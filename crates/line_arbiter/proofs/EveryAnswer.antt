@@ -8,7 +8,7 @@ use Rattle.std.proofs.lemmas.List.Sums.{count_by-le-length}
 use Rattle.feed_types.specs.declared.item.Item.{Item}
 use Rattle.mold_packet.specs.declared.packet.Kind.{Kind}
 use Rattle.mold_packet.specs.declared.packet.Kind.TheVariants as kinds
-use Rattle.mold_packet.specs.Content.{Content}
+use Rattle.mold_packet.specs.Content.{Content, last_number}
 use Rattle.line_arbiter.specs.declared.outcome.Outcome.{Outcome}
 use Rattle.line_arbiter.specs.declared.outcome.Outcome.TheVariants.{Taken, Heartbeat, Ended, Ahead}
 use Rattle.line_arbiter.specs.declared.outcome.LineFault.{LineFault}
@@ -16,7 +16,7 @@ use Rattle.line_arbiter.specs.declared.outcome.LineFault.TheVariants.{OtherSessi
 use Rattle.line_arbiter.specs.declared.faults.RenewFault.{RenewFault}
 use Rattle.line_arbiter.specs.declared.faults.RenewFault.TheVariants.{NotEnded, SessionUsed, TooManySessions}
 use Rattle.line_arbiter.specs.Renewals.{HasEnded, IsRenewal}
-use Rattle.line_arbiter.specs.Packets.{Arrival, carried, end_of, last_of, message_item, top_of}
+use Rattle.line_arbiter.specs.Packets.{Arrival, carried, end_of, message_item, top_of}
 use Rattle.line_arbiter.specs.Outcomes.{IsPast, IsBefore, Disagrees, Agrees, new_count, ToMessages, ToHeartbeat, ToEnd, ToKind, IsOutcome}
 use Rattle.line_arbiter.proofs.Deciding.{cases_bytes, cases_item, none_or_one, one_below}
 use Rattle.line_arbiter.proofs.Fronts.{carried_above, not_none}
@@ -60,9 +60,9 @@ module _ (packets : List Arrival) (sent : ℕ) (p : Content) where
   ]
 
   messages_have : (window : ℕ) → (answer : Result Outcome LineFault) × ToMessages window sent packets p answer
-  messages_have window = elim (past_or_before (end_of packets) (last_of p)) [
+  messages_have window = elim (past_or_before (end_of packets) (last_number p)) [
     | inl past ↦ (Err PastEnd, past)
-    | inr before ↦ elim (cases_lt (sent + window) (last_of p)) [
+    | inr before ↦ elim (cases_lt (sent + window) (last_number p)) [
       | inl ahead ↦ (Ok Ahead, (before, ahead))
       | inr within ↦ elim disagrees_or_agrees [
         | inl other ↦ (Err Conflict, (before, within, other))

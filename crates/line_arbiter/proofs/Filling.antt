@@ -9,7 +9,8 @@ use Rattle.std.proofs.lemmas.List.Sums.{count_by-le-length}
 use Rattle.feed_types.specs.declared.item.Item.{Item}
 use Rattle.mold_packet.specs.Content.{Content}
 use Rattle.line_arbiter.specs.Packets.{item_at, message_item}
-use Rattle.line_arbiter.specs.Holding.{Held, fresh_to, held_at, put_one, put_to}
+use Rattle.line_arbiter.specs.Holding.{Held, held_at}
+use Rattle.line_arbiter.specs.Filling.{fresh_to, put_one, put_to}
 use Rattle.line_arbiter.proofs.Counting.{count_more}
 
 same_place : (p : Content) (n m : ℕ) → m ≡ p.number + n → item_at p m ≡ message_item p n

@@ -7,8 +7,8 @@ use Rattle.std.proofs.lemmas.Bool.{cases_lt, false≢true}
 use Rattle.std.proofs.lemmas.Bool.Decides.{nat_tests}
 use Rattle.std.proofs.lemmas.List.Sums.{prefix_len-le-length, prefix_len_passes, prefix_len_stops}
 use Rattle.std.proofs.lemmas.List.FromFn.{length-range_with_len, get_or-range_with_len}
-use Rattle.mold_packet.specs.Content.{Content}
-use Rattle.line_arbiter.specs.Packets.{Arrival, bringer, brings, carried, has_number, item_at, is_taken, last_of, top_of}
+use Rattle.mold_packet.specs.Content.{Content, last_number}
+use Rattle.line_arbiter.specs.Packets.{Arrival, bringer, brings, carried, has_number, item_at, is_taken, top_of}
 use Rattle.line_arbiter.specs.Streams.{AreTaken, front_of}
 
 -- 1 to n were all taken, and the next wasn't
@@ -18,20 +18,20 @@ pub record IsFront (packets : List Arrival) (n : ℕ) : Type 0 where
 
 -- nothing is brought or carried above the greatest number that was taken
 abbrev topped : ℕ → Arrival → ℕ
-topped n a = if is_taken a.answer then max n (last_of a.packet) else n
+topped n a = if is_taken a.answer then max n (last_number a.packet) else n
 
 top_grows : (packets : List Arrival) (n : ℕ) → n ≤ fold topped n packets
 top_grows [] n = omega arith
-top_grows (a ∷ packets) n = let step = top_step n (is_taken a.answer) (last_of a.packet) in let rest = top_grows packets (topped n a) in omega arith
+top_grows (a ∷ packets) n = let step = top_step n (is_taken a.answer) (last_number a.packet) in let rest = top_grows packets (topped n a) in omega arith
   where
     top_step : (n : ℕ) (b : Bool) (k : ℕ) → n ≤ (if b then max n k else n)
     top_step n true k = omega arith
     top_step n false k = omega arith
 
-pub not_in : (p : Content) (m : ℕ) → last_of p < m → has_number p m ≡ false
+pub not_in : (p : Content) (m : ℕ) → last_number p < m → has_number p m ≡ false
 not_in p m h = grind (arith, nat_tests)
 
-brings_none : (n m : ℕ) (b : Bool) (p : Content) → (if b then max n (last_of p) else n) < m → (b && has_number p m) ≡ false
+brings_none : (n m : ℕ) (b : Bool) (p : Content) → (if b then max n (last_number p) else n) < m → (b && has_number p m) ≡ false
 brings_none n m true p h = not_in p m (omega arith)
 brings_none n m false p h = refl
 

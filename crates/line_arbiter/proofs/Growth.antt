@@ -5,12 +5,13 @@ use Rattle.std.specs.Option.{option_or}
 use Rattle.std.proofs.lemmas.Bool.{cases_lt, lt-leb, le-leb, lt-ltb, le-ltb}
 use Rattle.feed_types.specs.declared.item.Item.{Item}
 use Rattle.feed_types.specs.declared.line.LineId.{LineId}
-use Rattle.mold_packet.specs.Content.{Content}
+use Rattle.mold_packet.specs.Content.{Content, last_number}
 use Rattle.line_arbiter.specs.declared.outcome.LineFault.{LineFault}
-use Rattle.line_arbiter.specs.Packets.{Arrival, carried, end_of, has_number, heard, is_ended, is_taken, item_at, known_of, last_of}
+use Rattle.line_arbiter.specs.Packets.{Arrival, carried, end_of, has_number, heard, is_ended, is_taken, item_at, known_of}
 use Rattle.line_arbiter.specs.Streams.{wins_of}
 use Rattle.line_arbiter.specs.Outcomes.{new_count, IsBefore}
-use Rattle.line_arbiter.specs.Holding.{held_at, put_all}
+use Rattle.line_arbiter.specs.Holding.{held_at}
+use Rattle.line_arbiter.specs.Filling.{put_all}
 use Rattle.line_arbiter.specs.Counts.{Counts, count_on, shown}
 use Rattle.line_arbiter.specs.States.{State, held_of}
 use Rattle.line_arbiter.specs.Steps.{TakesIn, raised}
@@ -68,7 +69,7 @@ taken_held sent m p o =
     before : (sent m : ℕ) (p : Content) → m ≤ sent → put_all sent p None m ≡ None
     before sent m p le = let t : nat_lt sent m ≡ false = le-ltb sent m le in ap (λ (b : Bool). if b && has_number p m then Some (item_at p m) else None) t
 
-pub fits_taken : (fresh : ℕ) (old new : State) (packets : List Arrival) (a : Arrival) → 1 ≤ a.packet.number → fresh ≡ new_count packets a.packet → is_taken a.answer ≡ true → is_ended a.answer ≡ false → heard a ≡ last_of a.packet → IsBefore old.end (last_of a.packet) → TakesIn a.line fresh old new a.packet → Stands old packets → Stands new (packets ++ a ∷ [])
+pub fits_taken : (fresh : ℕ) (old new : State) (packets : List Arrival) (a : Arrival) → 1 ≤ a.packet.number → fresh ≡ new_count packets a.packet → is_taken a.answer ≡ true → is_ended a.answer ≡ false → heard a ≡ last_number a.packet → IsBefore old.end (last_number a.packet) → TakesIn a.line fresh old new a.packet → Stands old packets → Stands new (packets ++ a ∷ [])
 fits_taken fresh old new packets a first is_fresh was_taken unended last before by fits =
     let sent : new.sent ≡ old.sent = ap (λ (s : State). s.sent) by.others in
     let end : new.end ≡ old.end = ap (λ (s : State). s.end) by.others in
@@ -90,14 +91,14 @@ fits_taken fresh old new packets a first is_fresh was_taken unended last before 
             | inr ended ↦
                 let k = by.from in
                 let same : new.front + 1 ≡ old.front + 1 = let e = ended.0 in omega arith in
-                let above : last_of a.packet < new.front + 1 = let e = before (old.front + 1) (fits.end ∙ ended.1) in omega arith in
+                let above : last_number a.packet < new.front + 1 = let e = before (old.front + 1) (fits.end ∙ ended.1) in omega arith in
                 carried_more packets a (new.front + 1) was_taken
                 ∙ ap (λ (o : Option Item). option_or o (if has_number a.packet (new.front + 1) then Some (item_at a.packet (new.front + 1)) else None)) (ap (carried packets) same ∙ fits.front.next)
                 ∙ ap (λ (b : Bool). if b then Some (item_at a.packet (new.front + 1)) else None) (not_in a.packet (new.front + 1) above)
           ]
         ];
       };
-      known = by.known ∙ ap (λ (k : ℕ). raised k old.end (last_of a.packet)) fits.known ∙ ap (λ (o : Option ℕ). raised (known_of packets) o (last_of a.packet)) fits.end ∙ ap (λ (n : ℕ). raised (known_of packets) (end_of packets) n) (sym last) ∙ sym (known-push packets a unended);
+      known = by.known ∙ ap (λ (k : ℕ). raised k old.end (last_number a.packet)) fits.known ∙ ap (λ (o : Option ℕ). raised (known_of packets) o (last_number a.packet)) fits.end ∙ ap (λ (n : ℕ). raised (known_of packets) (end_of packets) n) (sym last) ∙ sym (known-push packets a unended);
       end = end ∙ fits.end ∙ sym (end_same packets a unended);
       sent = rw sent (elim (cases_lt old.front new.front) [
         | inl moved ↦ let l = length-stream (packets ++ a ∷ []) new.front in elim (cursor old packets fits) [ inl within ↦ omega arith | inr ended ↦ let e = ended.0 in omega arith ]

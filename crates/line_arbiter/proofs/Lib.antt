@@ -33,6 +33,9 @@ pub mod EveryAnswer
 pub mod Passing
 pub mod Ordering
 pub mod NameBytes
+-- the history of a venue
+pub mod Histories
+pub mod FitsHistory
 -- genuine packets, and the laws
 pub mod Genuine
 pub mod Arrivals

@@ -5,7 +5,8 @@ use Rattle.std.specs.List.{range_with_len}
 use Rattle.std.specs.Option.{option_or, option_map_or}
 use Rattle.feed_types.specs.declared.line.LineId.{LineId}
 use Rattle.feed_types.specs.declared.line.LineId.TheVariants.{A, B, Recovery}
-use Rattle.line_arbiter.specs.Packets.{Arrival, bringer, has_number, is_taken, last_of, top_of}
+use Rattle.line_arbiter.specs.Packets.{Arrival, bringer, has_number, is_taken, top_of}
+use Rattle.mold_packet.specs.Content.{last_number}
 use Rattle.line_arbiter.specs.Streams.{is_same_line, wins_of}
 use Rattle.line_arbiter.specs.Outcomes.{new_count}
 use Rattle.line_arbiter.specs.Counts.{Counts, count_on, shown}
@@ -18,7 +19,7 @@ use Rattle.line_arbiter.proofs.Options.{or_none}
 -- a packet that is not taken wins nothing
 pub wins_of-untaken : (packets : List Arrival) (a : Arrival) (line : LineId) → is_taken a.answer ≡ false → wins_of (packets ++ a ∷ []) line ≡ wins_of packets line
 wins_of-untaken packets a line untaken =
-    let top : top_of (packets ++ a ∷ []) ≡ top_of packets = top_of-push packets a ∙ ap (λ (b : Bool). if b then max (top_of packets) (last_of a.packet) else top_of packets) untaken in
+    let top : top_of (packets ++ a ∷ []) ≡ top_of packets = top_of-push packets a ∙ ap (λ (b : Bool). if b then max (top_of packets) (last_number a.packet) else top_of packets) untaken in
     let same : (m : ℕ) → bringer (packets ++ a ∷ []) m ≡ bringer packets m = λ m. bringer-push packets a m ∙ ap (λ (b : Bool). option_or (bringer packets m) (if b && has_number a.packet m then Some a else None)) untaken ∙ or_none (bringer packets m) in
     ap (λ (n : ℕ). count_by (λ m. option_map_or (λ x. is_same_line x.line line) (bringer (packets ++ a ∷ []) m) false) (range_with_len 1 n)) top
     ∙ count_same (λ m. option_map_or (λ x. is_same_line x.line line) (bringer (packets ++ a ∷ []) m) false) (λ m. option_map_or (λ x. is_same_line x.line line) (bringer packets m) false) 1 (top_of packets)

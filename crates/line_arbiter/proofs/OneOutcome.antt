@@ -2,7 +2,7 @@
 use Rattle.std.proofs.Common.{◌≡◌, ℕ, ◌+◌, List, length, Option, Some, None, Result, Ok, Err, inl, inr, refl, sym, ap, ◌∙◌, arith}
 use Rattle.mold_packet.specs.declared.packet.Kind.{Kind}
 use Rattle.mold_packet.specs.declared.packet.Kind.TheVariants as kinds
-use Rattle.mold_packet.specs.Content.{Content}
+use Rattle.mold_packet.specs.Content.{Content, last_number}
 use Rattle.line_arbiter.specs.declared.outcome.Outcome.{Outcome}
 use Rattle.line_arbiter.specs.declared.outcome.Outcome.TheVariants.{Taken, Heartbeat, Ended, Ahead}
 use Rattle.line_arbiter.specs.declared.outcome.LineFault.{LineFault}
@@ -10,7 +10,7 @@ use Rattle.line_arbiter.specs.declared.outcome.LineFault.TheVariants.{OtherSessi
 use Rattle.line_arbiter.specs.declared.faults.RenewFault.{RenewFault}
 use Rattle.line_arbiter.specs.declared.faults.RenewFault.TheVariants.{NotEnded, SessionUsed, TooManySessions}
 use Rattle.line_arbiter.specs.Renewals.{IsRenewal}
-use Rattle.line_arbiter.specs.Packets.{Arrival, end_of, last_of}
+use Rattle.line_arbiter.specs.Packets.{Arrival, end_of}
 use Rattle.line_arbiter.specs.Outcomes.{IsPast, IsBefore, Disagrees, Agrees, ToMessages, ToHeartbeat, ToEnd, ToKind, IsOutcome}
 
 pub same_some : (a b : ℕ) (o : Option ℕ) → o ≡ Some a → o ≡ Some b → a ≡ b
@@ -31,18 +31,18 @@ taken_once n r m s len e f g = let k : r ≡ s = omega arith in cc
 to_messages : (window sent : ℕ) (packets : List Arrival) (p : Content) (a b : Result Outcome LineFault) → ToMessages window sent packets p a → ToMessages window sent packets p b → a ≡ b
 unfolding taken
 to_messages window sent packets p (Err PastEnd) (Err PastEnd) x y = refl
-to_messages window sent packets p (Err PastEnd) (Ok Ahead) x y = absurd (past_or_before packets (last_of p) x y.0)
-to_messages window sent packets p (Err PastEnd) (Err Conflict) x y = absurd (past_or_before packets (last_of p) x y.0)
-to_messages window sent packets p (Err PastEnd) (Ok (Taken n r)) x y = absurd (past_or_before packets (last_of p) x y.0)
-to_messages window sent packets p (Ok Ahead) (Err PastEnd) x y = absurd (past_or_before packets (last_of p) y x.0)
+to_messages window sent packets p (Err PastEnd) (Ok Ahead) x y = absurd (past_or_before packets (last_number p) x y.0)
+to_messages window sent packets p (Err PastEnd) (Err Conflict) x y = absurd (past_or_before packets (last_number p) x y.0)
+to_messages window sent packets p (Err PastEnd) (Ok (Taken n r)) x y = absurd (past_or_before packets (last_number p) x y.0)
+to_messages window sent packets p (Ok Ahead) (Err PastEnd) x y = absurd (past_or_before packets (last_number p) y x.0)
 to_messages window sent packets p (Ok Ahead) (Ok Ahead) x y = refl
 to_messages window sent packets p (Ok Ahead) (Err Conflict) x y = let u = x.1 in let v = y.1 in absurd (omega arith)
 to_messages window sent packets p (Ok Ahead) (Ok (Taken n r)) x y = let u = x.1 in let v = y.1 in absurd (omega arith)
-to_messages window sent packets p (Err Conflict) (Err PastEnd) x y = absurd (past_or_before packets (last_of p) y x.0)
+to_messages window sent packets p (Err Conflict) (Err PastEnd) x y = absurd (past_or_before packets (last_number p) y x.0)
 to_messages window sent packets p (Err Conflict) (Ok Ahead) x y = let u = x.1 in let v = y.1 in absurd (omega arith)
 to_messages window sent packets p (Err Conflict) (Err Conflict) x y = refl
 to_messages window sent packets p (Err Conflict) (Ok (Taken n r)) x y = absurd (agrees_or_not packets sent p x.2 y.2)
-to_messages window sent packets p (Ok (Taken n r)) (Err PastEnd) x y = absurd (past_or_before packets (last_of p) y x.0)
+to_messages window sent packets p (Ok (Taken n r)) (Err PastEnd) x y = absurd (past_or_before packets (last_number p) y x.0)
 to_messages window sent packets p (Ok (Taken n r)) (Ok Ahead) x y = let u = x.1 in let v = y.1 in absurd (omega arith)
 to_messages window sent packets p (Ok (Taken n r)) (Err Conflict) x y = absurd (agrees_or_not packets sent p y.2 x.2)
 to_messages window sent packets p (Ok (Taken n r)) (Ok (Taken m s)) x y = taken_once n r m s (length p.messages) (x.3 ∙ sym y.3) x.4 y.4

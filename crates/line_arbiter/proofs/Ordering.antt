@@ -4,13 +4,13 @@ use Rattle.std.specs.Prelude.{IfSome}
 use Rattle.feed_types.specs.declared.line.LineId.{LineId}
 use Rattle.feed_types.specs.Prefix.{IsPrefix}
 use Rattle.mold_packet.specs.declared.packet.Kind.TheVariants as kinds
-use Rattle.mold_packet.specs.Content.{Content, IsContent}
+use Rattle.mold_packet.specs.Content.{Content, IsContent, last_number}
 use Rattle.line_arbiter.specs.declared.outcome.Outcome.{Outcome}
 use Rattle.line_arbiter.specs.declared.outcome.Outcome.TheVariants.{Taken, Heartbeat, Ended, Ahead}
 use Rattle.line_arbiter.specs.declared.in_order.InOrder.{InOrder}
 use Rattle.line_arbiter.specs.declared.in_order.InOrder.TheVariants.{Next, Repeat}
 use Rattle.line_arbiter.specs.InOrder.{BringsInOrder, IsInOrder, IsNext, IsOrder, IsPeeked, IsSent, SendsInOrder, outcome_in_order}
-use Rattle.line_arbiter.specs.Packets.{Arrival, arrival_of, last_of}
+use Rattle.line_arbiter.specs.Packets.{Arrival, arrival_of}
 use Rattle.line_arbiter.specs.Streams.{stream_of}
 use Rattle.line_arbiter.specs.Outcomes.{IsOutcome}
 use Rattle.line_arbiter.specs.States.{State, held_of}
@@ -25,13 +25,13 @@ use Rattle.line_arbiter.proofs.StreamGrowth.{stream_grows}
 
 -- the state that a packet leaves which was all sent
 abbrev repeated : LineId → State → Content → State
-repeated line s p = record s { known = raised s.known s.end (last_of p); wins = counted line 0 s.wins }
+repeated line s p = record s { known = raised s.known s.end (last_number p); wins = counted line 0 s.wins }
 
 module _ (s : State) (p : Content) (packets : List Arrival) (content : IsContent p) (sound : IsSound s) (name : p.session ≡ s.session) (kind : p.kind ≡ kinds.Messages) (fits : Fits s packets) where
   repeats_sent : (line : LineId) → IsSent s p → MessagesStep line s (repeated line s p) p (Ok (Taken 0 (length p.messages)))
   repeats_sent line sent =
       let all = sent.all in
-      repeats line s p (raised s.known s.end (last_of p)) (counted line 0 s.wins) sound.stop
+      repeats line s p (raised s.known s.end (last_number p)) (counted line 0 s.wins) sound.stop
       (sent_there (held_of s) p sent.all) (sent_agrees (held_of s) p sent.all) (omega arith) sent.before refl refl
 
   sent_brings : (line : LineId) (last : ℕ) → IsSent s p → BringsInOrder s.session s.window s.sent packets line p (Repeat last)

@@ -5,12 +5,12 @@ use Rattle.std.specs.Option.{option_or}
 use Rattle.feed_types.specs.declared.item.Item.{Item}
 use Rattle.feed_types.specs.declared.line.LineId.{LineId}
 use Rattle.mold_packet.specs.declared.packet.Kind.{Kind}
-use Rattle.mold_packet.specs.Content.{Content, IsContent}
+use Rattle.mold_packet.specs.Content.{Content, IsContent, last_number}
 use Rattle.line_arbiter.specs.declared.outcome.Outcome.{Outcome}
 use Rattle.line_arbiter.specs.declared.outcome.Outcome.TheVariants.{Taken, Heartbeat, Ended, Ahead}
 use Rattle.line_arbiter.specs.declared.outcome.LineFault.{LineFault}
 use Rattle.line_arbiter.specs.declared.outcome.LineFault.TheVariants.{OtherSession, PastEnd, EndMoved, EndTooEarly, Conflict}
-use Rattle.line_arbiter.specs.Packets.{Arrival, carried, end_of, is_ended, is_taken, last_of}
+use Rattle.line_arbiter.specs.Packets.{Arrival, carried, end_of, is_ended, is_taken}
 use Rattle.line_arbiter.specs.Holding.{held_at}
 use Rattle.line_arbiter.specs.States.{State, held_of}
 use Rattle.line_arbiter.specs.Counts.{count_on, shown}
@@ -28,7 +28,7 @@ messages_fits : (old new : State) (packets : List Arrival) (line : LineId) (p : 
 messages_fits old new packets line p (Err PastEnd) one fits h = fits_refused old new packets line p PastEnd h.0 fits
 messages_fits old new packets line p (Err Conflict) one fits h = fits_refused old new packets line p Conflict h.0 fits
 messages_fits old new packets line p (Ok Ahead) one fits h = subst (λ (x : State). Stands x (packets ++ record { line = line; packet = p; answer = Ok Ahead } ∷ [])) (sym h.0) (fits_heard old packets (record { line = line; packet = p; answer = Ok Ahead }) refl refl fits)
-messages_fits old new packets line p (Ok (Taken fresh repeated)) one fits h = fits_taken fresh old new packets (record { line = line; packet = p; answer = Ok (Taken fresh repeated) }) one (h.4 ∙ new_is old packets p fits one (before_is old packets (last_of p) fits h.1)) refl refl refl h.1 h.0 fits
+messages_fits old new packets line p (Ok (Taken fresh repeated)) one fits h = fits_taken fresh old new packets (record { line = line; packet = p; answer = Ok (Taken fresh repeated) }) one (h.4 ∙ new_is old packets p fits one (before_is old packets (last_number p) fits h.1)) refl refl refl h.1 h.0 fits
 messages_fits old new packets line p (Ok Heartbeat) one fits h = absurd h
 messages_fits old new packets line p (Ok Ended) one fits h = absurd h
 messages_fits old new packets line p (Err OtherSession) one fits h = absurd h

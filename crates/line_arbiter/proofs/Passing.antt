@@ -14,10 +14,10 @@ use Rattle.feed_types.specs.Prefix.{IsPrefix}
 use Rattle.feed_types.specs.Sessions.{numbered_from}
 use Rattle.mold_packet.specs.declared.packet.Kind.{Kind}
 use Rattle.mold_packet.specs.declared.packet.Kind.TheVariants as kinds
-use Rattle.mold_packet.specs.Content.{Content, IsContent, KindFits}
+use Rattle.mold_packet.specs.Content.{Content, IsContent, KindFits, last_number}
 use Rattle.quote_payload.specs.Payload.{item_of}
 use Rattle.line_arbiter.specs.declared.outcome.Outcome.TheVariants.{Taken}
-use Rattle.line_arbiter.specs.Packets.{Arrival, carried, end_of, has_number, item_at, known_of, last_of, message_item}
+use Rattle.line_arbiter.specs.Packets.{Arrival, carried, end_of, has_number, item_at, known_of, message_item}
 use Rattle.line_arbiter.specs.Streams.{end_at, front_of, item_numbered, stream_of, stream_to, wins_of}
 use Rattle.line_arbiter.specs.Outcomes.{Agrees, IsOutcome, ToKind, new_count}
 use Rattle.line_arbiter.specs.declared.in_order.InOrder.TheVariants.{Next}
@@ -69,7 +69,7 @@ module _ (line : LineId) (old : State) (p : Content) (packets : List Arrival) (c
   some : 1 ≤ length p.messages
   some = messages_some p.kind p.messages kind content.fits
 
-  last_is : last_of p ≡ old.sent + length p.messages
+  last_is : last_number p ≡ old.sent + length p.messages
   last_is = let f = next.first in let n = some in omega arith
 
   fresh : (m : ℕ) → old.sent < m → carried packets m ≡ None
@@ -78,7 +78,7 @@ module _ (line : LineId) (old : State) (p : Content) (packets : List Arrival) (c
   is_fresh : length p.messages ≡ new_count packets p
   is_fresh = sym (count_same (λ m. is_none (carried packets m)) (λ m. true) p.number (length p.messages) (λ m low high. let f = next.first in ap (λ (x : Option Item). is_none x) (fresh m (omega arith))) ∙ count_all p.number (length p.messages))
 
-  carried_in : (m : ℕ) → old.sent < m → m ≤ last_of p → carried (packets ++ a ∷ []) m ≡ Some (item_at p m)
+  carried_in : (m : ℕ) → old.sent < m → m ≤ last_number p → carried (packets ++ a ∷ []) m ≡ Some (item_at p m)
   carried_in m low high =
       let f = next.first in let l = last_is in let n = some in
       let there = inside p m (omega arith) (omega arith) in
@@ -86,24 +86,24 @@ module _ (line : LineId) (old : State) (p : Content) (packets : List Arrival) (c
       ∙ ap (λ (x : Option Item). option_or x (if has_number p m then Some (item_at p m) else None)) (fresh m low)
       ∙ ap (λ (b : Bool). if b then Some (item_at p m) else None) there
 
-  carried_past : (m : ℕ) → last_of p < m → carried (packets ++ a ∷ []) m ≡ None
+  carried_past : (m : ℕ) → last_number p < m → carried (packets ++ a ∷ []) m ≡ None
   carried_past m high =
       let l = last_is in
       carried_more packets a m refl
       ∙ ap (λ (x : Option Item). option_or x (if has_number p m then Some (item_at p m) else None)) (fresh m (omega arith))
       ∙ ap (λ (b : Bool). if b then Some (item_at p m) else None) (not_in p m high)
 
-  last_is_front : IsFront (packets ++ a ∷ []) (last_of p)
+  last_is_front : IsFront (packets ++ a ∷ []) (last_number p)
   last_is_front = record {
     all = λ m one most. elim (cases_lt old.sent m) [
       | inl lt ↦ subst (λ (x : Option Item). IsSome x) (sym (carried_in m lt most)) refl
       | inr le ↦ rw (carried_more packets a m refl) (IsSome-or (carried packets m) _ (fits.front.all m one (let w = next.whole in omega arith)))
     ];
-    next = carried_past (last_of p + 1) (omega arith);
+    next = carried_past (last_number p + 1) (omega arith);
   }
 
-  front : front_of (packets ++ a ∷ []) ≡ last_of p
-  front = front_unique (packets ++ a ∷ []) (front_of (packets ++ a ∷ [])) (last_of p) (front_is (packets ++ a ∷ [])) last_is_front
+  front : front_of (packets ++ a ∷ []) ≡ last_number p
+  front = front_unique (packets ++ a ∷ []) (front_of (packets ++ a ∷ [])) (last_number p) (front_is (packets ++ a ∷ [])) last_is_front
 
   agrees : Agrees packets old.sent p
   agrees k item lt past is = let none = fresh (p.number + k) past in absurd cc
@@ -114,12 +114,12 @@ module _ (line : LineId) (old : State) (p : Content) (packets : List Arrival) (c
       inr (
         name,
         subst (λ (k : Kind). ToKind k old.window old.sent packets p (Ok (Taken (length p.messages) 0))) (sym kind)
-            (before_is old packets (last_of p) fits next.before, omega arith, agrees, is_fresh, omega arith),
+            (before_is old packets (last_number p) fits next.before, omega arith, agrees, is_fresh, omega arith),
       )
 
   -- the stream goes on
   pub passing_grows : IsPrefix (stream_of packets) (stream_of (packets ++ a ∷ []))
-  passing_grows = stream_grows packets a (λ e is. subst (λ (n : ℕ). n < e) (sym front) (before_is old packets (last_of p) fits next.before e (sym (end_same packets a refl) ∙ is)))
+  passing_grows = stream_grows packets a (λ e is. subst (λ (n : ℕ). n < e) (sym front) (before_is old packets (last_number p) fits next.before e (sym (end_same packets a refl) ∙ is)))
 
   numbered_in : (k : ℕ) → k < length p.messages → item_numbered (packets ++ a ∷ []) (p.number + k) ≡ record { number = p.number + k; item = message_item p k }
   numbered_in k lt =
@@ -129,13 +129,13 @@ module _ (line : LineId) (old : State) (p : Content) (packets : List Arrival) (c
       ∙ ap (λ (j : ℕ). record { number = p.number + k; item = message_item p j }) e
 
   -- what is sent with it, and what is ready behind it
-  pub passing_items : drop old.sent (stream_of (packets ++ a ∷ [])) ≡ numbered_from p.number (map item_of p.messages) ++ drop (last_of p) (stream_of (packets ++ a ∷ []))
+  pub passing_items : drop old.sent (stream_of (packets ++ a ∷ [])) ≡ numbered_from p.number (map item_of p.messages) ++ drop (last_number p) (stream_of (packets ++ a ∷ []))
   passing_items =
       let Q = packets ++ a ∷ [] in
       let n = length p.messages in
       let f = next.first in
       let one : 1 + old.sent ≡ p.number = omega arith in
-      let E = end_at (end_of Q) (last_of p + 1) in
+      let E = end_at (end_of Q) (last_number p + 1) in
       let before = map (item_numbered Q) (range_with_len 1 old.sent) in
       let here = map (item_numbered Q) (range_with_len p.number n) in
       let stream : stream_of Q ≡ before ++ (here ++ E) =
@@ -144,9 +144,9 @@ module _ (line : LineId) (old : State) (p : Content) (packets : List Arrival) (c
       ∙ ap (λ (xs : List ℕ). map (item_numbered Q) xs ++ E) (range_split 1 old.sent n ∙ ap (λ (k : ℕ). range_with_len 1 old.sent ++ range_with_len k n) one)
       ∙ ap (λ (xs : List Numbered). xs ++ E) (map-append (item_numbered Q) (range_with_len 1 old.sent) (range_with_len p.number n))
       ∙ append_assoc before here E in
-      let long : length (before ++ here) ≡ last_of p = length-append before here ∙ (let x = length-map-range_with_len (item_numbered Q) 1 old.sent in let y = length-map-range_with_len (item_numbered Q) p.number n in let l = last_is in omega arith) in
-      let rest : drop (last_of p) (stream_of Q) ≡ E =
-      ap (λ (xs : List Numbered). drop (last_of p) xs) (stream ∙ sym (append_assoc before here E)) ∙ drop_at (before ++ here) E (last_of p) long in
+      let long : length (before ++ here) ≡ last_number p = length-append before here ∙ (let x = length-map-range_with_len (item_numbered Q) 1 old.sent in let y = length-map-range_with_len (item_numbered Q) p.number n in let l = last_is in omega arith) in
+      let rest : drop (last_number p) (stream_of Q) ≡ E =
+      ap (λ (xs : List Numbered). drop (last_number p) xs) (stream ∙ sym (append_assoc before here E)) ∙ drop_at (before ++ here) E (last_number p) long in
       ap (λ (xs : List Numbered). drop old.sent xs) stream
       ∙ drop_at before (here ++ E) old.sent (length-map-range_with_len (item_numbered Q) 1 old.sent)
       ∙ ap (λ (xs : List Numbered). xs ++ E) (numbered_is (item_numbered Q) p.number p.messages numbered_in)
@@ -154,18 +154,18 @@ module _ (line : LineId) (old : State) (p : Content) (packets : List Arrival) (c
 
   -- what the arbiter is behind it
   module _ (new : State) (past : GoesPast line old new p) where
-    gone : (m : ℕ) → (if nat_le m (last_of p) then None else carried (packets ++ a ∷ []) m) ≡ None
-    gone m = elim (cases_lt (last_of p) m) [
-      | inl lt ↦ ap (λ (b : Bool). if b then None else carried (packets ++ a ∷ []) m) (lt-leb m (last_of p) lt) ∙ carried_past m lt
-      | inr le ↦ ap (λ (b : Bool). if b then None else carried (packets ++ a ∷ []) m) (le-leb m (last_of p) le)
+    gone : (m : ℕ) → (if nat_le m (last_number p) then None else carried (packets ++ a ∷ []) m) ≡ None
+    gone m = elim (cases_lt (last_number p) m) [
+      | inl lt ↦ ap (λ (b : Bool). if b then None else carried (packets ++ a ∷ []) m) (lt-leb m (last_number p) lt) ∙ carried_past m lt
+      | inr le ↦ ap (λ (b : Bool). if b then None else carried (packets ++ a ∷ []) m) (le-leb m (last_number p) le)
     ]
 
     stands_passed : Stands new (packets ++ a ∷ [])
     stands_passed = record {
       front = subst (λ (n : ℕ). IsFront (packets ++ a ∷ []) n) (sym (ap (λ (x : State). x.front) past.after)) last_is_front;
-      known = ap (λ (x : State). x.known) past.after ∙ ap (λ (k : ℕ). raised k old.end (last_of p)) fits.known ∙ ap (λ (x : Option ℕ). raised (known_of packets) x (last_of p)) fits.end ∙ sym (known-push packets a refl);
+      known = ap (λ (x : State). x.known) past.after ∙ ap (λ (k : ℕ). raised k old.end (last_number p)) fits.known ∙ ap (λ (x : Option ℕ). raised (known_of packets) x (last_number p)) fits.end ∙ sym (known-push packets a refl);
       end = ap (λ (x : State). x.end) past.after ∙ fits.end ∙ sym (end_same packets a refl);
-      sent = rw (ap (λ (x : State). x.front) past.after, past.sent) (let l = length-stream (packets ++ a ∷ []) (last_of p) in omega arith);
+      sent = rw (ap (λ (x : State). x.front) past.after, past.sent) (let l = length-stream (packets ++ a ∷ []) (last_number p) in omega arith);
       held = λ m. past.empty m ∙ sym (ap (λ (k : ℕ). if nat_le m k then None else carried (packets ++ a ∷ []) m) past.sent ∙ gone m);
       wins = λ each. ap (λ (x : State). count_on each x.wins) past.after ∙ wins_counted packets a (length p.messages) old.wins old.earlier refl content.from_one is_fresh fits.wins each ∙ ap (λ (x : State). shown (count_on each x.earlier + wins_of (packets ++ a ∷ []) each)) (sym past.after);
     }
@@ -202,11 +202,11 @@ next_packet s packets p fits name kind next = record {
   kind = kind;
   next = next.first;
   none_held = λ m past. sym (held_is s packets fits m past) ∙ next.empty m;
-  before = before_is s packets (last_of p) fits next.before;
+  before = before_is s packets (last_number p) fits next.before;
   within = next.within;
 }
 
-pub next_brings : (line : LineId) (s : State) (p : Content) (packets : List Arrival) (last : ℕ) → IsContent p → IsNext s p → p.session ≡ s.session → p.kind ≡ kinds.Messages → last ≡ last_of p → Stands s packets
+pub next_brings : (line : LineId) (s : State) (p : Content) (packets : List Arrival) (last : ℕ) → IsContent p → IsNext s p → p.session ≡ s.session → p.kind ≡ kinds.Messages → last ≡ last_number p → Stands s packets
     → BringsInOrder s.session s.window s.sent packets line p (Next last)
 next_brings line s p packets last content next name kind is fits = record {
   answer = passing_answer line s p packets content next name kind fits;

@@ -8,7 +8,8 @@ use Rattle.std.proofs.lemmas.List.{length-replicate}
 use Rattle.std.proofs.Math.ListN.{length-set}
 use Rattle.circular_buffer.proofs.Places.{slice_get-set_same, slice_get-set_other, slice_get-drop}
 use Rattle.feed_types.specs.declared.item.Item.{Item}
-use Rattle.line_arbiter.specs.Holding.{in_place, put_at}
+use Rattle.line_arbiter.specs.Holding.{in_place}
+use Rattle.line_arbiter.specs.Filling.{put_at}
 use Rattle.line_arbiter.proofs.Counting.{count_first, one_if}
 
 pub blank_more : {X : Type 0} (xs : List X) (x : X) (n : ℕ) → length xs < n → (xs ++ x ∷ []) ++ replicate (n - length (xs ++ x ∷ [])) x ≡ xs ++ replicate (n - length xs) x

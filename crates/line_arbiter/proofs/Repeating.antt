@@ -7,14 +7,15 @@ use Rattle.feed_types.specs.declared.item.Item.{Item}
 use Rattle.feed_types.specs.declared.line.LineId.{LineId}
 use Rattle.mold_packet.specs.declared.packet.Kind.{Kind}
 use Rattle.mold_packet.specs.declared.packet.Kind.TheVariants as kinds
-use Rattle.mold_packet.specs.Content.{Content}
+use Rattle.mold_packet.specs.Content.{Content, last_number}
 use Rattle.line_arbiter.specs.declared.outcome.Outcome.{Outcome}
 use Rattle.line_arbiter.specs.declared.outcome.Outcome.TheVariants.{Taken}
-use Rattle.line_arbiter.specs.Packets.{Arrival, last_of}
+use Rattle.line_arbiter.specs.Packets.{Arrival}
 use Rattle.line_arbiter.specs.Outcomes.{IsBefore}
 use Rattle.line_arbiter.specs.InOrder.{IsSent, WasSent}
 use Rattle.line_arbiter.specs.Counts.{Counts}
-use Rattle.line_arbiter.specs.Holding.{Held, fresh_to, held_at, put_all, HeldAgrees}
+use Rattle.line_arbiter.specs.Holding.{Held, held_at}
+use Rattle.line_arbiter.specs.Filling.{fresh_to, put_all, HeldAgrees}
 use Rattle.line_arbiter.specs.Comparing.{AreThere, IsThere}
 use Rattle.line_arbiter.specs.States.{State, held_of}
 use Rattle.line_arbiter.specs.Steps.{KindStep, MessagesStep, PacketStep, counted, raised}
@@ -23,10 +24,10 @@ use Rattle.line_arbiter.proofs.Counting.{count_none}
 use Rattle.line_arbiter.proofs.Windows.{before_base}
 
 -- a message that was sent is there, and nothing else is held at its number
-pub sent_there : (held : Held) (p : Content) → last_of p ≤ held.base → AreThere held p
+pub sent_there : (held : Held) (p : Content) → last_number p ≤ held.base → AreThere held p
 sent_there held p gone k within = inl (omega arith)
 
-pub sent_agrees : (held : Held) (p : Content) → last_of p ≤ held.base → HeldAgrees held p
+pub sent_agrees : (held : Held) (p : Content) → last_number p ≤ held.base → HeldAgrees held p
 sent_agrees held p gone k within found is = let none = before_base held (p.number + k) (omega arith) in absurd cc
 
 -- at the packet's numbers past the base something is held
@@ -72,8 +73,8 @@ none_fresh held p there =
     (λ m low high. not_new held m (λ past. held_past held p m there past low high)))
 
 pub repeats : (line : LineId) (old : State) (p : Content) (known : ℕ) (wins : Counts) → held_at (held_of old) (old.front + 1) ≡ None
-    → AreThere (held_of old) p → HeldAgrees (held_of old) p → last_of p ≤ old.sent + old.window → IsBefore old.end (last_of p)
-    → known ≡ raised old.known old.end (last_of p) → wins ≡ counted line 0 old.wins
+    → AreThere (held_of old) p → HeldAgrees (held_of old) p → last_number p ≤ old.sent + old.window → IsBefore old.end (last_number p)
+    → known ≡ raised old.known old.end (last_number p) → wins ≡ counted line 0 old.wins
     → MessagesStep line old (record old { known = known; wins = wins }) p (Ok (Taken 0 (length p.messages)))
 repeats line old p known wins stop there agrees within before known_is wins_is = (
   record {
@@ -101,11 +102,11 @@ was_sent s packets p fits name kind sent = record {
   name = name;
   kind = kind;
   all = sent.all;
-  before = subst (λ (end : Option ℕ). IsBefore end (last_of p)) fits.end sent.before;
+  before = subst (λ (end : Option ℕ). IsBefore end (last_number p)) fits.end sent.before;
 }
 
 pub sent_of_packets : (s : State) (packets : List Arrival) (p : Content) → Fits s packets → WasSent s.session s.sent packets p → IsSent s p
 sent_of_packets s packets p fits was = record {
   all = was.all;
-  before = subst (λ (end : Option ℕ). IsBefore end (last_of p)) (sym fits.end) was.before;
+  before = subst (λ (end : Option ℕ). IsBefore end (last_number p)) (sym fits.end) was.before;
 }

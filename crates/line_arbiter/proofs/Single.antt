@@ -8,7 +8,8 @@ use Rattle.mold_packet.specs.Content.{Content}
 use Rattle.line_arbiter.specs.declared.intake.Comparison.{Comparison}
 use Rattle.line_arbiter.specs.declared.intake.Comparison.TheVariants.{Differs, Repeats, Agrees}
 use Rattle.line_arbiter.specs.Packets.{message_item}
-use Rattle.line_arbiter.specs.Holding.{Held, held_at, put_one, put_to, HoldsNoOther}
+use Rattle.line_arbiter.specs.Holding.{Held, held_at}
+use Rattle.line_arbiter.specs.Filling.{put_one, put_to, HoldsNoOther}
 use Rattle.line_arbiter.specs.Comparing.{AreThere, Compares, ComparesOne, HoldsAll, IsThere}
 use Rattle.line_arbiter.proofs.Filling.{IsFilled, filled_more}
 

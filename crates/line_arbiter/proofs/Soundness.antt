@@ -1,12 +1,13 @@
 -- What is kept stays below the announced end when a packet's messages are taken in.
-use Rattle.std.proofs.Common.{◌≡◌, ℕ, ◌+◌, ◌^◌, ◌<◌, ◌≤◌, Bool, true, false, List, length, Option, Some, None, refl, sym, ap, subst, ◌∙◌, arith, inl, inr}
-use Rattle.std.specs.Prelude.{nat_eq, nat_le, nat_lt, ◌&&◌, ◌⊎◌, IsSome, if◌then◌else◌}
+use Rattle.std.proofs.Common.{◌≡◌, ℕ, ◌+◌, ◌-◌, ◌^◌, ◌<◌, ◌≤◌, Bool, true, false, List, length, Option, Some, None, refl, sym, ap, subst, ◌∙◌, arith, inl, inr}
+use Rattle.std.specs.Prelude.{nat_eq, nat_le, nat_lt, ◌&&◌, ◌⊎◌, IsSome, slice_get, if◌then◌else◌}
 use Rattle.std.proofs.lemmas.Bool.{cases_lt, false≢true, ltb-true, leb-true, and_parts}
 use Rattle.feed_types.specs.declared.item.Item.{Item}
 use Rattle.feed_types.specs.declared.line.LineId.{LineId}
-use Rattle.mold_packet.specs.Content.{Content}
-use Rattle.line_arbiter.specs.Packets.{has_number, item_at, last_of}
-use Rattle.line_arbiter.specs.Holding.{held_at, put_all}
+use Rattle.mold_packet.specs.Content.{Content, last_number}
+use Rattle.line_arbiter.specs.Packets.{has_number, item_at}
+use Rattle.line_arbiter.specs.Holding.{held_at}
+use Rattle.line_arbiter.specs.Filling.{put_all}
 use Rattle.line_arbiter.specs.States.{State, held_of}
 use Rattle.line_arbiter.specs.Outcomes.{IsBefore}
 use Rattle.line_arbiter.specs.Steps.{IsSound, TakesIn}
@@ -33,7 +34,7 @@ held_some : (o : Option Item) → IsSome o → (item : Item) × (o ≡ Some item
 held_some None h = absurd (false≢true h)
 held_some (Some x) h = (x, refl)
 
-pub sound_after : (line : LineId) (fresh : ℕ) (old new : State) (p : Content) → IsSound old → p.number + length p.messages ≤ 2 ^ 64 → IsBefore old.end (last_of p) → TakesIn line fresh old new p → IsSound new
+pub sound_after : (line : LineId) (fresh : ℕ) (old new : State) (p : Content) → IsSound old → p.number + length p.messages ≤ 2 ^ 64 → IsBefore old.end (last_number p) → TakesIn line fresh old new p → IsSound new
 sound_after line fresh old new p sound fit before by =
     let end : new.end ≡ old.end = ap (λ (s : State). s.end) by.others in
     let comes : (m : ℕ) (item : Item) → held_at (held_of new) m ≡ Some item → (held_at (held_of old) m ≡ Some item) ⊎ ComesFrom p m item = λ m item is. put_is old.sent p (held_at (held_of old) m) m item (sym (by.held m) ∙ is) in
@@ -55,6 +56,7 @@ sound_after line fresh old new p sound fit before by =
       stop = by.stop;
       named = subst (λ (names : List (List ℕ)). 1 ≤ length names) (sym (ap (λ (s : State). s.sessions) by.others)) sound.named;
       few = subst (λ (names : List (List ℕ)). length names ≤ 64) (sym (ap (λ (s : State). s.sessions) by.others)) sound.few;
+      present = subst (λ (s : State). slice_get s.sessions (length s.sessions - 1) ≡ Some s.session) (sym by.others) sound.present;
     }
 
 -- the item that is sent is held no longer
@@ -77,4 +79,5 @@ sound_advanced old new sound others held =
       stop = rw front (held (old.front + 1) ∙ still_none (nat_eq (old.front + 1) (old.sent + 1)) (held_at (held_of old) (old.front + 1)) sound.stop);
       named = subst (λ (names : List (List ℕ)). 1 ≤ length names) (sym (ap (λ (s : State). s.sessions) others)) sound.named;
       few = subst (λ (names : List (List ℕ)). length names ≤ 64) (sym (ap (λ (s : State). s.sessions) others)) sound.few;
+      present = subst (λ (s : State). slice_get s.sessions (length s.sessions - 1) ≡ Some s.session) (sym others) sound.present;
     }

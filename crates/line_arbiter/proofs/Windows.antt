@@ -8,7 +8,8 @@ use Rattle.std.proofs.lemmas.Bool.Decides.{nat_tests}
 use Rattle.std.proofs.lemmas.Option.{slice_get_past}
 use Rattle.feed_types.specs.declared.item.Item.{Item}
 use Rattle.line_arbiter.specs.Marks.{is_marked, IsBitmap}
-use Rattle.line_arbiter.specs.Holding.{Held, held_at, in_place, last_place, put_at, put_one, IsEmpty, IsHeld}
+use Rattle.line_arbiter.specs.Holding.{Held, held_at, in_place, IsEmpty}
+use Rattle.line_arbiter.specs.Filling.{last_place, put_at, put_one, IsHeld}
 use Rattle.line_arbiter.proofs.Counting.{one_if}
 use Rattle.line_arbiter.proofs.Marking.{none_marked, same_bit}
 use Rattle.line_arbiter.proofs.Places.{in_place-put_at, in_place-drop, filled_at, count-put_at, count-drop, length-put_at, length_rest}

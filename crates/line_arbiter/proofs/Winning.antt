@@ -6,8 +6,8 @@ use Rattle.std.specs.Option.{option_map, option_map_or, option_or}
 use Rattle.std.proofs.lemmas.Bool.{and_right}
 use Rattle.std.proofs.lemmas.Bool.Decides.{nat_tests}
 use Rattle.feed_types.specs.declared.line.LineId.{LineId}
-use Rattle.mold_packet.specs.Content.{Content}
-use Rattle.line_arbiter.specs.Packets.{Arrival, bringer, carried, has_number, is_taken, item_at, last_of, top_of}
+use Rattle.mold_packet.specs.Content.{Content, last_number}
+use Rattle.line_arbiter.specs.Packets.{Arrival, bringer, carried, has_number, is_taken, item_at, top_of}
 use Rattle.line_arbiter.specs.Streams.{is_same_line, wins_of}
 use Rattle.line_arbiter.specs.Outcomes.{new_count}
 use Rattle.line_arbiter.proofs.Counting.{one_if, count_sum, count_same, count_none, count_split, count_past}
@@ -73,7 +73,7 @@ won_now packets a line n one within = by_test (is_taken a.answer && is_same_line
 top_within : (packets : List Arrival) (a : Arrival) → top_of (packets ++ a ∷ []) ≤ top_of packets + (a.packet.number - 1 + length a.packet.messages)
 top_within packets a = omega (arith, top_of-push packets a, pick (is_taken a.answer))
   where
-    pick : (b : Bool) → (if b then max (top_of packets) (last_of a.packet) else top_of packets) ≤ top_of packets + (a.packet.number - 1 + length a.packet.messages)
+    pick : (b : Bool) → (if b then max (top_of packets) (last_number a.packet) else top_of packets) ≤ top_of packets + (a.packet.number - 1 + length a.packet.messages)
     pick true = omega arith
     pick false = omega arith
 

@@ -6,7 +6,8 @@ use Rattle.line_arbiter.specs.declared.intake.Comparison.{Comparison}
 use Rattle.line_arbiter.specs.declared.intake.Comparison.TheVariants.{Differs, Repeats, Agrees}
 use Rattle.line_arbiter.specs.declared.intake.Intake.{Intake}
 use Rattle.line_arbiter.specs.declared.intake.Intake.TheVariants as intakes
-use Rattle.line_arbiter.specs.Holding.{Held, held_at, put_all, fresh_to, HoldsOther, HoldsNoOther, HeldAgrees, HeldDisagrees}
+use Rattle.line_arbiter.specs.Holding.{Held, held_at}
+use Rattle.line_arbiter.specs.Filling.{put_all, fresh_to, HoldsOther, HoldsNoOther, HeldAgrees, HeldDisagrees}
 
 -- the number was sent, or an item is held at it
 abbrev pub IsThere : Held → ℕ → Type 0
@@ -28,7 +29,7 @@ Compares held p Differs = HeldDisagrees held p
 Compares held p Repeats = AreThere held p × HeldAgrees held p
 Compares held p Agrees = HeldAgrees held p
 
--- the packet's messages past the base are held, and so many of them weren't
+-- the packet's messages past the base are held, and `count` of them weren't before
 pub record HoldsAll (old new : Held) (p : Content) (count : ℕ) : Type 0 where
   pub agrees : HeldAgrees old p
   pub after : (m : ℕ) → held_at new m ≡ put_all old.base p (held_at old m) m
@@ -36,7 +37,7 @@ pub record HoldsAll (old new : Held) (p : Content) (count : ℕ) : Type 0 where
   pub base : new.base ≡ old.base
   pub width : new.width ≡ old.width
 
--- what a packet's messages came to: nothing is another one, or those past the base are held
+-- what taking a packet's messages does, by its answer: nothing, or those past the base are held
 abbrev pub TakesAll : Held → Held → Content → Intake → Type 0
 TakesAll old new p intakes.Differs = (new ≡ old) × HeldDisagrees old p
 TakesAll old new p intakes.Repeats = (new ≡ old) × AreThere old p × HeldAgrees old p

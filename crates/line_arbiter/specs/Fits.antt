@@ -1,8 +1,9 @@
--- An arbiter and the packets that it was given in the present session.
+-- An arbiter, the packets that it was given in the present session, and its venue's history.
 use Rattle.std.specs.Prelude.{◌≡◌, ℕ, ◌+◌, ◌≤◌, nat_le, List, length, None, if◌then◌else◌}
 use Rattle.feed_types.specs.declared.line.LineId.{LineId}
 use Rattle.line_arbiter.specs.Packets.{Arrival, carried, end_of, known_of}
 use Rattle.line_arbiter.specs.Streams.{front_of, stream_of, held_count, wins_of}
+use Rattle.line_arbiter.specs.Histories.{History, names_of, wins_in}
 use Rattle.line_arbiter.specs.Counts.{count_on, shown}
 use Rattle.line_arbiter.specs.Holding.{held_at}
 use Rattle.line_arbiter.specs.States.{State, held_of}
@@ -20,7 +21,15 @@ pub record Fits (s : State) (packets : List Arrival) : Type 0 where
   pub wins : (line : LineId)
       → count_on line s.wins ≡ shown (count_on line s.earlier + wins_of packets line)
 
--- the cursors over these packets, with so many items sent
+-- The state is that after this history: its present session is the history's, the sessions have the
+-- history's names, and each line had won what it brought first in the earlier ones.
+pub record FitsHistory (s : State) (h : History) : Type 0 where
+  pub present : Fits s h.present.packets
+  pub names : s.sessions ≡ names_of h
+  pub session : s.session ≡ h.present.name
+  pub earlier : (line : LineId) → count_on line s.earlier ≡ shown (wins_in h.earlier line)
+
+-- the cursors over these packets, once `sent` items were sent
 abbrev pub cursors_of : ℕ → List Arrival → ArbiterStatus
 cursors_of sent packets = record {
   sent = sent;

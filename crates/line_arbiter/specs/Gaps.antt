@@ -5,7 +5,7 @@ use Rattle.mold_packet.specs.declared.request.Request.{Request}
 use Rattle.line_arbiter.specs.Packets.{Arrival, carried, heard, known_of}
 use Rattle.line_arbiter.specs.Streams.{front_of}
 
--- So many messages in a row are missing after the front: none of them was taken, all are known of
+-- This many messages in a row are missing after the front: none of them was taken, all are known of
 -- and have a place in the window; and the next one isn't known of, has no place, or was taken.
 pub record AreMissing (window sent : ℕ) (packets : List Arrival) (count : ℕ) : Type 0 where
   pub some : 1 ≤ count
@@ -17,8 +17,8 @@ pub record AreMissing (window sent : ℕ) (packets : List Arrival) (count : ℕ)
       ⊎ (front_of packets + count ≡ sent + window)
       ⊎ IsSome (carried packets (front_of packets + count + 1))
 
--- The run to ask for begins after the front; there is none where nothing after the front is known of,
--- or nothing after it has a place in the window.
+-- The run to ask for begins after the front; there is none where nothing after the front is known
+-- of, or nothing after it has a place in the window.
 abbrev pub IsGap : List ℕ → ℕ → ℕ → List Arrival → Option Request → Type 0
 IsGap session window sent packets (Some request) =
     (request.session ≡ session) × (request.number ≡ front_of packets + 1)

@@ -1,11 +1,7 @@
--- What a window holds: messages past the last item sent. Of this file public clauses cite `held_at`
--- and `IsEmpty` alone, through `Fits`, `next_of` and `IsNext`.
-use Rattle.std.specs.Prelude.{◌≡◌, ◌≢◌, ℕ, ◌+◌, ◌-◌, ◌^◌, ◌<◌, ◌≤◌, nat_eq, nat_le, nat_lt, ◌&&◌, List, [], ◌∷◌, ◌++◌, Option, Some, None, IsSome, count_by, is_none, is_some, length, replicate, slice_get, slice_set, if◌then◌else◌}
-use Rattle.std.specs.List.{range_with_len}
+-- What a window holds: messages past the last item sent.
+use Rattle.std.specs.Prelude.{◌≡◌, ℕ, ◌-◌, nat_le, List, Option, None, slice_get, if◌then◌else◌}
 use Rattle.std.specs.Option.{option_and_then}
 use Rattle.feed_types.specs.declared.item.Item.{Item}
-use Rattle.mold_packet.specs.Content.{Content}
-use Rattle.line_arbiter.specs.Packets.{item_at, message_item}
 
 -- the k-th place, from 0, is that of the number base + 1 + k: it holds an item or nothing
 pub record Held : Type 0 where
@@ -22,66 +18,6 @@ abbrev pub held_at : Held → ℕ → Option Item
 held_at held m =
     if nat_le m held.base then None else in_place held.places (m - held.base - 1)
 
--- how many items are held
-abbrev pub count_held : Held → ℕ
-count_held held = count_by is_some held.places
-
+-- nothing is held
 abbrev pub IsEmpty : Held → Type 0
 IsEmpty held = (m : ℕ) → held_at held m ≡ None
-
--- the last number that has a place; where there is none, the base
-abbrev pub last_place : Held → ℕ
-last_place held = held.base + length held.places
-
--- What a window keeps: as many items as it counts, no more places than it is wide, and an item in
--- the last of them.
-pub record IsHeld (count : ℕ) (held : Held) : Type 0 where
-  pub small : last_place held < 2 ^ 64
-  pub within : length held.places ≤ held.width
-  pub most : held.width ≤ 65535
-  pub counted : count ≡ count_held held
-  pub last : held.base < last_place held → IsSome (held_at held (last_place held))
-
--- the places once an item was put in at k, with empty ones before it where there were none
-abbrev pub put_at : List (Option Item) → ℕ → Item → List (Option Item)
-put_at places k item =
-    if nat_lt k (length places) then slice_set places k (Some item)
-    else places ++ replicate (k - length places) None ++ Some item ∷ []
-
--- what is held at a number once an item was put in at k, where it is past the base and nothing is
--- held there
-abbrev pub put_one : ℕ → ℕ → Item → Option Item → ℕ → Option Item
-put_one base k item (Some found) m = Some found
-put_one base k item None m = if nat_lt base k && nat_eq m k then Some item else None
-
--- what is held at a number once the packet's first n messages were put in
-abbrev pub put_to : ℕ → ℕ → Content → Option Item → ℕ → Option Item
-put_to n base p (Some found) m = Some found
-put_to n base p None m =
-    if nat_lt base m && (nat_le p.number m && nat_lt m (p.number + n))
-    then Some (item_at p m)
-    else None
-
-abbrev pub put_all : ℕ → Content → Option Item → ℕ → Option Item
-put_all base p found m = put_to (length p.messages) base p found m
-
--- how many of the packet's first n numbers are past the base and not held
-abbrev pub fresh_to : ℕ → ℕ → Held → Content → ℕ
-fresh_to n base held p =
-    count_by (λ m. nat_lt base m && is_none (held_at held m)) (range_with_len p.number n)
-
--- another item is held at the number
-abbrev pub HoldsOther : Held → ℕ → Item → Type 0
-HoldsOther held m item = (found : Item) × (held_at held m ≡ Some found) × (found ≢ item)
-
-abbrev pub HoldsNoOther : Held → ℕ → Item → Type 0
-HoldsNoOther held m item = (found : Item) → held_at held m ≡ Some found → found ≡ item
-
--- a message of the packet reads otherwise than what is held at its number
-abbrev pub HeldDisagrees : Held → Content → Type 0
-HeldDisagrees held p =
-    (k : ℕ) × (k < length p.messages) × HoldsOther held (p.number + k) (message_item p k)
-
-abbrev pub HeldAgrees : Held → Content → Type 0
-HeldAgrees held p =
-    (k : ℕ) → k < length p.messages → HoldsNoOther held (p.number + k) (message_item p k)

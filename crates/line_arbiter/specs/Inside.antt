@@ -1,12 +1,14 @@
 -- How a window and an arbiter are seen. Only private clauses cite this file.
 use Rattle.line_arbiter.specs.declared.window.Window.TheInside.{Inside as WindowInside}
 use Rattle.line_arbiter.specs.declared.arbiter.Arbiter.TheInside.{Inside as ArbiterInside}
-use Rattle.line_arbiter.specs.Holding.{Held, IsHeld}
+use Rattle.line_arbiter.specs.Holding.{Held}
+use Rattle.line_arbiter.specs.Filling.{IsHeld}
 use Rattle.line_arbiter.specs.Marks.{IsBitmap}
 use Rattle.line_arbiter.specs.States.{State}
 
 abbrev pub window_inside : WindowInside → Held
-window_inside w = record { base = w.base_number; width = w.places.capacity; places = w.places.items }
+window_inside w =
+    record { base = w.base_number; width = w.places.capacity; places = w.places.items }
 
 -- what a window keeps, and that its bitmap says which numbers are held
 pub record IsWindow (w : WindowInside) : Type 0 where

@@ -8,7 +8,7 @@ pub mod Histories
 pub mod Genuine
 pub mod OfSession
 pub mod InOrder
--- an arbiter; of what it holds, `held_at` and `IsEmpty`
+-- an arbiter, and the packets and sessions that it fits
 pub mod Counts
 pub mod Holding
 pub mod States
@@ -18,6 +18,7 @@ pub mod Pacing
 pub mod Codes
 pub mod Gaps
 -- private clauses alone cite these
+pub mod Filling
 pub mod Marks
 pub mod Comparing
 pub mod Steps

@@ -5,12 +5,12 @@ use Rattle.std.specs.List.{range_with_len}
 use Rattle.feed_types.specs.declared.item.Item.{Item}
 use Rattle.mold_packet.specs.declared.packet.Kind.{Kind}
 use Rattle.mold_packet.specs.declared.packet.Kind.TheVariants as kinds
-use Rattle.mold_packet.specs.Content.{Content}
+use Rattle.mold_packet.specs.Content.{Content, last_number}
 use Rattle.line_arbiter.specs.declared.outcome.Outcome.{Outcome}
 use Rattle.line_arbiter.specs.declared.outcome.Outcome.TheVariants.{Taken, Heartbeat, Ended, Ahead}
 use Rattle.line_arbiter.specs.declared.outcome.LineFault.{LineFault}
 use Rattle.line_arbiter.specs.declared.outcome.LineFault.TheVariants.{OtherSession, PastEnd, EndMoved, EndTooEarly, Conflict}
-use Rattle.line_arbiter.specs.Packets.{Arrival, carried, end_of, last_of, message_item}
+use Rattle.line_arbiter.specs.Packets.{Arrival, carried, end_of, message_item}
 
 -- the end is announced at this number or below it
 pub record IsPast (end : Option ℕ) (n : ℕ) : Type 0 where
@@ -44,13 +44,15 @@ new_count packets p =
 
 -- the answer to a packet of messages of the session
 abbrev pub ToMessages : ℕ → ℕ → List Arrival → Content → Result Outcome LineFault → Type 0
-ToMessages window sent packets p (Err PastEnd) = IsPast (end_of packets) (last_of p)
+ToMessages window sent packets p (Err PastEnd) = IsPast (end_of packets) (last_number p)
 ToMessages window sent packets p (Ok Ahead) =
-    IsBefore (end_of packets) (last_of p) × (sent + window < last_of p)
+    IsBefore (end_of packets) (last_number p) × (sent + window < last_number p)
 ToMessages window sent packets p (Err Conflict) =
-    IsBefore (end_of packets) (last_of p) × (last_of p ≤ sent + window) × Disagrees packets sent p
+    IsBefore (end_of packets) (last_number p) × (last_number p ≤ sent + window)
+    × Disagrees packets sent p
 ToMessages window sent packets p (Ok (Taken new repeated)) =
-    IsBefore (end_of packets) (last_of p) × (last_of p ≤ sent + window) × Agrees packets sent p
+    IsBefore (end_of packets) (last_number p) × (last_number p ≤ sent + window)
+    × Agrees packets sent p
     × (new ≡ new_count packets p) × (new + repeated ≡ length p.messages)
 ToMessages window sent packets p (Ok Heartbeat) = ⊥
 ToMessages window sent packets p (Ok Ended) = ⊥

@@ -4,7 +4,7 @@ use Rattle.std.specs.Prelude.{ℕ, ◌+◌, ◌-◌, Bool, true, false, ◌&&◌
 use Rattle.std.specs.Option.{option_map, option_map_or}
 use Rattle.feed_types.specs.declared.item.Item.{Item}
 use Rattle.feed_types.specs.declared.line.LineId.{LineId}
-use Rattle.mold_packet.specs.Content.{Content}
+use Rattle.mold_packet.specs.Content.{Content, last_number}
 use Rattle.quote_payload.specs.Payload.{item_of}
 use Rattle.line_arbiter.specs.declared.outcome.Outcome.{Outcome}
 use Rattle.line_arbiter.specs.declared.outcome.Outcome.TheVariants.{Taken, Heartbeat, Ended, Ahead}
@@ -19,10 +19,6 @@ pub record Arrival : Type 0 where
 -- the packet came on the line, and was answered so
 abbrev pub arrival_of : LineId → Content → Result Outcome LineFault → Arrival
 arrival_of line packet answer = record { line = line; packet = packet; answer = answer }
-
--- the number of a packet's last message
-abbrev pub last_of : Content → ℕ
-last_of p = p.number + length p.messages - 1
 
 -- the packet has a message of this number
 abbrev pub has_number : Content → ℕ → Bool
@@ -64,7 +60,8 @@ carried packets m = option_map (λ a. item_at a.packet m) (bringer packets m)
 
 -- the greatest number that was taken, 0 where none was
 abbrev pub top_of : List Arrival → ℕ
-top_of packets = fold (λ n a. if is_taken a.answer then max n (last_of a.packet) else n) 0 packets
+top_of packets =
+    fold (λ n a. if is_taken a.answer then max n (last_number a.packet) else n) 0 packets
 
 -- the announced end: the number of the first end of session that was answered Ended
 abbrev pub end_of : List Arrival → Option ℕ
@@ -72,8 +69,8 @@ end_of packets = option_map (λ a. a.packet.number) (find (λ a. is_ended a.answ
 
 -- the number up to which an answered packet shows that there are messages
 abbrev pub heard_by : Content → Result Outcome LineFault → ℕ
-heard_by p (Ok (Taken new repeated)) = last_of p
-heard_by p (Ok Ahead) = last_of p
+heard_by p (Ok (Taken new repeated)) = last_number p
+heard_by p (Ok Ahead) = last_number p
 heard_by p (Ok Heartbeat) = p.number - 1
 heard_by p (Ok Ended) = 0
 heard_by p (Err fault) = 0

@@ -1,26 +1,26 @@
 -- What one packet changes in an arbiter, said of its state alone. Only private clauses cite this
 -- file.
-use Rattle.std.specs.Prelude.{◌≡◌, ◌≢◌, ℕ, ◌+◌, ◌-◌, ◌^◌, ◌<◌, nat_eq, ◌⊎◌, Option, Some, None, IsSome, length, max, Result, Ok, Err, ◌≤◌, if◌then◌else◌}
+use Rattle.std.specs.Prelude.{◌≡◌, ◌≢◌, ℕ, ◌+◌, ◌-◌, ◌^◌, ◌<◌, nat_eq, ◌⊎◌, Option, Some, None, IsSome, length, max, slice_get, Result, Ok, Err, ◌≤◌, if◌then◌else◌}
 use Rattle.feed_types.specs.declared.item.Item.{Item}
 use Rattle.feed_types.specs.declared.line.LineId.{LineId}
 use Rattle.feed_types.specs.declared.line.LineId.TheVariants.{A, B, Recovery}
 use Rattle.mold_packet.specs.declared.packet.Kind.{Kind}
 use Rattle.mold_packet.specs.declared.packet.Kind.TheVariants as kinds
-use Rattle.mold_packet.specs.Content.{Content}
+use Rattle.mold_packet.specs.Content.{Content, last_number}
 use Rattle.line_arbiter.specs.declared.outcome.Outcome.{Outcome}
 use Rattle.line_arbiter.specs.declared.outcome.Outcome.TheVariants.{Taken, Heartbeat, Ended, Ahead}
 use Rattle.line_arbiter.specs.declared.outcome.LineFault.{LineFault}
 use Rattle.line_arbiter.specs.declared.outcome.LineFault.TheVariants.{OtherSession, PastEnd, EndMoved, EndTooEarly, Conflict}
-use Rattle.line_arbiter.specs.Packets.{last_of}
 use Rattle.line_arbiter.specs.Outcomes.{IsBefore, IsPast}
 use Rattle.line_arbiter.specs.Counts.{Counts, shown}
-use Rattle.line_arbiter.specs.Holding.{IsEmpty, held_at, put_all, fresh_to, HeldAgrees, HeldDisagrees}
+use Rattle.line_arbiter.specs.Holding.{IsEmpty, held_at}
+use Rattle.line_arbiter.specs.Filling.{put_all, fresh_to, HeldAgrees, HeldDisagrees}
 use Rattle.line_arbiter.specs.States.{State, held_of}
 use Rattle.line_arbiter.specs.declared.in_order.InOrder.{InOrder}
 use Rattle.line_arbiter.specs.InOrder.{IsNext, IsOrder, IsSent}
 
--- What every arbiter keeps: what is held, and the front, lie below the announced end; and nothing
--- is held right behind the front.
+-- What every arbiter keeps: what is held, and the front, lie below the announced end; nothing is
+-- held right after the front; and the present session is the last of its sessions, at most 64.
 pub record IsSound (s : State) : Type 0 where
   pub end_small : (e : ℕ) → s.end ≡ Some e → e < 2 ^ 64
   pub before_end : (e m : ℕ) (item : Item)
@@ -28,6 +28,7 @@ pub record IsSound (s : State) : Type 0 where
   pub front_before_end : (e : ℕ) → s.end ≡ Some e → s.front < e
   pub named : 1 ≤ length s.sessions
   pub few : length s.sessions ≤ 64
+  pub present : slice_get s.sessions (length s.sessions - 1) ≡ Some s.session
   pub stop : held_at (held_of s) (s.front + 1) ≡ None
 
 -- the number up to which there are messages, after one more is heard of: nothing changes once the
@@ -36,7 +37,7 @@ abbrev pub raised : ℕ → Option ℕ → ℕ → ℕ
 raised known None to = max known to
 raised known (Some e) to = known
 
--- so many more on the line
+-- n more on the line
 abbrev pub counted : LineId → ℕ → Counts → Counts
 counted A n counts = record counts { a = shown (counts.a + n) }
 counted B n counts = record counts { b = shown (counts.b + n) }
@@ -57,7 +58,7 @@ pub record TakesIn (line : LineId) (fresh : ℕ) (old new : State) (p : Content)
   pub from : old.front ≤ new.front
   pub run : (m : ℕ) → old.front < m → m ≤ new.front → IsSome (held_at (held_of new) m)
   pub stop : held_at (held_of new) (new.front + 1) ≡ None
-  pub known : new.known ≡ raised old.known old.end (last_of p)
+  pub known : new.known ≡ raised old.known old.end (last_number p)
   pub wins : new.wins ≡ counted line fresh old.wins
   pub others : new ≡ record old {
     front = new.front;
@@ -68,16 +69,16 @@ pub record TakesIn (line : LineId) (fresh : ℕ) (old new : State) (p : Content)
 
 -- a packet of messages: the answer, and the state that it leaves
 abbrev pub MessagesStep : LineId → State → State → Content → Result Outcome LineFault → Type 0
-MessagesStep line old new p (Err PastEnd) = (new ≡ old) × IsPast old.end (last_of p)
+MessagesStep line old new p (Err PastEnd) = (new ≡ old) × IsPast old.end (last_number p)
 MessagesStep line old new p (Ok Ahead) =
-    (new ≡ record old { known = raised old.known old.end (last_of p) })
-    × IsBefore old.end (last_of p) × (old.sent + old.window < last_of p)
+    (new ≡ record old { known = raised old.known old.end (last_number p) })
+    × IsBefore old.end (last_number p) × (old.sent + old.window < last_number p)
 MessagesStep line old new p (Err Conflict) =
-    (new ≡ old) × IsBefore old.end (last_of p) × (last_of p ≤ old.sent + old.window)
+    (new ≡ old) × IsBefore old.end (last_number p) × (last_number p ≤ old.sent + old.window)
     × HeldDisagrees (held_of old) p
 MessagesStep line old new p (Ok (Taken fresh repeated)) =
     TakesIn line fresh old new p
-    × IsBefore old.end (last_of p) × (last_of p ≤ old.sent + old.window)
+    × IsBefore old.end (last_number p) × (last_number p ≤ old.sent + old.window)
     × HeldAgrees (held_of old) p
     × (fresh ≡ fresh_to (length p.messages) old.sent (held_of old) p)
     × (fresh + repeated ≡ length p.messages)
@@ -129,11 +130,11 @@ PacketStep line old new p answer =
 -- the cursors have gone past the packet, and still nothing is held
 pub record GoesPast (line : LineId) (old new : State) (p : Content) : Type 0 where
   pub empty : IsEmpty (held_of new)
-  pub sent : new.sent ≡ last_of p
+  pub sent : new.sent ≡ last_number p
   pub after : new ≡ record old {
     sent = new.sent;
-    front = last_of p;
-    known = raised old.known old.end (last_of p);
+    front = last_number p;
+    known = raised old.known old.end (last_number p);
     places = new.places;
     wins = counted line (length p.messages) old.wins;
   }

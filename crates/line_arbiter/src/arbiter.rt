@@ -75,9 +75,9 @@ impl<G> Model for Arbiter<G> {
 }
 
 impl<G: Genuine> Arbiter<G> {
-    /// An arbiter of the venue's first session, whose name is ten bytes, filled on the right with
+    /// Returns an arbiter of the venue's first session, whose name is ten bytes, filled on the right with
     /// spaces. The window is how many messages past the last item sent are held, 1 to 65,535;
-    /// another one is refused as BadWindow. It takes its memory here and none later; where there is
+    /// any other is refused as BadWindow. It takes its memory here and none later; where there is
     /// none, the answer is NoMemory.
     pub fn new(
         alloc: Global,
@@ -112,21 +112,21 @@ impl<G: Genuine> Arbiter<G> {
         })
     }
 
-    /// The venue whose lines these are.
+    /// Returns the venue whose lines these are.
     pub fn venue(&self) -> VenueId
         ensures { result ≡ self.now.venue }
     {
         self.venue_id
     }
 
-    /// The present session's name: ten bytes, filled on the right with spaces.
+    /// Returns the present session's name: ten bytes, filled on the right with spaces.
     pub fn session(&self) -> [u8; 10]
         ensures { result ≡ self.now.session }
     {
         self.session_name
     }
 
-    /// Which of the venue's sessions the present one is, counted from 1 to 64.
+    /// Returns which of the venue's sessions the present one is, counted from 1 to 64.
     pub fn ordinal(&self) -> u64
         ensures value { result ≡ ordinal_of self.now }
         ensures range { (1 ≤ result) × (result ≤ 64) }
@@ -134,6 +134,7 @@ impl<G: Genuine> Arbiter<G> {
         self.names.len() as u64
     }
 
+    /// Returns the item that is ready, if any.
     fn ready(&self) -> Option<Numbered>
         ensures value { result ≡ next_of self.now }
         ensures sound { IsSound self.now }
@@ -154,6 +155,7 @@ impl<G: Genuine> Arbiter<G> {
         }
     }
 
+    /// Goes past the item that is ready.
     fn drop_next(&mut self)
         requires { IsSome (next_of self.old) }
         ensures after { DropsNext self.old self.new }
@@ -162,7 +164,7 @@ impl<G: Genuine> Arbiter<G> {
         self.held.pass();
     }
 
-    /// Takes a packet that came on a line, and answers what became of it. A refused packet changes
+    /// Takes a packet that came on a line, and returns what became of it. A refused packet changes
     /// nothing. The refusals, in this order: another session's packet; messages at the announced
     /// end or past it; a held message that reads otherwise; a heartbeat past the end; an end that
     /// differs from the announced one, or lies at a message that was taken or before it.
@@ -181,8 +183,8 @@ impl<G: Genuine> Arbiter<G> {
         self.take_any(line, packet)
     }
 
-    /// The item after the last one advanced past, if it is there: a message, or End behind the last
-    /// one. Nothing is ready after End. It stays until `advance`.
+    /// Returns the item after the last one advanced past, if it is there: a message, or End after
+    /// the last one. Nothing is ready after End. It stays until `advance`.
     pub fn next_ready(&self) -> Option<Numbered>
         ensures value { result ≡ next_of self.now }
         ensures number { IfSome result (λ n. n.number ≡ self.now.sent + 1) }
@@ -205,8 +207,9 @@ impl<G: Genuine> Arbiter<G> {
         self.drop_next();
     }
 
-    /// The run of messages to ask for: from the first that is missing, as many as are missing in a
-    /// row, as far as the window and what is known of the session go. `None` where none is.
+    /// Returns the run of messages to ask for: from the first that is missing, as many as are
+    /// missing in a row, as far as the window and what is known of the session go. `None` where
+    /// none is.
     pub fn gap(&self) -> Option<Request>
         ensures { (packets : List Arrival) → Fits self.now packets
             → result ≡ gap_of self.now.session self.now.window self.now.sent packets }
@@ -223,7 +226,8 @@ impl<G: Genuine> Arbiter<G> {
         })
     }
 
-    /// How many numbers the line brought first, over all sessions. The count stays at 2^64 - 1.
+    /// Returns how many numbers the line brought first, over all sessions. The count stays at
+    /// 2^64 - 1.
     pub fn wins(&self, line: LineId) -> u64
         ensures value { result ≡ count_on line self.now.wins }
         ensures session { (packets : List Arrival) → Fits self.now packets
@@ -232,7 +236,7 @@ impl<G: Genuine> Arbiter<G> {
         self.won.on(line)
     }
 
-    /// How far the present session has come.
+    /// Returns how far the present session has come.
     pub fn status(&self) -> ArbiterStatus
         ensures cursors { ShowsCursors self.now result }
         ensures packets { (packets : List Arrival) → Fits self.now packets
@@ -248,7 +252,7 @@ impl<G: Genuine> Arbiter<G> {
     }
 
     /// Begins the venue's next session under a name of ten bytes, once End was advanced past, and
-    /// answers its ordinal. Nothing of it has come yet; wins go on counting. The refusals, in this
+    /// returns its ordinal. Nothing of it has come yet; wins go on counting. The refusals, in this
     /// order: NotEnded, SessionUsed, TooManySessions (64 at most).
     pub fn renew(&mut self, session: [u8; 10]) -> Result<u64, RenewFault>
         ensures answer { IsRenewal self.old.sessions self.old.end self.old.sent session result }

@@ -32,8 +32,9 @@ pub enum InOrder {
 }
 
 impl<G: Genuine> Arbiter<G> {
-    /// Whether the packet's first message is the next one, nothing is held, and the window is as
-    /// wide.
+    /// Returns whether the packet, whose last number is `last`, goes on where nothing is held: its
+    /// first message is the next one, its last lies before the end, and it is no longer than the
+    /// window.
     fn is_next(&self, packet: &Packet<'_>, last: u64) -> bool
         requires { last ≡ last_number packet.now }
         ensures { MatchBool result (IsNext self.now packet.now) (IsNext self.now packet.now → ⊥) }
@@ -46,6 +47,7 @@ impl<G: Genuine> Arbiter<G> {
             && !is_past(self.end_number, last)
     }
 
+    /// Returns which of the two a packet of messages of the session is, or `None`.
     fn order_of(&self, packet: &Packet<'_>) -> Option<InOrder>
         requires { packet.now.kind ≡ Kind.Messages }
         ensures { OrdersPacket self.now packet.now result }
@@ -60,7 +62,7 @@ impl<G: Genuine> Arbiter<G> {
         Some(InOrder::Repeat { last })
     }
 
-    /// Goes past a packet of messages that are the next ones.
+    /// Goes past a packet of messages that are the next ones, on the line, up to `last`.
     #[inline(always)]
     fn pass(&mut self, line: LineId, packet: &Packet<'_>, last: u64) -> Outcome
         requires last { last ≡ last_number packet.now }
@@ -76,10 +78,10 @@ impl<G: Genuine> Arbiter<G> {
         Outcome::Taken { new, repeated: 0 }
     }
 
-    /// What the packet is, if it needs no place in the window: a packet of messages that goes on
-    /// where nothing is held, or whose messages were all sent. `take_in_order` takes it then.
-    /// `None` for any other packet: then `take` it. `brings` says beforehand what taking it will
-    /// bring, so that its messages may be sent on first.
+    /// Returns what the packet is, if it needs no place in the window: a packet of messages that
+    /// goes on where nothing is held, or whose messages were all sent. `take_in_order` takes it
+    /// then. `None` for any other packet: then `take` it. `brings` says beforehand what taking it
+    /// will bring, so that its messages may be sent on first.
     #[inline(always)]
     pub fn peek_in_order(&self, packet: &Packet<'_>) -> Option<InOrder>
         ensures peeked { (packets : List Arrival) → Fits self.now packets
@@ -100,8 +102,8 @@ impl<G: Genuine> Arbiter<G> {
     }
 
     /// Takes a packet that needs no place in the window, which `peek_in_order` found to be `order`,
-    /// on the line, and gives the answer of `take`. The messages of a next packet are then sent: the
-    /// caller reads them from the packet.
+    /// on the line, and returns the answer of `take`. The messages of a next packet are then sent:
+    /// the caller reads them from the packet.
     #[inline(always)]
     pub fn take_in_order(&mut self, line: LineId, order: InOrder, packet: &Packet<'_>) -> Outcome
         requires { IsInOrder self.old packet.now order }
@@ -120,7 +122,7 @@ impl<G: Genuine> Arbiter<G> {
         ensures sent { self.new.sent ≡ sent_in_order order self.old.sent }
         ensures kept { KeepsItsSession self.old self.new }
     {
-        // for the prover: the ranges of the packet, and what an arbiter keeps
+        // For the prover alone: the ranges of the packet, and what an arbiter keeps.
         let _number = packet.number();
         let _held = &self.held;
         match order {

@@ -1,8 +1,12 @@
 //! A packet's messages against a window, and into it.
+//!
+//! A packet of a single message (`.._single`) is held at once, and compared only where it can't be;
+//! one of many (`.._many`) is compared first, so that nothing is held of it where one differs.
 
 ghost use Rattle.std.specs.Prelude.{◌≡◌, ◌≢◌, ◌↔◌, ℕ, ◌+◌, ◌<◌, ◌≤◌, None, IsSome, IsTrue, length, MatchBool, false};
 ghost use Rattle.quote_payload.specs.Payload.{item_of};
-ghost use Rattle.line_arbiter.specs.Holding.{held_at, put_one, put_all, fresh_to};
+ghost use Rattle.line_arbiter.specs.Holding.{held_at};
+ghost use Rattle.line_arbiter.specs.Filling.{put_one, put_all, fresh_to};
 ghost use Rattle.line_arbiter.specs.Comparing.{Compares, ComparesOne, AreThere, HoldsAll, TakesAll};
 
 use crate::window::Window;
@@ -10,7 +14,7 @@ use feed_types::Item;
 use mold_packet::Packet;
 use quote_payload::read_item;
 
-/// Whether the items differ. Apart, so that both stand in memory and symbols compare as words.
+/// Returns whether the items differ. Apart, so that both stand in memory and symbols compare as words.
 #[inline(never)]
 fn differ(a: &Item, b: &Item) -> bool
     ensures { MatchBool result (a.now ≢ b.now) (a.now ≡ b.now) }
@@ -29,7 +33,8 @@ pub(crate) enum Comparison {
     Agrees,
 }
 
-/// What the message is beside the one that is held at the number. It is read only where one is.
+/// Returns what the message is beside the one that is held at the number. It is read only where
+/// one is.
 fn compare_one(window: &Window, number: u64, message: &[u8]) -> Comparison
     ensures { ComparesOne window.now number (item_of message.now) result }
 {
@@ -41,8 +46,9 @@ fn compare_one(window: &Window, number: u64, message: &[u8]) -> Comparison
     }
 }
 
+/// Returns what the packet's messages are beside those that are held, each read against its own.
 #[inline(never)]
-fn compare_each(window: &Window, packet: &Packet<'_>) -> Comparison
+fn compare_many(window: &Window, packet: &Packet<'_>) -> Comparison
     ensures { Compares window.now packet.now result }
 {
     let first = packet.number();
@@ -61,9 +67,9 @@ fn compare_each(window: &Window, packet: &Packet<'_>) -> Comparison
     }
 }
 
-/// What the packet's one message is beside the one that is held at its number.
+/// Returns what the packet's single message is beside the one that is held at its number.
 #[inline(never)]
-fn compare_held(window: &Window, packet: &Packet<'_>) -> Comparison
+fn compare_single(window: &Window, packet: &Packet<'_>) -> Comparison
     requires { length packet.now.messages ≡ 1 }
     ensures { Compares window.now packet.now result }
 {
@@ -73,8 +79,8 @@ fn compare_held(window: &Window, packet: &Packet<'_>) -> Comparison
     }
 }
 
-/// What the packet's messages are beside those that are held. Where these all lie below the packet,
-/// as most often, its messages aren't walked.
+/// Returns what the packet's messages are beside those that are held. Where these all lie below the
+/// packet, as most often, its messages aren't walked.
 #[inline(always)]
 fn compare(window: &Window, packet: &Packet<'_>) -> Comparison
     requires { packet.now.number + length packet.now.messages
@@ -84,11 +90,11 @@ fn compare(window: &Window, packet: &Packet<'_>) -> Comparison
     if !window.holds_from(packet.number()) {
         Comparison::Agrees
     } else {
-        compare_each(window, packet)
+        compare_many(window, packet)
     }
 }
 
-/// Holds the message where its number is past the base and free, and tells whether it did.
+/// Holds the message where its number is past the base and free, and returns whether it did.
 #[inline(never)]
 fn put(window: &mut Window, number: u64, message: &[u8]) -> bool
     requires { number ≤ window.old.base + window.old.width }
@@ -107,9 +113,10 @@ fn put(window: &mut Window, number: u64, message: &[u8]) -> bool
     true
 }
 
-/// Holds the packet's one message where it is past the base and free, and tells whether it did.
+/// Holds the packet's single message where it is past the base and free, and returns whether it
+/// did.
 #[inline(always)]
-fn fill_only(window: &mut Window, packet: &Packet<'_>) -> bool
+fn fill_single(window: &mut Window, packet: &Packet<'_>) -> bool
     requires one { length packet.now.messages ≡ 1 }
     requires within { packet.now.number ≤ window.old.base + window.old.width }
     ensures { MatchBool result (HoldsAll window.old window.new packet.now 1)
@@ -121,9 +128,9 @@ fn fill_only(window: &mut Window, packet: &Packet<'_>) -> bool
     }
 }
 
-/// Holds the packet's messages past the base where nothing is held, and tells how many it held.
+/// Holds the packet's messages past the base where nothing is held, and returns how many it held.
 #[inline(never)]
-fn fill_each(window: &mut Window, packet: &Packet<'_>) -> u16
+fn fill_many(window: &mut Window, packet: &Packet<'_>) -> u16
     requires { packet.now.number + length packet.now.messages
         ≤ window.old.base + window.old.width + 1 }
     ensures after { (m : ℕ) → held_at window.new m
@@ -142,28 +149,28 @@ fn fill_each(window: &mut Window, packet: &Packet<'_>) -> u16
     count
 }
 
-/// What a packet's messages came to in a window.
+/// What became of a packet's messages in a window.
 #[derive(Clone, Copy, Debug, PartialEq, Eq)]
 pub(crate) enum Intake {
     /// A held one reads otherwise; nothing is held anew.
     Differs,
     /// Each was sent, or is held and reads the same.
     Repeats,
-    /// So many are held now that weren't.
+    /// This many are held now that weren't before.
     Holds(u16),
 }
 
-/// Takes a packet of one message: it is compared only where it can't be held.
+/// Takes a packet of a single message: it is compared only where it can't be held.
 #[inline(always)]
-fn take_only(window: &mut Window, packet: &Packet<'_>) -> Intake
+fn take_single(window: &mut Window, packet: &Packet<'_>) -> Intake
     requires one { length packet.now.messages ≡ 1 }
     requires within { packet.now.number ≤ window.old.base + window.old.width }
     ensures { TakesAll window.old window.new packet.now result }
 {
-    if fill_only(window, packet) {
+    if fill_single(window, packet) {
         return Intake::Holds(1);
     }
-    match compare_held(window, packet) {
+    match compare_single(window, packet) {
         Comparison::Differs => Intake::Differs,
         Comparison::Repeats | Comparison::Agrees => Intake::Repeats,
     }
@@ -171,7 +178,7 @@ fn take_only(window: &mut Window, packet: &Packet<'_>) -> Intake
 
 /// Takes a packet of any number of messages: they are compared first.
 #[inline(always)]
-fn take_each(window: &mut Window, packet: &Packet<'_>) -> Intake
+fn take_many(window: &mut Window, packet: &Packet<'_>) -> Intake
     requires { packet.now.number + length packet.now.messages
         ≤ window.old.base + window.old.width + 1 }
     ensures { TakesAll window.old window.new packet.now result }
@@ -179,7 +186,7 @@ fn take_each(window: &mut Window, packet: &Packet<'_>) -> Intake
     match compare(window, packet) {
         Comparison::Differs => Intake::Differs,
         Comparison::Repeats => Intake::Repeats,
-        Comparison::Agrees => Intake::Holds(fill_each(window, packet)),
+        Comparison::Agrees => Intake::Holds(fill_many(window, packet)),
     }
 }
 
@@ -191,14 +198,14 @@ pub(crate) fn take_all(window: &mut Window, packet: &Packet<'_>) -> Intake
     ensures { TakesAll window.old window.new packet.now result }
 {
     if packet.count() == 1 {
-        take_only(window, packet)
+        take_single(window, packet)
     } else {
-        take_each(window, packet)
+        take_many(window, packet)
     }
 }
 
-/// The last number of the run of held numbers that goes on past `front`, where those that came last
-/// are this one and greater ones.
+/// Returns the last number of the run of held numbers that goes on past `front`, where those that
+/// came last are `number` and greater ones.
 #[inline(always)]
 pub(crate) fn run_after(window: &Window, front: u64, number: u64) -> u64
     requires one { 1 ≤ number }

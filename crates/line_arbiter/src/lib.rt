@@ -16,7 +16,9 @@
 //!
 //! Contract: for every list of packets that the arbiter was given in the present session, its
 //! answers, cursors and items are those that `specs/Outcomes.antt` and `specs/Streams.antt` define
-//! over that list. Begin at `arbiter.rt`, then `in_order.rt`; `laws.rt` says what follows for a session's messages.
+//! over that list. Begin at `arbiter.rt`, then `in_order.rt`; `laws.rt` says what follows for a
+//! session's messages. `specs/Lib.antt` parts what a reader of the contracts has to know from what
+//! private clauses alone cite.
 #![tactic(auto)]
 
 mod arbiter;

@@ -12,14 +12,14 @@ const WORD_BITS: u64 = 64;
 /// How many words a bitmap has.
 const WORDS: usize = 1_024;
 
-/// A bitmap without a mark.
+/// Returns a bitmap without a mark.
 pub(crate) fn no_marks(alloc: Global) -> Result<Vec<u64>, AllocError>
     ensures { IfOk result (λ marks. marks.items ≡ replicate 1024 0) }
 {
     vec![in alloc; 0; WORDS]
 }
 
-/// The word that has the number's bit.
+/// Returns the place of the word that has the number's bit.
 #[inline]
 fn word_of(number: u64) -> usize
     ensures value { result ≡ number / 64 % 1024 }

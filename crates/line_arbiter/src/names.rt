@@ -3,7 +3,7 @@
 ghost use Rattle.std.specs.Prelude.{◌≡◌, ◌≢◌, drop, take, MatchBool};
 ghost use Rattle.std.specs.Int.{w16, w64, to_le_bytes, from_le_bytes};
 
-/// The first eight bytes of a name, in a word.
+/// Returns the first eight bytes of a name, in a word.
 #[inline(always)]
 fn first_eight(name: [u8; 10]) -> u64
     ensures is { result ≡ from_le_bytes w64 (take 8 name) }
@@ -14,7 +14,7 @@ fn first_eight(name: [u8; 10]) -> u64
     ])
 }
 
-/// The last two bytes of a name, in a word.
+/// Returns the last two bytes of a name, in a word.
 #[inline(always)]
 fn last_two(name: [u8; 10]) -> u16
     ensures is { result ≡ from_le_bytes w16 (drop 8 name) }
@@ -23,7 +23,7 @@ fn last_two(name: [u8; 10]) -> u16
     u16::from_le_bytes([name[8], name[9]])
 }
 
-/// Whether the names are the same: their first eight bytes at once, and then the last two.
+/// Returns whether the names are the same: their first eight bytes at once, and then the last two.
 #[inline(always)]
 pub(crate) fn is_same_name(a: &[u8; 10], b: &[u8; 10]) -> bool
     ensures { MatchBool result (a.now ≡ b.now) (a.now ≢ b.now) }

@@ -5,8 +5,8 @@ use thiserror::Error;
 /// What became of a packet that was accepted.
 #[derive(Clone, Copy, Debug, PartialEq, Eq, Hash)]
 pub enum Outcome {
-    /// Its messages are held, or were already: so many numbers came first with this packet, so many
-    /// had come before.
+    /// Its messages are held, or were already: `new` numbers came first with this packet, and
+    /// `repeated` had come before.
     Taken { new: u16, repeated: u16 },
     /// It is a heartbeat: the session goes at least to before its number.
     Heartbeat,
@@ -19,7 +19,7 @@ pub enum Outcome {
 /// Why a packet was refused. It has changed nothing.
 #[derive(Clone, Copy, Debug, PartialEq, Eq, Hash, Error)]
 pub enum LineFault {
-    /// The packet's session name is another one.
+    /// The packet is of another session.
     #[error("the packet is of another session")]
     OtherSession,
     /// It has a message at the announced end or past it, or is a heartbeat past it.

@@ -24,7 +24,7 @@ impl Model for LastRequest {
 }
 
 impl LastRequest {
-    /// Whether the interval since then isn't over. A moment past 2^64 - 1 never comes.
+    /// Returns whether the interval since then isn't over. A moment past 2^64 - 1 never comes.
     const fn is_recent(self, interval_ms: u64, now_ms: u64) -> bool
         ensures { IsTrue result ↔ (now_ms < self.moment + interval_ms) }
     {
@@ -53,7 +53,7 @@ impl Model for Pacer {
 }
 
 impl Pacer {
-    /// A pacer that has let nothing out, with the interval in milliseconds.
+    /// Returns a pacer that has let nothing out, with the interval in milliseconds.
     pub const fn new(interval_ms: u64) -> Pacer
         ensures { result ≡ record { interval = interval_ms; last = None } }
     {
@@ -72,8 +72,8 @@ impl Pacer {
         }
     }
 
-    /// The request to send now, if any. `gap` is the run of messages that is missing, and `now_ms`
-    /// the time in milliseconds since any fixed moment.
+    /// Returns the request to send now, if any. `gap` is the run of messages that is missing, and
+    /// `now_ms` the time in milliseconds since any fixed moment.
     ///
     /// A gap goes out unless the last request began with the same number and went out less than an
     /// interval ago. What goes out is remembered with its moment. Where there is no gap, nothing

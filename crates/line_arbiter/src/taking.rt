@@ -1,12 +1,11 @@
-//! How a packet is taken, on whichever line: which refusal fits first, what is held of it, and how far
-//! the cursors go then.
+//! How a packet is taken, on whichever line: which refusal fits first, what is held of it, and how
+//! far the cursors go then.
 
 ghost use Rattle.std.specs.Prelude.{◌≡◌, ◌+◌, ◌<◌, ◌≤◌, Ok, MatchBool, Some, None};
-ghost use Rattle.mold_packet.specs.Content.{IsContent};
-ghost use Rattle.line_arbiter.specs.Packets.{last_of};
+ghost use Rattle.mold_packet.specs.Content.{IsContent, last_number};
 ghost use Rattle.line_arbiter.specs.Outcomes.{IsBefore, IsPast};
 ghost use Rattle.line_arbiter.specs.States.{held_of};
-ghost use Rattle.line_arbiter.specs.Holding.{HeldAgrees};
+ghost use Rattle.line_arbiter.specs.Filling.{HeldAgrees};
 ghost use Rattle.line_arbiter.specs.Comparing.{AreThere};
 ghost use Rattle.line_arbiter.specs.Steps.{IsSound, MessagesStep, HeartbeatStep, EndStep, PacketStep, raised as raised_to};
 
@@ -17,7 +16,7 @@ use crate::outcome::{LineFault, Outcome};
 use feed_types::{Genuine, LineId};
 use mold_packet::{Kind, Packet};
 
-/// Whether the end is announced at the number or below it.
+/// Returns whether the end is announced at the number or below it.
 pub(crate) fn is_past(end: Option<u64>, number: u64) -> bool
     ensures { MatchBool result (IsPast end number) (IsBefore end number) }
 {
@@ -27,7 +26,7 @@ pub(crate) fn is_past(end: Option<u64>, number: u64) -> bool
     }
 }
 
-/// The number up to which messages are known of, after one more number is heard of.
+/// Returns the number up to which messages are known of, once one more number was heard of.
 pub(crate) fn raised(known: u64, end: Option<u64>, to: u64) -> u64
     ensures { result ≡ raised_to known end to }
 {
@@ -38,9 +37,9 @@ impl<G: Genuine> Arbiter<G> {
     /// Takes a packet of messages that were all sent or are held, as on the line that comes second.
     #[inline(always)]
     pub(crate) fn take_repeat(&mut self, line: LineId, packet: &Packet<'_>, last: u64) -> Outcome
-        requires last { last ≡ last_of packet.now }
-        requires before { IsBefore self.old.end (last_of packet.now) }
-        requires within { last_of packet.now ≤ self.old.sent + self.old.window }
+        requires last { last ≡ last_number packet.now }
+        requires before { IsBefore self.old.end (last_number packet.now) }
+        requires within { last_number packet.now ≤ self.old.sent + self.old.window }
         requires there { AreThere (held_of self.old) packet.now }
         requires agrees { HeldAgrees (held_of self.old) packet.now }
         ensures { MessagesStep line self.old self.new packet.now (Ok result) }
@@ -61,9 +60,9 @@ impl<G: Genuine> Arbiter<G> {
         packet: &Packet<'_>,
         last: u64,
     ) -> Result<Outcome, LineFault>
-        requires last { last ≡ last_of packet.now }
-        requires before { IsBefore self.old.end (last_of packet.now) }
-        requires within { last_of packet.now ≤ self.old.sent + self.old.window }
+        requires last { last ≡ last_number packet.now }
+        requires before { IsBefore self.old.end (last_number packet.now) }
+        requires within { last_number packet.now ≤ self.old.sent + self.old.window }
         ensures { MessagesStep line self.old self.new packet.now result }
     {
         let new = match take_all(&mut self.held, packet) {
@@ -149,7 +148,7 @@ impl<G: Genuine> Arbiter<G> {
             Kind::Heartbeat => self.take_heartbeat(number),
             Kind::End => self.take_end(number),
         };
-        // for the prover: what an arbiter keeps
+        // For the prover alone: what an arbiter keeps.
         let _held = &self.held;
         answer
     }

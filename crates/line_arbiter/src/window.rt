@@ -3,7 +3,8 @@
 
 ghost use Rattle.std.specs.Prelude.{◌≡◌, ℕ, ◌+◌, ◌-◌, ◌^◌, ◌<◌, ◌≤◌, ◌++◌, ◌∷◌, [], ◌⊎◌, None, Some, length, replicate, slice_set, nat_eq, if◌then◌else◌, IfOk, IsSome, MatchBool, is_some};
 ghost use Rattle.std.specs.Option.{option_and_then};
-ghost use Rattle.line_arbiter.specs.Holding.{count_held, held_at, put_at, put_one, IsEmpty};
+ghost use Rattle.line_arbiter.specs.Holding.{held_at, IsEmpty};
+ghost use Rattle.line_arbiter.specs.Filling.{count_held, put_at, put_one};
 
 use crate::marks::{first_number, has_mark, mark, no_marks, unmark};
 use circular_buffer::HeapCircularBuffer;
@@ -34,8 +35,8 @@ impl Model for Window {
     ghost invariant = { λ w. IsWindow w };
 }
 
-/// The same item, copied part by part: a copy of the whole would be taken apart where it is used, in
-/// pieces that overlap, and each wait for the one before it.
+/// Returns the same item, copied part by part: a copy of the whole would be taken apart where it is
+/// used, in pieces that overlap, and each wait for the one before it.
 #[inline(always)]
 fn by_parts(item: &Item) -> Item
     ensures { result ≡ item.now }

@@ -14,4 +14,4 @@ returns c = λ window place v bytes rest f spells.
       | in-Err w ↦ w.result-is ∙ ap (λ (n : ℕ). done.Refused n) w.code.ensures ∙ sym (ap answered w.in-Err.is)
     ] in
     answered_so window place _ c.take.new.self c.self.inside.items v c.args.line bytes rest c.args.packet.now c.take.result c.match-take.result g spells c.take.ensures.kept
-    (c.take.ensures.outcome v.history.present.packets g.fits) (c.take.ensures.fits v.history.present.packets g.fits) told
+    (c.take.ensures.outcome v.history.present.packets g.history.present) (c.take.ensures.fits v.history.present.packets g.history.present) told

@@ -1,4 +1,4 @@
-use Rattle.std.proofs.Common.{rules}
+use Rattle.std.proofs.Common.{rules, refl}
 use Rattle.line_arbiter.proofs.arbiter.Arbiter.new.Goals as goal
 
 pub invariant_of-result : goal.invariant_of-result
@@ -8,5 +8,6 @@ invariant_of-result g c = record {
   front_before_end = λ e is. absurd cc;
   named = search rules;
   few = search rules;
+  present = rw (c.push.ensures.items, c.new-names.ensures) refl;
   stop = c.in-Ok.ensures.empty 1;
 }

@@ -1,5 +1,5 @@
 use Rattle.std.proofs.Common.{ap, ◌∙◌}
-use Rattle.line_arbiter.specs.Holding.{count_held}
+use Rattle.line_arbiter.specs.Filling.{count_held}
 use Rattle.line_arbiter.specs.States.{State, held_of}
 use Rattle.line_arbiter.proofs.HeldCounts.{count-held}
 use Rattle.line_arbiter.proofs.arbiter.Arbiter.status.Goals as goal

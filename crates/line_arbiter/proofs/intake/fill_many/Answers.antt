@@ -1,12 +1,13 @@
 use Rattle.std.proofs.Common.{ℕ, ◌≡◌, ◌+◌, ◌∙◌, sym, ap, arith, inl}
 use Rattle.quote_payload.specs.Payload.{item_of}
 use Rattle.line_arbiter.specs.Packets.{message_item}
-use Rattle.line_arbiter.specs.Holding.{held_at, put_one}
+use Rattle.line_arbiter.specs.Holding.{held_at}
+use Rattle.line_arbiter.specs.Filling.{put_one}
 use Rattle.line_arbiter.proofs.Counting.{byte_is}
 use Rattle.line_arbiter.proofs.Filling.{IsFilled, filled_more, fresh_most}
 use Rattle.line_arbiter.proofs.Turns.{at_turn, go_on, numbers_fit, few}
-use Rattle.line_arbiter.proofs.intake.fill_each.Goals as goal
-use Rattle.line_arbiter.proofs.intake.fill_each.Goals.{After-from-count}
+use Rattle.line_arbiter.proofs.intake.fill_many.Goals as goal
+use Rattle.line_arbiter.proofs.intake.fill_many.Goals.{After-from-count}
 
 step : (c : After-from-count) → IsFilled (c.loop-i.i-iterator.count + 1) c.args.window.now.base c.args.window.now c.put-is_new.new.window c.args.packet.now (c.loop-i.count + c.from-count.result)
 step c =

@@ -1,9 +1,9 @@
 use Rattle.std.proofs.Common.{◌≡◌, ℕ, ◌+◌, ◌<◌, true}
 use Rattle.line_arbiter.specs.Packets.{message_item}
-use Rattle.line_arbiter.specs.Holding.{HoldsNoOther}
+use Rattle.line_arbiter.specs.Filling.{HoldsNoOther}
 use Rattle.line_arbiter.specs.Comparing.{IsThere}
 use Rattle.line_arbiter.proofs.Turns.{IsAt}
-use Rattle.line_arbiter.proofs.intake.compare_each.Given as goal
+use Rattle.line_arbiter.proofs.intake.compare_many.Given as goal
 
 abbrev pub invariant-loop-i : goal.invariant-loop-i
 invariant-loop-i l = record {

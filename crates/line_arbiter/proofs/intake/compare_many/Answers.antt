@@ -2,11 +2,11 @@ use Rattle.std.proofs.Common.{◌≡◌, ℕ, ◌+◌, ◌^◌, ◌<◌, sym, ap
 use Rattle.std.proofs.lemmas.Bool.{false≢true}
 use Rattle.quote_payload.specs.Payload.{item_of}
 use Rattle.line_arbiter.specs.Packets.{message_item}
-use Rattle.line_arbiter.specs.Holding.{HoldsNoOther}
+use Rattle.line_arbiter.specs.Filling.{HoldsNoOther}
 use Rattle.line_arbiter.specs.Comparing.{IsThere}
 use Rattle.line_arbiter.proofs.Turns.{IsAt, at_turn, go_on, numbers_fit}
-use Rattle.line_arbiter.proofs.intake.compare_each.Goals as goal
-use Rattle.line_arbiter.proofs.intake.compare_each.Goals.{After-compare_one}
+use Rattle.line_arbiter.proofs.intake.compare_many.Goals as goal
+use Rattle.line_arbiter.proofs.intake.compare_many.Goals.{After-compare_one}
 
 module _ (c : After-compare_one) where
   abbrev n : ℕ

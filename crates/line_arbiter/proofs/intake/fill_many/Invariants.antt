@@ -1,7 +1,7 @@
 use Rattle.std.proofs.Common.{◌≡◌}
 use Rattle.line_arbiter.proofs.Filling.{IsFilled}
 use Rattle.line_arbiter.proofs.Turns.{IsAt}
-use Rattle.line_arbiter.proofs.intake.fill_each.Given as goal
+use Rattle.line_arbiter.proofs.intake.fill_many.Given as goal
 
 abbrev pub invariant-loop-i : goal.invariant-loop-i
 invariant-loop-i l = record {
