@@ -15,7 +15,7 @@ use Rattle.live_feed.specs.Lanes.{FeedLanes}
 use Rattle.live_feed.specs.venue.Cells.{CellState, VenueLockInvariant}
 use Rattle.live_feed.specs.venue.Sections.{AcceptsTheirPacket}
 use Rattle.live_feed.proofs.Histories.{given_genuine, present_given}
-use Rattle.live_feed.proofs.CellMoves.{ordinal_is}
+use Rattle.line_arbiter.proofs.FitsHistory.{ordinal_is}
 
 pub accepts : (sessions : SessionNames) (carries : Carries) (ends : Ends) (lanes : FeedLanes) (c : CellState) (k : VenueLockInvariant sessions carries ends lanes c) (p : Content) (answer : Result Outcome LineFault) → IsContent p
     → IsOutcome c.arbiter.session c.arbiter.window c.arbiter.sent k.history.present.packets p answer
@@ -30,7 +30,7 @@ accepts sessions carries ends lanes c k p answer content o all ordinal s names a
         let h = k.history in
         let n = 1 + length h.earlier in
         let venue = c.arbiter.venue in
-        let ordinal_here : ordinal_of c.arbiter ≡ n = ordinal_is c h k.fits in
+        let ordinal_here : ordinal_of c.arbiter ≡ n = ordinal_is h k.fits.history in
         let named : sessions venue n c.arbiter.session = subst (λ (x : ℕ). sessions venue x c.arbiter.session) ordinal_here k.named in
         let found = (names.named n c.arbiter.session).0 named in
         let same_name : s.name ≡ found.0.name = sym of.name ∙ same.0 ∙ sym found.2 in

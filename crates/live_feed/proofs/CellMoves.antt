@@ -1,8 +1,8 @@
 -- What a packet, a push and a renewal leave of a venue's cell, said of plain states.
-use Rattle.std.proofs.Common.{◌≡◌, ℕ, zero, suc, ◌+◌, ◌-◌, ◌≤◌, true, false, List, [], ◌∷◌, ◌++◌, length, map, take, drop, Option, Some, None, Result, Ok, Err, refl, sym, ap, subst, ◌∙◌, arith, append_assoc, append-nil, length-append}
+use Rattle.std.proofs.Common.{◌≡◌, ℕ, zero, suc, ◌+◌, ◌-◌, ◌≤◌, true, false, List, [], ◌∷◌, ◌++◌, length, map, take, drop, Some, None, Result, Ok, Err, refl, sym, ap, subst, ◌∙◌, arith, append_assoc, append-nil, length-append}
 use Rattle.std.specs.Prelude.{slice_get, if◌then◌else◌}
 use Rattle.std.proofs.lemmas.List.{take-append-drop}
-use Rattle.std.proofs.lemmas.List.Sums.{fold-append, sum_by-append}
+use Rattle.std.proofs.lemmas.List.Sums.{fold-append}
 use Rattle.feed_types.specs.declared.item.Numbered.{Numbered}
 use Rattle.feed_types.specs.declared.line.LineId.{LineId}
 use Rattle.feed_types.specs.declared.line.LineId.TheVariants.{A, B, Recovery}
@@ -15,7 +15,7 @@ use Rattle.line_arbiter.specs.declared.outcome.Outcome.{Outcome}
 use Rattle.line_arbiter.specs.declared.outcome.Outcome.TheVariants.{Taken}
 use Rattle.line_arbiter.specs.declared.outcome.LineFault.{LineFault}
 use Rattle.line_arbiter.specs.Packets.{Arrival, arrival_of}
-use Rattle.line_arbiter.specs.Streams.{IsComplete, is_same_line, stream_of, wins_of}
+use Rattle.line_arbiter.specs.Streams.{IsComplete, is_same_line, stream_of}
 use Rattle.line_arbiter.specs.Outcomes.{IsOutcome}
 use Rattle.line_arbiter.specs.Genuine.{IsGenuine}
 use Rattle.line_arbiter.specs.declared.in_order.InOrder.{InOrder}
@@ -24,19 +24,19 @@ use Rattle.line_arbiter.specs.InOrder.{BringsInOrder, IsOrder, outcome_in_order,
 use Rattle.feed_types.specs.declared.item.Item.{Item}
 use Rattle.feed_types.specs.Sessions.{numbered_from}
 use Rattle.quote_payload.specs.Payload.{item_of}
-use Rattle.line_arbiter.specs.Histories.{Begun, History, all_begun, items_of, new_history, new_session, streams_of, after_arrival, wins_in}
-use Rattle.line_arbiter.specs.Counts.{count_on, no_counts, shown}
+use Rattle.line_arbiter.specs.Histories.{History, all_begun, items_of, new_history, new_session, streams_of, after_arrival}
 use Rattle.line_arbiter.specs.States.{State, ordinal_of, KeepsItsPlace, KeepsItsSession, IsAdvanced, IsNew, IsRenewed}
 use Rattle.line_arbiter.specs.Fits.{Fits}
 use Rattle.fifo_lane.specs.Lane.{LaneEnd, with_items, WasFull}
-use Rattle.feed_core.proofs.VenueHalfLaw.{items_push}
+use Rattle.line_arbiter.proofs.Histories.{items_push}
+use Rattle.line_arbiter.proofs.FitsHistory.{fits_new, fits_packet, fits_push, fits_renewal, keeps_session, ordinal_is, outcome_in, renewal_in}
 use Rattle.live_feed.specs.Lanes.{FeedLanes}
 use Rattle.live_feed.specs.venue.Sums.{Sums, no_sums, sums_after, accepted_on, sums_on, line_sums_after, LineSums}
 use Rattle.live_feed.specs.venue.Cells.{CellState, FitsCell, AreGivenFrom, VenueLockInvariant, arrivals_of, new_cell}
 use Rattle.live_feed.specs.venue.Sections.{TakesPacket, IsAnsweredBy, TakesAndPushes, PushesOne, RenewsSession}
 use Rattle.line_arbiter.specs.Renewals.{IsRenewal}
 use Rattle.live_feed.specs.declared.unsent.Unsent.TheVariants as unsent
-use Rattle.live_feed.proofs.Histories.{take_same, take_next, get_sent, names_same, names_length, arrivals_push, arrivals_more, given_more, present_more, next_given, streams_sequence}
+use Rattle.live_feed.proofs.Histories.{take_same, take_next, get_sent, arrivals_push, arrivals_more, given_more, present_more, next_given, streams_sequence}
 
 -- ---- sums
 
@@ -78,19 +78,16 @@ module _ (old new : CellState) (h : History) (line : LineId) (p : Content) (answ
 
   pub packet_fits : FitsCell new (after_arrival h a)
   packet_fits = record {
-    fits = fits;
-    names = kept.sessions ∙ f.names ∙ names_same h a;
-    session = kept.session ∙ f.session;
+    history = fits_packet h a f.history (keeps_session kept) fits;
     sent =
         ap (λ (e : LaneEnd Numbered). e.items) lane ∙ f.sent
         ∙ ap (λ (xs : List Numbered). items_of h.earlier ++ xs)
-        (sym (take_same (stream_of h.present.packets) (stream_of (h.present.packets ++ a ∷ [])) old.arbiter.sent grows f.fits.sent) ∙ ap (λ (n : ℕ). take n (stream_of (h.present.packets ++ a ∷ []))) (sym kept.sent));
-    earlier = λ l. ap (count_on l) kept.earlier ∙ f.earlier l;
+        (sym (take_same (stream_of h.present.packets) (stream_of (h.present.packets ++ a ∷ [])) old.arbiter.sent grows f.history.present.sent) ∙ ap (λ (n : ℕ). take n (stream_of (h.present.packets ++ a ∷ []))) (sym kept.sent));
     accepted = sums_more old new.accepted h line p answer f sums;
   }
 
   right_at : IsOutcome old.arbiter.session old.arbiter.window old.arbiter.sent h.present.packets p answer → IsOutcome h.present.name old.arbiter.window old.arbiter.sent h.present.packets p answer
-  right_at o = subst (λ (n : List ℕ). IsOutcome n old.arbiter.window old.arbiter.sent h.present.packets p answer) f.session o
+  right_at o = outcome_in h p answer f.history o
 
   pub takes : IsOutcome old.arbiter.session old.arbiter.window old.arbiter.sent h.present.packets p answer → TakesPacket line p answer h old new
   takes o = record { after = after_arrival h a; taken = record { right = right_at o; is = refl }; fits = packet_fits }
@@ -98,9 +95,6 @@ module _ (old new : CellState) (h : History) (line : LineId) (p : Content) (answ
 pub answered : (sessions : SessionNames) (carries : Carries) (ends : Ends) (lanes : FeedLanes) (old new : CellState) (venue : ℕ) (line : LineId) (p : Content) (answer : Result Outcome LineFault) (k : VenueLockInvariant sessions carries ends lanes old)
     → old.arbiter.venue ≡ venue → TakesPacket line p answer k.history old new → IsAnsweredBy sessions carries ends lanes venue line p answer
 answered sessions carries ends lanes old new venue line p answer k venue_is takes = record { old = old; kept = k; venue_is = venue_is; new = new; takes = takes }
-
-pub ordinal_is : (c : CellState) (h : History) → FitsCell c h → ordinal_of c.arbiter ≡ 1 + length h.earlier
-ordinal_is c h f = ap length f.names ∙ names_length h
 
 -- what was given, with one packet more
 pub given_after : (sessions : SessionNames) (carries : Carries) (ends : Ends) (lanes : FeedLanes) (old : CellState) (line : LineId) (p : Content) (answer : Result Outcome LineFault) (k : VenueLockInvariant sessions carries ends lanes old) → IsContent p
@@ -111,9 +105,9 @@ given_after sessions carries ends lanes old line p answer k content o genuine =
     let f = k.fits in
     let venue = old.arbiter.venue in
     let window = old.arbiter.window in
-    let right = subst (λ (n : List ℕ). IsOutcome n window old.arbiter.sent h.present.packets p answer) f.session o in
-    let ordinal : ordinal_of old.arbiter ≡ 1 + length h.earlier = ordinal_is old h f in
-    let named : sessions venue (1 + length h.earlier) h.present.name = subst (λ (x : ℕ × List ℕ). sessions venue x.0 x.1) (λ i. (ordinal i, f.session i)) k.named in
+    let right = outcome_in h p answer f.history o in
+    let ordinal : ordinal_of old.arbiter ≡ 1 + length h.earlier = ordinal_is h f.history in
+    let named : sessions venue (1 + length h.earlier) h.present.name = subst (λ (x : ℕ × List ℕ). sessions venue x.0 x.1) (λ i. (ordinal i, f.history.session i)) k.named in
     present_more carries ends venue window 1 h.earlier h.present (after_arrival h (arrival_of line p answer)).present
     (given_more carries ends venue window (1 + length h.earlier) h.present (arrival_of line p answer) (λ same. genuine (1 + length h.earlier) (subst (λ (n : List ℕ). sessions venue (1 + length h.earlier) n) (sym same) named)) (record { content = content; sent = old.arbiter.sent; outcome = right }))
     k.given
@@ -137,8 +131,7 @@ pub packet_kept : (sessions : SessionNames) (carries : Carries) (ends : Ends) (l
     → new.lane ≡ old.lane → KeepsItsPlace old.arbiter new.arbiter → FitsCell new (after_arrival k.history (arrival_of line p answer)) → IsContent p
     → IsOutcome old.arbiter.session old.arbiter.window old.arbiter.sent k.history.present.packets p answer → IsGenuine sessions carries ends old.arbiter.venue p → VenueLockInvariant sessions carries ends lanes new
 packet_kept sessions carries ends lanes old new line p answer k lane kept fits content o genuine =
-    let same : KeepsItsSession old.arbiter new.arbiter = record { venue = kept.venue; sessions = kept.sessions; session = kept.session; window = kept.window; earlier = kept.earlier } in
-    more_kept sessions carries ends lanes old new line p answer k same (ap (λ (e : LaneEnd Numbered). e.tag) lane) (ap (λ (e : LaneEnd Numbered). e.lane) lane) fits content o genuine
+    more_kept sessions carries ends lanes old new line p answer k (keeps_session kept) (ap (λ (e : LaneEnd Numbered). e.tag) lane) (ap (λ (e : LaneEnd Numbered). e.lane) lane) fits content o genuine
 
 -- ---- a push
 
@@ -169,16 +162,13 @@ module _ (items : List Numbered) (sent : ℕ) (h : History) (is : items ≡ item
 
 module _ (c : CellState) (h : History) (f : FitsCell c h) where
   next_of_cell : slice_get (streams_of h) (length c.lane.items) ≡ slice_get (stream_of h.present.packets) c.arbiter.sent
-  next_of_cell = next_is c.lane.items c.arbiter.sent h f.sent f.fits.sent
+  next_of_cell = next_is c.lane.items c.arbiter.sent h f.sent f.history.present.sent
 
   pub push_fits : (new : CellState) (x : Numbered) → Some x ≡ slice_get (stream_of h.present.packets) c.arbiter.sent → new.lane ≡ with_items c.lane (c.lane.items ++ x ∷ []) → new.accepted ≡ c.accepted
       → IsAdvanced c.arbiter new.arbiter → Fits new.arbiter h.present.packets → FitsCell new h
   push_fits new x e lane sums advanced fits = record {
-    fits = fits;
-    names = advanced.kept.sessions ∙ f.names;
-    session = advanced.kept.session ∙ f.session;
+    history = fits_push h f.history advanced.kept fits;
     sent = ap (λ (e : LaneEnd Numbered). e.items) lane ∙ sent_more c.lane.items c.arbiter.sent h f.sent x new.arbiter.sent advanced.sent e;
-    earlier = λ l. ap (count_on l) advanced.kept.earlier ∙ f.earlier l;
     accepted = λ l. ap (sums_on l) sums ∙ f.accepted l;
   }
 
@@ -280,11 +270,11 @@ module _ (old : CellState) (h : History) (line : LineId) (p : Content) (x : Numb
 
   -- what was sent are the first so many with the packet, too
   sent_before : old.lane.items ≡ items_of h.earlier ++ take old.arbiter.sent more
-  sent_before = f.sent ∙ ap (λ (xs : List Numbered). items_of h.earlier ++ xs) (sym (take_same (stream_of h.present.packets) more old.arbiter.sent brings.grows f.fits.sent))
+  sent_before = f.sent ∙ ap (λ (xs : List Numbered). items_of h.earlier ++ xs) (sym (take_same (stream_of h.present.packets) more old.arbiter.sent brings.grows f.history.present.sent))
 
   is_there : old.arbiter.sent ≤ length more
   is_there =
-      let le : old.arbiter.sent ≤ length (stream_of h.present.packets) = f.fits.sent in
+      let le : old.arbiter.sent ≤ length (stream_of h.present.packets) = f.history.present.sent in
       let e : length more ≡ length (stream_of h.present.packets) + length brings.grows.rest = ap length brings.grows.is ∙ length-append (stream_of h.present.packets) brings.grows.rest in
       omega arith
 
@@ -295,18 +285,15 @@ module _ (old : CellState) (h : History) (line : LineId) (p : Content) (x : Numb
       (fits : Fits new.arbiter (h.present.packets ++ arrival_of line p (Ok outcome) ∷ [])) (sums : new.accepted ≡ line_sums_after line p (Ok outcome) old.accepted) where
     pub pass_fits : FitsCell new (after_arrival h passed)
     pass_fits = record {
-      fits = subst (λ (o : Outcome). Fits new.arbiter (h.present.packets ++ arrival_of line p (Ok o) ∷ [])) one fits;
-      names = kept.sessions ∙ f.names ∙ names_same h passed;
-      session = kept.session ∙ f.session;
+      history = fits_packet h passed f.history kept (subst (λ (o : Outcome). Fits new.arbiter (h.present.packets ++ arrival_of line p (Ok o) ∷ [])) one fits);
       sent = ap (λ (e : LaneEnd Numbered). e.items) lane ∙ sent_more old.lane.items old.arbiter.sent (after_arrival h passed) sent_before x new.arbiter.sent sent brings.item;
-      earlier = λ l. ap (count_on l) kept.earlier ∙ f.earlier l;
       accepted = sums_more old new.accepted h line p (Ok (Taken 1 0)) f (subst (λ (o : Outcome). new.accepted ≡ line_sums_after line p (Ok o) old.accepted) one sums);
     }
 
     abbrev takes_one : TakesPacket line p (Ok (Taken 1 0)) h old new
     takes_one = record {
       after = after_arrival h passed;
-      taken = record { right = subst (λ (n : List ℕ). IsOutcome n old.arbiter.window old.arbiter.sent h.present.packets p (Ok (Taken 1 0))) f.session brings.answer; is = refl };
+      taken = record { right = outcome_in h p (Ok (Taken 1 0)) f.history brings.answer; is = refl };
       fits = pass_fits;
     }
 
@@ -321,11 +308,6 @@ module _ (old : CellState) (h : History) (line : LineId) (p : Content) (x : Numb
 
 -- ---- a cell where nothing came yet
 
-no_wins : (line : LineId) → count_on line no_counts ≡ shown 0
-no_wins A = refl
-no_wins B = refl
-no_wins Recovery = refl
-
 nothing : (line : LineId) → sums_on line (record { a = no_sums; b = no_sums; recovery = no_sums }) ≡ no_sums
 nothing A = refl
 nothing B = refl
@@ -333,11 +315,8 @@ nothing Recovery = refl
 
 pub new_fits : (arbiter : State) (lane : LaneEnd Numbered) → IsNew arbiter lane.tag arbiter.session arbiter.window → Fits arbiter [] → lane.items ≡ [] → FitsCell (new_cell arbiter lane) (new_history arbiter.session)
 new_fits arbiter lane new fits empty = record {
-  fits = fits;
-  names = new.sessions;
-  session = refl;
+  history = fits_new new fits;
   sent = empty ∙ sym (ap (λ (n : ℕ). take n (stream_of [])) new.begun.sent);
-  earlier = λ l. ap (count_on l) new.earlier ∙ no_wins l;
   accepted = nothing;
 }
 
@@ -354,35 +333,15 @@ new_kept sessions carries ends lanes arbiter lane new fits empty named at = reco
 
 -- ---- a renewal
 
-names_next : (bs : List Begun) (name : List ℕ) → map (λ (x : Begun). x.name) (bs ++ new_session name ∷ []) ≡ map (λ (x : Begun). x.name) bs ++ name ∷ []
-names_next [] name = refl
-names_next (b ∷ bs) name = ap (λ (l : List (List ℕ)). b.name ∷ l) (names_next bs name)
-
 take_whole : {X : Type 0} (xs : List X) → take (length xs) xs ≡ xs
 take_whole [] = refl
 take_whole (x ∷ xs) = ap (λ (l : List _). x ∷ l) (take_whole xs)
-
-shown_sum : (m n : ℕ) → shown (shown m + n) ≡ shown (m + n)
-shown_sum m n = grind (arith)
-
--- the wins of all sessions, as the arbiter shows them
-pub wins_are : (c : CellState) (h : History) → FitsCell c h → (l : LineId) → count_on l c.arbiter.wins ≡ shown (wins_in (all_begun h) l)
-wins_are c h f l =
-    f.fits.wins l
-    ∙ ap (λ (n : ℕ). shown (n + wins_of h.present.packets l)) (f.earlier l)
-    ∙ shown_sum (wins_in h.earlier l) (wins_of h.present.packets l)
-    ∙ ap shown (sym sums)
-  where
-    sums : wins_in (all_begun h) l ≡ wins_in h.earlier l + wins_of h.present.packets l
-    sums = let e = sum_by-append (λ (b : Begun). wins_of b.packets l) h.earlier (h.present ∷ []) in omega (arith, e)
 
 module _ (old new : CellState) (h : History) (name : List ℕ) (f : FitsCell old h) (begun : IsRenewed old.arbiter new.arbiter name) (fits : Fits new.arbiter [])
     (whole : IsComplete h.present.packets × (old.arbiter.sent ≡ length (stream_of h.present.packets))) (lane : new.lane ≡ old.lane) (sums : new.accepted ≡ old.accepted) where
   pub renewed_fits : FitsCell new (record { earlier = all_begun h; present = new_session name })
   renewed_fits = record {
-    fits = fits;
-    names = begun.sessions ∙ ap (λ (l : List (List ℕ)). l ++ name ∷ []) f.names ∙ sym (names_next (all_begun h) name);
-    session = begun.begun.session;
+    history = fits_renewal h name f.history begun fits;
     sent =
         ap (λ (e : LaneEnd Numbered). e.items) lane ∙ f.sent
         ∙ ap (λ (n : ℕ). items_of h.earlier ++ take n (stream_of h.present.packets)) whole.1
@@ -390,7 +349,6 @@ module _ (old new : CellState) (h : History) (name : List ℕ) (f : FitsCell old
         ∙ sym (items_push h.earlier h.present)
         ∙ sym (append-nil (items_of (all_begun h)))
         ∙ ap (λ (n : ℕ). items_of (all_begun h) ++ take n (stream_of [])) (sym begun.begun.sent);
-    earlier = λ l. ap (count_on l) begun.earlier ∙ wins_are old h f l;
     accepted = λ l. ap (sums_on l) sums ∙ f.accepted l ∙ ap (accepted_on l) (sym (arrivals_push (all_begun h) (new_session name) ∙ append-nil (arrivals_of (all_begun h))));
   }
 
@@ -414,6 +372,6 @@ module _ (old new : CellState) (h : History) (name : List ℕ) (f : FitsCell old
   pub renews : (ordinal : ℕ) → IsRenewal old.arbiter.sessions old.arbiter.end old.arbiter.sent name (Ok ordinal) → RenewsSession name (Ok ordinal) h old new
   renews ordinal right = record {
     after = record { earlier = all_begun h; present = new_session name };
-    renewed = record { right = subst (λ (x : List (List ℕ) × Option ℕ). IsRenewal x.0 x.1 old.arbiter.sent name (Ok ordinal)) (λ i. (f.names i, f.fits.end i)) right; is = refl };
+    renewed = record { right = renewal_in h name (Ok ordinal) f.history right; is = refl };
     fits = renewed_fits;
   }

@@ -15,12 +15,12 @@ use Rattle.line_arbiter.specs.Fits.{Fits}
 use Rattle.line_arbiter.specs.Counts.{Counts, count_on}
 use Rattle.line_arbiter.specs.Histories.{items_of}
 use Rattle.fifo_lane.specs.Lane.{Keeps}
-use Rattle.feed_core.proofs.VenueHalfLaw.{items_push}
+use Rattle.line_arbiter.proofs.Histories.{items_push}
 use Rattle.live_feed.specs.Lanes.{FeedLanes}
 use Rattle.live_feed.specs.venue.Cells.{CellState, VenueLockInvariant}
 use Rattle.live_feed.specs.hub.Hubs.{item_by, items_in}
 use Rattle.live_feed.specs.settle.Settlements.{IsSettled}
-use Rattle.live_feed.proofs.CellMoves.{wins_are}
+use Rattle.line_arbiter.proofs.FitsHistory.{wins_are}
 
 -- ---- what is ready
 
@@ -143,6 +143,6 @@ settled sessions carries ends lanes may_send c k received inside ready won keeps
           ∙ append_assoc (items_of h.earlier) (take c.arbiter.sent stream) (drop c.arbiter.sent stream)
           ∙ ap (λ (l : List Numbered). items_of h.earlier ++ l) (take-append-drop c.arbiter.sent stream)
           ∙ sym (items_push h.earlier h.present);
-      wins = λ l. ap (count_on l) same ∙ wins_are c h f l;
+      wins = λ l. ap (count_on l) same ∙ wins_are h f.history l;
       accepted = λ l. f.accepted l;
     }

@@ -1,5 +1,5 @@
 -- One packet more, and one session more, in a venue's history.
-use Rattle.std.proofs.Common.{◌≡◌, ℕ, zero, suc, ◌+◌, ◌≤◌, List, [], ◌∷◌, ◌++◌, length, map, take, Some, refl, sym, ap, subst, ◌∙◌, arith, append_assoc, append-nil, length-append}
+use Rattle.std.proofs.Common.{◌≡◌, ℕ, zero, suc, ◌+◌, ◌≤◌, List, [], ◌∷◌, ◌++◌, length, take, Some, refl, sym, ap, subst, ◌∙◌, arith, append_assoc, append-nil, length-append}
 use Rattle.std.specs.Prelude.{slice_get}
 use Rattle.std.specs.List.{AllByRecursion}
 use Rattle.std.proofs.lemmas.Grind.{flat_map-append}
@@ -10,7 +10,7 @@ use Rattle.line_arbiter.specs.Packets.{Arrival}
 use Rattle.line_arbiter.specs.Streams.{IsComplete}
 use Rattle.line_arbiter.specs.Answered.{IsAnswered, AreAnsweredAfter}
 use Rattle.line_arbiter.specs.Genuine.{IsGenuineAt, AreGenuine, AreGenuineFrom}
-use Rattle.line_arbiter.specs.Histories.{Begun, History, all_begun, names_of, streams_of, after_arrival}
+use Rattle.line_arbiter.specs.Histories.{Begun, History, all_begun, streams_of, after_arrival}
 use Rattle.line_arbiter.proofs.Below.{answered_more}
 use Rattle.line_arbiter.proofs.Arrivals.{genuine_grows}
 use Rattle.line_arbiter.proofs.InSequence.{streams_in_sequence}
@@ -49,20 +49,6 @@ get_sent xs ys sent n is le =
     get_after xs ys n (length sent) (ap length is ∙ length-append xs (take n ys) ∙ ap (λ (k : ℕ). length xs + k) (length_take ys n le))
 
 -- ---- one packet more
-
-names_push : (bs : List Begun) (b c : Begun) → b.name ≡ c.name → map (λ (x : Begun). x.name) (bs ++ b ∷ []) ≡ map (λ (x : Begun). x.name) (bs ++ c ∷ [])
-names_push [] b c e = ap (λ (n : List ℕ). n ∷ []) e
-names_push (a ∷ bs) b c e = ap (λ (l : List (List ℕ)). a.name ∷ l) (names_push bs b c e)
-
-pub names_same : (h : History) (a : Arrival) → names_of h ≡ names_of (after_arrival h a)
-names_same h a = names_push h.earlier h.present (after_arrival h a).present refl
-
-pub names_length : (h : History) → length (names_of h) ≡ 1 + length h.earlier
-names_length h = count h.earlier
-  where
-    count : (bs : List Begun) → length (map (λ (x : Begun). x.name) (bs ++ h.present ∷ [])) ≡ 1 + length bs
-    count [] = refl
-    count (b ∷ bs) = let e = count bs in omega (arith, e)
 
 pub arrivals_push : (bs : List Begun) (b : Begun) → arrivals_of (bs ++ b ∷ []) ≡ arrivals_of bs ++ b.packets
 arrivals_push bs b =

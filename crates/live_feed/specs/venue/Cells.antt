@@ -9,10 +9,9 @@ use Rattle.line_arbiter.specs.Packets.{Arrival}
 use Rattle.line_arbiter.specs.Streams.{IsComplete, stream_of}
 use Rattle.line_arbiter.specs.Answered.{AreAnswered}
 use Rattle.line_arbiter.specs.Genuine.{IsGenuineAt}
-use Rattle.line_arbiter.specs.Histories.{Begun, History, all_begun, items_of, names_of, wins_in}
-use Rattle.line_arbiter.specs.Counts.{count_on, shown}
+use Rattle.line_arbiter.specs.Histories.{Begun, History, all_begun, items_of}
 use Rattle.line_arbiter.specs.States.{State, ordinal_of}
-use Rattle.line_arbiter.specs.Fits.{Fits}
+use Rattle.line_arbiter.specs.Fits.{FitsHistory}
 use Rattle.line_arbiter.specs.Pacing.{Pace}
 use Rattle.fifo_lane.specs.Lane.{LaneEnd}
 use Rattle.live_feed.specs.Lanes.{FeedLanes}
@@ -39,16 +38,13 @@ new_cell arbiter lane =
 abbrev pub arrivals_of : List Begun → List Arrival
 arrivals_of sessions = flat_map (λ session. session.packets) sessions
 
--- The cell stands for what came to the venue, session by session: its arbiter for the packets of
--- the present session, the lane was sent the streams of the earlier sessions and then the first
--- items of the present one's, and what is counted per line is that of all packets.
+-- The cell stands for what came to the venue, session by session: its arbiter fits the history, the
+-- lane was sent the streams of the earlier sessions and then the first items of the present one's,
+-- and what is counted per line is that of all packets.
 pub record FitsCell (c : CellState) (h : History) : Type 0 where
-  pub fits : Fits c.arbiter h.present.packets
-  pub names : c.arbiter.sessions ≡ names_of h
-  pub session : c.arbiter.session ≡ h.present.name
+  pub history : FitsHistory c.arbiter h
   pub sent : c.lane.items
       ≡ items_of h.earlier ++ take c.arbiter.sent (stream_of h.present.packets)
-  pub earlier : (line : LineId) → count_on line c.arbiter.earlier ≡ shown (wins_in h.earlier line)
   pub accepted : (line : LineId)
       → sums_on line c.accepted ≡ accepted_on line (arrivals_of (all_begun h))
 

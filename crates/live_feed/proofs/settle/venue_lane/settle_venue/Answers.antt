@@ -18,7 +18,7 @@ pub take_ready-ready-requires-clause-fits : goal.take_ready-ready-requires-claus
 take_ready-ready-requires-clause-fits g c =
     let parts = c.into_parts-lines.ensures.parts in
     let k = c.into_parts-lines.ensures.kept in
-    subst (λ (a : State). (packets : List Arrival) × Fits a packets) (sym parts.0) (k.history.present.packets, k.fits.fits)
+    subst (λ (a : State). (packets : List Arrival) × Fits a packets) (sym parts.0) (k.history.present.packets, k.fits.history.present)
 
 pub settle-inside-requires : goal.settle-inside-requires
 settle-inside-requires g c =
@@ -42,7 +42,7 @@ returns g c =
     let consumed = c.consumed_of-consumed.ensures ∙ ap (items_in entries) c.venue.ensures in
     let same = c.requires.end.items ∙ sym consumed in
     let keeps = subst (λ (e : LaneEnd Numbered). Keeps may e.tag e.capacity e.items received inside) parts.1 c.settle-inside.ensures in
-    let ready = c.take_ready-ready.ensures.ready packets (subst (λ (a : State). Fits a packets) (sym parts.0) k.fits.fits) in
+    let ready = c.take_ready-ready.ensures.ready packets (subst (λ (a : State). Fits a packets) (sym parts.0) k.fits.history.present) in
     let wins = c.counted-wins.ensures ∙ c.take_ready-ready.ensures.wins ∙ (λ i. (parts.0 i).wins) in
     let whole = settled g.G.Genuine.sessions carries ends g.N.FeedName.lanes may cell k received inside c.take_ready-ready.result.items c.counted-wins.result keeps
     (ready ∙ (λ i. drop (parts.0 i).sent (stream_of packets))) wins in

@@ -18,7 +18,7 @@ push-requires g c =
     let venue = c.requires.venue ∙ ap (λ (v : CellState). v.arbiter.venue) (sym c.self.view_is) in
     let genuine = subst (λ (n : ℕ). IsGenuine g.G.Genuine.sessions g.G.Genuine.carries g.G.Genuine.ends n c.args.packet.now) venue c.requires.genuine in
     let line = c.args.seat.now.line in
-    let brings = brings_next c.self.inside.lines k.history.present.packets c.args.packet.now c.in_ok-order.order c.in-Next.last c.in-Next.is c.in_ok-next.next c.in_ok-next.ensures.item line (c.in_ok-order.ensures.brings k.history.present.packets line k.fits.fits) in
+    let brings = brings_next c.self.inside.lines k.history.present.packets c.args.packet.now c.in_ok-order.order c.in-Next.last c.in-Next.is c.in_ok-next.next c.in_ok-next.ensures.item line (c.in_ok-order.ensures.brings k.history.present.packets line k.fits.history.present) in
     let given = given_after g.G.Genuine.sessions g.G.Genuine.carries g.G.Genuine.ends g.N.FeedName.lanes _ line c.args.packet.now (Ok (Taken 1 0)) k c.in_ok-order.ensures.content brings.answer genuine in
     subst (λ (t : ℕ). IsInSequence g.G.Genuine.carries g.G.Genuine.ends t (c.self.inside.items.items ++ c.in_ok-next.next ∷ [])) (sym k.tag)
     (may_pass _ k.history line c.args.packet.now c.in_ok-next.next k.fits brings g.G.Genuine.carries g.G.Genuine.ends c.self.inside.lines.venue c.self.inside.lines.window given)
@@ -41,9 +41,9 @@ invariant_of-self-2 g c =
     let venue = c.requires.venue ∙ ap (λ (v : CellState). v.arbiter.venue) (sym c.self.view_is) in
     let genuine = subst (λ (n : ℕ). IsGenuine g.G.Genuine.sessions g.G.Genuine.carries g.G.Genuine.ends n c.args.packet.now) venue c.requires.genuine in
     let line = c.line-line.result in
-    let brings = brings_next c.self.inside.lines packets c.args.packet.now c.in_ok-order.order c.in-Next.last c.in-Next.is c.in_ok-next.next c.in_ok-next.ensures.item line (c.in_ok-order.ensures.brings packets line k.fits.fits) in
+    let brings = brings_next c.self.inside.lines packets c.args.packet.now c.in_ok-order.order c.in-Next.last c.in-Next.is c.in_ok-next.next c.in_ok-next.ensures.item line (c.in_ok-order.ensures.brings packets line k.fits.history.present) in
     more_kept g.G.Genuine.sessions g.G.Genuine.carries g.G.Genuine.ends g.N.FeedName.lanes _ (new g c) line c.args.packet.now (Ok (Taken 1 0)) k e.kept (ap (λ (e : LaneEnd Numbered). e.tag) c.in-Ok.ensures) (ap (λ (e : LaneEnd Numbered). e.lane) c.in-Ok.ensures)
-    (pass_fits _ k.history line c.args.packet.now c.in_ok-next.next k.fits brings (new g c) c.take_in_order-outcome.result (answer g c) c.in-Ok.ensures (sent g c) e.kept (e.fits packets k.fits.fits) c.add.ensures)
+    (pass_fits _ k.history line c.args.packet.now c.in_ok-next.next k.fits brings (new g c) c.take_in_order-outcome.result (answer g c) c.in-Ok.ensures (sent g c) e.kept (e.fits packets k.fits.history.present) c.add.ensures)
     c.in_ok-order.ensures.content brings.answer genuine
 
 pub returns-clause-packet : goal.returns-clause-packet
@@ -52,9 +52,9 @@ returns-clause-packet g c = λ h fits.
     let e = c.take_in_order-outcome.ensures in
     let packets = h.present.packets in
     let line = c.line-line.result in
-    let brings = brings_next c.self.inside.lines packets c.args.packet.now c.in_ok-order.order c.in-Next.last c.in-Next.is c.in_ok-next.next c.in_ok-next.ensures.item line (c.in_ok-order.ensures.brings packets line f.fits) in
+    let brings = brings_next c.self.inside.lines packets c.args.packet.now c.in_ok-order.order c.in-Next.last c.in-Next.is c.in_ok-next.next c.in_ok-next.ensures.item line (c.in_ok-order.ensures.brings packets line f.history.present) in
     subst (λ (x : LineId × CellState). TakesAndPushes x.0 c.args.packet.now c.take_in_order-outcome.result h x.1 (new g c)) (λ i. (c.line-line.ensures i, c.self.view_is i))
-    (passes _ h line c.args.packet.now c.in_ok-next.next f brings (new g c) c.take_in_order-outcome.result (answer g c) c.in-Ok.ensures (sent g c) e.kept (e.fits packets f.fits) c.add.ensures (first_number _ _ _ c.in_ok-next.ensures.item))
+    (passes _ h line c.args.packet.now c.in_ok-next.next f brings (new g c) c.take_in_order-outcome.result (answer g c) c.in-Ok.ensures (sent g c) e.kept (e.fits packets f.history.present) c.add.ensures (first_number _ _ _ c.in_ok-next.ensures.item))
 
 pub returns-clause-answered : goal.returns-clause-answered
 returns-clause-answered g c =
@@ -63,7 +63,7 @@ returns-clause-answered g c =
     let packets = k.history.present.packets in
     let venue = c.requires.venue ∙ ap (λ (v : CellState). v.arbiter.venue) (sym c.self.view_is) in
     let line = c.line-line.result in
-    let brings = brings_next c.self.inside.lines packets c.args.packet.now c.in_ok-order.order c.in-Next.last c.in-Next.is c.in_ok-next.next c.in_ok-next.ensures.item line (c.in_ok-order.ensures.brings packets line k.fits.fits) in
+    let brings = brings_next c.self.inside.lines packets c.args.packet.now c.in_ok-order.order c.in-Next.last c.in-Next.is c.in_ok-next.next c.in_ok-next.ensures.item line (c.in_ok-order.ensures.brings packets line k.fits.history.present) in
     subst (λ (l : LineId). IsAnsweredBy g.G.Genuine.sessions g.G.Genuine.carries g.G.Genuine.ends g.N.FeedName.lanes c.args.seat.now.venue l c.args.packet.now (Ok c.take_in_order-outcome.result)) c.line-line.ensures
     (answered _ _ _ _ _ (new g c) _ line c.args.packet.now (Ok c.take_in_order-outcome.result) k (sym venue)
-    (pass_takes _ k.history line c.args.packet.now c.in_ok-next.next k.fits brings (new g c) c.take_in_order-outcome.result (answer g c) c.in-Ok.ensures (sent g c) e.kept (e.fits packets k.fits.fits) c.add.ensures))
+    (pass_takes _ k.history line c.args.packet.now c.in_ok-next.next k.fits brings (new g c) c.take_in_order-outcome.result (answer g c) c.in-Ok.ensures (sent g c) e.kept (e.fits packets k.fits.history.present) c.add.ensures))
