@@ -17,6 +17,7 @@ use Rattle.line_arbiter.specs.declared.in_order.InOrder.{InOrder}
 use Rattle.line_arbiter.specs.declared.in_order.InOrder.TheVariants.{Next, Repeat}
 use Rattle.line_arbiter.specs.InOrder.{SendsInOrder, SendsPacket, sent_in_order}
 use Rattle.line_arbiter.specs.Fits.{Fits}
+use Rattle.line_arbiter.proofs.FitsHistory.{keeps_sent}
 use Rattle.feed_text.specs.declared.report.Stop.{Stop}
 use Rattle.feed_text.specs.Happenings.{Happening, packet_answered, item_taken}
 use Rattle.feed_text.specs.Tales.{Tale, GoesOn, TellsBy}
@@ -61,15 +62,6 @@ passed_part venue from to items stream line o t0 t1 t2 stop sends head first =
     (tells_more t2 (P ∷ []) (map (item_taken venue) items ++ map (item_taken venue) (drop to stream)) (Err stop) head
     (tells_stop t1 t2 (map (item_taken venue) items) (map (item_taken venue) (drop to stream)) stop first))
 
-stays_passed : (old mid new : State) → KeepsItsSession old mid → KeepsAllButSent mid new → KeepsItsSession old new
-stays_passed old mid new a b = record {
-  venue = b.venue ∙ a.venue;
-  sessions = b.sessions ∙ a.sessions;
-  session = b.session ∙ a.session;
-  window = b.window ∙ a.window;
-  earlier = b.earlier ∙ a.earlier;
-}
-
 -- what a next packet sends, up to where the arbiter is then
 pub sends_next : (order : InOrder) (last from to : ℕ) (p : Content) (Q : List Arrival) → order ≡ Next last → to ≡ sent_in_order order from → SendsInOrder order from p Q → SendsPacket from to p Q
 sends_next order last from to p Q is at sends =
@@ -101,8 +93,8 @@ pub passed_told : (width place : ℕ) (h : History) (v : Venue) (mid new : State
     → TellsOutcome width place line p h t0 t1 (record { arbiter = new; sent_before = v.sent_before }) done
 passed_told width place h v mid new line p o t0 t1 done f outcome fits sends kept tells left stays =
     let Q = h.present.packets ++ arrival_of line p (Ok o) ∷ [] in
-    outcome_told width place h v new line p (Ok o) t0 t1 done f (outcome h.present.packets f.fits)
-    (tells v.arbiter.sent Q (fits h.present.packets f.fits) (sends h.present.packets f.fits))
+    outcome_told width place h v new line p (Ok o) t0 t1 done f (outcome h.present.packets f.history.present)
+    (tells v.arbiter.sent Q (fits h.present.packets f.history.present) (sends h.present.packets f.history.present))
     (both done left stays)
   where
     both : (r : Result (Unit {0}) Stop)
@@ -110,6 +102,6 @@ passed_told width place h v mid new line p o t0 t1 done f outcome fits sends kep
         → OnOk r (KeepsAllButSent mid new)
         → OnOk r (Left v (h.present.packets ++ arrival_of line p (Ok o) ∷ []) new)
     both (Ok u) a b =
-        let x = a (h.present.packets ++ arrival_of line p (Ok o) ∷ []) (fits h.present.packets f.fits) in
-        record { fits = x.0; sent = x.1; stays = stays_passed v.arbiter mid new kept b }
+        let x = a (h.present.packets ++ arrival_of line p (Ok o) ∷ []) (fits h.present.packets f.history.present) in
+        record { fits = x.0; sent = x.1; stays = keeps_sent kept b }
     both (Err e) a b = tt

@@ -18,6 +18,7 @@ use Rattle.line_arbiter.specs.Streams.{IsComplete, stream_of, gap_of}
 use Rattle.line_arbiter.specs.Answered.{IsAnswered, AreAnswered}
 use Rattle.line_arbiter.specs.Histories.{Begun, History, new_history, new_session, all_begun, names_of, streams_of, after_arrival, history_after}
 use Rattle.line_arbiter.specs.Histories as histories
+use Rattle.line_arbiter.proofs.Histories.{items_push}
 use Rattle.line_arbiter.proofs.Below.{answered_more, answered_grows, all_sent}
 use Rattle.feed_text.specs.declared.replay.ReplayConfig.{ReplayConfig}
 use Rattle.feed_text.specs.Capture.{CaptureRecord, datagram_record, renewal_record, self_help_record, venue_of}
@@ -47,9 +48,6 @@ pub record GoesOn (window place : ℕ) (old : History) (told : List Happening) (
 all_push : {X : Type 0} (Q : X → Type 0) (xs : List X) (x : X) → AllByRecursion Q xs → Q x → AllByRecursion Q (xs ++ x ∷ [])
 all_push Q [] x all one = (one, tt)
 all_push Q (y ∷ xs) x all one = (all.0, all_push Q xs x all.1 one)
-
-items_push : (earlier : List Begun) (b : Begun) → histories.items_of (earlier ++ b ∷ []) ≡ histories.items_of earlier ++ stream_of b.packets
-items_push earlier b = flat_map-append (λ (b : Begun). stream_of b.packets) earlier (b ∷ []) ∙ ap (λ (xs : List Numbered). histories.items_of earlier ++ xs) (append-nil (stream_of b.packets))
 
 -- ---- the items among what was told
 

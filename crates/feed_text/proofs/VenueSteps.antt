@@ -1,10 +1,7 @@
 -- What a venue's steps leave, said of plain states.
 use Rattle.std.proofs.Common.{◌≡◌, ℕ, ◌+◌, Bool, true, false, List, [], ◌∷◌, ◌++◌, length, refl, sym, ap, subst, ◌∙◌, append-nil, arith, length-append, inl, inr}
-use Rattle.std.specs.Prelude.{sum_by, Option, Result, Ok, Err, OnOk, drop, map}
+use Rattle.std.specs.Prelude.{Option, Result, Ok, Err, OnOk, drop, map}
 use Rattle.std.proofs.lemmas.Result.{on_ok_weaker}
-use Rattle.std.proofs.lemmas.List.{map-append}
-use Rattle.std.proofs.lemmas.Grind.{flat_map-append}
-use Rattle.std.proofs.lemmas.List.Sums.{sum_by_push}
 use Rattle.feed_types.specs.declared.item.Numbered.{Numbered}
 use Rattle.feed_types.specs.declared.line.LineId.{LineId}
 use Rattle.feed_types.specs.declared.line.LineId.TheVariants.{A, B, Recovery}
@@ -16,13 +13,14 @@ use Rattle.line_arbiter.specs.declared.outcome.LineFault.{LineFault}
 use Rattle.line_arbiter.specs.declared.faults.RenewFault.{RenewFault}
 use Rattle.line_arbiter.specs.Packets.{Arrival, arrival_of, end_of}
 use Rattle.line_arbiter.specs.Streams.{stream_of, gap_of, wins_of}
-use Rattle.line_arbiter.specs.Histories.{Begun, new_session, all_begun, names_of, items_of, streams_of, after_arrival, history_after, wins_in}
+use Rattle.line_arbiter.specs.Histories.{History, after_arrival, all_begun, history_after, items_of, names_of, new_history, streams_of, wins_in}
 use Rattle.line_arbiter.specs.Outcomes.{IsOutcome}
 use Rattle.line_arbiter.specs.Renewals.{IsRenewal}
-use Rattle.line_arbiter.specs.Counts.{Counts, count_on, shown}
-use Rattle.line_arbiter.specs.States.{State, KeepsItsPlace, KeepsItsSession, KeepsAllButSent, IsRenewed}
+use Rattle.line_arbiter.specs.Counts.{shown}
+use Rattle.line_arbiter.specs.States.{State, KeepsItsPlace, KeepsItsSession, KeepsAllButSent, IsNew, IsRenewed}
 use Rattle.line_arbiter.specs.Fits.{Fits}
-use Rattle.line_arbiter.specs.Histories.{History}
+use Rattle.line_arbiter.proofs.Histories.{items_push}
+use Rattle.line_arbiter.proofs.FitsHistory.{fits_new, fits_packet, fits_renewal, keeps_sent, keeps_session, outcome_in, renewal_in, shown_more}
 use Rattle.feed_text.specs.declared.report.Stop.{Stop}
 use Rattle.feed_text.specs.Capture.{datagram_record, renewal_record}
 use Rattle.feed_text.specs.Lines.{venue_line, wins_by}
@@ -61,15 +59,8 @@ kept_more old mid new a b = record {
   earlier = b.earlier ∙ a.earlier;
 }
 
--- a count that is shown goes on from what was shown
-shown_more : (a b c : ℕ) → a ≡ shown b → shown (a + c) ≡ shown (b + c)
-shown_more a b c e = omega arith
-
 streams_more : (h : History) → length (streams_of h) ≡ length (items_of h.earlier) + length (stream_of h.present.packets)
-streams_more h =
-    ap length (flat_map-append (λ (session : Begun). stream_of session.packets) h.earlier (h.present ∷ [])
-    ∙ ap (λ (xs : List Numbered). items_of h.earlier ++ xs) (append-nil (stream_of h.present.packets)))
-    ∙ length-append (items_of h.earlier) (stream_of h.present.packets)
+streams_more h = ap length (items_push h.earlier h.present) ∙ length-append (items_of h.earlier) (stream_of h.present.packets)
 
 -- how many items of all sessions were sent
 pub sent_all : {width place : ℕ} {v : Venue} (h : History) → Follows width place v h → (n : ℕ) → n ≡ shown (v.sent_before + v.arbiter.sent) → n ≡ shown (length (streams_of h))
@@ -77,12 +68,6 @@ sent_all {v = v} h f n e =
     e ∙ shown_more v.sent_before (length (items_of h.earlier)) v.arbiter.sent f.sent_before
     ∙ ap (λ (m : ℕ). shown (length (items_of h.earlier) + m)) f.sent
     ∙ ap shown (sym (streams_more h))
-
--- and how many numbers the line brought first
-pub won_all : {width place : ℕ} {v : Venue} (h : History) → Follows width place v h → (line : LineId) (n : ℕ) → n ≡ shown (count_on line v.arbiter.earlier + wins_of h.present.packets line) → n ≡ shown (wins_in (all_begun h) line)
-won_all {v = v} h f line n e =
-    e ∙ shown_more (count_on line v.arbiter.earlier) (sum_by (λ (session : Begun). wins_of session.packets line) h.earlier) (wins_of h.present.packets line) (f.won_before line)
-    ∙ ap shown (sym (sum_by_push (λ (session : Begun). wins_of session.packets line) h.earlier h.present))
 
 pub last_is : (h : History) (place number sent a b recovery : ℕ) → number ≡ place → sent ≡ shown (length (streams_of h))
     → a ≡ shown (wins_in (all_begun h) A) → b ≡ shown (wins_in (all_begun h) B) → recovery ≡ shown (wins_in (all_begun h) Recovery)
@@ -147,7 +132,7 @@ pub gap_added : (width place : ℕ) (h : History) (v : Venue) (line : LineId) (b
 gap_added width place h v line bytes t0 t1 t2 done x gap =
     let f : Follows width place v x.after = x.follows in
     let G : List Happening = gap_happening place (gap_of x.after.present.name width (sent_of x.after) x.after.present.packets) in
-    let there : TellsBy t1 G t2 done = rw (← f.session, ← f.window, ← f.sent) (gap x.after.present.packets f.fits) in
+    let there : TellsBy t1 G t2 done = rw (← f.history.session, ← f.window, ← f.sent) (gap x.after.present.packets f.history.present) in
     record {
       told = x.told ++ G;
       after = x.after;
@@ -179,16 +164,6 @@ renewal_told width place gaps h v name answer t0 t1 done x tells = record {
   follows = on_ok done x.follows;
 }
 
--- what stays of a venue while its session goes on
-stays_taken : (old mid new : State) → KeepsItsPlace old mid → KeepsAllButSent mid new → KeepsItsSession old new
-stays_taken old mid new a b = record {
-  venue = b.venue ∙ a.venue;
-  sessions = b.sessions ∙ a.sessions;
-  session = b.session ∙ a.session;
-  window = b.window ∙ a.window;
-  earlier = b.earlier ∙ a.earlier;
-}
-
 -- what a venue is after a packet and all that it made ready
 pub record Left (v : Venue) (Q : List Arrival) (new : State) : Type 0 where
   pub fits : Fits new Q
@@ -199,19 +174,12 @@ left_follows : (width place : ℕ) (h : History) (v : Venue) (new : State) (a : 
     → Follows width place v h → Left v (h.present.packets ++ a ∷ []) new
     → Follows width place (record { arbiter = new; sent_before = v.sent_before }) (after_arrival h a)
 left_follows width place h v new a f x = record {
-  fits = x.fits;
+  history = fits_packet h a f.history x.stays x.fits;
   number = x.stays.venue ∙ f.number;
   window = x.stays.window ∙ f.window;
-  sessions = x.stays.sessions ∙ f.sessions ∙ same_names h.earlier;
-  session = x.stays.session ∙ f.session;
   sent = x.sent;
   sent_before = f.sent_before;
-  won_before = λ each. ap (λ (c : Counts). count_on each c) x.stays.earlier ∙ f.won_before each;
 }
-  where
-    same_names : (earlier : List Begun) → names_of (record h { earlier = earlier }) ≡ names_of (record (after_arrival h a) { earlier = earlier })
-    same_names [] = refl
-    same_names (b ∷ rest) = ap (λ (names : List (List ℕ)). b.name ∷ names) (same_names rest)
 
 -- a packet was answered, and what it made ready was told behind it
 pub outcome_told : (width place : ℕ) (h : History) (v : Venue) (new : State) (line : LineId) (p : Content) (answer : Result Outcome LineFault) (t0 t1 : Tale) (done : Result (Unit {0}) Stop)
@@ -224,7 +192,7 @@ outcome_told width place h v new line p answer t0 t1 done f outcome tells left =
     let Q = h.present.packets ++ arrival_of line p answer ∷ [] in
     record {
       answer = answer;
-      outcome = rw (← f.session, ← f.window, ← f.sent) outcome;
+      outcome = rw (← f.window, ← f.sent) (outcome_in h p answer f.history outcome);
       tells = tells_as t0 t1 done (ap (λ (n : ℕ). packet_answered place line answer ∷ map (item_taken place) (drop n (stream_of Q))) f.sent) tells;
       follows = on_ok_weaker done (left_follows width place h v new (arrival_of line p answer) f) left;
     }
@@ -241,9 +209,9 @@ pub answered_told : (width place : ℕ) (h : History) (v : Venue) (mid new : Sta
     → TellsOutcome width place line p h t0 t1 (record { arbiter = new; sent_before = v.sent_before }) done
 answered_told width place h v mid new line p answer t0 t1 done f outcome fits kept tells left stays =
     let Q = h.present.packets ++ arrival_of line p answer ∷ [] in
-    outcome_told width place h v new line p answer t0 t1 done f (outcome h.present.packets f.fits)
+    outcome_told width place h v new line p answer t0 t1 done f (outcome h.present.packets f.history.present)
     (tells_as t0 t1 done (ap (λ (n : ℕ). packet_answered place line answer ∷ map (item_taken place) (drop n (stream_of Q))) kept.sent)
-    (tells Q (fits h.present.packets f.fits)))
+    (tells Q (fits h.present.packets f.history.present)))
     (both done left stays)
   where
     both : (r : Result (Unit {0}) Stop)
@@ -251,8 +219,8 @@ answered_told width place h v mid new line p answer t0 t1 done f outcome fits ke
         → OnOk r (KeepsAllButSent mid new)
         → OnOk r (Left v (h.present.packets ++ arrival_of line p answer ∷ []) new)
     both (Ok u) a b =
-        let x = a (h.present.packets ++ arrival_of line p answer ∷ []) (fits h.present.packets f.fits) in
-        record { fits = x.0; sent = x.1; stays = stays_taken v.arbiter mid new kept b }
+        let x = a (h.present.packets ++ arrival_of line p answer ∷ []) (fits h.present.packets f.history.present) in
+        record { fits = x.0; sent = x.1; stays = keeps_sent (keeps_session kept) b }
     both (Err e) a b = tt
 
 -- the next session began
@@ -264,19 +232,29 @@ pub renewed_follows : (width place : ℕ) (h : History) (v : Venue) (new : State
     → sent ≡ shown (length (streams_of h))
     → Renews width place name h (record { arbiter = new; sent_before = sent }) (Ok ordinal)
 renewed_follows width place h v new name ordinal sent f is renewed fits count = record {
-  is =
-      subst (λ (names : List (List ℕ)). IsRenewal names (end_of h.present.packets) (sent_of h) name (Ok ordinal)) f.sessions
-      (subst (λ (end : Option ℕ). IsRenewal v.arbiter.sessions end (sent_of h) name (Ok ordinal)) f.fits.end
-      (subst (λ (n : ℕ). IsRenewal v.arbiter.sessions v.arbiter.end n name (Ok ordinal)) f.sent is));
+  is = subst (λ (n : ℕ). IsRenewal (names_of h) (end_of h.present.packets) n name (Ok ordinal)) f.sent (renewal_in h name (Ok ordinal) f.history is);
   follows = record {
-    fits = fits;
+    history = fits_renewal h name f.history renewed fits;
     number = renewed.venue ∙ f.number;
     window = renewed.window ∙ f.window;
-    sessions = renewed.sessions ∙ ap (λ (names : List (List ℕ)). names ++ name ∷ []) f.sessions
-        ∙ sym (map-append (λ (session : Begun). session.name) (all_begun h) (new_session name ∷ []));
-    session = renewed.begun.session;
     sent = renewed.begun.sent;
     sent_before = count;
-    won_before = λ each. ap (λ (c : Counts). count_on each c) renewed.earlier ∙ won_all h f each (count_on each v.arbiter.wins) (f.fits.wins each);
   };
+}
+
+pub not_renewed : (width place : ℕ) (h : History) (v : Venue) (name : List ℕ) (fault : RenewFault)
+    → Follows width place v h → IsRenewal v.arbiter.sessions v.arbiter.end v.arbiter.sent name (Err fault) → Renews width place name h v (Err fault)
+not_renewed width place h v name fault f is = record {
+  is = subst (λ (n : ℕ). IsRenewal (names_of h) (end_of h.present.packets) n name (Err fault)) f.sent (renewal_in h name (Err fault) f.history is);
+  follows = f;
+}
+
+-- a venue to which nothing came
+pub new_follows : (width place : ℕ) (s : State) (session : List ℕ) → IsNew s place session width → Fits s [] → Follows width place (record { arbiter = s; sent_before = 0 }) (new_history session)
+new_follows width place s session new fits = record {
+  history = fits_new new fits;
+  number = new.venue;
+  window = new.window;
+  sent = new.begun.sent;
+  sent_before = refl;
 }

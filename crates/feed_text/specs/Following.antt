@@ -8,12 +8,12 @@ use Rattle.line_arbiter.specs.declared.outcome.LineFault.{LineFault}
 use Rattle.line_arbiter.specs.declared.faults.RenewFault.{RenewFault}
 use Rattle.line_arbiter.specs.Packets.{Arrival, arrival_of, end_of}
 use Rattle.line_arbiter.specs.Streams.{stream_of}
-use Rattle.line_arbiter.specs.Histories.{History, items_of, names_of, after_arrival, history_after, wins_in}
+use Rattle.line_arbiter.specs.Histories.{History, items_of, names_of, after_arrival, history_after}
 use Rattle.line_arbiter.specs.Outcomes.{IsOutcome}
 use Rattle.line_arbiter.specs.Renewals.{IsRenewal}
-use Rattle.line_arbiter.specs.Counts.{count_on, shown}
+use Rattle.line_arbiter.specs.Counts.{shown}
 use Rattle.line_arbiter.specs.States.{State, KeepsAllButSent}
-use Rattle.line_arbiter.specs.Fits.{Fits}
+use Rattle.line_arbiter.specs.Fits.{Fits, FitsHistory}
 use Rattle.feed_text.specs.declared.fault.ReplayFault.{ReplayFault}
 use Rattle.feed_text.specs.declared.fault.ReplayFault.TheVariants as faults
 use Rattle.feed_text.specs.declared.report.Stop.{Stop}
@@ -34,15 +34,11 @@ pub record Venue : Type 0 where
 -- The venue, at this place and with a window of this width, is that to which this came, and all
 -- that is ready was sent.
 pub record Follows (width place : ℕ) (v : Venue) (h : History) : Type 0 where
-  pub fits : Fits v.arbiter h.present.packets
+  pub history : FitsHistory v.arbiter h
   pub number : v.arbiter.venue ≡ place
   pub window : v.arbiter.window ≡ width
-  pub sessions : v.arbiter.sessions ≡ names_of h
-  pub session : v.arbiter.session ≡ h.present.name
   pub sent : v.arbiter.sent ≡ sent_of h
   pub sent_before : v.sent_before ≡ shown (length (items_of h.earlier))
-  pub won_before : (line : LineId) → count_on line v.arbiter.earlier
-      ≡ shown (wins_in h.earlier line)
 
 -- The items that are ready were taken, each once and in sequence, and where all of them were the
 -- arbiter has sent them, and keeps the rest.

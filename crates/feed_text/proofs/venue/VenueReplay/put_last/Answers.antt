@@ -2,7 +2,8 @@ use Rattle.std.proofs.Common.{◌++◌, List, ap, sym, ◌∙◌, subst}
 use Rattle.std.specs.Prelude.{ℕ}
 use Rattle.std.proofs.lemmas.Result.{on_ok_weaker}
 use Rattle.feed_text.specs.Following.{Venue, Follows}
-use Rattle.feed_text.proofs.VenueSteps.{last_is, won_all}
+use Rattle.line_arbiter.proofs.FitsHistory.{wins_shown}
+use Rattle.feed_text.proofs.VenueSteps.{last_is}
 use Rattle.feed_text.proofs.venue.VenueReplay.put_last.Goals as goal
 use Rattle.feed_types.specs.declared.line.LineId.TheVariants.{A, B, Recovery}
 
@@ -15,7 +16,7 @@ returns c =
     (last_is h place c.venue.result c.sent.result c.wins.result c.wins-2.result c.wins-3.result
     (c.venue.ensures ∙ ap (λ (v : Venue). v.arbiter.venue) c.self.view_is ∙ f.number)
     (c.sent.ensures width place h f)
-    (won_all h g A c.wins.result (c.wins.ensures.session h.present.packets g.fits))
-    (won_all h g B c.wins-2.result (c.wins-2.ensures.session h.present.packets g.fits))
-    (won_all h g Recovery c.wins-3.result (c.wins-3.ensures.session h.present.packets g.fits))))
+    (c.wins.ensures.session h.present.packets g.history.present ∙ wins_shown h g.history A)
+    (c.wins-2.ensures.session h.present.packets g.history.present ∙ wins_shown h g.history B)
+    (c.wins-3.ensures.session h.present.packets g.history.present ∙ wins_shown h g.history Recovery)))
     c.put_venue.ensures.line
