@@ -4,6 +4,7 @@ pub mod Eligible
 pub mod Nationals
 pub mod Changes
 pub mod Books
+pub mod Refusals
 pub mod Codes
 pub mod Ranks
 pub mod Rows

@@ -1,14 +1,13 @@
 //! The book: the protected sides of all configured symbols.
 
-ghost use Rattle.std.specs.Prelude.{◌≡◌, ◌↔◌, ◌⊎◌, ◌<◌, ◌≤◌, ◌+◌, ◌++◌, ◌∷◌, [], List, length, map, IfOk, OnOk, IsErrOf, IfSome, IsSome, IsTrue, Some, false};
-ghost use Rattle.std.specs.List.{IsDistinct};
-ghost use Rattle.std.specs.Str.{bytes_eq};
+ghost use Rattle.std.specs.Prelude.{◌≡◌, ◌↔◌, ◌<◌, ◌≤◌, ◌+◌, ◌++◌, ◌∷◌, [], List, length, map, IfOk, IfSome, IsSome, IsTrue, Some, false};
 ghost use Rattle.std.specs.Vec.{vec_len, vec_capacity};
 ghost use Rattle.feed_types.specs.declared.journal.Entry.{Entry};
 ghost use Rattle.nbbo_book.specs.Books.{Fits, venue_of, is_configured};
 ghost use Rattle.nbbo_book.specs.Eligible.{is_self_helped as self_helped};
 ghost use Rattle.nbbo_book.specs.Nationals.{national_of, IsRanking};
 ghost use Rattle.nbbo_book.specs.Changes.{changes_by};
+ghost use Rattle.nbbo_book.specs.Refusals.{ConfiguresBook};
 ghost use Rattle.nbbo_book.specs.Rows.{empty_row};
 
 use crate::change::Change;
@@ -82,14 +81,7 @@ impl Book {
         ensures symbols { IfOk result (λ book. book.symbols ≡ symbols.now) }
         ensures venues { IfOk result (λ book. book.venues ≡ venue_count) }
         ensures last { IfOk result (λ book. book.last ≡ 0) }
-        ensures distinct { OnOk result (IsDistinct bytes_eq symbols.now) }
-        ensures bad_venue_count { IsErrOf result BookFault.BadVenueCount
-            ↔ ((venue_count ≡ 0) ⊎ (16 < venue_count)) }
-        ensures too_many_symbols { IsErrOf result BookFault.TooManySymbols
-            ↔ ((0 < venue_count) × (venue_count ≤ 16) × (4096 < length symbols.now)) }
-        ensures duplicate_symbol { IsErrOf result BookFault.DuplicateSymbol
-            → (0 < venue_count) × (venue_count ≤ 16) × (length symbols.now ≤ 4096)
-            × (¬ IsDistinct bytes_eq symbols.now) }
+        ensures answer { ConfiguresBook symbols.now venue_count result }
     {
         if venue_count == 0 || venue_count > MAX_VENUES {
             return Err(BookFault::BadVenueCount);
