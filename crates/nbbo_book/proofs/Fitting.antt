@@ -12,9 +12,12 @@ use Rattle.nbbo_book.specs.declared.venue_side.VenueSide.{VenueSide}
 use Rattle.nbbo_book.specs.declared.row.Row.{Row}
 use Rattle.nbbo_book.specs.Sides.{quoted_by, side_said, side_of, is_same_side, age_of}
 use Rattle.nbbo_book.specs.Eligible.{is_self_helped, halt_said, is_halted}
-use Rattle.nbbo_book.specs.Books.{venue_side_at, SideFits, RowFits, venue_of}
-use Rattle.nbbo_book.specs.Rows.{BookSide, may_at, side_at, side_set, side_quoted, row_quoted, row_halted, row_after, row_after_item, helped_after}
+use Rattle.nbbo_book.specs.Books.{SideFits, RowFits, venue_of}
+use Rattle.nbbo_book.specs.Rows.{may_at, side_at, row_quoted, row_halted, row_after, row_after_item, helped_after}
 use Rattle.nbbo_book.specs.Tables.{IsRow}
+use Rattle.nbbo_book.specs.VenueSides.{venue_side_at}
+use Rattle.nbbo_book.specs.declared.book_side.BookSide.{BookSide}
+use Rattle.nbbo_book.specs.BookSides.{side_set, side_quoted}
 use Rattle.nbbo_book.proofs.Ranking.{nat_refl, nat_split}
 use Rattle.nbbo_book.proofs.Said.{side_of-put, helped-put, halted-put, age-kept, age-new, same_side_sound}
 use Rattle.nbbo_book.proofs.Kept.{set_at, set_off, apart_from, venue_side_set, venue_side_off}
@@ -81,8 +84,8 @@ halts_set es e v x s xs below long says h = λ w l. nat_split w v (get_or (set x
 
 row_waits : (es : List Entry) (e : Entry) (r : Row) → ((w : ℕ) (b : Side) → side_said w r.symbol b e ≡ None) → ((w : ℕ) → halt_said w r.symbol e ≡ None) → RowFits es r → RowFits (es ++ e ∷ []) r
 row_waits es e r sides halts h = record {
-  bids = fits_stay es e r.symbol Bid r.venue_sides.bids (λ w l. unsaid es e w r.symbol Bid (sides w Bid)) h.bids;
-  offers = fits_stay es e r.symbol Offer r.venue_sides.offers (λ w l. unsaid es e w r.symbol Offer (sides w Offer)) h.offers;
+  bids = fits_stay es e r.symbol Bid r.bids.venue_sides (λ w l. unsaid es e w r.symbol Bid (sides w Bid)) h.bids;
+  offers = fits_stay es e r.symbol Offer r.offers.venue_sides (λ w l. unsaid es e w r.symbol Offer (sides w Offer)) h.offers;
   halted = halts_stay es e r.symbol r.halted halts h.halted;
 }
 
@@ -103,8 +106,8 @@ item_fits es v number n m (item.Halt s x) helped flags r below young is h =
     let R : Bool → Type 0 = λ t. bytes_eq s r.symbol ≡ t → RowFits (es ++ e ∷ []) (cond t (row_halted helped v x r) r) in
     (elim (bytes_eq s r.symbol) as R [
       | true ↦ λ k. record {
-        bids = fits_stay es e r.symbol Bid r.venue_sides.bids (λ w l. unsaid es e w r.symbol Bid (cond_same (nat_eq v w) None)) h.bids;
-        offers = fits_stay es e r.symbol Offer r.venue_sides.offers (λ w l. unsaid es e w r.symbol Offer (cond_same (nat_eq v w) None)) h.offers;
+        bids = fits_stay es e r.symbol Bid r.bids.venue_sides (λ w l. unsaid es e w r.symbol Bid (cond_same (nat_eq v w) None)) h.bids;
+        offers = fits_stay es e r.symbol Offer r.offers.venue_sides (λ w l. unsaid es e w r.symbol Offer (cond_same (nat_eq v w) None)) h.offers;
         halted = halts_set es e v x r.symbol r.halted below is.count (λ w. ap (λ t. cond (nat_eq v w) (cond t (Some x) None) None) k) h.halted;
       }
       | false ↦ λ k. row_waits es e r (λ w b. cond_same (nat_eq v w) None) (λ w. ap (λ t. cond (nat_eq v w) (cond t (Some x) None) None) k ∙ cond_same (nat_eq v w) None) h
@@ -123,8 +126,8 @@ item_fits es v number n m item.End helped flags r below young is h =
 pub row_fits : (es : List Entry) (e : Entry) (n m : ℕ) (helped flags : List Bool) (r : Row) → venue_of e < 16 → n ≡ suc (length es) → IsRow flags m r → RowFits es r → RowFits (es ++ e ∷ []) (row_after helped n e r)
 row_fits es (Consumed v x) n m helped flags r below young is h = item_fits es v x.number n m x.item helped flags r below young is h
 row_fits es (SelfHelp v on) n m helped flags r below young is h = record {
-  bids = fits_stay es (SelfHelp v on) r.symbol Bid r.venue_sides.bids (λ w l. unsaid es (SelfHelp v on) w r.symbol Bid refl) h.bids;
-  offers = fits_stay es (SelfHelp v on) r.symbol Offer r.venue_sides.offers (λ w l. unsaid es (SelfHelp v on) w r.symbol Offer refl) h.offers;
+  bids = fits_stay es (SelfHelp v on) r.symbol Bid r.bids.venue_sides (λ w l. unsaid es (SelfHelp v on) w r.symbol Bid refl) h.bids;
+  offers = fits_stay es (SelfHelp v on) r.symbol Offer r.offers.venue_sides (λ w l. unsaid es (SelfHelp v on) w r.symbol Offer refl) h.offers;
   halted = halts_stay es (SelfHelp v on) r.symbol r.halted (λ w. refl) h.halted;
 }
 

@@ -13,7 +13,7 @@ pub same_best_refl : (o : Option Best) → is_same_best o o ≡ true
 same_best_refl None = refl
 same_best_refl (Some x) = ap (λ t. t && ((nat_eq x.price x.price) && (nat_eq x.size x.size))) (nat_refl x.venue) ∙ ap (λ t. t && (nat_eq x.size x.size)) (nat_refl x.price) ∙ nat_refl x.size
 
-best_same : (x y : Best) → x.venue ≡ y.venue → x.price ≡ y.price → x.size ≡ y.size → x ≡ y
+pub best_same : (x y : Best) → x.venue ≡ y.venue → x.price ≡ y.price → x.size ≡ y.size → x ≡ y
 best_same x y p q r = ap (λ t. record { venue = t; price = x.price; size = x.size }) p ∙ ap (λ t. record { venue = y.venue; price = t; size = x.size }) q ∙ ap (λ t. record { venue = y.venue; price = y.price; size = t }) r
 
 pub same_best_sound : (o p : Option Best) → is_same_best o p ≡ true → o ≡ p

@@ -8,11 +8,16 @@ use Rattle.nbbo_book.specs.declared.side_quote.SideQuote.{SideQuote}
 use Rattle.nbbo_book.specs.declared.venue_side.VenueSide.{VenueSide}
 use Rattle.nbbo_book.specs.Sides.{is_same_side}
 use Rattle.nbbo_book.specs.Eligible.{ranked_by, is_protected}
-use Rattle.nbbo_book.specs.Books.{venue_side_at}
-use Rattle.nbbo_book.specs.Ranks.{InRank, IsIn, IsNewest, without, placed, IsRankingOf}
-use Rattle.nbbo_book.specs.Rows.{BookSide, age_at, rank_at, side_set, side_quoted, side_rechecked, IsPast, IsRanked}
+use Rattle.nbbo_book.specs.declared.ranks.Cause.{Cause}
+use Rattle.nbbo_book.specs.declared.ranks.Cause.TheVariants.{Quoted, Rechecked}
+use Rattle.nbbo_book.specs.declared.ranks.Order.{Order}
+use Rattle.nbbo_book.specs.Ranks.{CanUpdate, IsCause, InRank, IsIn, IsNewest, without, placed, IsRankingOf}
 use Rattle.nbbo_book.specs.Tables.{IsSide}
-use Rattle.nbbo_book.proofs.Said.{and_left}
+use Rattle.nbbo_book.specs.VenueSides.{venue_side_at, age_at}
+use Rattle.nbbo_book.specs.declared.book_side.BookSide.{BookSide}
+use Rattle.nbbo_book.specs.BookSides.{CanRank, IsCausedBy, rank_at, side_set, side_quoted, side_rechecked, IsPast, IsRanked}
+use Rattle.nbbo_book.proofs.Said.{and_left, same_side_refl}
+use Rattle.nbbo_book.proofs.Fronts.{best_same}
 use Rattle.nbbo_book.proofs.Ranking.{nat_split, some_same, ranking_same, ranking_set, ranking_room, without_none, without_nobody, InRank-ages, InRank-without, all_from_in, in_all}
 
 pub set_at : {X : Type 0} (xs : List X) (i : ℕ) (x d : X) → i < length xs → get_or (set xs i x) i d ≡ x
@@ -82,15 +87,6 @@ side_is_ranked b may n k h = record {
   room = λ v l. ranking_room b (rank_at may k.venue_sides) (age_at k.venue_sides) v k.ranks l h.ranked;
 }
 
--- a venue that shows nothing isn't ranked
-not_ranked : (b : Side) (k : BookSide) (v : ℕ) → IsRanked b k → (venue_side_at k.venue_sides v).quote ≡ None → (x : Best) → IsIn k.ranks x → nat_eq x.venue v ≡ false
-not_ranked b k v h none x i = nat_split x.venue v (nat_eq x.venue v ≡ false)
-    (λ q. (let no : None ≡ Some (record { price = x.price; size = x.size; automated = true }) = sym none ∙ ap (λ (w : ℕ). (venue_side_at k.venue_sides w).quote) (sym q) ∙ h.quote x i in cc))
-    (λ d. d)
-
-pub absent_stays : (b : Side) (k : BookSide) (v : ℕ) → IsRanked b k → (venue_side_at k.venue_sides v).quote ≡ None → without v k.ranks ≡ k.ranks
-absent_stays b k v h none = without_nobody v k.ranks (not_ranked b k v h none)
-
 -- the others are in order, also by ages of which the venue's is another one
 pub others_in_order : (b : Side) (k : BookSide) (v : ℕ) → IsRanked b k → InRank b (age_at k.venue_sides) (without v k.ranks)
 others_in_order b k v h = InRank-without b (age_at k.venue_sides) v k.ranks h.order
@@ -116,12 +112,6 @@ others_older b k v x st below at past h =
     let other : nat_eq y.venue v ≡ false = in_all (λ z. nat_eq z.venue v ≡ false) (without v k.ranks) (h.once v) y i in
     let its : age_at ss y.venue ≤ st.age = subst (λ (n : ℕ). n ≤ st.age) (sym (ap (λ (t : VenueSide). t.age) (venue_side_off k.venue_sides v y.venue st other))) (age_at_most st.age k.venue_sides y.venue past h.count) in
     grind (arith, own, its))
-
--- leave to rank changes nothing where the venue shows nothing
-pub rechecked_absent : (b : Side) (k : BookSide) (v : ℕ) (may : Bool) → IsRanked b k → (venue_side_at k.venue_sides v).quote ≡ None → (side_rechecked b v may k).ranks ≡ k.ranks
-rechecked_absent b k v may h none =
-    ap (λ o. placed b (age_at k.venue_sides) o (without v k.ranks)) (ap (ranked_by may v) none ∙ ranked_nothing may v)
-    ∙ absent_stays b k v h none
 
 -- more entries, of which none concerns the side
 pub side_waits : (b : Side) (may more : ℕ → Bool) (n m : ℕ) (k : BookSide) → n ≤ m → ((w : ℕ) → w < 16 → rank_at may k.venue_sides w ≡ rank_at more k.venue_sides w) → IsSide b may n k → IsSide b more m k
@@ -206,3 +196,47 @@ side_quoted-is b may more n k v o here below same leave alike sound h =
           (λ there w c d too same_age. (let p = h.past w c in omega (arith, p, same_age)))
           same leave h
     ]) refl
+
+-- a side that isn't what the venue showed isn't ranked yet
+pub not_among : (b : Side) (k : BookSide) (v : ℕ) (st : VenueSide) (x : Best) → v < 16 → IsRanked b k → is_same_side (venue_side_at k.venue_sides v).quote st.quote ≡ false → ranked_by true v (venue_side_at (set k.venue_sides v st) v).quote ≡ Some x → IsIn k.ranks x → ⊥
+not_among b k v st x below h differs e i =
+    let shown : st.quote ≡ Some (record { price = x.price; size = x.size; automated = true }) =
+    ap (λ (t : VenueSide). t.quote) (sym (venue_side_set k.venue_sides v st (omega (arith, below, h.count)))) ∙ ranked_as true v (venue_side_at (set k.venue_sides v st) v).quote x e in
+    let was : (venue_side_at k.venue_sides v).quote ≡ Some (record { price = x.price; size = x.size; automated = true }) =
+    ap (λ (n : ℕ). (venue_side_at k.venue_sides n).quote) (sym (ranked_own true v (venue_side_at (set k.venue_sides v st) v).quote x e)) ∙ h.quote x i in
+    let no : true ≡ false = sym (same_side_refl st.quote) ∙ ap (λ o. is_same_side o st.quote) (shown ∙ sym was) ∙ differs in cc
+
+-- ranked anew by what was set, a side is what it is with that
+pub rechecked_set : (b : Side) (k : BookSide) (v : ℕ) (st : VenueSide) (may : Bool) → v < length k.venue_sides → side_rechecked b v may (record { venue_sides = set k.venue_sides v st; ranks = k.ranks }) ≡ side_set b v st may k
+rechecked_set b k v st may below =
+    ap (λ (t : VenueSide). record { venue_sides = set k.venue_sides v st; ranks = placed b (age_at (set k.venue_sides v st)) (ranked_by may v t.quote) (without v k.ranks) }) (venue_side_set k.venue_sides v st below)
+
+may_be_ranked : (m : Bool) (v : ℕ) (o : Option SideQuote) (x : Best) → ranked_by m v o ≡ Some x → ranked_by true v o ≡ Some x
+may_be_ranked false v o x e = cc
+may_be_ranked true v o x e = e
+
+-- what is ranked anew by a cause
+by_cause : (c : Cause) (b : Side) (k : BookSide) (v : ℕ) (may : Bool) (x : Best) → IsCausedBy c b v k → ranked_by may v (venue_side_at k.venue_sides v).quote ≡ Some x → IsCause c b (age_at k.venue_sides) x k.ranks
+by_cause Quoted b k v may x h e =
+    let o = (venue_side_at k.venue_sides v).quote in
+    let n = h x (may_be_ranked may v o x e) in
+    (subst (λ (u : ℕ). IsNewest (age_at k.venue_sides) x (without u k.ranks)) (sym (ranked_own may v o x e)) n.0, n.1)
+by_cause Rechecked b k v may x h e =
+    let o = (venue_side_at k.venue_sides v).quote in (
+      h.order,
+      λ y i q.
+          let same : record { price = y.price; size = y.size; automated = true } ≡ record { price = x.price; size = x.size; automated = true } =
+          some_same (sym (h.quote y i) ∙ ap (λ (u : ℕ). (venue_side_at k.venue_sides u).quote) (q ∙ ranked_own may v o x e) ∙ ranked_as may v o x e) in
+          best_same y x q (ap (λ (t : SideQuote). t.price) same) (ap (λ (t : SideQuote). t.size) same),
+    )
+
+pub can_update : (order : Order) (v : ℕ) (may : Bool) (ranks : List Best) (best : Option Best) → v < 16 → CanRank order.side v order.cause (record { venue_sides = order.venue_sides.now; ranks = ranks }) → best ≡ ranked_by may v (venue_side_at order.venue_sides.now v).quote → CanUpdate order v best ranks
+can_update order v may ranks best below h is =
+    let k : BookSide = record { venue_sides = order.venue_sides.now; ranks = ranks } in
+    record {
+      others = h.others;
+      once = h.once;
+      room = h.room below;
+      own = λ x e. ranked_own may v (venue_side_at order.venue_sides.now v).quote x (sym is ∙ e);
+      caused = λ x e. by_cause order.cause order.side k v may x h.caused (sym is ∙ e);
+    }

@@ -1,11 +1,13 @@
 -- A side that moves past its neighbours, one place at a time.
-use Rattle.std.proofs.Common.{ℕ, zero, suc, ◌<◌, ◌≤◌, ◌≡◌, List, [], ◌∷◌, ◌++◌, Bool, true, false, refl, ap, sym, ◌∙◌, subst, arith, length, take, drop, set, get_or, cond, add-one, nat_eq, nat_lt, inl, inr}
+use Rattle.std.proofs.Common.{ℕ, zero, suc, ◌+◌, ◌<◌, ◌≤◌, ◌≡◌, List, [], ◌∷◌, ◌++◌, Bool, true, false, refl, ap, sym, ◌∙◌, subst, arith, length, take, drop, set, get_or, cond, add-one, nat_eq, nat_lt, inl, inr}
 use Rattle.std.specs.List.{insert, remove, refill, AllByRecursion}
 use Rattle.std.proofs.lemmas.List.Edits.{length-remove}
 use Rattle.feed_types.specs.declared.line.Side.{Side}
 use Rattle.feed_types.specs.declared.national.Best.{Best}
 use Rattle.nbbo_book.specs.Nationals.{beats}
-use Rattle.nbbo_book.specs.Ranks.{InRank, IsIn, IsNewest, IsPlace, is_better, without, with_rank}
+use Rattle.nbbo_book.specs.declared.ranks.Cause.{Cause}
+use Rattle.nbbo_book.specs.declared.ranks.Cause.TheVariants.{Quoted, Rechecked}
+use Rattle.nbbo_book.specs.Ranks.{InRank, IsIn, IsNewest, is_ahead_by, is_better, without, with_rank}
 use Rattle.nbbo_book.proofs.Beating.{beats_chain, beats_one_way, newest_beats}
 use Rattle.nbbo_book.proofs.Ranking.{nat_same, nat_refl, in_all}
 use Rattle.nbbo_book.proofs.Kept.{set_off}
@@ -135,33 +137,20 @@ pub searched_all : (v : ℕ) (xs : List Best) → take (length xs) xs ++ without
 searched_all v [] = refl
 searched_all v (x ∷ xs) = ap (λ t. x ∷ t) (searched_all v xs)
 
--- a search for the place of a side that has come to a place
-pub placed_on : (b : Side) (f : ℕ → ℕ) (x : Best) (xs : List Best) (i : ℕ) (d : Best) → i < length xs → beats b f x (get_or xs i d) ≡ false → take i xs ++ with_rank b f x (drop i xs) ≡ take (suc i) xs ++ with_rank b f x (drop (suc i) xs)
-placed_on b f x [] i d h e = absurd (omega (arith, h))
-placed_on b f x (y ∷ ys) zero d h e = ap (λ t. cond t (x ∷ y ∷ ys) (y ∷ with_rank b f x ys)) e
-placed_on b f x (y ∷ ys) (suc i) d h e = ap (λ t. y ∷ t) (placed_on b f x ys i d (omega (arith, h)) e)
-
-pub placed_here : (b : Side) (f : ℕ → ℕ) (x : Best) (xs : List Best) (i : ℕ) (d : Best) → i < length xs → beats b f x (get_or xs i d) ≡ true → insert xs i x ≡ take i xs ++ with_rank b f x (drop i xs)
-placed_here b f x [] i d h e = absurd (omega (arith, h))
-placed_here b f x (y ∷ ys) zero d h e = ap (λ t. cond t (x ∷ y ∷ ys) (y ∷ with_rank b f x ys)) (sym e)
-placed_here b f x (y ∷ ys) (suc i) d h e = ap (λ t. y ∷ t) (placed_here b f x ys i d (omega (arith, h)) e)
-
-pub placed_last : (b : Side) (f : ℕ → ℕ) (x : Best) (xs : List Best) → insert xs (length xs) x ≡ take (length xs) xs ++ with_rank b f x (drop (length xs) xs)
-placed_last b f x [] = refl
-placed_last b f x (y ∷ ys) = ap (λ t. y ∷ t) (placed_last b f x ys)
-
 pub in_at : (xs : List Best) (i : ℕ) (d : Best) → i < length xs → IsIn xs (get_or xs i d)
 in_at [] i d h = absurd (omega (arith, h))
 in_at (x ∷ xs) zero d h = inl refl
 in_at (x ∷ xs) (suc i) d h = inr (in_at xs i d (omega (arith, h)))
 
--- what is the newest of all stands at its rank where price and size say so
-pub newest_here : (b : Side) (f : ℕ → ℕ) (x : Best) (ys : List Best) (k : ℕ) → IsPlace b x ys k → InRank b f ys → IsNewest f x ys → insert ys k x ≡ with_rank b f x ys
-newest_here b f x ys k h order newest =
-    let by : (j : ℕ) → j < length ys → beats b f x (get_or ys j x) ≡ is_better b x (get_or ys j x) = λ j l. newest_beats b f x (get_or ys j x) (in_all (λ y. nat_lt (f x.venue) (f y.venue) ≡ false) ys newest (get_or ys j x) (in_at ys j x l)) in
-    ranked_here b f x ys k h.within order
-    (λ j e. (let w = h.within in by j (omega (arith, w, e))) ∙ h.before j (e ∙ sym (add-one j)))
-    (λ l. by k l ∙ h.at l)
+-- a side stands at its rank where the walk of its cause has come to an end
+pub walked_here : (c : Cause) (b : Side) (f : ℕ → ℕ) (x : Best) (ys : List Best) (k : ℕ) → k ≤ length ys → ((j : ℕ) → k ≡ j + 1 → is_ahead_by c b f x (get_or ys j x) ≡ false) → (k < length ys → is_ahead_by c b f x (get_or ys k x) ≡ true) → InRank b f ys → (c ≡ Quoted → IsNewest f x ys) → insert ys k x ≡ with_rank b f x ys
+walked_here Quoted b f x ys k within before at order newest =
+    let by : (j : ℕ) → j < length ys → beats b f x (get_or ys j x) ≡ is_better b x (get_or ys j x) = λ j l. newest_beats b f x (get_or ys j x) (in_all (λ y. nat_lt (f x.venue) (f y.venue) ≡ false) ys (newest refl) (get_or ys j x) (in_at ys j x l)) in
+    ranked_here b f x ys k within order
+    (λ j e. by j (omega (arith, within, e)) ∙ before j (e ∙ sym (add-one j)))
+    (λ l. by k l ∙ at l)
+walked_here Rechecked b f x ys k within before at order newest =
+    ranked_here b f x ys k within order (λ j e. before j (e ∙ sym (add-one j))) at
 
 -- the first of these ranks stays it
 first_again : (b : Side) (f : ℕ → ℕ) (x : Best) (ys : List Best) → AllByRecursion (λ y. beats b f x y ≡ true) ys → with_rank b f x ys ≡ x ∷ ys

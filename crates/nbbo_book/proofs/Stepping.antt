@@ -15,17 +15,20 @@ use Rattle.feed_types.specs.declared.line.Side.{Side}
 use Rattle.feed_types.specs.declared.line.Side.TheVariants.{Bid, Offer}
 use Rattle.feed_types.specs.declared.national.National.{National}
 use Rattle.nbbo_book.specs.declared.venue_side.VenueSide.{VenueSide}
-use Rattle.nbbo_book.specs.Rows.{BookSide, side_at}
+use Rattle.nbbo_book.specs.Rows.{side_at}
 use Rattle.nbbo_book.specs.declared.row.Row.{Row}
 use Rattle.nbbo_book.specs.declared.change.Change.{Change}
 use Rattle.nbbo_book.specs.Sides.{quoted_by, side_of, age_of}
 use Rattle.nbbo_book.specs.Eligible.{ranked_by, may_rank, is_self_helped, eligible_of}
 use Rattle.nbbo_book.specs.Nationals.{national_of, best_of}
 use Rattle.nbbo_book.specs.Changes.{is_same_best, is_same_national, change_of, changes_by}
-use Rattle.nbbo_book.specs.Books.{venue_side_at, SideFits, RowFits, venue_of}
+use Rattle.nbbo_book.specs.Books.{SideFits, RowFits, venue_of}
 use Rattle.nbbo_book.specs.Ranks.{front_of, IsRankingOf}
-use Rattle.nbbo_book.specs.Rows.{age_at, may_at, rank_at, row_quoted, row_rechecked, row_halted, row_after, row_after_item, row_change, national_at, helped_after, symbol_in, symbol_in_item, IsRowRanked}
+use Rattle.nbbo_book.specs.Rows.{may_at, row_quoted, row_rechecked, row_halted, row_after, row_after_item, row_change, national_at, helped_after, symbol_in, symbol_in_item, IsRowRanked}
 use Rattle.nbbo_book.specs.Tables.{IsSide, IsRow, symbols_of}
+use Rattle.nbbo_book.specs.declared.book_side.BookSide.{BookSide}
+use Rattle.nbbo_book.specs.VenueSides.{venue_side_at, age_at}
+use Rattle.nbbo_book.specs.BookSides.{rank_at}
 use Rattle.nbbo_book.proofs.Ranking.{ranking_same}
 use Rattle.nbbo_book.proofs.Kept.{long_set, set_off, apart_from, ranked_own, ranked_nothing, side_is_ranked, side_waits, side_rechecked-is, side_quoted-is}
 use Rattle.nbbo_book.proofs.Said.{same_side_sound}
@@ -55,8 +58,8 @@ item_is helped n v (item.Quote q) r below h =
     let R : Bool → Type 0 = λ t. IsRow helped (n + 1) (cond t (row_quoted helped v q n r) r) in
     elim (bytes_eq q.symbol r.symbol) as R [
       | true ↦ record {
-        bids = side_quoted-is Bid may may n (side_at Bid r) v (Some (quoted_by q Bid)) (may v) below (λ w e. refl) refl refl (same_side_sound (venue_side_at r.venue_sides.bids v).quote (Some (quoted_by q Bid))) h.bids;
-        offers = side_quoted-is Offer may may n (side_at Offer r) v (Some (quoted_by q Offer)) (may v) below (λ w e. refl) refl refl (same_side_sound (venue_side_at r.venue_sides.offers v).quote (Some (quoted_by q Offer))) h.offers;
+        bids = side_quoted-is Bid may may n (side_at Bid r) v (Some (quoted_by q Bid)) (may v) below (λ w e. refl) refl refl (same_side_sound (venue_side_at r.bids.venue_sides v).quote (Some (quoted_by q Bid))) h.bids;
+        offers = side_quoted-is Offer may may n (side_at Offer r) v (Some (quoted_by q Offer)) (may v) below (λ w e. refl) refl refl (same_side_sound (venue_side_at r.offers.venue_sides v).quote (Some (quoted_by q Offer))) h.offers;
         count = h.count;
       }
       | false ↦ row_waits helped n r h
@@ -74,8 +77,8 @@ item_is helped n v item.End r below h =
     let more = may_at helped (set r.halted v false) in
     let others : (w : ℕ) → nat_eq w v ≡ false → more w ≡ may w = λ w e. ap (λ t. not (slice_index_or helped w false) && not t) (set_off r.halted v w false false (apart_from v w e)) in
     record {
-      bids = side_quoted-is Bid may more n (side_at Bid r) v None false below others (ranked_nothing (more v) v) (ranked_nothing (may v) v ∙ sym (ranked_nothing (more v) v)) (same_side_sound (venue_side_at r.venue_sides.bids v).quote None) h.bids;
-      offers = side_quoted-is Offer may more n (side_at Offer r) v None false below others (ranked_nothing (more v) v) (ranked_nothing (may v) v ∙ sym (ranked_nothing (more v) v)) (same_side_sound (venue_side_at r.venue_sides.offers v).quote None) h.offers;
+      bids = side_quoted-is Bid may more n (side_at Bid r) v None false below others (ranked_nothing (more v) v) (ranked_nothing (may v) v ∙ sym (ranked_nothing (more v) v)) (same_side_sound (venue_side_at r.bids.venue_sides v).quote None) h.bids;
+      offers = side_quoted-is Offer may more n (side_at Offer r) v None false below others (ranked_nothing (more v) v) (ranked_nothing (may v) v ∙ sym (ranked_nothing (more v) v)) (same_side_sound (venue_side_at r.offers.venue_sides v).quote None) h.offers;
       count = long_set r.halted v false ∙ h.count;
     }
 
@@ -131,7 +134,7 @@ may_is es helped r flags fits w l = ap (λ t. not t && not (slice_index_or r.hal
 
 pub national_is : (es : List Entry) (helped : List Bool) (n : ℕ) (r : Row) → ((w : ℕ) → w < 16 → slice_index_or helped w false ≡ is_self_helped es w) → IsRow helped n r → RowFits es r → national_at r ≡ national_of es r.symbol
 national_is es helped n r flags h fits =
-    ap (λ t. record { bid = t; offer = front_of r.offers.items }) (best_is es r.symbol Bid (may_at helped r.halted) n (side_at Bid r) (may_is es helped r flags fits) fits.bids h.bids)
+    ap (λ t. record { bid = t; offer = front_of r.offers.ranks }) (best_is es r.symbol Bid (may_at helped r.halted) n (side_at Bid r) (may_is es helped r flags fits) fits.bids h.bids)
     ∙ ap (λ t. record { bid = best_of es r.symbol Bid; offer = t }) (best_is es r.symbol Offer (may_at helped r.halted) n (side_at Offer r) (may_is es helped r flags fits) fits.offers h.offers)
 
 -- the rows, after one more entry

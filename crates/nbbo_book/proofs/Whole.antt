@@ -12,9 +12,11 @@ use Rattle.nbbo_book.specs.declared.row.Row.{Row}
 use Rattle.nbbo_book.specs.Eligible.{ranked_by, is_self_helped}
 use Rattle.nbbo_book.specs.Nationals.{national_of, IsRanking}
 use Rattle.nbbo_book.specs.Changes.{changes_by}
-use Rattle.nbbo_book.specs.Books.{BookState, venue_side_at, RowFits, Fits, venue_of}
-use Rattle.nbbo_book.specs.Rows.{may_at, ranks_at, side_at, row_after, row_change, national_at, helped_after, empty_venue_sides, empty_row}
+use Rattle.nbbo_book.specs.Books.{BookState, RowFits, Fits, venue_of}
+use Rattle.nbbo_book.specs.Rows.{may_at, side_at, row_after, row_change, national_at, helped_after, empty_row}
 use Rattle.nbbo_book.specs.Tables.{IsSide, IsRow, IsBook, IsTable, symbols_of}
+use Rattle.nbbo_book.specs.VenueSides.{venue_side_at}
+use Rattle.nbbo_book.specs.BookSides.{empty_side}
 use Rattle.nbbo_book.proofs.Eligibility.{ranking_is}
 use Rattle.nbbo_book.proofs.Kept.{ranked_nothing, long_set}
 use Rattle.nbbo_book.proofs.Fitting.{helped_fits}
@@ -67,15 +69,15 @@ national_found keys b es s i d h fits at =
     national_is es b.helped (b.applied + 1) (get_or b.rows i d) fits.helped (all_rows_at (IsRow b.helped (b.applied + 1)) b.rows i d found.0 h.rows) (all_rows_at (RowFits es) b.rows i d found.0 fits.rows)
     ∙ ap (national_of es) found.1
 
-row_ranking : (es : List Entry) (side : Side) (helped : List Bool) (n : ℕ) (r : Row) → ((w : ℕ) → w < 16 → slice_index_or helped w false ≡ is_self_helped es w) → IsRow helped n r → RowFits es r → IsRanking es r.symbol side (ranks_at side r)
-row_ranking es Bid helped n r flags h fits = ranking_is es r.symbol Bid r.bids.items (side_ranking es r.symbol Bid (may_at helped r.halted) n (side_at Bid r) (may_is es helped r flags fits) fits.bids h.bids)
-row_ranking es Offer helped n r flags h fits = ranking_is es r.symbol Offer r.offers.items (side_ranking es r.symbol Offer (may_at helped r.halted) n (side_at Offer r) (may_is es helped r flags fits) fits.offers h.offers)
+row_ranking : (es : List Entry) (side : Side) (helped : List Bool) (n : ℕ) (r : Row) → ((w : ℕ) → w < 16 → slice_index_or helped w false ≡ is_self_helped es w) → IsRow helped n r → RowFits es r → IsRanking es r.symbol side (side_at side r).ranks
+row_ranking es Bid helped n r flags h fits = ranking_is es r.symbol Bid r.bids.ranks (side_ranking es r.symbol Bid (may_at helped r.halted) n (side_at Bid r) (may_is es helped r flags fits) fits.bids h.bids)
+row_ranking es Offer helped n r flags h fits = ranking_is es r.symbol Offer r.offers.ranks (side_ranking es r.symbol Offer (may_at helped r.halted) n (side_at Offer r) (may_is es helped r flags fits) fits.offers h.offers)
 
-pub ranking_found : (keys : List ℕ) (b : BookState) (es : List Entry) (s : List ℕ) (side : Side) (i : ℕ) (d : Row) → IsBook keys b → Fits b es → position (bytes_eq s) (symbols_of b.rows) ≡ Some i → IsRanking es s side (ranks_at side (get_or b.rows i d))
+pub ranking_found : (keys : List ℕ) (b : BookState) (es : List Entry) (s : List ℕ) (side : Side) (i : ℕ) (d : Row) → IsBook keys b → Fits b es → position (bytes_eq s) (symbols_of b.rows) ≡ Some i → IsRanking es s side (side_at side (get_or b.rows i d)).ranks
 ranking_found keys b es s side i d h fits at =
     let found = found_symbol b.rows s i d at in
     let r : Row = get_or b.rows i d in
-    subst (λ (t : List ℕ). IsRanking es t side (ranks_at side r)) found.1
+    subst (λ (t : List ℕ). IsRanking es t side (side_at side r).ranks) found.1
     (row_ranking es side b.helped (b.applied + 1) r fits.helped (all_rows_at (IsRow b.helped (b.applied + 1)) b.rows i d found.0 h.rows) (all_rows_at (RowFits es) b.rows i d found.0 fits.rows))
 
 -- a new book
@@ -87,10 +89,10 @@ all_alike (suc n) (suc v) x = all_alike n v x
 abbrev unknown : VenueSide
 unknown = record { quote = None; age = 0 }
 
-nothing_stands : (v : ℕ) → venue_side_at empty_venue_sides v ≡ unknown
+nothing_stands : (v : ℕ) → venue_side_at empty_side.venue_sides v ≡ unknown
 nothing_stands v = all_alike 16 v unknown
 
-empty_side_is : (b : Side) (may : ℕ → Bool) → IsSide b may 1 (record { venue_sides = empty_venue_sides; ranks = [] })
+empty_side_is : (b : Side) (may : ℕ → Bool) → IsSide b may 1 empty_side
 empty_side_is b may = record {
   count = refl;
   past = λ v l. subst (λ (t : ℕ). t < 1) (sym (ap (λ (t : VenueSide). t.age) (nothing_stands v))) (omega arith);

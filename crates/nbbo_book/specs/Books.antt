@@ -1,5 +1,5 @@
 -- A book and the entries that were applied to it.
-use Rattle.std.specs.Prelude.{ℕ, ◌≡◌, ◌<◌, List, Bool, false, None, slice_index_or, length}
+use Rattle.std.specs.Prelude.{ℕ, ◌≡◌, ◌<◌, List, Bool, false, slice_index_or, length}
 use Rattle.std.specs.List.{AllByRecursion, list_any}
 use Rattle.std.specs.Str.{bytes_eq}
 use Rattle.feed_types.specs.declared.journal.Entry.{Entry}
@@ -8,6 +8,7 @@ use Rattle.feed_types.specs.declared.line.Side.{Side}
 use Rattle.feed_types.specs.declared.line.Side.TheVariants.{Bid, Offer}
 use Rattle.nbbo_book.specs.declared.venue_side.VenueSide.{VenueSide}
 use Rattle.nbbo_book.specs.declared.row.Row.{Row}
+use Rattle.nbbo_book.specs.VenueSides.{venue_side_at}
 use Rattle.nbbo_book.specs.Sides.{side_of, age_of}
 use Rattle.nbbo_book.specs.Eligible.{is_self_helped, is_halted}
 
@@ -19,11 +20,6 @@ pub record BookState : Type 0 where
   pub applied : ℕ
   pub helped : List Bool
   pub rows : List Row
-
--- what stands at a venue's place
-abbrev pub venue_side_at : List VenueSide → ℕ → VenueSide
-venue_side_at venue_sides venue =
-    slice_index_or venue_sides venue (record { quote = None; age = 0 })
 
 -- each venue's side, with its age, is that of the entries
 abbrev pub SideFits : List Entry → List ℕ → Side → List VenueSide → Type 0
@@ -37,8 +33,8 @@ SideFits entries symbol side venue_sides =
 
 -- a symbol's sides and halts are those of the entries
 pub record RowFits (entries : List Entry) (row : Row) : Type 0 where
-  pub bids : SideFits entries row.symbol Bid row.venue_sides.bids
-  pub offers : SideFits entries row.symbol Offer row.venue_sides.offers
+  pub bids : SideFits entries row.symbol Bid row.bids.venue_sides
+  pub offers : SideFits entries row.symbol Offer row.offers.venue_sides
   pub halted : (venue : ℕ) → venue < 16
       → slice_index_or row.halted venue false ≡ is_halted entries venue row.symbol
 

@@ -7,5 +7,6 @@ pub mod Books
 pub mod Refusals
 pub mod Codes
 pub mod Ranks
+pub mod BookSides
 pub mod Rows
 pub mod Tables

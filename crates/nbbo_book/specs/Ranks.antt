@@ -3,6 +3,10 @@ use Rattle.std.specs.Prelude.{◌≡◌, ℕ, ◌<◌, ◌≤◌, ◌+◌, ◌�
 use Rattle.std.specs.List.{AllByRecursion}
 use Rattle.feed_types.specs.declared.line.Side.{Side}
 use Rattle.feed_types.specs.declared.national.Best.{Best}
+use Rattle.nbbo_book.specs.declared.ranks.Cause.{Cause}
+use Rattle.nbbo_book.specs.declared.ranks.Cause.TheVariants.{Quoted, Rechecked}
+use Rattle.nbbo_book.specs.declared.ranks.Order.{Order}
+use Rattle.nbbo_book.specs.VenueSides.{age_at}
 use Rattle.nbbo_book.specs.Nationals.{is_better_price, beats}
 
 -- by price, or at equal price by size, whatever the ages
@@ -48,11 +52,42 @@ abbrev pub front_of : List Best → Option Best
 front_of [] = None
 front_of (x ∷ xs) = Some x
 
--- by price and size x isn't ahead of the one before this place, and is ahead of the one at it
-pub record IsPlace (side : Side) (x : Best) (others : List Best) (place : ℕ) : Type 0 where
+-- Whether x, the side that is ranked anew, ranks before y. The newest of all does so by price and
+-- size alone.
+abbrev pub is_ahead_by : Cause → Side → (ℕ → ℕ) → Best → Best → Bool
+is_ahead_by Quoted side age x y = is_better side x y
+is_ahead_by Rechecked side age x y = beats side age x y
+
+-- the ages of the venues' sides
+abbrev pub ages_in : Order → ℕ → ℕ
+ages_in order = age_at order.venue_sides.now
+
+abbrev pub is_ahead : Order → Best → Best → Bool
+is_ahead order = is_ahead_by order.cause order.side (ages_in order)
+
+-- x isn't ahead of the one before this place, and is ahead of the one at it
+pub record IsPlace (order : Order) (x : Best) (others : List Best) (place : ℕ) : Type 0 where
   pub within : place ≤ length others
-  pub before : (k : ℕ) → place ≡ k + 1 → is_better side x (slice_index_or others k x) ≡ false
-  pub at : place < length others → is_better side x (slice_index_or others place x) ≡ true
+  pub before : (k : ℕ) → place ≡ k + 1 → is_ahead order x (slice_index_or others k x) ≡ false
+  pub at : place < length others → is_ahead order x (slice_index_or others place x) ≡ true
+
+-- By its cause the venue's side that is to be ranked is the newest of all and another one than was
+-- ranked, or the one that was ranked, if any.
+abbrev pub IsCause : Cause → Side → (ℕ → ℕ) → Best → List Best → Type 0
+IsCause Quoted side age x ranks = IsNewest age x (without x.venue ranks) × (¬ IsIn ranks x)
+IsCause Rechecked side age x ranks =
+    InRank side age ranks × ((y : Best) → IsIn ranks y → y.venue ≡ x.venue → y ≡ x)
+
+-- What code asks of ranks before a venue's is updated: the others are in order, none of them is the
+-- venue's, and there is room for it.
+pub record CanUpdate
+    (order : Order) (venue : ℕ) (best : Option Best) (ranks : List Best) : Type 0 where
+  pub others : InRank order.side (ages_in order) (without venue ranks)
+  pub once : HasNone venue (without venue ranks)
+  pub room : length (without venue ranks) < 16
+  pub own : (x : Best) → best ≡ Some x → x.venue ≡ venue
+  pub caused : (x : Best) → best ≡ Some x
+      → IsCause order.cause order.side (ages_in order) x ranks
 
 -- these are what the venues are ranked with, best first
 pub record IsRankingOf

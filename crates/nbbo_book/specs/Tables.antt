@@ -6,9 +6,12 @@ use Rattle.feed_types.specs.Symbols.{word_of}
 use Rattle.feed_types.specs.declared.line.Side.{Side}
 use Rattle.feed_types.specs.declared.line.Side.TheVariants.{Bid, Offer}
 use Rattle.nbbo_book.specs.declared.row.Row.{Row}
-use Rattle.nbbo_book.specs.Books.{BookState, venue_side_at}
+use Rattle.nbbo_book.specs.Books.{BookState}
 use Rattle.nbbo_book.specs.Ranks.{IsRankingOf}
-use Rattle.nbbo_book.specs.Rows.{BookSide, age_at, may_at, rank_at, side_at, IsPast}
+use Rattle.nbbo_book.specs.Rows.{may_at, side_at}
+use Rattle.nbbo_book.specs.VenueSides.{venue_side_at, age_at}
+use Rattle.nbbo_book.specs.declared.book_side.BookSide.{BookSide}
+use Rattle.nbbo_book.specs.BookSides.{rank_at, IsPast}
 
 abbrev pub symbols_of : List Row → List (List ℕ)
 symbols_of rows = map (λ (row : Row). row.symbol) rows

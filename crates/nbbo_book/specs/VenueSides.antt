@@ -1,8 +1,7 @@
--- What contracts see of a venue's side and of all venues'; and, cited by private clauses alone,
--- how they are kept: a side in 24 bytes, and a venue's two beside each other.
-use Rattle.std.specs.Prelude.{◌≡◌, ℕ, List, Bool, true, false, Option, Some, None}
-use Rattle.feed_types.specs.declared.line.Side.{Side}
-use Rattle.feed_types.specs.declared.line.Side.TheVariants.{Bid, Offer}
+-- What contracts see of a venue's side and of one side of a symbol; and, cited by private clauses
+-- alone, how a venue's side is kept, in 24 bytes.
+use Rattle.std.specs.Prelude.{◌≡◌, ℕ, List, Bool, true, false, Option, Some, None, slice_index_or}
+use Rattle.feed_types.specs.declared.national.Best.{Best}
 use Rattle.nbbo_book.specs.declared.side_quote.SideQuote.{SideQuote}
 
 -- the side that a venue shows, if any, and its age
@@ -10,19 +9,19 @@ pub record VenueSideState : Type 0 where
   pub quote : Option SideQuote
   pub age : ℕ
 
--- what the venues show of a symbol, each at the place of its number
-pub record VenueSidesState : Type 0 where
-  pub bids : List VenueSideState
-  pub offers : List VenueSideState
+-- one side of a symbol: what each venue shows, at the place of its number, and the ranks of those
+-- sides that are eligible, best first
+pub record BookSideState : Type 0 where
+  pub venue_sides : List VenueSideState
+  pub ranks : List Best
 
-abbrev pub venue_sides_on : Side → VenueSidesState → List VenueSideState
-venue_sides_on Bid venue_sides = venue_sides.bids
-venue_sides_on Offer venue_sides = venue_sides.offers
+-- what stands at a venue's place
+abbrev pub venue_side_at : List VenueSideState → ℕ → VenueSideState
+venue_side_at venue_sides venue =
+    slice_index_or venue_sides venue (record { quote = None; age = 0 })
 
--- with these on one side
-abbrev pub with_venue_sides : Side → List VenueSideState → VenueSidesState → VenueSidesState
-with_venue_sides Bid bids venue_sides = record { bids = bids; offers = venue_sides.offers }
-with_venue_sides Offer offers venue_sides = record { bids = venue_sides.bids; offers = offers }
+abbrev pub age_at : List VenueSideState → ℕ → ℕ
+age_at venue_sides venue = (venue_side_at venue_sides venue).age
 
 -- the side of these parts, where one is shown
 abbrev pub quote_of : Bool → ℕ → ℕ → Bool → Option SideQuote

@@ -10,14 +10,13 @@ ghost use Rattle.nbbo_book.specs.Changes.{changes_by};
 ghost use Rattle.nbbo_book.specs.Refusals.{ConfiguresBook};
 ghost use Rattle.nbbo_book.specs.Rows.{empty_row};
 
+use crate::book_side::BookSide;
 use crate::change::Change;
 use crate::fault::BookFault;
 use crate::row::Row;
 use crate::steps::{Step, apply_step};
 use crate::table::{Table, find, symbol_table};
-use crate::venue_sides::VenueSides;
 use crate::venues::Venues;
-use arrayvec::ArrayVec;
 use feed_types::{Best, Entry, National, Side, SymbolName, VenueId};
 use std::alloc::{AllocError, Global};
 use std::marker::Model;
@@ -60,9 +59,8 @@ fn empty_rows(alloc: Global, symbols: &[SymbolName]) -> Result<Vec<Row>, AllocEr
         rows.push(Row {
             halted: [false; 16],
             symbol: *symbol,
-            bids: ArrayVec::new(),
-            offers: ArrayVec::new(),
-            venue_sides: VenueSides::new(),
+            bids: BookSide::new(),
+            offers: BookSide::new(),
         })?;
     }
     Ok(rows)

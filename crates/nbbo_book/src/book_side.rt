@@ -1,101 +1,135 @@
-//! One side of a symbol: what each venue shows, and the ranks of those sides that are eligible.
+//! One side of a symbol: the bids, or the offers.
 
 ghost use Rattle.std.specs.Prelude.{◌≡◌, not, false, None};
 ghost use Rattle.nbbo_book.specs.Changes.{is_same_best};
 ghost use Rattle.nbbo_book.specs.Ranks.{front_of};
-ghost use Rattle.nbbo_book.specs.Rows.{IsPast, IsRanked, book_side, side_quoted, side_rechecked};
-ghost use Rattle.nbbo_book.specs.VenueSides.{venue_sides_on, with_venue_sides};
+ghost use Rattle.nbbo_book.specs.BookSides.{CanRank, IsPast, IsRanked, empty_side, side_quoted, side_rechecked};
 
-use crate::ranks::{Ranks, move_newest, put_back, take_out};
+use crate::ranks::{Cause, Order, Ranks};
 use crate::side_quote::{is_same, rank_of};
-use crate::venue_side::VenueSide;
-use crate::venue_sides::VenueSides;
-use feed_types::{Side, VenueId};
+use crate::venue_side::{VenueSide, venue_side_at};
+use feed_types::{Best, Side, VenueId};
+use std::marker::Model;
 
-/// Who quotes which side, and whether that venue may be ranked.
+/// Who quotes, and whether that venue may be ranked in the symbol.
 #[derive(Clone, Copy)]
 pub struct Quoter {
-    pub side: Side,
     pub venue: VenueId,
     pub may_rank: bool,
 }
 
-/// The venue shows this from now on, which is the newest of all sides where it is another one than
-/// before. Returns whether the best side is another one then.
-#[inline(always)]
-pub fn set_quote(
-    quoter: Quoter,
-    venue_side: VenueSide,
-    venue_sides: &mut VenueSides,
-    ranks: &mut Ranks,
-) -> bool
-    requires ranked { IsRanked quoter.side (book_side quoter.side venue_sides.old ranks.old.items) }
-    requires past { IsPast venue_side.age (venue_sides_on quoter.side venue_sides.old) }
-    ensures venue_sides { venue_sides.new ≡ with_venue_sides quoter.side
-        (side_quoted quoter.side quoter.venue venue_side.quote venue_side.age quoter.may_rank
-        (book_side quoter.side venue_sides.old ranks.old.items)).venue_sides venue_sides.old }
-    ensures ranks { ranks.new.items
-        ≡ (side_quoted quoter.side quoter.venue venue_side.quote venue_side.age quoter.may_rank
-        (book_side quoter.side venue_sides.old ranks.old.items)).ranks }
-    ensures moved { result
-        ≡ not (is_same_best (front_of ranks.old.items) (front_of ranks.new.items)) }
-{
-    if is_same(
-        venue_sides.at(quoter.side, quoter.venue).quote(),
-        venue_side.quote(),
-    ) {
-        return false;
-    }
-    venue_sides.set(quoter.side, quoter.venue, venue_side);
-    match rank_of(quoter.may_rank, quoter.venue, venue_side.quote()) {
-        Some(best) => move_newest(quoter.side, ranks, best),
-        None => take_out(ranks, quoter.venue),
-    }
+/// One side of a symbol: what each venue shows, and the ranks of those sides that are eligible.
+#[derive(Drop)]
+pub struct BookSide {
+    ranks: Ranks,
+    /// At the place of each venue's number.
+    venue_sides: [VenueSide; 16],
 }
 
-/// The venue shows nothing from now on, and isn't ranked. Returns whether the best side is another
-/// one then.
-#[inline(always)]
-pub fn clear_quote(
-    side: Side,
-    venue: VenueId,
-    age: u64,
-    venue_sides: &mut VenueSides,
-    ranks: &mut Ranks,
-) -> bool
-    requires { IsRanked side (book_side side venue_sides.old ranks.old.items) }
-    ensures venue_sides { venue_sides.new ≡ with_venue_sides side
-        (side_quoted side venue None age false
-        (book_side side venue_sides.old ranks.old.items)).venue_sides venue_sides.old }
-    ensures ranks { ranks.new.items ≡ (side_quoted side venue None age false
-        (book_side side venue_sides.old ranks.old.items)).ranks }
-    ensures moved { result
-        ≡ not (is_same_best (front_of ranks.old.items) (front_of ranks.new.items)) }
-{
-    match venue_sides.at(side, venue).quote() {
-        None => false,
-        Some(_) => {
-            venue_sides.set(side, venue, VenueSide::new(None, age));
-            take_out(ranks, venue)
+impl Model for BookSide {
+    ghost use Rattle.nbbo_book.specs.VenueSides.{BookSideState};
+
+    ghost Value = { BookSideState };
+
+    ghost view = { λ s. record { venue_sides = s.venue_sides; ranks = s.ranks } };
+}
+
+impl BookSide {
+    /// Makes a side on which no venue shows anything yet.
+    pub fn new() -> BookSide
+        ensures { result ≡ empty_side }
+    {
+        BookSide {
+            ranks: Ranks::new(),
+            venue_sides: [VenueSide::new(None, 0); 16],
         }
     }
-}
 
-/// The venue may be ranked, or may not, from now on. Returns whether the best side is another one
-/// then.
-#[inline(always)]
-pub fn recheck_eligibility(quoter: Quoter, venue_sides: &VenueSides, ranks: &mut Ranks) -> bool
-    requires { IsRanked quoter.side (book_side quoter.side venue_sides.now ranks.old.items) }
-    ensures ranks { ranks.new.items ≡ (side_rechecked quoter.side quoter.venue quoter.may_rank
-        (book_side quoter.side venue_sides.now ranks.old.items)).ranks }
-    ensures moved { result
-        ≡ not (is_same_best (front_of ranks.old.items) (front_of ranks.new.items)) }
-{
-    match venue_sides.at(quoter.side, quoter.venue).quote() {
-        None => false,
-        quote => match rank_of(quoter.may_rank, quoter.venue, quote) {
-            Some(best) => put_back(quoter.side, venue_sides, ranks, best),
-            None => take_out(ranks, quoter.venue),
-        },
+    /// Ranks what the venue shows by now, or takes it out where it isn't eligible. Returns whether
+    /// the best side is another one then.
+    #[inline(always)]
+    fn update_ranks(&mut self, side: Side, quoter: &Quoter, cause: Cause) -> bool
+        requires { CanRank side quoter.now.venue cause self.old }
+        ensures side { self.new ≡ side_rechecked side quoter.now.venue quoter.now.may_rank self.old }
+        ensures moved { result
+            ≡ not (is_same_best (front_of self.old.ranks) (front_of self.new.ranks)) }
+    {
+        let shown = venue_side_at(&self.venue_sides, quoter.venue);
+        let order = Order {
+            side,
+            cause,
+            venue_sides: &self.venue_sides,
+        };
+        let best = rank_of(quoter.may_rank, quoter.venue, shown.quote());
+        self.ranks.update(&order, quoter.venue, best)
+    }
+
+    /// Notes what the venue shows from now on. Where that differs from what it showed, its age is
+    /// newer than all others'. Returns whether the best side is another one then.
+    #[inline(always)]
+    pub fn set_quote(&mut self, side: Side, quoter: &Quoter, venue_side: VenueSide) -> bool
+        requires ranked { IsRanked side self.old }
+        requires past { IsPast venue_side.age self.old.venue_sides }
+        ensures side { self.new ≡ side_quoted side quoter.now.venue venue_side.quote venue_side.age
+            quoter.now.may_rank self.old }
+        ensures moved { result
+            ≡ not (is_same_best (front_of self.old.ranks) (front_of self.new.ranks)) }
+    {
+        let shown = venue_side_at(&self.venue_sides, quoter.venue);
+        if is_same(shown.quote(), venue_side.quote()) {
+            return false;
+        }
+        self.venue_sides[quoter.venue.index()] = venue_side;
+        self.update_ranks(side, quoter, Cause::Quoted)
+    }
+
+    /// Notes that the venue shows nothing since this age. Returns whether the best side is another
+    /// one then.
+    #[inline(always)]
+    pub fn clear_quote(&mut self, side: Side, venue: VenueId, age: u64) -> bool
+        requires ranked { IsRanked side self.old }
+        requires past { IsPast age self.old.venue_sides }
+        ensures side { self.new ≡ side_quoted side venue None age false self.old }
+        ensures moved { result
+            ≡ not (is_same_best (front_of self.old.ranks) (front_of self.new.ranks)) }
+    {
+        let quoter = Quoter {
+            venue,
+            may_rank: false,
+        };
+        self.set_quote(side, &quoter, VenueSide::new(None, age))
+    }
+
+    /// Ranks the venue's side, or takes it out, where the venue may be ranked again or may not.
+    /// Returns whether the best side is another one then.
+    #[inline(always)]
+    pub fn recheck_eligibility(&mut self, side: Side, quoter: &Quoter) -> bool
+        requires { IsRanked side self.old }
+        ensures side { self.new ≡ side_rechecked side quoter.now.venue quoter.now.may_rank self.old }
+        ensures moved { result
+            ≡ not (is_same_best (front_of self.old.ranks) (front_of self.new.ranks)) }
+    {
+        self.update_ranks(side, quoter, Cause::Rechecked)
+    }
+
+    /// Returns the eligible sides, best first.
+    pub fn ranks(&self) -> &[Best]
+        ensures { result.now ≡ self.now.ranks }
+    {
+        self.ranks.as_slice()
+    }
+
+    /// Returns the best side.
+    #[inline(always)]
+    pub fn front(&self) -> Option<Best>
+        ensures { result ≡ front_of self.now.ranks }
+    {
+        self.ranks.front()
+    }
+
+    /// Reads something of each part that a quotation of the venue reads, and mixes it.
+    #[inline(always)]
+    pub fn peek(&self, venue: VenueId) -> u64 {
+        self.ranks.len() as u64 ^ self.venue_sides[venue.index()].size()
     }
 }

@@ -21,7 +21,6 @@ mod steps;
 mod symbol_cache;
 mod table;
 mod venue_side;
-mod venue_sides;
 mod venues;
 
 pub use book::Book;

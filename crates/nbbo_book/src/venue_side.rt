@@ -1,8 +1,10 @@
 //! What a venue shows on one side of a symbol.
 
-ghost use Rattle.std.specs.Prelude.{◌≡◌};
+ghost use Rattle.std.specs.Prelude.{◌≡◌, ◌<◌};
+ghost use Rattle.nbbo_book.specs.VenueSides.{venue_side_at as side_at_place};
 
 use crate::side_quote::SideQuote;
+use feed_types::VenueId;
 use std::marker::Model;
 
 /// What a venue shows, if anything, and its age: how many entries there were when it took its
@@ -38,9 +40,9 @@ impl Model for VenueSide {
 }
 
 impl VenueSide {
-    ghost use Rattle.nbbo_book.specs.VenueSides.{size_of, price_of};
+    ghost use Rattle.nbbo_book.specs.VenueSides.{size_of};
 
-    /// A venue shows this, or nothing, since that age.
+    /// Makes the side of a venue that shows this, or nothing, since that age.
     #[inline(always)]
     pub fn new(quote: Option<SideQuote>, age: u64) -> VenueSide
         ensures { result ≡ record { quote = quote; age = age } }
@@ -63,7 +65,7 @@ impl VenueSide {
         }
     }
 
-    /// What the venue shows.
+    /// Returns what the venue shows.
     #[inline(always)]
     pub fn quote(self) -> Option<SideQuote>
         ensures { result ≡ self.quote }
@@ -78,7 +80,7 @@ impl VenueSide {
         })
     }
 
-    /// The size, in shares; 0 where nothing is shown.
+    /// Returns the size, in shares; 0 where nothing is shown.
     #[inline(always)]
     pub fn size(self) -> u64
         ensures { result ≡ size_of self.quote }
@@ -86,19 +88,20 @@ impl VenueSide {
         self.size
     }
 
-    /// The price, in ten-thousandths of a dollar; 0 where nothing is shown.
-    #[inline(always)]
-    pub fn price(self) -> u32
-        ensures { result ≡ price_of self.quote }
-    {
-        self.price
-    }
-
-    /// Since when.
+    /// Returns the age: how many entries there were when the side took its present value.
     #[inline(always)]
     pub fn age(self) -> u64
         ensures { result ≡ self.age }
     {
         self.age
     }
+}
+
+/// Returns what stands at the venue's place.
+#[inline(always)]
+pub fn venue_side_at(venue_sides: &[VenueSide; 16], venue: VenueId) -> VenueSide
+    ensures value { result ≡ side_at_place venue_sides.now venue }
+    ensures in_range { venue < 16 }
+{
+    venue_sides[venue.index()]
 }

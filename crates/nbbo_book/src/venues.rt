@@ -3,6 +3,7 @@
 ghost use Rattle.std.specs.Prelude.{◌≡◌};
 ghost use Rattle.nbbo_book.specs.Rows.{may_at, helped_after as flags_after};
 
+use crate::book_side::Quoter;
 use feed_types::{Entry, VenueId};
 
 /// The venues of a book: how many there are, and on which of them self-help stands.
@@ -13,12 +14,16 @@ pub struct Venues {
 }
 
 impl Venues {
-    /// Whether the venue may be ranked in a symbol that these venues halt.
+    /// Returns the venue, and whether it may be ranked in a symbol that these venues halt.
     #[inline(always)]
-    pub fn may_rank(&self, halted: &[bool; 16], venue: VenueId) -> bool
-        ensures { result ≡ may_at self.now.helped halted.now venue }
+    pub fn quoter(&self, halted: &[bool; 16], venue: VenueId) -> Quoter
+        ensures { result
+            ≡ record { venue = venue; may_rank = may_at self.now.helped halted.now venue } }
     {
-        !self.helped[venue.index()] && !halted[venue.index()]
+        Quoter {
+            venue,
+            may_rank: !self.helped[venue.index()] && !halted[venue.index()],
+        }
     }
 
     /// Notes which venues self-help stands on after one more entry.

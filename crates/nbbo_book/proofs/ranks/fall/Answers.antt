@@ -2,7 +2,7 @@ use Rattle.std.proofs.Common.{ℕ, ◌≡◌, ◌+◌, ◌<◌, ◌∙◌, ap, s
 use Rattle.std.specs.List.{remove}
 use Rattle.std.proofs.lemmas.List.Edits.{length-remove, length-insert}
 use Rattle.feed_types.specs.declared.national.Best.{Best}
-use Rattle.nbbo_book.specs.Ranks.{is_better}
+use Rattle.nbbo_book.specs.Ranks.{is_ahead}
 use Rattle.nbbo_book.proofs.Kept.{long_set}
 use Rattle.nbbo_book.proofs.Moving.{set_in_place, slid_down}
 use Rattle.nbbo_book.proofs.ranks.fall.Goals as goal
@@ -14,16 +14,16 @@ loop-at-init c = record {
   stopped = c.requires.stopped;
 }
 
-pub returns-then-is_better-clause-place : goal.returns-then-is_better-clause-place
-returns-then-is_better-clause-place c =
+pub returns-then-is_ahead-clause-place : goal.returns-then-is_ahead-clause-place
+returns-then-is_ahead-clause-place c =
     let ys = remove c.args.ranks.now c.args.from in
-    let ahead : is_better c.args.side c.args.x.now c.index-ranks-at.result ≡ true = first_of (cc, grind arith) in
+    let ahead : is_ahead c.args.order.now c.args.x.now c.index-ranks-at.result ≡ true = first_of (cc, grind arith) in
     record {
       within = c.loop-at.invariant.within;
       before = c.loop-at.invariant.stopped;
       at = λ h.
           let m = slid_down ys c.loop-at.ranks c.loop-at.at c.args.x.now c.index-ranks-at.result c.loop-at.invariant.moved h (c.index-ranks-at.is ∙ ap (λ i. get_or c.loop-at.ranks i c.index-ranks-at.result) (add-one c.loop-at.at)) in
-          ap (λ (t : Best). is_better c.args.side c.args.x.now t) (sym m.1) ∙ ahead;
+          ap (λ (t : Best). is_ahead c.args.order.now c.args.x.now t) (sym m.1) ∙ ahead;
     }
 
 pub loop-at-preserved : goal.loop-at-preserved
@@ -33,14 +33,14 @@ loop-at-preserved c =
     let h : c.loop-at.at < length ys = omega (arith, long) in
     let m = slid_down ys c.loop-at.ranks c.loop-at.at c.args.x.now c.index-ranks-at.result c.loop-at.invariant.moved h (c.index-ranks-at.is ∙ ap (λ i. get_or c.loop-at.ranks i c.index-ranks-at.result) (add-one c.loop-at.at)) in
     let n = slid_down ys c.loop-at.ranks c.loop-at.at c.args.x.now c.index-ranks-at-in-loop-at.result c.loop-at.invariant.moved h (c.index-ranks-at-in-loop-at.is ∙ ap (λ i. get_or c.loop-at.ranks i c.index-ranks-at-in-loop-at.result) (add-one c.loop-at.at)) in
-    let worse : is_better c.args.side c.args.x.now c.index-ranks-at.result ≡ false = first_of (cc, grind arith) in
+    let worse : is_ahead c.args.order.now c.args.x.now c.index-ranks-at.result ≡ false = first_of (cc, grind arith) in
     record {
       within = omega (arith, h);
       moved = rw (add-one c.loop-at.at) n.0;
       stopped = λ k e.
           let same : c.loop-at.at ≡ k = omega (arith, e) in
-          ap (λ (n : ℕ). is_better c.args.side c.args.x.now (get_or ys n c.args.x.now)) (sym same)
-          ∙ ap (λ (t : Best). is_better c.args.side c.args.x.now t) (sym m.1) ∙ worse;
+          ap (λ (n : ℕ). is_ahead c.args.order.now c.args.x.now (get_or ys n c.args.x.now)) (sym same)
+          ∙ ap (λ (t : Best). is_ahead c.args.order.now c.args.x.now t) (sym m.1) ∙ worse;
     }
 
 pub returns-clause-place : goal.returns-clause-place

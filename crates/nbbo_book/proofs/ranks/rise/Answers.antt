@@ -2,7 +2,7 @@ use Rattle.std.proofs.Common.{ℕ, suc, ◌≡◌, ◌-◌, ◌<◌, ◌∙◌, 
 use Rattle.std.specs.List.{remove}
 use Rattle.std.proofs.lemmas.List.Edits.{length-remove}
 use Rattle.feed_types.specs.declared.national.Best.{Best}
-use Rattle.nbbo_book.specs.Ranks.{is_better}
+use Rattle.nbbo_book.specs.Ranks.{is_ahead}
 use Rattle.nbbo_book.proofs.Moving.{set_in_place, slid_up}
 use Rattle.nbbo_book.proofs.ranks.rise.Goals as goal
 
@@ -19,20 +19,20 @@ loop-at-preserved c =
     let h : c.loop-at.at - 1 < length (remove c.args.ranks.now c.args.from) = omega (arith, length-remove c.args.ranks.now c.args.from c.requires, c.loop-at.invariant.within) in
     let m = slid_up (remove c.args.ranks.now c.args.from) c.loop-at.ranks c.loop-at.at (c.loop-at.at - 1) c.args.x.now c.index-ranks-at.result c.loop-at.invariant.moved is h c.index-ranks-at.is in
     let n = slid_up (remove c.args.ranks.now c.args.from) c.loop-at.ranks c.loop-at.at (c.loop-at.at - 1) c.args.x.now c.index-ranks-at-in-loop-at.result c.loop-at.invariant.moved is h c.index-ranks-at-in-loop-at.is in
-    let ahead : is_better c.args.side c.args.x.now c.index-ranks-at.result ≡ true = first_of (cc, grind arith) in
+    let ahead : is_ahead c.args.order.now c.args.x.now c.index-ranks-at.result ≡ true = first_of (cc, grind arith) in
     record {
       within = omega (arith, c.loop-at.invariant.within);
       moved = n.0;
-      passed = λ l. ap (λ (t : Best). is_better c.args.side c.args.x.now t) (sym m.1) ∙ ahead;
+      passed = λ l. ap (λ (t : Best). is_ahead c.args.order.now c.args.x.now t) (sym m.1) ∙ ahead;
     }
 
-pub returns-then-not-is_better-clause-stopped : goal.returns-then-not-is_better-clause-stopped
-returns-then-not-is_better-clause-stopped c = λ k e.
+pub returns-then-not-is_ahead-clause-stopped : goal.returns-then-not-is_ahead-clause-stopped
+returns-then-not-is_ahead-clause-stopped c = λ k e.
     let is : c.loop-at.at ≡ suc (c.loop-at.at - 1) = omega arith in
     let same : c.loop-at.at - 1 ≡ k = omega (arith, e) in
     let ys = remove c.args.ranks.now c.args.from in
     let h : c.loop-at.at - 1 < length ys = omega (arith, length-remove c.args.ranks.now c.args.from c.requires, c.loop-at.invariant.within) in
     let m = slid_up ys c.loop-at.ranks c.loop-at.at (c.loop-at.at - 1) c.args.x.now c.index-ranks-at.result c.loop-at.invariant.moved is h c.index-ranks-at.is in
-    let after_it : is_better c.args.side c.args.x.now c.index-ranks-at.result ≡ false = first_of (cc, grind arith) in
-    ap (λ (n : ℕ). is_better c.args.side c.args.x.now (get_or ys n c.args.x.now)) (sym same)
-    ∙ ap (λ (t : Best). is_better c.args.side c.args.x.now t) (sym m.1) ∙ after_it
+    let after_it : is_ahead c.args.order.now c.args.x.now c.index-ranks-at.result ≡ false = first_of (cc, grind arith) in
+    ap (λ (n : ℕ). is_ahead c.args.order.now c.args.x.now (get_or ys n c.args.x.now)) (sym same)
+    ∙ ap (λ (t : Best). is_ahead c.args.order.now c.args.x.now t) (sym m.1) ∙ after_it

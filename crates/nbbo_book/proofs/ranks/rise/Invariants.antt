@@ -1,13 +1,13 @@
 use Rattle.std.proofs.Common.{◌≡◌, ◌≤◌, ◌<◌, get_or, set, true}
 use Rattle.std.specs.List.{insert, remove}
-use Rattle.nbbo_book.specs.Ranks.{is_better}
+use Rattle.nbbo_book.specs.Ranks.{is_ahead}
 use Rattle.nbbo_book.proofs.ranks.rise.Given as goal
 
 abbrev pub invariant-loop-at : goal.invariant-loop-at
 invariant-loop-at l = record {
   within : l.at ≤ l.from;
   moved : set l.ranks l.at l.x ≡ insert (remove l.fn.ranks l.from) l.at l.x;
-  passed : l.at < l.from → is_better l.side l.x (get_or (remove l.fn.ranks l.from) l.at l.x) ≡ true;
+  passed : l.at < l.from → is_ahead l.order l.x (get_or (remove l.fn.ranks l.from) l.at l.x) ≡ true;
 }
 
 abbrev pub decreases-loop-at : goal.decreases-loop-at

@@ -4,9 +4,9 @@ use Rattle.std.specs.Str.{bytes_eq}
 use Rattle.nbbo_book.specs.Books.{BookState, Fits, is_configured}
 use Rattle.feed_types.specs.declared.national.Best.{Best}
 use Rattle.nbbo_book.specs.Nationals.{IsRanking}
-use Rattle.nbbo_book.specs.Rows.{ranks_at}
 use Rattle.nbbo_book.specs.Tables.{symbols_of}
 use Rattle.nbbo_book.specs.declared.row.Row.{Row}
+use Rattle.nbbo_book.specs.Rows.{side_at}
 use Rattle.nbbo_book.proofs.Words.{found_configured, missed_configured}
 use Rattle.nbbo_book.proofs.Whole.{ranking_found}
 use Rattle.nbbo_book.proofs.book.Book.ranked.Goals as goal
@@ -33,5 +33,5 @@ returns-clause-ranking c = λ entries fits.
     let b : BookState = record { symbols = symbols_of c.self.inside.rows.items; venues = c.self.inside.venues.count; last = c.self.inside.last; applied = c.self.inside.applied; helped = c.self.inside.venues.helped; rows = c.self.inside.rows.items } in
     let here : Fits b entries = subst (λ (t : BookState). Fits t entries) (sym c.self.view_is) fits in
     let at : position (bytes_eq c.args.symbol.now) (symbols_of c.self.inside.rows.items) ≡ Some c.in_ok-place.place = sym (c.find.ensures ∙ ap (λ (t : List Row). position (bytes_eq c.args.symbol.now) (symbols_of t)) c.as_slice.ensures.value) ∙ was in
-    subst (λ (t : List Best). IsRanking entries c.args.symbol.now c.args.side t) (sym (c.ranks.ensures ∙ ap (ranks_at c.args.side) c.index.ensures))
+    subst (λ (t : List Best). IsRanking entries c.args.symbol.now c.args.side t) (sym (c.ranks.ensures ∙ ap (λ (t : Row). (side_at c.args.side t).ranks) c.index.ensures))
     (ranking_found c.self.inside.table.words.keys b entries c.args.symbol.now c.args.side c.in_ok-place.place c.index.result.now c.self.invariant here at)
