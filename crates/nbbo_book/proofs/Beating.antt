@@ -4,8 +4,7 @@ use Rattle.std.specs.Prelude.{◌&&◌, ◌||◌}
 use Rattle.feed_types.specs.declared.line.Side.{Side}
 use Rattle.feed_types.specs.declared.line.Side.TheVariants.{Bid, Offer}
 use Rattle.feed_types.specs.declared.national.Best.{Best}
-use Rattle.nbbo_book.specs.Nationals.{beats, is_better_price}
-use Rattle.nbbo_book.specs.Ranks.{is_better}
+use Rattle.nbbo_book.specs.Nationals.{beats, is_better}
 
 -- the first difference is in the price, the size or the age; P says that the price is better
 abbrev Precedes : Type 0 → (ℕ → ℕ) → Best → Best → Type 0
@@ -68,17 +67,17 @@ beats_either Offer f x y h p = grind (arith, h, p)
 
 -- ages count at the two venues alone
 pub beats_same : (b : Side) (f g : ℕ → ℕ) (x y : Best) → f x.venue ≡ g x.venue → f y.venue ≡ g y.venue → beats b f x y ≡ beats b g x y
-beats_same b f g x y p q = ap (λ t. is_better_price b x.price y.price || (nat_eq x.price y.price && (nat_lt y.size x.size || (nat_eq x.size y.size && nat_lt t (f y.venue))))) p ∙ ap (λ t. is_better_price b x.price y.price || (nat_eq x.price y.price && (nat_lt y.size x.size || (nat_eq x.size y.size && nat_lt (g x.venue) t)))) q
+beats_same b f g x y p q =
+    ap (λ t. is_better b x y || ((nat_eq x.price y.price && nat_eq x.size y.size) && nat_lt t (f y.venue))) p
+    ∙ ap (λ t. is_better b x y || ((nat_eq x.price y.price && nat_eq x.size y.size) && nat_lt (g x.venue) t)) q
 
-no_older : (a b c d : Bool) → (a || (b && (c || (d && false)))) ≡ (a || (b && c))
-no_older true b c d = refl
-no_older false false c d = refl
-no_older false true true d = refl
-no_older false true false true = refl
-no_older false true false false = refl
+no_older : (a b : Bool) → (a || (b && false)) ≡ a
+no_older true b = refl
+no_older false true = refl
+no_older false false = refl
 
 -- what no other is newer than ranks before it by its price or its size alone
 pub newest_beats : (b : Side) (f : ℕ → ℕ) (x y : Best) → nat_lt (f x.venue) (f y.venue) ≡ false → beats b f x y ≡ is_better b x y
 newest_beats b f x y h =
-    ap (λ t. is_better_price b x.price y.price || (nat_eq x.price y.price && (nat_lt y.size x.size || (nat_eq x.size y.size && t)))) h
-    ∙ no_older (is_better_price b x.price y.price) (nat_eq x.price y.price) (nat_lt y.size x.size) (nat_eq x.size y.size)
+    ap (λ t. is_better b x y || ((nat_eq x.price y.price && nat_eq x.size y.size) && t)) h
+    ∙ no_older (is_better b x y) (nat_eq x.price y.price && nat_eq x.size y.size)

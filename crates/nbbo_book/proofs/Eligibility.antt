@@ -11,7 +11,7 @@ use Rattle.nbbo_book.specs.Eligible.{IsEligible, is_protected, ranked_by, may_ra
 use Rattle.nbbo_book.specs.Nationals.{beats, IsRanking}
 use Rattle.nbbo_book.specs.Ranks.{InRank, IsIn, IsRankingOf}
 use Rattle.nbbo_book.proofs.Ranking.{some_same}
-use Rattle.nbbo_book.proofs.Said.{and_left, and_right}
+use Rattle.nbbo_book.proofs.EntryEffects.{and_left, and_right}
 
 -- what a venue is ranked with is what it shows, and that counts
 record Ranked (m : Bool) (o : Option SideQuote) (x : Best) : Type 0 where

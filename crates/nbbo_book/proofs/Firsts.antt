@@ -8,7 +8,7 @@ use Rattle.nbbo_book.specs.Nationals.{beats, all_venues, beats_others}
 use Rattle.nbbo_book.specs.Ranks.{front_of, IsRankingOf}
 use Rattle.nbbo_book.proofs.Beating.{beats_chain, beats_one_way, beats_either}
 use Rattle.nbbo_book.proofs.Ranking.{nat_same, nat_refl, nat_apart, nat_split, some_same, in_all}
-use Rattle.nbbo_book.proofs.Said.{and_left, and_right}
+use Rattle.nbbo_book.proofs.EntryEffects.{and_left, and_right}
 
 -- among the numbers
 abbrev pub IsNumber : ℕ → List ℕ → Type 0

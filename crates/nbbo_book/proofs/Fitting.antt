@@ -19,8 +19,8 @@ use Rattle.nbbo_book.specs.VenueSides.{venue_side_at}
 use Rattle.nbbo_book.specs.declared.book_side.BookSide.{BookSide}
 use Rattle.nbbo_book.specs.BookSides.{side_set, side_quoted}
 use Rattle.nbbo_book.proofs.Ranking.{nat_refl, nat_split}
-use Rattle.nbbo_book.proofs.Said.{side_of-put, helped-put, halted-put, age-kept, age-new, same_side_sound}
-use Rattle.nbbo_book.proofs.Kept.{set_at, set_off, apart_from, venue_side_set, venue_side_off}
+use Rattle.nbbo_book.proofs.EntryEffects.{side_of-put, helped-put, halted-put, age-kept, age-new, same_side_sound}
+use Rattle.nbbo_book.proofs.SideInvariant.{set_at, set_off, apart_from, venue_side_set, venue_side_off}
 
 cond_same : {T : Type 0} (b : Bool) (x : T) → cond b x x ≡ x
 cond_same true x = refl

@@ -6,7 +6,7 @@ use Rattle.feed_types.specs.declared.national.Best.{Best}
 use Rattle.feed_types.specs.declared.national.National.{National}
 use Rattle.nbbo_book.specs.Changes.{is_same_best, is_same_national}
 use Rattle.nbbo_book.specs.Ranks.{IsIn, HasNone, front_of}
-use Rattle.nbbo_book.proofs.Said.{and_left, and_right}
+use Rattle.nbbo_book.proofs.EntryEffects.{and_left, and_right}
 use Rattle.nbbo_book.proofs.Ranking.{nat_same, nat_refl, nat_apart}
 
 pub same_best_refl : (o : Option Best) → is_same_best o o ≡ true

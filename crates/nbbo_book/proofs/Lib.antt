@@ -2,12 +2,13 @@ pub mod Beating
 pub mod Ranking
 pub mod Moving
 pub mod Fronts
-pub mod Said
-pub mod Kept
+pub mod EntryEffects
+pub mod SideInvariant
 pub mod Firsts
 pub mod Fitting
 pub mod Words
 pub mod Stepping
-pub mod Whole
+pub mod BookFits
 pub mod Eligibility
-pub mod Lawful
+pub mod LawProofs
+pub mod Places

@@ -4,13 +4,13 @@ use Rattle.std.specs.List.{insert, remove, refill, AllByRecursion}
 use Rattle.std.proofs.lemmas.List.Edits.{length-remove}
 use Rattle.feed_types.specs.declared.line.Side.{Side}
 use Rattle.feed_types.specs.declared.national.Best.{Best}
-use Rattle.nbbo_book.specs.Nationals.{beats}
+use Rattle.nbbo_book.specs.Nationals.{beats, is_better}
 use Rattle.nbbo_book.specs.declared.ranks.Cause.{Cause}
 use Rattle.nbbo_book.specs.declared.ranks.Cause.TheVariants.{Quoted, Rechecked}
-use Rattle.nbbo_book.specs.Ranks.{InRank, IsIn, IsNewest, is_ahead_by, is_better, without, with_rank}
+use Rattle.nbbo_book.specs.Ranks.{InRank, IsIn, IsNewest, is_ahead_by, without, with_rank}
 use Rattle.nbbo_book.proofs.Beating.{beats_chain, beats_one_way, newest_beats}
 use Rattle.nbbo_book.proofs.Ranking.{nat_same, nat_refl, in_all}
-use Rattle.nbbo_book.proofs.Kept.{set_off}
+use Rattle.nbbo_book.proofs.SideInvariant.{set_off}
 
 -- past the neighbour before it
 up_one : (ys : List Best) (k : ℕ) (x d : Best) → k < length ys → set (set (insert ys (suc k) x) (suc k) (get_or ys k d)) k x ≡ insert ys k x

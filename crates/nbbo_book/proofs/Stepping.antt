@@ -30,8 +30,8 @@ use Rattle.nbbo_book.specs.declared.book_side.BookSide.{BookSide}
 use Rattle.nbbo_book.specs.VenueSides.{venue_side_at, age_at}
 use Rattle.nbbo_book.specs.BookSides.{rank_at}
 use Rattle.nbbo_book.proofs.Ranking.{ranking_same}
-use Rattle.nbbo_book.proofs.Kept.{long_set, set_off, apart_from, ranked_own, ranked_nothing, side_is_ranked, side_waits, side_rechecked-is, side_quoted-is}
-use Rattle.nbbo_book.proofs.Said.{same_side_sound}
+use Rattle.nbbo_book.proofs.SideInvariant.{long_set, set_off, apart_from, ranked_own, ranked_nothing, side_is_ranked, side_waits, side_rechecked-is, side_quoted-is}
+use Rattle.nbbo_book.proofs.EntryEffects.{same_side_sound}
 use Rattle.nbbo_book.proofs.Firsts.{front_is_best}
 use Rattle.nbbo_book.proofs.Fitting.{row_fits, helped_fits}
 use Rattle.nbbo_book.proofs.Fronts.{same_best_refl}

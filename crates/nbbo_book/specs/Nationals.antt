@@ -15,12 +15,16 @@ abbrev pub is_better_price : Side → ℕ → ℕ → Bool
 is_better_price Bid p q = nat_lt q p
 is_better_price Offer p q = nat_lt p q
 
--- by price, at equal price by size, at equal price and size by the age of the venues' sides
+-- ahead by price, or at equal price by size
+abbrev pub is_better : Side → Best → Best → Bool
+is_better side x y =
+    is_better_price side x.price y.price || ((x.price == y.price) && nat_lt y.size x.size)
+
+-- by price and size, and where both are equal by the age of the venues' sides
 abbrev pub beats : Side → (ℕ → ℕ) → Best → Best → Bool
 beats side age x y =
-    is_better_price side x.price y.price
-    || ((x.price == y.price)
-    && (nat_lt y.size x.size || ((x.size == y.size) && nat_lt (age x.venue) (age y.venue))))
+    is_better side x y
+    || (((x.price == y.price) && (x.size == y.size)) && nat_lt (age x.venue) (age y.venue))
 
 -- x ranks before y
 abbrev pub Beats : List Entry → List ℕ → Side → Best → Best → Type 0

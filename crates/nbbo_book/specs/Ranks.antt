@@ -7,12 +7,7 @@ use Rattle.nbbo_book.specs.declared.ranks.Cause.{Cause}
 use Rattle.nbbo_book.specs.declared.ranks.Cause.TheVariants.{Quoted, Rechecked}
 use Rattle.nbbo_book.specs.declared.ranks.Order.{Order}
 use Rattle.nbbo_book.specs.VenueSides.{age_at}
-use Rattle.nbbo_book.specs.Nationals.{is_better_price, beats}
-
--- by price, or at equal price by size, whatever the ages
-abbrev pub is_better : Side → Best → Best → Bool
-is_better side x y =
-    is_better_price side x.price y.price || ((x.price == y.price) && nat_lt y.size x.size)
+use Rattle.nbbo_book.specs.Nationals.{is_better, beats}
 
 -- each beats those after it
 abbrev pub InRank : Side → (ℕ → ℕ) → List Best → Type 0
@@ -88,6 +83,12 @@ pub record CanUpdate
   pub own : (x : Best) → best ≡ Some x → x.venue ≡ venue
   pub caused : (x : Best) → best ≡ Some x
       → IsCause order.cause order.side (ages_in order) x ranks
+
+-- the place of each of these is noted under its venue's number
+abbrev pub AreNoted : List ℕ → List Best → Type 0
+AreNoted places ranks =
+    (k : ℕ) (x : Best) → k < length ranks
+    → slice_index_or places (slice_index_or ranks k x).venue 16 ≡ k
 
 -- these are what the venues are ranked with, best first
 pub record IsRankingOf

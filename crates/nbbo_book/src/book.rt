@@ -67,11 +67,11 @@ fn empty_rows(alloc: Global, symbols: &[SymbolName]) -> Result<Vec<Row>, AllocEr
 }
 
 impl Book {
-    /// A book of no entries, over so many venues, 1 to 16, and these symbols, at most 4,096 and
-    /// each once; their order is that of the changes. No symbols are allowed. It takes all its
-    /// memory here.
+    /// Makes a book of no entries over `venue_count` venues, 1 to 16, and these symbols, at most
+    /// 4,096 and each once; their order is that of the changes. No symbol at all is allowed. All
+    /// memory is asked for here.
     ///
-    /// It is refused as BadVenueCount, TooManySymbols, NoMemory where there is none for the table,
+    /// Refuses as BadVenueCount, TooManySymbols, NoMemory where there is none for the table,
     /// DuplicateSymbol, or NoMemory where there is none for what is kept of the symbols: the first
     /// of these that fits.
     pub fn new(alloc: Global, symbols: &[SymbolName], venue_count: usize) -> Result<Book, BookFault>
@@ -101,8 +101,8 @@ impl Book {
         })
     }
 
-    /// Applies the entry, and appends to `out` a change for each symbol whose national best is
-    /// another one after it, in configured order and with the position given.
+    /// Applies the entry, and appends to `out` a change for each symbol whose national best differs
+    /// after it, in configured order and at `position`.
     ///
     /// It takes no memory: `out` has room for as many changes as there are symbols. The entry's
     /// venue is below the count, and positions rise.
@@ -148,7 +148,7 @@ impl Book {
         true
     }
 
-    /// The national best of the symbol, `None` exactly where it isn't configured.
+    /// Returns the national best of the symbol, `None` exactly where it isn't configured.
     pub fn national(&self, symbol: &SymbolName) -> Option<National>
         ensures configured { IsSome result ↔ IsTrue (is_configured self.now.symbols symbol.now) }
         ensures value { (entries : List Entry) → Fits self.now entries
@@ -158,8 +158,8 @@ impl Book {
         Some(self.rows[place].national())
     }
 
-    /// The eligible sides of the symbol, best first: each stands before those that it beats. `None`
-    /// exactly where the symbol isn't configured.
+    /// Lends the eligible sides of the symbol, best first: each stands before those that it beats.
+    /// `None` exactly where the symbol isn't configured.
     pub fn ranked(&self, symbol: &SymbolName, side: Side) -> Option<&[Best]>
         ensures configured { IsSome result ↔ IsTrue (is_configured self.now.symbols symbol.now) }
         ensures ranking { (entries : List Entry) → Fits self.now entries
@@ -169,7 +169,7 @@ impl Book {
         Some(self.rows[place].ranks(side))
     }
 
-    /// Whether self-help stands on the venue.
+    /// Returns whether self-help stands on the venue.
     pub fn is_self_helped(&self, venue: VenueId) -> bool
         ensures { (entries : List Entry) → Fits self.now entries
             → result ≡ self_helped entries venue }
@@ -177,21 +177,21 @@ impl Book {
         self.venues.helped[venue.index()]
     }
 
-    /// How many venues there are: `apply` takes entries of those below.
+    /// Returns how many venues there are: `apply` takes entries of those whose number is below.
     pub fn venue_count(&self) -> usize
         ensures { result ≡ self.now.venues }
     {
         self.venues.count
     }
 
-    /// The position of the last entry, 0 before any: that of the next one is greater.
+    /// Returns the position of the last entry, 0 before any: that of the next one is greater.
     pub fn last_position(&self) -> u64
         ensures { result ≡ self.now.last }
     {
         self.last
     }
 
-    /// How many symbols are configured: one entry makes at most so many changes.
+    /// Returns how many symbols are configured: one entry makes at most that many changes.
     pub fn symbol_count(&self) -> usize
         ensures { result ≡ length self.now.symbols }
     {

@@ -46,7 +46,7 @@ impl BookSide {
     }
 
     /// Ranks what the venue shows by now, or takes it out where it isn't eligible. Returns whether
-    /// the best side is another one then.
+    /// the best side differs then.
     #[inline(always)]
     fn update_ranks(&mut self, side: Side, quoter: &Quoter, cause: Cause) -> bool
         requires { CanRank side quoter.now.venue cause self.old }
@@ -65,7 +65,7 @@ impl BookSide {
     }
 
     /// Notes what the venue shows from now on. Where that differs from what it showed, its age is
-    /// newer than all others'. Returns whether the best side is another one then.
+    /// newer than all others'. Returns whether the best side differs then.
     #[inline(always)]
     pub fn set_quote(&mut self, side: Side, quoter: &Quoter, venue_side: VenueSide) -> bool
         requires ranked { IsRanked side self.old }
@@ -83,8 +83,8 @@ impl BookSide {
         self.update_ranks(side, quoter, Cause::Quoted)
     }
 
-    /// Notes that the venue shows nothing since this age. Returns whether the best side is another
-    /// one then.
+    /// Notes that the venue shows nothing since this age. Returns whether the best side differs
+    /// then.
     #[inline(always)]
     pub fn clear_quote(&mut self, side: Side, venue: VenueId, age: u64) -> bool
         requires ranked { IsRanked side self.old }
@@ -101,7 +101,7 @@ impl BookSide {
     }
 
     /// Ranks the venue's side, or takes it out, where the venue may be ranked again or may not.
-    /// Returns whether the best side is another one then.
+    /// Returns whether the best side differs then.
     #[inline(always)]
     pub fn recheck_eligibility(&mut self, side: Side, quoter: &Quoter) -> bool
         requires { IsRanked side self.old }
@@ -109,7 +109,11 @@ impl BookSide {
         ensures moved { result
             ≡ not (is_same_best (front_of self.old.ranks) (front_of self.new.ranks)) }
     {
-        self.update_ranks(side, quoter, Cause::Rechecked)
+        let shown = venue_side_at(&self.venue_sides, quoter.venue);
+        match shown.quote() {
+            None => false,
+            Some(_) => self.update_ranks(side, quoter, Cause::Rechecked),
+        }
     }
 
     /// Returns the eligible sides, best first.

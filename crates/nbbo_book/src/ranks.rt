@@ -2,7 +2,8 @@
 
 ghost use Rattle.std.specs.Prelude.{◌≡◌, ℕ, ◌+◌, ◌<◌, ◌≤◌, [], true, false, not, length, slice_index_or, slice_set, insert, remove, IfSome, None, Some};
 ghost use Rattle.nbbo_book.specs.Changes.{is_same_best};
-ghost use Rattle.nbbo_book.specs.Ranks.{is_better as is_better_side, is_ahead as is_ahead_side, ages_in, CanUpdate, HasNone, IsPlace, without, with_rank, placed, front_of};
+ghost use Rattle.nbbo_book.specs.Nationals.{is_better as is_better_side};
+ghost use Rattle.nbbo_book.specs.Ranks.{is_ahead as is_ahead_side, ages_in, AreNoted, CanUpdate, HasNone, IsPlace, without, with_rank, placed, front_of};
 
 use crate::venue_side::{VenueSide, venue_side_at};
 use arrayvec::ArrayVec;
@@ -30,6 +31,9 @@ pub struct Order<'a> {
 /// The eligible sides of one side of a symbol, best first; at most one of each venue.
 #[derive(Drop)]
 pub struct Ranks {
+    /// Where each venue's side stands, under the venue's number. It counts where the side there is
+    /// the venue's.
+    places: [u8; 16],
     best_first: ArrayVec<Best, 16>,
 }
 
@@ -39,7 +43,11 @@ impl Model for Ranks {
 
     ghost Value = { List Best };
 
+    ghost use Rattle.nbbo_book.specs.Ranks.{AreNoted};
+
     ghost view = { λ r. r.best_first.items };
+
+    ghost invariant = { λ r. AreNoted r.places r.best_first.items };
 }
 
 /// Whether `x` is ahead of `y` by its price or its size. Which of two sides is a coin's toss: price
@@ -75,8 +83,19 @@ fn is_ahead(order: &Order<'_>, x: &Best, y: &Best) -> bool
 /// Moves each side before `from` that `x` is ahead of one place back, over the side at `from`.
 /// Returns the place that is free for `x` then.
 #[inline(always)]
-fn rise(order: &Order<'_>, ranks: &mut [Best], from: usize, x: &Best) -> usize
-    requires { from < length ranks.old }
+fn rise(
+    order: &Order<'_>,
+    ranks: &mut [Best],
+    places: &mut [u8; 16],
+    from: usize,
+    x: &Best,
+) -> usize
+    requires below { from < length ranks.old }
+    requires few { length ranks.old ≤ 16 }
+    requires venue { x.now.venue < 16 }
+    requires noted { AreNoted places.old (slice_set ranks.old from x.now) }
+    ensures noted { AreNoted (slice_set places.new x.now.venue result)
+        (slice_set ranks.new result x.now) }
     ensures moved { slice_set ranks.new result x.now ≡ insert (remove ranks.old from) result x.now }
     ensures up { result ≤ from }
     ensures passed { result < from → is_ahead_side order.now x.now
@@ -86,10 +105,12 @@ fn rise(order: &Order<'_>, ranks: &mut [Best], from: usize, x: &Best) -> usize
 {
     let mut at = from;
     while at > 0 {
-        if !is_ahead(order, x, &ranks[at - 1]) {
+        let neighbour = ranks[at - 1];
+        if !is_ahead(order, x, &neighbour) {
             return at;
         }
-        ranks[at] = ranks[at - 1];
+        places[neighbour.venue.index()] = at as u8;
+        ranks[at] = neighbour;
         at -= 1;
     }
     at
@@ -98,20 +119,34 @@ fn rise(order: &Order<'_>, ranks: &mut [Best], from: usize, x: &Best) -> usize
 /// Moves each side after `from` that `x` isn't ahead of one place forward, over the side at `from`.
 /// Returns the place that is free for `x` then.
 #[inline(always)]
-fn fall(order: &Order<'_>, ranks: &mut [Best], from: usize, x: &Best) -> usize
+fn fall(
+    order: &Order<'_>,
+    ranks: &mut [Best],
+    places: &mut [u8; 16],
+    from: usize,
+    x: &Best,
+) -> usize
     requires below { from < length ranks.old }
+    requires few { length ranks.old ≤ 16 }
+    requires venue { x.now.venue < 16 }
+    requires noted { AreNoted (slice_set places.old x.now.venue from)
+        (slice_set ranks.old from x.now) }
     requires stopped { (k : ℕ) → from ≡ k + 1 → is_ahead_side order.now x.now
         (slice_index_or (remove ranks.old from) k x.now) ≡ false }
     ensures moved { slice_set ranks.new result x.now ≡ insert (remove ranks.old from) result x.now }
     ensures place { IsPlace order.now x.now (remove ranks.old from) result }
     ensures below { result < length ranks.old }
+    ensures noted { AreNoted (slice_set places.new x.now.venue result)
+        (slice_set ranks.new result x.now) }
 {
     let mut at = from;
     while at + 1 < ranks.len() {
-        if is_ahead(order, x, &ranks[at + 1]) {
+        let neighbour = ranks[at + 1];
+        if is_ahead(order, x, &neighbour) {
             return at;
         }
-        ranks[at] = ranks[at + 1];
+        places[neighbour.venue.index()] = at as u8;
+        ranks[at] = neighbour;
         at += 1;
     }
     at
@@ -120,43 +155,70 @@ fn fall(order: &Order<'_>, ranks: &mut [Best], from: usize, x: &Best) -> usize
 /// Puts `x` in the place of the side at `from`, and moves it past its neighbours to its rank.
 /// Returns its place.
 #[inline(always)]
-fn settle(order: &Order<'_>, ranks: &mut [Best], from: usize, x: &Best) -> usize
-    requires { from < length ranks.old }
+fn settle(
+    order: &Order<'_>,
+    ranks: &mut [Best],
+    places: &mut [u8; 16],
+    from: usize,
+    x: &Best,
+) -> usize
+    requires below { from < length ranks.old }
+    requires few { length ranks.old ≤ 16 }
+    requires venue { x.now.venue < 16 }
+    requires noted { AreNoted places.old (slice_set ranks.old from x.now) }
     ensures ranks { ranks.new ≡ insert (remove ranks.old from) result x.now }
     ensures place { IsPlace order.now x.now (remove ranks.old from) result }
+    ensures noted { AreNoted places.new ranks.new }
 {
-    let up = rise(order, ranks, from, x);
+    let up = rise(order, ranks, places, from, x);
     if up < from {
+        places[x.venue.index()] = up as u8;
         ranks[up] = *x;
         return up;
     }
-    let down = fall(order, ranks, from, x);
+    let down = fall(order, ranks, places, from, x);
+    places[x.venue.index()] = down as u8;
     ranks[down] = *x;
     down
 }
 
-/// Where the venue's side stands.
+/// Returns where the venue's side stands.
 #[inline(always)]
-fn place_of(ranks: &[Best], venue: VenueId) -> Option<usize>
+fn place_of(ranks: &[Best], places: &[u8; 16], venue: VenueId) -> Option<usize>
+    requires { AreNoted places.now ranks.now }
     ensures found { IfSome result (λ at. at < length ranks.now) }
     ensures own { (x : Best) → IfSome result (λ at. (slice_index_or ranks.now at x).venue ≡ venue) }
     ensures there { IfSome result (λ at. without venue ranks.now ≡ remove ranks.now at) }
     ensures absent { result ≡ None → without venue ranks.now ≡ ranks.now }
 {
-    for at in 0..ranks.len() {
-        if ranks[at].venue == venue {
-            return Some(at);
-        }
+    let at = usize::from(places[venue.index()]);
+    if at < ranks.len() && ranks[at].venue == venue {
+        return Some(at);
     }
     None
 }
 
+/// Notes the place of each side from this one on, which stands one place further on than is noted.
+fn note_anew(ranks: &[Best], places: &mut [u8; 16], from: usize)
+    requires few { length ranks.now ≤ 16 }
+    requires before { (k : ℕ) (x : Best) → k < from → k < length ranks.now
+        → slice_index_or places.old (slice_index_or ranks.now k x).venue 16 ≡ k }
+    requires after { (k : ℕ) (x : Best) → from ≤ k → k < length ranks.now
+        → slice_index_or places.old (slice_index_or ranks.now k x).venue 16 ≡ k + 1 }
+    ensures { AreNoted places.new ranks.now }
+{
+    for at in from..ranks.len() {
+        places[ranks[at].venue.index()] = at as u8;
+    }
+}
+
 impl Ranks {
-    /// No side is eligible yet.
+    /// Makes ranks of no side.
     pub fn new() -> Ranks
         ensures { result ≡ [] }
     {
         Ranks {
+            places: [0; 16],
             best_first: ArrayVec::new(),
         }
     }
@@ -188,8 +250,7 @@ impl Ranks {
         self.best_first.len()
     }
 
-    /// Ranks the side of a venue that isn't ranked. Returns whether the best side is another one
-    /// then.
+    /// Ranks the side of a venue that isn't ranked. Returns whether the best side differs then.
     #[inline(never)]
     fn add(&mut self, order: &Order<'_>, x: Best) -> bool
         requires ready { CanUpdate order.now x.venue (Some x) self.old }
@@ -199,20 +260,22 @@ impl Ranks {
     {
         let from = self.best_first.len();
         self.best_first.push(x);
-        settle(order, self.best_first.as_mut_slice(), from, &x) == 0
+        self.places[x.venue.index()] = from as u8;
+        let ranks = self.best_first.as_mut_slice();
+        settle(order, ranks, &mut self.places, from, &x) == 0
     }
 
-    /// Takes the venue's side out, where it has one. Returns whether the best side is another one
-    /// then.
+    /// Takes the venue's side out, where it has one. Returns whether the best side differs then.
     #[inline(never)]
     fn take_out(&mut self, venue: VenueId) -> bool
         requires { HasNone venue (without venue self.old) }
         ensures ranks { self.new ≡ without venue self.old }
         ensures moved { result ≡ not (is_same_best (front_of self.old) (front_of self.new)) }
     {
-        match place_of(self.best_first.as_slice(), venue) {
+        match place_of(self.best_first.as_slice(), &self.places, venue) {
             Some(at) => {
                 self.best_first.remove(at);
+                note_anew(self.best_first.as_slice(), &mut self.places, at);
                 at == 0
             }
             None => false,
@@ -220,8 +283,8 @@ impl Ranks {
     }
 
     /// Gives the venue's side its rank, or takes it out where it has none. A side that is ranked
-    /// already moves past its neighbours from where it stands. Returns whether the best side is
-    /// another one then, which the places tell: a side comes from the first one or goes to it.
+    /// already moves past its neighbours from where it stands. Returns whether the best side
+    /// differs then, which the places tell: a side comes from the first one or goes to it.
     #[inline(always)]
     pub fn update(&mut self, order: &Order<'_>, venue: VenueId, best: Option<Best>) -> bool
         requires { CanUpdate order.now venue best self.old }
@@ -232,12 +295,13 @@ impl Ranks {
         let Some(x) = best else {
             return self.take_out(venue);
         };
-        let Some(from) = place_of(self.best_first.as_slice(), venue) else {
+        let Some(from) = place_of(self.best_first.as_slice(), &self.places, venue) else {
             return self.add(order, x);
         };
         match order.cause {
             Cause::Quoted => {
-                let to = settle(order, self.best_first.as_mut_slice(), from, &x);
+                let ranks = self.best_first.as_mut_slice();
+                let to = settle(order, ranks, &mut self.places, from, &x);
                 (from == 0) | (to == 0)
             }
             // What is ranked already keeps its place.

@@ -32,6 +32,7 @@ impl Row {
         symbol.word() == self.symbol.word()
     }
 
+    /// Takes a quotation of the symbol. Returns whether the national best differs then.
     #[inline(always)]
     fn take_quote(&mut self, venues: &Venues, venue: VenueId, quote: &Quote, age: u64) -> bool
         requires { IsRowRanked age self.old }
@@ -47,6 +48,8 @@ impl Row {
         bid || offer
     }
 
+    /// Takes the end of the venue's session: it shows nothing, and halts nothing. Returns whether the
+    /// national best differs then.
     #[inline(always)]
     fn take_end(&mut self, venue: VenueId, age: u64) -> bool
         requires { IsRowRanked age self.old }
@@ -60,6 +63,8 @@ impl Row {
         bid || offer
     }
 
+    /// Ranks the venue's sides anew by the flags of self-help and the halts. Returns whether the
+    /// national best differs then.
     #[inline(always)]
     fn recheck(&mut self, venues: &Venues, venue: VenueId) -> bool
         requires bids { IsRanked Bid (side_at Bid self.old) }
@@ -74,6 +79,8 @@ impl Row {
         bid || offer
     }
 
+    /// Takes a halt of the symbol at the venue, or its end. Returns whether the national best differs
+    /// then.
     fn take_halt(&mut self, venues: &Venues, venue: VenueId, halted: bool) -> bool
         requires bids { IsRanked Bid (side_at Bid self.old) }
         requires offers { IsRanked Offer (side_at Offer self.old) }
@@ -85,6 +92,7 @@ impl Row {
         self.recheck(venues, venue)
     }
 
+    /// Takes the venue's item, of this age. Returns whether the national best differs then.
     #[inline(always)]
     fn take_item(&mut self, venues: &Venues, venue: VenueId, item: &Item, age: u64) -> bool
         requires { IsRowRanked age self.old }
@@ -105,7 +113,7 @@ impl Row {
     }
 
     /// Takes one more entry, of this age; the flags of self-help are those after it. Returns whether
-    /// the national best is another one then.
+    /// the national best differs then.
     #[inline(always)]
     pub fn take_entry(&mut self, venues: &Venues, entry: &Entry, age: u64) -> bool
         requires { IsRowRanked age self.old }

@@ -59,7 +59,7 @@ fn is_protected(quote: &SideQuote) -> bool
     quote.automated && 0 < quote.price && 0 < quote.size
 }
 
-/// What the venue is ranked with, where it may be ranked and its side counts.
+/// Returns what the venue is ranked with, where it may be ranked and its side is protected.
 #[inline(always)]
 pub(crate) fn rank_of(may: bool, venue: VenueId, quote: Option<SideQuote>) -> Option<Best>
     ensures { result ≡ ranked_by may venue quote }

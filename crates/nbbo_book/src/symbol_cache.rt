@@ -19,8 +19,8 @@ pub struct SymbolCache {
 /// (S17, SYM0017, AAB, X01A, ..): at most 177, of several thousand numbers that were tried.
 const MULTIPLIER: u64 = 0x5572_c90a_83e3_0409;
 
-/// How many slots there are for this many symbols, and the shift that goes with it. There are at
-/// least eight slots a symbol, so that few symbols share one.
+/// Returns how many slots there are for this many symbols, and the shift that goes with it. There
+/// are at least eight slots a symbol, so that few symbols share one.
 fn slots_for(symbol_count: usize) -> (usize, u32) {
     if symbol_count <= 16 {
         (128, 57)
@@ -34,7 +34,7 @@ fn slots_for(symbol_count: usize) -> (usize, u32) {
 }
 
 impl SymbolCache {
-    /// For these symbols, in order.
+    /// Makes a cache of these symbols, in order.
     pub fn of(alloc: Global, symbols: &[SymbolName]) -> Result<SymbolCache, AllocError> {
         let (slot_count, shift) = slots_for(symbols.len());
         let slots = vec![in alloc; 0; slot_count]?;
@@ -50,13 +50,13 @@ impl SymbolCache {
         Ok(cache)
     }
 
-    /// The slot of the key: the upper bits of a product.
+    /// Returns the slot of the key: the upper bits of a product.
     #[inline(always)]
     fn slot_of(&self, key: u64) -> usize {
         key.wrapping_mul(MULTIPLIER).wrapping_shr(self.shift) as usize
     }
 
-    /// Where the symbol of the key may stand.
+    /// Returns where the symbol of the key may stand.
     #[inline(always)]
     pub fn place_of(&self, key: u64) -> usize {
         match self.slots.get(self.slot_of(key)) {

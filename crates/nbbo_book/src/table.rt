@@ -25,7 +25,7 @@ pub struct Table {
     pub cache: SymbolCache,
 }
 
-/// The words of these symbols.
+/// Makes the set of these symbols' words, in order.
 fn symbol_words(alloc: Global, symbols: &[SymbolName]) -> Result<Words, BookFault>
     ensures words { IfOk result (λ words. IsTable symbols.now words.keys) }
     ensures distinct { OnOk result (IsDistinct bytes_eq symbols.now) }
@@ -52,7 +52,7 @@ fn symbol_words(alloc: Global, symbols: &[SymbolName]) -> Result<Words, BookFaul
     Ok(table)
 }
 
-/// The table of these symbols.
+/// Makes the table of these symbols.
 pub fn symbol_table(alloc: Global, symbols: &[SymbolName]) -> Result<Table, BookFault>
     ensures table { IfOk result (λ table. IsTable symbols.now table.words.keys) }
     ensures distinct { OnOk result (IsDistinct bytes_eq symbols.now) }
@@ -68,7 +68,7 @@ pub fn symbol_table(alloc: Global, symbols: &[SymbolName]) -> Result<Table, Book
     }
 }
 
-/// Where the symbol stands. Most often it is where it is guessed to be.
+/// Returns where the symbol stands. Most often that is where it is guessed to be.
 #[inline(always)]
 pub fn find(table: &Table, rows: &[Row], symbol: SymbolName) -> Option<usize>
     requires { IsTable (symbols_of rows.now) table.now.words.keys }

@@ -4,7 +4,7 @@ use Rattle.nbbo_book.specs.declared.book_side.BookSide.{BookSide}
 use Rattle.nbbo_book.specs.declared.row.Row.{Row}
 use Rattle.nbbo_book.specs.BookSides.{empty_side}
 use Rattle.nbbo_book.specs.Rows.{empty_row}
-use Rattle.nbbo_book.proofs.Whole.{rows_more}
+use Rattle.nbbo_book.proofs.BookFits.{rows_more}
 use Rattle.nbbo_book.proofs.book.empty_rows.Goals as goal
 
 -- a row of these sides

@@ -1,5 +1,5 @@
-use Rattle.nbbo_book.proofs.Said.{age-≤}
-use Rattle.nbbo_book.proofs.Lawful.{age_holds, age_least}
+use Rattle.nbbo_book.proofs.EntryEffects.{age-≤}
+use Rattle.nbbo_book.proofs.LawProofs.{age_holds, age_least}
 use Rattle.nbbo_book.proofs.laws.age_is_the_first.Goals as goal
 
 pub returns-clause-within : goal.returns-clause-within

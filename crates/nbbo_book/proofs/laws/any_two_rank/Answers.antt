@@ -1,6 +1,6 @@
 use Rattle.nbbo_book.specs.Sides.{age_of}
 use Rattle.nbbo_book.proofs.Beating.{beats_one_way}
-use Rattle.nbbo_book.proofs.Lawful.{either_beats}
+use Rattle.nbbo_book.proofs.LawProofs.{either_beats}
 use Rattle.nbbo_book.proofs.laws.any_two_rank.Goals as goal
 
 pub returns-clause-either : goal.returns-clause-either

@@ -1,4 +1,4 @@
-use Rattle.nbbo_book.proofs.Lawful.{best_is, best_found, nobody_is, is_nobody}
+use Rattle.nbbo_book.proofs.LawProofs.{best_is, best_found, nobody_is, is_nobody}
 use Rattle.nbbo_book.proofs.laws.one_best.Goals as goal
 
 pub returns-clause-best : goal.returns-clause-best

@@ -1,6 +1,6 @@
 use Rattle.std.proofs.Common.{◌≡◌, ◌≤◌, ◌<◌, get_or, set, true}
 use Rattle.std.specs.List.{insert, remove}
-use Rattle.nbbo_book.specs.Ranks.{is_ahead}
+use Rattle.nbbo_book.specs.Ranks.{AreNoted, is_ahead}
 use Rattle.nbbo_book.proofs.ranks.rise.Given as goal
 
 abbrev pub invariant-loop-at : goal.invariant-loop-at
@@ -8,6 +8,7 @@ invariant-loop-at l = record {
   within : l.at ≤ l.from;
   moved : set l.ranks l.at l.x ≡ insert (remove l.fn.ranks l.from) l.at l.x;
   passed : l.at < l.from → is_ahead l.order l.x (get_or (remove l.fn.ranks l.from) l.at l.x) ≡ true;
+  noted : AreNoted (set l.places l.x.venue l.at) (set l.ranks l.at l.x);
 }
 
 abbrev pub decreases-loop-at : goal.decreases-loop-at

@@ -9,7 +9,7 @@ use Rattle.nbbo_book.specs.Changes.{changes_by}
 use Rattle.nbbo_book.specs.Rows.{row_after, row_change, helped_after, IsRowRanked}
 use Rattle.nbbo_book.specs.Tables.{IsBook, symbols_of}
 use Rattle.nbbo_book.proofs.Stepping.{rows_are_ranked, rows_keep_symbols}
-use Rattle.nbbo_book.proofs.Whole.{after_is, after_fits, after_changes}
+use Rattle.nbbo_book.proofs.BookFits.{after_is, after_fits, after_changes}
 use Rattle.nbbo_book.proofs.book.Book.apply.Goals as goal
 
 pub apply_step-requires-clause-ranked : goal.apply_step-requires-clause-ranked

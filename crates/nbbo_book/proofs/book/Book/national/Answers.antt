@@ -6,7 +6,7 @@ use Rattle.nbbo_book.specs.Books.{BookState, Fits, is_configured}
 use Rattle.nbbo_book.specs.Rows.{national_at}
 use Rattle.nbbo_book.specs.Tables.{symbols_of}
 use Rattle.nbbo_book.proofs.Words.{found_configured, missed_configured}
-use Rattle.nbbo_book.proofs.Whole.{national_found}
+use Rattle.nbbo_book.proofs.BookFits.{national_found}
 use Rattle.nbbo_book.proofs.book.Book.national.Goals as goal
 
 pub returns-in_err-place-clause-configured : goal.returns-in_err-place-clause-configured

@@ -1,6 +1,6 @@
 use Rattle.std.proofs.Common.{◌≤◌, ◌∙◌, ap, arith}
 use Rattle.nbbo_book.specs.Tables.{symbols_of}
-use Rattle.nbbo_book.proofs.Whole.{empty_is, empty_fits, empty_symbols}
+use Rattle.nbbo_book.proofs.BookFits.{empty_is, empty_fits, empty_symbols}
 use Rattle.nbbo_book.proofs.book.Book.new.Goals as goal
 
 pub invariant_of-result : goal.invariant_of-result

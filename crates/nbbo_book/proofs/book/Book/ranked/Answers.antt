@@ -8,7 +8,7 @@ use Rattle.nbbo_book.specs.Tables.{symbols_of}
 use Rattle.nbbo_book.specs.declared.row.Row.{Row}
 use Rattle.nbbo_book.specs.Rows.{side_at}
 use Rattle.nbbo_book.proofs.Words.{found_configured, missed_configured}
-use Rattle.nbbo_book.proofs.Whole.{ranking_found}
+use Rattle.nbbo_book.proofs.BookFits.{ranking_found}
 use Rattle.nbbo_book.proofs.book.Book.ranked.Goals as goal
 
 pub returns-in_err-place-clause-configured : goal.returns-in_err-place-clause-configured

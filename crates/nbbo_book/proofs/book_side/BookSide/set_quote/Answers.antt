@@ -5,7 +5,7 @@ use Rattle.nbbo_book.specs.declared.venue_side.VenueSide.{VenueSide}
 use Rattle.nbbo_book.specs.Sides.{is_same_side}
 use Rattle.nbbo_book.specs.VenueSides.{venue_side_at}
 use Rattle.nbbo_book.specs.BookSides.{CanRank, side_rechecked, side_set}
-use Rattle.nbbo_book.proofs.Kept.{others_stay, others_older, ranked_own, not_among, rechecked_set}
+use Rattle.nbbo_book.proofs.SideInvariant.{others_stay, others_older, ranked_own, not_among, rechecked_set}
 use Rattle.nbbo_book.proofs.book_side.BookSide.set_quote.Goals as goal
 
 -- a side on which one venue's was set

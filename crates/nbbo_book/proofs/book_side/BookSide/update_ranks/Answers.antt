@@ -3,7 +3,7 @@ use Rattle.nbbo_book.specs.declared.book_side.BookSide.{BookSide}
 use Rattle.nbbo_book.specs.declared.venue_side.VenueSide.{VenueSide}
 use Rattle.nbbo_book.specs.Eligible.{ranked_by}
 use Rattle.nbbo_book.specs.BookSides.{CanRank}
-use Rattle.nbbo_book.proofs.Kept.{can_update}
+use Rattle.nbbo_book.proofs.SideInvariant.{can_update}
 use Rattle.nbbo_book.proofs.book_side.BookSide.update_ranks.Goals as goal
 
 pub update-requires : goal.update-requires

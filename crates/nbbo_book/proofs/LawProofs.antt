@@ -12,8 +12,8 @@ use Rattle.nbbo_book.specs.Nationals.{beats, IsBest, best_of}
 use Rattle.nbbo_book.specs.Books.{venue_of}
 use Rattle.nbbo_book.proofs.Beating.{beats_either}
 use Rattle.nbbo_book.proofs.Ranking.{nat_same, nat_refl, nat_apart, nat_split, some_same}
-use Rattle.nbbo_book.proofs.Said.{side_of-put, age-kept, age-new, age-≤, since-≤, same_side_sound, same_side_refl}
-use Rattle.nbbo_book.proofs.Kept.{ranked_own, ranked_quote, apart_from}
+use Rattle.nbbo_book.proofs.EntryEffects.{side_of-put, age-kept, age-new, age-≤, since-≤, same_side_sound, same_side_refl}
+use Rattle.nbbo_book.proofs.SideInvariant.{ranked_own, ranked_quote, apart_from}
 use Rattle.nbbo_book.proofs.Firsts.{IsOwn, IsApart, IsTop, IsBelow, top_found, top_is}
 use Rattle.nbbo_book.proofs.Eligibility.{eligible_told, eligible_is}
 

@@ -18,7 +18,7 @@ use Rattle.nbbo_book.specs.Tables.{IsSide, IsRow, IsBook, IsTable, symbols_of}
 use Rattle.nbbo_book.specs.VenueSides.{venue_side_at}
 use Rattle.nbbo_book.specs.BookSides.{empty_side}
 use Rattle.nbbo_book.proofs.Eligibility.{ranking_is}
-use Rattle.nbbo_book.proofs.Kept.{ranked_nothing, long_set}
+use Rattle.nbbo_book.proofs.SideInvariant.{ranked_nothing, long_set}
 use Rattle.nbbo_book.proofs.Fitting.{helped_fits}
 use Rattle.nbbo_book.proofs.Stepping.{rows_are, rows_fit, rows_keep_symbols, changes_are, national_is, side_ranking, may_is, found_symbol, all_rows_at}
 
