@@ -128,7 +128,11 @@ impl<G: Genuine> LiveFeed<G> {
             log_lines,
         } = self;
         let core = JournalAndLanes::new(kept, from_venues, senders, spare_lanes);
-        let hub = CachePadded::new(Mutex::new(HubCell { core, filters }));
+        let hub = CachePadded::new(Mutex::new(HubCell {
+            core,
+            filters,
+            next: 0,
+        }));
         let venues = VenueLocks::new(locked(starts, venues), bells);
         Ok(OpenFeed {
             venues,

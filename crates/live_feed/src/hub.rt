@@ -5,3 +5,4 @@ pub(crate) mod cell;
 pub(crate) mod journal_and_lanes;
 mod next_wanted;
 pub(crate) mod spare;
+pub(crate) mod turn;

@@ -194,7 +194,11 @@ fn closed<G: Genuine, N: FeedName, W: Wait>(
         bells: _,
         log_lines: _,
     } = unlocked;
-    let HubCell { core, filters: _ } = hub;
+    let HubCell {
+        core,
+        filters: _,
+        next: _,
+    } = hub;
     let (journal, receivers, senders) = core.into_parts();
     let entries = journal.entries();
     let venue_ends = close_venues(rt, entries, venues, receivers, room.venues, room.venue_ends);

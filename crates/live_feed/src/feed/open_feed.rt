@@ -6,8 +6,9 @@ ghost use Rattle.live_feed.specs.venue.Datagrams.{AreGenuineBytes, AcceptsTheirs
 
 use crate::faults::{FeedFault, RenewalFault, TakeFault};
 use crate::feed_name::FeedName;
-use crate::hub::calls::{Consolidated, consume_next, consume_some, offer_each, offer_some};
+use crate::hub::calls::{consume_next, consume_some, offer_some};
 use crate::hub::cell::HubCell;
+use crate::hub::turn::{Consolidated, take_turn};
 use crate::subscriber::Subscriber;
 use crate::subscriber::log::SubscriberLog;
 use crate::venue::cell::VenueCell;
@@ -175,28 +176,19 @@ impl<G: Genuine, N: FeedName> OpenFeed<G, N> {
         Ok(consumed)
     }
 
-    /// Journals the next items of the venue's lane as `consume_batch` does, and then offers each
-    /// subscriber what it wants, as `offer` does, under the consolidator's lock taken once. A refused
-    /// call offers nothing.
-    pub fn consolidate<W: Wait>(
-        &self,
-        rt: &W,
-        venue: VenueId,
-        most: u32,
-    ) -> Result<Consolidated, JournalFault>
-        ensures unknown { IsErrOf result JournalFault.UnknownVenue
-            ↔ (length N.lanes.venues ≤ venue) }
-        ensures most { IfOk result (λ done. done.consumed ≤ most) }
+    /// Journals what is in the venues' lanes, and then offers each subscriber what it wants, as
+    /// `offer` does, under the consolidator's lock taken once, and returns what that came to. At most
+    /// 64 items are journaled, up to the first refusal; a venue whose items are left then is among
+    /// the first ones in a later call. This is what the consolidator of `run` calls.
+    pub fn consolidate<W: Wait>(&self, rt: &W) -> Consolidated
+        ensures most { result.consumed ≤ 64 }
     {
         let bells = self.venues.bells();
-        let mut hub = self.hub.lock(rt);
-        let consumed = consume_some(rt, &mut hub, venue, most)?;
-        let offered = offer_each(rt, &mut hub, bells);
-        drop(hub);
-        if consumed > 0 {
+        let done = take_turn(rt, &mut self.hub.lock(rt), bells);
+        if done.consumed > 0 {
             bells.ring_work();
         }
-        Ok(Consolidated { consumed, offered })
+        done
     }
 
     /// Declares self-help on the venue, or withdraws it, and gives the entry's position. It is

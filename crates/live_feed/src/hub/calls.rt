@@ -10,15 +10,6 @@ use feed_types::{Genuine, SubscriberId, VenueId};
 use journal_book::JournalFault;
 use std::sync::Wait;
 
-/// What `OpenFeed::consolidate` did.
-#[derive(Clone, Copy, Debug, PartialEq, Eq)]
-pub struct Consolidated {
-    /// How many items were journaled.
-    pub consumed: u32,
-    /// How many notices were offered, to all subscribers.
-    pub offered: u64,
-}
-
 /// Journals the next item of the venue's lane, and gives its position; None where nothing was inside.
 /// A refused call changes nothing.
 pub(crate) fn consume_next<G: Genuine, N: FeedName, W: Wait>(

@@ -22,9 +22,26 @@ pub struct HubCell<G: Genuine, N: FeedName> {
     /// The journal and the lanes.
     pub core: JournalAndLanes<G, N>,
     pub(crate) filters: Vec<Filter>,
+    /// The number of the venue with which the consolidator's next turn begins.
+    pub(crate) next: u8,
 }
 
 impl<G: Genuine, N: FeedName> HubCell<G, N> {
+    /// Returns the venue whose turn it is; then it is the next one's turn, and after the last one's
+    /// the first one's.
+    pub(crate) fn next_venue(&mut self) -> VenueId
+        ensures kept { self.new.core ≡ self.old.core }
+    {
+        let place = self.next;
+        let next = place.saturating_add(1);
+        self.next = if usize::from(next) < self.core.venue_count() {
+            next
+        } else {
+            0
+        };
+        VenueId::new(place).unwrap_or_default()
+    }
+
     /// Journals the next item of the venue's lane, and gives its position; None where nothing was
     /// inside. The venue is below the count. JournalFull and NoMemory come before an item is taken
     /// out of the lane, and change nothing.

@@ -3,8 +3,7 @@
 use crate::bells::Bells;
 use crate::feed::open_feed::OpenFeed;
 use crate::feed_name::FeedName;
-use crate::hub::calls::{consume_some, offer_each};
-use crate::hub::cell::HubCell;
+use crate::hub::turn::Consolidated;
 use crate::run::idle::{is_tired, rest};
 use crate::run::report::Stop;
 use crate::run::signals::Signals;
@@ -12,20 +11,9 @@ use feed_types::{Genuine, SubscriberId, VenueId};
 use journal_book::JournalFault;
 use std::sync::Wait;
 
-/// How many items of a venue are journaled, or pushed by the consolidator, before the next venue's
-/// turn: a line that brings something waits no longer.
-const ITEMS_A_TURN: u32 = 64;
-
-/// What a turn under the consolidator's lock came to.
-#[derive(Clone, Copy)]
-struct Turn {
-    /// Whether it moved anything.
-    moved: bool,
-    /// Of which venues it journaled something.
-    gave: [bool; 16],
-    /// Why journaling was refused, if it was.
-    stop: Option<Stop>,
-}
+/// How many items of a venue the consolidator pushes in one section: a line that brings something
+/// waits no longer.
+const ITEMS_A_SECTION: u64 = 64;
 
 /// The feed's venue of this number, if it has it.
 fn feed_venue<G: Genuine, N: FeedName>(feed: &OpenFeed<G, N>, place: u8) -> Option<VenueId> {
@@ -40,7 +28,7 @@ fn feed_venue<G: Genuine, N: FeedName>(feed: &OpenFeed<G, N>, place: u8) -> Opti
 fn flush_each<G: Genuine, N: FeedName, W: Wait>(
     rt: &W,
     feed: &OpenFeed<G, N>,
-    turn: &Turn,
+    done: &Consolidated,
     all: bool,
 ) -> bool {
     let mut moved = false;
@@ -48,8 +36,8 @@ fn flush_each<G: Genuine, N: FeedName, W: Wait>(
         let Some(venue) = feed_venue(feed, place) else {
             break;
         };
-        if all || (!turn.gave[venue.index()] && feed.venues.is_held_back(venue)) {
-            let pushed = feed.venues.flush_some(rt, venue, u64::from(ITEMS_A_TURN));
+        if all || (!done.venues[venue.index()] && feed.venues.is_held_back(venue)) {
+            let pushed = feed.venues.flush_some(rt, venue, ITEMS_A_SECTION);
             let pushed = pushed.unwrap_or(0);
             moved = moved || pushed > 0;
         }
@@ -57,49 +45,42 @@ fn flush_each<G: Genuine, N: FeedName, W: Wait>(
     moved
 }
 
-/// Journals what is in the venues' lanes.
-fn consume_each<G: Genuine, N: FeedName, W: Wait>(
-    rt: &W,
-    hub: &mut HubCell<G, N>,
-    turn: &mut Turn,
-) {
-    for place in 0..16u8 {
-        let Some(venue) = VenueId::new(place) else {
-            break;
-        };
-        match consume_some(rt, hub, venue, ITEMS_A_TURN) {
-            Ok(0) => {}
-            Ok(_) => {
-                turn.gave[venue.index()] = true;
-                turn.moved = true;
-            }
-            Err(JournalFault::UnknownVenue) => break,
-            Err(JournalFault::NoMemory) => turn.stop = Some(Stop::NoMemory),
-            Err(_) => turn.stop = Some(Stop::JournalFull),
-        }
+/// Returns why the run stops where journaling was refused so.
+fn reason_of(fault: JournalFault) -> Stop {
+    match fault {
+        JournalFault::NoMemory => Stop::NoMemory,
+        _ => Stop::JournalFull,
     }
 }
 
-/// Takes the consolidator's lock once, and journals what is in the venues' lanes, unless the run
-/// stops early, and offers each subscriber what it wants.
+/// Offers each subscriber what it wants, and returns how many notices were offered.
+fn offer_all<G: Genuine, N: FeedName, W: Wait>(rt: &W, feed: &OpenFeed<G, N>) -> u64 {
+    let mut offered: u64 = 0;
+    for place in 0..32u8 {
+        let Some(id) = SubscriberId::new(place) else {
+            break;
+        };
+        let Ok(pushed) = feed.offer(rt, id) else {
+            break;
+        };
+        offered = offered.saturating_add(pushed);
+    }
+    offered
+}
+
+/// Takes a turn: journals and offers, or, where the run stops early, offers alone. Returns what that
+/// came to.
 fn take_turn<G: Genuine, N: FeedName, W: Wait>(
     rt: &W,
     feed: &OpenFeed<G, N>,
     signals: &Signals,
-) -> Turn {
-    let mut turn = Turn {
-        moved: false,
-        gave: [false; 16],
-        stop: None,
-    };
-    let mut hub = feed.hub.lock(rt);
+) -> Consolidated {
     if !signals.is_stopped() {
-        consume_each(rt, &mut hub, &mut turn);
+        return feed.consolidate(rt);
     }
-    if offer_each(rt, &mut hub, feed.venues.bells()) > 0 {
-        turn.moved = true;
-    }
-    turn
+    let mut done = Consolidated::nothing();
+    done.offered = offer_all(rt, feed);
+    done
 }
 
 /// Whether a notice waits for room in a lane from which a thread of the run takes notices.
@@ -137,14 +118,15 @@ pub(crate) fn consolidate<G: Genuine, N: FeedName, W: Wait>(
             None
         };
         let last = signals.have_lines_ended();
-        let turn = take_turn(rt, feed, signals);
-        if let Some(stop) = turn.stop {
+        let done = take_turn(rt, feed, signals);
+        if let Some(fault) = done.refused {
             signals.stop();
-            stopped = Some(stop);
+            stopped = Some(reason_of(fault));
         }
-        let flushed = flush_each(rt, feed, &turn, first || last);
+        let flushed = flush_each(rt, feed, &done, first || last);
         first = false;
-        if turn.moved || turn.stop.is_some() || flushed {
+        let moved = done.consumed > 0 || done.offered > 0;
+        if moved || done.refused.is_some() || flushed {
             looks = 0;
             continue;
         }

@@ -1,0 +1,83 @@
+//! A turn of the consolidator: what is done under its lock taken once.
+
+ghost use Rattle.std.specs.Prelude.{◌≡◌, ◌≤◌};
+
+use crate::bells::Bells;
+use crate::feed_name::FeedName;
+use crate::hub::calls::{consume_some, offer_each};
+use crate::hub::cell::HubCell;
+use feed_types::Genuine;
+use journal_book::JournalFault;
+use std::sync::Wait;
+
+/// How many items are journaled in one section at most, so that nobody waits long for the lock, nor
+/// the notices of one item for many other items.
+const ITEMS_A_SECTION: u32 = 64;
+
+/// What `OpenFeed::consolidate` did.
+#[derive(Clone, Copy, Debug, PartialEq, Eq)]
+pub struct Consolidated {
+    /// How many items were journaled, of all venues.
+    pub consumed: u32,
+    /// By the venue's number, whether an item of it was journaled.
+    pub venues: [bool; 16],
+    /// How many notices were offered, to all subscribers.
+    pub offered: u64,
+    /// Why journaling was refused, if it was: JournalFull or NoMemory.
+    pub refused: Option<JournalFault>,
+}
+
+impl Consolidated {
+    /// Returns what a turn did that has done nothing yet.
+    pub(crate) fn nothing() -> Consolidated
+        ensures { result.consumed ≡ 0 }
+    {
+        Consolidated {
+            consumed: 0,
+            venues: [false; 16],
+            offered: 0,
+            refused: None,
+        }
+    }
+}
+
+/// Journals what is in the venues' lanes, at most 64 items, up to the first refusal. It begins with
+/// the venue after the last one that the turn before came to, so that none of them waits for ever.
+fn consume_round<G: Genuine, N: FeedName, W: Wait>(rt: &W, hub: &mut HubCell<G, N>) -> Consolidated
+    ensures most { result.consumed ≤ 64 }
+{
+    let mut done = Consolidated::nothing();
+    for _ in 0..hub.core.venue_count() {
+        let left = ITEMS_A_SECTION - done.consumed;
+        if left == 0 {
+            break;
+        }
+        let venue = hub.next_venue();
+        match consume_some(rt, hub, venue, left) {
+            Ok(0) => {}
+            Ok(count) => {
+                done.consumed += count;
+                done.venues[venue.index()] = true;
+            }
+            Err(fault) => {
+                done.refused = Some(fault);
+                break;
+            }
+        }
+    }
+    done
+}
+
+/// Journals what is in the venues' lanes, at most 64 items, and then offers each subscriber what it
+/// wants.
+pub(crate) fn take_turn<G: Genuine, N: FeedName, W: Wait>(
+    rt: &W,
+    hub: &mut HubCell<G, N>,
+    bells: &Bells,
+) -> Consolidated
+    ensures most { result.consumed ≤ 64 }
+{
+    let mut done = consume_round(rt, hub);
+    done.offered = offer_each(rt, hub, bells);
+    done
+}
