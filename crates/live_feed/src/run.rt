@@ -14,16 +14,18 @@ mod signals;
 pub(crate) mod source;
 mod subscriber_threads;
 mod subscriber_work;
+mod threads;
 
 use crate::feed::open_feed::OpenFeed;
 use crate::feed_name::FeedName;
 use crate::run::consolidating::consolidate;
 use crate::run::line::{Line, LineEnd};
-use crate::run::line_threads::{LineThread, join_lines, start_lines};
+use crate::run::line_threads::{LineThread, start_lines};
 use crate::run::report::{RunReport, Stop};
 use crate::run::signals::Signals;
 use crate::run::source::LineSource;
-use crate::run::subscriber_threads::{LogThread, join_subscribers, start_subscribers};
+use crate::run::subscriber_threads::{LogThread, start_subscribers};
+use crate::run::threads::join_each;
 use crate::subscriber::Subscriber;
 use crate::subscriber::log::SubscriberLog;
 use feed_types::Genuine;
@@ -141,8 +143,8 @@ where
     );
     let line_threads = start_lines(rt, scope, &feed.venues, signals, lines, line_lists.threads);
     let stopped = consolidate(rt, feed, signals);
-    let ends = join_lines(rt, line_threads, line_lists.ends);
-    let logs = join_subscribers(rt, log_threads, log_lists.back);
+    let ends = join_each(rt, line_threads, line_lists.ends);
+    let logs = join_each(rt, log_threads, log_lists.back);
     let stopped = if signals.lacks_thread() {
         Some(Stop::NoThread)
     } else {

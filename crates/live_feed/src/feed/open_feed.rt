@@ -93,7 +93,8 @@ impl<G: Genuine, N: FeedName> OpenFeed<G, N> {
         ensures accepts { AcceptsTheirs G.sessions G.carries G.ends seat.old.venue
             (bytes_of datagram.now) result }
     {
-        self.venues.take(rt, seat, datagram)
+        let mut gap = false;
+        self.venues.take_and_look(rt, seat, datagram, &mut gap)
     }
 
     /// Pushes what is ready of the venue, until nothing is or the lane is full, and gives how many
@@ -101,7 +102,7 @@ impl<G: Genuine, N: FeedName> OpenFeed<G, N> {
     pub fn flush<W: Wait>(&self, rt: &W, venue: VenueId) -> Result<u64, FeedFault>
         ensures unknown { IsErrOf result FeedFault.UnknownVenue ↔ (length N.lanes.venues ≤ venue) }
     {
-        self.venues.flush(rt, venue)
+        self.venues.flush_some(rt, venue, u64::MAX)
     }
 
     /// The request for the venue's gap to send now, if any.

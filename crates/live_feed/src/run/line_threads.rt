@@ -8,17 +8,15 @@ use crate::run::line::{Line, LineEnd};
 use crate::run::line_work::{LineOf, work_line};
 use crate::run::signals::Signals;
 use crate::run::source::LineSource;
+use crate::run::threads::ThreadOf;
 use crate::venue::locks::VenueLocks;
 use feed_types::Genuine;
 use std::snapshot::Snapshot;
 use std::sync::Wait;
-use std::thread::{PromisedHandle, Scope, Threads};
+use std::thread::{Scope, Threads};
 
 /// A line's thread, or the line where none could be started: it has read nothing.
-pub(crate) type LineThread<G, N, S> = Result<
-    PromisedHandle<LineEnd<G, N, S>, LineOf<G, N, S>>,
-    LineEnd<G, N, S>,
->;
+pub(crate) type LineThread<G, N, S> = ThreadOf<LineEnd<G, N, S>, LineOf<G, N, S>>;
 
 /// Starts a thread for a line. Where that can't be, the run stops early.
 fn start_line<'s, E, G, N, S, R>(
@@ -86,49 +84,4 @@ where
         threads.push_reserved(thread);
     }
     threads
-}
-
-/// Waits for a line's thread.
-fn join_line<G, N, S, R>(rt: &R, thread: LineThread<G, N, S>) -> LineEnd<G, N, S>
-where
-    G: Genuine,
-    N: FeedName,
-    S: LineSource<G>,
-    R: Threads,
-    ensures { MatchResult thread
-        (λ handle. HasEnded (HasTaken G.sessions G.carries G.ends N.lanes) S.brings S.failures
-        handle.promise.seat.value handle.promise.source.value result.seat result.source
-        result.fault)
-        (λ here. result ≡ here) }
-{
-    match thread {
-        Ok(handle) => handle.join(rt),
-        Err(here) => here,
-    }
-}
-
-/// Waits for each line's thread, in order.
-#[tactic(auto, using(crate::proofs::RunMoves::pairwise_all))]
-pub(crate) fn join_lines<G, N, S, R>(
-    rt: &R,
-    threads: Vec<LineThread<G, N, S>>,
-    mut ends: Vec<LineEnd<G, N, S>>,
-) -> Vec<LineEnd<G, N, S>>
-where
-    G: Genuine,
-    N: FeedName,
-    S: LineSource<G>,
-    R: Threads,
-    requires empty { ends.items ≡ [] }
-    requires room { vec_len threads ≤ vec_capacity ends }
-    ensures { Pairwise (λ thread ended. MatchResult thread
-        (λ handle. HasEnded (HasTaken G.sessions G.carries G.ends N.lanes) S.brings S.failures
-        handle.promise.seat.value handle.promise.source.value ended.seat ended.source ended.fault)
-        (λ here. ended ≡ here))
-        threads.items result.items }
-{
-    for thread in threads {
-        ends.push_reserved(join_line(rt, thread));
-    }
-    ends
 }

@@ -7,17 +7,18 @@ use crate::bells::Bells;
 use crate::feed_name::FeedName;
 use crate::run::signals::Signals;
 use crate::run::subscriber_work::{LogOf, work_subscriber};
+use crate::run::threads::ThreadOf;
 use crate::subscriber::log::SubscriberLog;
 use filter_terms::Strategy;
 use std::snapshot::Snapshot;
 use std::sync::{Mutex, Wait};
-use std::thread::{PromisedHandle, Scope, Threads};
+use std::thread::{Scope, Threads};
 
 /// A subscriber's thread, or its log where none could be started: it has taken nothing.
-pub(crate) type LogThread<N> = Result<PromisedHandle<SubscriberLog<N>, LogOf<N>>, SubscriberLog<N>>;
+pub(crate) type LogThread<N> = ThreadOf<SubscriberLog<N>, LogOf<N>>;
 
 /// Starts a thread for a subscriber. Where that can't be, the run stops early.
-pub(crate) fn start_subscriber<'s, E, N, R>(
+fn start_subscriber<'s, E, N, R>(
     rt: &'s R,
     scope: &Scope<'s, E>,
     signals: &'s Signals,
@@ -80,43 +81,4 @@ where
         threads.push_reserved(thread);
     }
     threads
-}
-
-/// Waits for a subscriber's thread.
-fn join_subscriber<N, R>(rt: &R, thread: LogThread<N>) -> SubscriberLog<N>
-where
-    N: FeedName,
-    R: Threads,
-    ensures { MatchResult thread
-        (λ handle. HasPolled handle.promise.log.value result)
-        (λ here. result ≡ here) }
-{
-    match thread {
-        Ok(handle) => handle.join(rt),
-        Err(here) => here,
-    }
-}
-
-/// Waits for each subscriber's thread, in order.
-#[tactic(auto, using(crate::proofs::RunMoves::pairwise_all))]
-pub(crate) fn join_subscribers<N, R>(
-    rt: &R,
-    threads: Vec<LogThread<N>>,
-    mut logs: Vec<SubscriberLog<N>>,
-) -> Vec<SubscriberLog<N>>
-where
-    N: FeedName,
-    R: Threads,
-    requires empty { logs.items ≡ [] }
-    requires room { vec_len threads ≤ vec_capacity logs }
-    ensures count { vec_len result ≡ vec_len threads }
-    ensures logs { Pairwise (λ thread back. MatchResult thread
-        (λ handle. HasPolled handle.promise.log.value back)
-        (λ here. back ≡ here))
-        threads.items result.items }
-{
-    for thread in threads {
-        logs.push_reserved(join_subscriber(rt, thread));
-    }
-    logs
 }

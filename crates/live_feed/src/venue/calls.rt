@@ -62,32 +62,8 @@ fn take_in<G: Genuine, N: FeedName, W: Wait>(
 }
 
 impl<G: Genuine, N: FeedName> VenueLocks<G, N> {
-    /// Takes a datagram that came on the seat's line, which is genuine at its venue, and answers
-    /// what became of it: the packet's fault, else the line's, else the outcome. What is ready then,
-    /// after a fault too, is pushed, until nothing is or the lane is full. The datagram is read
-    /// before the venue's lock is taken.
-    pub(crate) fn take<W: Wait>(
-        &self,
-        rt: &W,
-        seat: &mut LineSeat<G, N>,
-        datagram: &Datagram,
-    ) -> Result<Outcome, TakeFault>
-        requires { AreGenuineBytes G.sessions G.carries G.ends seat.old.venue
-            (bytes_of datagram.now) }
-        ensures taken { IsTakenBy G.sessions G.carries G.ends N.lanes (bytes_of datagram.now)
-            seat.old result seat.new }
-
-        // Where it is known which sessions the lines bring, a packet of one of them is refused only
-        // where it isn't of the present one.
-        ensures accepts { AcceptsTheirs G.sessions G.carries G.ends seat.old.venue
-            (bytes_of datagram.now) result }
-    {
-        let mut gap = false;
-        self.take_and_look(rt, seat, datagram, &mut gap)
-    }
-
-    /// Takes a datagram as `take` does, and says whether a gap stands then, all under the venue's
-    /// lock taken once.
+    /// Takes a datagram as `OpenFeed::take` does, and says in `gap` whether a gap stands then, all
+    /// under the venue's lock taken once. After a datagram that is no packet it says that one does.
     pub(crate) fn take_and_look<W: Wait>(
         &self,
         rt: &W,
@@ -108,7 +84,7 @@ impl<G: Genuine, N: FeedName> VenueLocks<G, N> {
                 Err(fault) => Err(TakeFault::Line(fault)),
             },
             Err(fault) => {
-                let _ = self.flush(rt, seat.venue());
+                let _ = self.flush_some(rt, seat.venue(), u64::MAX);
                 *gap = true;
                 Err(TakeFault::Packet(fault))
             }
@@ -146,16 +122,9 @@ impl<G: Genuine, N: FeedName> VenueLocks<G, N> {
         answer
     }
 
-    /// Pushes what is ready of the venue, until nothing is or the lane is full, and gives how many
-    /// items were pushed.
-    pub(crate) fn flush<W: Wait>(&self, rt: &W, venue: VenueId) -> Result<u64, FeedFault>
-        ensures unknown { IsErrOf result FeedFault.UnknownVenue ↔ (length N.lanes.venues ≤ venue) }
-    {
-        self.flush_some(rt, venue, u64::MAX)
-    }
-
-    /// Pushes what is ready of the venue as `flush` does, at most so many items. Where something may
-    /// be ready still, the venue is held back.
+    /// Pushes what is ready of the venue, at most `most` items, until nothing is or the lane is full,
+    /// and returns how many items were pushed. Where something may be ready still, the venue is held
+    /// back.
     pub(crate) fn flush_some<W: Wait>(
         &self,
         rt: &W,

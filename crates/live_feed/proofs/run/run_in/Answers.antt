@@ -18,8 +18,8 @@ returns-clause-lines g c =
     (λ line handle ended made kept. ended_of takes brings failures handle.promise.seat.value line.seat
     handle.promise.source.value line.source ended.seat ended.source ended.fault made.0 made.1
     kept)
-    c.args.lines.items c.start_lines-line_threads.result.items c.join_lines-ends.result.items
-    c.start_lines-line_threads.ensures.threads c.join_lines-ends.ensures
+    c.args.lines.items c.start_lines-line_threads.result.items c.join_each-ends.result.items
+    c.start_lines-line_threads.ensures.threads c.join_each-ends.ensures.ends
 
 pub returns-clause-logs : goal.returns-clause-logs
 returns-clause-logs g c =
@@ -29,5 +29,5 @@ returns-clause-logs g c =
     (λ handle back. HasPolled handle.promise.log.value back)
     (λ log handle back made kept. subst (λ given. HasPolled given back) made kept)
     c.args.logs.items c.start_subscribers-log_threads.result.items
-    c.join_subscribers-logs.result.items
-    c.start_subscribers-log_threads.ensures.threads c.join_subscribers-logs.ensures.logs
+    c.join_each-logs.result.items
+    c.start_subscribers-log_threads.ensures.threads c.join_each-logs.ensures.ends

@@ -1,6 +1,6 @@
 use Rattle.std.proofs.Common.{◌∷◌, [], arith, length-append}
 use Rattle.live_feed.proofs.RunMoves.{pairwise_more}
-use Rattle.live_feed.proofs.run.line_threads.join_lines.Goals as goal
+use Rattle.live_feed.proofs.run.threads.join_each.Goals as goal
 
 pub loop-thread-preserved : goal.loop-thread-preserved
 loop-thread-preserved g c =
@@ -11,7 +11,7 @@ loop-thread-preserved g c =
       tt,
       rw pushed.items
           (pairwise_more _ c.loop-thread.yielded c.loop-thread.ends.items c.in-Some.thread
-          c.join_line.result i.2 c.join_line.ensures),
+          c.join_one.result i.2 c.join_one.ensures),
       omega (arith, more, pushed.len, i.3),
       omega (arith, pushed.capacity, i.4),
     )
