@@ -33,8 +33,8 @@ pub fn lane<T: Drop, R: LaneRule<T>>(
 
     // Both ends are of one lane, and show the same.
     ensures same { IfOk result (λ r. r.1 ≡ r.0) }
-    ensures ok { OnOk result ((1 ≤ capacity) × (capacity ≤ MAX_CAPACITY)) }
-    ensures bad { (result ≡ Err BadCapacity) ↔ ((capacity < 1) ⊎ (MAX_CAPACITY < capacity)) }
+    ensures ok { OnOk result ((1 ≤ capacity) × (capacity ≤ 65536)) }
+    ensures bad { (result ≡ Err BadCapacity) ↔ ((capacity < 1) ⊎ (65536 < capacity)) }
 {
     if capacity == 0 || capacity > MAX_CAPACITY {
         return Err(LaneFault::BadCapacity);
