@@ -114,7 +114,7 @@ given_after sessions carries ends lanes old line p answer k content o genuine =
 
 -- a cell of the same session, which was given one packet more
 module _ (sessions : SessionNames) (carries : Carries) (ends : Ends) (lanes : FeedLanes) (old new : CellState) (line : LineId) (p : Content) (answer : Result Outcome LineFault) (k : VenueLockInvariant sessions carries ends lanes old)
-    (kept : KeepsItsSession old.arbiter new.arbiter) (tag : new.lane.tag ≡ old.lane.tag) (lane : new.lane.lane ≡ old.lane.lane) (fits : FitsCell new (after_arrival k.history (arrival_of line p answer))) (content : IsContent p)
+    (kept : KeepsItsSession old.arbiter new.arbiter) (tag : new.lane.tag ≡ old.lane.tag) (lane : new.lane.lane ≡ old.lane.lane) (capacity : new.lane.capacity ≡ old.lane.capacity) (fits : FitsCell new (after_arrival k.history (arrival_of line p answer))) (content : IsContent p)
     (o : IsOutcome old.arbiter.session old.arbiter.window old.arbiter.sent k.history.present.packets p answer) (genuine : IsGenuine sessions carries ends old.arbiter.venue p) where
   pub more_kept : VenueLockInvariant sessions carries ends lanes new
   more_kept = record {
@@ -125,13 +125,15 @@ module _ (sessions : SessionNames) (carries : Carries) (ends : Ends) (lanes : Fe
     named = subst (λ (x : ℕ × (List (List ℕ) × List ℕ)). sessions x.0 (length x.1.0) x.1.1) (λ i. (sym kept.venue i, (sym kept.sessions i, sym kept.session i))) k.named;
     tag = tag ∙ k.tag ∙ sym kept.venue;
     lane = ap (slice_get lanes.venues) kept.venue ∙ k.lane ∙ ap Some (sym lane);
+    window = kept.window ∙ k.window;
+    capacity = capacity ∙ k.capacity;
   }
 
 pub packet_kept : (sessions : SessionNames) (carries : Carries) (ends : Ends) (lanes : FeedLanes) (old new : CellState) (line : LineId) (p : Content) (answer : Result Outcome LineFault) (k : VenueLockInvariant sessions carries ends lanes old)
     → new.lane ≡ old.lane → KeepsItsPlace old.arbiter new.arbiter → FitsCell new (after_arrival k.history (arrival_of line p answer)) → IsContent p
     → IsOutcome old.arbiter.session old.arbiter.window old.arbiter.sent k.history.present.packets p answer → IsGenuine sessions carries ends old.arbiter.venue p → VenueLockInvariant sessions carries ends lanes new
 packet_kept sessions carries ends lanes old new line p answer k lane kept fits content o genuine =
-    more_kept sessions carries ends lanes old new line p answer k (keeps_session kept) (ap (λ (e : LaneEnd Numbered). e.tag) lane) (ap (λ (e : LaneEnd Numbered). e.lane) lane) fits content o genuine
+    more_kept sessions carries ends lanes old new line p answer k (keeps_session kept) (ap (λ (e : LaneEnd Numbered). e.tag) lane) (ap (λ (e : LaneEnd Numbered). e.lane) lane) (ap (λ (e : LaneEnd Numbered). e.capacity) lane) fits content o genuine
 
 -- ---- a push
 
@@ -206,6 +208,8 @@ push_kept sessions carries ends lanes old new x k lane advanced fits = record {
   named = subst (λ (x : ℕ × (List (List ℕ) × List ℕ)). sessions x.0 (length x.1.0) x.1.1) (λ i. (sym advanced.kept.venue i, (sym advanced.kept.sessions i, sym advanced.kept.session i))) k.named;
   tag = ap (λ (e : LaneEnd Numbered). e.tag) lane ∙ k.tag ∙ sym advanced.kept.venue;
   lane = ap (slice_get lanes.venues) advanced.kept.venue ∙ k.lane ∙ ap (λ (e : LaneEnd Numbered). Some e.lane) (sym lane);
+  window = advanced.kept.window ∙ k.window;
+  capacity = ap (λ (e : LaneEnd Numbered). e.capacity) lane ∙ k.capacity;
 }
 
 -- ---- a packet whose message is the next item, and its push
@@ -321,14 +325,16 @@ new_fits arbiter lane new fits empty = record {
 }
 
 pub new_kept : (sessions : SessionNames) (carries : Carries) (ends : Ends) (lanes : FeedLanes) (arbiter : State) (lane : LaneEnd Numbered) → IsNew arbiter lane.tag arbiter.session arbiter.window → Fits arbiter [] → lane.items ≡ []
-    → sessions lane.tag 1 arbiter.session → slice_get lanes.venues lane.tag ≡ Some lane.lane → VenueLockInvariant sessions carries ends lanes (new_cell arbiter lane)
-new_kept sessions carries ends lanes arbiter lane new fits empty named at = record {
+    → sessions lane.tag 1 arbiter.session → slice_get lanes.venues lane.tag ≡ Some lane.lane → (arbiter.window ≡ lanes.setting.window) × (lane.capacity ≡ lanes.setting.lane) → VenueLockInvariant sessions carries ends lanes (new_cell arbiter lane)
+new_kept sessions carries ends lanes arbiter lane new fits empty named at sized = record {
   history = new_history arbiter.session;
   fits = new_fits arbiter lane new fits empty;
   given = record { answered = tt; genuine = tt };
   named = subst (λ (x : ℕ × ℕ). sessions x.0 x.1 arbiter.session) (λ i. (sym new.venue i, sym (ap length new.sessions) i)) named;
   tag = sym new.venue;
   lane = ap (slice_get lanes.venues) new.venue ∙ at;
+  window = sized.0;
+  capacity = sized.1;
 }
 
 -- ---- a renewal
@@ -336,6 +342,9 @@ new_kept sessions carries ends lanes arbiter lane new fits empty named at = reco
 take_whole : {X : Type 0} (xs : List X) → take (length xs) xs ≡ xs
 take_whole [] = refl
 take_whole (x ∷ xs) = ap (λ (l : List _). x ∷ l) (take_whole xs)
+
+pub shown_sum : (m n : ℕ) → shown (shown m + n) ≡ shown (m + n)
+shown_sum m n = grind (arith)
 
 module _ (old new : CellState) (h : History) (name : List ℕ) (f : FitsCell old h) (begun : IsRenewed old.arbiter new.arbiter name) (fits : Fits new.arbiter [])
     (whole : IsComplete h.present.packets × (old.arbiter.sent ≡ length (stream_of h.present.packets))) (lane : new.lane ≡ old.lane) (sums : new.accepted ≡ old.accepted) where
@@ -364,6 +373,8 @@ module _ (old new : CellState) (h : History) (name : List ℕ) (f : FitsCell old
         named = subst (λ (x : ℕ × (ℕ × List ℕ)). sessions x.0 x.1.0 x.1.1) (λ i. (sym begun.venue i, (sym ordinal i, sym begun.begun.session i))) named;
         tag = ap (λ (e : LaneEnd Numbered). e.tag) lane ∙ k.tag ∙ sym begun.venue;
         lane = ap (slice_get lanes.venues) begun.venue ∙ k.lane ∙ ap (λ (e : LaneEnd Numbered). Some e.lane) (sym lane);
+        window = begun.window ∙ k.window;
+        capacity = ap (λ (e : LaneEnd Numbered). e.capacity) lane ∙ k.capacity;
       }
     where
       ordinal : ordinal_of new.arbiter ≡ ordinal_of old.arbiter + 1

@@ -1,5 +1,5 @@
 -- How a venue's lane is closed, said of plain states.
-use Rattle.std.proofs.Common.{◌≡◌, ℕ, Bool, true, false, zero, suc, ◌+◌, ◌≤◌, ◌<◌, List, [], ◌∷◌, ◌++◌, length, map, take, drop, Option, Some, None, refl, sym, ap, ◌∙◌, arith, append_assoc, append-nil, length-append}
+use Rattle.std.proofs.Common.{◌≡◌, ℕ, Bool, true, false, zero, suc, ◌+◌, ◌≤◌, ◌<◌, List, [], ◌∷◌, ◌++◌, length, map, take, drop, Option, Some, None, refl, sym, ap, subst, ◌∙◌, arith, append_assoc, append-nil, length-append}
 use Rattle.std.specs.Prelude.{slice_get, ◌==◌, if◌then◌else◌}
 use Rattle.std.specs.List.{range_with_len}
 use Rattle.std.proofs.lemmas.List.{length-map, take-append-drop}
@@ -17,7 +17,7 @@ use Rattle.line_arbiter.specs.Histories.{items_of}
 use Rattle.fifo_lane.specs.Lane.{Keeps}
 use Rattle.line_arbiter.proofs.Histories.{items_push}
 use Rattle.live_feed.specs.Lanes.{FeedLanes}
-use Rattle.live_feed.specs.venue.Cells.{CellState, VenueLockInvariant}
+use Rattle.live_feed.specs.venue.Cells.{AreGivenFrom, CellState, VenueLockInvariant}
 use Rattle.live_feed.specs.hub.Hubs.{item_by, items_in}
 use Rattle.live_feed.specs.settle.Settlements.{IsSettled}
 use Rattle.line_arbiter.proofs.FitsHistory.{wins_are}
@@ -128,17 +128,17 @@ module _ (v : ℕ) (entries : List Entry) (place : ℕ) where
 
 pub settled : (sessions : SessionNames) (carries : Carries) (ends : Ends) (lanes : FeedLanes) (may_send : ℕ → List Numbered → Type 0) (c : CellState) (k : VenueLockInvariant sessions carries ends lanes c) (received inside ready : List Numbered) (won : Counts)
     → Keeps may_send c.lane.tag c.lane.capacity c.lane.items received inside → ready ≡ drop c.arbiter.sent (stream_of k.history.present.packets) → won ≡ c.arbiter.wins
-    → IsSettled carries ends c.arbiter.venue c.arbiter.window received inside ready won c.accepted
+    → IsSettled carries ends c.arbiter.venue lanes.setting.window c.lane.items received inside ready won c.accepted
 settled sessions carries ends lanes may_send c k received inside ready won keeps rest same =
     let h = k.history in
     let f = k.fits in
     let stream = stream_of h.present.packets in
     record {
+      sent_is = sym keeps.whole;
       history = h;
-      given = k.given;
+      given = subst (λ (n : ℕ). AreGivenFrom carries ends c.arbiter.venue n 1 h.earlier h.present) k.window k.given;
       whole =
-          sym (append_assoc received inside ready)
-          ∙ ap (λ (l : List Numbered). l ++ ready) (sym keeps.whole ∙ f.sent)
+          ap (λ (l : List Numbered). l ++ ready) f.sent
           ∙ ap (λ (l : List Numbered). (items_of h.earlier ++ take c.arbiter.sent stream) ++ l) rest
           ∙ append_assoc (items_of h.earlier) (take c.arbiter.sent stream) (drop c.arbiter.sent stream)
           ∙ ap (λ (l : List Numbered). items_of h.earlier ++ l) (take-append-drop c.arbiter.sent stream)

@@ -10,7 +10,7 @@ use Rattle.journal_book.specs.Journals.{JournalState}
 use Rattle.fifo_lane.specs.Lane.{LaneEnd}
 use Rattle.feed_core.proofs.Lists.{get_push}
 use Rattle.live_feed.specs.declared.hub.spare.SpareLane.{SpareLane}
-use Rattle.live_feed.specs.Lanes.{FeedLanes}
+use Rattle.live_feed.specs.Lanes.{FeedLanes, FeedSetting}
 use Rattle.live_feed.specs.feed.Feeds.{StartState, AreStarts, IsUnused, AreUnused, lanes_of, IsClosed, HasItsLane}
 use Rattle.live_feed.specs.hub.Hubs.{HubLockInvariant, items_in}
 
@@ -29,16 +29,16 @@ get_map f (z ∷ xs) zero x e = let same : z ≡ x = cc in ap (λ (y : _). Some 
 get_map f (z ∷ xs) (suc k) x e = get_map f xs k x e
 
 -- one lane more
-pub unused_more : (xs : List SpareLane) (x : SpareLane) → AreUnused xs → IsUnused (length xs) x → AreUnused (xs ++ x ∷ [])
-unused_more xs x all new = λ id y at. elim (get_push xs id x y at) [
-  | inl here ↦ subst (λ (p : ℕ × SpareLane). IsUnused p.0 p.1) (λ i. (sym here.0 i, sym here.1 i)) new
+pub unused_more : (capacity : ℕ) (xs : List SpareLane) (x : SpareLane) → AreUnused capacity xs → IsUnused capacity (length xs) x → AreUnused capacity (xs ++ x ∷ [])
+unused_more capacity xs x all new = λ id y at. elim (get_push xs id x y at) [
+  | inl here ↦ subst (λ (p : ℕ × SpareLane). IsUnused capacity p.0 p.1) (λ i. (sym here.0 i, sym here.1 i)) new
   | inr there ↦ all id y there.1
 ]
 
 -- one venue more
-pub starts_more : (starts : List StartState) (receivers : List (LaneEnd Numbered)) (s : StartState) (e : LaneEnd Numbered) → AreStarts starts receivers → e ≡ s.lane → e.tag ≡ length receivers → e.items ≡ []
-    → AreStarts (starts ++ s ∷ []) (receivers ++ e ∷ [])
-starts_more starts receivers s e h same tag empty = record {
+pub starts_more : (window lane : ℕ) (starts : List StartState) (receivers : List (LaneEnd Numbered)) (s : StartState) (e : LaneEnd Numbered) → AreStarts window lane starts receivers → e ≡ s.lane → e.tag ≡ length receivers → e.items ≡ []
+    → (s.arbiter.window ≡ window) × (s.lane.capacity ≡ lane) → AreStarts window lane (starts ++ s ∷ []) (receivers ++ e ∷ [])
+starts_more window lane starts receivers s e h same tag empty sized = record {
   count = length-append starts (s ∷ []) ∙ ap (λ (n : ℕ). n + 1) h.count ∙ sym (length-append receivers (e ∷ []));
   same = λ k y at. elim (get_push starts k s y at) [
     | inl here ↦ ap (slice_get (receivers ++ e ∷ [])) (here.0 ∙ h.count) ∙ get_last receivers e ∙ ap Some (same ∙ sym (ap (λ (x : StartState). x.lane) here.1))
@@ -48,9 +48,16 @@ starts_more starts receivers s e h same tag empty = record {
     | inl here ↦ subst (λ (p : ℕ × LaneEnd Numbered). (p.1.tag ≡ p.0) × (p.1.items ≡ [])) (λ i. (sym here.0 i, sym here.1 i)) (tag, empty)
     | inr there ↦ h.new k y there.1
   ];
+  sized = λ k y at. elim (get_push starts k s y at) [
+    | inl here ↦ subst (λ (x : StartState). (x.arbiter.window ≡ window) × (x.lane.capacity ≡ lane)) (sym here.1) sized
+    | inr there ↦ h.sized k y there.1
+  ];
 }
 
-module _ (starts : List StartState) (receivers : List (LaneEnd Numbered)) (journal : JournalState) (spare : List SpareLane) (lanes : FeedLanes) (h : IsClosed starts receivers journal spare) (e : lanes_of receivers spare ≡ lanes) where
+module _ (starts : List StartState) (receivers : List (LaneEnd Numbered)) (journal : JournalState) (spare : List SpareLane) (setting : FeedSetting) (lanes : FeedLanes) (h : IsClosed setting starts receivers journal spare) (e : lanes_of receivers spare setting ≡ lanes) where
+  setting_is : setting ≡ lanes.setting
+  setting_is = ap (λ (l : FeedLanes). l.setting) e
+
   lane_at : (k : ℕ) (r : LaneEnd Numbered) → slice_get receivers k ≡ Some r → slice_get lanes.venues k ≡ Some r.lane
   lane_at k r at = ap (λ (l : FeedLanes). slice_get l.venues k) (sym e) ∙ get_map (λ (x : LaneEnd Numbered). x.lane) receivers k r at
 
@@ -69,6 +76,8 @@ module _ (starts : List StartState) (receivers : List (LaneEnd Numbered)) (journ
   fresh carries ends = record {
     venues = h.venues;
     count = lanes_count ∙ h.venues;
+    symbols = h.symbols ∙ ap (λ (s : FeedSetting). s.symbols) setting_is;
+    size = h.size ∙ ap (λ (s : FeedSetting). s.journal) setting_is;
     subscribers = sym (ap length h.cursors);
     consumed = λ v r at.
         let none : items_in journal.entries v ≡ [] = ap (λ (es : List Entry). items_in es v) h.entries in
@@ -82,6 +91,7 @@ module _ (starts : List StartState) (receivers : List (LaneEnd Numbered)) (journ
         record {
           tag = u.tag ∙ none;
           lane = ap (slice_get lanes.subscribers) (sym none) ∙ ap (λ (l : FeedLanes). slice_get l.subscribers k) (sym e) ∙ get_map (λ (s : SpareLane). s.sender.lane) spare k x at;
+          capacity = u.capacity_is ∙ ap (λ (s : FeedSetting). s.lane) setting_is;
           items = u.items;
           same = u.same;
         };
@@ -91,5 +101,11 @@ module _ (starts : List StartState) (receivers : List (LaneEnd Numbered)) (journ
   pub have_lanes : All (HasItsLane lanes) starts
   have_lanes k d lt =
       let s = get_or starts k d in
-      let there = h.begun.same k s (slice_get-get_or starts k d lt) in
-      ap (slice_get lanes.venues) (h.begun.new k s.lane there).0 ∙ lane_at k s.lane there
+      let at = slice_get-get_or starts k d lt in
+      let there = h.begun.same k s at in
+      let sized = h.begun.sized k s at in
+      record {
+        lane = ap (slice_get lanes.venues) (h.begun.new k s.lane there).0 ∙ lane_at k s.lane there;
+        window = sized.0 ∙ ap (λ (s : FeedSetting). s.window) setting_is;
+        capacity = sized.1 ∙ ap (λ (s : FeedSetting). s.lane) setting_is;
+      }

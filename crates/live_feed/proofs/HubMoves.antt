@@ -79,6 +79,7 @@ offered_still : (lanes : FeedLanes) (j : JournalState) (e : Entry) (ready : Bool
 offered_still lanes j e ready id l o = record {
   tag = o.tag;
   lane = o.lane;
+  capacity = o.capacity;
   items = λ cursor at.
       let grows = changes_begin j.symbols j.entries (e ∷ []) in
       let were = o.items cursor at in
@@ -93,6 +94,8 @@ pub declares : (carries : Carries) (ends : Ends) (lanes : FeedLanes) (s : HubSta
 declares carries ends lanes s k on ready h = record {
   venues = h.venues;
   count = h.count;
+  symbols = h.symbols;
+  size = h.size;
   subscribers = h.subscribers;
   many = h.many;
   consumed = λ v e at.
@@ -109,6 +112,8 @@ pub consumes : (carries : Carries) (ends : Ends) (lanes : FeedLanes) (s : HubSta
 consumes carries ends lanes s k r x ready h at may = record {
   venues = length_put s.receivers k w ∙ h.venues;
   count = h.count;
+  symbols = h.symbols;
+  size = h.size;
   subscribers = h.subscribers;
   many = h.many;
   consumed = λ v e got. elim (get_put s.receivers k v w e got) [ inl here ↦ subst (λ (y : ℕ × LaneEnd Numbered). IsConsumed carries ends lanes entries y.0 y.1) (λ i. (sym here.0 i, sym here.1 i)) this | inr there ↦ other v e there.0 there.1 ];
@@ -143,6 +148,8 @@ pub moves : (carries : Carries) (ends : Ends) (lanes : FeedLanes) (s : HubState)
 moves carries ends lanes s id c l place sent h at from within is = record {
   venues = h.venues;
   count = h.count;
+  symbols = h.symbols;
+  size = h.size;
   many = ap (λ (n : ℕ). n + length s.spare) (length_put s.journal.cursors id (record c { seen = place })) ∙ h.many;
   subscribers = length_put s.senders id (with_items l sent) ∙ h.subscribers ∙ sym (length_put s.journal.cursors id (record c { seen = place }));
   consumed = h.consumed;
@@ -160,7 +167,7 @@ moves carries ends lanes s id c l place sent h at from within is = record {
     this : IsOffered lanes after id (with_items l sent)
     this =
         let mine = h.offered id l from in
-        record { tag = mine.tag; lane = mine.lane; items = λ cursor got. here_items cursor (get_put s.journal.cursors id id (record c { seen = place }) cursor got) }
+        record { tag = mine.tag; lane = mine.lane; capacity = mine.capacity; items = λ cursor got. here_items cursor (get_put s.journal.cursors id id (record c { seen = place }) cursor got) }
 
     other : (j : ℕ) (e : LaneEnd Notice) → j ≢ id → slice_get s.senders j ≡ Some e → IsOffered lanes after j e
     other j e apart got =
@@ -168,6 +175,7 @@ moves carries ends lanes s id c l place sent h at from within is = record {
         record {
           tag = o.tag;
           lane = o.lane;
+          capacity = o.capacity;
           items = λ cursor here. elim (get_put s.journal.cursors id j (record c { seen = place }) cursor here) [ inl same ↦ absurd (apart same.0) | inr there ↦ o.items cursor there.1 ];
         }
 
@@ -215,10 +223,12 @@ pub ready_still : (carries : Carries) (ends : Ends) (lanes : FeedLanes) (s : Hub
 ready_still carries ends lanes s j h is = subst (λ (x : JournalState). HubLockInvariant carries ends lanes (record s { journal = x })) (sym is) (record {
   venues = h.venues;
   count = h.count;
+  symbols = h.symbols;
+  size = h.size;
   subscribers = h.subscribers;
   many = h.many;
   consumed = h.consumed;
-  offered = λ id e at. (let o = h.offered id e at in record { tag = o.tag; lane = o.lane; items = o.items });
+  offered = λ id e at. (let o = h.offered id e at in record { tag = o.tag; lane = o.lane; capacity = o.capacity; items = o.items });
   spare = h.spare;
 })
 
@@ -391,6 +401,8 @@ subscribes carries ends lanes s x rest j senders terms h first is more =
     subst (λ (y : JournalState × List (LaneEnd Notice)). HubLockInvariant carries ends lanes (record s { journal = y.0; senders = y.1; spare = rest })) (λ i. (sym is i, sym more i)) (record {
       venues = h.venues;
       count = h.count;
+      symbols = h.symbols;
+      size = h.size;
       subscribers = length-append s.senders (x.sender ∷ []) ∙ ap (λ (n : ℕ). n + 1) h.subscribers ∙ sym count;
       many = (let m = h.many in let f = ap length first in let n = count in omega arith);
       consumed = h.consumed;
@@ -420,6 +432,7 @@ subscribes carries ends lanes s x rest j senders terms h first is more =
         record {
           tag = spare_is.tag ∙ zero_more;
           lane = ap (slice_get lanes.subscribers) (sym zero_more) ∙ spare_is.lane;
+          capacity = spare_is.capacity;
           items = λ cursor at. here_items cursor (get_push s.journal.cursors (length s.journal.cursors) (record { terms = terms; seen = 0 }) cursor at);
         }
 
@@ -430,12 +443,13 @@ subscribes carries ends lanes s x rest j senders terms h first is more =
         record {
           tag = o.tag;
           lane = o.lane;
+          capacity = o.capacity;
           items = λ cursor got. elim (get_push s.journal.cursors id (record { terms = terms; seen = 0 }) cursor got) [ inl here ↦ absurd (let k = here.0 in omega arith) | inr there ↦ o.items cursor there.1 ];
         }
 
 pub spare_end : (carries : Carries) (ends : Ends) (lanes : FeedLanes) (s : HubState) (x : SpareLane) (rest : List SpareLane) → HubLockInvariant carries ends lanes s → s.spare ≡ x ∷ rest
-    → (x.receiver ≡ x.sender) × (x.receiver.tag ≡ length s.journal.cursors) × (x.receiver.items ≡ []) × (slice_get lanes.subscribers (length s.journal.cursors) ≡ Some x.receiver.lane)
+    → (x.receiver ≡ x.sender) × (x.receiver.tag ≡ length s.journal.cursors) × (x.receiver.items ≡ []) × (slice_get lanes.subscribers (length s.journal.cursors) ≡ Some x.receiver.lane) × (x.receiver.capacity ≡ lanes.setting.lane)
 spare_end carries ends lanes s x rest h first =
     let i = h.spare 0 x (ap (λ (l : List SpareLane). slice_get l 0) first) in
     let zero_more : length s.journal.cursors + 0 ≡ length s.journal.cursors = omega arith in
-    (i.same, ap (λ (e : LaneEnd Notice). e.tag) i.same ∙ i.tag ∙ zero_more, ap (λ (e : LaneEnd Notice). e.items) i.same ∙ i.items, ap (slice_get lanes.subscribers) (sym zero_more) ∙ i.lane ∙ ap (λ (e : LaneEnd Notice). Some e.lane) (sym i.same))
+    (i.same, ap (λ (e : LaneEnd Notice). e.tag) i.same ∙ i.tag ∙ zero_more, ap (λ (e : LaneEnd Notice). e.items) i.same ∙ i.items, ap (slice_get lanes.subscribers) (sym zero_more) ∙ i.lane ∙ ap (λ (e : LaneEnd Notice). Some e.lane) (sym i.same), ap (λ (e : LaneEnd Notice). e.capacity) i.same ∙ i.capacity)

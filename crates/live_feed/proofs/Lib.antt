@@ -9,3 +9,5 @@ pub mod ClosedSubscribers
 pub mod RunMoves
 pub mod Sides
 pub mod Settled
+pub mod OfSessions
+pub mod Batches

@@ -1,5 +1,5 @@
 -- How lines and subscribers go on in a run.
-use Rattle.std.proofs.Common.{◌≡◌, ℕ, MatchResult, map, List, [], ◌∷◌, ◌++◌, Option, None, Some, Result, Ok, Err, refl, sym, ◌∙◌, ap, subst, append-nil, append_assoc}
+use Rattle.std.proofs.Common.{◌≡◌, ℕ, ◌+◌, length, length-append, MatchResult, map, List, [], ◌∷◌, ◌++◌, Option, None, Some, Result, Ok, Err, refl, sym, ◌∙◌, ap, subst, append-nil, append_assoc}
 use Rattle.std.proofs.lemmas.List.{map-append}
 use Rattle.feed_types.specs.declared.journal.Notice.{Notice}
 use Rattle.feed_types.specs.Sequence.{Carries, Ends}
@@ -11,11 +11,13 @@ use Rattle.live_feed.specs.declared.faults.TakeFault.TheVariants as faults
 use Rattle.live_feed.specs.declared.run.source.SourceFault.{SourceFault}
 use Rattle.live_feed.specs.declared.subscriber.logged.PollFault.{PollFault}
 use Rattle.live_feed.specs.declared.subscriber.logged.PollFault.TheVariants.{NoMemory, LogFull}
+use Rattle.line_arbiter.specs.Counts.{shown}
 use Rattle.live_feed.specs.Lanes.{FeedLanes}
 use Rattle.live_feed.specs.venue.Seats.{SeatState}
 use Rattle.live_feed.specs.venue.Datagrams.{AreGenuineBytes, IsTakenBy}
 use Rattle.live_feed.specs.subscriber.Logs.{SubscriberLogState, Polls, logged}
 use Rattle.live_feed.specs.run.Runs.{Taking, AreTakenBy, HasTaken, HasEnded, HasPolled, Pairwise}
+use Rattle.live_feed.proofs.CellMoves.{shown_sum}
 
 -- a datagram leaves a seat where it is
 pub seat_stays : (sessions : SessionNames) (carries : Carries) (ends : Ends) (lanes : FeedLanes)
@@ -119,17 +121,26 @@ pub pairwise_all : {A B : Type 0} (R : A → B → Type 0) (xs all : List A) (ys
     → Pairwise R xs ys → xs ≡ all → Pairwise R all ys
 pairwise_all R xs all ys pairs same = subst (λ zs. Pairwise R zs ys) same pairs
 
+-- one datagram more was counted
+pub read_more : (brought : List (List ℕ)) (bytes : List ℕ) (count more : ℕ)
+    → count ≡ shown (length brought) → more ≡ shown (count + 1)
+    → more ≡ shown (length (brought ++ bytes ∷ []))
+read_more brought bytes count more so_far is =
+    is ∙ ap (λ (n : ℕ). shown (n + 1)) so_far ∙ shown_sum (length brought) 1
+    ∙ ap shown (sym (length-append brought (bytes ∷ [])))
+
 -- the same line's end, where its seat and source are known by another name
 pub ended_of : {S : Type 0} (takes : SeatState → List (List ℕ) → SeatState → Type 0)
     (brings : S → List (List ℕ) → S → Type 0) (failures : S → ℕ) (seat given : SeatState) (source first : S) (last_seat : SeatState)
-    (last_source : S) (fault : Option SourceFault) → seat ≡ given → source ≡ first
-    → HasEnded takes brings failures seat source last_seat last_source fault
-    → HasEnded takes brings failures given first last_seat last_source fault
-ended_of takes brings failures seat given source first last_seat last_source fault same_seat same
-    ended =
+    (last_source : S) (datagrams : ℕ) (fault : Option SourceFault) → seat ≡ given → source ≡ first
+    → HasEnded takes brings failures seat source last_seat last_source datagrams fault
+    → HasEnded takes brings failures given first last_seat last_source datagrams fault
+ended_of takes brings failures seat given source first last_seat last_source datagrams fault same_seat
+    same ended =
     let P : SeatState → Type 0 = λ s. HasEnded takes brings failures s source last_seat last_source
+    datagrams fault in
+    let Q : _ → Type 0 = λ s. HasEnded takes brings failures given s last_seat last_source datagrams
     fault in
-    let Q : _ → Type 0 = λ s. HasEnded takes brings failures given s last_seat last_source fault in
     subst Q same (subst P same_seat ended)
 
 -- what was started for each, and then joined or handed back

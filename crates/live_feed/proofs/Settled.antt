@@ -2,9 +2,11 @@
 use Rattle.std.proofs.Common.{◌≡◌, ℕ, List, length, Some, sym, ap, ◌∙◌, arith}
 use Rattle.std.specs.Prelude.{slice_get}
 use Rattle.feed_types.specs.Sequence.{Carries, Ends}
+use Rattle.feed_types.specs.Sessions.{SessionNames}
 use Rattle.line_arbiter.specs.Counts.{count_on}
 use Rattle.journal_book.specs.Journals.{JournalState}
 use Rattle.feed_core.proofs.Lists.{get_within}
+use Rattle.live_feed.specs.Lanes.{FeedLanes}
 use Rattle.live_feed.specs.venue.Cells.{CellState}
 use Rattle.live_feed.specs.hub.Hubs.{HubState}
 use Rattle.live_feed.specs.venue.Seats.{SeatState}
@@ -15,10 +17,10 @@ use Rattle.live_feed.specs.settle.Closings.{IsClosedFeed}
 use Rattle.live_feed.proofs.HubMoves.{below_of}
 use Rattle.live_feed.proofs.Sides.{two_long, two_at_start}
 
-module _ (carries : Carries) (ends : Ends) (seats : List SeatState) (cells : List CellState) (hub : HubState) (logs : List SubscriberLogState) (s : SettlementState) (f : IsClosedFeed carries ends cells hub logs s) (agree : AllAgree seats cells) where
-  shows : (venue : ℕ) (v : VenueEndState) → slice_get s.venues venue ≡ Some v → ShowsVenue carries ends s.journal.entries seats venue v
+module _ (sessions : SessionNames) (carries : Carries) (ends : Ends) (lanes : FeedLanes) (seats : List SeatState) (cells : List CellState) (hub : HubState) (logs : List SubscriberLogState) (s : SettlementState) (f : IsClosedFeed sessions carries ends lanes cells hub logs s) (agree : AllAgree seats cells) where
+  shows : (venue : ℕ) (v : VenueEndState) → slice_get s.venues venue ≡ Some v → ShowsVenue sessions carries ends lanes s.journal.entries seats venue v
   shows venue v at =
-      let S = IsClosedVenue carries ends s.journal.entries in
+      let S = IsClosedVenue sessions carries ends lanes s.journal.entries in
       let long = two_long S 0 cells s.venues f.venues in
       let below = below_of s.venues venue v (sym at) in
       let there = get_within cells venue (omega arith) in
@@ -26,19 +28,23 @@ module _ (carries : Carries) (ends : Ends) (seats : List SeatState) (cells : Lis
       let closed = two_at_start S cells s.venues f.venues venue cell v there.1 at in
       let same = agree venue cell there.1 in
       record {
-        window = cell.arbiter.window;
+        cell = cell;
+        kept = closed.kept;
+        venue_is = same.venue_is;
         settled = closed.settled;
         consumed = closed.consumed;
         wins = λ line. ap (count_on line) closed.wins ∙ (same.on line).wins ∙ (λ i. (tally_of (same.venue_is i) line seats).wins);
         accepted = λ line. ap (sums_on line) closed.accepted ∙ (same.on line).accepted ∙ (λ i. (tally_of (same.venue_is i) line seats).accepted);
       }
 
-  pub settlement : length cells ≡ hub.journal.venues → length logs ≡ length hub.journal.cursors → IsSettlement carries ends seats logs s
+  pub settlement : length cells ≡ hub.journal.venues → length logs ≡ length hub.journal.cursors → IsSettlement sessions carries ends lanes seats logs s
   settlement venues subscribers =
-      let long = two_long (IsClosedVenue carries ends s.journal.entries) 0 cells s.venues f.venues in
+      let long = two_long (IsClosedVenue sessions carries ends lanes s.journal.entries) 0 cells s.venues f.venues in
       let all = two_long (ShowsSubscriber s.journal) 0 logs s.subscribers f.subscribers in
       record {
-        venue_count = long ∙ venues ∙ ap (λ (j : JournalState). j.venues) (sym f.journal);
+        symbols = ap (λ (j : JournalState). j.symbols) f.journal ∙ f.kept.symbols;
+        size = ap (λ (j : JournalState). j.journal) f.journal ∙ f.kept.size;
+        venue_count = (long ∙ venues ∙ sym f.kept.count, ap (λ (j : JournalState). j.venues) f.journal ∙ sym f.kept.count);
         venues = shows;
         subscriber_count = all ∙ subscribers ∙ ap (λ (j : JournalState). length j.cursors) (sym f.journal);
         all = all;

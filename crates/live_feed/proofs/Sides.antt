@@ -1,6 +1,7 @@
 -- Lists side by side, and what is said of each place of a list.
-use Rattle.std.proofs.Common.{◌≡◌, ℕ, zero, suc, ◌+◌, ◌≤◌, ◌<◌, List, [], ◌∷◌, ◌++◌, length, map, drop, fold, Some, refl, sym, ap, subst, ◌∙◌, arith, append_assoc, append-nil, length-append, inl, inr}
-use Rattle.std.specs.Prelude.{slice_get, ◌⊎◌}
+use Rattle.std.proofs.Common.{◌≡◌, Bool, true, false, ℕ, zero, suc, ◌+◌, ◌≤◌, ◌<◌, List, [], ◌∷◌, ◌++◌, length, map, drop, fold, Some, refl, sym, ap, subst, ◌∙◌, arith, append_assoc, append-nil, length-append, inl, inr}
+use Rattle.std.specs.Prelude.{slice_get, ◌⊎◌, ◌||◌}
+use Rattle.std.specs.List.{list_any}
 use Rattle.std.specs.Option.{option_map}
 use Rattle.std.proofs.lemmas.Option.{slice_get-map}
 use Rattle.feed_core.proofs.Lists.{get_push}
@@ -28,6 +29,26 @@ fold_more f xs place x y more all at is same =
 -- all were
 pub fold_all : {X Y : Type 0} (f : Y → X → Y) (xs : List X) (place : ℕ) (y all : Y) → length xs ≤ place → fold f y (drop place xs) ≡ all → y ≡ all
 fold_all f xs place y all past same = ap (fold f y) (sym (drop_past xs place past)) ∙ same
+
+-- ---- a search
+
+-- one more was looked at, and isn't it
+pub any_more : {X : Type 0} (p : X → Bool) (xs : List X) (place : ℕ) (x : X) (all : Bool) → slice_get xs place ≡ Some x → p x ≡ false → list_any p (drop place xs) ≡ all → list_any p (drop (place + 1) xs) ≡ all
+any_more p xs place x all at no same =
+    let rest = drop (place + 1) xs in
+    let here : list_any p (drop place xs) ≡ list_any p (x ∷ rest) = ap (list_any p) (next_drop xs place (place + 1) x (sym at) refl) in
+    ap (λ (b : Bool). b || list_any p rest) (sym no) ∙ sym here ∙ same
+
+-- it is the one
+pub any_here : {X : Type 0} (p : X → Bool) (xs : List X) (place : ℕ) (x : X) (all : Bool) → slice_get xs place ≡ Some x → p x ≡ true → list_any p (drop place xs) ≡ all → true ≡ all
+any_here p xs place x all at yes same =
+    let rest = drop (place + 1) xs in
+    let here : list_any p (drop place xs) ≡ list_any p (x ∷ rest) = ap (list_any p) (next_drop xs place (place + 1) x (sym at) refl) in
+    ap (λ (b : Bool). b || list_any p rest) (sym yes) ∙ sym here ∙ same
+
+-- all were looked at
+pub any_none : {X : Type 0} (p : X → Bool) (xs : List X) (place : ℕ) (all : Bool) → length xs ≤ place → list_any p (drop place xs) ≡ all → false ≡ all
+any_none p xs place all past same = ap (list_any p) (sym (drop_past xs place past)) ∙ same
 
 -- ---- each place
 

@@ -1,3 +1,4 @@
 -- What the consolidator's lock keeps, and its sections.
 pub mod Hubs
 pub mod Sections
+pub mod Batches

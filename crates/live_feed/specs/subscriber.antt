@@ -1,2 +1,3 @@
 -- What a subscriber keeps.
 pub mod Logs
+pub mod Asking

@@ -4,10 +4,12 @@ ghost use Rattle.std.specs.Prelude.{◌≡◌, ◌≤◌, All, length, vec_len, 
 ghost use Rattle.feed_core.specs.Configs.{IsGood, Explains};
 ghost use Rattle.live_feed.specs.feed.Feeds.{AreNamed, HasItsLane};
 
+pub(crate) mod log_size;
 mod making;
 pub(crate) mod open_feed;
 
 use crate::bells::Bells;
+use crate::feed::log_size::LogSize;
 use crate::feed::making::{new_spares, new_starts};
 use crate::feed::open_feed::{Guarded, OpenFeed};
 use crate::feed_name::FeedName;
@@ -16,6 +18,7 @@ use crate::hub::journal_and_lanes::JournalAndLanes;
 use crate::hub::spare::SpareLane;
 use crate::venue::cell::VenueCell;
 use crate::venue::locks::{VenueLock, VenueLocks};
+use crate::venue::seated_lines::SeatedLines;
 use crate::venue::start::VenueStart;
 use crossbeam_utils::CachePadded;
 use feed_core::{CoreFault, new_journal};
@@ -30,28 +33,32 @@ use std::sync::{Arc, Mutex};
 /// How many subscribers there are at most.
 const MAX_SUBSCRIBERS: usize = 32;
 
-/// A feed that isn't open yet, to which nothing came. Contracts see it as its lanes.
+/// A feed that isn't open yet, to which nothing came. Contracts see it as its lanes and what it is
+/// set up with.
 #[derive(Drop)]
 pub struct LiveFeed<G: Genuine> {
     starts: Vec<VenueStart<G>>,
     from_venues: Vec<Receiver<Numbered, VenueItems<G>>>,
     kept: Journal,
     spare_lanes: VecDeque<SpareLane>,
+    window: u32,
+    lane: u32,
     log_lines: u32,
 }
 
 impl<G: Genuine> Model for LiveFeed<G> {
     ghost use Rattle.live_feed.specs.Lanes.{FeedLanes};
-    ghost use Rattle.live_feed.specs.feed.Feeds.{IsClosed, lanes_of, feed_lanes_code};
+    ghost use Rattle.live_feed.specs.feed.Feeds.{IsClosed, lanes_of, setting_of, feed_lanes_code};
 
     ghost Value = { FeedLanes };
 
     ghost coded = { feed_lanes_code };
 
-    ghost view = { λ f. lanes_of f.from_venues.items f.spare_lanes.items };
+    ghost view = { λ f. lanes_of f.from_venues.items f.spare_lanes.items
+        (setting_of f.kept f.window f.lane f.log_lines) };
 
-    ghost invariant = { λ f. IsClosed f.starts.items f.from_venues.items f.kept
-        f.spare_lanes.items };
+    ghost invariant = { λ f. IsClosed (setting_of f.kept f.window f.lane f.log_lines)
+        f.starts.items f.from_venues.items f.kept f.spare_lanes.items };
 }
 
 /// Puts each venue behind a lock of its own. There is room for all.
@@ -68,9 +75,7 @@ fn locked<G: Genuine, N: FeedName>(
         let cell = VenueCell::new(arbiter, lane);
         venues.push_reserved(CachePadded::new(Mutex::new(Guarded {
             cell,
-            a: false,
-            b: false,
-            recovery: false,
+            seated: SeatedLines::none(),
         })));
     }
     venues
@@ -87,6 +92,13 @@ impl<G: Genuine> LiveFeed<G> {
         ensures venues { IfOk result (λ feed. length feed.venues
             ≡ length config.now.sessions.now) }
         ensures subscribers { IfOk result (λ feed. length feed.subscribers ≡ 32) }
+        ensures setting { IfOk result (λ feed. feed.setting ≡ record {
+          symbols = config.now.symbols.now;
+          window = config.now.window;
+          lane = config.now.lane;
+          journal = config.now.journal;
+          log = config.now.log;
+        }) }
         ensures good { OnOk result (IsGood config.now) }
         ensures fault { IfErr result (Explains config.now) }
     {
@@ -102,6 +114,8 @@ impl<G: Genuine> LiveFeed<G> {
             from_venues,
             kept,
             spare_lanes,
+            window: config.window,
+            lane: config.lane,
             log_lines: config.log,
         })
     }
@@ -125,6 +139,8 @@ impl<G: Genuine> LiveFeed<G> {
             from_venues,
             kept,
             spare_lanes,
+            window: _,
+            lane: _,
             log_lines,
         } = self;
         let core = JournalAndLanes::new(kept, from_venues, senders, spare_lanes);
@@ -134,10 +150,11 @@ impl<G: Genuine> LiveFeed<G> {
             next: 0,
         }));
         let venues = VenueLocks::new(locked(starts, venues), bells);
+        let log_size = LogSize::new(log_lines);
         Ok(OpenFeed {
             venues,
             hub,
-            log_lines,
+            log_size,
         })
     }
 }

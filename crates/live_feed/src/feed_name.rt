@@ -7,12 +7,17 @@ use std::marker::Brand;
 pub trait FeedName {
     ghost use Rattle.live_feed.specs.Lanes.{FeedLanes};
 
-    /// The feed's lanes: those of its venues, in order, and those of its subscribers.
+    /// The feed's lanes, those of its venues, in order, and those of its subscribers, and what it is
+    /// set up with.
     ghost lanes: { FeedLanes };
 }
 
 impl FeedName for Brand {
     ghost use Rattle.std.specs.Prelude.{[]};
 
-    ghost lanes = { record { venues = []; subscribers = [] } };
+    ghost lanes = { record {
+      venues = [];
+      subscribers = [];
+      setting = record { symbols = []; window = 0; lane = 0; journal = 0; log = 0 };
+    } };
 }

@@ -27,6 +27,7 @@ mod faults;
 mod feed;
 mod feed_name;
 mod hub;
+mod laws;
 mod run;
 mod settle;
 mod subscriber;
@@ -41,6 +42,9 @@ pub use hub::cell::HubCell;
 pub use hub::journal_and_lanes::JournalAndLanes;
 pub use hub::spare::SpareLane;
 pub use hub::turn::Consolidated;
+pub use laws::{
+    journaled_items_are_the_sessions, sent_items_are_the_sessions, settled_items_are_the_sessions,
+};
 pub use run::line::{Line, LineEnd};
 pub use run::report::{RunReport, Stop};
 pub use run::source::{LineSource, SourceFault};

@@ -127,7 +127,7 @@ where
         × (vec_len logs ≤ vec_capacity log_lists.threads)
         × (vec_len logs ≤ vec_capacity log_lists.back) }
     ensures lines { Pairwise (λ line ended. HasEnded (HasTaken G.sessions G.carries G.ends
-        N.lanes) S.brings S.failures line.seat line.source ended.seat ended.source ended.fault)
+        N.lanes) S.brings S.failures line.seat line.source ended.seat ended.source ended.datagrams ended.fault)
         lines.items result.ends.items }
     ensures logs { Pairwise HasPolled logs.items result.logs.items }
     ensures count { vec_len result.logs ≡ vec_len logs }
@@ -195,7 +195,7 @@ impl<G: Genuine + Send + Sync, N: FeedName + Send + Sync> OpenFeed<G, N> {
         ensures back { IfErr result (λ back. (back.0 ≡ lines) × (back.1 ≡ subscribers)) }
         ensures lines { IfOk result (λ report. Pairwise (λ line ended.
             HasEnded (HasTaken G.sessions G.carries G.ends N.lanes) S.brings S.failures
-            line.seat line.source ended.seat ended.source ended.fault)
+            line.seat line.source ended.seat ended.source ended.datagrams ended.fault)
             lines.items report.lines.items) }
         ensures subscribers { IfOk result (λ report. Pairwise (λ given back.
             HasPolled given.log back.log) subscribers.items report.subscribers.items) }
@@ -264,7 +264,7 @@ where
         × (vec_len logs ≤ vec_capacity log_lists.threads)
         × (vec_len logs ≤ vec_capacity log_lists.back) }
     ensures lines { Pairwise (λ line ended. HasEnded (HasTaken G.sessions G.carries G.ends
-        N.lanes) S.brings S.failures line.seat line.source ended.seat ended.source ended.fault)
+        N.lanes) S.brings S.failures line.seat line.source ended.seat ended.source ended.datagrams ended.fault)
         lines.items result.ends.items }
     ensures logs { Pairwise HasPolled logs.items result.logs.items }
     ensures count { vec_len result.logs ≡ vec_len logs }
@@ -282,7 +282,7 @@ where
                 × (vec_len logs ≤ vec_capacity log_lists.back) }
             ensures lines { Pairwise (λ line ended. HasEnded (HasTaken G.sessions G.carries
                 G.ends N.lanes) S.brings S.failures line.seat line.source ended.seat
-                ended.source ended.fault) lines.items result.ends.items }
+                ended.source ended.datagrams ended.fault) lines.items result.ends.items }
             ensures logs { Pairwise HasPolled logs.items result.logs.items }
             ensures count { vec_len result.logs ≡ vec_len logs }
         {

@@ -17,6 +17,7 @@ mod venue_lane;
 
 use crate::bells::Bells;
 use crate::faults::SettleFault;
+use crate::feed::log_size::LogSize;
 use crate::feed::open_feed::{Guarded, OpenFeed};
 use crate::feed_name::FeedName;
 use crate::hub::cell::HubCell;
@@ -40,7 +41,7 @@ struct Unlocked<G: Genuine, N: FeedName> {
     hub: HubCell<G, N>,
     locks: Vec<VenueLock<G, N>>,
     bells: Arc<Bells, Global>,
-    log_lines: u32,
+    log_size: LogSize<N>,
 }
 
 /// Takes each venue out of its lock. There is room for all.
@@ -90,7 +91,7 @@ fn unlock<G: Genuine, N: FeedName>(
     let OpenFeed {
         venues: behind,
         hub,
-        log_lines,
+        log_size,
     } = feed;
     let (behind, bells) = behind.into_parts();
     Ok(Unlocked {
@@ -98,7 +99,7 @@ fn unlock<G: Genuine, N: FeedName>(
         hub: hub.into_inner().into_inner(),
         locks,
         bells,
-        log_lines,
+        log_size,
     })
 }
 
@@ -113,12 +114,12 @@ fn locked<G: Genuine, N: FeedName>(unlocked: Unlocked<G, N>) -> OpenFeed<G, N>
         hub,
         locks,
         bells,
-        log_lines,
+        log_size,
     } = unlocked;
     OpenFeed {
         venues: VenueLocks::new(behind_locks(venues, locks), bells),
         hub: CachePadded::new(Mutex::new(hub)),
-        log_lines,
+        log_size,
     }
 }
 
@@ -184,15 +185,16 @@ fn closed<G: Genuine, N: FeedName, W: Wait>(
     requires counts { (length unlocked.venues.items ≡ unlocked.hub.core.journal.venues)
         × (length subscribers.items ≡ length unlocked.hub.core.journal.cursors) }
     requires room { HasRoom (map (λ g. g.cell) unlocked.venues.items) unlocked.hub.core room }
-    ensures { IsClosedFeed G.carries G.ends (map (λ g. g.cell) unlocked.venues.items)
-        unlocked.hub.core (map (λ s. s.log) subscribers.items) result }
+    ensures { IsClosedFeed G.sessions G.carries G.ends N.lanes
+        (map (λ g. g.cell) unlocked.venues.items) unlocked.hub.core
+        (map (λ s. s.log) subscribers.items) result }
 {
     let Unlocked {
         venues,
         hub,
         locks: _,
         bells: _,
-        log_lines: _,
+        log_size: _,
     } = unlocked;
     let HubCell {
         core,
@@ -229,7 +231,7 @@ impl<G: Genuine, N: FeedName> OpenFeed<G, N> {
         seats: Vec<LineSeat<G, N>>,
         subscribers: Vec<Subscriber<N>>,
     ) -> Result<Settlement, Unsettled<G, N>>
-        ensures settled { IfOk result (IsSettlement G.carries G.ends seats.items
+        ensures settled { IfOk result (IsSettlement G.sessions G.carries G.ends N.lanes seats.items
             (map (λ s. s.log) subscribers.items)) }
         ensures back { IfErr result (λ back. (back.seats.items ≡ seats.items)
             × (back.subscribers.items ≡ subscribers.items)) }

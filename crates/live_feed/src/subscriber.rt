@@ -2,6 +2,7 @@
 
 ghost use Rattle.std.specs.Prelude.{◌≡◌};
 ghost use Rattle.live_feed.specs.subscriber.Logs.{Polls};
+ghost use Rattle.live_feed.specs.subscriber.Asking.{Asks};
 
 mod advising;
 pub(crate) mod log;
@@ -42,10 +43,12 @@ impl<N: FeedName> Subscriber<N> {
     /// Takes the next notice out of the lane, and logs and gives what the strategy advises on it;
     /// None where nothing was inside. LogFull exactly where the log has as many lines as
     /// configured, else NoMemory where the room for one more was refused: both before a notice is
-    /// taken. A refused call changes nothing.
+    /// taken. A refused call changes nothing. The strategy is asked once for each notice that is taken,
+    /// and else not.
     pub fn poll<W: Wait>(&mut self, rt: &W) -> Result<Option<Advice>, PollFault>
-        ensures { Polls ⟦<RisingNotices as LaneRule<Notice>>⟧.may_send result self.old.log
+        ensures polls { Polls ⟦<RisingNotices as LaneRule<Notice>>⟧.may_send result self.old.log
             self.new.log }
+        ensures asks { Asks result self.old.log self.new.log self.old.strategy self.new.strategy }
     {
         self.log.poll(rt, &mut self.strategy)
     }

@@ -5,5 +5,6 @@ pub(crate) mod cell;
 pub(crate) mod datagram;
 pub(crate) mod locks;
 pub(crate) mod seat;
+pub(crate) mod seated_lines;
 pub(crate) mod start;
 pub(crate) mod sums;

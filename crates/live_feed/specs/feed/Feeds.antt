@@ -1,6 +1,6 @@
 -- A feed that isn't open yet.
 use Rattle.std.specs.Prelude.{◌≡◌, ℕ, List, [], length, map, Some, slice_get, refl}
-use Rattle.std.specs.Coded.{Coded, code_by, coded×, coded_list}
+use Rattle.std.specs.Coded.{Coded, code_by, coded×, coded_ℕ, coded_list}
 use Rattle.atomic_table.specs.Seated.{TableId, table_id_coded}
 use Rattle.feed_types.specs.declared.item.Numbered.{Numbered}
 use Rattle.feed_types.specs.Sessions.{SessionNames}
@@ -8,7 +8,7 @@ use Rattle.line_arbiter.specs.States.{State, IsNew}
 use Rattle.line_arbiter.specs.Fits.{Fits}
 use Rattle.journal_book.specs.Journals.{JournalState}
 use Rattle.fifo_lane.specs.Lane.{LaneEnd}
-use Rattle.live_feed.specs.Lanes.{FeedLanes}
+use Rattle.live_feed.specs.Lanes.{FeedLanes, FeedSetting}
 use Rattle.live_feed.specs.declared.hub.spare.SpareLane.{SpareLane}
 
 -- the lines may use these names for the venues' first sessions, in the order of the venues
@@ -28,48 +28,90 @@ pub record IsStart (sessions : SessionNames) (s : StartState) : Type 0 where
   pub named : sessions s.lane.tag 1 s.arbiter.session
   pub empty : s.lane.items ≡ []
 
--- the receiving ends of the venues' lanes, in the order of the venues, each with nothing received
-pub record AreStarts (starts : List StartState) (receivers : List (LaneEnd Numbered)) : Type 0 where
+-- The receiving ends of the venues' lanes, in the order of the venues, each with nothing received.
+-- Each window and each lane holds so many.
+pub record AreStarts (window lane : ℕ) (starts : List StartState)
+    (receivers : List (LaneEnd Numbered)) : Type 0 where
   pub count : length starts ≡ length receivers
   pub same : (venue : ℕ) (s : StartState) → slice_get starts venue ≡ Some s
       → slice_get receivers venue ≡ Some s.lane
   pub new : (venue : ℕ) (e : LaneEnd Numbered) → slice_get receivers venue ≡ Some e
       → (e.tag ≡ venue) × (e.items ≡ [])
+  pub sized : (venue : ℕ) (s : StartState) → slice_get starts venue ≡ Some s
+      → (s.arbiter.window ≡ window) × (s.lane.capacity ≡ lane)
 
--- a lane for the subscriber of this id, to which nothing was sent
-pub record IsUnused (id : ℕ) (s : SpareLane) : Type 0 where
+-- a lane for the subscriber of this id, to which nothing was sent, with room for so many notices
+pub record IsUnused (capacity id : ℕ) (s : SpareLane) : Type 0 where
   pub tag : s.sender.tag ≡ id
+  pub capacity_is : s.sender.capacity ≡ capacity
   pub items : s.sender.items ≡ []
   pub same : s.receiver ≡ s.sender
 
 -- lanes for subscribers, in the order of their ids
-abbrev pub AreUnused : List SpareLane → Type 0
-AreUnused spare = (id : ℕ) (s : SpareLane) → slice_get spare id ≡ Some s → IsUnused id s
+abbrev pub AreUnused : ℕ → List SpareLane → Type 0
+AreUnused capacity spare =
+    (id : ℕ) (s : SpareLane) → slice_get spare id ≡ Some s → IsUnused capacity id s
 
--- the lanes of these ends
-abbrev pub lanes_of : List (LaneEnd Numbered) → List SpareLane → FeedLanes
-lanes_of receivers spare = record {
-  venues = map (λ e. e.lane) receivers;
-  subscribers = map (λ s. s.sender.lane) spare;
+-- what a feed is set up with, whose journal is this one, and whose windows, lanes and logs hold so
+-- many
+abbrev pub setting_of : JournalState → ℕ → ℕ → ℕ → FeedSetting
+setting_of journal window lane log = record {
+  symbols = journal.symbols;
+  window = window;
+  lane = lane;
+  journal = journal.journal;
+  log = log;
 }
 
--- a feed's lanes are stored as the pair of their lists
+-- the lanes of these ends, in a feed that is set up so
+abbrev pub lanes_of : List (LaneEnd Numbered) → List SpareLane → FeedSetting → FeedLanes
+lanes_of receivers spare setting = record {
+  venues = map (λ e. e.lane) receivers;
+  subscribers = map (λ s. s.sender.lane) spare;
+  setting = setting;
+}
+
+-- a setting is stored as the tuple of its fields
+abbrev pub setting_code : Coded FeedSetting
+setting_code =
+    code_by (List (List ℕ) × (ℕ × (ℕ × (ℕ × ℕ))))
+    (coded× (coded_list (coded_list coded_ℕ))
+    (coded× coded_ℕ (coded× coded_ℕ (coded× coded_ℕ coded_ℕ))))
+    (λ s. (s.symbols, (s.window, (s.lane, (s.journal, s.log)))))
+    (λ p. record {
+      symbols = p.0;
+      window = p.1.0;
+      lane = p.1.1.0;
+      journal = p.1.1.1.0;
+      log = p.1.1.1.1;
+    })
+    (λ _. refl)
+
+-- so are a feed's lanes
 abbrev pub feed_lanes_code : Coded FeedLanes
 feed_lanes_code =
-    code_by (List TableId × List TableId)
-    (coded× (coded_list table_id_coded) (coded_list table_id_coded))
-    (λ f. (f.venues, f.subscribers)) (λ p. record { venues = p.0; subscribers = p.1 }) (λ _. refl)
+    code_by (List TableId × (List TableId × FeedSetting))
+    (coded× (coded_list table_id_coded) (coded× (coded_list table_id_coded) setting_code))
+    (λ f. (f.venues, (f.subscribers, f.setting)))
+    (λ p. record { venues = p.0; subscribers = p.1.0; setting = p.1.1 }) (λ _. refl)
 
--- the feed has a lane for each venue of its journal and for 32 subscribers, and nothing came yet
-pub record IsClosed (starts : List StartState) (receivers : List (LaneEnd Numbered))
-    (journal : JournalState) (spare : List SpareLane) : Type 0 where
-  pub begun : AreStarts starts receivers
+-- The feed has a lane for each venue of its journal and for 32 subscribers, and nothing came yet. It
+-- is set up so.
+pub record IsClosed (setting : FeedSetting) (starts : List StartState)
+    (receivers : List (LaneEnd Numbered)) (journal : JournalState) (spare : List SpareLane)
+    : Type 0 where
+  pub begun : AreStarts setting.window setting.lane starts receivers
   pub venues : length receivers ≡ journal.venues
   pub entries : journal.entries ≡ []
   pub cursors : journal.cursors ≡ []
-  pub unused : AreUnused spare
+  pub unused : AreUnused setting.lane spare
   pub many : length spare ≡ 32
+  pub symbols : journal.symbols ≡ setting.symbols
+  pub size : journal.journal ≡ setting.journal
 
--- the sending end's lane is the one that the feed has for its venue
-abbrev pub HasItsLane : FeedLanes → StartState → Type 0
-HasItsLane lanes s = slice_get lanes.venues s.lane.tag ≡ Some s.lane.lane
+-- the sending end's lane is the one that the feed has for its venue, and window and lane hold as
+-- many as the feed is set up with
+pub record HasItsLane (lanes : FeedLanes) (s : StartState) : Type 0 where
+  pub lane : slice_get lanes.venues s.lane.tag ≡ Some s.lane.lane
+  pub window : s.arbiter.window ≡ lanes.setting.window
+  pub capacity : s.lane.capacity ≡ lanes.setting.lane

@@ -42,6 +42,7 @@ pub record IsOffered (lanes : FeedLanes) (state : JournalState) (id : ℕ)
     (e : LaneEnd Notice) : Type 0 where
   pub tag : e.tag ≡ id
   pub lane : slice_get lanes.subscribers id ≡ Some e.lane
+  pub capacity : e.capacity ≡ lanes.setting.lane
   pub items : (cursor : Cursor) → slice_get state.cursors id ≡ Some cursor
       → (cursor.seen ≤ length (changes state)) × (e.items ≡ offered_of (changes state) cursor)
 
@@ -49,15 +50,18 @@ pub record IsOffered (lanes : FeedLanes) (state : JournalState) (id : ℕ)
 pub record IsSpare (lanes : FeedLanes) (id : ℕ) (s : SpareLane) : Type 0 where
   pub tag : s.sender.tag ≡ id
   pub lane : slice_get lanes.subscribers id ≡ Some s.sender.lane
+  pub capacity : s.sender.capacity ≡ lanes.setting.lane
   pub items : s.sender.items ≡ []
   pub same : s.receiver ≡ s.sender
 
--- What is so whenever the consolidator's lock is free. (The journal's changes are those of its
--- entries, by its own contract.)
+-- What is so whenever the consolidator's lock is free. The journal has the symbols and holds as many
+-- entries as the feed is set up with. (Its changes are those of its entries, by its own contract.)
 pub record HubLockInvariant (carries : Carries) (ends : Ends) (lanes : FeedLanes) (s : HubState)
     : Type 0 where
   pub venues : length s.receivers ≡ s.journal.venues
   pub count : length lanes.venues ≡ s.journal.venues
+  pub symbols : s.journal.symbols ≡ lanes.setting.symbols
+  pub size : s.journal.journal ≡ lanes.setting.journal
   pub subscribers : length s.senders ≡ length s.journal.cursors
   pub consumed : (venue : ℕ) (e : LaneEnd Numbered) → slice_get s.receivers venue ≡ Some e
       → IsConsumed carries ends lanes s.journal.entries venue e

@@ -92,19 +92,28 @@ pub record KeepsButOffers (old new : HubState) : Type 0 where
   pub others : new ≡ record old { journal = new.journal; senders = new.senders }
 
 -- Subscribe: one more subscriber with these terms, to whom nothing was offered, and with the lane
--- that the feed has for it.
+-- that the feed has for it, which has room for as many as the feed is set up with.
 pub record AddsSubscriber (lanes : FeedLanes) (terms : Terms) (id : ℕ) (e : LaneEnd Notice)
     (old new : HubState) : Type 0 where
   pub few : length old.journal.cursors < 32
   pub id_is : id ≡ length old.journal.cursors
   pub tag : e.tag ≡ id
   pub lane : slice_get lanes.subscribers id ≡ Some e.lane
+  pub capacity : e.capacity ≡ lanes.setting.lane
   pub empty : e.items ≡ []
   pub journal : new.journal ≡ record old.journal {
     cursors = old.journal.cursors ++ record { terms = terms; seen = 0 } ∷ [];
   }
   pub senders : new.senders ≡ old.senders ++ e ∷ []
   pub receivers : new.receivers ≡ old.receivers
+
+-- The refusals of a subscriber, in order: there are 32, else memory was refused.
+abbrev pub RefusesSubscriber : HubState → JournalFault → Type 0
+RefusesSubscriber s TooManySubscribers = 32 ≤ length s.journal.cursors
+RefusesSubscriber s NoMemory = length s.journal.cursors < 32
+RefusesSubscriber s JournalFull = ⊥
+RefusesSubscriber s UnknownVenue = ⊥
+RefusesSubscriber s AlreadySo = ⊥
 
 -- the answer to `subscribe`, by cases: a refused call hands the terms back and changes nothing
 abbrev pub Subscribes : FeedLanes → Terms → Result (ℕ × LaneEnd Notice) (JournalFault × Terms)

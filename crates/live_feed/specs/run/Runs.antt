@@ -1,9 +1,10 @@
 -- What a run of a feed hands back.
-use Rattle.std.specs.Prelude.{◌≡◌, ℕ, ◌+◌, List, [], ◌∷◌, map, Option, MatchOption, Result}
+use Rattle.std.specs.Prelude.{◌≡◌, ℕ, ◌+◌, List, [], ◌∷◌, length, map, Option, MatchOption, Result}
 use Rattle.feed_types.specs.Prefix.{IsPrefix}
 use Rattle.feed_types.specs.Sequence.{Carries, Ends}
 use Rattle.feed_types.specs.Sessions.{SessionNames}
 use Rattle.line_arbiter.specs.declared.outcome.Outcome.{Outcome}
+use Rattle.line_arbiter.specs.Counts.{shown}
 use Rattle.live_feed.specs.declared.faults.TakeFault.{TakeFault}
 use Rattle.live_feed.specs.declared.run.source.SourceFault.{SourceFault}
 use Rattle.live_feed.specs.declared.run.source.SourceFault.TheVariants as faults
@@ -59,15 +60,17 @@ pub record HasTaken (sessions : SessionNames) (carries : Carries) (ends : Ends)
   pub bytes : map (λ t. t.bytes) takings ≡ brought
   pub taken : AreTakenBy sessions carries ends lanes old takings last
 
--- A line that has ended: its seat took each datagram that its source brought, in order and once,
--- and of the source's calls none failed but the last, where the line has a fault.
+-- A line that has ended: its seat took each datagram that its source brought, in order and once; the
+-- count of datagrams is how many these are, empty ones too, as a u64 shows it; and of the source's
+-- calls none failed but the last, where the line has a fault.
 pub record HasEnded {S : Type 0} (takes : SeatState → List (List ℕ) → SeatState → Type 0)
     (brings : S → List (List ℕ) → S → Type 0) (failures : S → ℕ)
-    (seat : SeatState) (source : S) (last_seat : SeatState) (last_source : S)
+    (seat : SeatState) (source : S) (last_seat : SeatState) (last_source : S) (datagrams : ℕ)
     (fault : Option SourceFault) : Type 0 where
   pub venue : last_seat.venue ≡ seat.venue
   pub line : last_seat.line ≡ seat.line
   pub brought : List (List ℕ)
+  pub read : datagrams ≡ shown (length brought)
   pub taken : takes seat brought last_seat
   pub later : brings source brought last_source
   pub counted : MatchOption fault (failures last_source ≡ failures source)

@@ -4,11 +4,12 @@ use Rattle.feed_types.specs.declared.item.Numbered.{Numbered}
 use Rattle.feed_types.specs.declared.journal.Entry.{Entry}
 use Rattle.feed_types.specs.declared.journal.Notice.{Notice}
 use Rattle.feed_types.specs.Sequence.{Carries, Ends}
+use Rattle.feed_types.specs.Sessions.{SessionNames}
 use Rattle.journal_book.specs.Journals.{JournalState}
 use Rattle.fifo_lane.specs.Lane.{LaneEnd}
 use Rattle.live_feed.specs.Lanes.{FeedLanes}
 use Rattle.live_feed.specs.venue.Cells.{CellState}
-use Rattle.live_feed.specs.hub.Hubs.{HubState, IsConsumed, IsOffered}
+use Rattle.live_feed.specs.hub.Hubs.{HubState, IsConsumed, HubLockInvariant, IsOffered}
 use Rattle.live_feed.specs.subscriber.Logs.{SubscriberLogState}
 use Rattle.live_feed.specs.settle.Rooms.{HasVenueRoom, HasSubscriberRoom, HaveVenueRooms, HaveSubscriberRooms}
 use Rattle.live_feed.specs.settle.Settlements.{IsClosedVenue, SettlementState, ShowsSubscriber}
@@ -42,8 +43,10 @@ pub record HasRoom (cells : List CellState) (hub : HubState) (r : FeedRoom) : Ty
       × (length hub.senders ≤ vec_capacity r.subscriber_ends)
 
 -- what these cells and this consolidator's part have come to, with these subscribers
-pub record IsClosedFeed (carries : Carries) (ends : Ends) (cells : List CellState) (hub : HubState)
-    (logs : List SubscriberLogState) (s : SettlementState) : Type 0 where
+pub record IsClosedFeed (sessions : SessionNames) (carries : Carries) (ends : Ends)
+    (lanes : FeedLanes) (cells : List CellState) (hub : HubState) (logs : List SubscriberLogState)
+    (s : SettlementState) : Type 0 where
+  pub kept : HubLockInvariant carries ends lanes hub
   pub journal : s.journal ≡ hub.journal
-  pub venues : Zip2 (IsClosedVenue carries ends s.journal.entries) 0 cells s.venues
+  pub venues : Zip2 (IsClosedVenue sessions carries ends lanes s.journal.entries) 0 cells s.venues
   pub subscribers : Zip2 (ShowsSubscriber s.journal) 0 logs s.subscribers

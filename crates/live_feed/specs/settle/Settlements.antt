@@ -1,31 +1,34 @@
 -- What a feed shows once its threads have returned.
-use Rattle.std.specs.Prelude.{◌≡◌, ℕ, ◌+◌, ◌==◌, ◌&&◌, Bool, List, ◌++◌, fold, length, map, Some, slice_get, if◌then◌else◌}
+use Rattle.std.specs.Prelude.{◌≡◌, ℕ, ◌+◌, List, ◌++◌, fold, length, map, Some, slice_get, if◌then◌else◌}
 use Rattle.feed_types.specs.declared.item.Numbered.{Numbered}
 use Rattle.feed_types.specs.declared.journal.Entry.{Entry}
 use Rattle.feed_types.specs.declared.journal.Notice.{Notice}
 use Rattle.feed_types.specs.declared.line.LineId.{LineId}
 use Rattle.feed_types.specs.Sequence.{Carries, Ends}
-use Rattle.line_arbiter.specs.Streams.{is_same_line}
+use Rattle.feed_types.specs.Sessions.{SessionNames}
 use Rattle.line_arbiter.specs.Histories.{History, all_begun, streams_of, wins_in}
 use Rattle.line_arbiter.specs.Counts.{Counts, count_on, shown}
 use Rattle.filter_terms.specs.declared.terms.Terms.{Terms}
 use Rattle.journal_book.specs.Journals.{JournalState, terms_at}
 use Rattle.journal_book.specs.Wanted.{wanted_of}
 use Rattle.live_feed.specs.declared.subscriber.logged.Logged.{Logged}
-use Rattle.live_feed.specs.venue.Cells.{AreGivenFrom, CellState, arrivals_of}
+use Rattle.live_feed.specs.Lanes.{FeedLanes}
+use Rattle.live_feed.specs.venue.Cells.{AreGivenFrom, CellState, VenueLockInvariant, arrivals_of}
 use Rattle.live_feed.specs.hub.Hubs.{items_in}
-use Rattle.live_feed.specs.venue.Seats.{SeatState}
+use Rattle.live_feed.specs.venue.Seats.{SeatState, is_seat_of}
 use Rattle.live_feed.specs.venue.Sums.{LineSums, Sums, accepted_on, no_sums, sums_on, sums_together}
 use Rattle.live_feed.specs.subscriber.Logs.{SubscriberLogState}
 
--- A venue whose lane is closed: there are packets that it was given, session by session, each
--- answered as it should be and genuine; what was consumed, then what is in the lane, then what is
--- ready are the sessions' streams; and what is counted per line is that of these packets.
+-- A venue whose lane is closed, through which these items were sent: what was consumed, then what is
+-- in the lane, is what was sent. There are packets that the venue was given, session by session,
+-- each answered as it should be and genuine; what was sent, then what is ready, are the sessions'
+-- streams; and what is counted per line is that of these packets.
 pub record IsSettled (carries : Carries) (ends : Ends) (venue window : ℕ)
-    (consumed in_lane ready : List Numbered) (won : Counts) (sums : LineSums) : Type 0 where
+    (sent consumed in_lane ready : List Numbered) (won : Counts) (sums : LineSums) : Type 0 where
+  pub sent_is : consumed ++ in_lane ≡ sent
   pub history : History
   pub given : AreGivenFrom carries ends venue window 1 history.earlier history.present
-  pub whole : consumed ++ (in_lane ++ ready) ≡ streams_of history
+  pub whole : sent ++ ready ≡ streams_of history
   pub wins : (line : LineId) → count_on line won ≡ shown (wins_in (all_begun history) line)
   pub accepted : (line : LineId)
       → sums_on line sums ≡ accepted_on line (arrivals_of (all_begun history))
@@ -69,9 +72,6 @@ pub record Tally : Type 0 where
 abbrev pub no_tally : Tally
 no_tally = record { wins = 0; accepted = no_sums }
 
-abbrev pub is_seat_of : ℕ → LineId → SeatState → Bool
-is_seat_of venue line s = (s.venue == venue) && is_same_line s.line line
-
 -- with one seat more
 abbrev pub tally_after : ℕ → LineId → Tally → SeatState → Tally
 tally_after venue line t s =
@@ -109,21 +109,28 @@ AreVenues cells =
 abbrev pub AreInOrder : List SubscriberLogState → Type 0
 AreInOrder logs = (id : ℕ) (t : SubscriberLogState) → slice_get logs id ≡ Some t → t.id ≡ id
 
--- a venue's cell and what is left of it once its lane is closed
-pub record IsClosedVenue (carries : Carries) (ends : Ends) (entries : List Entry) (venue : ℕ)
-    (c : CellState) (v : VenueEndState) : Type 0 where
-  pub settled : IsSettled carries ends venue c.arbiter.window v.consumed v.in_lane v.ready v.wins
-      v.accepted
+-- a venue's cell, which its lock kept last, and what is left of it once its lane is closed
+pub record IsClosedVenue (sessions : SessionNames) (carries : Carries) (ends : Ends)
+    (lanes : FeedLanes) (entries : List Entry) (venue : ℕ) (c : CellState) (v : VenueEndState)
+    : Type 0 where
+  pub kept : VenueLockInvariant sessions carries ends lanes c
+  pub settled : IsSettled carries ends venue lanes.setting.window c.lane.items v.consumed v.in_lane
+      v.ready v.wins v.accepted
   pub consumed : v.consumed ≡ items_in entries venue
   pub wins : v.wins ≡ c.arbiter.wins
   pub accepted : v.accepted ≡ c.accepted
 
--- A venue of a closed feed: its lane is closed (for some window), what was consumed is its items in
--- the entries, and what is counted per line is what the line's seats show, added up.
-pub record ShowsVenue (carries : Carries) (ends : Ends) (entries : List Entry)
-    (seats : List SeatState) (venue : ℕ) (v : VenueEndState) : Type 0 where
-  pub window : ℕ
-  pub settled : IsSettled carries ends venue window v.consumed v.in_lane v.ready v.wins v.accepted
+-- A venue of a closed feed, whose lock kept this cell last: its lane, through which the cell's items
+-- were sent, is closed; what was consumed is its items in the entries; and what is counted per line
+-- is what the line's seats show, added up.
+pub record ShowsVenue (sessions : SessionNames) (carries : Carries) (ends : Ends)
+    (lanes : FeedLanes) (entries : List Entry) (seats : List SeatState) (venue : ℕ)
+    (v : VenueEndState) : Type 0 where
+  pub cell : CellState
+  pub kept : VenueLockInvariant sessions carries ends lanes cell
+  pub venue_is : cell.arbiter.venue ≡ venue
+  pub settled : IsSettled carries ends venue lanes.setting.window cell.lane.items v.consumed
+      v.in_lane v.ready v.wins v.accepted
   pub consumed : v.consumed ≡ items_in entries venue
   pub wins : (line : LineId) → count_on line v.wins ≡ (tally_of venue line seats).wins
   pub accepted : (line : LineId) → sums_on line v.accepted ≡ (tally_of venue line seats).accepted
@@ -135,12 +142,17 @@ pub record ShowsSubscriber (journal : JournalState) (id : ℕ) (t : SubscriberLo
   pub own : (t.id ≡ id) × (x.log ≡ t.lines)
 
 -- What a feed has come to, once these seats and these subscribers were handed in: each of its
--- venues and each of its subscribers is closed.
-pub record IsSettlement (carries : Carries) (ends : Ends) (seats : List SeatState)
-    (logs : List SubscriberLogState) (s : SettlementState) : Type 0 where
-  pub venue_count : length s.venues ≡ s.journal.venues
+-- venues and each of its subscribers is closed. The journal has the symbols and holds as many
+-- entries as the feed is set up with.
+pub record IsSettlement (sessions : SessionNames) (carries : Carries) (ends : Ends)
+    (lanes : FeedLanes) (seats : List SeatState) (logs : List SubscriberLogState) (s : SettlementState)
+    : Type 0 where
+  pub symbols : s.journal.symbols ≡ lanes.setting.symbols
+  pub size : s.journal.journal ≡ lanes.setting.journal
+  pub venue_count : (length s.venues ≡ length lanes.venues)
+      × (s.journal.venues ≡ length lanes.venues)
   pub venues : (venue : ℕ) (v : VenueEndState) → slice_get s.venues venue ≡ Some v
-      → ShowsVenue carries ends s.journal.entries seats venue v
+      → ShowsVenue sessions carries ends lanes s.journal.entries seats venue v
   pub subscriber_count : length s.subscribers ≡ length s.journal.cursors
   pub all : length s.subscribers ≡ length logs
   pub subscribers : (id : ℕ) (t : SubscriberLogState) (x : SubscriberEndState)

@@ -24,12 +24,15 @@ abbrev pub logged : Notice → Advice → Logged
 logged notice advice = record { notice = notice; advice = advice }
 
 -- What is so after every poll: the log has one advice for each notice that was taken, in order, each
--- allowed by the limits; and the lane is the one that the feed has for the subscriber.
+-- allowed by the limits; the lane is the one that the feed has for the subscriber; and log and lane
+-- hold as many as the feed is set up with.
 pub record SubscriberLogInvariant (lanes : FeedLanes) (t : SubscriberLogState) : Type 0 where
   pub notices : map (λ line. line.notice) t.lines ≡ t.lane.items
   pub allowed : AllByRecursion (λ line. IsAllowed t.limits line.notice line.advice) t.lines
   pub tag : t.lane.tag ≡ t.id
   pub lane : slice_get lanes.subscribers t.id ≡ Some t.lane.lane
+  pub most : t.most ≡ lanes.setting.log
+  pub capacity : t.lane.capacity ≡ lanes.setting.lane
 
 -- The answer to `poll`, by cases: LogFull exactly where the log is full; nothing is taken by a
 -- refused poll, nor where nothing was inside the lane at a moment of the call; else the next notice

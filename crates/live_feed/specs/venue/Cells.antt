@@ -64,8 +64,8 @@ module _ (carries : Carries) (ends : Ends) (venue window : ℕ) where
 
 -- What is so whenever a venue's lock is free: there are packets that the venue was given, session
 -- by session, and the cell stands for them; each was answered as it should be and is genuine; the
--- present session has a name that the lines may use; and the lane is the one that the feed has for
--- the venue.
+-- present session has a name that the lines may use; the lane is the one that the feed has for the
+-- venue; and window and lane hold as many as the feed is set up with.
 pub record VenueLockInvariant (sessions : SessionNames) (carries : Carries) (ends : Ends)
     (lanes : FeedLanes) (c : CellState) : Type 0 where
   pub history : History
@@ -75,3 +75,5 @@ pub record VenueLockInvariant (sessions : SessionNames) (carries : Carries) (end
   pub named : sessions c.arbiter.venue (ordinal_of c.arbiter) c.arbiter.session
   pub tag : c.lane.tag ≡ c.arbiter.venue
   pub lane : slice_get lanes.venues c.arbiter.venue ≡ Some c.lane.lane
+  pub window : c.arbiter.window ≡ lanes.setting.window
+  pub capacity : c.lane.capacity ≡ lanes.setting.lane

@@ -30,8 +30,10 @@ fn new_start<G: Genuine>(
     config: &FeedConfig<'_>,
 ) -> Result<(VenueStart<G>, Receiver<Numbered, VenueItems<G>>), AllocError>
     requires { G.sessions venue 1 session }
-    ensures { IfOk result (λ made. (made.1 ≡ made.0.lane) × (made.1.tag ≡ venue)
+    ensures lane { IfOk result (λ made. (made.1 ≡ made.0.lane) × (made.1.tag ≡ venue)
         × (made.1.items ≡ [])) }
+    ensures sized { IfOk result (λ made. (made.0.arbiter.window ≡ config.now.window)
+        × (made.0.lane.capacity ≡ config.now.lane)) }
 {
     let Ok(arbiter) = Arbiter::new(alloc, venue, session, config.window) else {
         return Err(AllocError);
@@ -49,7 +51,8 @@ pub(crate) fn new_starts<G: Genuine>(
 ) -> Result<(Vec<VenueStart<G>>, Vec<Receiver<Numbered, VenueItems<G>>>), AllocError>
     requires few { length config.now.sessions.now ≤ 16 }
     requires named { AreNamed G.sessions config.now.sessions.now }
-    ensures starts { IfOk result (λ made. AreStarts made.0.items made.1.items) }
+    ensures starts { IfOk result (λ made. AreStarts config.now.window config.now.lane made.0.items
+        made.1.items) }
     ensures count { IfOk result (λ made. length made.1.items ≡ length config.now.sessions.now) }
 {
     let mut starts = Vec::new(alloc);
@@ -64,7 +67,7 @@ pub(crate) fn new_starts<G: Genuine>(
 
 /// The lanes of 32 subscribers, in the order of their ids.
 pub(crate) fn new_spares(alloc: Global, capacity: u32) -> Result<VecDeque<SpareLane>, AllocError>
-    ensures unused { IfOk result (λ spare. AreUnused spare.items) }
+    ensures unused { IfOk result (λ spare. AreUnused capacity spare.items) }
     ensures count { IfOk result (λ spare. length spare.items ≡ 32) }
 {
     let mut spare = VecDeque::new(alloc);

@@ -1,10 +1,11 @@
 //! A feed behind its locks.
 
 ghost use Rattle.std.specs.Prelude.{◌≡◌, ◌≤◌, ◌↔◌, [], length, IfOk, IfErr, IsErrOf};
-ghost use Rattle.live_feed.specs.venue.Seats.{new_seat};
+ghost use Rattle.live_feed.specs.venue.Seats.{GivesSeat, new_seat};
 ghost use Rattle.live_feed.specs.venue.Datagrams.{AreGenuineBytes, AcceptsTheirs, IsTakenBy, bytes_of};
 
 use crate::faults::{FeedFault, RenewalFault, TakeFault};
+use crate::feed::log_size::LogSize;
 use crate::feed_name::FeedName;
 use crate::hub::calls::{consume_next, consume_some, offer_some};
 use crate::hub::cell::HubCell;
@@ -15,6 +16,7 @@ use crate::venue::cell::VenueCell;
 use crate::venue::datagram::Datagram;
 use crate::venue::locks::VenueLocks;
 use crate::venue::seat::LineSeat;
+use crate::venue::seated_lines::SeatedLines;
 use crossbeam_utils::CachePadded;
 use feed_types::{Genuine, LineId, SubscriberId, VenueId};
 use filter_terms::{Filter, Strategy};
@@ -28,9 +30,21 @@ use std::sync::{Mutex, Wait};
 #[derive(Drop)]
 pub(crate) struct Guarded<G: Genuine, N: FeedName> {
     pub(crate) cell: VenueCell<G, N>,
-    pub(crate) a: bool,
-    pub(crate) b: bool,
-    pub(crate) recovery: bool,
+    pub(crate) seated: SeatedLines,
+}
+
+impl<G: Genuine, N: FeedName> Guarded<G, N> {
+    /// The seat of the line, which has brought nothing: SeatTaken where the line has its seat.
+    fn give_seat(&mut self, line: LineId) -> Result<LineSeat<G, N>, FeedFault>
+        ensures seat { IfOk result (λ seat. seat ≡ new_seat self.old.cell.arbiter.venue line) }
+        ensures given { GivesSeat line result self.old.seated self.new.seated }
+        ensures cell { self.new.cell ≡ self.old.cell }
+    {
+        match self.seated.give(line) {
+            Ok(()) => Ok(LineSeat::new(self.cell.venue(), line)),
+            Err(fault) => Err(fault),
+        }
+    }
 }
 
 /// A feed behind its locks: one for each venue, and the consolidator's. No call holds two of them.
@@ -38,7 +52,7 @@ pub(crate) struct Guarded<G: Genuine, N: FeedName> {
 pub struct OpenFeed<G: Genuine, N: FeedName> {
     pub(crate) venues: VenueLocks<G, N>,
     pub(crate) hub: CachePadded<Mutex<HubCell<G, N>>>,
-    pub(crate) log_lines: u32,
+    pub(crate) log_size: LogSize<N>,
 }
 
 impl<G: Genuine, N: FeedName> OpenFeed<G, N> {
@@ -57,20 +71,10 @@ impl<G: Genuine, N: FeedName> OpenFeed<G, N> {
             return Err(FeedFault::UnknownVenue);
         };
         let mut guarded = lock.lock(rt);
-        let taken = match line {
-            LineId::A => guarded.a,
-            LineId::B => guarded.b,
-            LineId::Recovery => guarded.recovery,
-        };
-        if taken || guarded.cell.venue() != venue {
+        if guarded.cell.venue() != venue {
             return Err(FeedFault::SeatTaken);
         }
-        match line {
-            LineId::A => guarded.a = true,
-            LineId::B => guarded.b = true,
-            LineId::Recovery => guarded.recovery = true,
-        }
-        Ok(LineSeat::new(venue, line))
+        guarded.give_seat(line)
     }
 
     /// Takes a datagram that came on the seat's line, which is genuine at its venue, and answers
@@ -206,8 +210,8 @@ impl<G: Genuine, N: FeedName> OpenFeed<G, N> {
         declared
     }
 
-    /// Adds a subscriber with this filter and strategy, whose log is empty. Its notices begin with
-    /// the first change of the journal. It is refused, with both, as TooManySubscribers where there
+    /// Adds a subscriber with this filter and strategy, whose log is empty and holds as many lines as
+    /// configured. Its notices begin with the first change of the journal. It is refused, with both, as TooManySubscribers where there
     /// are 32, else as NoMemory.
     pub fn subscribe<W: Wait>(
         &self,
@@ -218,6 +222,8 @@ impl<G: Genuine, N: FeedName> OpenFeed<G, N> {
     ) -> Result<Subscriber<N>, (JournalFault, Filter, Strategy)>
         ensures new { IfOk result (λ made. (made.log.lines ≡ [])
             × (made.log.limits ≡ strategy.limits)) }
+        ensures sized { IfOk result (λ made. (made.log.most ≡ N.lanes.setting.log)
+            × (made.log.lane.capacity ≡ N.lanes.setting.lane)) }
         ensures back { IfErr result (λ refused. (refused.1 ≡ filter) × (refused.2 ≡ strategy)) }
     {
         let mut hub = self.hub.lock(rt);
@@ -235,7 +241,8 @@ impl<G: Genuine, N: FeedName> OpenFeed<G, N> {
             Ok((id, lane)) => {
                 self.venues.bells().ring_work();
                 let limits = strategy.limits();
-                let log = SubscriberLog::new(alloc, id, lane, self.log_lines, limits, bells);
+                let most = self.log_size.lines();
+                let log = SubscriberLog::new(alloc, id, lane, most, limits, bells);
                 Ok(Subscriber { log, strategy })
             }
             Err((fault, filter)) => Err((fault, filter, strategy)),

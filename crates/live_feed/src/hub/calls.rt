@@ -1,12 +1,14 @@
 //! What the calls of a feed do under the consolidator's lock.
 
-ghost use Rattle.std.specs.Prelude.{◌≡◌, ◌≤◌, ◌↔◌, length, IfOk, IsErrOf, OnErr};
+ghost use Rattle.std.specs.Prelude.{◌≡◌, ◌≤◌, ◌↔◌, length, IfOk, IfSome, IfNone, IsErrOf};
+ghost use Rattle.live_feed.specs.hub.Batches.{ConsumesBatch, OffersCount};
 
 use crate::bells::Bells;
 use crate::feed_name::FeedName;
 use crate::hub::cell::HubCell;
 use crate::unsent::Unsent;
-use feed_types::{Genuine, SubscriberId, VenueId};
+use feed_types::{Genuine, Numbered, SubscriberId, VenueId};
+use fifo_lane::{LaneRule, VenueItems};
 use journal_book::JournalFault;
 use std::sync::Wait;
 
@@ -25,7 +27,7 @@ pub(crate) fn consume_next<G: Genuine, N: FeedName, W: Wait>(
     hub.consume(rt, venue)
 }
 
-/// Journals the items that are in the venue's lane, at most so many, and gives how many there were.
+/// Journals the items that are in the venue's lane, at most `most`, and returns how many there were.
 /// UnknownVenue, else a refusal where it comes before any of them, whether or not there is one; then
 /// nothing has changed.
 pub(crate) fn consume_some<G: Genuine, N: FeedName, W: Wait>(
@@ -36,7 +38,8 @@ pub(crate) fn consume_some<G: Genuine, N: FeedName, W: Wait>(
 ) -> Result<u32, JournalFault>
     ensures unknown { IsErrOf result JournalFault.UnknownVenue ↔ (length N.lanes.venues ≤ venue) }
     ensures most { IfOk result (λ count. count ≤ most) }
-    ensures refused { OnErr result (hub.new.core ≡ hub.old.core) }
+    ensures batch { ConsumesBatch ⟦<VenueItems<G> as LaneRule<Numbered>>⟧.may_send N.lanes venue
+        most result hub.old.core hub.new.core }
 {
     if venue.index() >= hub.core.venue_count() {
         return Err(JournalFault::UnknownVenue);
@@ -46,8 +49,8 @@ pub(crate) fn consume_some<G: Genuine, N: FeedName, W: Wait>(
     for count in 0..most {
         match hub.consume(rt, venue) {
             Ok(Some(_)) => {}
-            Err(fault) if count == 0 => return Err(fault),
-            Ok(None) | Err(_) => return Ok(count),
+            Ok(None) => return Ok(count),
+            Err(fault) => return if count == 0 { Err(fault) } else { Ok(count) },
         }
     }
     Ok(most)
@@ -62,12 +65,15 @@ pub(crate) fn offer_some<G: Genuine, N: FeedName, W: Wait>(
     hub: &mut HubCell<G, N>,
     bells: &Bells,
     id: SubscriberId,
-) -> Option<u64> {
+) -> Option<u64>
+    ensures sent { IfSome result (λ pushed. OffersCount pushed hub.old.core hub.new.core) }
+    ensures none { IfNone result (hub.new.core ≡ hub.old.core) }
+{
+    if !hub.core.has(id) {
+        return None;
+    }
     let mut pushed: u64 = 0;
     for _ in rt.forever() {
-        if !hub.core.has(id) {
-            break;
-        }
         match hub.offer_one(rt, id) {
             Ok(_) => pushed = pushed.saturating_add(1),
             Err(Unsent::LaneFull) if !bells.is_room_wanted(id) => bells.want_room(id),
@@ -82,15 +88,17 @@ pub(crate) fn offer_some<G: Genuine, N: FeedName, W: Wait>(
             }
         }
     }
-    None
+    Some(pushed)
 }
 
-/// Offers each subscriber what it wants, and gives how many notices were pushed.
+/// Offers each subscriber what it wants, and returns how many notices were pushed, to all of them.
 pub(crate) fn offer_each<G: Genuine, N: FeedName, W: Wait>(
     rt: &W,
     hub: &mut HubCell<G, N>,
     bells: &Bells,
-) -> u64 {
+) -> u64
+    ensures { OffersCount result hub.old.core hub.new.core }
+{
     let mut offered: u64 = 0;
     for place in 0..32u8 {
         let Some(id) = SubscriberId::new(place) else {

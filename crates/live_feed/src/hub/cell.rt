@@ -2,7 +2,7 @@
 
 ghost use Rattle.std.specs.Prelude.{◌≡◌, ◌<◌, length, IfOk, IfErr, OnErr};
 ghost use Rattle.journal_book.specs.Journals.{Declares};
-ghost use Rattle.live_feed.specs.hub.Sections.{Consumes, KeepsButIntake, OffersOne, KeepsButOffers, AddsSubscriber};
+ghost use Rattle.live_feed.specs.hub.Sections.{Consumes, KeepsButIntake, OffersOne, KeepsButOffers, AddsSubscriber, RefusesSubscriber};
 ghost use Rattle.filter_terms.specs.declared.terms.Terms.{Terms};
 ghost use Rattle.filter_terms.specs.Copies.{IsCopy};
 ghost use Rattle.filter_terms.specs.Filters.{terms_of};
@@ -76,6 +76,7 @@ impl<G: Genuine, N: FeedName> HubCell<G, N> {
         ensures added { IfOk result (λ made. (copy : Terms) × IsCopy (terms_of filter) copy
             × AddsSubscriber N.lanes copy made.0 made.1 self.old.core self.new.core) }
         ensures back { IfErr result (λ refused. refused.1 ≡ filter) }
+        ensures order { IfErr result (λ refused. RefusesSubscriber self.old.core refused.0) }
         ensures refused { OnErr result (self.new.core ≡ self.old.core) }
     {
         if self.core.subscriber_count() >= 32 {
@@ -104,6 +105,8 @@ impl<G: Genuine, N: FeedName> HubCell<G, N> {
         ensures offer { OffersOne ⟦<RisingNotices as LaneRule<Notice>>⟧.may_send id result
             self.old.core self.new.core }
         ensures kept { KeepsButOffers self.old.core self.new.core }
+        ensures count { length self.new.core.journal.cursors
+            ≡ length self.old.core.journal.cursors }
     {
         let place = self.core.next_place(self.filters.get(id.index()), id);
         self.core.offer_at(rt, id, place)

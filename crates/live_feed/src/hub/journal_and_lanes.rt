@@ -135,6 +135,7 @@ impl<G: Genuine, N: FeedName> JournalAndLanes<G, N> {
     pub(crate) fn venue_count(&self) -> usize
         ensures value { result ≡ self.now.journal.venues }
         ensures lanes { result ≡ length N.lanes.venues }
+        ensures receivers { result ≡ length self.now.receivers }
     {
         self.from_venues.len()
     }
@@ -241,6 +242,7 @@ impl<G: Genuine, N: FeedName> JournalAndLanes<G, N> {
         ensures offer { OffersOne ⟦<RisingNotices as LaneRule<Notice>>⟧.may_send id result
             self.old self.new }
         ensures kept { KeepsButOffers self.old self.new }
+        ensures count { length self.new.journal.cursors ≡ length self.old.journal.cursors }
     {
         let Some(notice) = notice_at(self.kept.changes(), place) else {
             self.kept.look_to(id, place);

@@ -35,7 +35,7 @@ where
         (λ handle. (handle.promise.seat.value ≡ line.seat)
         × (handle.promise.source.value ≡ line.source))
         (λ ended. HasEnded (HasTaken G.sessions G.carries G.ends N.lanes) S.brings S.failures
-        line.seat line.source ended.seat ended.source ended.fault) }
+        line.seat line.source ended.seat ended.source ended.datagrams ended.fault) }
 {
     let promise = LineOf {
         seat: Snapshot::of(&line.seat),
@@ -43,7 +43,7 @@ where
     };
     let job = move || -> LineEnd<G, N, S>
         ensures { HasEnded (HasTaken G.sessions G.carries G.ends N.lanes) S.brings S.failures
-            line.seat line.source result.seat result.source result.fault }
+            line.seat line.source result.seat result.source result.datagrams result.fault }
     { work_line(rt, venues, signals, line) };
     match scope.spawn_with(promise, job) {
         Ok(handle) => Ok(handle),
@@ -76,7 +76,7 @@ where
         (λ handle. (handle.promise.seat.value ≡ line.seat)
         × (handle.promise.source.value ≡ line.source))
         (λ ended. HasEnded (HasTaken G.sessions G.carries G.ends N.lanes) S.brings S.failures
-        line.seat line.source ended.seat ended.source ended.fault))
+        line.seat line.source ended.seat ended.source ended.datagrams ended.fault))
         lines.items result.items }
 {
     for line in lines {

@@ -25,7 +25,7 @@ impl<G: Genuine, N: FeedName, S: LineSource<G>> Promise<LineEnd<G, N, S>> for Li
     ghost use Rattle.live_feed.specs.run.Runs.{HasTaken, HasEnded};
 
     ghost kept_by = { λ p r. HasEnded (HasTaken G.sessions G.carries G.ends N.lanes) S.brings
-        S.failures p.seat.value p.source.value r.seat r.source r.fault };
+        S.failures p.seat.value p.source.value r.seat r.source r.datagrams r.fault };
 }
 
 /// Has the source send the request for the venue's gap that is due, if any. Where no gap stands,
@@ -62,7 +62,7 @@ pub(crate) fn work_line<G: Genuine, N: FeedName, S: LineSource<G>, W: Wait>(
     line: Line<G, N, S>,
 ) -> LineEnd<G, N, S>
     ensures { HasEnded (HasTaken G.sessions G.carries G.ends N.lanes) S.brings S.failures
-        line.seat line.source result.seat result.source result.fault }
+        line.seat line.source result.seat result.source result.datagrams result.fault }
 {
     let Line {
         mut seat,

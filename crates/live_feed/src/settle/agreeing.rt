@@ -1,6 +1,8 @@
 //! Whether all is there that a feed is to be settled with.
 
-ghost use Rattle.std.specs.Prelude.{IsTrue, map};
+ghost use Rattle.std.specs.Prelude.{◌≡◌, ◌↔◌, true, IsTrue, map};
+ghost use Rattle.std.specs.List.{list_any};
+ghost use Rattle.live_feed.specs.venue.Seats.{HasItsSeats, has_seat, is_seat_of};
 ghost use Rattle.live_feed.specs.settle.Settlements.{AgreesOn, Agrees, AllAgree, AreInOrder};
 
 use crate::feed::open_feed::Guarded;
@@ -12,24 +14,42 @@ use crate::venue::seat::LineSeat;
 use feed_types::{Genuine, LineId, VenueId};
 
 /// Whether one of the seats is of the venue's line.
-fn is_among<G, N>(seats: &[LineSeat<G, N>], venue: VenueId, line: LineId) -> bool {
-    for seat in seats {
-        if is_of(seat, venue, line) {
+fn is_among<G, N>(seats: &[LineSeat<G, N>], venue: VenueId, line: LineId) -> bool
+    ensures { result ≡ list_any (is_seat_of venue line) seats.now }
+{
+    for place in 0..seats.len() {
+        if is_of(&seats[place], venue, line) {
             return true;
         }
     }
     false
 }
 
+/// Whether the line's seat is here, if it was handed out.
+fn is_back<G: Genuine, N: FeedName>(
+    guarded: &Guarded<G, N>,
+    seats: &[LineSeat<G, N>],
+    venue: VenueId,
+    line: LineId,
+) -> bool
+    ensures { IsTrue result ↔ (has_seat line guarded.now.seated ≡ true
+        → list_any (is_seat_of venue line) seats.now ≡ true) }
+{
+    !guarded.seated.has(line) || is_among(seats, venue, line)
+}
+
 /// Whether each seat of the venue that was handed out is here.
 pub(crate) fn has_its_seats<G: Genuine, N: FeedName>(
     guarded: &Guarded<G, N>,
     seats: &[LineSeat<G, N>],
-) -> bool {
+) -> bool
+    ensures { IsTrue result
+        ↔ HasItsSeats seats.now guarded.now.cell.arbiter.venue guarded.now.seated }
+{
     let venue = guarded.cell.venue();
-    (!guarded.a || is_among(seats, venue, LineId::A))
-        && (!guarded.b || is_among(seats, venue, LineId::B))
-        && (!guarded.recovery || is_among(seats, venue, LineId::Recovery))
+    is_back(guarded, seats, venue, LineId::A)
+        && is_back(guarded, seats, venue, LineId::B)
+        && is_back(guarded, seats, venue, LineId::Recovery)
 }
 
 /// Whether the cell counts on the line what the line's seats show.

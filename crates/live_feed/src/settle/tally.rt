@@ -2,7 +2,8 @@
 
 ghost use Rattle.std.specs.Prelude.{◌≡◌};
 ghost use Rattle.line_arbiter.specs.Streams.{is_same_line};
-ghost use Rattle.live_feed.specs.settle.Settlements.{is_seat_of, no_tally, tally_after, tally_of};
+ghost use Rattle.live_feed.specs.venue.Seats.{is_seat_of};
+ghost use Rattle.live_feed.specs.settle.Settlements.{no_tally, tally_after, tally_of};
 
 use crate::venue::seat::LineSeat;
 use crate::venue::sums::PacketSums;

@@ -121,7 +121,8 @@ pub(crate) fn settle_venue<G: Genuine, N: FeedName, W: Wait>(
 ) -> VenueEnd
     requires end { IsConsumed G.carries G.ends N.lanes entries.now cell.arbiter.venue receiver }
     requires room { HasVenueRoom entries.now cell room }
-    ensures { IsClosedVenue G.carries G.ends entries.now cell.arbiter.venue cell result }
+    ensures { IsClosedVenue G.sessions G.carries G.ends N.lanes entries.now cell.arbiter.venue cell
+        result }
 {
     let VenueRoom {
         consumed,

@@ -2,6 +2,7 @@
 
 ghost use Rattle.filter_terms.specs.Allowed.{IsAllowed};
 ghost use Rattle.filter_terms.specs.Advisers.{MayAdvise};
+ghost use Rattle.filter_terms.specs.Strategies.{Advises};
 
 use feed_types::Notice;
 use filter_terms::{Advice, Adviser, Strategy};
@@ -15,7 +16,8 @@ fn ask(adviser: &mut Adviser, notice: &Notice) -> Advice
 /// What the strategy advises on the notice. It is what [`Strategy::advise`] gives, and stands here
 /// since a strategy that is lent can't be asked through another crate's call.
 pub(crate) fn advise(strategy: &mut Strategy, notice: &Notice) -> Advice
-    ensures { IsAllowed strategy.old.limits notice.now result }
+    ensures allowed { IsAllowed strategy.old.limits notice.now result }
+    ensures asked { Advises strategy.old notice.entry result strategy.new }
 {
     match &mut strategy.adviser {
         Some(adviser) => ask(adviser, notice),

@@ -3,6 +3,7 @@
 ghost use Rattle.std.specs.Prelude.{◌≡◌, ◌<◌, [], ◌∷◌, ◌++◌, Some, slice_get, vec_len, vec_capacity};
 ghost use Rattle.filter_terms.specs.Allowed.{IsAllowed};
 ghost use Rattle.live_feed.specs.subscriber.Logs.{SubscriberLogInvariant, Polls, logged};
+ghost use Rattle.live_feed.specs.subscriber.Asking.{Asks, AsksOnce};
 
 use crate::bells::Bells;
 use crate::feed_name::FeedName;
@@ -49,14 +50,19 @@ impl<N: FeedName> Model for SubscriberLog<N> {
     }) };
 }
 
-/// What the strategy advises, where its limits are these; another one, which no subscriber has, is
-/// asked and holds. It is shown a copy, so that the notice itself goes into the log as it was read.
+/// What the strategy advises, which is asked once, where its limits are these; for another one, which
+/// no subscriber has, it is to hold. It is shown a copy, so that the notice itself goes into the log
+/// as it was read.
 fn advised(strategy: &mut Strategy, bounds: Limits, notice: &Notice) -> Advice
-    ensures { IsAllowed bounds notice.now result }
+    ensures allowed { IsAllowed bounds notice.now result }
+    ensures asks { AsksOnce bounds notice.now result strategy.old strategy.new }
 {
     let same = strategy.limits == bounds;
     let shown = *notice;
     let advice = advise(strategy, &shown);
+    // No subscriber comes here with other limits than its strategy's: they are taken from it in
+    // `subscribe`. That can't be said of a type that holds a closure beside a feed's name, so it is
+    // looked at, and what isn't known to be allowed doesn't count.
     if same { advice } else { Advice::Hold }
 }
 
@@ -81,6 +87,7 @@ fn log_line(
     requires { vec_len lines.old < vec_capacity lines.old }
     ensures logged { lines.new.items ≡ lines.old.items ++ logged notice.now result ∷ [] }
     ensures allowed { IsAllowed bounds notice.now result }
+    ensures asks { AsksOnce bounds notice.now result strategy.old strategy.new }
 {
     let advice = advised(strategy, bounds, notice);
     push_line(lines, notice, &advice);
@@ -99,6 +106,8 @@ impl<N: FeedName> SubscriberLog<N> {
         requires tag { lane.tag ≡ id }
         requires lane { slice_get N.lanes.subscribers id ≡ Some lane.lane }
         requires new { lane.items ≡ [] }
+        requires most { most ≡ N.lanes.setting.log }
+        requires capacity { lane.capacity ≡ N.lanes.setting.lane }
         ensures { result
             ≡ record { id = id; lane = lane; lines = []; most = most; limits = limits } }
     {
@@ -151,7 +160,9 @@ impl<N: FeedName> SubscriberLog<N> {
         rt: &W,
         strategy: &mut Strategy,
     ) -> Result<Option<Advice>, PollFault>
-        ensures { Polls ⟦<RisingNotices as LaneRule<Notice>>⟧.may_send result self.old self.new }
+        ensures polls { Polls ⟦<RisingNotices as LaneRule<Notice>>⟧.may_send result self.old
+            self.new }
+        ensures asks { Asks result self.old self.new strategy.old strategy.new }
     {
         if self.lines.len() >= self.most_lines as usize {
             return Err(PollFault::LogFull);

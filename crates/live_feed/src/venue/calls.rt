@@ -1,6 +1,6 @@
 //! The calls of a feed that take a venue's lock alone.
 
-ghost use Rattle.std.specs.Prelude.{◌≡◌, ◌≤◌, ◌↔◌, length, IsErrOf};
+ghost use Rattle.std.specs.Prelude.{◌≡◌, ◌≤◌, ◌+◌, ◌↔◌, length, IsErrOf};
 ghost use Rattle.line_arbiter.specs.Genuine.{IsGenuine};
 ghost use Rattle.live_feed.specs.venue.Seats.{seat_after};
 ghost use Rattle.live_feed.specs.venue.Sections.{AcceptsTheirPacket};
@@ -18,13 +18,16 @@ use line_arbiter::{LineFault, Outcome};
 use mold_packet::{Packet, Request, read_packet};
 use std::sync::Wait;
 
-/// Pushes what is ready of the venue, at most so many items, until nothing is or the lane is full.
-/// Gives how many were pushed, and whether something may be ready still.
+/// Pushes what is ready of the venue, at most `most` items, until nothing is or the lane is full.
+/// Returns how many were pushed, and whether something may be ready still.
 fn push_ready<G: Genuine, N: FeedName, W: Wait>(
     rt: &W,
     cell: &mut VenueCell<G, N>,
     most: u64,
-) -> (u64, bool) {
+) -> (u64, bool)
+    ensures count { length cell.new.lane.items ≡ length cell.old.lane.items + result.0 }
+    ensures most { result.0 ≤ most }
+{
     for pushed in 0..most {
         match cell.push_one(rt) {
             Ok(_) => {}

@@ -87,6 +87,8 @@ impl<G: Genuine, N: FeedName> VenueCell<G, N> {
         requires fits { Fits arbiter [] }
         requires named { G.sessions lane.tag 1 arbiter.session }
         requires lane { (lane.items ≡ []) × (slice_get N.lanes.venues lane.tag ≡ Some lane.lane) }
+        requires sized { (arbiter.window ≡ N.lanes.setting.window)
+            × (lane.capacity ≡ N.lanes.setting.lane) }
         ensures { result ≡ new_cell arbiter lane }
     {
         VenueCell {
@@ -239,6 +241,8 @@ impl<G: Genuine, N: FeedName> VenueCell<G, N> {
             → PushesOne ⟦<VenueItems<G> as LaneRule<Numbered>>⟧.may_send result h
             self.old self.new }
         ensures kept { KeepsButSent self.old self.new }
+        ensures count { IfOk result (λ _. length self.new.lane.items
+            ≡ length self.old.lane.items + 1) }
         ensures refused { OnErr result (self.new ≡ self.old) }
     {
         let Some(ready) = self.lines.next_ready() else {

@@ -12,11 +12,11 @@ returns-clause-lines g c =
     (λ line handle. (handle.promise.seat.value ≡ line.seat)
     × (handle.promise.source.value ≡ line.source))
     (λ line ended. HasEnded takes brings failures line.seat line.source ended.seat ended.source
-    ended.fault)
+    ended.datagrams ended.fault)
     (λ handle ended. HasEnded takes brings failures handle.promise.seat.value
-    handle.promise.source.value ended.seat ended.source ended.fault)
+    handle.promise.source.value ended.seat ended.source ended.datagrams ended.fault)
     (λ line handle ended made kept. ended_of takes brings failures handle.promise.seat.value line.seat
-    handle.promise.source.value line.source ended.seat ended.source ended.fault made.0 made.1
+    handle.promise.source.value line.source ended.seat ended.source ended.datagrams ended.fault made.0 made.1
     kept)
     c.args.lines.items c.start_lines-line_threads.result.items c.join_each-ends.result.items
     c.start_lines-line_threads.ensures.threads c.join_each-ends.ensures.ends

@@ -11,7 +11,7 @@ invariant-loop-line g l =
     × (handle.promise.source.value ≡ line.source))
     (λ ended. HasEnded (HasTaken g.G.Genuine.sessions g.G.Genuine.carries g.G.Genuine.ends
     g.N.FeedName.lanes) g.S.LineSource.brings g.S.LineSource.failures line.seat line.source
-    ended.seat ended.source ended.fault))
+    ended.seat ended.source ended.datagrams ended.fault))
     l.yielded l.threads.items
     × (vec_len l.threads ≡ length l.yielded)
     × (vec_capacity l.threads ≡ vec_capacity l.fn.threads)

@@ -1,4 +1,5 @@
-use Rattle.std.proofs.Common.{◌≡◌, ℕ, List, None}
+use Rattle.std.proofs.Common.{◌≡◌, ℕ, List, None, length}
+use Rattle.line_arbiter.specs.Counts.{shown}
 use Rattle.live_feed.specs.run.Runs.{HasTaken}
 use Rattle.live_feed.proofs.run.line_work.work_line.Given as goal
 
@@ -9,6 +10,7 @@ invariant-loop g l =
     × (l.seat.venue ≡ l.fn.line.seat.venue) × (l.seat.line ≡ l.fn.line.seat.line)
     × ((brought : List (List ℕ)) × HasTaken g.G.Genuine.sessions g.G.Genuine.carries
     g.G.Genuine.ends g.N.FeedName.lanes l.fn.line.seat brought l.seat
-    × g.S.LineSource.brings l.fn.line.source brought l.source)
+    × g.S.LineSource.brings l.fn.line.source brought l.source
+    × (l.datagrams ≡ shown (length brought)))
     × (g.S.LineSource.failures l.source ≡ g.S.LineSource.failures l.fn.line.source)
     × (l.fault ≡ None)

@@ -14,7 +14,7 @@ use Rattle.live_feed.proofs.settle.closing.close_venues.Goals as goal
 pub loop-guarded-init : goal.loop-guarded-init
 loop-guarded-init g c =
     let R = IsToClose g.G.Genuine.carries g.G.Genuine.ends g.N.FeedName.lanes c.args.entries.now in
-    let S = IsClosedVenue g.G.Genuine.carries g.G.Genuine.ends c.args.entries.now in
+    let S = IsClosedVenue g.G.Genuine.sessions g.G.Genuine.carries g.G.Genuine.ends g.N.FeedName.lanes c.args.entries.now in
     let venues = c.from_vec-venues in
     let receivers = c.from_vec-receivers in
     let rooms = c.from_vec-rooms in
@@ -55,7 +55,7 @@ loop-guarded-preserved g c =
     let ends = g.G.Genuine.ends in
     let entries = c.args.entries.now in
     let R = IsToClose carries ends g.N.FeedName.lanes entries in
-    let S = IsClosedVenue carries ends entries in
+    let S = IsClosedVenue g.G.Genuine.sessions carries ends g.N.FeedName.lanes entries in
     let i = c.loop-guarded.invariant in
     let old = c.loop-guarded.ends.items in
     let more = c.push_reserved.new.self.items in
@@ -85,7 +85,7 @@ loop-guarded-preserved g c =
 
 pub returns : goal.returns
 returns g c =
-    let S = IsClosedVenue g.G.Genuine.carries g.G.Genuine.ends c.args.entries.now in
+    let S = IsClosedVenue g.G.Genuine.sessions g.G.Genuine.carries g.G.Genuine.ends g.N.FeedName.lanes c.args.entries.now in
     let none = c.in_default.ensures.cases.0 in
     let long = c.loop-guarded.venues.ok.0 in
     all_done S (map (λ v. v.cell) c.args.venues.items) (map (λ v. v.cell) c.loop-guarded.venues.items) c.loop-guarded.ends.items (no_items (λ v. v.cell) c.loop-guarded.venues.items (omega arith)) c.loop-guarded.invariant.done

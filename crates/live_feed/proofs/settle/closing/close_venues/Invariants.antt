@@ -8,7 +8,7 @@ use Rattle.live_feed.proofs.settle.closing.close_venues.Given as goal
 abbrev pub invariant-loop-guarded : goal.invariant-loop-guarded
 invariant-loop-guarded g l = record {
   left : Zip3 (IsToClose g.G.Genuine.carries g.G.Genuine.ends g.N.FeedName.lanes l.entries) (length l.ends.items) (map (λ x. x.cell) l.venues.items) l.receivers.items l.rooms.items;
-  done : Until (IsClosedVenue g.G.Genuine.carries g.G.Genuine.ends l.entries) (map (λ x. x.cell) l.fn.venues.items) l.ends.items (map (λ x. x.cell) l.venues.items);
+  done : Until (IsClosedVenue g.G.Genuine.sessions g.G.Genuine.carries g.G.Genuine.ends g.N.FeedName.lanes l.entries) (map (λ x. x.cell) l.fn.venues.items) l.ends.items (map (λ x. x.cell) l.venues.items);
   receivers : deque_len l.receivers ≡ deque_len l.venues;
   rooms : deque_len l.rooms ≡ deque_len l.venues;
   fits : length l.ends.items + deque_len l.venues ≤ vec_capacity l.ends;

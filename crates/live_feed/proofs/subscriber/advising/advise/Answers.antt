@@ -6,7 +6,7 @@ invariant_of-strategy g c =
     let keeps = rw c.in-Some.is at c.args.strategy.now.right in
     record { right = still_allowed _ _ _ _ _ _ keeps c.ask.ensures }
 
-pub returns-in-Some : goal.returns-in-Some
-returns-in-Some g c =
+pub returns-in-Some-clause-allowed : goal.returns-in-Some-clause-allowed
+returns-in-Some-clause-allowed g c =
     let keeps = rw c.in-Some.is at c.args.strategy.now.right in
     one_allowed _ _ _ _ _ _ keeps c.ask.ensures

@@ -24,6 +24,7 @@ returns g c =
       id_is = id_is;
       tag = spare.1 ∙ sym id_is;
       lane = ap (slice_get g.N.FeedName.lanes.subscribers) id_is ∙ spare.3;
+      capacity = spare.4;
       empty = spare.2;
       journal = c.in-Ok.ensures.2;
       senders = senders ∙ ap (λ (e : LaneEnd Notice). c.self.inside.to_subscribers.items ++ e ∷ []) (sym spare.0);

@@ -1,0 +1,237 @@
+-- What one item, or one notice, more leaves of a section, said of plain states.
+use Rattle.std.proofs.Common.{◌≡◌, ℕ, zero, suc, ◌+◌, ◌≤◌, ◌<◌, Bool, true, false, List, [], ◌∷◌, ◌++◌, length, map, Option, Some, None, Result, Ok, Err, refl, sym, ap, subst, ◌∙◌, arith, append_assoc, append-nil, length-append}
+use Rattle.std.specs.Prelude.{slice_get, slice_set, nat_le, sum_by, if◌then◌else◌}
+use Rattle.std.proofs.lemmas.Bool.Decides.{nat_tests}
+use Rattle.std.proofs.lemmas.List.{map-append}
+use Rattle.std.proofs.lemmas.List.Sums.{sum_by-cons}
+use Rattle.feed_types.specs.declared.item.Numbered.{Numbered}
+use Rattle.feed_types.specs.declared.journal.Entry.{Entry}
+use Rattle.feed_types.specs.declared.journal.Entry.TheVariants as entry
+use Rattle.feed_types.specs.declared.journal.Notice.{Notice}
+use Rattle.line_arbiter.specs.Counts.{shown}
+use Rattle.journal_book.specs.declared.fault.JournalFault.TheVariants.{JournalFull}
+use Rattle.journal_book.specs.Wanted.{wanted_of}
+use Rattle.fifo_lane.specs.Lane.{LaneEnd, with_items}
+use Rattle.feed_core.proofs.Lists.{get_within}
+use Rattle.feed_core.specs.declared.event.Done.TheVariants as done
+use Rattle.feed_core.specs.Steps.{ComesTo, Intake, journaled, journal_full, offered, stays}
+use Rattle.live_feed.specs.declared.unsent.Unsent.{Unsent}
+use Rattle.live_feed.specs.declared.unsent.Unsent.TheVariants as unsent
+use Rattle.live_feed.specs.hub.Hubs.{HubState}
+use Rattle.live_feed.specs.hub.Sections.{ConsumesOne, KeepsButIntake, OffersOne, intake_of}
+use Rattle.live_feed.specs.hub.Batches.{ConsumesCount, ConsumesItems, HadNoItem, OffersCount, sent_to_all}
+use Rattle.live_feed.proofs.HubMoves.{one_there, put_same}
+use Rattle.live_feed.proofs.CellMoves.{shown_sum}
+
+-- ---- Consume
+
+module _ (journal venue : ℕ) (old after : Intake) where
+  -- what was journaled is an item
+  item_journaled : (b : Bool) (next : Option Numbered) (position : ℕ) → ComesTo (if b then stays journal_full else journaled venue next old) old (done.Consumed position) after
+      → (x : Numbered) × (after ≡ record { received = old.received ++ x ∷ []; entries = old.entries ++ entry.Consumed venue x ∷ [] })
+  item_journaled true next position e = absurd (let h = e.0 in cc)
+  item_journaled false None position e = absurd (let h = e.0 in cc)
+  item_journaled false (Some x) position e = (x, e.1)
+
+  -- where there was no item, there was room
+  none_journaled : (b : Bool) (next : Option Numbered) → ComesTo (if b then stays journal_full else journaled venue next old) old done.LaneEmpty after → (b ≡ false) × (after ≡ old)
+  none_journaled true next e = absurd (let h = e.0 in cc)
+  none_journaled false None e = (refl, e.1)
+  none_journaled false (Some x) e = absurd (let h = e.0 in cc)
+
+  -- and where the journal was full, there was none
+  refused_full : (b : Bool) (next : Option Numbered) → ComesTo (if b then stays journal_full else journaled venue next old) old (done.Refused 17) after → (b ≡ true) × (after ≡ old)
+  refused_full true next e = (refl, e.1)
+  refused_full false None e = absurd (let h = e.0 in cc)
+  refused_full false (Some x) e = absurd (let h = e.0 in cc)
+
+room_of : (m n : ℕ) → nat_le m n ≡ false → n < m
+room_of m n e = grind (arith, nat_tests)
+
+full_of : (m n : ℕ) → nat_le m n ≡ true → m ≤ n
+full_of m n e = grind (arith, nat_tests)
+
+put_twice : {X : Type 0} (xs : List X) (i : ℕ) (x y : X) → slice_set (slice_set xs i x) i y ≡ slice_set xs i y
+put_twice [] i x y = refl
+put_twice (z ∷ zs) zero x y = refl
+put_twice (z ∷ zs) (suc i) x y = ap (λ (l : List _). z ∷ l) (put_twice zs i x y)
+
+get_there : {X : Type 0} (xs : List X) (i : ℕ) (x y : X) → slice_get xs i ≡ Some x → slice_get (slice_set xs i y) i ≡ Some y
+get_there [] i x y e = absurd cc
+get_there (z ∷ zs) zero x y e = refl
+get_there (z ∷ zs) (suc i) x y e = get_there zs i x y e
+
+module _ (may_send : ℕ → List Numbered → Type 0) (venue : ℕ) (old : HubState) where
+  -- nothing was journaled yet
+  pub no_items : (lane : LaneEnd Numbered) → slice_get old.receivers venue ≡ Some lane → ConsumesItems venue [] old old
+  no_items lane at = record {
+    lane = lane;
+    at = at;
+    received = sym (ap (λ (l : List Numbered). slice_set old.receivers venue (with_items lane l)) (append-nil lane.items) ∙ put_same old.receivers venue lane at);
+    entries = sym (append-nil old.journal.entries);
+    kept = refl;
+  }
+
+  module _ (between new : HubState) (kept : KeepsButIntake between new) where
+    kept_on : KeepsButIntake old between → KeepsButIntake old new
+    kept_on before = kept ∙ ap (λ (s : HubState). record s {
+      journal = record s.journal { entries = new.journal.entries; ready = new.journal.ready };
+      receivers = new.receivers;
+    }) before
+
+    -- one item more was
+    pub one_item : (items : List Numbered) (position : ℕ) → ConsumesItems venue items old between → ConsumesOne may_send venue (Ok (Some position)) between new
+        → (x : Numbered) × ConsumesItems venue (items ++ x ∷ []) old new
+    one_item items position r one =
+        let lane = with_items r.lane (r.lane.items ++ items) in
+        let here : slice_get between.receivers venue ≡ Some lane = ap (λ (l : List (LaneEnd Numbered)). slice_get l venue) r.received ∙ get_there old.receivers venue r.lane lane r.at in
+        let same : one.lane ≡ lane = one_there (slice_get between.receivers venue) one.lane lane one.at here in
+        let found = item_journaled between.journal.journal venue (intake_of one.lane between.journal) one.after (nat_le between.journal.journal (length between.journal.entries)) one.next position one.comes in
+        let x = found.0 in (
+          x,
+          record {
+            lane = r.lane;
+            at = r.at;
+            received =
+                one.received
+                ∙ ap (λ (i : Intake). slice_set between.receivers venue (with_items one.lane i.received)) found.1
+                ∙ ap (λ (e : LaneEnd Numbered). slice_set between.receivers venue (with_items e (e.items ++ x ∷ []))) same
+                ∙ ap (λ (l : List (LaneEnd Numbered)). slice_set l venue (with_items lane (lane.items ++ x ∷ []))) r.received
+                ∙ put_twice old.receivers venue lane (with_items lane (lane.items ++ x ∷ []))
+                ∙ ap (λ (l : List Numbered). slice_set old.receivers venue (with_items r.lane l)) (append_assoc r.lane.items items (x ∷ []));
+            entries =
+                one.entries
+                ∙ ap (λ (i : Intake). i.entries) found.1
+                ∙ ap (λ (l : List Entry). l ++ entry.Consumed venue x ∷ []) r.entries
+                ∙ append_assoc old.journal.entries (map (entry.Consumed venue) items) (entry.Consumed venue x ∷ [])
+                ∙ ap (λ (l : List Entry). old.journal.entries ++ l) (sym (map-append (entry.Consumed venue) items (x ∷ [])));
+            kept = kept_on r.kept;
+          },
+        )
+
+    -- and there is none more
+    pub no_item_more : (items : List Numbered) → ConsumesItems venue items old between → ConsumesOne may_send venue (Ok None) between new → ConsumesItems venue items old new
+    no_item_more items r one =
+        let found = none_journaled between.journal.journal venue (intake_of one.lane between.journal) one.after (nat_le between.journal.journal (length between.journal.entries)) one.next one.comes in
+        record {
+          lane = r.lane;
+          at = r.at;
+          received =
+              one.received
+              ∙ ap (λ (i : Intake). slice_set between.receivers venue (with_items one.lane i.received)) found.1
+              ∙ put_same between.receivers venue one.lane one.at
+              ∙ r.received;
+          entries = one.entries ∙ ap (λ (i : Intake). i.entries) found.1 ∙ r.entries;
+          kept = kept_on r.kept;
+        }
+
+  -- none was
+  pub start_count : (after : HubState) → after ≡ old → venue < length old.receivers → ConsumesCount venue 0 old after
+  start_count after same below =
+      let there = get_within old.receivers venue below in
+      subst (λ (s : HubState). ConsumesCount venue 0 old s) (sym same) (record { items = []; count_is = refl; consumes = no_items there.0 there.1 })
+
+  -- one more was
+  pub one_more_item : (count position : ℕ) (between new : HubState) → ConsumesCount venue count old between → ConsumesOne may_send venue (Ok (Some position)) between new → KeepsButIntake between new → ConsumesCount venue (count + 1) old new
+  one_more_item count position between new r one kept =
+      let more = one_item between new kept r.items position r.consumes one in
+      record { items = r.items ++ more.0 ∷ []; count_is = length-append r.items (more.0 ∷ []) ∙ ap (λ (n : ℕ). n + 1) r.count_is; consumes = more.1 }
+
+  -- there is none more
+  pub none_more_item : (count : ℕ) (between new : HubState) → ConsumesCount venue count old between → ConsumesOne may_send venue (Ok None) between new → KeepsButIntake between new → ConsumesCount venue count old new
+  none_more_item count between new r one kept = record { items = r.items; count_is = r.count_is; consumes = no_item_more between new kept r.items r.consumes one }
+
+  -- nothing was inside, and the journal had room
+  pub had_no_item : (new : HubState) → ConsumesOne may_send venue (Ok None) old new → HadNoItem may_send venue old
+  had_no_item new one =
+      let found = none_journaled old.journal.journal venue (intake_of one.lane old.journal) one.after (nat_le old.journal.journal (length old.journal.entries)) one.next one.comes in
+      record {
+        room = room_of old.journal.journal (length old.journal.entries) found.0;
+        lane = one.lane;
+        at = one.at;
+        was_empty = one.was_empty refl;
+      }
+
+  -- the journal was full
+  pub was_full : (new : HubState) → ConsumesOne may_send venue (Err JournalFull) old new → old.journal.journal ≤ length old.journal.entries
+  was_full new one =
+      let found = refused_full old.journal.journal venue (intake_of one.lane old.journal) one.after (nat_le old.journal.journal (length old.journal.entries)) one.next one.comes in
+      full_of old.journal.journal (length old.journal.entries) found.0
+
+-- ---- Offer
+
+sum_put : (xs : List (LaneEnd Notice)) (i n : ℕ) (l w : LaneEnd Notice) → slice_get xs i ≡ Some l → length w.items ≡ length l.items + n
+    → sum_by (λ (e : LaneEnd Notice). length e.items) (slice_set xs i w) ≡ sum_by (λ (e : LaneEnd Notice). length e.items) xs + n
+sum_put [] i n l w at long = absurd cc
+sum_put (x ∷ xs) zero n l w at long =
+    let same : x ≡ l = cc in
+    let first = ap (λ (e : LaneEnd Notice). length e.items) same in
+    let old = sum_by-cons (λ (e : LaneEnd Notice). length e.items) x xs in
+    let new = sum_by-cons (λ (e : LaneEnd Notice). length e.items) w xs in
+    omega (arith, first, long, old, new)
+sum_put (x ∷ xs) (suc i) n l w at long =
+    let rest = sum_put xs i n l w at long in
+    let old = sum_by-cons (λ (e : LaneEnd Notice). length e.items) x xs in
+    let new = sum_by-cons (λ (e : LaneEnd Notice). length e.items) x (slice_set xs i w) in
+    omega (arith, rest, old, new)
+
+module _ (old after : List Notice) where
+  notice_sent : (full : Bool) (next : Option Notice) (number : ℕ) → ComesTo (offered full next old) old (done.Offered number) after → (n : Notice) × (after ≡ old ++ n ∷ [])
+  notice_sent full None number e = absurd (let h = e.0 in cc)
+  notice_sent true (Some n) number e = absurd (let h = e.0 in cc)
+  notice_sent false (Some n) number e = (n, e.1)
+
+  none_sent : (full : Bool) (next : Option Notice) → ComesTo (offered full next old) old done.NothingWanted after → after ≡ old
+  none_sent full None e = e.1
+  none_sent true (Some n) e = absurd (let h = e.0 in cc)
+  none_sent false (Some n) e = absurd (let h = e.0 in cc)
+
+  full_sent : (full : Bool) (next : Option Notice) → ComesTo (offered full next old) old done.LaneFull after → after ≡ old
+  full_sent full None e = absurd (let h = e.0 in cc)
+  full_sent true (Some n) e = e.1
+  full_sent false (Some n) e = absurd (let h = e.0 in cc)
+
+module _ (may_send : ℕ → List Notice → Type 0) (id : ℕ) (old new : HubState) where
+  pub one_sent : (number : ℕ) → OffersOne may_send id (Ok number) old new → sent_to_all new ≡ sent_to_all old + 1
+  one_sent number one =
+      let found = notice_sent one.lane.items one.sent one.full (slice_get (wanted_of old.journal.symbols one.terms old.journal.entries) (length one.lane.items)) number one.comes in
+      let long : length one.sent ≡ length one.lane.items + 1 = ap length found.1 ∙ length-append one.lane.items (found.0 ∷ []) in
+      ap (λ (l : List (LaneEnd Notice)). sum_by (λ (e : LaneEnd Notice). length e.items) l) one.sent_is ∙ sum_put old.senders id 1 one.lane (with_items one.lane one.sent) one.at long
+
+  pub no_more_sent : (why : Unsent) → OffersOne may_send id (Err why) old new → sent_to_all new ≡ sent_to_all old
+  no_more_sent unsent.Nothing one =
+      ap (λ (l : List (LaneEnd Notice)). sum_by (λ (e : LaneEnd Notice). length e.items) l)
+      (one.sent_is ∙ ap (λ (l : List Notice). slice_set old.senders id (with_items one.lane l)) (none_sent one.lane.items one.sent one.full (slice_get (wanted_of old.journal.symbols one.terms old.journal.entries) (length one.lane.items)) one.comes) ∙ put_same old.senders id one.lane one.at)
+  no_more_sent unsent.LaneFull one =
+      ap (λ (l : List (LaneEnd Notice)). sum_by (λ (e : LaneEnd Notice). length e.items) l)
+      (one.sent_is ∙ ap (λ (l : List Notice). slice_set old.senders id (with_items one.lane l)) (full_sent one.lane.items one.sent one.full (slice_get (wanted_of old.journal.symbols one.terms old.journal.entries) (length one.lane.items)) one.comes) ∙ put_same old.senders id one.lane one.at)
+
+-- one notice more was sent
+pub one_counted : (may_send : ℕ → List Notice → Type 0) (id number pushed more : ℕ) (old between new : HubState) → OffersCount pushed old between → OffersOne may_send id (Ok number) between new → more ≡ shown (pushed + 1)
+    → OffersCount more old new
+one_counted may_send id number pushed more old between new r one is =
+    let sent = one_sent may_send id between new number one in
+    let before = r.total in
+    record {
+      more = r.more + 1;
+      total = omega (arith, sent, before);
+      counted = is ∙ ap (λ (n : ℕ). shown (n + 1)) r.counted ∙ shown_sum r.more 1;
+    }
+
+-- none was
+pub none_counted : (may_send : ℕ → List Notice → Type 0) (id pushed : ℕ) (why : Unsent) (old between new : HubState) → OffersCount pushed old between → OffersOne may_send id (Err why) between new → OffersCount pushed old new
+none_counted may_send id pushed why old between new r one = record { more = r.more; total = no_more_sent may_send id between new why one ∙ r.total; counted = r.counted }
+
+both_shown : (m n : ℕ) → shown (shown m + shown n) ≡ shown (m + n)
+both_shown m n = grind (arith)
+
+-- as many more as the next subscriber was sent
+pub all_counted : (offered pushed sum : ℕ) (old between new : HubState) → OffersCount offered old between → OffersCount pushed between new → sum ≡ shown (offered + pushed) → OffersCount sum old new
+all_counted offered pushed sum old between new r next is =
+    let first = r.total in
+    let second = next.total in
+    record {
+      more = r.more + next.more;
+      total = omega (arith, first, second);
+      counted = is ∙ (λ i. shown (r.counted i + next.counted i)) ∙ both_shown r.more next.more;
+    }

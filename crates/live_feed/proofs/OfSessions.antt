@@ -1,0 +1,61 @@
+-- What was sent, journaled and settled of a venue is of its sessions.
+use Rattle.std.proofs.Common.{◌≡◌, ℕ, ◌<◌, List, ◌++◌, length, take, drop, Some, sym, ap, subst, ◌∙◌, arith, append_assoc}
+use Rattle.std.specs.Prelude.{slice_get}
+use Rattle.std.proofs.lemmas.List.{take-append-drop}
+use Rattle.feed_types.specs.declared.item.Numbered.{Numbered}
+use Rattle.feed_types.specs.Prefix.{IsPrefix}
+use Rattle.feed_types.specs.Sequence.{Carries, Ends, IsInSequence}
+use Rattle.feed_types.specs.SequenceLaws.{prefix_in_sequence}
+use Rattle.feed_types.specs.Sessions.{Session, SessionNames, Names, whole_sessions}
+use Rattle.line_arbiter.specs.Streams.{stream_of}
+use Rattle.line_arbiter.specs.Histories.{items_of, streams_of}
+use Rattle.fifo_lane.specs.Lane.{LaneEnd}
+use Rattle.feed_core.proofs.Lists.{get_within}
+use Rattle.feed_core.proofs.VenueHalfLaw.{items_push}
+use Rattle.live_feed.specs.Lanes.{FeedLanes}
+use Rattle.live_feed.specs.venue.Cells.{CellState, VenueLockInvariant}
+use Rattle.live_feed.specs.hub.Hubs.{HubState, HubLockInvariant, items_in}
+use Rattle.live_feed.specs.venue.Seats.{SeatState}
+use Rattle.live_feed.specs.subscriber.Logs.{SubscriberLogState}
+use Rattle.live_feed.specs.settle.Settlements.{IsSettlement, SettlementState, VenueEndState}
+use Rattle.live_feed.proofs.Histories.{streams_sequence}
+
+-- Items in sequence are the first of the sessions' items (the law of `feed_types`).
+abbrev pub AreOfSessions : SessionNames → Carries → Ends → Type 0
+AreOfSessions sessions carries ends =
+    (venue : ℕ) (all : List Session) (xs : List Numbered) → Names sessions carries ends venue all → IsInSequence carries ends venue xs → IsPrefix xs (whole_sessions all)
+
+module _ (sessions : SessionNames) (carries : Carries) (ends : Ends) (of_sessions : AreOfSessions sessions carries ends) (lanes : FeedLanes) where
+  -- what was sent may be sent: it is the first items of the sessions' streams
+  sent_in_sequence : (c : CellState) → VenueLockInvariant sessions carries ends lanes c → IsInSequence carries ends c.arbiter.venue c.lane.items
+  sent_in_sequence c k =
+      let h = k.history in
+      let stream = stream_of h.present.packets in
+      let sent = items_of h.earlier ++ take c.arbiter.sent stream in
+      let left = drop c.arbiter.sent stream in
+      let whole : streams_of h ≡ sent ++ left =
+      items_push h.earlier h.present
+      ∙ ap (λ (l : List Numbered). items_of h.earlier ++ l) (sym (take-append-drop c.arbiter.sent stream))
+      ∙ sym (append_assoc (items_of h.earlier) (take c.arbiter.sent stream) left) in
+      let all = streams_sequence carries ends c.arbiter.venue c.arbiter.window h k.given in
+      subst (λ (l : List Numbered). IsInSequence carries ends c.arbiter.venue l) (sym k.fits.sent)
+      (prefix_in_sequence carries ends c.arbiter.venue sent left (subst (λ (l : List Numbered). IsInSequence carries ends c.arbiter.venue l) whole all))
+
+  pub sent_of_sessions : (c : CellState) (all : List Session) → VenueLockInvariant sessions carries ends lanes c → Names sessions carries ends c.arbiter.venue all → IsPrefix c.lane.items (whole_sessions all)
+  sent_of_sessions c all k names = of_sessions c.arbiter.venue all c.lane.items names (sent_in_sequence c k)
+
+  pub journaled_of_sessions : (s : HubState) (venue : ℕ) (all : List Session) → HubLockInvariant carries ends lanes s → venue < length lanes.venues → Names sessions carries ends venue all → IsPrefix (items_in s.journal.entries venue) (whole_sessions all)
+  journaled_of_sessions s venue all h below names =
+      let count = h.count in
+      let many = h.venues in
+      let there = get_within s.receivers venue (omega arith) in
+      of_sessions venue all (items_in s.journal.entries venue) names (h.consumed venue there.0 there.1).sequence
+
+  pub settled_of_sessions : (seats : List SeatState) (logs : List SubscriberLogState) (s : SettlementState) (venue : ℕ) (v : VenueEndState) (all : List Session) → IsSettlement sessions carries ends lanes seats logs s → slice_get s.venues venue ≡ Some v
+      → Names sessions carries ends venue all → IsPrefix (v.consumed ++ (v.in_lane ++ v.ready)) (whole_sessions all)
+  settled_of_sessions seats logs s venue v all settlement at names =
+      let settled = (settlement.venues venue v at).settled in
+      let is : v.consumed ++ (v.in_lane ++ v.ready) ≡ streams_of settled.history =
+      sym (append_assoc v.consumed v.in_lane v.ready) ∙ ap (λ (l : List Numbered). l ++ v.ready) settled.sent_is ∙ settled.whole in
+      let sequence = streams_sequence carries ends venue lanes.setting.window settled.history settled.given in
+      subst (λ (l : List Numbered). IsPrefix l (whole_sessions all)) (sym is) (of_sessions venue all (streams_of settled.history) names sequence)

@@ -1,0 +1,5 @@
+use Rattle.std.proofs.Common.{◌≡◌, ◌+◌, length}
+use Rattle.live_feed.proofs.venue.calls.push_ready.Given as goal
+
+abbrev pub invariant-loop-pushed : goal.invariant-loop-pushed
+invariant-loop-pushed g l = length l.cell.lane.items ≡ length l.fn.cell.lane.items + l.pushed

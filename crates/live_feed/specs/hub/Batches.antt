@@ -1,0 +1,64 @@
+-- What is journaled and offered in one section under the consolidator's lock.
+use Rattle.std.specs.Prelude.{◌≡◌, ◌⊎◌, ℕ, ◌+◌, ◌<◌, ◌≤◌, List, ◌++◌, length, map, sum_by, slice_get, slice_set, Some, Result, Ok, Err}
+use Rattle.feed_types.specs.declared.item.Numbered.{Numbered}
+use Rattle.feed_types.specs.declared.journal.Entry.TheVariants as entry
+use Rattle.feed_types.specs.declared.journal.Notice.{Notice}
+use Rattle.line_arbiter.specs.Counts.{shown}
+use Rattle.journal_book.specs.declared.fault.JournalFault.{JournalFault}
+use Rattle.journal_book.specs.declared.fault.JournalFault.TheVariants.{NoMemory, JournalFull, UnknownVenue, AlreadySo, TooManySubscribers}
+use Rattle.fifo_lane.specs.Lane.{LaneEnd, WasEmpty, with_items}
+use Rattle.live_feed.specs.Lanes.{FeedLanes}
+use Rattle.live_feed.specs.hub.Hubs.{HubState}
+use Rattle.live_feed.specs.hub.Sections.{KeepsButIntake}
+
+-- Consume, again and again: these items of the venue's lane were journaled, in order.
+pub record ConsumesItems (venue : ℕ) (items : List Numbered) (old new : HubState) : Type 0 where
+  pub lane : LaneEnd Numbered
+  pub at : slice_get old.receivers venue ≡ Some lane
+  pub received : new.receivers
+      ≡ slice_set old.receivers venue (with_items lane (lane.items ++ items))
+  pub entries : new.journal.entries ≡ old.journal.entries ++ map (entry.Consumed venue) items
+  pub kept : KeepsButIntake old new
+
+-- so many items of the venue's lane were journaled, in order
+pub record ConsumesCount (venue count : ℕ) (old new : HubState) : Type 0 where
+  pub items : List Numbered
+  pub count_is : length items ≡ count
+  pub consumes : ConsumesItems venue items old new
+
+-- There is room in the journal, and nothing was inside the venue's lane at a moment of the call.
+pub record HadNoItem (may_send : ℕ → List Numbered → Type 0) (venue : ℕ) (old : HubState)
+    : Type 0 where
+  pub room : length old.journal.entries < old.journal.journal
+  pub lane : LaneEnd Numbered
+  pub at : slice_get old.receivers venue ≡ Some lane
+  pub was_empty : WasEmpty may_send lane
+
+-- The answer to who asks for at most so many items, by cases. It is how many were journaled: none
+-- only where none was asked for, or where there was room for one and no item. A full journal is
+-- answered as such where no item was journaled, whether or not there is one; a refused call changes
+-- nothing.
+abbrev pub ConsumesBatch : (ℕ → List Numbered → Type 0) → FeedLanes → ℕ → ℕ
+    → Result ℕ JournalFault → HubState → HubState → Type 0
+ConsumesBatch may_send lanes venue most (Ok count) old new =
+    (count ≤ most)
+    × ConsumesCount venue count old new
+    × (count ≡ 0 → (most ≡ 0) ⊎ HadNoItem may_send venue old)
+ConsumesBatch may_send lanes venue most (Err UnknownVenue) old new =
+    (length lanes.venues ≤ venue) × (new ≡ old)
+ConsumesBatch may_send lanes venue most (Err JournalFull) old new =
+    (old.journal.journal ≤ length old.journal.entries) × (new ≡ old)
+ConsumesBatch may_send lanes venue most (Err NoMemory) old new = new ≡ old
+ConsumesBatch may_send lanes venue most (Err AlreadySo) old new = ⊥
+ConsumesBatch may_send lanes venue most (Err TooManySubscribers) old new = ⊥
+
+-- how many notices were sent to all subscribers
+abbrev pub sent_to_all : HubState → ℕ
+sent_to_all s = sum_by (λ e. length e.items) s.senders
+
+-- Offer, again and again: so many notices more were sent, to all subscribers, and the answer is that
+-- number, as a u64 shows it.
+pub record OffersCount (answer : ℕ) (old new : HubState) : Type 0 where
+  pub more : ℕ
+  pub total : sent_to_all new ≡ sent_to_all old + more
+  pub counted : answer ≡ shown more

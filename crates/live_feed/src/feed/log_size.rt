@@ -1,0 +1,42 @@
+//! How long a subscriber's log may become.
+
+ghost use Rattle.std.specs.Prelude.{◌≡◌};
+
+use crate::feed_name::FeedName;
+use std::marker::{Model, PhantomData};
+
+/// How many lines the log of a subscriber of the feed `N` holds: as many as the feed is set up with.
+#[derive(Drop)]
+pub(crate) struct LogSize<N: FeedName> {
+    lines: u32,
+    feed: PhantomData<N>,
+}
+
+impl<N: FeedName> Model for LogSize<N> {
+    ghost use Rattle.std.specs.Prelude.{◌≡◌, ℕ};
+
+    ghost Value = { ℕ };
+
+    ghost view = { λ s. s.lines };
+
+    ghost invariant = { λ s. s.lines ≡ N.lanes.setting.log };
+}
+
+impl<N: FeedName> LogSize<N> {
+    /// As many lines as the feed is set up with.
+    pub(crate) fn new(lines: u32) -> LogSize<N>
+        requires { lines ≡ N.lanes.setting.log }
+    {
+        LogSize {
+            lines,
+            feed: PhantomData,
+        }
+    }
+
+    /// How many lines a log of the feed holds.
+    pub(crate) fn lines(&self) -> u32
+        ensures { result ≡ N.lanes.setting.log }
+    {
+        self.lines
+    }
+}
