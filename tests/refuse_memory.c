@@ -1,4 +1,4 @@
-/* Refuses requests for memory where a test says so, and counts the threads that are started. tests/run-unproved
+/* Refuses requests for memory and for threads where a test says so, and counts the threads that are asked for. tests/run-unproved
    puts it beside the tests that say `mod refusing;` (tests/refusing.source), whose programs are built with
    AddressSanitizer: that leaves the names with two underscores to whoever wants to stand before its own functions,
    which have three. Requests that the C library and AddressSanitizer make for themselves are neither refused nor
@@ -15,7 +15,7 @@ int ___interceptor_pthread_create(pthread_t *thread, const pthread_attr_t *how, 
 
 /* The requests from number `first` to number `last` are refused, counted from 1 since they were named, and those of
    more than `largest` bytes. */
-static uint64_t first, last, largest = UINT64_MAX, requests, refused, threads;
+static uint64_t first, last, largest = UINT64_MAX, requests, refused, threads, most_threads = UINT64_MAX;
 
 static uint64_t load(const uint64_t *number)
 {
@@ -57,7 +57,8 @@ void *__interceptor_realloc(void *old, size_t size)
 
 int __interceptor_pthread_create(pthread_t *thread, const pthread_attr_t *how, void *(*start)(void *), void *word)
 {
-    __atomic_add_fetch(&threads, 1, __ATOMIC_SEQ_CST);
+    if (__atomic_add_fetch(&threads, 1, __ATOMIC_SEQ_CST) > load(&most_threads))
+        return EAGAIN;
     return ___interceptor_pthread_create(thread, how, start, word);
 }
 
@@ -65,6 +66,7 @@ void refuse_requests(uint64_t from, uint64_t to)
 {
     store(&last, 0);
     store(&largest, UINT64_MAX);
+    store(&most_threads, UINT64_MAX);
     store(&requests, 0);
     store(&refused, 0);
     store(&threads, 0);
@@ -76,6 +78,13 @@ void refuse_larger_requests(uint64_t bytes)
 {
     refuse_requests(0, 0);
     store(&largest, bytes);
+}
+
+/* No more than so many threads are started from now on. */
+void refuse_more_threads(uint64_t most)
+{
+    refuse_requests(0, 0);
+    store(&most_threads, most);
 }
 
 uint64_t requests_refused(void)
