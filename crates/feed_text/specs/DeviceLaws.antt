@@ -1,4 +1,4 @@
--- The laws of the devices over memory.
+-- The laws of the devices over memory, and of calls that are counted.
 use Rattle.std.proofs.Common.{◌≡◌, ℕ, ◌+◌, ◌*◌, ◌≤◌, List, [], ◌++◌, length, append_assoc, append-nil, refl, sym, ◌∙◌, arith, length-append}
 use Rattle.std.proofs.Math.Nat.{add-mul}
 use Rattle.feed_text.specs.Devices.{Held, GivesPieces}
@@ -25,3 +25,11 @@ back_none s = sym (append-nil s)
 -- what two calls added at the end
 pub back_more : (s t u xs ys : List ℕ) → t ≡ s ++ xs → u ≡ t ++ ys → u ≡ s ++ (xs ++ ys)
 back_more s t u xs ys a b = rw (b, a, append_assoc) refl
+
+-- no call counts nothing
+pub no_calls : (calls : ℕ) → calls ≡ calls + 0
+no_calls calls = omega arith
+
+-- calls after calls
+pub more_calls : (before mid after m n : ℕ) → mid ≡ before + m → after ≡ mid + n → after ≡ before + (m + n)
+more_calls before mid after m n a b = omega (arith, a, b)

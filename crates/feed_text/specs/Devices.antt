@@ -6,9 +6,15 @@ pub record Written : Type 0 where
   pub text : List ℕ
   pub failures : ℕ
 
--- a reader or a writer of std, and how many calls failed
-pub record Stream (S : Type 0) : Type 0 where
-  pub inner : S
+-- a reader of std, how many calls of it were made, and how many of these failed
+pub record ReadStream (R : Type 0) : Type 0 where
+  pub inner : R
+  pub calls : ℕ
+  pub failures : ℕ
+
+-- a writer of std, and how many calls of it failed
+pub record WriteStream (W : Type 0) : Type 0 where
+  pub inner : W
   pub failures : ℕ
 
 -- bytes in memory that are still to be given, and how many one call gives at most

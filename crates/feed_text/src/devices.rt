@@ -2,7 +2,7 @@
 //!
 //! A replay can't know what a file or a pipe holds, so the two traits speak of it by relations between
 //! the states of a device, with laws. Over memory the relations are equations; over the standard streams
-//! they say nothing.
+//! they count the calls of a reader, and say nothing of the bytes.
 ghost use Rattle.std.specs.Prelude.{◌≡◌, ℕ, ◌+◌, ◌++◌, [], ◌<◌, ◌≤◌, List, Ok, Err, IfOk, OnOk, OnErr, length, take};
 ghost use Rattle.feed_text.specs.declared.devices.ReadStop.TheVariants.{Interrupted, Failed};
 

@@ -25,9 +25,9 @@
 #![tactic(auto)]
 
 pub mod capture;
+pub mod count;
 pub mod devices;
 mod digit_tables;
-pub mod failures;
 pub mod fault;
 mod fields;
 mod input;

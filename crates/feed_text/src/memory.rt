@@ -3,8 +3,8 @@ ghost use Rattle.std.specs.Prelude.{◌≡◌, ◌+◌, ◌++◌, max};
 ghost use Rattle.feed_text.specs.Devices.{GivesPieces, GivesEnd, Written};
 ghost use Rattle.feed_text.specs.DeviceLaws.{gives_none, gives_more, back_none, back_more};
 
+use crate::count::Count;
 use crate::devices::{CaptureIn, ReadStop, TextOut, WriteStop};
-use crate::failures::Failures;
 use std::marker::Model;
 use std::sync::ledger::Ledger;
 
@@ -64,7 +64,7 @@ impl CaptureIn for MemoryIn<'_> {
 #[derive(Drop)]
 pub struct MemoryOut<L: Ledger> {
     text: Vec<u8>,
-    failures: Failures<L>,
+    failures: Count<L>,
 }
 
 impl<L: Ledger> Model for MemoryOut<L> {
@@ -77,7 +77,7 @@ impl<L: Ledger> Model for MemoryOut<L> {
 
 impl<L: Ledger> MemoryOut<L> {
     /// Writes go behind the text that is there.
-    pub fn new(text: Vec<u8>, failures: Failures<L>) -> MemoryOut<L>
+    pub fn new(text: Vec<u8>, failures: Count<L>) -> MemoryOut<L>
         ensures text { result.text ≡ text.items }
         ensures failures { result.failures ≡ failures }
     {
@@ -113,7 +113,7 @@ impl<L: Ledger> TextOut for MemoryOut<L> {
         match self.text.extend_from_slice(piece) {
             Ok(()) => Ok(piece.len()),
             Err(_) => {
-                self.failures.count();
+                self.failures.add_one();
                 Err(WriteStop::Failed)
             }
         }

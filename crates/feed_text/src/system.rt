@@ -1,61 +1,74 @@
 //! Devices over the standard streams, and over any other reader or writer of std.
-ghost use Rattle.std.specs.Prelude.{◌≡◌, []};
+ghost use Rattle.std.specs.Prelude.{◌≡◌, ◌+◌, []};
 ghost use Rattle.std.specs.Io.KnownBytes.{Appends, Consumes, IsAtEnd};
 ghost use Rattle.std.proofs.KnownBytes.{Appends-nil, Appends-trans, Consumes-nil, Consumes-trans};
-ghost use Rattle.feed_text.specs.Devices.{Stream};
+ghost use Rattle.feed_text.specs.Devices.{ReadStream, WriteStream};
+ghost use Rattle.feed_text.specs.DeviceLaws.{no_calls, more_calls};
 
+use crate::count::Count;
 use crate::devices::{CaptureIn, ReadStop, TextOut, WriteStop};
-use crate::failures::Failures;
 use std::io::{ErrorKind, Read, Write};
 use std::marker::Model;
 use std::sync::ledger::Ledger;
 
-/// A reader of std, as standard input. What its calls gave is told where std tells what the reader has
-/// left; of a file, a pipe or a terminal it doesn't.
+/// A reader of std, as standard input. Its calls are counted. What they gave is told where std tells what the
+/// reader has left; of a file, a pipe or a terminal it doesn't.
 #[derive(Drop)]
-pub struct StreamIn<R, L: Ledger> {
+pub struct StreamIn<R, C: Ledger, L: Ledger> {
     reader: R,
-    failures: Failures<L>,
+    calls: Count<C>,
+    failures: Count<L>,
 }
 
-impl<R, L: Ledger> Model for StreamIn<R, L> {
-    ghost use Rattle.feed_text.specs.Devices.{Stream};
+impl<R, C: Ledger, L: Ledger> Model for StreamIn<R, C, L> {
+    ghost use Rattle.feed_text.specs.Devices.{ReadStream};
 
-    ghost Value = { Stream R };
+    ghost Value = { ReadStream R };
 
-    ghost view = { λ s. record { inner = s.reader; failures = s.failures } };
+    ghost view = { λ s. record { inner = s.reader; calls = s.calls; failures = s.failures } };
 }
 
-impl<R: Read, L: Ledger> StreamIn<R, L> {
+impl<R: Read, C: Ledger, L: Ledger> StreamIn<R, C, L> {
     /// Reads what the reader gives from here on.
-    pub fn new(reader: R, failures: Failures<L>) -> StreamIn<R, L>
+    pub fn new(reader: R, calls: Count<C>, failures: Count<L>) -> StreamIn<R, C, L>
         ensures reader { result.inner ≡ reader }
+        ensures calls { result.calls ≡ calls }
         ensures failures { result.failures ≡ failures }
     {
-        StreamIn { reader, failures }
+        StreamIn {
+            reader,
+            calls,
+            failures,
+        }
     }
 }
 
-impl<R: Read, L: Ledger> CaptureIn for StreamIn<R, L> {
-    ghost gives = { λ s _ xs t. Consumes (R.remaining s.inner) (R.remaining t.inner) xs };
+impl<R: Read, C: Ledger, L: Ledger> CaptureIn for StreamIn<R, C, L> {
+    ghost gives = { λ s n xs t.
+        (t.calls ≡ s.calls + n) × Consumes (R.remaining s.inner) (R.remaining t.inner) xs };
 
     ghost ends = { λ s t.
-        Consumes (R.remaining s.inner) (R.remaining t.inner) [] × IsAtEnd (R.remaining t.inner) };
+        (t.calls ≡ s.calls + 1)
+        × Consumes (R.remaining s.inner) (R.remaining t.inner) []
+        × IsAtEnd (R.remaining t.inner) };
 
     ghost failures = { λ s. s.failures };
 
-    ghost gives_none = { λ s. Consumes-nil (R.remaining s.inner) };
+    ghost gives_none = { λ s. (no_calls s.calls, Consumes-nil (R.remaining s.inner)) };
 
-    ghost gives_more = { λ s t u _ _ xs ys a b.
-        Consumes-trans (R.remaining s.inner) (R.remaining t.inner) (R.remaining u.inner)
-        xs ys a b };
+    ghost gives_more = { λ s t u m n xs ys a b. (
+      more_calls s.calls t.calls u.calls m n a.0 b.0,
+      Consumes-trans (R.remaining s.inner) (R.remaining t.inner) (R.remaining u.inner)
+          xs ys a.1 b.1,
+    ) };
 
     fn read(&mut self, buf: &mut [u8]) -> Result<usize, ReadStop> {
+        self.calls.add_one();
         match self.reader.read(buf) {
             Ok(count) => Ok(count),
             Err(error) if error.kind() == ErrorKind::Interrupted => Err(ReadStop::Interrupted),
             Err(_) => {
-                self.failures.count();
+                self.failures.add_one();
                 Err(ReadStop::Failed)
             }
         }
@@ -67,20 +80,20 @@ impl<R: Read, L: Ledger> CaptureIn for StreamIn<R, L> {
 #[derive(Drop)]
 pub struct StreamOut<W, L: Ledger> {
     writer: W,
-    failures: Failures<L>,
+    failures: Count<L>,
 }
 
 impl<W, L: Ledger> Model for StreamOut<W, L> {
-    ghost use Rattle.feed_text.specs.Devices.{Stream};
+    ghost use Rattle.feed_text.specs.Devices.{WriteStream};
 
-    ghost Value = { Stream W };
+    ghost Value = { WriteStream W };
 
     ghost view = { λ s. record { inner = s.writer; failures = s.failures } };
 }
 
 impl<W: Write, L: Ledger> StreamOut<W, L> {
     /// Writes behind what the writer has taken.
-    pub fn new(writer: W, failures: Failures<L>) -> StreamOut<W, L>
+    pub fn new(writer: W, failures: Count<L>) -> StreamOut<W, L>
         ensures writer { result.inner ≡ writer }
         ensures failures { result.failures ≡ failures }
     {
@@ -102,7 +115,7 @@ impl<W: Write, L: Ledger> TextOut for StreamOut<W, L> {
         match self.writer.write(piece) {
             Ok(count) if count > 0 => Ok(count),
             _ => {
-                self.failures.count();
+                self.failures.add_one();
                 Err(WriteStop::Failed)
             }
         }

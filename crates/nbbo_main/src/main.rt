@@ -38,8 +38,8 @@ mod symbols;
 mod task;
 mod udp_line;
 
+use feed_text::count::Count;
 use feed_text::devices::TextOut;
-use feed_text::failures::Failures;
 use feed_text::system::{StreamIn, StreamOut};
 use filter_terms::Terms;
 use listen::{bound, listen_with};
@@ -71,14 +71,19 @@ fn unread(kind: ErrorKind) -> Refusal
     }
 }
 
-/// Runs over the standard streams, whose failures the blank pages count, and gives the status of the program.
-fn run_streams<H: Threads + Wait + Sync, R: Ledger, W: Ledger, E: Ledger>(
+/// Runs over the standard streams, and gives the status of the program. The blank pages count the calls of the
+/// input, and the failures of each.
+fn run_streams<H: Threads + Wait + Sync, C: Ledger, R: Ledger, W: Ledger, E: Ledger>(
     rt: &HostRuntime,
     threads: &H,
+    of_calls: Blank,
     of_reads: Blank,
     of_writes: Blank,
     of_errors: Blank,
 ) -> u8
+    requires calls { of_calls.name ≡ C.name }
+    requires call_parts { of_calls.parts ≡ C.parts }
+    requires some_calls { 0 < of_calls.parts }
     requires reads { of_reads.name ≡ R.name }
     requires read_parts { of_reads.parts ≡ R.parts }
     requires some_reads { 0 < of_reads.parts }
@@ -90,9 +95,13 @@ fn run_streams<H: Threads + Wait + Sync, R: Ledger, W: Ledger, E: Ledger>(
     requires some_errors { 0 < of_errors.parts }
 {
     let at_terminal = rt.stdin().is_terminal();
-    let mut input: StreamIn<Stdin, R> = StreamIn::new(rt.stdin(), Failures::new(of_reads));
-    let mut output: StreamOut<Stdout, W> = StreamOut::new(rt.stdout(), Failures::new(of_writes));
-    let mut errors: StreamOut<Stderr, E> = StreamOut::new(rt.stderr(), Failures::new(of_errors));
+    let mut input: StreamIn<Stdin, C, R> = StreamIn::new(
+        rt.stdin(),
+        Count::new(of_calls),
+        Count::new(of_reads),
+    );
+    let mut output: StreamOut<Stdout, W> = StreamOut::new(rt.stdout(), Count::new(of_writes));
+    let mut errors: StreamOut<Stderr, E> = StreamOut::new(rt.stderr(), Count::new(of_errors));
     let words = match words_of(rt) {
         Ok(words) => words,
         Err(error) => return refuse(&unread(error.kind()), &mut output, &mut errors),
@@ -138,9 +147,10 @@ fn listen_live<H: Threads + Wait + Sync, W: TextOut, E: TextOut>(
 }
 
 fn main(rt: HostRuntime) -> ExitCode {
-    ExitCode::from(run_streams::<HostRuntime, Brand, Brand, Brand>(
+    ExitCode::from(run_streams::<HostRuntime, Brand, Brand, Brand, Brand>(
         &rt,
         &rt,
+        Blank::new(1),
         Blank::new(1),
         Blank::new(1),
         Blank::new(1),

@@ -8,3 +8,6 @@ ghosts-run_streams-W-Ledger g a = record { name = a.of_writes.name; parts = a.of
 
 abbrev pub ghosts-run_streams-E-Ledger : goal.ghosts-run_streams-E-Ledger
 ghosts-run_streams-E-Ledger g a = record { name = a.of_errors.name; parts = a.of_errors.parts }
+
+abbrev pub ghosts-run_streams-C-Ledger : goal.ghosts-run_streams-C-Ledger
+ghosts-run_streams-C-Ledger g a = record { name = a.of_calls.name; parts = a.of_calls.parts }
