@@ -48,16 +48,16 @@ pub struct LiveFeed<G: Genuine> {
 
 impl<G: Genuine> Model for LiveFeed<G> {
     ghost use Rattle.live_feed.specs.Lanes.{FeedLanes};
-    ghost use Rattle.live_feed.specs.feed.Feeds.{IsClosed, lanes_of, setting_of, feed_lanes_code};
+    ghost use Rattle.live_feed.specs.feed.Feeds.{IsClosed, lanes_of, feed_setting_of, feed_lanes_code};
 
     ghost Value = { FeedLanes };
 
     ghost coded = { feed_lanes_code };
 
     ghost view = { λ f. lanes_of f.from_venues.items f.spare_lanes.items
-        (setting_of f.kept f.window f.lane f.log_lines) };
+        (feed_setting_of f.kept f.window f.lane f.log_lines) };
 
-    ghost invariant = { λ f. IsClosed (setting_of f.kept f.window f.lane f.log_lines)
+    ghost invariant = { λ f. IsClosed (feed_setting_of f.kept f.window f.lane f.log_lines)
         f.starts.items f.from_venues.items f.kept f.spare_lanes.items };
 }
 

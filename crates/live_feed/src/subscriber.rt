@@ -2,7 +2,7 @@
 
 ghost use Rattle.std.specs.Prelude.{◌≡◌};
 ghost use Rattle.live_feed.specs.subscriber.Logs.{Polls};
-ghost use Rattle.live_feed.specs.subscriber.Asking.{Asks};
+ghost use Rattle.live_feed.specs.subscriber.Asking.{AsksForAdvice};
 
 mod advising;
 pub(crate) mod log;
@@ -48,7 +48,7 @@ impl<N: FeedName> Subscriber<N> {
     pub fn poll<W: Wait>(&mut self, rt: &W) -> Result<Option<Advice>, PollFault>
         ensures polls { Polls ⟦<RisingNotices as LaneRule<Notice>>⟧.may_send result self.old.log
             self.new.log }
-        ensures asks { Asks result self.old.log self.new.log self.old.strategy self.new.strategy }
+        ensures asks { AsksForAdvice result self.old.log self.new.log self.old.strategy self.new.strategy }
     {
         self.log.poll(rt, &mut self.strategy)
     }

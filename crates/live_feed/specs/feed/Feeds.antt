@@ -54,8 +54,8 @@ AreUnused capacity spare =
 
 -- what a feed is set up with, whose journal is this one, and whose windows, lanes and logs hold so
 -- many
-abbrev pub setting_of : JournalState → ℕ → ℕ → ℕ → FeedSetting
-setting_of journal window lane log = record {
+abbrev pub feed_setting_of : JournalState → ℕ → ℕ → ℕ → FeedSetting
+feed_setting_of journal window lane log = record {
   symbols = journal.symbols;
   window = window;
   lane = lane;

@@ -21,10 +21,10 @@ pub record AsksOnce {g F m : _} (limits : Limits) (notice : Notice) (answer : Ad
 
 -- The strategy of who polls, by cases on the answer: it was asked once on the notice that was logged,
 -- and is as it was where none was.
-abbrev pub Asks : {g F m : _} → Result (Option Advice) PollFault → SubscriberLogState → SubscriberLogState
-    → Strategy g F m → Strategy g F m → Type 0
-Asks (Ok (Some advice)) old new before after =
+abbrev pub AsksForAdvice : {g F m : _} → Result (Option Advice) PollFault → SubscriberLogState
+    → SubscriberLogState → Strategy g F m → Strategy g F m → Type 0
+AsksForAdvice (Ok (Some advice)) old new before after =
     (notice : Notice) × (new.lines ≡ old.lines ++ logged notice advice ∷ [])
     × AsksOnce old.limits notice advice before after
-Asks (Ok None) old new before after = after ≡ before
-Asks (Err fault) old new before after = after ≡ before
+AsksForAdvice (Ok None) old new before after = after ≡ before
+AsksForAdvice (Err fault) old new before after = after ≡ before

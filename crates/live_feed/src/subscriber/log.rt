@@ -3,7 +3,7 @@
 ghost use Rattle.std.specs.Prelude.{◌≡◌, ◌<◌, [], ◌∷◌, ◌++◌, Some, slice_get, vec_len, vec_capacity};
 ghost use Rattle.filter_terms.specs.Allowed.{IsAllowed};
 ghost use Rattle.live_feed.specs.subscriber.Logs.{SubscriberLogInvariant, Polls, logged};
-ghost use Rattle.live_feed.specs.subscriber.Asking.{Asks, AsksOnce};
+ghost use Rattle.live_feed.specs.subscriber.Asking.{AsksForAdvice, AsksOnce};
 
 use crate::bells::Bells;
 use crate::feed_name::FeedName;
@@ -162,7 +162,7 @@ impl<N: FeedName> SubscriberLog<N> {
     ) -> Result<Option<Advice>, PollFault>
         ensures polls { Polls ⟦<RisingNotices as LaneRule<Notice>>⟧.may_send result self.old
             self.new }
-        ensures asks { Asks result self.old self.new strategy.old strategy.new }
+        ensures asks { AsksForAdvice result self.old self.new strategy.old strategy.new }
     {
         if self.lines.len() >= self.most_lines as usize {
             return Err(PollFault::LogFull);
