@@ -1,0 +1,16 @@
+pub mod Deciding
+pub mod EveryFrame
+pub mod EveryPiece
+pub mod FoundFault
+pub mod FramesBack
+pub mod Longer
+pub mod OneBlock
+pub mod OneDatagram
+pub mod OnePiece
+pub mod OneReading
+pub mod OneRecord
+pub mod OptionSteps
+pub mod Powers
+pub mod ReadBlocks
+pub mod SectionsBack
+pub mod WrittenBack

@@ -1,0 +1,17 @@
+pub mod Blocks
+pub mod Captures
+pub mod Contents
+pub mod Datagrams
+pub mod Faults
+pub mod Fields
+pub mod FrameFaults
+pub mod Frames
+pub mod Interfaces
+pub mod Links
+pub mod Options
+pub mod Packets
+pub mod Savefiles
+pub mod Stops
+pub mod Written
+pub mod WrittenFrames
+pub mod WrittenSections

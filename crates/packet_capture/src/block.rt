@@ -1,0 +1,94 @@
+//! The blocks of a pcapng file, whatever they hold.
+ghost use Rattle.std.specs.Prelude.{◌≡◌, ◌≤◌, IfOk, IfErr, ◌-◌, length, take};
+ghost use Rattle.packet_capture.specs.Fields.{u32_at};
+ghost use Rattle.packet_capture.specs.Blocks.{order_at, IsBlockLen, IsBlock};
+ghost use Rattle.packet_capture.specs.Stops.{StopsInLen, StopsInBlock};
+
+use crate::fault::CaptureFault;
+use crate::fields::{ByteOrder, read_u32};
+use crate::savefile::LONGEST;
+use crate::stop::Stop;
+
+/// How many bytes have to be there before a block's order and length are known.
+const BLOCK_FRONT: usize = 12;
+
+/// The type of a section's header.
+pub(crate) const SECTION_HEADER: u32 = 0x0a0d_0d0a;
+
+/// By which a section's header says the order of numbers.
+const BYTE_ORDER_MAGIC: u32 = 0x1a2b_3c4d;
+
+/// A whole block.
+#[derive(Clone, Copy, Debug, PartialEq, Eq)]
+pub(crate) struct Block<'a> {
+    /// The order of its numbers.
+    pub(crate) order: ByteOrder,
+    /// All its bytes, with its type and both lengths.
+    pub(crate) bytes: &'a [u8],
+}
+
+/// The order of the numbers of the block at the front, or `None` where it is a section's header that
+/// doesn't say it.
+fn order_at(section: ByteOrder, bytes: &[u8]) -> Option<ByteOrder>
+    requires { 12 ≤ length bytes.now }
+    ensures { result ≡ order_at section bytes.now }
+{
+    if read_u32(ByteOrder::Big, bytes, 0) != SECTION_HEADER {
+        return Some(section);
+    }
+    if read_u32(ByteOrder::Big, bytes, 8) == BYTE_ORDER_MAGIC {
+        return Some(ByteOrder::Big);
+    }
+    if read_u32(ByteOrder::Little, bytes, 8) == BYTE_ORDER_MAGIC {
+        return Some(ByteOrder::Little);
+    }
+    None
+}
+
+/// The bytes of the block at the front, of which the numbers are in this order.
+fn read_len(order: ByteOrder, bytes: &[u8]) -> Result<&[u8], Stop>
+    requires { 12 ≤ length bytes.now }
+    ensures counted { IfOk result (λ _. IsBlockLen (u32_at order bytes.now 4)) }
+    ensures short { IfOk result (λ _. u32_at order bytes.now 4 ≤ 1048576) }
+    ensures whole { IfOk result (λ _. u32_at order bytes.now 4 ≤ length bytes.now) }
+    ensures again { IfOk result (λ _.
+        u32_at order bytes.now (u32_at order bytes.now 4 - 4) ≡ u32_at order bytes.now 4) }
+    ensures value { IfOk result (λ b. b.now ≡ take (u32_at order bytes.now 4) bytes.now) }
+    ensures stop { IfErr result (StopsInLen order bytes.now) }
+{
+    let len = read_u32(order, bytes, 4);
+    if len < 12 || len % 4 != 0 {
+        return Err(Stop::Bad(CaptureFault::BadBlockLength));
+    }
+    if len > LONGEST {
+        return Err(Stop::Bad(CaptureFault::TooLong));
+    }
+    let end = len as usize;
+    if bytes.len() < end {
+        return Err(Stop::Wants(end));
+    }
+    if read_u32(order, bytes, end - 4) != len {
+        return Err(Stop::Bad(CaptureFault::LengthsDiffer));
+    }
+    Ok(&bytes[..end])
+}
+
+/// Returns the block at the front, in a section of this order.
+pub(crate) fn read_block(section: ByteOrder, bytes: &[u8]) -> Result<Block<'_>, Stop>
+    ensures block { IfOk result (λ b. IsBlock section bytes.now b.order b.bytes.now) }
+    ensures stop { IfErr result (StopsInBlock section bytes.now) }
+{
+    if bytes.len() < BLOCK_FRONT {
+        return Err(Stop::Wants(BLOCK_FRONT));
+    }
+    let Some(order) = order_at(section, bytes) else {
+        return Err(Stop::Bad(CaptureFault::BadByteOrder));
+    };
+    match read_len(order, bytes) {
+        Ok(block) => Ok(Block {
+            order,
+            bytes: block,
+        }),
+        Err(stop) => Err(stop),
+    }
+}

@@ -1,0 +1,210 @@
+//! What the blocks of a pcapng file hold.
+ghost use Rattle.std.specs.Prelude.{◌≡◌, ◌≤◌, ◌+◌, ◌⊎◌, Some, IfOk, IfErr, IsTrue, ◌↔◌, length, slice_get};
+ghost use Rattle.packet_capture.specs.Fields.{u32_at};
+ghost use Rattle.packet_capture.specs.Frames.{frame_of};
+ghost use Rattle.packet_capture.specs.Contents.{kind_of, block_kind, fixed_len, IsPacketKind, IsSectionVersion, interface_in, wire_len_in, up_to_limit, captured_in, frame_start, time_in, frame_in, HasFrame, Says, event_of, HasBlockFault};
+
+use crate::block::{Block, SECTION_HEADER};
+use crate::fault::CaptureFault;
+use crate::fields::{ByteOrder, read_u16, read_u32};
+use crate::frame::Frame;
+use crate::interface::{Interface, read_interface, time_of};
+
+/// What a block is of, by its type.
+#[derive(Clone, Copy, Debug, PartialEq, Eq)]
+pub(crate) enum BlockKind {
+    /// The header of a section.
+    SectionHeader,
+    /// An interface.
+    Description,
+    /// A packet, with its interface and time.
+    Enhanced,
+    /// A packet, as older files have it, with its interface and time.
+    Old,
+    /// A packet of the first interface, with no time.
+    Simple,
+    /// Another, which is passed over.
+    Unread,
+}
+
+/// What a block says.
+#[derive(Clone, Copy, Debug, PartialEq, Eq)]
+pub(crate) enum BlockContent<'a> {
+    /// A section begins, which has no interfaces yet.
+    Section,
+    /// The section has one more interface.
+    Interface(Interface),
+    /// A frame came.
+    Frame(Frame<'a>),
+    /// Nothing that is read.
+    Other,
+}
+
+fn kind_of(block_type: u32) -> BlockKind
+    ensures { result ≡ kind_of block_type }
+{
+    match block_type {
+        SECTION_HEADER => BlockKind::SectionHeader,
+        1 => BlockKind::Description,
+        2 => BlockKind::Old,
+        3 => BlockKind::Simple,
+        6 => BlockKind::Enhanced,
+        _ => BlockKind::Unread,
+    }
+}
+
+/// How many bytes a block has at least.
+fn fixed_len(kind: BlockKind) -> usize
+    ensures value { result ≡ fixed_len kind }
+    ensures least { 12 ≤ result }
+{
+    match kind {
+        BlockKind::SectionHeader => 28,
+        BlockKind::Description => 20,
+        BlockKind::Enhanced | BlockKind::Old => 32,
+        BlockKind::Simple => 16,
+        BlockKind::Unread => 12,
+    }
+}
+
+fn is_section_version(order: ByteOrder, block: &[u8]) -> bool
+    requires { 28 ≤ length block.now }
+    ensures { IsTrue result ↔ IsSectionVersion order block.now }
+{
+    let minor = read_u16(order, block, 14);
+    read_u16(order, block, 12) == 1 && (minor == 0 || minor == 2)
+}
+
+/// The place of a packet's interface.
+fn interface_in(kind: BlockKind, order: ByteOrder, block: &[u8]) -> usize
+    requires { fixed_len kind ≤ length block.now }
+    ensures { result ≡ interface_in kind order block.now }
+{
+    match kind {
+        BlockKind::Enhanced => read_u32(order, block, 8) as usize,
+        BlockKind::Old => usize::from(read_u16(order, block, 8)),
+        _ => 0,
+    }
+}
+
+fn up_to_limit(snap_len: u32, len: u32) -> u32
+    ensures { result ≡ up_to_limit snap_len len }
+{
+    if snap_len == 0 {
+        len
+    } else {
+        len.min(snap_len)
+    }
+}
+
+/// How many bytes of a packet's frame were captured.
+fn captured_in(kind: BlockKind, order: ByteOrder, interface: &Interface, block: &[u8]) -> u32
+    requires { fixed_len kind ≤ length block.now }
+    ensures { result ≡ captured_in kind order interface.now block.now }
+{
+    match kind {
+        BlockKind::Enhanced | BlockKind::Old => read_u32(order, block, 20),
+        BlockKind::Simple => up_to_limit(interface.snap_len, read_u32(order, block, 8)),
+        _ => 0,
+    }
+}
+
+fn wire_len_in(kind: BlockKind, order: ByteOrder, block: &[u8]) -> u32
+    requires { fixed_len kind ≤ length block.now }
+    ensures { result ≡ wire_len_in kind order block.now }
+{
+    match kind {
+        BlockKind::Enhanced | BlockKind::Old => read_u32(order, block, 24),
+        BlockKind::Simple => read_u32(order, block, 8),
+        _ => 0,
+    }
+}
+
+fn frame_start(kind: BlockKind) -> usize
+    ensures value { result ≡ frame_start kind }
+    ensures small { result + 4 ≤ fixed_len kind }
+{
+    match kind {
+        BlockKind::Enhanced | BlockKind::Old => 28,
+        BlockKind::Simple => 12,
+        _ => 0,
+    }
+}
+
+fn time_in(kind: BlockKind, order: ByteOrder, interface: &Interface, block: &[u8]) -> Option<u64>
+    requires { fixed_len kind ≤ length block.now }
+    ensures { result ≡ time_in kind order interface.now block.now }
+{
+    match kind {
+        BlockKind::Enhanced | BlockKind::Old => {
+            let high = u64::from(read_u32(order, block, 12));
+            let low = u64::from(read_u32(order, block, 16));
+            time_of(interface, high * 0x1_0000_0000 + low)
+        }
+        _ => None,
+    }
+}
+
+/// The frame of a packet's block, of which the fixed fields are there.
+fn read_frame<'a>(
+    kind: BlockKind,
+    interfaces: &[Interface],
+    order: ByteOrder,
+    block: &'a [u8],
+) -> Result<Frame<'a>, CaptureFault>
+    requires kind { kind ≡ block_kind order block.now }
+    requires is_packet { IsPacketKind kind }
+    requires there { fixed_len kind ≤ length block.now }
+    ensures frame { IfOk result (λ f. HasFrame interfaces.now order block.now (frame_of f)) }
+    ensures fault { IfErr result (HasBlockFault interfaces.now order block.now) }
+{
+    let Some(interface) = interfaces.get(interface_in(kind, order, block)) else {
+        return Err(CaptureFault::UnknownInterface);
+    };
+    let captured = captured_in(kind, order, interface, block) as usize;
+    if block.len() < fixed_len(kind) + captured {
+        return Err(CaptureFault::FramePastBlock);
+    }
+    let start = frame_start(kind);
+    Ok(Frame {
+        link: interface.link,
+        time: time_in(kind, order, interface, block),
+        wire_len: wire_len_in(kind, order, block),
+        bytes: &block[start..start + captured],
+    })
+}
+
+/// Returns what a block says in a section of these interfaces, or the first fault that fits:
+/// `ShortBlock`, and then `UnknownVersion` of a section's header, `OptionPastBlock` of an interface,
+/// `UnknownInterface` or `FramePastBlock` of a packet.
+pub(crate) fn read_content<'a>(
+    interfaces: &[Interface],
+    block: Block<'a>,
+) -> Result<BlockContent<'a>, CaptureFault>
+    requires { 12 ≤ length block.bytes.now }
+    ensures says { IfOk result (λ c.
+        Says interfaces.now block.entry.order block.entry.bytes.now (event_of c)) }
+    ensures fault { IfErr result
+        (HasBlockFault interfaces.now block.entry.order block.entry.bytes.now) }
+{
+    let Block { order, bytes } = block;
+    let kind = kind_of(read_u32(order, bytes, 0));
+    if bytes.len() < fixed_len(kind) {
+        return Err(CaptureFault::ShortBlock);
+    }
+    match kind {
+        BlockKind::SectionHeader if is_section_version(order, bytes) => Ok(BlockContent::Section),
+        BlockKind::SectionHeader => Err(CaptureFault::UnknownVersion),
+        BlockKind::Description => match read_interface(order, bytes) {
+            Some(interface) => Ok(BlockContent::Interface(interface)),
+            None => Err(CaptureFault::OptionPastBlock),
+        },
+        BlockKind::Enhanced | BlockKind::Old | BlockKind::Simple => {
+            match read_frame(kind, interfaces, order, bytes) {
+                Ok(frame) => Ok(BlockContent::Frame(frame)),
+                Err(fault) => Err(fault),
+            }
+        }
+        BlockKind::Unread => Ok(BlockContent::Other),
+    }
+}

@@ -1,0 +1,51 @@
+//! The datagram that a frame carries.
+ghost use Rattle.std.specs.Prelude.{IfOk, IfErr};
+ghost use Rattle.packet_capture.specs.Datagrams.{Carries, content_of};
+ghost use Rattle.packet_capture.specs.FrameFaults.{HasFrameFault};
+
+use crate::fault::FrameFault;
+use crate::link::{LinkType, read_link};
+use crate::packet::read_packet;
+
+/// An IP address, with its bytes as they stand in a packet.
+#[derive(Clone, Copy, Debug, PartialEq, Eq, Hash)]
+pub enum Address {
+    V4([u8; 4]),
+    V6([u8; 16]),
+}
+
+/// A UDP datagram, which borrows its bytes from the frame.
+#[derive(Clone, Copy, Debug, PartialEq, Eq)]
+pub struct Datagram<'a> {
+    /// Where it goes: one machine, or a group.
+    pub address: Address,
+    /// The port that it goes to.
+    pub port: u16,
+    /// What it holds, up to 65,507 bytes in IPv4 and 65,527 in IPv6, without the UDP header.
+    pub bytes: &'a [u8],
+}
+
+/// Returns the UDP datagram that a frame carries, or the first fault that fits.
+///
+/// `link` is the number of the frame's link type. `UnknownLink` where it isn't one of
+/// [`LinkType`]; `ShortFrame` where the frame ends before its IP packet; `NotIp` where it carries
+/// another protocol; and then, of the packet: `ShortFrame` where the frame ends within the IP
+/// header, `BadIpHeader`, `NotUdp`, `Fragment` (of IPv4, or the extension header of IPv6),
+/// `ExtensionHeader` (any other of IPv6), `ShortFrame` where the frame ends before the packet, and
+/// `BadUdpLength`. No other fault comes.
+///
+/// What follows the packet in the frame, or the datagram in the packet, is not read. No checksum is
+/// looked at: a card that computes them leaves them wrong in what it sends. The sources are the
+/// registry of link-layer header types of tcpdump.org, IEEE 802.1Q, RFC 791, RFC 8200 and RFC 768.
+pub fn read_datagram(link: u16, frame: &[u8]) -> Result<Datagram<'_>, FrameFault>
+    ensures carried { IfOk result (λ d. Carries link frame.now (content_of d)) }
+    ensures fault { IfErr result (HasFrameFault link frame.now) }
+{
+    let Some(link) = LinkType::from_number(link) else {
+        return Err(FrameFault::UnknownLink);
+    };
+    match read_link(link, frame) {
+        Ok((version, packet)) => read_packet(version, packet),
+        Err(fault) => Err(fault),
+    }
+}

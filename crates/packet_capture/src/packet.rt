@@ -1,0 +1,159 @@
+//! IP packets and the UDP datagrams in them.
+ghost use Rattle.std.specs.Prelude.{◌≡◌, ◌≤◌, ◌<◌, IfSome, IfNone, IfOk, IfErr, IsTrue, ◌↔◌, length};
+ghost use Rattle.packet_capture.specs.declared.fields.ByteOrder.TheVariants.{Big};
+ghost use Rattle.packet_capture.specs.Fields.{u16_at};
+ghost use Rattle.packet_capture.specs.Packets.{IsIp, IsUdp, version_number, least_len, header_len, packet_len, obstacle_in, destination_in, segment_in, is_extension};
+ghost use Rattle.packet_capture.specs.Datagrams.{HasUdp, content_of, datagram_in};
+ghost use Rattle.packet_capture.specs.FrameFaults.{HasPacketFault};
+
+use crate::datagram::{Address, Datagram};
+use crate::fault::FrameFault;
+use crate::fields::{ByteOrder, read_u16};
+use crate::link::IpVersion;
+
+fn least_len(version: IpVersion) -> usize
+    ensures { result ≡ least_len version }
+{
+    match version {
+        IpVersion::V4 => 20,
+        IpVersion::V6 => 40,
+    }
+}
+
+fn header_len(version: IpVersion, packet: &[u8]) -> usize
+    requires { least_len version ≤ length packet.now }
+    ensures value { result ≡ header_len version packet.now }
+    ensures small { result ≤ 60 }
+{
+    match version {
+        IpVersion::V4 => usize::from(packet[0] % 16) * 4,
+        IpVersion::V6 => 40,
+    }
+}
+
+fn packet_len(version: IpVersion, packet: &[u8]) -> usize
+    requires { least_len version ≤ length packet.now }
+    ensures { result ≡ packet_len version packet.now }
+{
+    match version {
+        IpVersion::V4 => usize::from(read_u16(ByteOrder::Big, packet, 2)),
+        IpVersion::V6 => 40 + usize::from(read_u16(ByteOrder::Big, packet, 4)),
+    }
+}
+
+fn version_number(version: IpVersion) -> u8
+    ensures { result ≡ version_number version }
+{
+    match version {
+        IpVersion::V4 => 4,
+        IpVersion::V6 => 6,
+    }
+}
+
+/// Whether a header is there, of this version, and its lengths agree.
+fn is_ip(version: IpVersion, packet: &[u8]) -> bool
+    requires { least_len version ≤ length packet.now }
+    ensures { IsTrue result ↔ IsIp version packet.now }
+{
+    let header = header_len(version, packet);
+    packet[0] / 16 == version_number(version)
+        && least_len(version) <= header
+        && header <= packet_len(version, packet)
+}
+
+fn is_extension(next: u8) -> bool
+    ensures { result ≡ is_extension next }
+{
+    matches!(next, 0 | 43 | 50 | 51 | 60 | 135 | 139 | 140)
+}
+
+/// Why the packet has no whole UDP datagram, if so.
+fn obstacle_in(version: IpVersion, packet: &[u8]) -> Option<FrameFault>
+    requires { least_len version ≤ length packet.now }
+    ensures { result ≡ obstacle_in version packet.now }
+{
+    match version {
+        IpVersion::V4 => {
+            if packet[9] != 17 {
+                Some(FrameFault::NotUdp)
+            } else if read_u16(ByteOrder::Big, packet, 6) % 16384 != 0 {
+                Some(FrameFault::Fragment)
+            } else {
+                None
+            }
+        }
+        IpVersion::V6 => match packet[6] {
+            17 => None,
+            44 => Some(FrameFault::Fragment),
+            next => Some(if is_extension(next) {
+                FrameFault::ExtensionHeader
+            } else {
+                FrameFault::NotUdp
+            }),
+        },
+    }
+}
+
+fn destination_in(version: IpVersion, packet: &[u8]) -> Address
+    requires { least_len version ≤ length packet.now }
+    ensures { result ≡ destination_in version packet.now }
+{
+    match version {
+        IpVersion::V4 => {
+            let mut bytes = [0; 4];
+            bytes.copy_from_slice(&packet[16..20]);
+            Address::V4(bytes)
+        }
+        IpVersion::V6 => {
+            let mut bytes = [0; 16];
+            bytes.copy_from_slice(&packet[24..40]);
+            Address::V6(bytes)
+        }
+    }
+}
+
+/// How many bytes the UDP datagram has with its header, or `None` where that is bad.
+fn udp_len(segment: &[u8]) -> Option<usize>
+    ensures found { IfSome result (λ len. len ≡ u16_at Big segment.now 4) }
+    ensures whole { IfSome result (λ _. IsUdp segment.now) }
+    ensures bad { IfNone result (IsUdp segment.now → ⊥) }
+{
+    if segment.len() < 8 {
+        return None;
+    }
+    let len = usize::from(read_u16(ByteOrder::Big, segment, 4));
+    if len < 8 || segment.len() < len {
+        return None;
+    }
+    Some(len)
+}
+
+/// Returns the datagram of a packet of this version, or the first fault that fits.
+pub(crate) fn read_packet(version: IpVersion, packet: &[u8]) -> Result<Datagram<'_>, FrameFault>
+    ensures whole { IfOk result (λ _. HasUdp version packet.now) }
+    ensures value { IfOk result (λ d. content_of d ≡ datagram_in version packet.now) }
+    ensures fault { IfErr result (HasPacketFault version packet.now) }
+{
+    if packet.len() < least_len(version) {
+        return Err(FrameFault::ShortFrame);
+    }
+    if !is_ip(version, packet) {
+        return Err(FrameFault::BadIpHeader);
+    }
+    if let Some(fault) = obstacle_in(version, packet) {
+        return Err(fault);
+    }
+    let end = packet_len(version, packet);
+    if packet.len() < end {
+        return Err(FrameFault::ShortFrame);
+    }
+    let segment = &packet[header_len(version, packet)..end];
+    let Some(len) = udp_len(segment) else {
+        return Err(FrameFault::BadUdpLength);
+    };
+    Ok(Datagram {
+        address: destination_in(version, packet),
+        port: read_u16(ByteOrder::Big, segment, 2),
+        bytes: &segment[8..len],
+    })
+}

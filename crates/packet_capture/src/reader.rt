@@ -1,0 +1,208 @@
+//! The pieces of a packet capture, one after the other.
+ghost use Rattle.std.specs.Prelude.{◌≡◌, ◌≤◌, Some, IfOk, IfErr, OnOk, OnErr, length};
+ghost use Rattle.packet_capture.specs.Contents.{event_of};
+ghost use Rattle.packet_capture.specs.Savefiles.{magic_at};
+ghost use Rattle.packet_capture.specs.Captures.{new_context, frame_in_piece, frame_in_event, interfaces_after, IsOneTooMany, piece_of, IsPiece, IsRecordPiece, IsHeaderPiece, IsBlockPiece, StopsAt, StopsInSection};
+ghost use Rattle.packet_capture.specs.Stops.{StopsInHeader, StopsInRecord};
+
+use crate::block::{SECTION_HEADER, read_block};
+use crate::content::{BlockContent, read_content};
+use crate::fault::CaptureFault;
+use crate::fields::{ByteOrder, read_u32};
+use crate::frame::Frame;
+use crate::interface::Interface;
+use crate::savefile::{
+    Magic, RECORD_HEADER, SAVEFILE_HEADER, Savefile, magic_at, read_record, read_savefile,
+};
+use crate::stop::Stop;
+use arrayvec::ArrayVec;
+use std::marker::Model;
+
+/// How many interfaces a section may have.
+const MAX_INTERFACES: usize = 256;
+
+/// What a capture is, as far as it was read.
+#[derive(Clone, Copy, Debug, PartialEq, Eq)]
+pub(crate) enum Format {
+    /// Nothing was read yet.
+    Start,
+    /// A savefile.
+    InSavefile(Savefile),
+    /// A section of a pcapng file, with its numbers in this order.
+    InSection(ByteOrder),
+}
+
+/// A piece of a capture: a header, a packet record or a block.
+#[derive(Clone, Copy, Debug, PartialEq, Eq)]
+pub struct Piece<'a> {
+    /// How many bytes it has: 12 to 1,048,592, a packet record's 16 and its frame's.
+    pub len: usize,
+    /// Its frame, if it has one.
+    pub frame: Option<Frame<'a>>,
+}
+
+/// Makes the interfaces what they are after a block, and returns its frame, if it has one. Where there
+/// would be one too many, nothing changes.
+fn after_block<'a>(
+    interfaces: &mut ArrayVec<Interface, MAX_INTERFACES>,
+    content: BlockContent<'a>,
+) -> Result<Option<Frame<'a>>, CaptureFault>
+    requires { length interfaces.old.items ≤ 256 }
+    ensures frame { IfOk result (λ f. frame_in_piece f ≡ frame_in_event (event_of content.entry)) }
+    ensures items { OnOk result
+        (interfaces.new.items ≡ interfaces_after interfaces.old.items (event_of content.entry)) }
+    ensures few { OnOk result (length interfaces.new.items ≤ 256) }
+    ensures full { IfErr result (IsOneTooMany interfaces.old.items (event_of content.entry)) }
+    ensures kept { OnErr result (interfaces.new ≡ interfaces.old) }
+{
+    match content {
+        BlockContent::Section => {
+            interfaces.clear();
+            Ok(None)
+        }
+        BlockContent::Interface(interface) => {
+            if interfaces.is_full() {
+                return Err(CaptureFault::TooManyInterfaces);
+            }
+            interfaces.push(interface);
+            Ok(None)
+        }
+        BlockContent::Frame(frame) => Ok(Some(frame)),
+        BlockContent::Other => Ok(None),
+    }
+}
+
+/// Reads a packet capture, piece by piece. It keeps what a piece needs to know of those before it, and
+/// none of their bytes.
+#[derive(Debug, Drop)]
+pub struct CaptureReader {
+    format: Format,
+    interfaces: ArrayVec<Interface, MAX_INTERFACES>,
+}
+
+impl Model for CaptureReader {
+    ghost use Rattle.packet_capture.specs.Captures.{Context};
+
+    ghost Value = { Context };
+
+    ghost view = { λ r. record { format = r.format; interfaces = r.interfaces.items } };
+}
+
+impl CaptureReader {
+    /// Returns a reader that has read nothing.
+    pub fn new() -> CaptureReader
+        ensures { result ≡ new_context }
+    {
+        CaptureReader {
+            format: Format::Start,
+            interfaces: ArrayVec::new(),
+        }
+    }
+
+    /// The header of a savefile of this magic.
+    fn read_header<'a>(&mut self, magic: Magic, bytes: &'a [u8]) -> Result<Piece<'a>, Stop>
+        requires there { 4 ≤ length bytes.now }
+        requires magic { magic_at bytes.now ≡ Some magic }
+        ensures piece { IfOk result (λ p. IsHeaderPiece bytes.now (piece_of p) self.new) }
+        ensures stop { IfErr result (StopsInHeader bytes.now) }
+        ensures kept { OnErr result (self.new ≡ self.old) }
+    {
+        match read_savefile(magic, bytes) {
+            Ok(savefile) => {
+                self.format = Format::InSavefile(savefile);
+                self.interfaces.clear();
+                Ok(Piece {
+                    len: SAVEFILE_HEADER,
+                    frame: None,
+                })
+            }
+            Err(stop) => Err(stop),
+        }
+    }
+
+    /// The next packet record of the savefile.
+    fn read_frame<'a>(&self, savefile: Savefile, bytes: &'a [u8]) -> Result<Piece<'a>, Stop>
+        ensures piece { IfOk result (λ p.
+            IsRecordPiece savefile self.now bytes.now (piece_of p) self.now) }
+        ensures stop { IfErr result (StopsInRecord savefile bytes.now) }
+    {
+        match read_record(savefile, bytes) {
+            Ok(frame) => Ok(Piece {
+                len: RECORD_HEADER + frame.bytes.len(),
+                frame: Some(frame),
+            }),
+            Err(stop) => Err(stop),
+        }
+    }
+
+    /// The first piece of a capture.
+    fn read_first<'a>(&mut self, bytes: &'a [u8]) -> Result<Piece<'a>, Stop>
+        requires { self.old.format ≡ Format.Start }
+        ensures piece { IfOk result (λ p. IsPiece self.old bytes.now (piece_of p) self.new) }
+        ensures stop { IfErr result (StopsAt self.old bytes.now) }
+        ensures kept { OnErr result (self.new ≡ self.old) }
+    {
+        if bytes.len() < 4 {
+            return Err(Stop::Wants(4));
+        }
+        if let Some(magic) = magic_at(bytes) {
+            return self.read_header(magic, bytes);
+        }
+        if read_u32(ByteOrder::Big, bytes, 0) == SECTION_HEADER {
+            return self.read_section(ByteOrder::Big, bytes);
+        }
+        Err(Stop::Bad(CaptureFault::NotCapture))
+    }
+
+    /// Returns the piece at the front of the bytes, which stand where the last piece ended, and goes
+    /// past it; or why none is read, and then nothing changes.
+    ///
+    /// A capture is a savefile or a pcapng file. A savefile has a header of 24 bytes and then packet
+    /// records, a pcapng file blocks, of which those of other types are passed over. `Stop::Wants`
+    /// says how many bytes have to be there before more can be said, at most 1,048,592; `Stop::Bad` the
+    /// first fault that fits: `NotCapture`, `UnknownVersion` or `TooLong` of a savefile,
+    /// `BadByteOrder`, `BadBlockLength`, `TooLong` and `LengthsDiffer` of any block, and then
+    /// `ShortBlock`, `UnknownVersion`, `OptionPastBlock`, `TooManyInterfaces`, `UnknownInterface` and
+    /// `FramePastBlock` of those that are read.
+    ///
+    /// The sources are draft-ietf-opsawg-pcap and draft-ietf-opsawg-pcapng. The limits of 1,048,576
+    /// bytes and 256 interfaces are this project's.
+    pub fn next_piece<'a>(&mut self, bytes: &'a [u8]) -> Result<Piece<'a>, Stop>
+        ensures piece { IfOk result (λ p. IsPiece self.old bytes.now (piece_of p) self.new) }
+        ensures stop { IfErr result (StopsAt self.old bytes.now) }
+        ensures kept { OnErr result (self.new ≡ self.old) }
+    {
+        match self.format {
+            Format::Start => self.read_first(bytes),
+            Format::InSavefile(savefile) => self.read_frame(savefile, bytes),
+            Format::InSection(order) => self.read_section(order, bytes),
+        }
+    }
+
+    /// The next block, in a section of this order.
+    fn read_section<'a>(&mut self, section: ByteOrder, bytes: &'a [u8]) -> Result<Piece<'a>, Stop>
+        ensures piece { IfOk result (λ p.
+            IsBlockPiece section self.old bytes.now (piece_of p) self.new) }
+        ensures stop { IfErr result (StopsInSection section self.old bytes.now) }
+        ensures kept { OnErr result (self.new ≡ self.old) }
+    {
+        let block = match read_block(section, bytes) {
+            Ok(block) => block,
+            Err(stop) => return Err(stop),
+        };
+        let content = match read_content(self.interfaces.as_slice(), block) {
+            Ok(content) => content,
+            Err(fault) => return Err(Stop::Bad(fault)),
+        };
+        match after_block(&mut self.interfaces, content) {
+            Ok(frame) => {
+                self.format = Format::InSection(block.order);
+                Ok(Piece {
+                    len: block.bytes.len(),
+                    frame,
+                })
+            }
+            Err(fault) => Err(Stop::Bad(fault)),
+        }
+    }
+}

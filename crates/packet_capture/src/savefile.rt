@@ -1,0 +1,125 @@
+//! Savefiles, which tcpdump writes.
+ghost use Rattle.std.specs.Prelude.{◌≡◌, ◌≤◌, ◌+◌, ◌*◌, IfOk, IfErr, IsTrue, ◌↔◌, Some, length, if◌then◌else◌};
+ghost use Rattle.packet_capture.specs.Savefiles.{magic_at, IsVersion, BeginsSavefile, HasOtherVersion, captured_at, record_time, IsPacketRecord};
+ghost use Rattle.packet_capture.specs.Frames.{frame_of};
+ghost use Rattle.packet_capture.specs.Stops.{StopsInHeader, StopsInRecord};
+
+use crate::fault::CaptureFault;
+use crate::fields::{ByteOrder, read_u16, read_u32};
+use crate::frame::Frame;
+use crate::stop::Stop;
+
+/// How many bytes a savefile's header has.
+pub(crate) const SAVEFILE_HEADER: usize = 24;
+
+/// How many bytes stand before the frame of a packet record.
+pub(crate) const RECORD_HEADER: usize = 16;
+
+/// How many bytes a frame and a block may have.
+pub(crate) const LONGEST: u32 = 1_048_576;
+
+/// What a savefile's first four bytes say.
+#[derive(Clone, Copy, Debug, PartialEq, Eq, Hash)]
+pub(crate) struct Magic {
+    pub(crate) order: ByteOrder,
+    /// Whether times are in nanoseconds, or in microseconds.
+    pub(crate) nanoseconds: bool,
+}
+
+/// What is known of a savefile from its header.
+#[derive(Clone, Copy, Debug, PartialEq, Eq, Hash)]
+pub(crate) struct Savefile {
+    pub(crate) magic: Magic,
+    /// The number of the link type of all its frames.
+    pub(crate) link: u16,
+}
+
+/// The magic at the front, if there is one.
+pub(crate) fn magic_at(bytes: &[u8]) -> Option<Magic>
+    requires { 4 ≤ length bytes.now }
+    ensures { result ≡ magic_at bytes.now }
+{
+    match read_u32(ByteOrder::Big, bytes, 0) {
+        0xa1b2_c3d4 => return Some(Magic {
+            order: ByteOrder::Big,
+            nanoseconds: false,
+        }),
+        0xa1b2_3c4d => return Some(Magic {
+            order: ByteOrder::Big,
+            nanoseconds: true,
+        }),
+        _ => {}
+    }
+    match read_u32(ByteOrder::Little, bytes, 0) {
+        0xa1b2_c3d4 => Some(Magic {
+            order: ByteOrder::Little,
+            nanoseconds: false,
+        }),
+        0xa1b2_3c4d => Some(Magic {
+            order: ByteOrder::Little,
+            nanoseconds: true,
+        }),
+        _ => None,
+    }
+}
+
+fn is_version(magic: Magic, bytes: &[u8]) -> bool
+    requires { 24 ≤ length bytes.now }
+    ensures { IsTrue result ↔ IsVersion magic bytes.now }
+{
+    read_u16(magic.order, bytes, 4) == 2 && read_u16(magic.order, bytes, 6) == 4
+}
+
+/// The savefile whose header, of this magic, is at the front.
+pub(crate) fn read_savefile(magic: Magic, bytes: &[u8]) -> Result<Savefile, Stop>
+    requires { Some magic ≡ magic_at bytes.now }
+    ensures begins { IfOk result (BeginsSavefile bytes.now) }
+    ensures stop { IfErr result (StopsInHeader bytes.now) }
+{
+    if bytes.len() < SAVEFILE_HEADER {
+        return Err(Stop::Wants(SAVEFILE_HEADER));
+    }
+    if !is_version(magic, bytes) {
+        return Err(Stop::Bad(CaptureFault::UnknownVersion));
+    }
+    let link = read_u32(magic.order, bytes, 20) % 65536;
+    Ok(Savefile {
+        magic,
+        link: link as u16,
+    })
+}
+
+/// The time of the packet record at the front.
+fn record_time(savefile: Savefile, bytes: &[u8]) -> u64
+    requires { 16 ≤ length bytes.now }
+    ensures { result ≡ record_time savefile bytes.now }
+{
+    let unit = if savefile.magic.nanoseconds { 1 } else { 1_000 };
+    let seconds = u64::from(read_u32(savefile.magic.order, bytes, 0));
+    let parts = u64::from(read_u32(savefile.magic.order, bytes, 4));
+    seconds * 1_000_000_000 + parts * unit
+}
+
+/// The frame of the packet record at the front.
+pub(crate) fn read_record(savefile: Savefile, bytes: &[u8]) -> Result<Frame<'_>, Stop>
+    ensures frame { IfOk result (λ f. IsPacketRecord savefile bytes.now (frame_of f)) }
+    ensures stop { IfErr result (StopsInRecord savefile bytes.now) }
+{
+    if bytes.len() < RECORD_HEADER {
+        return Err(Stop::Wants(RECORD_HEADER));
+    }
+    let captured = read_u32(savefile.magic.order, bytes, 8);
+    if captured > LONGEST {
+        return Err(Stop::Bad(CaptureFault::TooLong));
+    }
+    let end = RECORD_HEADER + captured as usize;
+    if bytes.len() < end {
+        return Err(Stop::Wants(end));
+    }
+    Ok(Frame {
+        link: savefile.link,
+        time: Some(record_time(savefile, bytes)),
+        wire_len: read_u32(savefile.magic.order, bytes, 12),
+        bytes: &bytes[RECORD_HEADER..end],
+    })
+}
