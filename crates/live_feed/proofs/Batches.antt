@@ -61,7 +61,7 @@ get_there [] i x y e = absurd cc
 get_there (z ∷ zs) zero x y e = refl
 get_there (z ∷ zs) (suc i) x y e = get_there zs i x y e
 
-module _ (may_send : ℕ → List Numbered → Type 0) (venue : ℕ) (old : HubState) where
+module _ (venue : ℕ) (old : HubState) where
   -- nothing was journaled yet
   pub no_items : (lane : LaneEnd Numbered) → slice_get old.receivers venue ≡ Some lane → ConsumesItems venue [] old old
   no_items lane at = record {
@@ -72,6 +72,13 @@ module _ (may_send : ℕ → List Numbered → Type 0) (venue : ℕ) (old : HubS
     kept = refl;
   }
 
+  -- none was
+  pub start_count : (after : HubState) → after ≡ old → venue < length old.receivers → ConsumesCount venue 0 old after
+  start_count after same below =
+      let there = get_within old.receivers venue below in
+      subst (λ (s : HubState). ConsumesCount venue 0 old s) (sym same) (record { items = []; count_is = refl; consumes = no_items there.0 there.1 })
+
+module _ (may_send : ℕ → List Numbered → Type 0) (venue : ℕ) (old : HubState) where
   module _ (between new : HubState) (kept : KeepsButIntake between new) where
     kept_on : KeepsButIntake old between → KeepsButIntake old new
     kept_on before = kept ∙ ap (λ (s : HubState). record s {
@@ -125,12 +132,6 @@ module _ (may_send : ℕ → List Numbered → Type 0) (venue : ℕ) (old : HubS
           kept = kept_on r.kept;
         }
 
-  -- none was
-  pub start_count : (after : HubState) → after ≡ old → venue < length old.receivers → ConsumesCount venue 0 old after
-  start_count after same below =
-      let there = get_within old.receivers venue below in
-      subst (λ (s : HubState). ConsumesCount venue 0 old s) (sym same) (record { items = []; count_is = refl; consumes = no_items there.0 there.1 })
-
   -- one more was
   pub one_more_item : (count position : ℕ) (between new : HubState) → ConsumesCount venue count old between → ConsumesOne may_send venue (Ok (Some position)) between new → KeepsButIntake between new → ConsumesCount venue (count + 1) old new
   one_more_item count position between new r one kept =
@@ -142,8 +143,9 @@ module _ (may_send : ℕ → List Numbered → Type 0) (venue : ℕ) (old : HubS
   none_more_item count between new r one kept = record { items = r.items; count_is = r.count_is; consumes = no_item_more between new kept r.items r.consumes one }
 
   -- nothing was inside, and the journal had room
-  pub had_no_item : (new : HubState) → ConsumesOne may_send venue (Ok None) old new → HadNoItem may_send venue old
-  had_no_item new one =
+  pub had_no_item : (between new : HubState) → between ≡ old → ConsumesOne may_send venue (Ok None) between new → HadNoItem may_send venue old
+  had_no_item between new same later =
+      let one = subst (λ (s : HubState). ConsumesOne may_send venue (Ok None) s new) same later in
       let found = none_journaled old.journal.journal venue (intake_of one.lane old.journal) one.after (nat_le old.journal.journal (length old.journal.entries)) one.next one.comes in
       record {
         room = room_of old.journal.journal (length old.journal.entries) found.0;

@@ -11,6 +11,7 @@ use Rattle.feed_types.specs.Sequence.{Carries, Ends, IsInSequence}
 use Rattle.feed_types.specs.SequenceLaws.{prefix_in_sequence}
 use Rattle.feed_types.specs.Sessions.{SessionNames}
 use Rattle.mold_packet.specs.Content.{Content, IsContent}
+use Rattle.line_arbiter.specs.Counts.{shown}
 use Rattle.line_arbiter.specs.declared.outcome.Outcome.{Outcome}
 use Rattle.line_arbiter.specs.declared.outcome.Outcome.TheVariants.{Taken}
 use Rattle.line_arbiter.specs.declared.outcome.LineFault.{LineFault}

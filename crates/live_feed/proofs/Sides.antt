@@ -34,17 +34,17 @@ fold_all f xs place y all past same = ap (fold f y) (sym (drop_past xs place pas
 
 -- one more was looked at, and isn't it
 pub any_more : {X : Type 0} (p : X → Bool) (xs : List X) (place : ℕ) (x : X) (all : Bool) → slice_get xs place ≡ Some x → p x ≡ false → list_any p (drop place xs) ≡ all → list_any p (drop (place + 1) xs) ≡ all
-any_more p xs place x all at no same =
+any_more p xs place x all at other same =
     let rest = drop (place + 1) xs in
     let here : list_any p (drop place xs) ≡ list_any p (x ∷ rest) = ap (list_any p) (next_drop xs place (place + 1) x (sym at) refl) in
-    ap (λ (b : Bool). b || list_any p rest) (sym no) ∙ sym here ∙ same
+    ap (λ (b : Bool). b || list_any p rest) (sym other) ∙ sym here ∙ same
 
 -- it is the one
 pub any_here : {X : Type 0} (p : X → Bool) (xs : List X) (place : ℕ) (x : X) (all : Bool) → slice_get xs place ≡ Some x → p x ≡ true → list_any p (drop place xs) ≡ all → true ≡ all
-any_here p xs place x all at yes same =
+any_here p xs place x all at found same =
     let rest = drop (place + 1) xs in
     let here : list_any p (drop place xs) ≡ list_any p (x ∷ rest) = ap (list_any p) (next_drop xs place (place + 1) x (sym at) refl) in
-    ap (λ (b : Bool). b || list_any p rest) (sym yes) ∙ sym here ∙ same
+    ap (λ (b : Bool). b || list_any p rest) (sym found) ∙ sym here ∙ same
 
 -- all were looked at
 pub any_none : {X : Type 0} (p : X → Bool) (xs : List X) (place : ℕ) (all : Bool) → length xs ≤ place → list_any p (drop place xs) ≡ all → false ≡ all

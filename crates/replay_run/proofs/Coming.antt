@@ -19,7 +19,7 @@ use Rattle.mold_packet.specs.Content.{Content, IsContent, Spells, spelling}
 use Rattle.mold_packet.proofs.OneReading.{same_packet}
 use Rattle.quote_payload.specs.Payload.{item_of}
 use Rattle.line_arbiter.specs.declared.outcome.Outcome.TheVariants.{Taken, Ended}
-use Rattle.line_arbiter.specs.Packets.{Arrival, arrival_of, carried, end_of, has_number, item_at, last_of, message_item}
+use Rattle.line_arbiter.specs.Packets.{Arrival, arrival_of, carried, end_of, has_number, item_at, message_item}
 use Rattle.line_arbiter.specs.Streams.{IsComplete, front_of, item_numbered, stream_of, end_at}
 use Rattle.line_arbiter.specs.Outcomes.{new_count, IsOutcome}
 use Rattle.line_arbiter.specs.Answered.{AreAnswered}

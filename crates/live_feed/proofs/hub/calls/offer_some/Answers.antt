@@ -16,7 +16,7 @@ loop-preserved-in-Ok g c =
 pub loop-preserved : goal.loop-preserved
 loop-preserved g c =
     let i = c.loop.invariant in
-    let e = c.in-Err.ensures in (
+    let e = c.in-Err-LaneFull.ensures in (
       tt,
       tt,
       search rules,
