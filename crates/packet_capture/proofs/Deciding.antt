@@ -4,7 +4,7 @@ use Rattle.std.specs.Prelude.{◌⊎◌, ◌/◌, Option, Some, None, slice_inde
 use Rattle.std.proofs.lemmas.Bool.{cases_lt, cases_eq}
 use Rattle.packet_capture.specs.declared.fields.ByteOrder.TheVariants.{Big}
 use Rattle.packet_capture.specs.declared.link.IpVersion.{IpVersion}
-use Rattle.packet_capture.specs.Fields.{u16_at}
+use Rattle.packet_capture.specs.Fields.{u16_in}
 use Rattle.packet_capture.specs.Packets.{IsIp, IsUdp, version_number, least_len, header_len, packet_len}
 
 pub option_cases : {X : Type 0} (o : Option X) → (o ≡ None) ⊎ ((x : X) × (o ≡ Some x))
@@ -14,9 +14,9 @@ option_cases (Some x) = inr (x, refl)
 pub udp_or_not : (segment : List ℕ) → IsUdp segment ⊎ (IsUdp segment → ⊥)
 udp_or_not segment = elim (cases_lt (length segment) 8) [
   | inl short ↦ inr (λ h. let a = h.there in omega arith)
-  | inr there ↦ elim (cases_lt (u16_at Big segment 4) 8) [
+  | inr there ↦ elim (cases_lt (u16_in Big segment 4) 8) [
     | inl few ↦ inr (λ h. let a = h.least in omega arith)
-    | inr least ↦ elim (cases_lt (length segment) (u16_at Big segment 4)) [
+    | inr least ↦ elim (cases_lt (length segment) (u16_in Big segment 4)) [
       | inl cut ↦ inr (λ h. let a = h.within in omega arith)
       | inr within ↦ inl (record { there = there; least = least; within = within })
     ]

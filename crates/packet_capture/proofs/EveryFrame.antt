@@ -9,7 +9,7 @@ use Rattle.packet_capture.specs.declared.fault.FrameFault.{FrameFault}
 use Rattle.packet_capture.specs.declared.fault.FrameFault.TheVariants.{UnknownLink, NotIp, ShortFrame, BadIpHeader, BadUdpLength}
 use Rattle.packet_capture.specs.Links.{number_of, link_len, version_in, packet_in}
 use Rattle.packet_capture.specs.Packets.{least_len, packet_len, obstacle_in, segment_in}
-use Rattle.packet_capture.specs.Datagrams.{Content, HasPacket, HasUdp, Carries, datagram_in}
+use Rattle.packet_capture.specs.Datagrams.{DatagramContent, HasPacket, HasUdp, CarriesDatagram, datagram_in}
 use Rattle.packet_capture.specs.FrameFaults.{HasLinkFault, HasPacketFault, HasFrameFault}
 use Rattle.packet_capture.proofs.Deciding.{option_cases, udp_or_not, ip_or_not}
 
@@ -81,7 +81,7 @@ udp_or_fault v p = elim (cases_lt (length p) (least_len v)) [
   ]
 ]
 
-pub carries_or_fault : (n : ℕ) (frame : List ℕ) → ((d : Content) × Carries n frame d) ⊎ ((f : FrameFault) × HasFrameFault n frame f)
+pub carries_or_fault : (n : ℕ) (frame : List ℕ) → ((d : DatagramContent) × CarriesDatagram n frame d) ⊎ ((f : FrameFault) × HasFrameFault n frame f)
 carries_or_fault n frame = elim (link_or_not n) [
   | inr unknown ↦ inr (UnknownLink, inl (refl, unknown))
   | inl (link, number) ↦ elim (packet_or_fault link frame) [

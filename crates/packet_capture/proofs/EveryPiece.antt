@@ -15,14 +15,14 @@ use Rattle.packet_capture.specs.declared.savefile.Magic.{Magic}
 use Rattle.packet_capture.specs.declared.savefile.Savefile.{Savefile}
 use Rattle.packet_capture.specs.declared.stop.Stop.{Stop}
 use Rattle.packet_capture.specs.declared.stop.Stop.TheVariants.{Bad, Wants}
-use Rattle.packet_capture.specs.Fields.{u16_at, u32_at, bytes_at}
+use Rattle.packet_capture.specs.Fields.{u16_in, u32_in, bytes_at}
 use Rattle.packet_capture.specs.Frames.{FrameContent}
 use Rattle.packet_capture.specs.Savefiles.{magic_at, savefile_at, BeginsSavefile, captured_at, record_time, IsPacketRecord}
 use Rattle.packet_capture.specs.Blocks.{order_at, IsBlockLen, IsBlock}
-use Rattle.packet_capture.specs.Interfaces.{Setting, IsAtFront, after_option, AreOptions, CutAfter, with_options, bare_interface, options_in}
-use Rattle.packet_capture.specs.Contents.{block_kind, fixed_len, IsPacketKind, IsSectionVersion, interface_in, captured_in, frame_in, BlockEvent, section_begins, interface_added, frame_came, passed_over, Says, HasBlockFault}
+use Rattle.packet_capture.specs.Interfaces.{OptionField, IsAtFront, after_option, AreOptions, CutAfter, with_options, bare_interface, options_in}
+use Rattle.packet_capture.specs.Contents.{block_kind, fixed_len, IsPacketKind, IsSectionVersion, interface_in, captured_in, frame_in, BlockEvent, section_begins, interface_added, frame_came, passed_over, BlockSays, HasBlockFault}
 use Rattle.packet_capture.specs.Stops.{StopsInHeader, StopsInRecord, StopsInBlock}
-use Rattle.packet_capture.specs.Captures.{Context, PieceContent, IsBlockPiece, IsPieceIn, IsPiece, frame_in_event, interfaces_after, StopsInSection, StopsIn, StopsAt}
+use Rattle.packet_capture.specs.Captures.{Context, PieceContent, IsBlockPiece, IsPieceIn, IsPiece, frame_in_event, interfaces_after, StopsInSection, StopsIn, StopsReading}
 use Rattle.packet_capture.proofs.Deciding.{option_cases}
 
 -- of bytes: a piece and what it leaves, or a stop
@@ -35,9 +35,9 @@ PieceOrStop format before bytes =
 header_or_stop : (bytes : List ℕ) (magic : Magic) → magic_at bytes ≡ Some magic → ((s : Savefile) × BeginsSavefile bytes s) ⊎ ((stop : Stop) × StopsInHeader bytes stop)
 header_or_stop bytes magic is = elim (cases_lt (length bytes) 24) [
   | inl short ↦ inr (Wants 24, inl (short, refl))
-  | inr there ↦ elim (cases_eq (u16_at magic.order bytes 4) 2) [
+  | inr there ↦ elim (cases_eq (u16_in magic.order bytes 4) 2) [
     | inr other ↦ inr (Bad UnknownVersion, inr (record { there = there; magic = magic; magic_is = is; other = λ v. other v.0 }, refl))
-    | inl major ↦ elim (cases_eq (u16_at magic.order bytes 6) 4) [
+    | inl major ↦ elim (cases_eq (u16_in magic.order bytes 6) 4) [
       | inr other ↦ inr (Bad UnknownVersion, inr (record { there = there; magic = magic; magic_is = is; other = λ v. other v.1 }, refl))
       | inl minor ↦ inl (savefile_at magic bytes, record { there = there; magic = magic; magic_is = is; version = (major, minor); is = refl })
     ]
@@ -48,7 +48,7 @@ record_frame : Savefile → List ℕ → FrameContent
 record_frame s bytes = record {
   link = s.link;
   time = Some (record_time s bytes);
-  wire_len = u32_at s.magic.order bytes 12;
+  wire_len = u32_in s.magic.order bytes 12;
   bytes = bytes_at bytes 16 (captured_at s bytes);
 }
 
@@ -77,15 +77,15 @@ block_or_stop section bytes = elim (cases_lt (length bytes) 12) [
   | inl short ↦ inr (Wants 12, inl (short, refl))
   | inr there ↦ elim (option_cases (order_at section bytes)) [
     | inl none ↦ inr (Bad BadByteOrder, inr (inl (there, none, refl)))
-    | inr (order, is) ↦ elim (len_or_not (u32_at order bytes 4)) [
+    | inr (order, is) ↦ elim (len_or_not (u32_in order bytes 4)) [
       | inr bad ↦ inr (Bad BadBlockLength, inr (inr (there, (order, is, inl (bad, refl)))))
-      | inl counted ↦ elim (cases_lt 1048576 (u32_at order bytes 4)) [
+      | inl counted ↦ elim (cases_lt 1048576 (u32_in order bytes 4)) [
         | inl long ↦ inr (Bad TooLong, inr (inr (there, (order, is, inr (inl (counted, long, refl))))))
-        | inr short ↦ elim (cases_lt (length bytes) (u32_at order bytes 4)) [
-          | inl cut ↦ inr (Wants (u32_at order bytes 4), inr (inr (there, (order, is, inr (inr (inl (counted, short, cut, refl)))))))
-          | inr whole ↦ elim (cases_eq (u32_at order bytes (u32_at order bytes 4 - 4)) (u32_at order bytes 4)) [
+        | inr short ↦ elim (cases_lt (length bytes) (u32_in order bytes 4)) [
+          | inl cut ↦ inr (Wants (u32_in order bytes 4), inr (inr (there, (order, is, inr (inr (inl (counted, short, cut, refl)))))))
+          | inr whole ↦ elim (cases_eq (u32_in order bytes (u32_in order bytes 4 - 4)) (u32_in order bytes 4)) [
             | inr other ↦ inr (Bad LengthsDiffer, inr (inr (there, (order, is, inr (inr (inr (counted, short, whole, other, refl)))))))
-            | inl again ↦ inl (order, take (u32_at order bytes 4) bytes, record { there = there; order_is = is; counted = counted; short = short; whole = whole; again = again; block_is = refl })
+            | inl again ↦ inl (order, take (u32_in order bytes 4) bytes, record { there = there; order_is = is; counted = counted; short = short; whole = whole; again = again; block_is = refl })
           ]
         ]
       ]
@@ -95,9 +95,9 @@ block_or_stop section bytes = elim (cases_lt (length bytes) 12) [
 
 -- options, of which each takes four bytes at least
 OptionsOrCut : ByteOrder → List ℕ → Type 0
-OptionsOrCut order bytes = ((os : List Setting) × AreOptions order bytes os) ⊎ ((os : List Setting) × CutAfter order bytes os)
+OptionsOrCut order bytes = ((os : List OptionField) × AreOptions order bytes os) ⊎ ((os : List OptionField) × CutAfter order bytes os)
 
-one_option : (order : ByteOrder) (bytes : List ℕ) (o : Setting) → IsAtFront order bytes o → OptionsOrCut order (after_option order bytes) → OptionsOrCut order bytes
+one_option : (order : ByteOrder) (bytes : List ℕ) (o : OptionField) → IsAtFront order bytes o → OptionsOrCut order (after_option order bytes) → OptionsOrCut order bytes
 unfolding OptionsOrCut
 one_option order bytes o front (inl h) = inl (o ∷ h.0, (front, h.1))
 one_option order bytes o front (inr h) = inr (o ∷ h.0, (front, h.1))
@@ -107,28 +107,28 @@ unfolding OptionsOrCut
 options_or_cut order zero bytes few = inl ([], λ four. absurd (omega arith))
 options_or_cut order (suc n) bytes few = elim (cases_lt (length bytes) 4) [
   | inl short ↦ inl ([], λ four. absurd (omega arith))
-  | inr there ↦ elim (cases_eq (u16_at order bytes 0) 0) [
+  | inr there ↦ elim (cases_eq (u16_in order bytes 0) 0) [
     | inl end ↦ inl ([], λ four. end)
-    | inr some ↦ elim (cases_lt (length bytes) (4 + u16_at order bytes 2)) [
+    | inr some ↦ elim (cases_lt (length bytes) (4 + u16_in order bytes 2)) [
       | inl cut ↦ inr ([], (there, omega arith, cut))
       | inr within ↦
-          let o : Setting = record { code = u16_at order bytes 0; value = bytes_at bytes 4 (u16_at order bytes 2) } in
+          let o : OptionField = record { code = u16_in order bytes 0; value = bytes_at bytes 4 (u16_in order bytes 2) } in
           let front : IsAtFront order bytes o = record { there = there; code = refl; goes_on = omega arith; within = within; value = refl } in
-          one_option order bytes o front (options_or_cut order n (after_option order bytes) (omega (arith, length-drop (4 + (u16_at order bytes 2 + 3) / 4 * 4) bytes)))
+          one_option order bytes o front (options_or_cut order n (after_option order bytes) (omega (arith, length-drop (4 + (u16_in order bytes 2 + 3) / 4 * 4) bytes)))
     ]
   ]
 ]
 
 -- what a block says, or why it says nothing
 EventOrFault : List Interface → ByteOrder → List ℕ → Type 0
-EventOrFault is order block = ((s : BlockEvent) × Says is order block s) ⊎ ((f : CaptureFault) × HasBlockFault is order block f)
+EventOrFault is order block = ((s : BlockEvent) × BlockSays is order block s) ⊎ ((f : CaptureFault) × HasBlockFault is order block f)
 
 version_or_not : (order : ByteOrder) (block : List ℕ) → IsSectionVersion order block ⊎ (IsSectionVersion order block → ⊥)
-version_or_not order block = elim (cases_eq (u16_at order block 12) 1) [
+version_or_not order block = elim (cases_eq (u16_in order block 12) 1) [
   | inr other ↦ inr (λ v. other v.0)
-  | inl major ↦ elim (cases_eq (u16_at order block 14) 0) [
+  | inl major ↦ elim (cases_eq (u16_in order block 14) 0) [
     | inl none ↦ inl (major, inl none)
-    | inr some ↦ elim (cases_eq (u16_at order block 14) 2) [
+    | inr some ↦ elim (cases_eq (u16_in order block 14) 2) [
       | inl two ↦ inl (major, inr two)
       | inr other ↦ inr (λ v. elim v.1 [ inl a ↦ some a | inr b ↦ other b ])
     ]
@@ -180,14 +180,14 @@ section_piece_or_stop section before bytes few = elim (block_or_stop section byt
   ]
 ]
   where
-    piece_of_block : (section : ByteOrder) (before : Context) (bytes : List ℕ) (order : ByteOrder) (block : List ℕ) (event : BlockEvent) → length (interfaces_after before.interfaces event) ≤ 256 → IsBlock section bytes order block → Says before.interfaces order block event → ((piece : PieceContent) × (after : Context) × IsBlockPiece section before bytes piece after) ⊎ ((stop : Stop) × StopsInSection section before bytes stop)
+    piece_of_block : (section : ByteOrder) (before : Context) (bytes : List ℕ) (order : ByteOrder) (block : List ℕ) (event : BlockEvent) → length (interfaces_after before.interfaces event) ≤ 256 → IsBlock section bytes order block → BlockSays before.interfaces order block event → ((piece : PieceContent) × (after : Context) × IsBlockPiece section before bytes piece after) ⊎ ((stop : Stop) × StopsInSection section before bytes stop)
     piece_of_block section before bytes order block event few whole says = inl (
       record { len = length block; frame = frame_in_event event },
       record { format = InSection order; interfaces = interfaces_after before.interfaces event },
       record { order = order; block = block; is_block = whole; event = event; says = says; few = few; len = refl; frame = refl; after_is = refl },
     )
 
-    event_piece_or_stop : (section : ByteOrder) (before : Context) (bytes : List ℕ) (order : ByteOrder) (block : List ℕ) (event : BlockEvent) → length before.interfaces ≤ 256 → IsBlock section bytes order block → Says before.interfaces order block event → ((piece : PieceContent) × (after : Context) × IsBlockPiece section before bytes piece after) ⊎ ((stop : Stop) × StopsInSection section before bytes stop)
+    event_piece_or_stop : (section : ByteOrder) (before : Context) (bytes : List ℕ) (order : ByteOrder) (block : List ℕ) (event : BlockEvent) → length before.interfaces ≤ 256 → IsBlock section bytes order block → BlockSays before.interfaces order block event → ((piece : PieceContent) × (after : Context) × IsBlockPiece section before bytes piece after) ⊎ ((stop : Stop) × StopsInSection section before bytes stop)
     event_piece_or_stop section before bytes order block section_begins few whole says = piece_of_block section before bytes order block section_begins (omega arith) whole says
     event_piece_or_stop section before bytes order block (frame_came f) few whole says = piece_of_block section before bytes order block (frame_came f) few whole says
     event_piece_or_stop section before bytes order block passed_over few whole says = piece_of_block section before bytes order block passed_over few whole says
@@ -205,7 +205,7 @@ piece_or_stop_in Start before bytes few = elim (cases_lt (length bytes) 4) [
       | inl (s, begins) ↦ inl (record { len = 24; frame = None }, record { format = InSavefile s; interfaces = [] }, inl (record { there = there; savefile = s; begins = begins; len = refl; frame = refl; after_is = refl }))
       | inr (stop, why) ↦ inr (stop, inr (inr (inl (there, (magic, is), why))))
     ]
-    | inl none ↦ elim (cases_eq (u32_at Big bytes 0) 168627466) [
+    | inl none ↦ elim (cases_eq (u32_in Big bytes 0) 168627466) [
       | inr other ↦ inr (Bad NotCapture, inr (inl (there, none, other, refl)))
       | inl section ↦ elim (section_piece_or_stop Big before bytes few) [
         | inl (piece, after, is) ↦ inl (piece, after, inr (record { there = there; no_savefile = none; section = section; block = is }))
@@ -220,6 +220,6 @@ piece_or_stop_in (InSavefile s) before bytes few = elim (record_or_stop s bytes)
 ]
 piece_or_stop_in (InSection order) before bytes few = section_piece_or_stop order before bytes few
 
-pub piece_or_stop : (before : Context) (bytes : List ℕ) → length before.interfaces ≤ 256 → ((piece : PieceContent) × (after : Context) × IsPiece before bytes piece after) ⊎ ((stop : Stop) × StopsAt before bytes stop)
+pub piece_or_stop : (before : Context) (bytes : List ℕ) → length before.interfaces ≤ 256 → ((piece : PieceContent) × (after : Context) × IsPiece before bytes piece after) ⊎ ((stop : Stop) × StopsReading before bytes stop)
 unfolding PieceOrStop
 piece_or_stop before bytes few = piece_or_stop_in before.format before bytes few

@@ -10,10 +10,10 @@ use Rattle.packet_capture.specs.declared.link.LinkType.TheVariants.{Ethernet}
 use Rattle.packet_capture.specs.declared.fault.FrameFault.TheVariants.{Fragment}
 use Rattle.packet_capture.specs.declared.datagram.Address.{Address}
 use Rattle.packet_capture.specs.declared.datagram.Address.TheVariants as addresses
-use Rattle.packet_capture.specs.Fields.{u16_at, bytes_at}
+use Rattle.packet_capture.specs.Fields.{u16_in, bytes_at}
 use Rattle.packet_capture.specs.Links.{tags_of, packet_in, is_tag, by_ether_type}
 use Rattle.packet_capture.specs.Packets.{IsIp, IsUdp, header_len, packet_len, obstacle_in, destination_in, segment_in}
-use Rattle.packet_capture.specs.Datagrams.{HasUdp, HasPacket, Carries, datagram_in}
+use Rattle.packet_capture.specs.Datagrams.{HasUdp, HasPacket, CarriesDatagram, datagram_in}
 use Rattle.packet_capture.specs.Written.{u16_bytes}
 use Rattle.packet_capture.proofs.WrittenBack.{two_back}
 use Rattle.packet_capture.specs.WrittenFrames.{WrittenDatagram, udp_bytes, WrittenIpv4, IsWrittenIpv4, ipv4_bytes, WrittenIpv6, IsWrittenIpv6, ipv6_bytes, Tag, tag_bytes, ethernet_bytes, IsWrittenEthernet}
@@ -27,17 +27,17 @@ front xs ys n len = ap (λ (k : ℕ). take k (xs ++ ys)) (sym len) ∙ take-appe
 
 -- the datagram
 is_udp : (d : WrittenDatagram) → 8 + length d.bytes < 65536 → IsUdp (udp_bytes d)
-unfolding u16_at
+unfolding u16_in
 is_udp d fits =
     let len = two_back (8 + length d.bytes) in
     record { there = omega arith; least = omega arith; within = omega arith }
 
-port_back : (d : WrittenDatagram) → u16_at Big (udp_bytes d) 2 ≡ d.port
-unfolding u16_at
+port_back : (d : WrittenDatagram) → u16_in Big (udp_bytes d) 2 ≡ d.port
+unfolding u16_in
 port_back d = two_back d.port
 
-bytes_back : (d : WrittenDatagram) → bytes_at (udp_bytes d) 8 (u16_at Big (udp_bytes d) 4 - 8) ≡ d.bytes
-unfolding u16_at
+bytes_back : (d : WrittenDatagram) → bytes_at (udp_bytes d) 8 (u16_in Big (udp_bytes d) 4 - 8) ≡ d.bytes
+unfolding u16_in
 bytes_back d =
     let len : (8 + length d.bytes) / 256 * 256 + (8 + length d.bytes) % 256 - 8 ≡ length d.bytes = omega arith in
     front_all d.bytes _ len
@@ -56,8 +56,8 @@ record ReadsAs (version : IpVersion) (packet : List ℕ) (address : Address) (d 
 reads_as : (version : IpVersion) (packet : List ℕ) (address : Address) (d : WrittenDatagram) → 8 + length d.bytes < 65536 → IsIp version packet → obstacle_in version packet ≡ None → packet_len version packet ≤ length packet → segment_in version packet ≡ udp_bytes d → destination_in version packet ≡ address → ReadsAs version packet address d
 reads_as version packet address d fits ip clear whole segment destination =
     let P : List ℕ → Type 0 = λ x. IsUdp x in
-    let port : u16_at Big (segment_in version packet) 2 ≡ d.port = ap (λ (x : List ℕ). u16_at Big x 2) segment ∙ port_back d in
-    let bytes : bytes_at (segment_in version packet) 8 (u16_at Big (segment_in version packet) 4 - 8) ≡ d.bytes = ap (λ (x : List ℕ). bytes_at x 8 (u16_at Big x 4 - 8)) segment ∙ bytes_back d in
+    let port : u16_in Big (segment_in version packet) 2 ≡ d.port = ap (λ (x : List ℕ). u16_in Big x 2) segment ∙ port_back d in
+    let bytes : bytes_at (segment_in version packet) 8 (u16_in Big (segment_in version packet) 4 - 8) ≡ d.bytes = ap (λ (x : List ℕ). bytes_at x 8 (u16_in Big x 4 - 8)) segment ∙ bytes_back d in
     record {
       udp = record { ip = ip; clear = clear; whole = whole; udp = subst P (sym segment) (is_udp d fits) };
       is = λ i. record { address = destination i; port = port i; bytes = bytes i };
@@ -101,12 +101,12 @@ length-four p d filling h =
     omega (arith, length-append (ipv4_bytes p d) filling, length-append p.source (p.destination ++ (p.options ++ udp_bytes d)), length-append p.destination (p.options ++ udp_bytes d), length-append p.options (udp_bytes d), length-udp d)
 
 four_clear : (p : WrittenIpv4) (d : WrittenDatagram) (filling : List ℕ) → (keep : Bool) → p.keep_whole ≡ keep → obstacle_in V4 (ipv4_bytes p d ++ filling) ≡ None
-unfolding u16_at
+unfolding u16_in
 four_clear p d filling true e = ap (λ (b : Bool). if ((if b then 64 else 0) * 256 + 0) % 16384 == 0 then None else Some Fragment) e
 four_clear p d filling false e = ap (λ (b : Bool). if ((if b then 64 else 0) * 256 + 0) % 16384 == 0 then None else Some Fragment) e
 
 four_back : (p : WrittenIpv4) (d : WrittenDatagram) (filling : List ℕ) → IsWrittenIpv4 p d → ReadsAs V4 (ipv4_bytes p d ++ filling) (addresses.V4 p.destination) d
-unfolding u16_at
+unfolding u16_in
 four_back p d filling h =
     let packet : List ℕ = ipv4_bytes p d ++ filling in
     let few = h.few in
@@ -151,13 +151,13 @@ length-six p d filling h =
     omega (arith, length-append (ipv6_bytes p d) filling, length-append p.source (p.destination ++ udp_bytes d), length-append p.destination (udp_bytes d), length-udp d)
 
 six_back : (p : WrittenIpv6) (d : WrittenDatagram) (filling : List ℕ) → IsWrittenIpv6 p d → ReadsAs V6 (ipv6_bytes p d ++ filling) (addresses.V6 p.destination) d
-unfolding u16_at
+unfolding u16_in
 six_back p d filling h =
     let packet : List ℕ = ipv6_bytes p d ++ filling in
     let class = h.class_high in
     let fits = h.fits in
     let len = length-six p d filling h in
-    let whole : u16_at Big packet 4 ≡ 8 + length d.bytes = two_back (8 + length d.bytes) in
+    let whole : u16_in Big packet 4 ≡ 8 + length d.bytes = two_back (8 + length d.bytes) in
     let number : (96 + p.class_high) / 16 ≡ 6 = omega arith in
     let count : packet_len V6 packet - 40 ≡ length (udp_bytes d) = omega (arith, length-udp d) in
     reads_as V6 packet (addresses.V6 p.destination) d (omega arith)
@@ -170,8 +170,8 @@ six_back p d filling h =
     (ap (λ (x : List ℕ). addresses.V6 x) (six_destination p d filling h))
 
 -- Ethernet: a number behind the addresses
-number_after : (xs ys : List ℕ) (n k : ℕ) → length xs ≡ n → u16_at Big (xs ++ ys) (n + k) ≡ u16_at Big ys k
-unfolding u16_at
+number_after : (xs ys : List ℕ) (n k : ℕ) → length xs ≡ n → u16_in Big (xs ++ ys) (n + k) ≡ u16_in Big ys k
+unfolding u16_in
 number_after xs ys n k len =
     let at : (j : ℕ) → slice_index (xs ++ ys) (n + j) ≡ slice_index ys j = λ j. ap (λ (m : ℕ). slice_index (xs ++ ys) (m + j)) (sym len) ∙ get_or-append-add xs ys j 0 in
     let further : n + k + 1 ≡ n + (k + 1) = omega arith in
@@ -186,8 +186,8 @@ record IsType (type : ℕ) (version : IpVersion) : Type 0 where
 
 -- what follows the addresses says
 record SaysType (rest : List ℕ) (count : ℕ) (type : ℕ) (packet : List ℕ) : Type 0 where
-  tags : (if is_tag (u16_at Big rest 0) then (if is_tag (u16_at Big rest 4) then 2 else 1) else 0) ≡ count
-  type_is : u16_at Big rest (4 * count) ≡ type
+  tags : (if is_tag (u16_in Big rest 0) then (if is_tag (u16_in Big rest 4) then 2 else 1) else 0) ≡ count
+  type_is : u16_in Big rest (4 * count) ≡ type
   packet_is : drop (2 + 4 * count) rest ≡ packet
   long : 2 + 4 * count ≤ length rest
 
@@ -196,11 +196,11 @@ tag_is true = refl
 tag_is false = refl
 
 says_type : (tags : List Tag) (type : ℕ) (version : IpVersion) (packet : List ℕ) → length tags ≤ 2 → IsType type version → SaysType (flat_map tag_bytes tags ++ (u16_bytes Big type ++ packet)) (length tags) type packet
-unfolding u16_at
+unfolding u16_in
 says_type [] type version packet few h =
     let none : is_tag (type / 256 * 256 + type % 256) ≡ false = ap is_tag (two_back type) ∙ h.no_tag in
     record {
-      tags = ap (λ (b : Bool). if b then (if is_tag (u16_at Big (u16_bytes Big type ++ packet) 4) then 2 else 1) else 0) none;
+      tags = ap (λ (b : Bool). if b then (if is_tag (u16_in Big (u16_bytes Big type ++ packet) 4) then 2 else 1) else 0) none;
       type_is = two_back type;
       packet_is = refl;
       long = omega arith;
@@ -231,23 +231,23 @@ ethernet_back heads tags type version packet h t =
     let rest : List ℕ = flat_map tag_bytes tags ++ (u16_bytes Big type ++ packet) in
     let says = says_type tags type version packet h.few t in
     let frame : List ℕ = heads ++ rest in
-    let first : u16_at Big frame 12 ≡ u16_at Big rest 0 = number_after heads rest 12 0 h.twelve in
-    let second : u16_at Big frame 16 ≡ u16_at Big rest 4 = number_after heads rest 12 4 h.twelve in
+    let first : u16_in Big frame 12 ≡ u16_in Big rest 0 = number_after heads rest 12 0 h.twelve in
+    let second : u16_in Big frame 16 ≡ u16_in Big rest 4 = number_after heads rest 12 4 h.twelve in
     let count : tags_of frame ≡ length tags =
-    ap (λ (x : ℕ). if is_tag x then (if is_tag (u16_at Big frame 16) then 2 else 1) else 0) first
-    ∙ ap (λ (x : ℕ). if is_tag (u16_at Big rest 0) then (if is_tag x then 2 else 1) else 0) second
+    ap (λ (x : ℕ). if is_tag x then (if is_tag (u16_in Big frame 16) then 2 else 1) else 0) first
+    ∙ ap (λ (x : ℕ). if is_tag (u16_in Big rest 0) then (if is_tag x then 2 else 1) else 0) second
     ∙ says.tags in
     let len : length frame ≡ 12 + length rest = length-append heads rest ∙ ap (λ (n : ℕ). n + length rest) h.twelve in
     let long = says.long in
-    let type_at : u16_at Big frame (12 + 4 * tags_of frame) ≡ type =
-    ap (λ (n : ℕ). u16_at Big frame (12 + 4 * n)) count ∙ number_after heads rest 12 (4 * length tags) h.twelve ∙ says.type_is in
+    let type_at : u16_in Big frame (12 + 4 * tags_of frame) ≡ type =
+    ap (λ (n : ℕ). u16_in Big frame (12 + 4 * n)) count ∙ number_after heads rest 12 (4 * length tags) h.twelve ∙ says.type_is in
     let where_packet : 14 + 4 * tags_of frame ≡ 12 + (2 + 4 * length tags) = omega arith in (
       record { there = omega arith; version_is = ap by_ether_type type_at ∙ t.version_is },
       ap (λ (n : ℕ). drop n frame) where_packet ∙ skip heads rest 12 (2 + 4 * length tags) h.twelve ∙ says.packet_is,
     )
 
 carried : (heads : List ℕ) (tags : List Tag) (type : ℕ) (version : IpVersion) (packet : List ℕ) (address : Address) (d : WrittenDatagram) → IsWrittenEthernet heads tags → IsType type version → ReadsAs version packet address d
-    → Carries 1 (heads ++ (flat_map tag_bytes tags ++ (u16_bytes Big type ++ packet))) (record { address = address; port = d.port; bytes = d.bytes })
+    → CarriesDatagram 1 (heads ++ (flat_map tag_bytes tags ++ (u16_bytes Big type ++ packet))) (record { address = address; port = d.port; bytes = d.bytes })
 carried heads tags type version packet address d h t reads =
     let found = ethernet_back heads tags type version packet h t in
     let P : List ℕ → Type 0 = λ x. HasUdp version x in
@@ -260,8 +260,8 @@ carried heads tags type version packet address d h t reads =
       is = sym (ap (λ (x : List ℕ). datagram_in version x) found.1 ∙ reads.is);
     }
 
-pub ipv4_back : (heads : List ℕ) (tags : List Tag) (p : WrittenIpv4) (d : WrittenDatagram) (filling : List ℕ) → IsWrittenEthernet heads tags → IsWrittenIpv4 p d → Carries 1 (ethernet_bytes heads tags 2048 (ipv4_bytes p d) filling) (record { address = addresses.V4 p.destination; port = d.port; bytes = d.bytes })
+pub ipv4_back : (heads : List ℕ) (tags : List Tag) (p : WrittenIpv4) (d : WrittenDatagram) (filling : List ℕ) → IsWrittenEthernet heads tags → IsWrittenIpv4 p d → CarriesDatagram 1 (ethernet_bytes heads tags 2048 (ipv4_bytes p d) filling) (record { address = addresses.V4 p.destination; port = d.port; bytes = d.bytes })
 ipv4_back heads tags p d filling h k = carried heads tags 2048 V4 (ipv4_bytes p d ++ filling) (addresses.V4 p.destination) d h (record { small = omega arith; no_tag = refl; version_is = refl }) (four_back p d filling k)
 
-pub ipv6_back : (heads : List ℕ) (tags : List Tag) (p : WrittenIpv6) (d : WrittenDatagram) (filling : List ℕ) → IsWrittenEthernet heads tags → IsWrittenIpv6 p d → Carries 1 (ethernet_bytes heads tags 34525 (ipv6_bytes p d) filling) (record { address = addresses.V6 p.destination; port = d.port; bytes = d.bytes })
+pub ipv6_back : (heads : List ℕ) (tags : List Tag) (p : WrittenIpv6) (d : WrittenDatagram) (filling : List ℕ) → IsWrittenEthernet heads tags → IsWrittenIpv6 p d → CarriesDatagram 1 (ethernet_bytes heads tags 34525 (ipv6_bytes p d) filling) (record { address = addresses.V6 p.destination; port = d.port; bytes = d.bytes })
 ipv6_back heads tags p d filling h k = carried heads tags 34525 V6 (ipv6_bytes p d ++ filling) (addresses.V6 p.destination) d h (record { small = omega arith; no_tag = refl; version_is = refl }) (six_back p d filling k)

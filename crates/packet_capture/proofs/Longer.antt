@@ -12,19 +12,19 @@ use Rattle.packet_capture.specs.declared.savefile.Magic.{Magic}
 use Rattle.packet_capture.specs.declared.savefile.Savefile.{Savefile}
 use Rattle.packet_capture.specs.declared.stop.Stop.{Stop}
 use Rattle.packet_capture.specs.declared.stop.Stop.TheVariants.{Bad, Wants}
-use Rattle.packet_capture.specs.Fields.{u16_at, u32_at, bytes_at}
+use Rattle.packet_capture.specs.Fields.{u16_in, u32_in, bytes_at}
 use Rattle.packet_capture.specs.Frames.{FrameContent}
 use Rattle.packet_capture.specs.Savefiles.{magic_of, magic_at, IsVersion, BeginsSavefile, HasOtherVersion, captured_at, IsPacketRecord}
 use Rattle.packet_capture.specs.Blocks.{order_at, IsBlockLen, IsBlock}
 use Rattle.packet_capture.specs.Stops.{StopsInHeader, StopsInRecord, StopsInLen, StopsInBlock}
-use Rattle.packet_capture.specs.Captures.{Context, PieceContent, IsRecordPiece, IsBlockPiece, IsPieceIn, IsPiece, StopsInSection, StopsIn, StopsAt}
+use Rattle.packet_capture.specs.Captures.{Context, PieceContent, IsRecordPiece, IsBlockPiece, IsPieceIn, IsPiece, StopsInSection, StopsIn, StopsReading}
 
 -- numbers and bytes
 index_longer : (xs more : List ℕ) (i : ℕ) → i < length xs → slice_index (xs ++ more) i ≡ slice_index xs i
 index_longer xs more i h = get_or-append xs more 0 i h
 
-u16_longer : (order : ByteOrder) (xs more : List ℕ) (at : ℕ) → at + 2 ≤ length xs → u16_at order (xs ++ more) at ≡ u16_at order xs at
-unfolding u16_at
+u16_longer : (order : ByteOrder) (xs more : List ℕ) (at : ℕ) → at + 2 ≤ length xs → u16_in order (xs ++ more) at ≡ u16_in order xs at
+unfolding u16_in
 u16_longer Big xs more at h =
     ap (λ (n : ℕ). n * 256 + slice_index (xs ++ more) (at + 1)) (index_longer xs more at (omega arith))
     ∙ ap (λ (n : ℕ). slice_index xs at * 256 + n) (index_longer xs more (at + 1) (omega arith))
@@ -32,14 +32,14 @@ u16_longer Little xs more at h =
     ap (λ (n : ℕ). n * 256 + slice_index (xs ++ more) at) (index_longer xs more (at + 1) (omega arith))
     ∙ ap (λ (n : ℕ). slice_index xs (at + 1) * 256 + n) (index_longer xs more at (omega arith))
 
-u32_longer : (order : ByteOrder) (xs more : List ℕ) (at : ℕ) → at + 4 ≤ length xs → u32_at order (xs ++ more) at ≡ u32_at order xs at
-unfolding u32_at
+u32_longer : (order : ByteOrder) (xs more : List ℕ) (at : ℕ) → at + 4 ≤ length xs → u32_in order (xs ++ more) at ≡ u32_in order xs at
+unfolding u32_in
 u32_longer Big xs more at h =
-    ap (λ (n : ℕ). n * 65536 + u16_at Big (xs ++ more) (at + 2)) (u16_longer Big xs more at (omega arith))
-    ∙ ap (λ (n : ℕ). u16_at Big xs at * 65536 + n) (u16_longer Big xs more (at + 2) (omega arith))
+    ap (λ (n : ℕ). n * 65536 + u16_in Big (xs ++ more) (at + 2)) (u16_longer Big xs more at (omega arith))
+    ∙ ap (λ (n : ℕ). u16_in Big xs at * 65536 + n) (u16_longer Big xs more (at + 2) (omega arith))
 u32_longer Little xs more at h =
-    ap (λ (n : ℕ). n * 65536 + u16_at Little (xs ++ more) at) (u16_longer Little xs more (at + 2) (omega arith))
-    ∙ ap (λ (n : ℕ). u16_at Little xs (at + 2) * 65536 + n) (u16_longer Little xs more at (omega arith))
+    ap (λ (n : ℕ). n * 65536 + u16_in Little (xs ++ more) at) (u16_longer Little xs more (at + 2) (omega arith))
+    ∙ ap (λ (n : ℕ). u16_in Little xs (at + 2) * 65536 + n) (u16_longer Little xs more at (omega arith))
 
 bytes_longer : (xs more : List ℕ) (at len : ℕ) → at + len ≤ length xs → bytes_at (xs ++ more) at len ≡ bytes_at xs at len
 bytes_longer xs more at len h =
@@ -60,8 +60,8 @@ magic_by big little =
 magic_longer : (xs more : List ℕ) → 4 ≤ length xs → magic_at (xs ++ more) ≡ magic_at xs
 unfolding magic_by
 magic_longer xs more h =
-    ap (λ (n : ℕ). magic_by n (u32_at Little (xs ++ more) 0)) (u32_longer Big xs more 0 h)
-    ∙ ap (λ (n : ℕ). magic_by (u32_at Big xs 0) n) (u32_longer Little xs more 0 h)
+    ap (λ (n : ℕ). magic_by n (u32_in Little (xs ++ more) 0)) (u32_longer Big xs more 0 h)
+    ∙ ap (λ (n : ℕ). magic_by (u32_in Big xs 0) n) (u32_longer Little xs more 0 h)
 
 version_longer : (m : Magic) (xs more : List ℕ) → 24 ≤ length xs → IsVersion m xs → IsVersion m (xs ++ more)
 version_longer m xs more h v = (u16_longer m.order xs more 4 (omega arith) ∙ v.0, u16_longer m.order xs more 6 (omega arith) ∙ v.1)
@@ -109,7 +109,7 @@ record_longer s xs more f h =
       short = omega arith;
       whole = let all = longer xs more (16 + captured_at s xs) whole in omega arith;
       link = h.link;
-      time = h.time ∙ ap (λ (n : ℕ). T n (u32_at order xs 4)) (sym seconds) ∙ ap (λ (n : ℕ). T (u32_at order (xs ++ more) 0) n) (sym parts);
+      time = h.time ∙ ap (λ (n : ℕ). T n (u32_in order xs 4)) (sym seconds) ∙ ap (λ (n : ℕ). T (u32_in order (xs ++ more) 0) n) (sym parts);
       wire_len = h.wire_len ∙ sym (u32_longer order xs more 12 (omega arith));
       bytes_are = h.bytes_are ∙ sym (ap (λ (n : ℕ). bytes_at (xs ++ more) 16 n) captured ∙ bytes_longer xs more 16 (captured_at s xs) whole);
     }
@@ -124,14 +124,14 @@ order_by section type big little =
 order_longer : (section : ByteOrder) (xs more : List ℕ) → 12 ≤ length xs → order_at section (xs ++ more) ≡ order_at section xs
 unfolding order_by
 order_longer section xs more h =
-    ap (λ (n : ℕ). order_by section n (u32_at Big (xs ++ more) 8) (u32_at Little (xs ++ more) 8)) (u32_longer Big xs more 0 (omega arith))
-    ∙ ap (λ (n : ℕ). order_by section (u32_at Big xs 0) n (u32_at Little (xs ++ more) 8)) (u32_longer Big xs more 8 (omega arith))
-    ∙ ap (λ (n : ℕ). order_by section (u32_at Big xs 0) (u32_at Big xs 8) n) (u32_longer Little xs more 8 (omega arith))
+    ap (λ (n : ℕ). order_by section n (u32_in Big (xs ++ more) 8) (u32_in Little (xs ++ more) 8)) (u32_longer Big xs more 0 (omega arith))
+    ∙ ap (λ (n : ℕ). order_by section (u32_in Big xs 0) n (u32_in Little (xs ++ more) 8)) (u32_longer Big xs more 8 (omega arith))
+    ∙ ap (λ (n : ℕ). order_by section (u32_in Big xs 0) (u32_in Big xs 8) n) (u32_longer Little xs more 8 (omega arith))
 
 block_longer : (section : ByteOrder) (xs more : List ℕ) (order : ByteOrder) (block : List ℕ) → IsBlock section xs order block → IsBlock section (xs ++ more) order block
 block_longer section xs more order block h =
     let there = h.there in
-    let len : u32_at order (xs ++ more) 4 ≡ u32_at order xs 4 = u32_longer order xs more 4 (omega arith) in
+    let len : u32_in order (xs ++ more) 4 ≡ u32_in order xs 4 = u32_longer order xs more 4 (omega arith) in
     let P : ℕ → Type 0 = λ k. IsBlockLen k in
     let least = h.counted.0 in
     let whole = h.whole in
@@ -141,9 +141,9 @@ block_longer section xs more order block h =
       order_is = order_longer section xs more there ∙ h.order_is;
       counted = subst P (sym len) h.counted;
       short = omega arith;
-      whole = let all = longer xs more (u32_at order xs 4) whole in omega arith;
-      again = ap (λ (k : ℕ). u32_at order (xs ++ more) (k - 4)) len ∙ u32_longer order xs more (u32_at order xs 4 - 4) (omega arith) ∙ h.again ∙ sym len;
-      block_is = h.block_is ∙ sym (ap (λ (k : ℕ). take k (xs ++ more)) len ∙ take-append-le (u32_at order xs 4) xs more whole);
+      whole = let all = longer xs more (u32_in order xs 4) whole in omega arith;
+      again = ap (λ (k : ℕ). u32_in order (xs ++ more) (k - 4)) len ∙ u32_longer order xs more (u32_in order xs 4 - 4) (omega arith) ∙ h.again ∙ sym len;
+      block_is = h.block_is ∙ sym (ap (λ (k : ℕ). take k (xs ++ more)) len ∙ take-append-le (u32_in order xs 4) xs more whole);
     }
 
 block_piece_longer : (section : ByteOrder) (before after : Context) (xs more : List ℕ) (p : PieceContent) → IsBlockPiece section before xs p after → IsBlockPiece section before (xs ++ more) p after
@@ -214,24 +214,24 @@ record_fault_longer s xs more f (inr (inr h)) = absurd (wanted f (16 + captured_
 
 len_fault_longer : (order : ByteOrder) (xs more : List ℕ) (f : CaptureFault) → 12 ≤ length xs → StopsInLen order xs (Bad f) → StopsInLen order (xs ++ more) (Bad f)
 len_fault_longer order xs more f there (inl h) =
-    let len : u32_at order (xs ++ more) 4 ≡ u32_at order xs 4 = u32_longer order xs more 4 (omega arith) in
+    let len : u32_in order (xs ++ more) 4 ≡ u32_in order xs 4 = u32_longer order xs more 4 (omega arith) in
     let P : ℕ → Type 0 = λ k. IsBlockLen k in
     inl ((λ c. h.0 (subst P len c)), h.1)
 len_fault_longer order xs more f there (inr (inl h)) =
-    let len : u32_at order (xs ++ more) 4 ≡ u32_at order xs 4 = u32_longer order xs more 4 (omega arith) in
+    let len : u32_in order (xs ++ more) 4 ≡ u32_in order xs 4 = u32_longer order xs more 4 (omega arith) in
     let P : ℕ → Type 0 = λ k. IsBlockLen k in
     let long = h.1 in
     inr (inl (subst P (sym len) h.0, omega arith, h.2))
-len_fault_longer order xs more f there (inr (inr (inl h))) = absurd (wanted f (u32_at order xs 4) h.3)
+len_fault_longer order xs more f there (inr (inr (inl h))) = absurd (wanted f (u32_in order xs 4) h.3)
 len_fault_longer order xs more f there (inr (inr (inr h))) =
-    let len : u32_at order (xs ++ more) 4 ≡ u32_at order xs 4 = u32_longer order xs more 4 (omega arith) in
+    let len : u32_in order (xs ++ more) 4 ≡ u32_in order xs 4 = u32_longer order xs more 4 (omega arith) in
     let P : ℕ → Type 0 = λ k. IsBlockLen k in
     let least = h.0.0 in
     let short = h.1 in
     let whole = h.2 in
-    let all = longer xs more (u32_at order xs 4) whole in
-    let last : u32_at order (xs ++ more) (u32_at order (xs ++ more) 4 - 4) ≡ u32_at order xs (u32_at order xs 4 - 4) =
-    ap (λ (k : ℕ). u32_at order (xs ++ more) (k - 4)) len ∙ u32_longer order xs more (u32_at order xs 4 - 4) (omega arith) in
+    let all = longer xs more (u32_in order xs 4) whole in
+    let last : u32_in order (xs ++ more) (u32_in order (xs ++ more) 4 - 4) ≡ u32_in order xs (u32_in order xs 4 - 4) =
+    ap (λ (k : ℕ). u32_in order (xs ++ more) (k - 4)) len ∙ u32_longer order xs more (u32_in order xs 4 - 4) (omega arith) in
     inr (inr (inr (subst P (sym len) h.0, omega arith, omega arith, (λ e. h.3 (sym last ∙ e ∙ len)), h.4)))
 
 block_fault_longer : (section : ByteOrder) (xs more : List ℕ) (f : CaptureFault) → StopsInBlock section xs (Bad f) → StopsInBlock section (xs ++ more) (Bad f)
@@ -261,5 +261,5 @@ fault_longer_in Start before xs more f (inr (inr (inr h))) =
 fault_longer_in (InSavefile s) before xs more f h = record_fault_longer s xs more f h
 fault_longer_in (InSection order) before xs more f h = section_fault_longer order before xs more f h
 
-pub fault_longer : (before : Context) (xs more : List ℕ) (f : CaptureFault) → StopsAt before xs (Bad f) → StopsAt before (xs ++ more) (Bad f)
+pub fault_longer : (before : Context) (xs more : List ℕ) (f : CaptureFault) → StopsReading before xs (Bad f) → StopsReading before (xs ++ more) (Bad f)
 fault_longer before xs more f h = fault_longer_in before.format before xs more f h

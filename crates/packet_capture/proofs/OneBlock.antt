@@ -10,11 +10,11 @@ use Rattle.packet_capture.specs.declared.content.BlockKind.TheVariants.{SectionH
 use Rattle.packet_capture.specs.declared.fault.CaptureFault.{CaptureFault}
 use Rattle.packet_capture.specs.declared.fault.CaptureFault.TheVariants.{UnknownVersion, ShortBlock, UnknownInterface, FramePastBlock, OptionPastBlock}
 use Rattle.std.proofs.lemmas.List.{length-take}
-use Rattle.packet_capture.specs.Fields.{u32_at}
+use Rattle.packet_capture.specs.Fields.{u32_in}
 use Rattle.packet_capture.specs.Frames.{FrameContent}
-use Rattle.packet_capture.specs.Interfaces.{Setting, IsAtFront, after_option, AreOptions, CutAfter, with_options, bare_interface, options_in, Describes}
+use Rattle.packet_capture.specs.Interfaces.{OptionField, IsAtFront, after_option, AreOptions, CutAfter, with_options, bare_interface, options_in, Describes}
 use Rattle.packet_capture.specs.Blocks.{order_at, IsBlock}
-use Rattle.packet_capture.specs.Contents.{fixed_len, block_kind, IsPacketKind, IsSectionVersion, interface_in, captured_in, frame_in, HasFrame, BlockEvent, section_begins, interface_added, frame_came, passed_over, Says, HasUnknownInterface, HasCutFrame, HasBlockFault}
+use Rattle.packet_capture.specs.Contents.{fixed_len, block_kind, IsPacketKind, IsSectionVersion, interface_in, captured_in, frame_in, HasFrame, BlockEvent, section_begins, interface_added, frame_came, passed_over, BlockSays, HasUnknownInterface, HasCutFrame, HasBlockFault}
 use Rattle.packet_capture.specs.Stops.{StopsInLen, StopsInBlock}
 
 pub same_order : (section : ByteOrder) (bytes : List ℕ) (o p : ByteOrder) → order_at section bytes ≡ Some o → order_at section bytes ≡ Some p → o ≡ p
@@ -22,7 +22,7 @@ same_order section bytes o p a b = same_Some o p (sym a ∙ b)
 
 pub same_block : (section : ByteOrder) (bytes : List ℕ) (o p : ByteOrder) (x y : List ℕ) → IsBlock section bytes o x → IsBlock section bytes p y → x ≡ y
 same_block section bytes o p x y a b =
-    a.block_is ∙ ap (λ (r : ByteOrder). take (u32_at r bytes 4) bytes) (same_order section bytes o p a.order_is b.order_is) ∙ sym b.block_is
+    a.block_is ∙ ap (λ (r : ByteOrder). take (u32_in r bytes 4) bytes) (same_order section bytes o p a.order_is b.order_is) ∙ sym b.block_is
 
 same_len_stop : (order : ByteOrder) (bytes : List ℕ) (s t : Stop) → StopsInLen order bytes s → StopsInLen order bytes t → s ≡ t
 same_len_stop order bytes s t (inl h) (inl k) = h.1 ∙ sym k.1
@@ -70,22 +70,22 @@ no_block_stop section bytes o x s b (inr (inr k)) =
     no_len_stop section bytes o x s b (stop_at bytes s k.1.0 o (same_order section bytes k.1.0 o k.1.1 b.order_is) k.1.2)
 
 -- options
-same_setting : (order : ByteOrder) (bytes : List ℕ) (a b : Setting) → IsAtFront order bytes a → IsAtFront order bytes b → a ≡ b
+same_setting : (order : ByteOrder) (bytes : List ℕ) (a b : OptionField) → IsAtFront order bytes a → IsAtFront order bytes b → a ≡ b
 same_setting order bytes a b p q =
     let code : a.code ≡ b.code = p.code ∙ sym q.code in
     let value : a.value ≡ b.value = p.value ∙ sym q.value in
     λ i. record { code = code i; value = value i }
 
-same_options : (order : ByteOrder) (bytes : List ℕ) (xs ys : List Setting) → AreOptions order bytes xs → AreOptions order bytes ys → xs ≡ ys
+same_options : (order : ByteOrder) (bytes : List ℕ) (xs ys : List OptionField) → AreOptions order bytes xs → AreOptions order bytes ys → xs ≡ ys
 same_options order bytes [] [] h k = refl
 same_options order bytes [] (y ∷ ys) h k = let a = h k.0.there in let b = k.0.code in let c = k.0.goes_on in absurd (omega arith)
 same_options order bytes (x ∷ xs) [] h k = let a = k h.0.there in let b = h.0.code in let c = h.0.goes_on in absurd (omega arith)
 same_options order bytes (x ∷ xs) (y ∷ ys) h k =
     let first : x ≡ y = same_setting order bytes x y h.0 k.0 in
     let others : xs ≡ ys = same_options order (after_option order bytes) xs ys h.1 k.1 in
-    ap (λ (z : Setting). z ∷ xs) first ∙ ap (λ (zs : List Setting). y ∷ zs) others
+    ap (λ (z : OptionField). z ∷ xs) first ∙ ap (λ (zs : List OptionField). y ∷ zs) others
 
-whole_or_cut : (order : ByteOrder) (bytes : List ℕ) (xs ys : List Setting) → AreOptions order bytes xs → CutAfter order bytes ys → ⊥
+whole_or_cut : (order : ByteOrder) (bytes : List ℕ) (xs ys : List OptionField) → AreOptions order bytes xs → CutAfter order bytes ys → ⊥
 whole_or_cut order bytes [] [] h k = let a = h k.0 in let b = k.1 in absurd (omega arith)
 whole_or_cut order bytes [] (y ∷ ys) h k = let a = h k.0.there in let b = k.0.code in let c = k.0.goes_on in absurd (omega arith)
 whole_or_cut order bytes (x ∷ xs) [] h k = let a = h.0.within in let b = k.2 in absurd (omega arith)
@@ -93,7 +93,7 @@ whole_or_cut order bytes (x ∷ xs) (y ∷ ys) h k = whole_or_cut order (after_o
 
 pub same_interface : (order : ByteOrder) (block : List ℕ) (i j : Interface) → Describes order block i → Describes order block j → i ≡ j
 same_interface order block i j a b =
-    a.1.is ∙ ap (λ (os : List Setting). with_options order (bare_interface order block) os) (same_options order (options_in block) a.1.options b.1.options a.1.are b.1.are) ∙ sym b.1.is
+    a.1.is ∙ ap (λ (os : List OptionField). with_options order (bare_interface order block) os) (same_options order (options_in block) a.1.options b.1.options a.1.are b.1.are) ∙ sym b.1.is
 
 pub same_frame : (interfaces : List Interface) (order : ByteOrder) (block : List ℕ) (f g : FrameContent) → HasFrame interfaces order block f → HasFrame interfaces order block g → f ≡ g
 same_frame interfaces order block f g a b =
@@ -117,7 +117,7 @@ not_packet k j e never is = let P : BlockKind → Type 0 = λ x. IsPacketKind x 
 same_kind : (a b c : BlockKind) → a ≡ b → a ≡ c → b ≡ c
 same_kind a b c p q = sym p ∙ q
 
-pub same_event : (interfaces : List Interface) (order : ByteOrder) (block : List ℕ) (s t : BlockEvent) → Says interfaces order block s → Says interfaces order block t → s ≡ t
+pub same_event : (interfaces : List Interface) (order : ByteOrder) (block : List ℕ) (s t : BlockEvent) → BlockSays interfaces order block s → BlockSays interfaces order block t → s ≡ t
 same_event interfaces order block section_begins section_begins h k = refl
 same_event interfaces order block section_begins (interface_added j) h k = let e : SectionHeader ≡ Description = same_kind _ _ _ h.0 k.0 in let n = ap place e in absurd (omega arith)
 same_event interfaces order block section_begins (frame_came g) h k = absurd (not_packet k.kind SectionHeader (k.kind_is ∙ h.0) (λ x. x) k.is_packet)
@@ -220,11 +220,11 @@ other_says is order block g kind there (inr (inr (inl k))) = let n = ap place (s
 other_says is order block g kind there (inr (inr (inr (inl k)))) = not_packet k.0.kind Unread (k.0.kind_is ∙ kind) (λ x. x) k.0.is_packet
 other_says is order block g kind there (inr (inr (inr (inr k)))) = not_packet k.0.kind Unread (k.0.kind_is ∙ kind) (λ x. x) k.0.is_packet
 
-pub no_fault_with_event : (is : List Interface) (order : ByteOrder) (block : List ℕ) (s : BlockEvent) (g : CaptureFault) → 12 ≤ length block → Says is order block s → HasBlockFault is order block g → ⊥
+pub no_fault_with_event : (is : List Interface) (order : ByteOrder) (block : List ℕ) (s : BlockEvent) (g : CaptureFault) → 12 ≤ length block → BlockSays is order block s → HasBlockFault is order block g → ⊥
 no_fault_with_event is order block section_begins g there h k = section_says is order block g h.0 h.1 h.2 k
 no_fault_with_event is order block (interface_added i) g there h k = interface_says is order block i g h.0 h.1 k
 no_fault_with_event is order block (frame_came f) g there h k = frame_says is order block f g h k
 no_fault_with_event is order block passed_over g there h k = other_says is order block g h there k
 
 pub block_len : (section : ByteOrder) (bytes : List ℕ) (order : ByteOrder) (block : List ℕ) → IsBlock section bytes order block → 12 ≤ length block
-block_len section bytes order block b = let a = b.counted.0 in let w = b.whole in let e = ap (λ (x : List ℕ). length x) b.block_is in omega (arith, length-take (u32_at order bytes 4) bytes)
+block_len section bytes order block b = let a = b.counted.0 in let w = b.whole in let e = ap (λ (x : List ℕ). length x) b.block_is in omega (arith, length-take (u32_in order bytes 4) bytes)

@@ -9,7 +9,7 @@ use Rattle.packet_capture.specs.declared.fault.FrameFault.{FrameFault}
 use Rattle.packet_capture.specs.declared.fault.FrameFault.TheVariants.{ShortFrame, BadIpHeader, BadUdpLength}
 use Rattle.packet_capture.specs.Links.{number_of, version_in, packet_in}
 use Rattle.packet_capture.specs.Packets.{IsIp, IsUdp, least_len, packet_len, obstacle_in, segment_in}
-use Rattle.packet_capture.specs.Datagrams.{Content, HasPacket, HasUdp, Carries, datagram_in}
+use Rattle.packet_capture.specs.Datagrams.{DatagramContent, HasPacket, HasUdp, CarriesDatagram, datagram_in}
 use Rattle.packet_capture.specs.FrameFaults.{HasLinkFault, IsClear, HasPacketFault, HasFrameFault}
 
 -- the link type of a number
@@ -37,7 +37,7 @@ same_link n a b p q = same_Some a b (sym (by_number a) ∙ ap link_by (sym p ∙
 same_version : (link : LinkType) (frame : List ℕ) (a b : IpVersion) → HasPacket link frame a → HasPacket link frame b → a ≡ b
 same_version link frame a b p q = same_Some a b (sym p.version_is ∙ q.version_is)
 
-pub same_datagram : (n : ℕ) (frame : List ℕ) (d e : Content) → Carries n frame d → Carries n frame e → d ≡ e
+pub same_datagram : (n : ℕ) (frame : List ℕ) (d e : DatagramContent) → CarriesDatagram n frame d → CarriesDatagram n frame e → d ≡ e
 same_datagram n frame d e a b =
     let link : a.link ≡ b.link = same_link n a.link b.link a.number_is b.number_is in
     let version : a.version ≡ b.version = same_Some a.version b.version (sym a.packet.version_is ∙ ap (λ (l : LinkType). version_in l frame) link ∙ b.packet.version_is) in
@@ -131,7 +131,7 @@ same_frame_fault n frame f g (inr (a, p, inr (v, h, x))) (inr (b, q, inr (w, k, 
     let d : v ≡ w = same_version b frame v w (packet_at frame v a b e h) k in
     two_packet_faults w (packet_in b frame) f g (fault_at frame f v w a b e d x) y
 
-pub no_frame_fault : (n : ℕ) (frame : List ℕ) (d : Content) (f : FrameFault) → Carries n frame d → HasFrameFault n frame f → ⊥
+pub no_frame_fault : (n : ℕ) (frame : List ℕ) (d : DatagramContent) (f : FrameFault) → CarriesDatagram n frame d → HasFrameFault n frame f → ⊥
 no_frame_fault n frame d f c (inl h) = h.1 c.link c.number_is
 no_frame_fault n frame d f c (inr (a, p, inl h)) =
     no_link_fault c.link frame c.version f c.packet (link_fault_at frame f a c.link (same_link n a c.link p c.number_is) h)

@@ -12,8 +12,8 @@ use Rattle.packet_capture.specs.declared.savefile.Savefile.{Savefile}
 use Rattle.packet_capture.specs.declared.stop.Stop.{Stop}
 use Rattle.packet_capture.specs.declared.stop.Stop.TheVariants.{Bad}
 use Rattle.packet_capture.specs.Frames.{FrameContent}
-use Rattle.packet_capture.specs.Contents.{BlockEvent, interface_added, Says, HasBlockFault}
-use Rattle.packet_capture.specs.Captures.{Context, PieceContent, IsHeaderPiece, IsRecordPiece, frame_in_event, interfaces_after, IsBlockPiece, IsPieceIn, IsPiece, IsOneTooMany, StopsInSection, StopsAtStart, StopsIn, StopsAt}
+use Rattle.packet_capture.specs.Contents.{BlockEvent, interface_added, BlockSays, HasBlockFault}
+use Rattle.packet_capture.specs.Captures.{Context, PieceContent, IsHeaderPiece, IsRecordPiece, frame_in_event, interfaces_after, IsBlockPiece, IsPieceIn, IsPiece, IsOneTooMany, StopsInSection, StopsAtStart, StopsIn, StopsReading}
 use Rattle.packet_capture.proofs.OneRecord.{same_savefile, no_header_stop, same_header_stop, same_record, no_record_stop, same_record_stop}
 use Rattle.packet_capture.proofs.OneBlock.{same_order, same_block, same_block_stop, no_block_stop, same_event, same_block_fault, no_fault_with_event, block_len}
 
@@ -34,10 +34,10 @@ same_record_piece s before bytes p q a b h k =
     (piece_is p q (h.len ∙ sym k.len) (h.frame_is ∙ ap S f ∙ sym k.frame_is), h.after_is ∙ sym k.after_is)
 
 -- a block's meaning in one order is that in the other, where they are one
-says_at : (is : List Interface) (o p : ByteOrder) (x y : List ℕ) (s : BlockEvent) → o ≡ p → x ≡ y → Says is o x s → Says is p y s
+says_at : (is : List Interface) (o p : ByteOrder) (x y : List ℕ) (s : BlockEvent) → o ≡ p → x ≡ y → BlockSays is o x s → BlockSays is p y s
 says_at is o p x y s e d h =
-    let P : ByteOrder → Type 0 = λ r. Says is r x s in
-    let Q : List ℕ → Type 0 = λ z. Says is p z s in
+    let P : ByteOrder → Type 0 = λ r. BlockSays is r x s in
+    let Q : List ℕ → Type 0 = λ z. BlockSays is p z s in
     subst Q d (subst P e h)
 
 fault_at : (is : List Interface) (o p : ByteOrder) (x y : List ℕ) (f : CaptureFault) → o ≡ p → x ≡ y → HasBlockFault is o x f → HasBlockFault is p y f
@@ -71,7 +71,7 @@ same_piece before a b bytes p q h k = same_piece_in before.format before bytes p
 abbrev content_fault : List Interface → ByteOrder → List ℕ → CaptureFault → Type 0
 content_fault is order block fault =
     HasBlockFault is order block fault
-    ⊎ ((event : BlockEvent) × Says is order block event × IsOneTooMany is event fault)
+    ⊎ ((event : BlockEvent) × BlockSays is order block event × IsOneTooMany is event fault)
 
 same_content_fault : (is : List Interface) (order : ByteOrder) (block : List ℕ) (f g : CaptureFault) → 12 ≤ length block → content_fault is order block f → content_fault is order block g → f ≡ g
 same_content_fault is order block f g there (inl h) (inl k) = same_block_fault is order block f g h k
@@ -85,7 +85,7 @@ too_many is s i e few many =
     let n : length (interfaces_after is s) ≡ length (is ++ i ∷ []) = ap (λ (x : BlockEvent). length (interfaces_after is x)) e in
     omega (arith, length-append is (i ∷ []))
 
-no_content_fault : (is : List Interface) (order : ByteOrder) (block : List ℕ) (s : BlockEvent) (f : CaptureFault) → 12 ≤ length block → Says is order block s → length (interfaces_after is s) ≤ 256 → content_fault is order block f → ⊥
+no_content_fault : (is : List Interface) (order : ByteOrder) (block : List ℕ) (s : BlockEvent) (f : CaptureFault) → 12 ≤ length block → BlockSays is order block s → length (interfaces_after is s) ≤ 256 → content_fault is order block f → ⊥
 no_content_fault is order block s f there says few (inl k) = no_fault_with_event is order block s f there says k
 no_content_fault is order block s f there says few (inr k) = too_many is s k.2.interface (same_event is order block s k.0 says k.1 ∙ k.2.event_is) few k.2.full
 
@@ -130,7 +130,7 @@ same_stop_in Start before bytes s t h k = same_start_stop before bytes s t h k
 same_stop_in (InSavefile f) before bytes s t h k = same_record_stop f bytes s t h k
 same_stop_in (InSection order) before bytes s t h k = same_section_stop order before bytes s t h k
 
-pub same_stop : (before : Context) (bytes : List ℕ) (s t : Stop) → StopsAt before bytes s → StopsAt before bytes t → s ≡ t
+pub same_stop : (before : Context) (bytes : List ℕ) (s t : Stop) → StopsReading before bytes s → StopsReading before bytes t → s ≡ t
 same_stop before bytes s t h k = same_stop_in before.format before bytes s t h k
 
 -- a piece is there, or it stops
@@ -153,5 +153,5 @@ no_stop_in Start before after bytes p s (inr h) (inr (inr (inr k))) = no_section
 no_stop_in (InSavefile f) before after bytes p s h k = no_record_stop f bytes h.frame s h.is_record k
 no_stop_in (InSection order) before after bytes p s h k = no_section_stop order before after bytes p s h k
 
-pub no_stop : (before after : Context) (bytes : List ℕ) (p : PieceContent) (s : Stop) → IsPiece before bytes p after → StopsAt before bytes s → ⊥
+pub no_stop : (before after : Context) (bytes : List ℕ) (p : PieceContent) (s : Stop) → IsPiece before bytes p after → StopsReading before bytes s → ⊥
 no_stop before after bytes p s h k = no_stop_in before.format before after bytes p s h k

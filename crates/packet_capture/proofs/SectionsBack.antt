@@ -9,12 +9,12 @@ use Rattle.packet_capture.specs.declared.fields.ByteOrder.TheVariants.{Big, Litt
 use Rattle.packet_capture.specs.declared.interface.Interface.{Interface}
 use Rattle.packet_capture.specs.declared.content.BlockKind.TheVariants.{Description, Enhanced}
 use Rattle.packet_capture.specs.declared.reader.Format.TheVariants.{InSection}
-use Rattle.packet_capture.specs.Fields.{u16_at, u32_at, bytes_at}
+use Rattle.packet_capture.specs.Fields.{u16_in, u32_in, bytes_at}
 use Rattle.packet_capture.specs.Frames.{FrameContent}
 use Rattle.packet_capture.specs.Interfaces.{time_of, AreOptions, options_in, bare_interface}
 use Rattle.packet_capture.specs.Savefiles.{magic_at}
 use Rattle.packet_capture.specs.Blocks.{BeginsSection, order_at, IsBlock}
-use Rattle.packet_capture.specs.Contents.{block_kind, HasFrame, BlockEvent, section_begins, interface_added, frame_came, Says}
+use Rattle.packet_capture.specs.Contents.{block_kind, HasFrame, BlockEvent, section_begins, interface_added, frame_came, BlockSays}
 use Rattle.packet_capture.specs.Captures.{Context, new_context, PieceContent, frame_in_event, IsPiece, ArePieces, frames_of, IsCapture}
 use Rattle.packet_capture.specs.Written.{u16_bytes, u32_bytes}
 use Rattle.packet_capture.specs.WrittenSections.{block_bytes, section_header, interface_bytes, WrittenPacket, IsWrittenPacket, packet_bytes, section_bytes, written_interface, packet_frame}
@@ -24,8 +24,8 @@ use Rattle.packet_capture.proofs.WrittenBack.{two_back, number_back}
 index_after : (xs ys : List ℕ) (n j : ℕ) → length xs ≡ n → slice_index (xs ++ ys) (n + j) ≡ slice_index ys j
 index_after xs ys n j len = ap (λ (m : ℕ). slice_index (xs ++ ys) (m + j)) (sym len) ∙ get_or-append-add xs ys j 0
 
-last_number : (order : ByteOrder) (xs rest : List ℕ) (n m : ℕ) → length xs ≡ n → m < 2 ^ 32 → u32_at order (xs ++ (u32_bytes order m ++ rest)) n ≡ m
-unfolding u16_at u32_at
+last_number : (order : ByteOrder) (xs rest : List ℕ) (n m : ℕ) → length xs ≡ n → m < 2 ^ 32 → u32_in order (xs ++ (u32_bytes order m ++ rest)) n ≡ m
+unfolding u16_in u32_in
 last_number Big xs rest n m len small =
     let ys : List ℕ = u32_bytes Big m ++ rest in
     let start : n ≡ n + 0 = omega arith in
@@ -54,8 +54,8 @@ length-block Big type body = omega (arith, length-append body (u32_bytes Big (12
 length-block Little type body = omega (arith, length-append body (u32_bytes Little (12 + length body)))
 
 -- a block's length at its front, and at its end
-front_len : (order : ByteOrder) (type : ℕ) (body rest : List ℕ) → 12 + length body < 2 ^ 32 → u32_at order (block_bytes order type body ++ rest) 4 ≡ 12 + length body
-unfolding u16_at u32_at
+front_len : (order : ByteOrder) (type : ℕ) (body rest : List ℕ) → 12 + length body < 2 ^ 32 → u32_in order (block_bytes order type body ++ rest) 4 ≡ 12 + length body
+unfolding u16_in u32_in
 front_len Big type body rest small = number_back (12 + length body) small
 front_len Little type body rest small = number_back (12 + length body) small
 
@@ -72,9 +72,9 @@ unfolding heads
 length-heads Big type body = omega arith
 length-heads Little type body = omega arith
 
-end_len : (order : ByteOrder) (type : ℕ) (body rest : List ℕ) → 12 + length body < 2 ^ 32 → u32_at order (block_bytes order type body ++ rest) (8 + length body) ≡ 12 + length body
+end_len : (order : ByteOrder) (type : ℕ) (body rest : List ℕ) → 12 + length body < 2 ^ 32 → u32_in order (block_bytes order type body ++ rest) (8 + length body) ≡ 12 + length body
 end_len order type body rest small =
-    ap (λ (x : List ℕ). u32_at order x (8 + length body)) (parted order type body rest)
+    ap (λ (x : List ℕ). u32_in order x (8 + length body)) (parted order type body rest)
     ∙ last_number order (heads order type body) rest (8 + length body) (12 + length body) (length-heads order type body) small
 
 is_block : (section order : ByteOrder) (type : ℕ) (body rest : List ℕ) → order_at section (block_bytes order type body ++ rest) ≡ Some order → length body ≤ 1048564 → length body % 4 ≡ 0 → IsBlock section (block_bytes order type body ++ rest) order (block_bytes order type body)
@@ -83,8 +83,8 @@ is_block section order type body rest order_is short even =
     let front = front_len order type body rest (omega arith) in
     let len = length-append (block_bytes order type body) rest in
     let own = length-block order type body in
-    let at_end : u32_at order bytes 4 - 4 ≡ 8 + length body = omega arith in
-    let back : u32_at order bytes (u32_at order bytes 4 - 4) ≡ 12 + length body = ap (λ (k : ℕ). u32_at order bytes k) at_end ∙ end_len order type body rest (omega arith) in
+    let at_end : u32_in order bytes 4 - 4 ≡ 8 + length body = omega arith in
+    let back : u32_in order bytes (u32_in order bytes 4 - 4) ≡ 12 + length body = ap (λ (k : ℕ). u32_in order bytes k) at_end ∙ end_len order type body rest (omega arith) in
     record {
       there = omega arith;
       order_is = order_is;
@@ -113,12 +113,12 @@ packet_piece order link snap_len p = block_piece (packet_bytes order p) (frame_c
 
 -- the header
 section_order : (section order : ByteOrder) (rest : List ℕ) → order_at section (section_header order ++ rest) ≡ Some order
-unfolding u16_at u32_at
+unfolding u16_in u32_in
 section_order section Big rest = refl
 section_order section Little rest = refl
 
-section_says : (order : ByteOrder) (is : List Interface) → Says is order (section_header order) section_begins
-unfolding u16_at u32_at
+section_says : (order : ByteOrder) (is : List Interface) → BlockSays is order (section_header order) section_begins
+unfolding u16_in u32_in
 section_says Big is = (refl, omega arith, (refl, inl refl))
 section_says Little is = (refl, omega arith, (refl, inl refl))
 
@@ -127,7 +127,7 @@ section_body Big rest = is_block Big Big 168627466 (u32_bytes Big 439041101 ++ (
 section_body Little rest = is_block Big Little 168627466 (u32_bytes Little 439041101 ++ (u16_bytes Little 1 ++ (u16_bytes Little 0 ++ (u32_bytes Little 4294967295 ++ u32_bytes Little 4294967295)))) rest (section_order Big Little rest) (omega arith) refl
 
 no_magic : (order : ByteOrder) (rest : List ℕ) → (magic_at (section_header order ++ rest) ≡ None) × BeginsSection (section_header order ++ rest)
-unfolding u16_at u32_at
+unfolding u16_in u32_in
 no_magic Big rest = (refl, refl)
 no_magic Little rest = (refl, refl)
 
@@ -155,17 +155,17 @@ first_piece order rest = inr (record {
 
 -- the interface
 interface_order : (order : ByteOrder) (link snap_len : ℕ) (rest : List ℕ) → order_at order (interface_bytes order link snap_len ++ rest) ≡ Some order
-unfolding u16_at u32_at
+unfolding u16_in u32_in
 interface_order Big link snap_len rest = refl
 interface_order Little link snap_len rest = refl
 
 interface_is : (order : ByteOrder) (link snap_len : ℕ) → snap_len < 2 ^ 32 → written_interface link snap_len ≡ bare_interface order (interface_bytes order link snap_len)
-unfolding u16_at u32_at
+unfolding u16_in u32_in
 interface_is Big link snap_len small = let a = sym (two_back link) in let b = sym (number_back snap_len small) in λ i. record { link = a i; snap_len = b i; resolution = 6; offset = 0 }
 interface_is Little link snap_len small = let a = sym (two_back link) in let b = sym (number_back snap_len small) in λ i. record { link = a i; snap_len = b i; resolution = 6; offset = 0 }
 
 interface_kind : (order : ByteOrder) (link snap_len : ℕ) → block_kind order (interface_bytes order link snap_len) ≡ Description
-unfolding u16_at u32_at
+unfolding u16_in u32_in
 interface_kind Big link snap_len = refl
 interface_kind Little link snap_len = refl
 
@@ -208,7 +208,7 @@ length-body Big p = omega (arith, length-append p.bytes p.filling)
 length-body Little p = omega (arith, length-append p.bytes p.filling)
 
 packet_order : (order : ByteOrder) (p : WrittenPacket) (rest : List ℕ) → order_at order (packet_bytes order p ++ rest) ≡ Some order
-unfolding u16_at u32_at
+unfolding u16_in u32_in
 packet_order Big p rest = refl
 packet_order Little p rest = refl
 
@@ -221,16 +221,16 @@ packet_block order p rest h =
     is_block order order 6 (packet_body order p) rest (packet_order order p rest) (omega arith) (omega arith)
 
 packet_field : (order : ByteOrder) (p : WrittenPacket) → IsWrittenPacket p
-    → (u32_at order (packet_bytes order p) 12 ≡ p.ticks / 4294967296)
-    × (u32_at order (packet_bytes order p) 16 ≡ p.ticks % 4294967296)
-    × (u32_at order (packet_bytes order p) 20 ≡ length p.bytes)
-    × (u32_at order (packet_bytes order p) 24 ≡ p.wire_len)
-unfolding u16_at u32_at
+    → (u32_in order (packet_bytes order p) 12 ≡ p.ticks / 4294967296)
+    × (u32_in order (packet_bytes order p) 16 ≡ p.ticks % 4294967296)
+    × (u32_in order (packet_bytes order p) 20 ≡ length p.bytes)
+    × (u32_in order (packet_bytes order p) 24 ≡ p.wire_len)
+unfolding u16_in u32_in
 packet_field Big p h = let t = h.ticks in let s = h.short in (number_back (p.ticks / 4294967296) (omega arith), number_back (p.ticks % 4294967296) (omega arith), number_back (length p.bytes) (omega arith), number_back p.wire_len h.wire_len)
 packet_field Little p h = let t = h.ticks in let s = h.short in (number_back (p.ticks / 4294967296) (omega arith), number_back (p.ticks % 4294967296) (omega arith), number_back (length p.bytes) (omega arith), number_back p.wire_len h.wire_len)
 
-packet_kind : (order : ByteOrder) (p : WrittenPacket) → (Enhanced ≡ block_kind order (packet_bytes order p)) × (u32_at order (packet_bytes order p) 8 ≡ 0)
-unfolding u16_at u32_at
+packet_kind : (order : ByteOrder) (p : WrittenPacket) → (Enhanced ≡ block_kind order (packet_bytes order p)) × (u32_in order (packet_bytes order p) 8 ≡ 0)
+unfolding u16_in u32_in
 packet_kind Big p = (refl, refl)
 packet_kind Little p = (refl, refl)
 
@@ -253,11 +253,11 @@ has_frame order link snap_len p h =
     let captured = at.2 in
     let high = at.0 in
     let low = at.1 in
-    let ticks : p.ticks ≡ u32_at order block 12 * 4294967296 + u32_at order block 16 = omega arith in
-    let time : time_of i p.ticks ≡ time_of i (u32_at order block 12 * 4294967296 + u32_at order block 16) = ap (λ (n : ℕ). time_of i n) ticks in
-    let wire : p.wire_len ≡ u32_at order block 24 = sym at.3 in
+    let ticks : p.ticks ≡ u32_in order block 12 * 4294967296 + u32_in order block 16 = omega arith in
+    let time : time_of i p.ticks ≡ time_of i (u32_in order block 12 * 4294967296 + u32_in order block 16) = ap (λ (n : ℕ). time_of i n) ticks in
+    let wire : p.wire_len ≡ u32_in order block 24 = sym at.3 in
     let tail : List ℕ = p.filling ++ u32_bytes order (12 + length (packet_body order p)) in
-    let bytes : p.bytes ≡ bytes_at block 28 (u32_at order block 20) =
+    let bytes : p.bytes ≡ bytes_at block 28 (u32_in order block 20) =
     sym (take-append_seam p.bytes tail)
     ∙ ap (λ (x : List ℕ). take (length p.bytes) x) (sym (packet_rest order p))
     ∙ ap (λ (n : ℕ). take n (drop 28 block)) (sym captured) in

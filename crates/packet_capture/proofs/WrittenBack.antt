@@ -8,7 +8,7 @@ use Rattle.packet_capture.specs.declared.fields.ByteOrder.{ByteOrder}
 use Rattle.packet_capture.specs.declared.fields.ByteOrder.TheVariants.{Big, Little}
 use Rattle.packet_capture.specs.declared.savefile.Savefile.{Savefile}
 use Rattle.packet_capture.specs.declared.reader.Format.TheVariants.{InSavefile}
-use Rattle.packet_capture.specs.Fields.{u16_at, u32_at}
+use Rattle.packet_capture.specs.Fields.{u16_in, u32_in}
 use Rattle.packet_capture.specs.Frames.{FrameContent}
 use Rattle.packet_capture.specs.Savefiles.{BeginsSavefile, IsPacketRecord}
 use Rattle.packet_capture.specs.Captures.{Context, PieceContent, IsRecordPiece, ArePieces, frames_of, IsCapture}
@@ -32,7 +32,7 @@ link_back n small = omega arith
 
 -- the header
 begins : (order : ByteOrder) (nanoseconds : Bool) (longest link : ℕ) (rest : List ℕ) → link < 65536 → BeginsSavefile (header_bytes order nanoseconds longest link ++ rest) (file order nanoseconds link)
-unfolding u16_at u32_at
+unfolding u16_in u32_in
 begins Big true longest link rest small = record { there = omega arith; magic = record { order = Big; nanoseconds = true }; magic_is = refl; version = (refl, refl); is = λ i. record { magic = record { order = Big; nanoseconds = true }; link = link_back link small i } }
 begins Big false longest link rest small = record { there = omega arith; magic = record { order = Big; nanoseconds = false }; magic_is = refl; version = (refl, refl); is = λ i. record { magic = record { order = Big; nanoseconds = false }; link = link_back link small i } }
 begins Little true longest link rest small = record { there = omega arith; magic = record { order = Little; nanoseconds = true }; magic_is = refl; version = (refl, refl); is = λ i. record { magic = record { order = Little; nanoseconds = true }; link = link_back link small i } }
@@ -50,11 +50,11 @@ record_piece : WrittenFrame → Bool → ℕ → PieceContent
 record_piece f nanoseconds link = record { len = 16 + length f.bytes; frame = Some (written_frame nanoseconds link f) }
 
 field : (order : ByteOrder) (f : WrittenFrame) (rest : List ℕ) → IsWrittenFrame f
-    → (u32_at order (record_bytes order f ++ rest) 0 ≡ f.seconds)
-    × (u32_at order (record_bytes order f ++ rest) 4 ≡ f.parts)
-    × (u32_at order (record_bytes order f ++ rest) 8 ≡ length f.bytes)
-    × (u32_at order (record_bytes order f ++ rest) 12 ≡ f.wire_len)
-unfolding u16_at u32_at
+    → (u32_in order (record_bytes order f ++ rest) 0 ≡ f.seconds)
+    × (u32_in order (record_bytes order f ++ rest) 4 ≡ f.parts)
+    × (u32_in order (record_bytes order f ++ rest) 8 ≡ length f.bytes)
+    × (u32_in order (record_bytes order f ++ rest) 12 ≡ f.wire_len)
+unfolding u16_in u32_in
 field Big f rest h = let short = h.short in (number_back f.seconds h.seconds, number_back f.parts h.parts, number_back (length f.bytes) (omega arith), number_back f.wire_len h.wire_len)
 field Little f rest h = let short = h.short in (number_back f.seconds h.seconds, number_back f.parts h.parts, number_back (length f.bytes) (omega arith), number_back f.wire_len h.wire_len)
 
@@ -79,7 +79,7 @@ is_record order nanoseconds link f rest h =
       short = let captured = at.2 in omega arith;
       whole = let captured = at.2 in omega arith;
       link = refl;
-      time = sym (ap (λ (s : ℕ). T s (u32_at order bytes 4)) at.0 ∙ ap (λ (p : ℕ). T f.seconds p) at.1);
+      time = sym (ap (λ (s : ℕ). T s (u32_in order bytes 4)) at.0 ∙ ap (λ (p : ℕ). T f.seconds p) at.1);
       wire_len = sym at.3;
       bytes_are = sym (take-append_seam f.bytes rest) ∙ ap (λ (x : List ℕ). take (length f.bytes) x) (sym (after_fields order f rest)) ∙ ap (λ (n : ℕ). take n (drop 16 bytes)) (sym at.2);
     }

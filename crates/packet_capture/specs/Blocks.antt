@@ -2,19 +2,19 @@
 use Rattle.std.specs.Prelude.{◌≡◌, ℕ, ◌-◌, ◌%◌, ◌≤◌, ◌==◌, List, length, take, Option, Some, None, if◌then◌else◌}
 use Rattle.packet_capture.specs.declared.fields.ByteOrder.{ByteOrder}
 use Rattle.packet_capture.specs.declared.fields.ByteOrder.TheVariants.{Big, Little}
-use Rattle.packet_capture.specs.Fields.{u32_at}
+use Rattle.packet_capture.specs.Fields.{u32_in}
 
 -- a block's first four bytes say what it is; those of a section's header are the same in both orders
 abbrev pub BeginsSection : List ℕ → Type 0
-BeginsSection bytes = u32_at Big bytes 0 ≡ 168627466
+BeginsSection bytes = u32_in Big bytes 0 ≡ 168627466
 
 -- The order of a block's numbers: that of its section. A section's header says its own, by the number
 -- 1a2b3c4d.
 abbrev pub order_at : ByteOrder → List ℕ → Option ByteOrder
 order_at section bytes =
-    if u32_at Big bytes 0 == 168627466
-    then (if u32_at Big bytes 8 == 439041101 then Some Big
-    else (if u32_at Little bytes 8 == 439041101 then Some Little else None))
+    if u32_in Big bytes 0 == 168627466
+    then (if u32_in Big bytes 8 == 439041101 then Some Big
+    else (if u32_in Little bytes 8 == 439041101 then Some Little else None))
     else Some section
 
 -- a length counts the type, itself and its repetition at the end, and is a multiple of 4
@@ -26,8 +26,8 @@ pub record IsBlock (section : ByteOrder) (bytes : List ℕ) (order : ByteOrder) 
     : Type 0 where
   pub there : 12 ≤ length bytes
   pub order_is : order_at section bytes ≡ Some order
-  pub counted : IsBlockLen (u32_at order bytes 4)
-  pub short : u32_at order bytes 4 ≤ 1048576
-  pub whole : u32_at order bytes 4 ≤ length bytes
-  pub again : u32_at order bytes (u32_at order bytes 4 - 4) ≡ u32_at order bytes 4
-  pub block_is : block ≡ take (u32_at order bytes 4) bytes
+  pub counted : IsBlockLen (u32_in order bytes 4)
+  pub short : u32_in order bytes 4 ≤ 1048576
+  pub whole : u32_in order bytes 4 ≤ length bytes
+  pub again : u32_in order bytes (u32_in order bytes 4 - 4) ≡ u32_in order bytes 4
+  pub block_is : block ≡ take (u32_in order bytes 4) bytes

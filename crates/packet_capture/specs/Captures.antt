@@ -17,7 +17,7 @@ use Rattle.packet_capture.specs.declared.stop.Stop.TheVariants.{Bad, Wants}
 use Rattle.packet_capture.specs.Frames.{FrameContent, frame_of}
 use Rattle.packet_capture.specs.Savefiles.{magic_at, BeginsSavefile, IsPacketRecord, captured_at}
 use Rattle.packet_capture.specs.Blocks.{BeginsSection, IsBlock}
-use Rattle.packet_capture.specs.Contents.{BlockEvent, section_begins, interface_added, frame_came, passed_over, Says, HasBlockFault}
+use Rattle.packet_capture.specs.Contents.{BlockEvent, section_begins, interface_added, frame_came, passed_over, BlockSays, HasBlockFault}
 use Rattle.packet_capture.specs.Stops.{StopsInHeader, StopsInRecord, StopsInBlock}
 
 -- what the pieces before say of the next one: what the capture is, and in a section its interfaces
@@ -84,7 +84,7 @@ pub record IsBlockPiece (section : ByteOrder) (before : Context) (bytes : List �
   pub block : List ℕ
   pub is_block : IsBlock section bytes order block
   pub event : BlockEvent
-  pub says : Says before.interfaces order block event
+  pub says : BlockSays before.interfaces order block event
   pub few : length (interfaces_after before.interfaces event) ≤ 256
   pub len : piece.len ≡ length block
   pub frame : piece.frame ≡ frame_in_event event
@@ -128,7 +128,7 @@ pub record StopsInContent (section : ByteOrder) (before : Context) (bytes : List
   pub fault : CaptureFault
   pub stop_is : stop ≡ Bad fault
   pub why : HasBlockFault before.interfaces order block fault
-      ⊎ ((event : BlockEvent) × Says before.interfaces order block event
+      ⊎ ((event : BlockEvent) × BlockSays before.interfaces order block event
       × IsOneTooMany before.interfaces event fault)
 
 abbrev pub StopsInSection : ByteOrder → Context → List ℕ → Stop → Type 0
@@ -152,8 +152,8 @@ StopsIn Start before bytes stop = StopsAtStart before bytes stop
 StopsIn (InSavefile s) before bytes stop = StopsInRecord s bytes stop
 StopsIn (InSection order) before bytes stop = StopsInSection order before bytes stop
 
-abbrev pub StopsAt : Context → List ℕ → Stop → Type 0
-StopsAt before bytes stop = StopsIn before.format before bytes stop
+abbrev pub StopsReading : Context → List ℕ → Stop → Type 0
+StopsReading before bytes stop = StopsIn before.format before bytes stop
 
 -- the bytes are these pieces, one after the other, and then a rest
 abbrev pub ArePieces : Context → List ℕ → List PieceContent → Context → List ℕ → Type 0

@@ -8,7 +8,7 @@ use Rattle.packet_capture.specs.declared.content.BlockKind.{BlockKind}
 use Rattle.packet_capture.specs.declared.content.BlockKind.TheVariants.{SectionHeader, Description, Enhanced, Old, Simple, Unread}
 use Rattle.packet_capture.specs.declared.content.BlockContent.{BlockContent}
 use Rattle.packet_capture.specs.declared.content.BlockContent.TheVariants as contents
-use Rattle.packet_capture.specs.Fields.{u16_at, u32_at, bytes_at}
+use Rattle.packet_capture.specs.Fields.{u16_in, u32_in, bytes_at}
 use Rattle.packet_capture.specs.Frames.{FrameContent, frame_of}
 use Rattle.packet_capture.specs.Interfaces.{Describes, HasCutOption, time_of}
 
@@ -42,12 +42,12 @@ IsPacketKind Unread = ⊥
 -- version 1.0, or 1.2, which is the same
 abbrev pub IsSectionVersion : ByteOrder → List ℕ → Type 0
 IsSectionVersion order block =
-    (u16_at order block 12 ≡ 1) × ((u16_at order block 14 ≡ 0) ⊎ (u16_at order block 14 ≡ 2))
+    (u16_in order block 12 ≡ 1) × ((u16_in order block 14 ≡ 0) ⊎ (u16_in order block 14 ≡ 2))
 
 -- the place of the packet's interface in its section: a simple packet is of the first
 abbrev pub interface_in : BlockKind → ByteOrder → List ℕ → ℕ
-interface_in Enhanced order block = u32_at order block 8
-interface_in Old order block = u16_at order block 8
+interface_in Enhanced order block = u32_in order block 8
+interface_in Old order block = u16_in order block 8
 interface_in Simple order block = 0
 interface_in SectionHeader order block = 0
 interface_in Description order block = 0
@@ -55,9 +55,9 @@ interface_in Unread order block = 0
 
 -- the frame's length on the wire
 abbrev pub wire_len_in : BlockKind → ByteOrder → List ℕ → ℕ
-wire_len_in Simple order block = u32_at order block 8
-wire_len_in Enhanced order block = u32_at order block 24
-wire_len_in Old order block = u32_at order block 24
+wire_len_in Simple order block = u32_in order block 8
+wire_len_in Enhanced order block = u32_in order block 24
+wire_len_in Old order block = u32_in order block 24
 wire_len_in SectionHeader order block = 0
 wire_len_in Description order block = 0
 wire_len_in Unread order block = 0
@@ -67,9 +67,9 @@ abbrev pub up_to_limit : ℕ → ℕ → ℕ
 up_to_limit snap_len len = if snap_len == 0 then len else min len snap_len
 
 abbrev pub captured_in : BlockKind → ByteOrder → Interface → List ℕ → ℕ
-captured_in Simple order i block = up_to_limit i.snap_len (u32_at order block 8)
-captured_in Enhanced order i block = u32_at order block 20
-captured_in Old order i block = u32_at order block 20
+captured_in Simple order i block = up_to_limit i.snap_len (u32_in order block 8)
+captured_in Enhanced order i block = u32_in order block 20
+captured_in Old order i block = u32_in order block 20
 captured_in SectionHeader order i block = 0
 captured_in Description order i block = 0
 captured_in Unread order i block = 0
@@ -86,9 +86,9 @@ frame_start Unread = 0
 -- the time, in two halves, the higher one first in either order; a simple packet has none
 abbrev pub time_in : BlockKind → ByteOrder → Interface → List ℕ → Option ℕ
 time_in Enhanced order i block =
-    time_of i (u32_at order block 12 * 4294967296 + u32_at order block 16)
+    time_of i (u32_in order block 12 * 4294967296 + u32_in order block 16)
 time_in Old order i block =
-    time_of i (u32_at order block 12 * 4294967296 + u32_at order block 16)
+    time_of i (u32_in order block 12 * 4294967296 + u32_in order block 16)
 time_in Simple order i block = None
 time_in SectionHeader order i block = None
 time_in Description order i block = None
@@ -104,7 +104,7 @@ frame_in kind order i block = record {
 }
 
 abbrev pub block_kind : ByteOrder → List ℕ → BlockKind
-block_kind order block = kind_of (u32_at order block 0)
+block_kind order block = kind_of (u32_in order block 0)
 
 -- the block is a packet's of one of these interfaces, with this frame
 pub record HasFrame (interfaces : List Interface) (order : ByteOrder) (block : List ℕ)
@@ -125,21 +125,21 @@ pub data BlockEvent : Type 0 where
   frame_came : FrameContent → BlockEvent
   passed_over : BlockEvent
 
-abbrev pub event_of : BlockContent → BlockEvent
-event_of contents.Section = section_begins
-event_of (contents.Interface i) = interface_added i
-event_of (contents.Frame f) = frame_came (frame_of f)
-event_of contents.Other = passed_over
+abbrev pub block_event_of : BlockContent → BlockEvent
+block_event_of contents.Section = section_begins
+block_event_of (contents.Interface i) = interface_added i
+block_event_of (contents.Frame f) = frame_came (frame_of f)
+block_event_of contents.Other = passed_over
 
 -- a block of a section with these interfaces says this
-abbrev pub Says : List Interface → ByteOrder → List ℕ → BlockEvent → Type 0
-Says interfaces order block section_begins =
+abbrev pub BlockSays : List Interface → ByteOrder → List ℕ → BlockEvent → Type 0
+BlockSays interfaces order block section_begins =
     (block_kind order block ≡ SectionHeader) × (28 ≤ length block)
     × IsSectionVersion order block
-Says interfaces order block (interface_added i) =
+BlockSays interfaces order block (interface_added i) =
     (block_kind order block ≡ Description) × Describes order block i
-Says interfaces order block (frame_came f) = HasFrame interfaces order block f
-Says interfaces order block passed_over = block_kind order block ≡ Unread
+BlockSays interfaces order block (frame_came f) = HasFrame interfaces order block f
+BlockSays interfaces order block passed_over = block_kind order block ≡ Unread
 
 -- the block is a packet's, of an interface that isn't described
 pub record HasUnknownInterface (interfaces : List Interface) (order : ByteOrder) (block : List ℕ)

@@ -5,27 +5,27 @@ use Rattle.packet_capture.specs.declared.link.IpVersion.{IpVersion}
 use Rattle.packet_capture.specs.declared.link.LinkType.{LinkType}
 use Rattle.packet_capture.specs.declared.datagram.Address.{Address}
 use Rattle.packet_capture.specs.declared.datagram.Datagram.{Datagram}
-use Rattle.packet_capture.specs.Fields.{u16_at, bytes_at}
+use Rattle.packet_capture.specs.Fields.{u16_in, bytes_at}
 use Rattle.packet_capture.specs.Links.{number_of, link_len, version_in, packet_in}
 use Rattle.packet_capture.specs.Packets.{IsIp, IsUdp, packet_len, obstacle_in, destination_in, segment_in}
 
 -- where a datagram goes, and what it holds
-pub record Content : Type 0 where
+pub record DatagramContent : Type 0 where
   pub address : Address
   pub port : ℕ
   pub bytes : List ℕ
 
-abbrev pub content_of : Datagram → Content
-content_of d = record { address = d.address; port = d.port; bytes = d.bytes.now }
+abbrev pub datagram_content : Datagram → DatagramContent
+datagram_content d = record { address = d.address; port = d.port; bytes = d.bytes.now }
 
 -- the datagram of a packet that has one
-abbrev pub datagram_in : IpVersion → List ℕ → Content
+abbrev pub datagram_in : IpVersion → List ℕ → DatagramContent
 datagram_in version packet =
     let segment = segment_in version packet in
     record {
       address = destination_in version packet;
-      port = u16_at Big segment 2;
-      bytes = bytes_at segment 8 (u16_at Big segment 4 - 8);
+      port = u16_in Big segment 2;
+      bytes = bytes_at segment 8 (u16_in Big segment 4 - 8);
     }
 
 -- the packet has a whole UDP datagram
@@ -41,7 +41,7 @@ pub record HasPacket (link : LinkType) (frame : List ℕ) (version : IpVersion) 
   pub version_is : version_in link frame ≡ Some version
 
 -- a frame, of a link type by its number, carries this datagram
-pub record Carries (number : ℕ) (frame : List ℕ) (datagram : Content) : Type 0 where
+pub record CarriesDatagram (number : ℕ) (frame : List ℕ) (datagram : DatagramContent) : Type 0 where
   pub link : LinkType
   pub number_is : number ≡ number_of link
   pub version : IpVersion

@@ -3,71 +3,71 @@
 use Rattle.std.specs.Prelude.{◌≡◌, ℕ, ◌+◌, ◌-◌, ◌*◌, ◌/◌, ◌^◌, ◌<◌, ◌≤◌, ◌==◌, ◌&&◌, nat_lt, nat_le, List, [], ◌∷◌, length, drop, slice_index, slice_range, Option, Some, None, if◌then◌else◌}
 use Rattle.packet_capture.specs.declared.fields.ByteOrder.{ByteOrder}
 use Rattle.packet_capture.specs.declared.interface.Interface.{Interface}
-use Rattle.packet_capture.specs.Fields.{u16_at, u32_at, u64_at, bytes_at}
+use Rattle.packet_capture.specs.Fields.{u16_in, u32_in, u64_in, bytes_at}
 
 -- an option: its code, and its value without what fills it to a multiple of four bytes
-pub record Setting : Type 0 where
+pub record OptionField : Type 0 where
   pub code : ℕ
   pub value : List ℕ
 
 -- an option at the front of the bytes, of any code but 0, which ends the list
-pub record IsAtFront (order : ByteOrder) (bytes : List ℕ) (setting : Setting) : Type 0 where
+pub record IsAtFront (order : ByteOrder) (bytes : List ℕ) (setting : OptionField) : Type 0 where
   pub there : 4 ≤ length bytes
-  pub code : setting.code ≡ u16_at order bytes 0
+  pub code : setting.code ≡ u16_in order bytes 0
   pub goes_on : 1 ≤ setting.code
-  pub within : 4 + u16_at order bytes 2 ≤ length bytes
-  pub value : setting.value ≡ bytes_at bytes 4 (u16_at order bytes 2)
+  pub within : 4 + u16_in order bytes 2 ≤ length bytes
+  pub value : setting.value ≡ bytes_at bytes 4 (u16_in order bytes 2)
 
 -- what follows the option at the front
 abbrev pub after_option : ByteOrder → List ℕ → List ℕ
-after_option order bytes = drop (4 + (u16_at order bytes 2 + 3) / 4 * 4) bytes
+after_option order bytes = drop (4 + (u16_in order bytes 2 + 3) / 4 * 4) bytes
 
 -- the bytes are these options, one after the other, up to one of code 0 or to the end
-abbrev pub AreOptions : ByteOrder → List ℕ → List Setting → Type 0
-AreOptions order bytes [] = (4 ≤ length bytes) → u16_at order bytes 0 ≡ 0
+abbrev pub AreOptions : ByteOrder → List ℕ → List OptionField → Type 0
+AreOptions order bytes [] = (4 ≤ length bytes) → u16_in order bytes 0 ≡ 0
 AreOptions order bytes (o ∷ os) =
     IsAtFront order bytes o × AreOptions order (after_option order bytes) os
 
 -- the bytes are these options, and then one that runs past the end
-abbrev pub CutAfter : ByteOrder → List ℕ → List Setting → Type 0
+abbrev pub CutAfter : ByteOrder → List ℕ → List OptionField → Type 0
 CutAfter order bytes [] =
-    (4 ≤ length bytes) × (1 ≤ u16_at order bytes 0)
-    × (length bytes < 4 + u16_at order bytes 2)
+    (4 ≤ length bytes) × (1 ≤ u16_in order bytes 0)
+    × (length bytes < 4 + u16_in order bytes 2)
 CutAfter order bytes (o ∷ os) =
     IsAtFront order bytes o × CutAfter order (after_option order bytes) os
 
 -- What an option says of an interface: 9 is the resolution of its times, in one byte, and 14 the
 -- seconds to add to them, in eight. Others, and these with another length, say nothing here.
-abbrev pub with_option : ByteOrder → Interface → Setting → Interface
+abbrev pub with_option : ByteOrder → Interface → OptionField → Interface
 with_option order i o =
     if (o.code == 9) && (length o.value == 1)
     then record i { resolution = slice_index o.value 0 }
     else (if (o.code == 14) && (length o.value == 8)
-    then record i { offset = u64_at order o.value 0 }
+    then record i { offset = u64_in order o.value 0 }
     else i)
 
-abbrev pub with_options : ByteOrder → Interface → List Setting → Interface
+abbrev pub with_options : ByteOrder → Interface → List OptionField → Interface
 with_options order i [] = i
 with_options order i (o ∷ os) = with_options order (with_option order i o) os
 
 -- the interface of a block before its options: times are in microseconds, from 1970 on
 abbrev pub bare_interface : ByteOrder → List ℕ → Interface
 bare_interface order block = record {
-  link = u16_at order block 8;
-  snap_len = u32_at order block 12;
+  link = u16_in order block 8;
+  snap_len = u32_in order block 12;
   resolution = 6;
   offset = 0;
 }
 
 -- these bytes are options, which make this interface of a bare one
 pub record HaveOptions (order : ByteOrder) (bytes : List ℕ) (bare i : Interface) : Type 0 where
-  pub options : List Setting
+  pub options : List OptionField
   pub are : AreOptions order bytes options
   pub is : i ≡ with_options order bare options
 
 -- of these bytes an option runs past the end
 pub record HaveCutOption (order : ByteOrder) (bytes : List ℕ) : Type 0 where
-  pub options : List Setting
+  pub options : List OptionField
   pub cut : CutAfter order bytes options
 
 -- the options stand after the fixed fields of an interface's block, up to its second length

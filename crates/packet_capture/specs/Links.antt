@@ -6,7 +6,7 @@ use Rattle.packet_capture.specs.declared.link.LinkType.{LinkType}
 use Rattle.packet_capture.specs.declared.link.LinkType.TheVariants.{Null, Ethernet, Raw, Loop, LinuxCooked, Ipv4, Ipv6, LinuxCooked2}
 use Rattle.packet_capture.specs.declared.link.IpVersion.{IpVersion}
 use Rattle.packet_capture.specs.declared.link.IpVersion.TheVariants.{V4, V6}
-use Rattle.packet_capture.specs.Fields.{u16_at, u32_at}
+use Rattle.packet_capture.specs.Fields.{u16_in, u32_in}
 
 -- the number of each link type that is read
 abbrev pub number_of : LinkType → ℕ
@@ -26,7 +26,7 @@ is_tag type = (type == 33024) || (type == 34984)
 -- how many VLAN tags of four bytes follow the addresses of an Ethernet frame: two at most
 abbrev pub tags_of : List ℕ → ℕ
 tags_of frame =
-    if is_tag (u16_at Big frame 12) then (if is_tag (u16_at Big frame 16) then 2 else 1) else 0
+    if is_tag (u16_in Big frame 12) then (if is_tag (u16_in Big frame 16) then 2 else 1) else 0
 
 -- how many bytes stand before the IP packet
 abbrev pub link_len : LinkType → List ℕ → ℕ
@@ -63,14 +63,14 @@ either_of None other = other
 -- machine that made the capture, which the frame doesn't say: it is read both ways
 abbrev pub version_in : LinkType → List ℕ → Option IpVersion
 version_in Null frame =
-    either_of (by_family (u32_at Little frame 0)) (by_family (u32_at Big frame 0))
-version_in Ethernet frame = by_ether_type (u16_at Big frame (12 + 4 * tags_of frame))
+    either_of (by_family (u32_in Little frame 0)) (by_family (u32_in Big frame 0))
+version_in Ethernet frame = by_ether_type (u16_in Big frame (12 + 4 * tags_of frame))
 version_in Raw frame = by_first_byte (slice_index frame 0)
-version_in Loop frame = by_family (u32_at Big frame 0)
-version_in LinuxCooked frame = by_ether_type (u16_at Big frame 14)
+version_in Loop frame = by_family (u32_in Big frame 0)
+version_in LinuxCooked frame = by_ether_type (u16_in Big frame 14)
 version_in Ipv4 frame = Some V4
 version_in Ipv6 frame = Some V6
-version_in LinuxCooked2 frame = by_ether_type (u16_at Big frame 0)
+version_in LinuxCooked2 frame = by_ether_type (u16_in Big frame 0)
 
 -- the IP packet
 abbrev pub packet_in : LinkType → List ℕ → List ℕ

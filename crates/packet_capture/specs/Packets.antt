@@ -7,7 +7,7 @@ use Rattle.packet_capture.specs.declared.link.IpVersion.{IpVersion}
 use Rattle.packet_capture.specs.declared.link.IpVersion.TheVariants.{V4, V6}
 use Rattle.packet_capture.specs.declared.datagram.Address.{Address}
 use Rattle.packet_capture.specs.declared.datagram.Address.TheVariants as addresses
-use Rattle.packet_capture.specs.Fields.{u16_at, bytes_at}
+use Rattle.packet_capture.specs.Fields.{u16_in, bytes_at}
 
 abbrev pub version_number : IpVersion → ℕ
 version_number V4 = 4
@@ -25,8 +25,8 @@ header_len V6 packet = 40
 
 -- how many bytes the packet has: IPv4 counts the header, and IPv6 what follows it
 abbrev pub packet_len : IpVersion → List ℕ → ℕ
-packet_len V4 packet = u16_at Big packet 2
-packet_len V6 packet = 40 + u16_at Big packet 4
+packet_len V4 packet = u16_in Big packet 2
+packet_len V6 packet = 40 + u16_in Big packet 4
 
 -- the header is there, of this version, and its lengths agree
 pub record IsIp (version : IpVersion) (packet : List ℕ) : Type 0 where
@@ -48,7 +48,7 @@ is_extension next =
 abbrev pub obstacle_in : IpVersion → List ℕ → Option FrameFault
 obstacle_in V4 packet =
     if slice_index packet 9 == 17
-    then (if u16_at Big packet 6 % 16384 == 0 then None else Some Fragment)
+    then (if u16_in Big packet 6 % 16384 == 0 then None else Some Fragment)
     else Some NotUdp
 obstacle_in V6 packet =
     if slice_index packet 6 == 17 then None
@@ -69,5 +69,5 @@ segment_in version packet =
 -- a UDP header, whose length counts itself and what is there
 pub record IsUdp (segment : List ℕ) : Type 0 where
   pub there : 8 ≤ length segment
-  pub least : 8 ≤ u16_at Big segment 4
-  pub within : u16_at Big segment 4 ≤ length segment
+  pub least : 8 ≤ u16_in Big segment 4
+  pub within : u16_in Big segment 4 ≤ length segment

@@ -3,7 +3,7 @@ use Rattle.std.specs.Prelude.{◌≡◌, ℕ, ◌+◌, ◌*◌, ◌%◌, ◌≤�
 use Rattle.packet_capture.specs.declared.fields.ByteOrder.TheVariants.{Big, Little}
 use Rattle.packet_capture.specs.declared.savefile.Magic.{Magic}
 use Rattle.packet_capture.specs.declared.savefile.Savefile.{Savefile}
-use Rattle.packet_capture.specs.Fields.{u16_at, u32_at, bytes_at}
+use Rattle.packet_capture.specs.Fields.{u16_in, u32_in, bytes_at}
 use Rattle.packet_capture.specs.Frames.{FrameContent}
 
 -- the byte order, and whether times are in nanoseconds or in microseconds
@@ -14,20 +14,20 @@ magic_of big nanoseconds =
 -- a1b2c3d4 stands for microseconds and a1b23c4d for nanoseconds, in the byte order of all numbers
 abbrev pub magic_at : List ℕ → Option Magic
 magic_at bytes =
-    if u32_at Big bytes 0 == 2712847316 then Some (magic_of true false)
-    else (if u32_at Big bytes 0 == 2712812621 then Some (magic_of true true)
-    else (if u32_at Little bytes 0 == 2712847316 then Some (magic_of false false)
-    else (if u32_at Little bytes 0 == 2712812621 then Some (magic_of false true) else None)))
+    if u32_in Big bytes 0 == 2712847316 then Some (magic_of true false)
+    else (if u32_in Big bytes 0 == 2712812621 then Some (magic_of true true)
+    else (if u32_in Little bytes 0 == 2712847316 then Some (magic_of false false)
+    else (if u32_in Little bytes 0 == 2712812621 then Some (magic_of false true) else None)))
 
 -- version 2.4
 abbrev pub IsVersion : Magic → List ℕ → Type 0
-IsVersion magic bytes = (u16_at magic.order bytes 4 ≡ 2) × (u16_at magic.order bytes 6 ≡ 4)
+IsVersion magic bytes = (u16_in magic.order bytes 4 ≡ 2) × (u16_in magic.order bytes 6 ≡ 4)
 
 -- the savefile that the header begins. The link type is the lower half of its last field, whose upper
 -- half says how many bytes of a check stand at the end of frames
 abbrev pub savefile_at : Magic → List ℕ → Savefile
 savefile_at magic bytes =
-    record { magic = magic; link = u32_at magic.order bytes 20 % 65536 }
+    record { magic = magic; link = u32_in magic.order bytes 20 % 65536 }
 
 -- the bytes begin with the header of this savefile, of 24 bytes
 pub record BeginsSavefile (bytes : List ℕ) (savefile : Savefile) : Type 0 where
@@ -46,13 +46,13 @@ pub record HasOtherVersion (bytes : List ℕ) : Type 0 where
 
 -- how many bytes of the frame of a packet record were captured
 abbrev pub captured_at : Savefile → List ℕ → ℕ
-captured_at s bytes = u32_at s.magic.order bytes 8
+captured_at s bytes = u32_in s.magic.order bytes 8
 
 -- the time of a packet record: its seconds, and the parts of a second
 abbrev pub record_time : Savefile → List ℕ → ℕ
 record_time s bytes =
-    u32_at s.magic.order bytes 0 * 1000000000
-    + u32_at s.magic.order bytes 4 * (if s.magic.nanoseconds then 1 else 1000)
+    u32_in s.magic.order bytes 0 * 1000000000
+    + u32_in s.magic.order bytes 4 * (if s.magic.nanoseconds then 1 else 1000)
 
 -- a packet record: 16 bytes, and then those of its frame
 pub record IsPacketRecord (s : Savefile) (bytes : List ℕ) (frame : FrameContent) : Type 0 where
@@ -61,5 +61,5 @@ pub record IsPacketRecord (s : Savefile) (bytes : List ℕ) (frame : FrameConten
   pub whole : 16 + captured_at s bytes ≤ length bytes
   pub link : frame.link ≡ s.link
   pub time : frame.time ≡ Some (record_time s bytes)
-  pub wire_len : frame.wire_len ≡ u32_at s.magic.order bytes 12
+  pub wire_len : frame.wire_len ≡ u32_in s.magic.order bytes 12
   pub bytes_are : frame.bytes ≡ bytes_at bytes 16 (captured_at s bytes)

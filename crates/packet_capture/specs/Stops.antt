@@ -5,7 +5,7 @@ use Rattle.packet_capture.specs.declared.fault.CaptureFault.TheVariants.{Unknown
 use Rattle.packet_capture.specs.declared.savefile.Savefile.{Savefile}
 use Rattle.packet_capture.specs.declared.stop.Stop.{Stop}
 use Rattle.packet_capture.specs.declared.stop.Stop.TheVariants.{Bad, Wants}
-use Rattle.packet_capture.specs.Fields.{u32_at}
+use Rattle.packet_capture.specs.Fields.{u32_in}
 use Rattle.packet_capture.specs.Savefiles.{HasOtherVersion, captured_at}
 use Rattle.packet_capture.specs.Blocks.{order_at, IsBlockLen}
 
@@ -27,12 +27,12 @@ StopsInRecord s bytes stop =
 -- its two lengths differ
 abbrev pub StopsInLen : ByteOrder → List ℕ → Stop → Type 0
 StopsInLen order bytes stop =
-    let len = u32_at order bytes 4 in
+    let len = u32_in order bytes 4 in
     ((IsBlockLen len → ⊥) × (stop ≡ Bad BadBlockLength))
     ⊎ (IsBlockLen len × (1048576 < len) × (stop ≡ Bad TooLong))
     ⊎ (IsBlockLen len × (len ≤ 1048576) × (length bytes < len) × (stop ≡ Wants len))
     ⊎ (IsBlockLen len × (len ≤ 1048576) × (len ≤ length bytes)
-    × (u32_at order bytes (len - 4) ≡ len → ⊥) × (stop ≡ Bad LengthsDiffer))
+    × (u32_in order bytes (len - 4) ≡ len → ⊥) × (stop ≡ Bad LengthsDiffer))
 
 -- of a block: its first fields are cut, its byte order isn't told, or its length stops
 abbrev pub StopsInBlock : ByteOrder → List ℕ → Stop → Type 0

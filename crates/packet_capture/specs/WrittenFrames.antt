@@ -3,7 +3,7 @@
 use Rattle.std.specs.Prelude.{◌≡◌, ℕ, ◌+◌, ◌*◌, ◌<◌, ◌≤◌, Bool, List, [], ◌∷◌, ◌++◌, length, flat_map, if◌then◌else◌}
 use Rattle.packet_capture.specs.declared.fields.ByteOrder.TheVariants.{Big}
 use Rattle.packet_capture.specs.declared.datagram.Address.{Address}
-use Rattle.packet_capture.specs.Datagrams.{Content}
+use Rattle.packet_capture.specs.Datagrams.{DatagramContent}
 use Rattle.packet_capture.specs.Written.{u16_bytes}
 
 -- a datagram: its ports, its checksum and what it holds
@@ -97,5 +97,5 @@ pub record IsWrittenEthernet (addresses : List ℕ) (tags : List Tag) : Type 0 w
   pub few : length tags ≤ 2
 
 -- the datagram that was written, which goes to this address
-abbrev pub sent_to : Address → WrittenDatagram → Content
+abbrev pub sent_to : Address → WrittenDatagram → DatagramContent
 sent_to address d = record { address = address; port = d.port; bytes = d.bytes }

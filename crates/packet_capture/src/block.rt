@@ -1,6 +1,6 @@
 //! The blocks of a pcapng file, whatever they hold.
 ghost use Rattle.std.specs.Prelude.{◌≡◌, ◌≤◌, IfOk, IfErr, ◌-◌, length, take};
-ghost use Rattle.packet_capture.specs.Fields.{u32_at};
+ghost use Rattle.packet_capture.specs.Fields.{u32_in};
 ghost use Rattle.packet_capture.specs.Blocks.{order_at, IsBlockLen, IsBlock};
 ghost use Rattle.packet_capture.specs.Stops.{StopsInLen, StopsInBlock};
 
@@ -48,12 +48,12 @@ fn order_at(section: ByteOrder, bytes: &[u8]) -> Option<ByteOrder>
 /// The bytes of the block at the front, of which the numbers are in this order.
 fn read_len(order: ByteOrder, bytes: &[u8]) -> Result<&[u8], Stop>
     requires { 12 ≤ length bytes.now }
-    ensures counted { IfOk result (λ _. IsBlockLen (u32_at order bytes.now 4)) }
-    ensures short { IfOk result (λ _. u32_at order bytes.now 4 ≤ 1048576) }
-    ensures whole { IfOk result (λ _. u32_at order bytes.now 4 ≤ length bytes.now) }
+    ensures counted { IfOk result (λ _. IsBlockLen (u32_in order bytes.now 4)) }
+    ensures short { IfOk result (λ _. u32_in order bytes.now 4 ≤ 1048576) }
+    ensures whole { IfOk result (λ _. u32_in order bytes.now 4 ≤ length bytes.now) }
     ensures again { IfOk result (λ _.
-        u32_at order bytes.now (u32_at order bytes.now 4 - 4) ≡ u32_at order bytes.now 4) }
-    ensures value { IfOk result (λ b. b.now ≡ take (u32_at order bytes.now 4) bytes.now) }
+        u32_in order bytes.now (u32_in order bytes.now 4 - 4) ≡ u32_in order bytes.now 4) }
+    ensures value { IfOk result (λ b. b.now ≡ take (u32_in order bytes.now 4) bytes.now) }
     ensures stop { IfErr result (StopsInLen order bytes.now) }
 {
     let len = read_u32(order, bytes, 4);

@@ -1,8 +1,8 @@
 //! What the blocks of a pcapng file hold.
 ghost use Rattle.std.specs.Prelude.{◌≡◌, ◌≤◌, ◌+◌, ◌⊎◌, Some, IfOk, IfErr, IsTrue, ◌↔◌, length, slice_get};
-ghost use Rattle.packet_capture.specs.Fields.{u32_at};
+ghost use Rattle.packet_capture.specs.Fields.{u32_in};
 ghost use Rattle.packet_capture.specs.Frames.{frame_of};
-ghost use Rattle.packet_capture.specs.Contents.{kind_of, block_kind, fixed_len, IsPacketKind, IsSectionVersion, interface_in, wire_len_in, up_to_limit, captured_in, frame_start, time_in, frame_in, HasFrame, Says, event_of, HasBlockFault};
+ghost use Rattle.packet_capture.specs.Contents.{kind_of, block_kind, fixed_len, IsPacketKind, IsSectionVersion, interface_in, wire_len_in, up_to_limit, captured_in, frame_start, time_in, frame_in, HasFrame, BlockSays, block_event_of, HasBlockFault};
 
 use crate::block::{Block, SECTION_HEADER};
 use crate::fault::CaptureFault;
@@ -183,7 +183,7 @@ pub(crate) fn read_content<'a>(
 ) -> Result<BlockContent<'a>, CaptureFault>
     requires { 12 ≤ length block.bytes.now }
     ensures says { IfOk result (λ c.
-        Says interfaces.now block.entry.order block.entry.bytes.now (event_of c)) }
+        BlockSays interfaces.now block.entry.order block.entry.bytes.now (block_event_of c)) }
     ensures fault { IfErr result
         (HasBlockFault interfaces.now block.entry.order block.entry.bytes.now) }
 {

@@ -1,6 +1,6 @@
 //! The datagram that a frame carries.
 ghost use Rattle.std.specs.Prelude.{IfOk, IfErr};
-ghost use Rattle.packet_capture.specs.Datagrams.{Carries, content_of};
+ghost use Rattle.packet_capture.specs.Datagrams.{CarriesDatagram, datagram_content};
 ghost use Rattle.packet_capture.specs.FrameFaults.{HasFrameFault};
 
 use crate::fault::FrameFault;
@@ -38,7 +38,7 @@ pub struct Datagram<'a> {
 /// looked at: a card that computes them leaves them wrong in what it sends. The sources are the
 /// registry of link-layer header types of tcpdump.org, IEEE 802.1Q, RFC 791, RFC 8200 and RFC 768.
 pub fn read_datagram(link: u16, frame: &[u8]) -> Result<Datagram<'_>, FrameFault>
-    ensures carried { IfOk result (λ d. Carries link frame.now (content_of d)) }
+    ensures carried { IfOk result (λ d. CarriesDatagram link frame.now (datagram_content d)) }
     ensures fault { IfErr result (HasFrameFault link frame.now) }
 {
     let Some(link) = LinkType::from_number(link) else {

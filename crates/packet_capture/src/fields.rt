@@ -1,6 +1,6 @@
 //! Numbers of several bytes, in either byte order.
 ghost use Rattle.std.specs.Prelude.{◌≡◌, ◌+◌, ◌≤◌, length};
-ghost use Rattle.packet_capture.specs.Fields.{u16_at, u32_at, u64_at};
+ghost use Rattle.packet_capture.specs.Fields.{u16_in, u32_in, u64_in};
 
 /// Which byte of a number comes first.
 #[derive(Clone, Copy, Debug, PartialEq, Eq, Hash)]
@@ -13,10 +13,10 @@ pub enum ByteOrder {
 
 /// The number of the two bytes from `at` on.
 #[inline(always)]
-#[tactic(auto, unfolding(crate::specs::Fields::u16_at))]
+#[tactic(auto, unfolding(crate::specs::Fields::u16_in))]
 pub(crate) fn read_u16(order: ByteOrder, bytes: &[u8], at: usize) -> u16
     requires { at + 2 ≤ length bytes.now }
-    ensures { result ≡ u16_at order bytes.now at }
+    ensures { result ≡ u16_in order bytes.now at }
 {
     match order {
         ByteOrder::Big => u16::from_be_bytes([bytes[at], bytes[at + 1]]),
@@ -26,10 +26,10 @@ pub(crate) fn read_u16(order: ByteOrder, bytes: &[u8], at: usize) -> u16
 
 /// The number of the four bytes from `at` on.
 #[inline(always)]
-#[tactic(auto, unfolding(crate::specs::Fields::u16_at, crate::specs::Fields::u32_at))]
+#[tactic(auto, unfolding(crate::specs::Fields::u16_in, crate::specs::Fields::u32_in))]
 pub(crate) fn read_u32(order: ByteOrder, bytes: &[u8], at: usize) -> u32
     requires { at + 4 ≤ length bytes.now }
-    ensures { result ≡ u32_at order bytes.now at }
+    ensures { result ≡ u32_in order bytes.now at }
 {
     let field = [bytes[at], bytes[at + 1], bytes[at + 2], bytes[at + 3]];
     match order {
@@ -39,10 +39,10 @@ pub(crate) fn read_u32(order: ByteOrder, bytes: &[u8], at: usize) -> u32
 }
 
 /// The number of the eight bytes from `at` on.
-#[tactic(auto, unfolding(crate::specs::Fields::u64_at))]
+#[tactic(auto, unfolding(crate::specs::Fields::u64_in))]
 pub(crate) fn read_u64(order: ByteOrder, bytes: &[u8], at: usize) -> u64
     requires { at + 8 ≤ length bytes.now }
-    ensures { result ≡ u64_at order bytes.now at }
+    ensures { result ≡ u64_in order bytes.now at }
 {
     let front = u64::from(read_u32(order, bytes, at));
     let back = u64::from(read_u32(order, bytes, at + 4));

@@ -1,7 +1,7 @@
 //! Interfaces of a section, and the times of their packets.
 ghost use Rattle.std.specs.Prelude.{◌≡◌, ◌≤◌, ◌<◌, ◌^◌, IfSome, IfNone, length};
 ghost use Rattle.packet_capture.specs.Interfaces.{with_option, HaveOptions, HaveCutOption, Describes, HasCutOption, nanoseconds_of, seconds_ahead, seconds_behind, difference, time_of};
-ghost use Rattle.packet_capture.specs.Options.{setting_of, StandsThere};
+ghost use Rattle.packet_capture.specs.Options.{option_field_of, StandsThere};
 
 use crate::fields::{ByteOrder, read_u16, read_u32, read_u64};
 
@@ -51,7 +51,7 @@ fn front_option(order: ByteOrder, bytes: &[u8]) -> FrontOption<'_>
 
 /// The interface with what one more option says.
 fn with_option(order: ByteOrder, interface: Interface, code: u16, value: &[u8]) -> Interface
-    ensures { result ≡ with_option order interface (setting_of code value.now) }
+    ensures { result ≡ with_option order interface (option_field_of code value.now) }
 {
     match (code, value) {
         (9, [resolution]) => Interface {

@@ -7,10 +7,10 @@ ghost use Rattle.packet_capture.specs.declared.datagram.Address.TheVariants as a
 ghost use Rattle.packet_capture.specs.declared.stop.Stop.TheVariants.{Bad};
 ghost use Rattle.packet_capture.specs.declared.fields.ByteOrder.{ByteOrder};
 ghost use Rattle.packet_capture.specs.declared.stop.Stop.{Stop};
-ghost use Rattle.packet_capture.specs.Datagrams.{Content, Carries};
+ghost use Rattle.packet_capture.specs.Datagrams.{DatagramContent, CarriesDatagram};
 ghost use Rattle.packet_capture.specs.FrameFaults.{HasFrameFault};
 ghost use Rattle.packet_capture.specs.Frames.{FrameContent};
-ghost use Rattle.packet_capture.specs.Captures.{Context, PieceContent, IsPiece, StopsAt, IsCapture};
+ghost use Rattle.packet_capture.specs.Captures.{Context, PieceContent, IsPiece, StopsReading, IsCapture};
 ghost use Rattle.packet_capture.specs.Written.{WrittenFrame, IsWrittenFrame, savefile_bytes, written_frame};
 ghost use Rattle.packet_capture.specs.WrittenSections.{WrittenPacket, IsWrittenPacket, section_bytes, packet_frame};
 ghost use Rattle.packet_capture.specs.WrittenFrames.{WrittenDatagram, WrittenIpv4, IsWrittenIpv4, ipv4_bytes, WrittenIpv6, IsWrittenIpv6, ipv6_bytes, Tag, IsWrittenEthernet, ethernet_bytes, sent_to};
@@ -19,14 +19,14 @@ ghost use Rattle.packet_capture.specs.WrittenFrames.{WrittenDatagram, WrittenIpv
 /// [`read_datagram`](crate::read_datagram), that one answer. The function does nothing: its contract
 /// is a law.
 pub fn one_datagram()
-    ensures datagram { (link : ℕ) (frame : List ℕ) (d e : Content)
-        → Carries link frame d → Carries link frame e → d ≡ e }
+    ensures datagram { (link : ℕ) (frame : List ℕ) (d e : DatagramContent)
+        → CarriesDatagram link frame d → CarriesDatagram link frame e → d ≡ e }
     ensures fault { (link : ℕ) (frame : List ℕ) (f g : FrameFault)
         → HasFrameFault link frame f → HasFrameFault link frame g → f ≡ g }
-    ensures not_both { (link : ℕ) (frame : List ℕ) (d : Content) (f : FrameFault)
-        → Carries link frame d → HasFrameFault link frame f → ⊥ }
+    ensures not_both { (link : ℕ) (frame : List ℕ) (d : DatagramContent) (f : FrameFault)
+        → CarriesDatagram link frame d → HasFrameFault link frame f → ⊥ }
     ensures one { (link : ℕ) (frame : List ℕ)
-        → ((d : Content) × Carries link frame d) ⊎ ((f : FrameFault) × HasFrameFault link frame f) }
+        → ((d : DatagramContent) × CarriesDatagram link frame d) ⊎ ((f : FrameFault) × HasFrameFault link frame f) }
 {}
 
 /// Bytes begin with one piece and leave one context, or there is one reason why they don't: with
@@ -36,12 +36,12 @@ pub fn told_once()
     ensures piece { (before a b : Context) (bytes : List ℕ) (p q : PieceContent)
         → IsPiece before bytes p a → IsPiece before bytes q b → (p ≡ q) × (a ≡ b) }
     ensures stop { (before : Context) (bytes : List ℕ) (s t : Stop)
-        → StopsAt before bytes s → StopsAt before bytes t → s ≡ t }
+        → StopsReading before bytes s → StopsReading before bytes t → s ≡ t }
     ensures not_both { (before after : Context) (bytes : List ℕ) (p : PieceContent) (s : Stop)
-        → IsPiece before bytes p after → StopsAt before bytes s → ⊥ }
+        → IsPiece before bytes p after → StopsReading before bytes s → ⊥ }
     ensures one { (before : Context) (bytes : List ℕ) → length before.interfaces ≤ 256
         → ((p : PieceContent) × (after : Context) × IsPiece before bytes p after)
-        ⊎ ((s : Stop) × StopsAt before bytes s) }
+        ⊎ ((s : Stop) × StopsReading before bytes s) }
 {}
 
 /// A capture has one reading: the same bytes have the same frames. The function does nothing: its
@@ -67,7 +67,7 @@ pub fn read_as_bytes_come()
     ensures piece { (before after : Context) (bytes more : List ℕ) (p : PieceContent)
         → IsPiece before bytes p after → IsPiece before (bytes ++ more) p after }
     ensures fault { (before : Context) (bytes more : List ℕ) (f : CaptureFault)
-        → StopsAt before bytes (Bad f) → StopsAt before (bytes ++ more) (Bad f) }
+        → StopsReading before bytes (Bad f) → StopsReading before (bytes ++ more) (Bad f) }
 {}
 
 /// A datagram that was written into an Ethernet frame, with up to two VLAN tags, in a packet of IPv4 with
@@ -77,12 +77,12 @@ pub fn frames_read_back()
     ensures ipv4 { (heads : List ℕ) (tags : List Tag) (packet : WrittenIpv4)
         (d : WrittenDatagram) (filling : List ℕ)
         → IsWrittenEthernet heads tags → IsWrittenIpv4 packet d
-        → Carries 1 (ethernet_bytes heads tags 2048 (ipv4_bytes packet d) filling)
+        → CarriesDatagram 1 (ethernet_bytes heads tags 2048 (ipv4_bytes packet d) filling)
         (sent_to (addresses.V4 packet.destination) d) }
     ensures ipv6 { (heads : List ℕ) (tags : List Tag) (packet : WrittenIpv6)
         (d : WrittenDatagram) (filling : List ℕ)
         → IsWrittenEthernet heads tags → IsWrittenIpv6 packet d
-        → Carries 1 (ethernet_bytes heads tags 34525 (ipv6_bytes packet d) filling)
+        → CarriesDatagram 1 (ethernet_bytes heads tags 34525 (ipv6_bytes packet d) filling)
         (sent_to (addresses.V6 packet.destination) d) }
 {}
 

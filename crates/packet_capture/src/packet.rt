@@ -1,9 +1,9 @@
 //! IP packets and the UDP datagrams in them.
 ghost use Rattle.std.specs.Prelude.{◌≡◌, ◌≤◌, ◌<◌, IfSome, IfNone, IfOk, IfErr, IsTrue, ◌↔◌, length};
 ghost use Rattle.packet_capture.specs.declared.fields.ByteOrder.TheVariants.{Big};
-ghost use Rattle.packet_capture.specs.Fields.{u16_at};
+ghost use Rattle.packet_capture.specs.Fields.{u16_in};
 ghost use Rattle.packet_capture.specs.Packets.{IsIp, IsUdp, version_number, least_len, header_len, packet_len, obstacle_in, destination_in, segment_in, is_extension};
-ghost use Rattle.packet_capture.specs.Datagrams.{HasUdp, content_of, datagram_in};
+ghost use Rattle.packet_capture.specs.Datagrams.{HasUdp, datagram_content, datagram_in};
 ghost use Rattle.packet_capture.specs.FrameFaults.{HasPacketFault};
 
 use crate::datagram::{Address, Datagram};
@@ -114,7 +114,7 @@ fn destination_in(version: IpVersion, packet: &[u8]) -> Address
 
 /// How many bytes the UDP datagram has with its header, or `None` where that is bad.
 fn udp_len(segment: &[u8]) -> Option<usize>
-    ensures found { IfSome result (λ len. len ≡ u16_at Big segment.now 4) }
+    ensures found { IfSome result (λ len. len ≡ u16_in Big segment.now 4) }
     ensures whole { IfSome result (λ _. IsUdp segment.now) }
     ensures bad { IfNone result (IsUdp segment.now → ⊥) }
 {
@@ -131,7 +131,7 @@ fn udp_len(segment: &[u8]) -> Option<usize>
 /// Returns the datagram of a packet of this version, or the first fault that fits.
 pub(crate) fn read_packet(version: IpVersion, packet: &[u8]) -> Result<Datagram<'_>, FrameFault>
     ensures whole { IfOk result (λ _. HasUdp version packet.now) }
-    ensures value { IfOk result (λ d. content_of d ≡ datagram_in version packet.now) }
+    ensures value { IfOk result (λ d. datagram_content d ≡ datagram_in version packet.now) }
     ensures fault { IfErr result (HasPacketFault version packet.now) }
 {
     if packet.len() < least_len(version) {

@@ -1,8 +1,8 @@
 //! The pieces of a packet capture, one after the other.
 ghost use Rattle.std.specs.Prelude.{◌≡◌, ◌≤◌, Some, IfOk, IfErr, OnOk, OnErr, length};
-ghost use Rattle.packet_capture.specs.Contents.{event_of};
+ghost use Rattle.packet_capture.specs.Contents.{block_event_of};
 ghost use Rattle.packet_capture.specs.Savefiles.{magic_at};
-ghost use Rattle.packet_capture.specs.Captures.{new_context, frame_in_piece, frame_in_event, interfaces_after, IsOneTooMany, piece_of, IsPiece, IsRecordPiece, IsHeaderPiece, IsBlockPiece, StopsAt, StopsInSection};
+ghost use Rattle.packet_capture.specs.Captures.{new_context, frame_in_piece, frame_in_event, interfaces_after, IsOneTooMany, piece_of, IsPiece, IsRecordPiece, IsHeaderPiece, IsBlockPiece, StopsReading, StopsInSection};
 ghost use Rattle.packet_capture.specs.Stops.{StopsInHeader, StopsInRecord};
 
 use crate::block::{SECTION_HEADER, read_block};
@@ -48,11 +48,11 @@ fn after_block<'a>(
     content: BlockContent<'a>,
 ) -> Result<Option<Frame<'a>>, CaptureFault>
     requires { length interfaces.old.items ≤ 256 }
-    ensures frame { IfOk result (λ f. frame_in_piece f ≡ frame_in_event (event_of content.entry)) }
+    ensures frame { IfOk result (λ f. frame_in_piece f ≡ frame_in_event (block_event_of content.entry)) }
     ensures items { OnOk result
-        (interfaces.new.items ≡ interfaces_after interfaces.old.items (event_of content.entry)) }
+        (interfaces.new.items ≡ interfaces_after interfaces.old.items (block_event_of content.entry)) }
     ensures few { OnOk result (length interfaces.new.items ≤ 256) }
-    ensures full { IfErr result (IsOneTooMany interfaces.old.items (event_of content.entry)) }
+    ensures full { IfErr result (IsOneTooMany interfaces.old.items (block_event_of content.entry)) }
     ensures kept { OnErr result (interfaces.new ≡ interfaces.old) }
 {
     match content {
@@ -139,7 +139,7 @@ impl CaptureReader {
     fn read_first<'a>(&mut self, bytes: &'a [u8]) -> Result<Piece<'a>, Stop>
         requires { self.old.format ≡ Format.Start }
         ensures piece { IfOk result (λ p. IsPiece self.old bytes.now (piece_of p) self.new) }
-        ensures stop { IfErr result (StopsAt self.old bytes.now) }
+        ensures stop { IfErr result (StopsReading self.old bytes.now) }
         ensures kept { OnErr result (self.new ≡ self.old) }
     {
         if bytes.len() < 4 {
@@ -169,7 +169,7 @@ impl CaptureReader {
     /// bytes and 256 interfaces are this project's.
     pub fn next_piece<'a>(&mut self, bytes: &'a [u8]) -> Result<Piece<'a>, Stop>
         ensures piece { IfOk result (λ p. IsPiece self.old bytes.now (piece_of p) self.new) }
-        ensures stop { IfErr result (StopsAt self.old bytes.now) }
+        ensures stop { IfErr result (StopsReading self.old bytes.now) }
         ensures kept { OnErr result (self.new ≡ self.old) }
     {
         match self.format {

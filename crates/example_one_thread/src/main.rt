@@ -1,0 +1,117 @@
+//! An example of linking the crates, on one thread: one venue's two lines, the journal of the
+//! national best, and a strategy that buys what is cheap. docs/LINKING.md goes through it.
+#![tactic(auto)]
+
+ghost use Rattle.filter_terms.specs.Allowed.{IsAllowed};
+
+use feed_types::{Anything, LineId, Notice, SymbolName, VenueId};
+use filter_terms::{Advice, Limits, Strategy};
+use journal_book::Consolidator;
+use line_arbiter::Arbiter;
+use mold_packet::read_packet;
+use std::alloc::{AllocError, Global};
+use std::io;
+
+const SESSION: [u8; 10] = *b"0000000001";
+
+/// The highest price, in ten-thousandths of a dollar, at which the strategy buys.
+const CHEAP: u32 = 101_600;
+
+/// The most shares of one order.
+const MAX_SIZE: u64 = 200;
+
+/// The line of each datagram, and its message's number, bid and offer: line A loses message 2.
+const DATAGRAMS: [(LineId, u64, u32, u32); 5] = [
+    (LineId::A, 1, 101_500, 101_700),
+    (LineId::B, 1, 101_500, 101_700),
+    (LineId::A, 3, 101_500, 101_800),
+    (LineId::B, 2, 101_400, 101_600),
+    (LineId::B, 3, 101_500, 101_800),
+];
+
+/// Writes a packet of one quotation of ACME, 300 shares on each side, over what stands in `bytes`.
+fn write_datagram(
+    bytes: &mut Vec<u8>,
+    number: u64,
+    bid: u32,
+    offer: u32,
+) -> Result<(), AllocError> {
+    bytes.clear();
+    bytes.extend_from_slice(&SESSION)?;
+    bytes.extend_from_slice(&number.to_be_bytes())?;
+    bytes.extend_from_slice(&[0, 1, 0, 26, 0x51])?;
+    bytes.extend_from_slice(b"ACME    ")?;
+    bytes.extend_from_slice(&bid.to_be_bytes())?;
+    bytes.extend_from_slice(&300_u32.to_be_bytes())?;
+    bytes.extend_from_slice(&offer.to_be_bytes())?;
+    bytes.extend_from_slice(&300_u32.to_be_bytes())?;
+    bytes.extend_from_slice(&[3])
+}
+
+/// How far ahead of a gap the arbiter holds messages.
+const WINDOW: u32 = 64;
+
+/// Buys from a cheap offer what it shows, within the limit.
+fn advice_on(notice: &Notice) -> Advice
+    ensures { IsAllowed (record { max_size = 200 }) notice.now result }
+{
+    let Some(offer) = notice.national.offer else {
+        return Advice::Hold;
+    };
+    if offer.price > CHEAP || offer.size == 0 {
+        return Advice::Hold;
+    }
+    Advice::Buy {
+        venue: offer.venue,
+        price: offer.price,
+        size: offer.size.min(MAX_SIZE),
+    }
+}
+
+fn main(rt: HostRuntime) -> io::Result<()> {
+    let alloc: Global = rt.alloc();
+    let (Some(venue), Some(symbol)) = (VenueId::new(0), SymbolName::from_text(b"ACME")) else {
+        return Ok(());
+    };
+    let Ok(mut arbiter) = Arbiter::<Anything>::new(alloc, venue, SESSION, WINDOW) else {
+        return Ok(());
+    };
+    let Ok(mut journal) = Consolidator::new(alloc, &[symbol], 1, 1_000) else {
+        return Ok(());
+    };
+    // Stored closures are made where they are used: no function hands one out.
+    let advise = Box::new(
+        alloc,
+        |notice: &Notice| -> Advice
+            requires { Unit {0} }
+            ensures { IsAllowed (record { max_size = 200 }) notice.now result }
+        { advice_on(notice) },
+    )?;
+    let mut strategy = Strategy::new(Limits { max_size: MAX_SIZE }, advise);
+    let mut bytes = Vec::new(alloc);
+    let mut asked = 0;
+    for (line, number, bid, offer) in DATAGRAMS {
+        write_datagram(&mut bytes, number, bid, offer)?;
+        if let Ok(packet) = read_packet(bytes.as_slice()) {
+            // A packet that is refused changes nothing.
+            let _answer = arbiter.take(line, &packet);
+        }
+        // After a packet there are at most a window of messages in sequence, and End.
+        for _ in 0..=WINDOW {
+            let Some(numbered) = arbiter.next_ready() else {
+                break;
+            };
+            if venue.index() >= journal.venue_count() || journal.reserve_one().is_err() {
+                return println!(rt; "there is no room in the journal");
+            }
+            arbiter.advance();
+            let _position = journal.record(venue, numbered);
+        }
+        for notice in journal.changes().get(asked..).unwrap_or(&[]) {
+            let (change, advice) = (notice.number, strategy.advise(notice));
+            println!(rt; "change {change}: {advice:?}")?;
+        }
+        asked = journal.changes().len();
+    }
+    Ok(())
+}
