@@ -35,6 +35,13 @@ unused_more capacity xs x all new = λ id y at. elim (get_push xs id x y at) [
   | inr there ↦ all id y there.1
 ]
 
+-- one lane for a subscriber more
+pub spares_more : (capacity : ℕ) (spare : List SpareLane) (s : SpareLane) → AreUnused capacity spare → IsUnused capacity (length spare) s → AreUnused capacity (spare ++ s ∷ [])
+spares_more capacity spare s before unused id x at = elim (get_push spare id s x at) [
+  | inl here ↦ subst (λ (p : ℕ × SpareLane). IsUnused capacity p.0 p.1) (λ i. (sym here.0 i, sym here.1 i)) unused
+  | inr there ↦ before id x there.1
+]
+
 -- one venue more
 pub starts_more : (window lane : ℕ) (starts : List StartState) (receivers : List (LaneEnd Numbered)) (s : StartState) (e : LaneEnd Numbered) → AreStarts window lane starts receivers → e ≡ s.lane → e.tag ≡ length receivers → e.items ≡ []
     → (s.arbiter.window ≡ window) × (s.lane.capacity ≡ lane) → AreStarts window lane (starts ++ s ∷ []) (receivers ++ e ∷ [])
