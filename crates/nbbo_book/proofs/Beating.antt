@@ -22,7 +22,8 @@ bid_beats f x y p = grind (arith, p)
 offer_beats : (f : ℕ → ℕ) (x y : Best) → Precedes (x.price < y.price) f x y → beats Offer f x y ≡ true
 offer_beats f x y p = grind (arith, p)
 
-bid_chain : (f : ℕ → ℕ) (x y z : Best) → Precedes (y.price < x.price) f x y → Precedes (z.price < y.price) f y z → Precedes (z.price < x.price) f x z
+bid_chain : (f : ℕ → ℕ) (x y z : Best) → Precedes (y.price < x.price) f x y → Precedes (z.price < y.price) f y z
+    → Precedes (z.price < x.price) f x z
 bid_chain f x y z p q = elim p [
   | inl h ↦ elim q [ inl k ↦ inl (omega (arith, h, k)) | inr k ↦ inl (omega (arith, h, k)) ]
   | inr h ↦ elim q [
@@ -31,13 +32,18 @@ bid_chain f x y z p q = elim p [
       omega (arith, h, k),
       elim h.1 [
         | inl m ↦ elim k.1 [ inl n ↦ inl (omega (arith, m, n)) | inr n ↦ inl (omega (arith, m, n)) ]
-        | inr m ↦ elim k.1 [ inl n ↦ inl (omega (arith, m, n)) | inr n ↦ inr (omega (arith, m, n), omega (arith, m, n)) ]
+        | inr m ↦ elim k.1 [
+          | inl n ↦ inl (omega (arith, m, n))
+          | inr n ↦ inr
+              (omega (arith, m, n), omega (arith, m, n))
+        ]
       ],
     )
   ]
 ]
 
-offer_chain : (f : ℕ → ℕ) (x y z : Best) → Precedes (x.price < y.price) f x y → Precedes (y.price < z.price) f y z → Precedes (x.price < z.price) f x z
+offer_chain : (f : ℕ → ℕ) (x y z : Best) → Precedes (x.price < y.price) f x y → Precedes (y.price < z.price) f y z
+    → Precedes (x.price < z.price) f x z
 offer_chain f x y z p q = elim p [
   | inl h ↦ elim q [ inl k ↦ inl (omega (arith, h, k)) | inr k ↦ inl (omega (arith, h, k)) ]
   | inr h ↦ elim q [
@@ -46,27 +52,35 @@ offer_chain f x y z p q = elim p [
       omega (arith, h, k),
       elim h.1 [
         | inl m ↦ elim k.1 [ inl n ↦ inl (omega (arith, m, n)) | inr n ↦ inl (omega (arith, m, n)) ]
-        | inr m ↦ elim k.1 [ inl n ↦ inl (omega (arith, m, n)) | inr n ↦ inr (omega (arith, m, n), omega (arith, m, n)) ]
+        | inr m ↦ elim k.1 [
+          | inl n ↦ inl (omega (arith, m, n))
+          | inr n ↦ inr
+              (omega (arith, m, n), omega (arith, m, n))
+        ]
       ],
     )
   ]
 ]
 
-pub beats_chain : (b : Side) (f : ℕ → ℕ) (x y z : Best) → beats b f x y ≡ true → beats b f y z ≡ true → beats b f x z ≡ true
+pub beats_chain : (b : Side) (f : ℕ → ℕ) (x y z : Best) → beats b f x y ≡ true → beats b f y z ≡ true
+    → beats b f x z ≡ true
 beats_chain Bid f x y z p q = bid_beats f x z (bid_chain f x y z (bid_precedes f x y p) (bid_precedes f y z q))
-beats_chain Offer f x y z p q = offer_beats f x z (offer_chain f x y z (offer_precedes f x y p) (offer_precedes f y z q))
+beats_chain Offer f x y z p q =
+    offer_beats f x z (offer_chain f x y z (offer_precedes f x y p) (offer_precedes f y z q))
 
 pub beats_one_way : (b : Side) (f : ℕ → ℕ) (x y : Best) → beats b f x y ≡ true → beats b f y x ≡ true → ⊥
 beats_one_way Bid f x y p q = grind (arith, p, q)
 beats_one_way Offer f x y p q = grind (arith, p, q)
 
 -- two sides of different ages: one of them ranks first
-pub beats_either : (b : Side) (f : ℕ → ℕ) (x y : Best) → (f x.venue ≡ f y.venue → ⊥) → beats b f x y ≡ false → beats b f y x ≡ true
+pub beats_either : (b : Side) (f : ℕ → ℕ) (x y : Best) → (f x.venue ≡ f y.venue → ⊥) → beats b f x y ≡ false
+    → beats b f y x ≡ true
 beats_either Bid f x y h p = grind (arith, h, p)
 beats_either Offer f x y h p = grind (arith, h, p)
 
 -- ages count at the two venues alone
-pub beats_same : (b : Side) (f g : ℕ → ℕ) (x y : Best) → f x.venue ≡ g x.venue → f y.venue ≡ g y.venue → beats b f x y ≡ beats b g x y
+pub beats_same : (b : Side) (f g : ℕ → ℕ) (x y : Best) → f x.venue ≡ g x.venue → f y.venue ≡ g y.venue
+    → beats b f x y ≡ beats b g x y
 beats_same b f g x y p q =
     ap (λ t. is_better b x y || ((nat_eq x.price y.price && nat_eq x.size y.size) && nat_lt t (f y.venue))) p
     ∙ ap (λ t. is_better b x y || ((nat_eq x.price y.price && nat_eq x.size y.size) && nat_lt (g x.venue) t)) q
@@ -77,7 +91,8 @@ no_older false true = refl
 no_older false false = refl
 
 -- what no other is newer than ranks before it by its price or its size alone
-pub newest_beats : (b : Side) (f : ℕ → ℕ) (x y : Best) → nat_lt (f x.venue) (f y.venue) ≡ false → beats b f x y ≡ is_better b x y
+pub newest_beats : (b : Side) (f : ℕ → ℕ) (x y : Best) → nat_lt (f x.venue) (f y.venue) ≡ false
+    → beats b f x y ≡ is_better b x y
 newest_beats b f x y h =
     ap (λ t. is_better b x y || ((nat_eq x.price y.price && nat_eq x.size y.size) && t)) h
     ∙ no_older (is_better b x y) (nat_eq x.price y.price && nat_eq x.size y.size)

@@ -37,48 +37,71 @@ helped_long : (e : Entry) (helped : List Bool) → length (helped_after e helped
 helped_long (Consumed v x) helped = refl
 helped_long (SelfHelp v on) helped = long_set helped v on
 
-pub after_is : (keys : List ℕ) (b : BookState) (e : Entry) (last : ℕ) → venue_of e < b.venues → b.last < last → IsBook keys b → IsBook keys (book_after last e b)
+pub after_is : (keys : List ℕ) (b : BookState) (e : Entry) (last : ℕ) → venue_of e < b.venues → b.last < last
+    → IsBook keys b → IsBook keys (book_after last e b)
 after_is keys b e last below rising h = record {
   symbols = refl;
-  table = subst (λ (ss : List (List ℕ)). IsTable ss keys) (h.symbols ∙ sym (rows_keep_symbols (helped_after e b.helped) (b.applied + 1) e b.rows)) h.table;
+  table = subst (λ (ss : List (List ℕ)). IsTable ss keys)
+      (h.symbols ∙ sym (rows_keep_symbols (helped_after e b.helped) (b.applied + 1) e b.rows)) h.table;
   venues = h.venues;
   applied = (let a = h.applied in omega (arith, a, rising));
   count = helped_long e b.helped ∙ h.count;
   rows = (let few = h.venues in rows_are b.helped (b.applied + 1) e b.rows (omega (arith, below, few)) h.rows);
 }
 
-pub after_fits : (keys : List ℕ) (b : BookState) (e : Entry) (last : ℕ) (es : List Entry) → venue_of e < b.venues → IsBook keys b → Fits b es → Fits (book_after last e b) (es ++ e ∷ [])
+pub after_fits : (keys : List ℕ) (b : BookState) (e : Entry) (last : ℕ) (es : List Entry) → venue_of e < b.venues
+    → IsBook keys b → Fits b es → Fits (book_after last e b) (es ++ e ∷ [])
 after_fits keys b e last es below h fits =
     let young : b.applied + 1 ≡ suc (length es) = (let a = fits.applied in omega (arith, a)) in
     let under : venue_of e < 16 = (let few = h.venues in omega (arith, below, few)) in
     record {
       applied = young ∙ (let l = length-append es (e ∷ []) in omega (arith, l));
       helped = helped_fits es e b.helped h.count under fits.helped;
-      rows = rows_fit es e (helped_after e b.helped) b.helped (b.applied + 1) (b.applied + 1) b.rows under young h.rows fits.rows;
+      rows = rows_fit es e (helped_after e b.helped) b.helped (b.applied + 1) (b.applied + 1) b.rows under young
+          h.rows fits.rows;
     }
 
-pub after_changes : (keys : List ℕ) (b : BookState) (e : Entry) (p : ℕ) (es : List Entry) → venue_of e < b.venues → IsBook keys b → Fits b es → filter_map (row_change (helped_after e b.helped) (b.applied + 1) p e) b.rows ≡ changes_by b.symbols es p e
+pub after_changes : (keys : List ℕ) (b : BookState) (e : Entry) (p : ℕ) (es : List Entry) → venue_of e < b.venues
+    → IsBook keys b → Fits b es → filter_map (row_change (helped_after e b.helped) (b.applied + 1) p e) b.rows ≡
+    changes_by b.symbols es p e
 after_changes keys b e p es below h fits =
-    changes_are es e p b.helped (b.applied + 1) b.rows (let few = h.venues in omega (arith, below, few)) h.count (let a = fits.applied in omega (arith, a)) fits.helped h.rows fits.rows
+    changes_are es e p b.helped (b.applied + 1) b.rows (let few = h.venues in omega (arith, below, few)) h.count
+    (let a = fits.applied in omega (arith, a)) fits.helped h.rows fits.rows
     ∙ ap (λ ss. changes_by ss es p e) (sym h.symbols)
 
 -- the row at the place that a symbol was found
-pub national_found : (keys : List ℕ) (b : BookState) (es : List Entry) (s : List ℕ) (i : ℕ) (d : Row) → IsBook keys b → Fits b es → position (bytes_eq s) (symbols_of b.rows) ≡ Some i → national_at (get_or b.rows i d) ≡ national_of es s
+pub national_found : (keys : List ℕ) (b : BookState) (es : List Entry) (s : List ℕ) (i : ℕ) (d : Row) → IsBook keys b
+    → Fits b es → position (bytes_eq s) (symbols_of b.rows) ≡ Some i
+    → national_at (get_or b.rows i d) ≡ national_of es s
 national_found keys b es s i d h fits at =
     let found = found_symbol b.rows s i d at in
-    national_is es b.helped (b.applied + 1) (get_or b.rows i d) fits.helped (all_rows_at (IsRow b.helped (b.applied + 1)) b.rows i d found.0 h.rows) (all_rows_at (RowFits es) b.rows i d found.0 fits.rows)
+    national_is es b.helped (b.applied + 1) (get_or b.rows i d) fits.helped
+    (all_rows_at (IsRow b.helped (b.applied + 1)) b.rows i d found.0 h.rows)
+    (all_rows_at (RowFits es) b.rows i d found.0 fits.rows)
     ∙ ap (national_of es) found.1
 
-row_ranking : (es : List Entry) (side : Side) (helped : List Bool) (n : ℕ) (r : Row) → ((w : ℕ) → w < 16 → slice_index_or helped w false ≡ is_self_helped es w) → IsRow helped n r → RowFits es r → IsRanking es r.symbol side (side_at side r).ranks
-row_ranking es Bid helped n r flags h fits = ranking_is es r.symbol Bid r.bids.ranks (side_ranking es r.symbol Bid (may_at helped r.halted) n (side_at Bid r) (may_is es helped r flags fits) fits.bids h.bids)
-row_ranking es Offer helped n r flags h fits = ranking_is es r.symbol Offer r.offers.ranks (side_ranking es r.symbol Offer (may_at helped r.halted) n (side_at Offer r) (may_is es helped r flags fits) fits.offers h.offers)
+row_ranking : (es : List Entry) (side : Side) (helped : List Bool) (n : ℕ) (r : Row)
+    → ((w : ℕ) → w < 16 → slice_index_or helped w false ≡ is_self_helped es w) → IsRow helped n r → RowFits es r
+    → IsRanking es r.symbol side (side_at side r).ranks
+row_ranking es Bid helped n r flags h fits =
+    ranking_is es r.symbol Bid r.bids.ranks
+    (side_ranking es r.symbol Bid (may_at helped r.halted) n (side_at Bid r) (may_is es helped r flags fits)
+    fits.bids h.bids)
+row_ranking es Offer helped n r flags h fits =
+    ranking_is es r.symbol Offer r.offers.ranks
+    (side_ranking es r.symbol Offer (may_at helped r.halted) n (side_at Offer r) (may_is es helped r flags fits)
+    fits.offers h.offers)
 
-pub ranking_found : (keys : List ℕ) (b : BookState) (es : List Entry) (s : List ℕ) (side : Side) (i : ℕ) (d : Row) → IsBook keys b → Fits b es → position (bytes_eq s) (symbols_of b.rows) ≡ Some i → IsRanking es s side (side_at side (get_or b.rows i d)).ranks
+pub ranking_found : (keys : List ℕ) (b : BookState) (es : List Entry) (s : List ℕ) (side : Side) (i : ℕ) (d : Row)
+    → IsBook keys b → Fits b es → position (bytes_eq s) (symbols_of b.rows) ≡ Some i
+    → IsRanking es s side (side_at side (get_or b.rows i d)).ranks
 ranking_found keys b es s side i d h fits at =
     let found = found_symbol b.rows s i d at in
     let r : Row = get_or b.rows i d in
     subst (λ (t : List ℕ). IsRanking es t side (side_at side r).ranks) found.1
-    (row_ranking es side b.helped (b.applied + 1) r fits.helped (all_rows_at (IsRow b.helped (b.applied + 1)) b.rows i d found.0 h.rows) (all_rows_at (RowFits es) b.rows i d found.0 fits.rows))
+    (row_ranking es side b.helped (b.applied + 1) r fits.helped
+    (all_rows_at (IsRow b.helped (b.applied + 1)) b.rows i d found.0 h.rows)
+    (all_rows_at (RowFits es) b.rows i d found.0 fits.rows))
 
 -- a new book
 all_alike : {X : Type 0} (n v : ℕ) (x : X) → get_or (replicate n x) v x ≡ x
@@ -96,22 +119,41 @@ empty_side_is : (b : Side) (may : ℕ → Bool) → IsSide b may 1 empty_side
 empty_side_is b may = record {
   count = refl;
   past = λ v l. subst (λ (t : ℕ). t < 1) (sym (ap (λ (t : VenueSide). t.age) (nothing_stands v))) (omega arith);
-  apart = λ v w l m n there too same. (let no : false ≡ true = sym (ap (λ (t : VenueSide). is_some t.quote) (nothing_stands v)) ∙ there in cc);
+  apart = λ v w l m n there too same.
+      (let no : false ≡ true = sym (ap (λ (t : VenueSide). is_some t.quote) (nothing_stands v)) ∙ there in cc);
   ranked = record {
-    members = λ x. (λ i. absurd i, λ k. (let no : None ≡ Some x = sym (ap (λ (t : VenueSide). ranked_by (may x.venue) x.venue t.quote) (nothing_stands x.venue) ∙ ranked_nothing (may x.venue) x.venue) ∙ k.1 in cc));
+    members = λ x. (
+      λ i. absurd i,
+      λ k. (let no : None ≡ Some x =
+          sym (ap (λ (t : VenueSide). ranked_by (may x.venue) x.venue t.quote) (nothing_stands x.venue)
+          ∙ ranked_nothing (may x.venue) x.venue) ∙ k.1 in cc),
+    );
     order = tt;
   };
 }
 
 empty_rows_are : (helped : List Bool) (ss : List (List ℕ)) → AllByRecursion (IsRow helped 1) (map empty_row ss)
 empty_rows_are helped [] = tt
-empty_rows_are helped (s ∷ ss) = (record { bids = empty_side_is Bid (may_at helped (replicate 16 false)); offers = empty_side_is Offer (may_at helped (replicate 16 false)); count = refl }, empty_rows_are helped ss)
+empty_rows_are helped (s ∷ ss) = (
+  record {
+    bids = empty_side_is Bid (may_at helped (replicate 16 false));
+    offers =
+        empty_side_is Offer (may_at helped (replicate 16 false));
+    count = refl;
+  },
+  empty_rows_are helped ss,
+)
 
 empty_rows_fit : (ss : List (List ℕ)) → AllByRecursion (RowFits []) (map empty_row ss)
 empty_rows_fit [] = tt
-empty_rows_fit (s ∷ ss) = (record { bids = λ v l. nothing_stands v; offers = λ v l. nothing_stands v; halted = λ v l. all_alike 16 v false }, empty_rows_fit ss)
+empty_rows_fit (s ∷ ss) = (
+  record
+      { bids = λ v l. nothing_stands v; offers = λ v l. nothing_stands v; halted = λ v l. all_alike 16 v false },
+  empty_rows_fit ss,
+)
 
-pub rows_more : (ss : List (List ℕ)) (i : ℕ) (s d : List ℕ) → i < length ss → s ≡ get_or ss i d → map empty_row (take i ss) ++ empty_row s ∷ [] ≡ map empty_row (take (suc i) ss)
+pub rows_more : (ss : List (List ℕ)) (i : ℕ) (s d : List ℕ) → i < length ss → s ≡ get_or ss i d
+    → map empty_row (take i ss) ++ empty_row s ∷ [] ≡ map empty_row (take (suc i) ss)
 rows_more [] i s d l e = absurd (omega (arith, l))
 rows_more (t ∷ ss) zero s d l e = ap (λ u. empty_row u ∷ []) e
 rows_more (t ∷ ss) (suc i) s d l e = ap (λ u. empty_row t ∷ u) (rows_more ss i s d (omega (arith, l)) e)
@@ -121,9 +163,11 @@ empty_symbols [] = refl
 empty_symbols (s ∷ ss) = ap (λ t. s ∷ t) (empty_symbols ss)
 
 abbrev pub empty_book : ℕ → List Row → BookState
-empty_book venues rows = record { symbols = symbols_of rows; venues = venues; last = 0; applied = 0; helped = replicate 16 false; rows = rows }
+empty_book venues rows = record
+    { symbols = symbols_of rows; venues = venues; last = 0; applied = 0; helped = replicate 16 false; rows = rows }
 
-pub empty_is : (keys : List ℕ) (ss : List (List ℕ)) (venues : ℕ) (rows : List Row) → venues ≤ 16 → rows ≡ map empty_row ss → IsTable ss keys → IsBook keys (empty_book venues rows)
+pub empty_is : (keys : List ℕ) (ss : List (List ℕ)) (venues : ℕ) (rows : List Row) → venues ≤ 16
+    → rows ≡ map empty_row ss → IsTable ss keys → IsBook keys (empty_book venues rows)
 empty_is keys ss venues rows few is table =
     subst (λ (t : List Row). IsBook keys (empty_book venues t)) (sym is) (record {
       symbols = refl;
@@ -134,7 +178,8 @@ empty_is keys ss venues rows few is table =
       rows = empty_rows_are (replicate 16 false) ss;
     })
 
-pub empty_fits : (ss : List (List ℕ)) (venues : ℕ) (rows : List Row) → rows ≡ map empty_row ss → Fits (empty_book venues rows) []
+pub empty_fits : (ss : List (List ℕ)) (venues : ℕ) (rows : List Row) → rows ≡ map empty_row ss
+    → Fits (empty_book venues rows) []
 empty_fits ss venues rows is =
     subst (λ (t : List Row). Fits (empty_book venues t) []) (sym is) (record {
       applied = refl;

@@ -32,7 +32,8 @@ take_every (x ∷ xs) = ap (λ t. x ∷ t) (take_every xs)
 
 -- no two venues' sides are of one age
 abbrev Apart : List Entry → Type 0
-Apart es = (s : List ℕ) (b : Side) (v w : ℕ) → (v ≡ w → ⊥) → IsSome (side_of es v s b) → IsSome (side_of es w s b) → age_of es v s b ≡ age_of es w s b → ⊥
+Apart es = (s : List ℕ) (b : Side) (v w : ℕ) → (v ≡ w → ⊥) → IsSome (side_of es v s b) → IsSome (side_of es w s b)
+    → age_of es v s b ≡ age_of es w s b → ⊥
 
 -- a side stays what it is, with its age, or has the age of the entry
 data Turn (es : List Entry) (e : Entry) (v : ℕ) (s : List ℕ) (b : Side) : Type 0 where
@@ -43,18 +44,21 @@ turn : (es : List Entry) (e : Entry) (v : ℕ) (s : List ℕ) (b : Side) → Tur
 turn es e v s b =
     (elim (nat_eq (venue_of e) v) as (λ t. nat_eq (venue_of e) v ≡ t → Turn es e v s b) [
       | true ↦ λ own.
-          (elim (is_same_side (side_of es v s b) (side_of (es ++ e ∷ []) v s b)) as (λ t. is_same_side (side_of es v s b) (side_of (es ++ e ∷ []) v s b) ≡ t → Turn es e v s b) [
+          (elim (is_same_side (side_of es v s b) (side_of (es ++ e ∷ []) v s b)) as
+          (λ t. is_same_side (side_of es v s b) (side_of (es ++ e ∷ []) v s b) ≡ t → Turn es e v s b) [
             | true ↦ λ q. Stays (sym (same_side_sound (side_of es v s b) (side_of (es ++ e ∷ []) v s b) q))
             | false ↦ λ q. Turns own (age-new es e v s b q)
           ]) refl
-      | false ↦ λ other. Stays (side_of-put es e v s b ∙ ap (λ o. unwrap_or o (side_of es v s b)) (not_its_own e v s b other))
+      | false ↦ λ other. Stays (side_of-put es e v s b
+          ∙ ap (λ o. unwrap_or o (side_of es v s b)) (not_its_own e v s b other))
     ]) refl
 
 apart_put : (es : List Entry) (e : Entry) → Apart es → Apart (es ++ e ∷ [])
 apart_put es e h s b v w differ there too same =
     elim (turn es e v s b) [
       | Stays p ↦ elim (turn es e w s b) [
-        | Stays q ↦ h s b v w differ (sym (ap is_some p) ∙ there) (sym (ap is_some q) ∙ too) (sym (age-kept es e v s b p) ∙ same ∙ age-kept es e w s b q)
+        | Stays q ↦ h s b v w differ (sym (ap is_some p) ∙ there) (sym (ap is_some q) ∙ too)
+            (sym (age-kept es e v s b p) ∙ same ∙ age-kept es e w s b q)
         | Turns own age ↦ (let k = age-kept es e v s b p in let m = age-≤ es v s b in omega (arith, k, m, age, same))
       ]
       | Turns own age ↦ elim (turn es e w s b) [
@@ -65,18 +69,23 @@ apart_put es e h s b v w differ there too same =
 
 apart_more : (es more : List Entry) → Apart es → Apart (es ++ more)
 apart_more es [] h = subst (λ (t : List Entry). Apart t) (sym (no_more es)) h
-apart_more es (e ∷ more) h = subst (λ (t : List Entry). Apart t) (append_assoc es (e ∷ []) more) (apart_more (es ++ e ∷ []) more (apart_put es e h))
+apart_more es (e ∷ more) h = subst (λ (t : List Entry). Apart t) (append_assoc es (e ∷ []) more)
+    (apart_more (es ++ e ∷ []) more (apart_put es e h))
 
 apart_all : (es : List Entry) → Apart es
 apart_all es = apart_more [] es (λ s b v w differ there too same. (let no : false ≡ true = there in cc))
 
 -- two eligible sides of different venues: one of them ranks first
-pub either_beats : (es : List Entry) (s : List ℕ) (b : Side) (x y : Best) → IsEligible es s b x → IsEligible es s b y → (y.venue ≡ x.venue → ⊥) → (beats b (λ v. age_of es v s b) x y ≡ true) ⊎ (beats b (λ v. age_of es v s b) y x ≡ true)
+pub either_beats : (es : List Entry) (s : List ℕ) (b : Side) (x y : Best) → IsEligible es s b x → IsEligible es s b y
+    → (y.venue ≡ x.venue → ⊥) → (beats b (λ v. age_of es v s b) x y ≡ true) ⊎
+    (beats b (λ v. age_of es v s b) y x ≡ true)
 either_beats es s b x y h k differ =
     let age : ℕ → ℕ = λ v. age_of es v s b in
     (elim (beats b age x y) as (λ t. beats b age x y ≡ t → (beats b age x y ≡ true) ⊎ (beats b age y x ≡ true)) [
       | true ↦ λ e. inl e
-      | false ↦ λ e. inr (beats_either b age x y (λ same. apart_all es s b x.venue y.venue (λ q. differ (sym q)) (ap is_some h.automated) (ap is_some k.automated) same) e)
+      | false ↦ λ e. inr (beats_either b age x y
+          (λ same. apart_all es s b x.venue y.venue (λ q. differ (sym q)) (ap is_some h.automated)
+          (ap is_some k.automated) same) e)
     ]) refl
 
 eligible_own : (es : List Entry) (s : List ℕ) (b : Side) → IsOwn (eligible_of es s b)
@@ -84,7 +93,8 @@ eligible_own es s b = λ w x e. ranked_own (may_rank es w s) w (side_of es w s b
 
 eligible_apart : (es : List Entry) (s : List ℕ) (b : Side) → IsApart (λ v. age_of es v s b) (eligible_of es s b)
 eligible_apart es s b = λ v w x y l m d e k same. apart_all es s b v w (apart_from v w (nat_apart v w d))
-    (ranked_quote (may_rank es v s) v (side_of es v s b) x e) (ranked_quote (may_rank es w s) w (side_of es w s b) y k) same
+    (ranked_quote (may_rank es v s) v (side_of es v s b) x e)
+    (ranked_quote (may_rank es w s) w (side_of es w s b) y k) same
 
 -- the side that beats every other one is found
 pub best_found : (es : List Entry) (s : List ℕ) (b : Side) (x : Best) → IsBest es s b x → best_of es s b ≡ Some x
@@ -98,19 +108,28 @@ best_found es s b x h = top_found b (λ v. age_of es v s b) (eligible_of es s b)
 )
 
 -- what the walk over the venues comes to
-cases_of : (es : List Entry) (s : List ℕ) (b : Side) (o : Option Best) → IsTop (IsBelow 16) b (λ v. age_of es v s b) (eligible_of es s b) o → ((o ≡ None) × ((x : Best) → IsEligible es s b x → ⊥)) ⊎ ((x : Best) × (o ≡ Some x) × IsBest es s b x)
-cases_of es s b None t = inl (refl, λ x h. (let none : None ≡ Some x = sym (t x.venue h.venue) ∙ eligible_is es s b x h in cc))
+cases_of : (es : List Entry) (s : List ℕ) (b : Side) (o : Option Best)
+    → IsTop (IsBelow 16) b (λ v. age_of es v s b) (eligible_of es s b) o
+    → ((o ≡ None) × ((x : Best) → IsEligible es s b x → ⊥)) ⊎ ((x : Best) × (o ≡ Some x) × IsBest es s b x)
+cases_of es s b None t = inl (
+  refl,
+  λ x h. (let none : None ≡ Some x = sym (t x.venue h.venue) ∙ eligible_is es s b x h in cc),
+)
 cases_of es s b (Some x) t = inr (
   x,
   refl,
   record {
     eligible = eligible_told es s b x t.0 t.1;
-    first = λ y k differ. t.2 y.venue y k.venue (eligible_is es s b y k) (nat_split y.venue x.venue (nat_eq y.venue x.venue ≡ false) (λ q. absurd (differ q)) (λ d. d));
+    first = λ y k differ. t.2 y.venue y k.venue (eligible_is es s b y k)
+        (nat_split y.venue x.venue (nat_eq y.venue x.venue ≡ false) (λ q. absurd (differ q)) (λ d. d));
   },
 )
 
-best_cases : (es : List Entry) (s : List ℕ) (b : Side) → ((best_of es s b ≡ None) × ((x : Best) → IsEligible es s b x → ⊥)) ⊎ ((x : Best) × (best_of es s b ≡ Some x) × IsBest es s b x)
-best_cases es s b = cases_of es s b (best_of es s b) (top_is b (λ v. age_of es v s b) (eligible_of es s b) (eligible_own es s b) (eligible_apart es s b))
+best_cases : (es : List Entry) (s : List ℕ) (b : Side)
+    → ((best_of es s b ≡ None) × ((x : Best) → IsEligible es s b x → ⊥)) ⊎
+    ((x : Best) × (best_of es s b ≡ Some x) × IsBest es s b x)
+best_cases es s b = cases_of es s b (best_of es s b)
+    (top_is b (λ v. age_of es v s b) (eligible_of es s b) (eligible_own es s b) (eligible_apart es s b))
 
 pub best_is : (es : List Entry) (s : List ℕ) (b : Side) (x : Best) → best_of es s b ≡ Some x → IsBest es s b x
 best_is es s b x e = elim (best_cases es s b) [
@@ -124,7 +143,8 @@ nobody_is es s b e = elim (best_cases es s b) [
   | inr k ↦ λ x h. (let no : Some k.0 ≡ None = sym k.1 ∙ e in cc)
 ]
 
-pub is_nobody : (es : List Entry) (s : List ℕ) (b : Side) → ((x : Best) → IsEligible es s b x → ⊥) → best_of es s b ≡ None
+pub is_nobody : (es : List Entry) (s : List ℕ) (b : Side) → ((x : Best) → IsEligible es s b x → ⊥)
+    → best_of es s b ≡ None
 is_nobody es s b h = elim (best_cases es s b) [ inl k ↦ k.0 | inr k ↦ absurd (h k.0 k.2.eligible) ]
 
 -- ages: from the age on each prefix has the side, and from no earlier number on
@@ -138,7 +158,8 @@ since_holds f x (suc n) k low high =
       | false ↦ λ e l. absurd (omega (arith, l, high))
     ]) refl low
 
-since_least : (f : ℕ → Option SideQuote) (x : Option SideQuote) (n p : ℕ) → ((k : ℕ) → p ≤ k → k < n → f k ≡ x) → p ≤ n → since f x n ≤ p
+since_least : (f : ℕ → Option SideQuote) (x : Option SideQuote) (n p : ℕ) → ((k : ℕ) → p ≤ k → k < n → f k ≡ x)
+    → p ≤ n → since f x n ≤ p
 since_least f x zero p h l = omega arith
 since_least f x (suc n) p h l =
     (elim (is_same_side (f n) x) as (λ t. is_same_side (f n) x ≡ t → cond t (since f x n) (suc n) ≤ p) [
@@ -147,13 +168,19 @@ since_least f x (suc n) p h l =
           (λ differ. since_least f x n p (λ k a c. h k a (omega (arith, c))) (grind (arith, l, differ)))
       | false ↦ λ e. nat_split p (suc n) (suc n ≤ p)
           (λ same. omega (arith, same))
-          (λ differ. (let no : true ≡ false = sym (ap (λ t. is_same_side t x) (h n (grind (arith, l, differ)) (omega arith)) ∙ same_side_refl x) ∙ e in cc))
+          (λ differ. (let no : true ≡ false =
+          sym (ap (λ t. is_same_side t x) (h n (grind (arith, l, differ)) (omega arith)) ∙ same_side_refl x)
+          ∙ e in cc))
     ]) refl
 
-pub age_holds : (es : List Entry) (v : ℕ) (s : List ℕ) (b : Side) (n : ℕ) → age_of es v s b ≤ n → n ≤ length es → side_of (take n es) v s b ≡ side_of es v s b
+pub age_holds : (es : List Entry) (v : ℕ) (s : List ℕ) (b : Side) (n : ℕ) → age_of es v s b ≤ n → n ≤ length es
+    → side_of (take n es) v s b ≡ side_of es v s b
 age_holds es v s b n low high = nat_split n (length es) (side_of (take n es) v s b ≡ side_of es v s b)
     (λ same. ap (λ (k : ℕ). side_of (take k es) v s b) same ∙ ap (λ (t : List Entry). side_of t v s b) (take_every es))
-    (λ differ. since_holds (λ k. side_of (take k es) v s b) (side_of es v s b) (length es) n low (grind (arith, high, differ)))
+    (λ differ. since_holds (λ k. side_of (take k es) v s b) (side_of es v s b) (length es) n low
+    (grind (arith, high, differ)))
 
-pub age_least : (es : List Entry) (v : ℕ) (s : List ℕ) (b : Side) (p : ℕ) → p ≤ length es → ((n : ℕ) → p ≤ n → n ≤ length es → side_of (take n es) v s b ≡ side_of es v s b) → age_of es v s b ≤ p
-age_least es v s b p l h = since_least (λ k. side_of (take k es) v s b) (side_of es v s b) (length es) p (λ k a c. h k a (omega (arith, c))) l
+pub age_least : (es : List Entry) (v : ℕ) (s : List ℕ) (b : Side) (p : ℕ) → p ≤ length es
+    → ((n : ℕ) → p ≤ n → n ≤ length es → side_of (take n es) v s b ≡ side_of es v s b) → age_of es v s b ≤ p
+age_least es v s b p l h = since_least (λ k. side_of (take k es) v s b) (side_of es v s b) (length es) p
+    (λ k a c. h k a (omega (arith, c))) l

@@ -1,5 +1,5 @@
 -- Cited by private clauses alone: the ranks of one side of a symbol, best first.
-use Rattle.std.specs.Prelude.{◌≡◌, ℕ, ◌<◌, ◌≤◌, ◌+◌, ◌⊎◌, ◌↔◌, nat_lt, ◌==◌, ◌&&◌, ◌||◌, Bool, false, true, List, [], ◌∷◌, length, slice_index_or, Option, Some, None, ⊤, if◌then◌else◌}
+use Rattle.std.specs.Prelude.{◌≡◌, ℕ, ◌<◌, ◌≤◌, ◌+◌, ◌⊎◌, ◌↔◌, nat_lt, ◌==◌, Bool, false, true, List, [], ◌∷◌, length, slice_index_or, Option, Some, None, ⊤, if◌then◌else◌}
 use Rattle.std.specs.List.{AllByRecursion}
 use Rattle.feed_types.specs.declared.line.Side.{Side}
 use Rattle.feed_types.specs.declared.national.Best.{Best}

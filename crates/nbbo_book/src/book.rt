@@ -124,9 +124,13 @@ impl Book {
     {
         self.venues.take_self_help(entry);
         let age = self.applied + 1;
-        let step = Step { age, position };
-        let rows = self.rows.as_mut_slice();
-        apply_step(&self.table, rows, &self.venues, entry, step, out);
+        let step = Step {
+            entry,
+            venues: &self.venues,
+            age,
+            position,
+        };
+        apply_step(&self.table, self.rows.as_mut_slice(), &step, out);
         self.applied = age;
         self.last = position;
     }

@@ -93,6 +93,23 @@ impl BookSide {
         ensures moved { result
             ≡ not (is_same_best (front_of self.old.ranks) (front_of self.new.ranks)) }
     {
+        match venue_side_at(&self.venue_sides, venue).quote() {
+            None => false,
+            Some(_) => self.clear_shown(side, venue, age),
+        }
+    }
+
+    /// Notes that the venue, which has shown something, shows nothing since this age. Returns
+    /// whether the best side differs then. It stands apart from `clear_quote`, which most often
+    /// finds nothing shown.
+    #[inline(never)]
+    fn clear_shown(&mut self, side: Side, venue: VenueId, age: u64) -> bool
+        requires ranked { IsRanked side self.old }
+        requires past { IsPast age self.old.venue_sides }
+        ensures side { self.new ≡ side_quoted side venue None age false self.old }
+        ensures moved { result
+            ≡ not (is_same_best (front_of self.old.ranks) (front_of self.new.ranks)) }
+    {
         let quoter = Quoter {
             venue,
             may_rank: false,
@@ -112,8 +129,20 @@ impl BookSide {
         let shown = venue_side_at(&self.venue_sides, quoter.venue);
         match shown.quote() {
             None => false,
-            Some(_) => self.update_ranks(side, quoter, Cause::Rechecked),
+            Some(_) => self.recheck_shown(side, quoter),
         }
+    }
+
+    /// Ranks the side of a venue that shows something, or takes it out, as `recheck_eligibility`
+    /// does, which most often finds nothing shown. Returns whether the best side differs then.
+    #[inline(never)]
+    fn recheck_shown(&mut self, side: Side, quoter: &Quoter) -> bool
+        requires { IsRanked side self.old }
+        ensures side { self.new ≡ side_rechecked side quoter.now.venue quoter.now.may_rank self.old }
+        ensures moved { result
+            ≡ not (is_same_best (front_of self.old.ranks) (front_of self.new.ranks)) }
+    {
+        self.update_ranks(side, quoter, Cause::Rechecked)
     }
 
     /// Returns the eligible sides, best first.

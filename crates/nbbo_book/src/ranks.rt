@@ -2,7 +2,8 @@
 
 ghost use Rattle.std.specs.Prelude.{◌≡◌, ℕ, ◌+◌, ◌<◌, ◌≤◌, [], true, false, not, length, slice_index_or, slice_set, insert, remove, IfSome, None, Some};
 ghost use Rattle.nbbo_book.specs.Changes.{is_same_best};
-ghost use Rattle.nbbo_book.specs.Nationals.{is_better as is_better_side};
+ghost use Rattle.nbbo_book.specs.Nationals.{is_better as is_better_side, beats as beats_side};
+ghost use Rattle.nbbo_book.specs.VenueSides.{age_at};
 ghost use Rattle.nbbo_book.specs.Ranks.{is_ahead as is_ahead_side, ages_in, AreNoted, CanUpdate, HasNone, IsPlace, without, with_rank, placed, front_of};
 
 use crate::venue_side::{VenueSide, venue_side_at};
@@ -63,6 +64,16 @@ fn is_better(side: Side, x: &Best, y: &Best) -> bool
     has_better_price | (x.price == y.price) & (x.size > y.size)
 }
 
+/// Whether `x` ranks before `y`: by its price, its size or its age.
+fn beats(side: Side, venue_sides: &[VenueSide; 16], x: &Best, y: &Best) -> bool
+    ensures { result ≡ beats_side side (age_at venue_sides.now) x.now y.now }
+{
+    let x_age = venue_side_at(venue_sides, x.venue).age();
+    let y_age = venue_side_at(venue_sides, y.venue).age();
+    let is_equal = (x.price == y.price) & (x.size == y.size);
+    is_better(side, x, y) | is_equal & (x_age < y_age)
+}
+
 /// Whether `x`, the side that is ranked anew, ranks before `y`. The newest of all does so by its
 /// price or its size alone, and no age is read.
 #[inline(always)]
@@ -71,12 +82,7 @@ fn is_ahead(order: &Order<'_>, x: &Best, y: &Best) -> bool
 {
     match order.cause {
         Cause::Quoted => is_better(order.side, x, y),
-        Cause::Rechecked => {
-            let x_age = venue_side_at(order.venue_sides, x.venue).age();
-            let y_age = venue_side_at(order.venue_sides, y.venue).age();
-            let is_equal = (x.price == y.price) & (x.size == y.size);
-            is_better(order.side, x, y) | is_equal & (x_age < y_age)
-        }
+        Cause::Rechecked => beats(order.side, order.venue_sides, x, y),
     }
 }
 
@@ -105,12 +111,12 @@ fn rise(
 {
     let mut at = from;
     while at > 0 {
-        let neighbour = ranks[at - 1];
-        if !is_ahead(order, x, &neighbour) {
+        let neighbour = &ranks[at - 1];
+        if !is_ahead(order, x, neighbour) {
             return at;
         }
         places[neighbour.venue.index()] = at as u8;
-        ranks[at] = neighbour;
+        ranks[at] = ranks[at - 1];
         at -= 1;
     }
     at
@@ -141,12 +147,12 @@ fn fall(
 {
     let mut at = from;
     while at + 1 < ranks.len() {
-        let neighbour = ranks[at + 1];
-        if is_ahead(order, x, &neighbour) {
+        let neighbour = &ranks[at + 1];
+        if is_ahead(order, x, neighbour) {
             return at;
         }
         places[neighbour.venue.index()] = at as u8;
-        ranks[at] = neighbour;
+        ranks[at] = ranks[at + 1];
         at += 1;
     }
     at
@@ -251,7 +257,7 @@ impl Ranks {
     }
 
     /// Ranks the side of a venue that isn't ranked. Returns whether the best side differs then.
-    #[inline(never)]
+    #[inline(always)]
     fn add(&mut self, order: &Order<'_>, x: Best) -> bool
         requires ready { CanUpdate order.now x.venue (Some x) self.old }
         requires absent { without x.venue self.old ≡ self.old }
@@ -265,8 +271,18 @@ impl Ranks {
         settle(order, ranks, &mut self.places, from, &x) == 0
     }
 
-    /// Takes the venue's side out, where it has one. Returns whether the best side differs then.
+    /// Takes out the side at this place.
     #[inline(never)]
+    fn remove_at(&mut self, at: usize)
+        requires { at < length self.old }
+        ensures { self.new ≡ remove self.old at }
+    {
+        self.best_first.remove(at);
+        note_anew(self.best_first.as_slice(), &mut self.places, at);
+    }
+
+    /// Takes the venue's side out, where it has one. Returns whether the best side differs then.
+    #[inline(always)]
     fn take_out(&mut self, venue: VenueId) -> bool
         requires { HasNone venue (without venue self.old) }
         ensures ranks { self.new ≡ without venue self.old }
@@ -274,8 +290,7 @@ impl Ranks {
     {
         match place_of(self.best_first.as_slice(), &self.places, venue) {
             Some(at) => {
-                self.best_first.remove(at);
-                note_anew(self.best_first.as_slice(), &mut self.places, at);
+                self.remove_at(at);
                 at == 0
             }
             None => false,

@@ -129,6 +129,35 @@ impl Row {
         }
     }
 
+    /// Takes the venue's item as `take_item` does, and stands apart.
+    #[inline(never)]
+    fn take_item_apart(&mut self, venues: &Venues, venue: VenueId, item: &Item, age: u64) -> bool
+        requires { IsRowRanked age self.old }
+        ensures row { self.new ≡ row_after_item venues.now.helped age venue item.now self.old }
+        ensures changed { result
+            ≡ not (is_same_national (national_at self.old) (national_at self.new)) }
+    {
+        self.take_item(venues, venue, item, age)
+    }
+
+    /// Takes one more entry as `take_entry` does. It costs less than that for an end and self-help,
+    /// which concern each symbol: what a quotation does stands apart.
+    #[inline(always)]
+    pub fn take_entry_of_all(&mut self, venues: &Venues, entry: &Entry, age: u64) -> bool
+        requires { IsRowRanked age self.old }
+        ensures row { self.new ≡ row_after venues.now.helped age entry.now self.old }
+        ensures changed { result
+            ≡ not (is_same_national (national_at self.old) (national_at self.new)) }
+    {
+        match entry {
+            Entry::Consumed { venue, numbered } => match &numbered.item {
+                Item::End => self.take_end(*venue, age),
+                _ => self.take_item_apart(venues, *venue, &numbered.item, age),
+            },
+            Entry::SelfHelp { venue, on: _ } => self.recheck(venues, *venue),
+        }
+    }
+
     /// Reads something of each part that a quotation of the venue reads, and mixes it.
     #[inline(always)]
     pub fn peek(&self, venue: VenueId) -> u64 {

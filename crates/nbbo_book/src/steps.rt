@@ -13,13 +13,18 @@ use crate::table::{Table, find};
 use crate::venues::Venues;
 use feed_types::{Best, Entry, Item, National, SymbolName};
 
-/// Where one more entry stands: its place in the order of all, and its position.
+/// One more entry: what it is, and where it stands.
 #[derive(Clone, Copy)]
-pub struct Step {
+pub struct Step<'a> {
+    pub entry: &'a Entry,
+    /// The venues, with the flags of self-help after the entry.
+    pub venues: &'a Venues,
+    /// Its place in the order of all.
     pub age: u64,
     pub position: u64,
 }
 
+/// Appends a change to `out`, which has room for it.
 #[inline(always)]
 fn append(out: &mut Vec<Change>, position: u64, symbol: SymbolName, national: National)
     requires { vec_len out.old < vec_capacity out.old }
@@ -38,33 +43,54 @@ fn append(out: &mut Vec<Change>, position: u64, symbol: SymbolName, national: Na
     });
 }
 
+/// Applies the entry to the symbol, and appends its change, if any.
 #[inline(always)]
-fn step_row(row: &mut Row, venues: &Venues, entry: &Entry, step: Step, out: &mut Vec<Change>)
-    requires ranked { IsRowRanked step.age row.old }
+fn step_row(row: &mut Row, step: &Step<'_>, out: &mut Vec<Change>)
+    requires ranked { IsRowRanked step.now.age row.old }
     requires room { vec_len out.old < vec_capacity out.old }
-    ensures row { row.new ≡ row_after venues.now.helped step.age entry.now row.old }
+    ensures row { row.new ≡ row_after step.now.venues.now.helped step.now.age
+        step.now.entry.now row.old }
     ensures items { out.new.items
-        ≡ out.old.items ++ option_to_list (row_change
-        venues.now.helped step.age step.position entry.now row.old) }
+        ≡ out.old.items ++ option_to_list (row_change step.now.venues.now.helped step.now.age
+        step.now.position step.now.entry.now row.old) }
     ensures len { vec_len out.new ≤ vec_len out.old + 1 }
     ensures capacity { vec_capacity out.new ≡ vec_capacity out.old }
 {
-    if row.take_entry(venues, entry, step.age) {
+    if row.take_entry(step.venues, step.entry, step.age) {
         append(out, step.position, row.symbol, row.national());
     }
 }
 
+/// Applies the entry, which concerns each symbol, to this one, and appends its change, if any.
+#[inline(always)]
+fn step_each(row: &mut Row, step: &Step<'_>, out: &mut Vec<Change>)
+    requires ranked { IsRowRanked step.now.age row.old }
+    requires room { vec_len out.old < vec_capacity out.old }
+    ensures row { row.new ≡ row_after step.now.venues.now.helped step.now.age
+        step.now.entry.now row.old }
+    ensures items { out.new.items
+        ≡ out.old.items ++ option_to_list (row_change step.now.venues.now.helped step.now.age
+        step.now.position step.now.entry.now row.old) }
+    ensures len { vec_len out.new ≤ vec_len out.old + 1 }
+    ensures capacity { vec_capacity out.new ≡ vec_capacity out.old }
+{
+    if row.take_entry_of_all(step.venues, step.entry, step.age) {
+        append(out, step.position, row.symbol, row.national());
+    }
+}
+
+/// Applies the entry to all symbols, and appends their changes in order.
 #[inline(never)]
-fn step_rows(rows: &mut [Row], venues: &Venues, entry: &Entry, step: Step, out: &mut Vec<Change>)
-    requires ranked { AllByRecursion (IsRowRanked step.age) rows.old }
+fn step_rows(rows: &mut [Row], step: &Step<'_>, out: &mut Vec<Change>)
+    requires ranked { AllByRecursion (IsRowRanked step.now.age) rows.old }
     requires room { vec_len out.old + length rows.old ≤ vec_capacity out.old }
-    ensures applies { Applies venues.now.helped step.age step.position entry.now
-        rows.old rows.new out.old.items out.new.items }
+    ensures applies { Applies step.now.venues.now.helped step.now.age step.now.position
+        step.now.entry.now rows.old rows.new out.old.items out.new.items }
     ensures len { vec_len out.new ≤ vec_len out.old + length rows.old }
     ensures capacity { vec_capacity out.new ≡ vec_capacity out.old }
 {
     for i in 0..rows.len() {
-        step_row(&mut rows[i], venues, entry, step, out);
+        step_each(&mut rows[i], step, out);
     }
 }
 
@@ -73,56 +99,48 @@ fn step_rows(rows: &mut [Row], venues: &Venues, entry: &Entry, step: Step, out: 
 fn step_symbol(
     table: &Table,
     rows: &mut [Row],
-    venues: &Venues,
+    step: &Step<'_>,
     symbol: SymbolName,
-    entry: &Entry,
-    step: Step,
     out: &mut Vec<Change>,
 )
-    requires symbol { symbol_in entry.now ≡ Some symbol }
+    requires symbol { symbol_in step.now.entry.now ≡ Some symbol }
     requires table { IsTable (symbols_of rows.old) table.now.words.keys }
-    requires ranked { AllByRecursion (IsRowRanked step.age) rows.old }
+    requires ranked { AllByRecursion (IsRowRanked step.now.age) rows.old }
     requires room { vec_len out.old + length rows.old ≤ vec_capacity out.old }
-    ensures applies { Applies venues.now.helped step.age step.position entry.now
-        rows.old rows.new out.old.items out.new.items }
+    ensures applies { Applies step.now.venues.now.helped step.now.age step.now.position
+        step.now.entry.now rows.old rows.new out.old.items out.new.items }
     ensures len { vec_len out.new ≤ vec_len out.old + length rows.old }
     ensures capacity { vec_capacity out.new ≡ vec_capacity out.old }
 {
     if let Some(i) = find(table, rows, symbol) {
-        step_row(&mut rows[i], venues, entry, step, out);
+        step_row(&mut rows[i], step, out);
     }
 }
 
 /// Applies the entry to the symbols that it concerns, and appends their changes in order; the
 /// flags of self-help are those after it.
 #[inline(always)]
-pub fn apply_step(
-    table: &Table,
-    rows: &mut [Row],
-    venues: &Venues,
-    entry: &Entry,
-    step: Step,
-    out: &mut Vec<Change>,
-)
+pub fn apply_step(table: &Table, rows: &mut [Row], step: &Step<'_>, out: &mut Vec<Change>)
     requires table { IsTable (symbols_of rows.old) table.now.words.keys }
-    requires ranked { AllByRecursion (IsRowRanked step.age) rows.old }
+    requires ranked { AllByRecursion (IsRowRanked step.now.age) rows.old }
     requires room { vec_len out.old + length rows.old ≤ vec_capacity out.old }
-    ensures applies { Applies venues.now.helped step.age step.position entry.now
-        rows.old rows.new out.old.items out.new.items }
+    ensures applies { Applies step.now.venues.now.helped step.now.age step.now.position
+        step.now.entry.now rows.old rows.new out.old.items out.new.items }
     ensures len { vec_len out.new ≤ vec_len out.old + length rows.old }
     ensures capacity { vec_capacity out.new ≡ vec_capacity out.old }
 {
+    let entry = step.entry;
     match entry {
         Entry::Consumed { venue: _, numbered } => match &numbered.item {
             Item::Quote(quote) => {
-                step_symbol(table, rows, venues, quote.symbol, entry, step, out);
+                step_symbol(table, rows, step, quote.symbol, out);
             }
             Item::Halt { symbol, halted: _ } => {
-                step_symbol(table, rows, venues, *symbol, entry, step, out);
+                step_symbol(table, rows, step, *symbol, out);
             }
             Item::Other => {}
-            Item::End => step_rows(rows, venues, entry, step, out),
+            Item::End => step_rows(rows, step, out),
         },
-        Entry::SelfHelp { venue: _, on: _ } => step_rows(rows, venues, entry, step, out),
+        Entry::SelfHelp { venue: _, on: _ } => step_rows(rows, step, out),
     }
 }

@@ -24,34 +24,51 @@ returns-then-is_ahead-clause-place c =
       within = c.loop-at.invariant.within;
       before = c.loop-at.invariant.stopped;
       at = λ h.
-          let m = slid_down ys c.loop-at.ranks c.loop-at.at c.args.x.now c.index-ranks-at.result c.loop-at.invariant.moved h (c.index-ranks-at.is ∙ ap (λ i. get_or c.loop-at.ranks i c.index-ranks-at.result) (add-one c.loop-at.at)) in
+          let m = slid_down ys c.loop-at.ranks c.loop-at.at c.args.x.now c.index-ranks-at.result
+          c.loop-at.invariant.moved h (c.index-ranks-at.is
+          ∙ ap (λ i. get_or c.loop-at.ranks i c.index-ranks-at.result) (add-one c.loop-at.at)) in
           ap (λ (t : Best). is_ahead c.args.order.now c.args.x.now t) (sym m.1) ∙ ahead;
     }
 
 pub loop-at-preserved : goal.loop-at-preserved
 loop-at-preserved c =
     let ys = remove c.args.ranks.now c.args.from in
-    let long : length c.loop-at.ranks ≡ length ys + 1 = sym (long_set c.loop-at.ranks c.loop-at.at c.args.x.now) ∙ ap length c.loop-at.invariant.moved ∙ length-insert ys c.loop-at.at c.args.x.now c.loop-at.invariant.within in
+    let long : length c.loop-at.ranks ≡ length ys + 1 = sym (long_set c.loop-at.ranks c.loop-at.at c.args.x.now)
+    ∙ ap length c.loop-at.invariant.moved
+    ∙ length-insert ys c.loop-at.at c.args.x.now c.loop-at.invariant.within in
     let h : c.loop-at.at < length ys = omega (arith, long) in
-    let m = slid_down ys c.loop-at.ranks c.loop-at.at c.args.x.now c.index-ranks-at.result c.loop-at.invariant.moved h (c.index-ranks-at.is ∙ ap (λ i. get_or c.loop-at.ranks i c.index-ranks-at.result) (add-one c.loop-at.at)) in
+    let m = slid_down ys c.loop-at.ranks c.loop-at.at c.args.x.now c.index-ranks-at.result c.loop-at.invariant.moved
+    h (c.index-ranks-at.is ∙ ap (λ i. get_or c.loop-at.ranks i c.index-ranks-at.result) (add-one c.loop-at.at)) in
+    let n = slid_down ys c.loop-at.ranks c.loop-at.at c.args.x.now c.index-ranks-at-in-loop-at.result
+    c.loop-at.invariant.moved h (c.index-ranks-at-in-loop-at.is
+    ∙ ap (λ i. get_or c.loop-at.ranks i c.index-ranks-at-in-loop-at.result) (add-one c.loop-at.at)) in
+    let own : c.index.result ≡ c.index-ranks-at-in-loop-at.result.venue =
+    c.index.ensures.value ∙ ap (λ (t : Best). t.venue) (sym c.index-ranks-at.is ∙ m.1 ∙ sym n.1) in
     let worse : is_ahead c.args.order.now c.args.x.now c.index-ranks-at.result ≡ false = first_of (cc, grind arith) in
     record {
       within = omega (arith, h);
-      moved = rw (add-one c.loop-at.at) m.0;
+      moved = rw (add-one c.loop-at.at) n.0;
       stopped = λ k e.
           let same : c.loop-at.at ≡ k = omega (arith, e) in
           ap (λ (n : ℕ). is_ahead c.args.order.now c.args.x.now (get_or ys n c.args.x.now)) (sym same)
           ∙ ap (λ (t : Best). is_ahead c.args.order.now c.args.x.now t) (sym m.1) ∙ worse;
-      noted = subst (λ (i : ℕ). AreNoted (set (set c.loop-at.places i c.loop-at.at) c.args.x.now.venue (c.loop-at.at + 1)) (set (set c.loop-at.ranks c.loop-at.at c.index-ranks-at.result) (c.loop-at.at + 1) c.args.x.now)) (sym c.index.ensures.value)
-          (noted_past c.loop-at.places c.loop-at.ranks c.loop-at.at (c.loop-at.at + 1) c.args.x.now c.index-ranks-at.result
+      noted = subst (λ (i : ℕ). AreNoted
+          (set (set c.loop-at.places i c.loop-at.at) c.args.x.now.venue (c.loop-at.at + 1))
+          (set (set c.loop-at.ranks c.loop-at.at c.index-ranks-at-in-loop-at.result) (c.loop-at.at + 1) c.args.x.now))
+          (sym own)
+          (noted_past c.loop-at.places c.loop-at.ranks c.loop-at.at (c.loop-at.at + 1) c.args.x.now
+          c.index-ranks-at-in-loop-at.result
           (omega arith) (omega arith) (λ e. (let no : c.loop-at.at ≡ c.loop-at.at + 1 = e in omega (arith, no)))
-          (omega (arith, c.requires.venue)) (omega (arith, c.index.ensures.value, c.index.ensures.in_range)) c.loop-at.invariant.noted c.index-ranks-at.is);
+          (omega (arith, c.requires.venue)) (omega (arith, own, c.index.ensures.in_range))
+          c.loop-at.invariant.noted c.index-ranks-at-in-loop-at.is);
     }
 
 pub returns-clause-place : goal.returns-clause-place
 returns-clause-place c =
     let ys = remove c.args.ranks.now c.args.from in
-    let long : length c.loop-at.ranks ≡ length ys + 1 = sym (long_set c.loop-at.ranks c.loop-at.at c.args.x.now) ∙ ap length c.loop-at.invariant.moved ∙ length-insert ys c.loop-at.at c.args.x.now c.loop-at.invariant.within in
+    let long : length c.loop-at.ranks ≡ length ys + 1 = sym (long_set c.loop-at.ranks c.loop-at.at c.args.x.now)
+    ∙ ap length c.loop-at.invariant.moved
+    ∙ length-insert ys c.loop-at.at c.args.x.now c.loop-at.invariant.within in
     record {
       within = c.loop-at.invariant.within;
       before = c.loop-at.invariant.stopped;

@@ -7,12 +7,14 @@ pub returns-then-take_entry-clause-items : goal.returns-then-take_entry-clause-i
 returns-then-take_entry-clause-items c =
     c.append.ensures.items
     ∙ ap (λ (t : List Change). c.args.out.now.items ++ t)
-    (change_told c.args.venues.now.helped c.args.step.age c.args.step.position c.args.entry.now c.args.row.now c.take_entry.new.self c.take_entry.result c.national.result
+    (change_told c.args.step.now.venues.now.helped c.args.step.now.age c.args.step.now.position
+    c.args.step.now.entry.now c.args.row.now c.take_entry.new.self c.take_entry.result c.national.result
     c.take_entry.ensures.row c.take_entry.ensures.changed c.if-take_entry.true c.national.ensures)
 
 pub returns-else-take_entry-clause-items : goal.returns-else-take_entry-clause-items
 returns-else-take_entry-clause-items c =
     sym (alone c.args.out.now.items)
     ∙ ap (λ (t : List Change). c.args.out.now.items ++ t)
-    (change_untold c.args.venues.now.helped c.args.step.age c.args.step.position c.args.entry.now c.args.row.now c.take_entry.new.self c.take_entry.result
+    (change_untold c.args.step.now.venues.now.helped c.args.step.now.age c.args.step.now.position
+    c.args.step.now.entry.now c.args.row.now c.take_entry.new.self c.take_entry.result
     c.take_entry.ensures.row c.take_entry.ensures.changed c.if-take_entry.false)

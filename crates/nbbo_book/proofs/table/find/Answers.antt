@@ -13,12 +13,16 @@ pub returns-then-is_of : goal.returns-then-is_of
 returns-then-is_of c =
     let rows : List Row = c.args.rows.now in
     let distinct = symbols_apart (symbols_of rows) c.args.table.now.words.keys c.requires in
-    sym (place_found rows c.args.symbol c.place_of-guess.result c.index-rows-guess.result distinct (omega (arith, c.if-guess-rows.true)) (ap (λ (row : Row). bytes_eq c.args.symbol row.symbol) (sym c.index-rows-guess.is) ∙ sym c.is_of.ensures ∙ c.if-is_of.true))
+    sym (place_found rows c.args.symbol c.place_of-guess.result c.index-rows-guess.result distinct
+    (omega (arith, c.if-guess-rows.true))
+    (ap (λ (row : Row). bytes_eq c.args.symbol row.symbol) (sym c.index-rows-guess.is) ∙ sym c.is_of.ensures
+    ∙ c.if-is_of.true))
 
 pub returns : goal.returns
 returns c =
     let symbols = symbols_of c.args.rows.now in
-    let has : HasWord c.args.symbol = record { told = ap (to_be_bytes w64) (sym c.word-2.ensures.value) ∙ c.word-2.ensures.field } in
+    let has : HasWord c.args.symbol =
+    record { told = ap (to_be_bytes w64) (sym c.word-2.ensures.value) ∙ c.word-2.ensures.field } in
     c.get_index_of.ensures.index
     ∙ ap (λ (w : ℕ). position (nat_eq w) c.args.table.now.words.keys) c.word-2.ensures.value
     ∙ ap (λ (ks : List ℕ). position (nat_eq (word_of c.args.symbol)) ks) c.requires.words

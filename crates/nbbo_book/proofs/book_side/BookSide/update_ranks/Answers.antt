@@ -9,6 +9,8 @@ use Rattle.nbbo_book.proofs.book_side.BookSide.update_ranks.Goals as goal
 pub update-requires : goal.update-requires
 update-requires c =
     let v : ℕ = c.args.quoter.now.venue in
-    can_update _ v c.args.quoter.now.may_rank c.self.inside.ranks c.rank_of-best.result (omega (arith, c.venue_side_at-shown.ensures.in_range))
+    can_update _ v c.args.quoter.now.may_rank c.self.inside.ranks c.rank_of-best.result
+    (omega (arith, c.venue_side_at-shown.ensures.in_range))
     (subst (λ (t : BookSide). CanRank c.args.side v c.args.cause t) (sym c.self.view_is) c.requires)
-    (c.rank_of-best.ensures ∙ ap (ranked_by c.args.quoter.now.may_rank v) (c.quote.ensures ∙ ap (λ (s : VenueSide). s.quote) c.venue_side_at-shown.ensures.value))
+    (c.rank_of-best.ensures ∙ ap (ranked_by c.args.quoter.now.may_rank v)
+    (c.quote.ensures ∙ ap (λ (s : VenueSide). s.quote) c.venue_side_at-shown.ensures.value))

@@ -4,7 +4,7 @@ use Rattle.feed_types.specs.declared.national.Best.{Best}
 use Rattle.nbbo_book.specs.declared.ranks.Cause.{Cause}
 use Rattle.nbbo_book.specs.declared.ranks.Cause.TheVariants.{Quoted}
 use Rattle.nbbo_book.specs.declared.ranks.Order.{Order}
-use Rattle.nbbo_book.specs.Ranks.{AreNoted, HasNone, InRank, IsCause, IsNewest, IsPlace, ages_in, without}
+use Rattle.nbbo_book.specs.Ranks.{AreNoted, HasNone, InRank, IsCause, IsNewest, IsPlace, ages_in}
 use Rattle.nbbo_book.proofs.Moving.{walked_here, refill_whole, remove_last}
 use Rattle.nbbo_book.proofs.Places.{noted_pushed, set_the_end}
 use Rattle.nbbo_book.proofs.ranks.Ranks.add.Goals as goal
@@ -17,15 +17,20 @@ returns-clause-ranks c =
     let xs : List Best = c.args.self.now in
     let to : ℕ = c.settle.result in
     let rest : remove c.as_mut_slice-ranks.result.now c.len-from.result ≡ xs =
-    ap (λ (t : List Best). remove t c.len-from.result) (c.as_mut_slice-ranks.ensures.value ∙ c.push.ensures.items ∙ ap (λ (t : List Best). t ++ x ∷ []) c.self.view_is)
+    ap (λ (t : List Best). remove t c.len-from.result)
+    (c.as_mut_slice-ranks.ensures.value ∙ c.push.ensures.items
+    ∙ ap (λ (t : List Best). t ++ x ∷ []) c.self.view_is)
     ∙ ap (remove (xs ++ x ∷ [])) (c.len-from.ensures.value ∙ ap length c.self.view_is) ∙ remove_last xs x in
     let place : IsPlace order x xs to = subst (λ (t : List Best). IsPlace order x t to) rest c.settle.ensures.place in
     let newest : order.cause ≡ Quoted → IsNewest ages x xs = λ quoted.
-    subst (λ (t : List Best). IsNewest ages x t) c.requires.absent (subst (λ (u : Cause). IsCause u order.side ages x xs) quoted (c.requires.ready.caused x refl)).0 in
-    refill_whole c.push.new.self.items c.settle.new.ranks (c.settle.auto.ranks ∙ ap length c.as_mut_slice-ranks.ensures.value)
+    subst (λ (t : List Best). IsNewest ages x t) c.requires.absent
+    (subst (λ (u : Cause). IsCause u order.side ages x xs) quoted (c.requires.ready.caused x refl)).0 in
+    refill_whole c.push.new.self.items c.settle.new.ranks
+    (c.settle.auto.ranks ∙ ap length c.as_mut_slice-ranks.ensures.value)
     ∙ c.settle.ensures.ranks
     ∙ ap (λ (t : List Best). insert t to x) rest
-    ∙ walked_here order.cause order.side ages x xs to place.within place.before place.at (subst (λ (t : List Best). InRank order.side ages t) c.requires.absent c.requires.ready.others) newest
+    ∙ walked_here order.cause order.side ages x xs to place.within place.before place.at
+    (subst (λ (t : List Best). InRank order.side ages t) c.requires.absent c.requires.ready.others) newest
 
 pub settle-requires-clause-noted : goal.settle-requires-clause-noted
 settle-requires-clause-noted c =
@@ -33,9 +38,11 @@ settle-requires-clause-noted c =
     let P : List ℕ = c.self.inside.places in
     let xs : List Best = c.self.inside.best_first.items in
     let from : ℕ = c.len-from.result in
-    let none : HasNone x.venue xs = subst (λ (t : List Best). HasNone x.venue t) (c.requires.absent ∙ sym c.self.view_is) c.requires.ready.once in
+    let none : HasNone x.venue xs =
+    subst (λ (t : List Best). HasNone x.venue t) (c.requires.absent ∙ sym c.self.view_is) c.requires.ready.once in
     subst (λ (t : List Best). AreNoted (set P c.index.result from) t)
-    (sym (ap (λ (t : List Best). set t from x) (c.as_mut_slice-ranks.ensures.value ∙ c.push.ensures.items) ∙ ap (λ (n : ℕ). set (xs ++ x ∷ []) n x) c.len-from.ensures.value ∙ set_the_end xs x))
+    (sym (ap (λ (t : List Best). set t from x) (c.as_mut_slice-ranks.ensures.value ∙ c.push.ensures.items)
+    ∙ ap (λ (n : ℕ). set (xs ++ x ∷ []) n x) c.len-from.ensures.value ∙ set_the_end xs x))
     (subst (λ (i : ℕ). AreNoted (set P i from) (xs ++ x ∷ [])) (sym c.index.ensures.value)
     (subst (λ (n : ℕ). AreNoted (set P x.venue n) (xs ++ x ∷ [])) (sym c.len-from.ensures.value)
     (noted_pushed P xs x (omega (arith, c.index.ensures.value, c.index.ensures.in_range)) none c.self.invariant)))
@@ -43,5 +50,6 @@ settle-requires-clause-noted c =
 pub invariant_of-self : goal.invariant_of-self
 invariant_of-self c =
     subst (λ (t : List Best). AreNoted c.settle.new.places t)
-    (sym (refill_whole c.push.new.self.items c.settle.new.ranks (c.settle.auto.ranks ∙ ap length c.as_mut_slice-ranks.ensures.value)))
+    (sym (refill_whole c.push.new.self.items c.settle.new.ranks
+    (c.settle.auto.ranks ∙ ap length c.as_mut_slice-ranks.ensures.value)))
     c.settle.ensures.noted

@@ -1,15 +1,24 @@
-use Rattle.std.proofs.Common.{ℕ, List, ◌≡◌, ◌<◌, ◌∙◌, ap, subst, length, get_or}
+use Rattle.std.proofs.Common.{ℕ, List, ◌≡◌, ◌<◌, ◌∙◌, ap, sym, subst, length, not, get_or}
 use Rattle.std.specs.List.{remove}
 use Rattle.feed_types.specs.declared.national.Best.{Best}
-use Rattle.nbbo_book.proofs.Places.{noted_after}
+use Rattle.nbbo_book.specs.Changes.{is_same_best}
+use Rattle.nbbo_book.specs.Ranks.{HasNone, front_of, without}
+use Rattle.nbbo_book.proofs.Fronts.{taken_moves}
 use Rattle.nbbo_book.proofs.ranks.Ranks.take_out.Goals as goal
 
-pub note_anew-requires-clause-after : goal.note_anew-requires-clause-after
-note_anew-requires-clause-after c = λ k x above below.
-    let P : List ℕ = c.self.inside.places in
-    let xs : List Best = c.self.inside.best_first.items in
+pub returns-in-Some-clause-moved : goal.returns-in-Some-clause-moved
+returns-in-Some-clause-moved c =
+    let v : ℕ = c.args.venue in
     let at : ℕ = c.in-Some.at in
-    let seen : c.as_slice-in-Some.result.now ≡ remove xs at = c.as_slice-in-Some.ensures.value ∙ c.remove.ensures.items in
-    let found : at < length xs = subst (λ (t : List Best). at < length t) c.as_slice.ensures.value c.in-Some.ensures.found in
-    ap (λ (t : List Best). get_or P (get_or t k x).venue 16) seen
-    ∙ noted_after P xs at k x found above (subst (λ (t : List Best). k < length t) seen below) c.self.invariant
+    let xs : List Best = c.args.self.now in
+    let d : Best = record { venue = 0; price = 0; size = 0 } in
+    let seen : c.as_slice.result.now ≡ xs = c.as_slice.ensures.value ∙ c.self.view_is in
+    let found : at < length xs = subst (λ (t : List Best). at < length t) seen c.in-Some.ensures.found in
+    let own : (get_or xs at d).venue ≡ v =
+    subst (λ (t : List Best). (get_or t at d).venue ≡ v) seen (c.in-Some.ensures.own d) in
+    let there : without v xs ≡ remove xs at =
+    subst (λ (t : List Best). without v t ≡ remove t at) seen c.in-Some.ensures.there in
+    let none : HasNone v (remove xs at) = subst (λ (t : List Best). HasNone v t) there c.requires in
+    taken_moves xs v at d found own none
+    ∙ ap (λ (t : List Best). not (is_same_best (front_of xs) (front_of t)))
+    (sym c.remove_at.ensures)

@@ -19,16 +19,23 @@ returns-in-Quoted-clause-ranks c =
     let xs : List Best = c.args.self.now in
     let from : ℕ = c.in-Some-place_of.from in
     let to : ℕ = c.settle-to.result in
-    let there : without v xs ≡ remove xs from = subst (λ (t : List Best). without v t ≡ remove t from) (c.as_slice.ensures.value ∙ c.self.view_is) c.in-Some-place_of.ensures.there in
-    let rest : remove c.as_mut_slice-ranks.result.now from ≡ without v xs = ap (λ (t : List Best). remove t from) (c.as_mut_slice-ranks.ensures.value ∙ c.self.view_is) ∙ sym there in
-    let place : IsPlace order x (without v xs) to = subst (λ (t : List Best). IsPlace order x t to) rest c.settle-to.ensures.place in
+    let there : without v xs ≡ remove xs from =
+    subst (λ (t : List Best). without v t ≡ remove t from) (c.as_slice.ensures.value ∙ c.self.view_is)
+    c.in-Some-place_of.ensures.there in
+    let rest : remove c.as_mut_slice-ranks.result.now from ≡ without v xs =
+    ap (λ (t : List Best). remove t from) (c.as_mut_slice-ranks.ensures.value ∙ c.self.view_is) ∙ sym there in
+    let place : IsPlace order x (without v xs) to =
+    subst (λ (t : List Best). IsPlace order x t to) rest c.settle-to.ensures.place in
     let own : x.venue ≡ v = c.requires.own x c.in-Some.is in
     let newest : IsNewest ages x (without v xs) =
-    subst (λ (n : ℕ). IsNewest ages x (without n xs)) own (subst (λ (u : Cause). IsCause u order.side ages x xs) c.in-Quoted.is (c.requires.caused x c.in-Some.is)).0 in
-    refill_whole c.self.inside.best_first.items c.settle-to.new.ranks (c.settle-to.auto.ranks ∙ ap length c.as_mut_slice-ranks.ensures.value)
+    subst (λ (n : ℕ). IsNewest ages x (without n xs)) own
+    (subst (λ (u : Cause). IsCause u order.side ages x xs) c.in-Quoted.is (c.requires.caused x c.in-Some.is)).0 in
+    refill_whole c.self.inside.best_first.items c.settle-to.new.ranks
+    (c.settle-to.auto.ranks ∙ ap length c.as_mut_slice-ranks.ensures.value)
     ∙ c.settle-to.ensures.ranks
     ∙ ap (λ (t : List Best). insert t to x) rest
-    ∙ walked_here order.cause order.side ages x (without v xs) to place.within place.before place.at c.requires.others (λ q. newest)
+    ∙ walked_here order.cause order.side ages x (without v xs) to place.within place.before place.at
+    c.requires.others (λ q. newest)
     ∙ ap (λ o. placed order.side ages o (without v xs)) (sym c.in-Some.is)
 
 pub returns-in-Quoted-clause-moved : goal.returns-in-Quoted-clause-moved
@@ -44,14 +51,21 @@ returns-in-Quoted-clause-moved c =
     let lent : c.as_mut_slice-ranks.result.now ≡ xs = c.as_mut_slice-ranks.ensures.value ∙ c.self.view_is in
     let own : x.venue ≡ v = c.requires.own x c.in-Some.is in
     let found : from < length xs = subst (λ (t : List Best). from < length t) seen c.in-Some-place_of.ensures.found in
-    let its : (get_or xs from x).venue ≡ x.venue = subst (λ (t : List Best). (get_or t from x).venue ≡ v) seen (c.in-Some-place_of.ensures.own x) ∙ sym own in
-    let there : without v xs ≡ remove xs from = subst (λ (t : List Best). without v t ≡ remove t from) seen c.in-Some-place_of.ensures.there in
-    let none : HasNone x.venue (remove xs from) = subst (λ (n : ℕ). HasNone n (remove xs from)) (sym own) (subst (λ (t : List Best). HasNone v t) there c.requires.once) in
-    let place : IsPlace order x (remove xs from) to = subst (λ (t : List Best). IsPlace order x (remove t from) to) lent c.settle-to.ensures.place in
-    let new : IsIn xs x → ⊥ = (subst (λ (u : Cause). IsCause u order.side ages x xs) c.in-Quoted.is (c.requires.caused x c.in-Some.is)).1 in
+    let its : (get_or xs from x).venue ≡ x.venue =
+    subst (λ (t : List Best). (get_or t from x).venue ≡ v) seen (c.in-Some-place_of.ensures.own x) ∙ sym own in
+    let there : without v xs ≡ remove xs from =
+    subst (λ (t : List Best). without v t ≡ remove t from) seen c.in-Some-place_of.ensures.there in
+    let none : HasNone x.venue (remove xs from) =
+    subst (λ (n : ℕ). HasNone n (remove xs from)) (sym own)
+    (subst (λ (t : List Best). HasNone v t) there c.requires.once) in
+    let place : IsPlace order x (remove xs from) to =
+    subst (λ (t : List Best). IsPlace order x (remove t from) to) lent c.settle-to.ensures.place in
+    let new : IsIn xs x → ⊥ = (subst (λ (u : Cause). IsCause u order.side ages x xs) c.in-Quoted.is
+    (c.requires.caused x c.in-Some.is)).1 in
     moved_moves xs x from to found place.within its none new
     ∙ ap (λ (t : List Best). not (is_same_best (front_of xs) (front_of t)))
-    (sym (refill_whole c.self.inside.best_first.items c.settle-to.new.ranks (c.settle-to.auto.ranks ∙ ap length c.as_mut_slice-ranks.ensures.value)
+    (sym (refill_whole c.self.inside.best_first.items c.settle-to.new.ranks
+    (c.settle-to.auto.ranks ∙ ap length c.as_mut_slice-ranks.ensures.value)
     ∙ c.settle-to.ensures.ranks ∙ ap (λ (t : List Best). insert (remove t from) to x) lent))
 
 pub returns-in-Rechecked-clause-ranks : goal.returns-in-Rechecked-clause-ranks
@@ -65,9 +79,12 @@ returns-in-Rechecked-clause-ranks c =
     let seen : c.as_slice.result.now ≡ xs = c.as_slice.ensures.value ∙ c.self.view_is in
     let own : x.venue ≡ v = c.requires.own x c.in-Some.is in
     let found : from < length xs = subst (λ (t : List Best). from < length t) seen c.in-Some-place_of.ensures.found in
-    let its : (get_or xs from x).venue ≡ x.venue = subst (λ (t : List Best). (get_or t from x).venue ≡ v) seen (c.in-Some-place_of.ensures.own x) ∙ sym own in
-    let cause = subst (λ (u : Cause). IsCause u order.side ages x xs) c.in-Rechecked.is (c.requires.caused x c.in-Some.is) in
-    let among : IsIn xs x = subst (λ (t : Best). IsIn xs t) (cause.1 (get_or xs from x) (in_at xs from x found) its) (in_at xs from x found) in
+    let its : (get_or xs from x).venue ≡ x.venue =
+    subst (λ (t : List Best). (get_or t from x).venue ≡ v) seen (c.in-Some-place_of.ensures.own x) ∙ sym own in
+    let cause = subst (λ (u : Cause). IsCause u order.side ages x xs) c.in-Rechecked.is
+    (c.requires.caused x c.in-Some.is) in
+    let among : IsIn xs x = subst (λ (t : Best). IsIn xs t) (cause.1 (get_or xs from x) (in_at xs from x found) its)
+    (in_at xs from x found) in
     sym (ap (λ o. placed order.side ages o (without v xs)) c.in-Some.is
     ∙ ap (λ (n : ℕ). with_rank order.side ages x (without n xs)) (sym own)
     ∙ ranked_stays order.side ages x xs cause.0 among cause.1)
@@ -77,7 +94,10 @@ settle-to-requires-clause-noted c =
     let x : Best = c.in-Some.x in
     let xs : List Best = c.self.inside.best_first.items in
     let from : ℕ = c.in-Some-place_of.from in
-    let found : from < length xs = subst (λ (t : List Best). from < length t) c.as_slice.ensures.value c.in-Some-place_of.ensures.found in
-    let its : (get_or xs from x).venue ≡ x.venue = subst (λ (t : List Best). (get_or t from x).venue ≡ c.args.venue) c.as_slice.ensures.value (c.in-Some-place_of.ensures.own x) ∙ sym (c.requires.own x c.in-Some.is) in
+    let found : from < length xs =
+    subst (λ (t : List Best). from < length t) c.as_slice.ensures.value c.in-Some-place_of.ensures.found in
+    let its : (get_or xs from x).venue ≡ x.venue =
+    subst (λ (t : List Best). (get_or t from x).venue ≡ c.args.venue) c.as_slice.ensures.value
+    (c.in-Some-place_of.ensures.own x) ∙ sym (c.requires.own x c.in-Some.is) in
     subst (λ (t : List Best). AreNoted c.self.inside.places (set t from x)) (sym c.as_mut_slice-ranks.ensures.value)
     (noted_in_place c.self.inside.places xs from x found its c.self.invariant)

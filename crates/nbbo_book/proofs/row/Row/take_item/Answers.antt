@@ -7,7 +7,8 @@ pub returns-else-is_of-clause-changed : goal.returns-else-is_of-clause-changed
 returns-else-is_of-clause-changed c = c.if-is_of.false ∙ sym (ap not (same_national_refl (national_at c.args.self.now)))
 
 pub returns-else-is_of-2-clause-changed : goal.returns-else-is_of-2-clause-changed
-returns-else-is_of-2-clause-changed c = c.if-is_of-2.false ∙ sym (ap not (same_national_refl (national_at c.args.self.now)))
+returns-else-is_of-2-clause-changed c = c.if-is_of-2.false
+    ∙ sym (ap not (same_national_refl (national_at c.args.self.now)))
 
 pub returns-in-Other-clause-changed : goal.returns-in-Other-clause-changed
 returns-in-Other-clause-changed c = sym (ap not (same_national_refl (national_at c.args.self.now)))
