@@ -14,7 +14,7 @@ pub(crate) struct Bells {
     /// By id, where the subscriber's thread sleeps.
     notices: [EventCount; 32],
     /// By id, whether a notice waits for room in the subscriber's lane. It changes under the
-    /// consolidator's lock alone, and only where it is another than before.
+    /// consolidator's lock alone, and is stored only where it differs.
     full: [AtomicBool; 32],
 }
 

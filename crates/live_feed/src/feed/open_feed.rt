@@ -183,8 +183,9 @@ impl<G: Genuine, N: FeedName> OpenFeed<G, N> {
 
     /// Journals what is in the venues' lanes, and then offers each subscriber what it wants, as
     /// `offer` does, under the consolidator's lock taken once, and returns what that came to. At most
-    /// 64 items are journaled, up to the first refusal; a venue whose items are left then is among
-    /// the first ones in a later call. This is what the consolidator of `run` calls.
+    /// 64 items are journaled, up to the first refusal. A call begins with the venue after the last
+    /// one that the call before came to, so that none of them waits for ever. This is what the
+    /// consolidator of `run` calls.
     pub fn consolidate<W: Wait>(&self, rt: &W) -> Consolidated
         ensures most { result.consumed ≤ 64 }
     {

@@ -15,7 +15,7 @@ use std::sync::Wait;
 /// waits no longer.
 const ITEMS_A_SECTION: u64 = 64;
 
-/// The feed's venue of this number, if it has it.
+/// Returns the feed's venue of this number, if it has it.
 fn feed_venue<G: Genuine, N: FeedName>(feed: &OpenFeed<G, N>, place: u8) -> Option<VenueId> {
     if usize::from(place) >= feed.venues.len() {
         return None;
@@ -23,7 +23,7 @@ fn feed_venue<G: Genuine, N: FeedName>(feed: &OpenFeed<G, N>, place: u8) -> Opti
     VenueId::new(place)
 }
 
-/// Pushes what is ready of the venues, and gives whether there was anything that had room: at each
+/// Pushes what is ready of the venues, and returns whether anything was pushed: of each
 /// where `all` says so, else where something was left before and the lane has run empty.
 fn flush_each<G: Genuine, N: FeedName, W: Wait>(
     rt: &W,
@@ -83,7 +83,7 @@ fn take_turn<G: Genuine, N: FeedName, W: Wait>(
     done
 }
 
-/// Whether a notice waits for room in a lane from which a thread of the run takes notices.
+/// Returns whether a notice waits for room in a lane from which a thread of the run takes notices.
 fn is_room_wanted(signals: &Signals, bells: &Bells) -> bool {
     for place in 0..32u8 {
         let Some(id) = SubscriberId::new(place) else {
@@ -97,7 +97,7 @@ fn is_room_wanted(signals: &Signals, bells: &Bells) -> bool {
 }
 
 /// Journals what the lines bring and offers what the subscribers want, until the lines have ended
-/// and nothing is left to do, and gives why the run stopped early, if journaling was the reason.
+/// and nothing is left to do, and returns why the run stopped early, if journaling was the reason.
 /// Once the lines have ended, what is ready is pushed in any case.
 ///
 /// It sleeps after it has looked in vain for a while. The wait is announced before the last of these

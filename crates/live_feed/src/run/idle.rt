@@ -13,12 +13,12 @@ const MOST_PAUSES: u32 = 16;
 /// How often it looks before it sleeps.
 const LOOKS_AWAKE: u32 = 64;
 
-/// Whether a thread that has looked so often for work sleeps next.
+/// Returns whether a thread that has looked for work `looks` times sleeps next.
 pub(crate) fn is_tired(looks: u32) -> bool {
     looks >= LOOKS_AWAKE
 }
 
-/// Waits a moment, or until the notification that the key waits for, and gives how often the thread
+/// Waits a moment, or until the notification that the key waits for, and returns how often the thread
 /// has looked since it last worked or slept.
 pub(crate) fn rest<W: Wait>(rt: &W, looks: u32, key: Option<Key<'_>>) -> u32 {
     if let Some(key) = key {

@@ -20,7 +20,7 @@ pub(crate) struct Signals {
 }
 
 impl Signals {
-    /// A run of so many lines that has begun, with no thread yet.
+    /// Returns the signals of a run of `lines` lines that has begun, with no thread yet.
     pub(crate) fn new(lines: u64) -> Signals {
         Signals {
             stop: AtomicBool::new(false),

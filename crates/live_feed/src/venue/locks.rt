@@ -45,7 +45,7 @@ pub(crate) type VenueLock<G, N> = CachePadded<Mutex<Guarded<G, N>>>;
 pub struct VenueLocks<G: Genuine, N: FeedName> {
     locks: Vec<VenueLock<G, N>>,
     /// By venue, whether something may be ready that wasn't pushed. It changes under the
-    /// venue's lock alone, and only where it is another than before.
+    /// venue's lock alone, and is stored only where it differs.
     held_back: [AtomicBool; 16],
     bells: Arc<Bells, Global>,
 }
