@@ -15,7 +15,7 @@ loop-count-preserved g c =
     let i = c.loop-count.invariant in
     let e = c.in-Ok-Some.ensures in
     let one = subst (λ (next : _). ConsumesOne _ c.args.venue (Ok next) c.loop-count.hub.core
-        c.consume.new.self.core) c.in-Ok-Some.field-0-is e.consume in (
+    c.consume.new.self.core) c.in-Ok-Some.field-0-is e.consume in (
       search rules,
       λ none. absurd (omega arith),
       one_more_item _ c.args.venue c.args.hub.now.core c.loop-count.count _ c.loop-count.hub.core
@@ -27,7 +27,7 @@ returns-in-Ok-None-clause-batch g c =
     let i = c.loop-count.invariant in
     let e = c.in-Ok-None.ensures in
     let one = subst (λ (next : _). ConsumesOne _ c.args.venue (Ok next) c.loop-count.hub.core
-        c.consume.new.self.core) c.in-Ok-None.field-0-is e.consume in (
+    c.consume.new.self.core) c.in-Ok-None.field-0-is e.consume in (
       search (rules, arith),
       none_more_item _ c.args.venue c.args.hub.now.core c.loop-count.count c.loop-count.hub.core
           c.consume.new.self.core i.2 one e.kept,
