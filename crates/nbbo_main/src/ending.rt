@@ -17,7 +17,7 @@ pub fn ending(outcome: &Result<(), ReplayFault>) -> (u8, &'static str)
         Err(ReplayFault::BadRecord) => (1, "nbbo: bad record\n"),
         Err(ReplayFault::ShortRecord) => (1, "nbbo: short record\n"),
         Err(ReplayFault::TooManyTurns) => (1, "nbbo: too many turns\n"),
-        Err(ReplayFault::JournalFull) => (1, "nbbo: journal full\n"),
+        Err(ReplayFault::JournalFull) => (1, "nbbo: journal full; --journal gives it more room\n"),
         Err(ReplayFault::NoMemory) => (1, "nbbo: no memory\n"),
     }
 }

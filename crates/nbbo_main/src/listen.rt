@@ -60,7 +60,7 @@ fn tell_failed<E: TextOut>(venue: VenueId, line: LineId, errors: &mut E) {
 /// The line for an early stop.
 fn stop_text(stop: Stop) -> &'static str {
     match stop {
-        Stop::JournalFull => "nbbo: journal full\n",
+        Stop::JournalFull => "nbbo: journal full; --journal gives it more room\n",
         Stop::NoMemory => NO_MEMORY,
         Stop::NoThread => "nbbo: no thread\n",
     }
