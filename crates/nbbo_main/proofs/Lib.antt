@@ -1,4 +1,7 @@
 mod Asking
+pub mod Ends
 mod Listing
 mod Naming
+pub mod Reporting
+pub mod Seeing
 mod Spelling

@@ -1,5 +1,7 @@
 -- A line that is received by UDP, as contracts see it.
-use Rattle.std.specs.Prelude.{ℕ, Bool, true, false}
+use Rattle.std.specs.Prelude.{◌≡◌, ◌⊎◌, ℕ, Bool, true, false, List}
+use Rattle.mold_packet.specs.Content.{Content, Spells}
+use Rattle.mold_packet.specs.declared.packet.Kind.TheVariants.{End}
 
 -- the venue, how many datagrams the line may still read, and whether its socket has failed
 pub record UdpLineState : Type 0 where
@@ -11,3 +13,14 @@ pub record UdpLineState : Type 0 where
 abbrev pub failures_of : Bool → ℕ
 failures_of true = 1
 failures_of false = 0
+
+-- the line has ended
+abbrev pub IsOver : UdpLineState → Type 0
+IsOver line = (line.failed ≡ true) ⊎ (line.left ≡ 0)
+
+-- the bytes are an end of session, of whichever session
+pub record SpellsEnd (bytes : List ℕ) : Type 0 where
+  pub packet : Content
+  pub rest : List ℕ
+  pub spells : Spells bytes packet rest
+  pub is : packet.kind ≡ End

@@ -1,8 +1,13 @@
 //! `nbbo listen`.
+ghost use Rattle.std.specs.Prelude.{◌≡◌};
+ghost use Rattle.feed_text.specs.Devices.{Writing};
+ghost use Rattle.nbbo_main.specs.Listening.{Listens, PrintsReport, listen_fault_text, report_status};
+ghost use Rattle.nbbo_main.specs.Runs.{Says};
 
+use crate::listen_lines::write_report_lines;
 use crate::listen_settings::ListenSettings;
-use crate::listening::{Heard, ListenFault, config_of, hear};
-use crate::run::say;
+use crate::listening::{ListenFault, ListenReport, config_of, run_feed};
+use crate::run::write_stderr;
 use crate::summary::summary_of;
 use feed_text::devices::TextOut;
 use feed_text::output::write_all;
@@ -11,83 +16,61 @@ use filter_terms::Terms;
 use live_feed::{LiveFeed, Stop};
 use std::alloc::Global;
 use std::marker::Brand;
-use std::net::{Net, SocketAddr, UdpSocket};
+use std::net::UdpSocket;
 use std::rt::Clock;
 use std::sync::Wait;
 use std::thread::Threads;
 
-const NO_MEMORY: &str = "nbbo: no memory\n";
+/// What is said where memory was refused.
+pub const NO_MEMORY: &str = "nbbo: no memory\n";
 
-/// The numbers of the venues.
-const NUMBERS: [&str; 16] = [
-    "0", "1", "2", "3", "4", "5", "6", "7", "8", "9", "10", "11", "12", "13", "14", "15",
-];
-
-/// Opens a socket for each address, in order. The text says what there is to tell where that fails.
-pub fn bound<R: Net>(
-    net: &R,
-    alloc: Global,
-    addresses: &[SocketAddr],
-) -> Result<Vec<UdpSocket>, &'static str> {
-    let Ok(mut sockets) = Vec::with_capacity(alloc, addresses.len()) else {
-        return Err(NO_MEMORY);
-    };
-    for address in addresses {
-        let Ok(socket) = UdpSocket::bind(net, *address) else {
-            return Err("nbbo: bind failed\n");
-        };
-        if sockets.push(socket).is_err() {
-            return Err(NO_MEMORY);
-        }
-    }
-    Ok(sockets)
+/// The status of the program after such a report: 0 where no line failed and nothing stopped the run early.
+fn status_of(failed: &[(VenueId, LineId)], stopped: Option<Stop>) -> u8
+    ensures { result ≡ report_status failed.now stopped }
+{
+    u8::from(stopped.is_some() || !failed.is_empty())
 }
 
-/// Tells that a line failed.
-fn tell_failed<E: TextOut>(venue: VenueId, line: LineId, errors: &mut E) {
-    say("nbbo: line ", errors);
-    say(NUMBERS[venue.index()], errors);
-    say(
-        match line {
-            LineId::A => " A failed\n",
-            LineId::B => " B failed\n",
-            LineId::Recovery => " R failed\n",
-        },
-        errors,
-    );
-}
-
-/// The line for an early stop.
-fn stop_text(stop: Stop) -> &'static str {
-    match stop {
-        Stop::JournalFull => "nbbo: journal full; --journal gives it more room\n",
-        Stop::NoMemory => NO_MEMORY,
-        Stop::NoThread => "nbbo: no thread\n",
-    }
+/// Writes a text on standard error, and gives the status 1.
+fn fail<E: TextOut>(text: &str, errors: &mut E) -> u8
+    ensures says { Says (record { adds = E.adds; failures = E.failures })
+        text.now errors.old errors.new }
+    ensures status { result ≡ 1 }
+{
+    write_stderr(text, errors);
+    1
 }
 
 /// Prints what listening came to, and gives the status of the program.
-fn print_heard<W: TextOut, E: TextOut>(
+fn print_report<W: TextOut, E: TextOut>(
     alloc: Global,
-    heard: &Heard,
+    report: &ListenReport,
     output: &mut W,
     errors: &mut E,
-) -> u8 {
-    for (venue, line) in &heard.failed {
-        tell_failed(*venue, *line, errors);
-    }
-    if let Some(stop) = heard.stopped {
-        say(stop_text(stop), errors);
-    }
-    let Ok(text) = summary_of(alloc, &heard.settlement) else {
-        say(NO_MEMORY, errors);
-        return 1;
+) -> u8
+    ensures { PrintsReport
+        (record { adds = W.adds; failures = W.failures })
+        (record { adds = E.adds; failures = E.failures })
+        report.now output.old output.new errors.old errors.new result }
+{
+    write_report_lines(report, errors);
+    let Ok(text) = summary_of(alloc, &report.settlement) else {
+        return fail(NO_MEMORY, errors);
     };
     if write_all(text.as_slice(), output).is_err() {
-        say("nbbo: write failed\n", errors);
-        return 1;
+        return fail("nbbo: write failed\n", errors);
     }
-    u8::from(heard.stopped.is_some() || !heard.failed.is_empty())
+    status_of(report.failed.as_slice(), report.stopped)
+}
+
+/// The line for a fault.
+fn fault_line(fault: ListenFault) -> &'static str
+    ensures { result.now ≡ listen_fault_text fault }
+{
+    match fault {
+        ListenFault::NoMemory => NO_MEMORY,
+        ListenFault::Unsettled => "nbbo: not settled\n",
+    }
 }
 
 /// Listens on these sockets, in the order of the settings' lines, until all have ended; then prints
@@ -108,20 +91,16 @@ where
     C: Clock + Clone + Drop + Send,
     W: TextOut,
     E: TextOut,
+    ensures { Listens
+        (record { adds = W.adds; failures = W.failures })
+        (record { adds = E.adds; failures = E.failures })
+        output.old output.new errors.old errors.new result }
 {
     let Ok(feed) = LiveFeed::<Anything>::new(alloc, &config_of(settings)) else {
-        say(NO_MEMORY, errors);
-        return 1;
+        return fail(NO_MEMORY, errors);
     };
-    match hear::<Brand, R, C>(rt, alloc, feed, settings, sockets, terms, clock) {
-        Ok(heard) => print_heard(alloc, &heard, output, errors),
-        Err(ListenFault::NoMemory) => {
-            say(NO_MEMORY, errors);
-            1
-        }
-        Err(ListenFault::Unsettled) => {
-            say("nbbo: not settled\n", errors);
-            1
-        }
+    match run_feed::<Brand, R, C>(rt, alloc, feed, settings, sockets, terms, clock) {
+        Ok(report) => print_report(alloc, &report, output, errors),
+        Err(fault) => fail(fault_line(fault), errors),
     }
 }

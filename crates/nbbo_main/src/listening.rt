@@ -1,5 +1,6 @@
 //! Listening on live lines, until all have ended.
-ghost use Rattle.std.specs.Prelude.{◌≡◌};
+ghost use Rattle.std.specs.Prelude.{◌≡◌, ◌/◌, ◌≤◌, IfOk, OnErr};
+ghost use Rattle.nbbo_main.specs.Listening.{IsFeedOf, IsSourceOf, line_at};
 
 use crate::listen_settings::ListenSettings;
 use crate::udp_line::UdpLine;
@@ -32,7 +33,7 @@ impl From<AllocError> for ListenFault {
 
 /// What listening came to.
 #[derive(Drop)]
-pub struct Heard {
+pub struct ListenReport {
     /// The lines whose sockets failed, in the order of the settings.
     pub failed: Vec<(VenueId, LineId)>,
     /// Why the run stopped early, if it did.
@@ -42,7 +43,9 @@ pub struct Heard {
 }
 
 /// The configuration of the feed: a log as long as the journal.
-pub fn config_of(settings: &ListenSettings) -> FeedConfig<'_> {
+pub fn config_of(settings: &ListenSettings) -> FeedConfig<'_>
+    ensures { IsFeedOf settings.now result }
+{
     FeedConfig {
         sessions: settings.sessions.as_slice(),
         symbols: settings.symbols.as_slice(),
@@ -53,8 +56,11 @@ pub fn config_of(settings: &ListenSettings) -> FeedConfig<'_> {
     }
 }
 
-/// The venue and the line at a place of the settings.
-fn place_of(place: usize) -> Result<(VenueId, LineId), ListenFault> {
+/// The venue and the line at a place of the settings, of which there are 32 at most.
+fn place_of(place: usize) -> Result<(VenueId, LineId), ListenFault>
+    ensures at { IfOk result (λ at. (at.0 ≡ place / 2) × (at.1 ≡ line_at place)) }
+    ensures past { OnErr result (32 ≤ place) }
+{
     let Some(venue) = VenueId::from_index(place / 2) else {
         return Err(ListenFault::Unsettled);
     };
@@ -69,7 +75,10 @@ fn line_over<N: FeedName, C: Clock + Drop>(
     seat: LineSeat<Anything, N>,
     socket: UdpSocket,
     clock: C,
-) -> Result<Line<Anything, N, UdpLine<C>>, ListenFault> {
+) -> Result<Line<Anything, N, UdpLine<C>>, ListenFault>
+    ensures seat { IfOk result (λ line. line.seat ≡ seat) }
+    ensures source { IfOk result (λ line. IsSourceOf settings.now seat.venue line.source) }
+{
     let venue = seat.venue();
     let source = UdpLine::new(
         alloc,
@@ -86,7 +95,7 @@ fn line_over<N: FeedName, C: Clock + Drop>(
 }
 
 /// The seats of lines that have ended, and which of them failed.
-fn parted<N: FeedName, S: Drop>(
+fn part_lines<N: FeedName, S: Drop>(
     alloc: Global,
     ends: Vec<LineEnd<Anything, N, S>>,
 ) -> Result<(Vec<LineSeat<Anything, N>>, Vec<(VenueId, LineId)>), ListenFault> {
@@ -118,7 +127,7 @@ fn fault_of(fault: SettleFault) -> ListenFault {
 ///
 /// The feed is opened here and goes nowhere else: what has its locks could be handed a stored
 /// closure.
-pub fn hear<N, R, C>(
+pub fn run_feed<N, R, C>(
     rt: &R,
     alloc: Global,
     feed: LiveFeed<Anything>,
@@ -126,7 +135,7 @@ pub fn hear<N, R, C>(
     sockets: Vec<UdpSocket>,
     terms: Terms,
     clock: &C,
-) -> Result<Heard, ListenFault>
+) -> Result<ListenReport, ListenFault>
 where
     N: FeedName + Send + Sync,
     R: Threads + Wait + Sync,
@@ -157,9 +166,9 @@ where
     let Ok(report) = feed.run(rt, alloc, lines, subscribers) else {
         return Err(ListenFault::NoMemory);
     };
-    let (seats, failed) = parted(alloc, report.lines)?;
+    let (seats, failed) = part_lines(alloc, report.lines)?;
     match feed.settle(rt, alloc, seats, report.subscribers) {
-        Ok(settlement) => Ok(Heard {
+        Ok(settlement) => Ok(ListenReport {
             failed,
             stopped: report.stopped,
             settlement,

@@ -27,12 +27,14 @@ mod commands;
 mod ending;
 mod help_texts;
 mod listen;
+mod listen_lines;
 mod listen_settings;
 mod listening;
 mod refusal;
 mod replay_settings;
 mod run;
 mod sessions;
+mod sockets;
 mod summary;
 mod symbols;
 mod task;
@@ -42,10 +44,11 @@ use feed_text::count::Count;
 use feed_text::devices::TextOut;
 use feed_text::system::{StreamIn, StreamOut};
 use filter_terms::Terms;
-use listen::{bound, listen_with};
+use listen::{NO_MEMORY, listen_with};
 use listen_settings::ListenSettings;
 use refusal::Refusal;
-use run::{Ran, refuse, run, say};
+use run::{Next, refuse, run, write_stderr};
+use sockets::{bind_sockets, listening_line};
 use std::io::{ErrorKind, IsTerminal, Stderr, Stdin, Stdout};
 use std::marker::Brand;
 use std::process::ExitCode;
@@ -106,7 +109,7 @@ fn run_streams<H: Threads + Wait + Sync, C: Ledger, R: Ledger, W: Ledger, E: Led
         Ok(words) => words,
         Err(error) => return refuse(&unread(error.kind()), &mut output, &mut errors),
     };
-    let ran = run(
+    let next = run(
         rt.alloc(),
         words.as_slice(),
         at_terminal,
@@ -114,9 +117,9 @@ fn run_streams<H: Threads + Wait + Sync, C: Ledger, R: Ledger, W: Ledger, E: Led
         &mut output,
         &mut errors,
     );
-    match ran {
-        Ran::Ended(status) => status,
-        Ran::Listens(settings) => listen_live(rt, threads, &settings, &mut output, &mut errors),
+    match next {
+        Next::Ended(status) => status,
+        Next::Listens(settings) => listen_live(rt, threads, &settings, &mut output, &mut errors),
     }
 }
 
@@ -128,22 +131,30 @@ fn listen_live<H: Threads + Wait + Sync, W: TextOut, E: TextOut>(
     output: &mut W,
     errors: &mut E,
 ) -> u8 {
-    match bound(rt, rt.alloc(), settings.lines.as_slice()) {
-        Ok(sockets) => listen_with(
-            threads,
-            rt,
-            rt.alloc(),
-            settings,
-            sockets,
-            Terms::All,
-            output,
-            errors,
-        ),
+    let sockets = match bind_sockets(rt, rt.alloc(), settings.lines.as_slice()) {
+        Ok(sockets) => sockets,
         Err(text) => {
-            say(text, errors);
-            1
+            write_stderr(text, errors);
+            return 1;
+        }
+    };
+    match listening_line(rt.alloc(), sockets.as_slice(), settings.lines.as_slice()) {
+        Ok(line) => write_stderr(line.as_str(), errors),
+        Err(_) => {
+            write_stderr(NO_MEMORY, errors);
+            return 1;
         }
     }
+    listen_with(
+        threads,
+        rt,
+        rt.alloc(),
+        settings,
+        sockets,
+        Terms::All,
+        output,
+        errors,
+    )
 }
 
 fn main(rt: HostRuntime) -> ExitCode {

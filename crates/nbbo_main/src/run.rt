@@ -23,7 +23,7 @@ const HINT: &str = "nbbo: reading a capture from the terminal ('nbbo replay --he
 
 /// What a run came to.
 #[derive(Debug, Drop)]
-pub enum Ran {
+pub enum Next {
     /// It is over, and this is the status of the program.
     Ended(u8),
     /// The words ask to listen, and nothing else was done.
@@ -45,7 +45,7 @@ fn config_of(settings: &ReplaySettings) -> ReplayConfig<'_>
 }
 
 /// Writes a text on standard error. Where it can't be written nothing can be told.
-pub fn say<E: TextOut>(text: &str, errors: &mut E)
+pub fn write_stderr<E: TextOut>(text: &str, errors: &mut E)
     ensures { Says (record { adds = E.adds; failures = E.failures })
         text.now errors.old errors.new }
 {
@@ -76,10 +76,10 @@ fn run_replay<R: CaptureIn, W: TextOut, E: TextOut>(
         settings.now at_terminal
         input.old input.new output.old output.new errors.old errors.new result }
 {
-    say(hint(at_terminal), errors);
+    write_stderr(hint(at_terminal), errors);
     let outcome = replay(alloc, &config_of(settings), input, output);
     let (status, line) = ending(&outcome);
-    say(line, errors);
+    write_stderr(line, errors);
     status
 }
 
@@ -93,14 +93,14 @@ pub fn refuse<W: TextOut, E: TextOut>(refusal: &Refusal, output: &mut W, errors:
 {
     let status = refusal.status();
     if status != 0 {
-        say(refusal.text(), errors);
+        write_stderr(refusal.text(), errors);
         return status;
     }
     match write_all(refusal.text().as_bytes(), output) {
         Ok(()) => status,
         Err(_) => {
             let (status, text) = ending(&Err(ReplayFault::WriteFailed));
-            say(text, errors);
+            write_stderr(text, errors);
             status
         }
     }
@@ -118,7 +118,7 @@ pub fn run<R: CaptureIn, W: TextOut, E: TextOut>(
     input: &mut R,
     output: &mut W,
     errors: &mut E,
-) -> Ran
+) -> Next
     ensures { Leads
         (record { gives = R.gives; ends = R.ends; failures = R.failures })
         (record { adds = W.adds; failures = W.failures })
@@ -128,7 +128,7 @@ pub fn run<R: CaptureIn, W: TextOut, E: TextOut>(
 {
     match settings(alloc, words) {
         Ok(task) => match task {
-            Task::Replay(settings) => Ran::Ended(run_replay(
+            Task::Replay(settings) => Next::Ended(run_replay(
                 alloc,
                 &settings,
                 at_terminal,
@@ -136,8 +136,8 @@ pub fn run<R: CaptureIn, W: TextOut, E: TextOut>(
                 output,
                 errors,
             )),
-            Task::Listen(settings) => Ran::Listens(settings),
+            Task::Listen(settings) => Next::Listens(settings),
         },
-        Err(refusal) => Ran::Ended(refuse(&refusal, output, errors)),
+        Err(refusal) => Next::Ended(refuse(&refusal, output, errors)),
     }
 }

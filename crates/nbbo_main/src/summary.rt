@@ -1,6 +1,7 @@
 //! The text of what listening came to.
-ghost use Rattle.std.specs.Prelude.{◌≡◌, ◌++◌, flat_map, OnOk};
+ghost use Rattle.std.specs.Prelude.{◌≡◌, ◌++◌, ◌<◌, flat_map, length, IfOk, IfSome, OnOk, slice_get, take};
 ghost use Rattle.feed_text.specs.Lines.{best_line};
+ghost use Rattle.nbbo_main.specs.Listening.{end_line, end_lines, subscriber_lines, summary_text};
 
 use feed_text::lines::{put_best, put_venue};
 use feed_text::page::Page;
@@ -29,46 +30,65 @@ fn put_log(text: &mut Page, log: &[Logged]) -> Result<(), AllocError>
     Ok(())
 }
 
-/// Appends the last line of a venue.
-fn put_end(text: &mut Page, settlement: &Settlement, venue: VenueId) -> Result<(), AllocError> {
-    if venue.index() >= settlement.venue_count() {
-        return Ok(());
-    }
+/// Appends the last line of a venue, which is below the number of venues.
+fn put_end(text: &mut Page, settlement: &Settlement, venue: VenueId) -> Result<(), AllocError>
+    requires { venue < length settlement.now.venues }
+    ensures { OnOk result (IfSome (slice_get settlement.now.venues venue)
+        (λ v. text.new.items ≡ text.old.items ++ end_line venue v)) }
+{
     let sent = settlement.consumed(venue).len() as u64;
     let a = settlement.wins(venue, LineId::A);
     let b = settlement.wins(venue, LineId::B);
-    put_venue(
-        text,
-        venue,
-        sent,
-        a,
-        b,
-        settlement.wins(venue, LineId::Recovery),
-    )
+    let recovery = settlement.wins(venue, LineId::Recovery);
+    put_venue(text, venue, sent, a, b, recovery)
 }
 
 /// Appends the best lines of all that the subscriber wanted: what it took, what still lay in its
-/// lane, and what was not offered.
-fn put_bests(text: &mut Page, settlement: &Settlement, id: SubscriberId) -> Result<(), AllocError> {
-    if id.index() >= settlement.subscriber_count() {
-        return Ok(());
-    }
+/// lane, and what was not offered. The id is below the number of subscribers.
+fn put_bests(text: &mut Page, settlement: &Settlement, id: SubscriberId) -> Result<(), AllocError>
+    requires { id < length settlement.now.subscribers }
+    ensures { OnOk result (IfSome (slice_get settlement.now.subscribers id)
+        (λ x. text.new.items ≡ text.old.items ++ subscriber_lines x)) }
+{
     put_log(text, settlement.log(id))?;
     put_notices(text, settlement.queued(id))?;
     put_notices(text, settlement.unoffered(id))
 }
 
-/// What is printed once all lines have ended: the best lines of the one subscriber, and then a line
-/// for each venue.
-pub fn summary_of(alloc: Global, settlement: &Settlement) -> Result<Page, AllocError> {
-    let mut text = Page::new(alloc);
-    if let Some(id) = SubscriberId::new(0) {
-        put_bests(&mut text, settlement, id)?;
+/// Appends the best lines of the first subscriber, if there is one.
+fn put_first_bests(text: &mut Page, settlement: &Settlement) -> Result<(), AllocError>
+    ensures { OnOk result (text.new.items
+        ≡ text.old.items ++ flat_map subscriber_lines (take 1 settlement.now.subscribers)) }
+{
+    if settlement.subscriber_count() == 0 {
+        return Ok(());
     }
+    match SubscriberId::new(0) {
+        Some(id) => put_bests(text, settlement, id),
+        None => unreachable!(),
+    }
+}
+
+/// Appends the last line of each venue, of 16 at most.
+fn put_ends(text: &mut Page, settlement: &Settlement) -> Result<(), AllocError>
+    ensures { OnOk result (text.new.items
+        ≡ text.old.items ++ end_lines 0 (take 16 settlement.now.venues)) }
+{
     for place in 0..settlement.venue_count() {
         if let Some(venue) = VenueId::from_index(place) {
-            put_end(&mut text, settlement, venue)?;
+            put_end(text, settlement, venue)?;
         }
     }
+    Ok(())
+}
+
+/// What is printed once all lines have ended: the best lines of the first subscriber, and then a line
+/// for each venue.
+pub fn summary_of(alloc: Global, settlement: &Settlement) -> Result<Page, AllocError>
+    ensures { IfOk result (λ text. text.items ≡ summary_text settlement.now) }
+{
+    let mut text = Page::new(alloc);
+    put_first_bests(&mut text, settlement)?;
+    put_ends(&mut text, settlement)?;
     Ok(text)
 }

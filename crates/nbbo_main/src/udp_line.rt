@@ -1,11 +1,14 @@
 //! A line that is received by UDP.
-ghost use Rattle.std.specs.Prelude.{◌≡◌, ◌≢◌, ◌≤◌, IfOk, IfErr, false, length};
-ghost use Rattle.nbbo_main.specs.UdpLines.{failures_of};
+ghost use Rattle.std.specs.Prelude.{◌≡◌, ◌≢◌, ◌+◌, ◌*◌, ◌/◌, ◌-◌, ◌^◌, ◌≤◌, ◌⊎◌, ◌↔◌, min, IfOk, IfErr, IsTrue, Ok, Some, None, false, length};
+ghost use Rattle.std.specs.Duration.{as_nanos};
+ghost use Rattle.live_feed.specs.venue.Datagrams.{bytes_of};
+ghost use Rattle.live_feed.specs.run.Runs.{failures_after};
+ghost use Rattle.nbbo_main.specs.UdpLines.{IsOver, SpellsEnd, failures_of};
 ghost use Rattle.live_feed.specs.declared.run.source.SourceFault.TheVariants.{NoMemory};
 
 use feed_types::{Anything, VenueId};
 use live_feed::{Datagram, LineSource, SourceFault};
-use mold_packet::{Kind, Request, read_packet, write_request};
+use mold_packet::{Kind, Request, one_reading, read_packet, write_request};
 use std::alloc::{AllocError, Global};
 use std::io::ErrorKind;
 use std::marker::Model;
@@ -77,22 +80,29 @@ fn send(socket: &UdpSocket, bytes: &[u8], to: SocketAddr) -> Result<(), SourceFa
 }
 
 /// A datagram of these bytes.
-fn datagram_of(alloc: Global, bytes: &[u8]) -> Result<Datagram, AllocError> {
+fn datagram_of(alloc: Global, bytes: &[u8]) -> Result<Datagram, AllocError>
+    ensures { IfOk result (λ datagram. bytes_of datagram ≡ bytes.now) }
+{
     let mut held = Vec::with_capacity(alloc, bytes.len())?;
     held.extend_from_slice(bytes)?;
     Ok(Datagram::new(held))
 }
 
-/// Whether the datagram reads as an end of some session.
-fn is_end(datagram: &Datagram) -> bool {
-    match read_packet(datagram.bytes()) {
+/// Whether the bytes are an end of session, of whichever session.
+fn is_end(bytes: &[u8]) -> bool
+    ensures { IsTrue result ↔ SpellsEnd bytes.now }
+{
+    one_reading();
+    match read_packet(bytes) {
         Ok(packet) => packet.kind() == Kind::End,
         Err(_) => false,
     }
 }
 
 /// The whole milliseconds of a time, 2^64 - 1 at most.
-fn millis(time: Duration) -> u64 {
+fn millis(time: Duration) -> u64
+    ensures { result ≡ min (as_nanos time / 1_000_000) (2 ^ 64 - 1) }
+{
     let rest = u64::from(time.subsec_millis());
     time.as_secs().saturating_mul(1_000).saturating_add(rest)
 }
@@ -124,6 +134,44 @@ impl<C: Drop> UdpLine<C> {
             buffer: vec![in alloc; 0; MAX_DATAGRAM]?,
         })
     }
+
+    /// Receives the next datagram; None once the line has ended, and only then. An end of session ends it, and
+    /// so does the last datagram that it may read.
+    ///
+    /// Device where the socket failed, TooManyTurns where it was interrupted a million times: the line has
+    /// ended then. NoMemory where memory for the datagram was refused, which is lost then.
+    fn receive_next(&mut self) -> Result<Option<Datagram>, SourceFault>
+        ensures over { result ≡ Ok None → IsOver self.old }
+        ensures ended { IsOver self.old → (result ≡ Ok None) × (self.new ≡ self.old) }
+        ensures last { (datagram : Datagram) → result ≡ Ok (Some datagram)
+            → SpellsEnd (bytes_of datagram) → self.new.left ≡ 0 }
+        ensures other { (datagram : Datagram) → result ≡ Ok (Some datagram)
+            → (SpellsEnd (bytes_of datagram) → ⊥) → self.new.left + 1 ≡ self.old.left }
+        ensures venue { self.new.venue ≡ self.old.venue }
+        ensures sound { IfOk result (λ _. failures_of self.new.failed ≡ failures_of self.old.failed) }
+        ensures failed { IfErr result (λ fault. failures_of self.new.failed
+            ≡ failures_after (failures_of self.old.failed) fault) }
+    {
+        if self.broken || self.to_read == 0 {
+            return Ok(None);
+        }
+        let count = match receive(&self.socket, self.buffer.as_mut_slice()) {
+            Ok(count) => count,
+            Err(fault) => {
+                self.broken = true;
+                return Err(fault);
+            }
+        };
+        let Ok(datagram) = datagram_of(self.alloc, &self.buffer[..count]) else {
+            return Err(SourceFault::NoMemory);
+        };
+        self.to_read = if is_end(datagram.bytes()) {
+            0
+        } else {
+            self.to_read - 1
+        };
+        Ok(Some(datagram))
+    }
 }
 
 impl<C: Clock + Drop> LineSource<Anything> for UdpLine<C> {
@@ -146,25 +194,7 @@ impl<C: Clock + Drop> LineSource<Anything> for UdpLine<C> {
     }
 
     fn next(&mut self) -> Result<Option<Datagram>, SourceFault> {
-        if self.broken || self.to_read == 0 {
-            return Ok(None);
-        }
-        let count = match receive(&self.socket, self.buffer.as_mut_slice()) {
-            Ok(count) => count,
-            Err(fault) => {
-                self.broken = true;
-                return Err(fault);
-            }
-        };
-        let Ok(datagram) = datagram_of(self.alloc, &self.buffer[..count]) else {
-            return Err(SourceFault::NoMemory);
-        };
-        self.to_read = if is_end(&datagram) {
-            0
-        } else {
-            self.to_read - 1
-        };
-        Ok(Some(datagram))
+        self.receive_next()
     }
 
     fn now_ms(&mut self) -> u64 {

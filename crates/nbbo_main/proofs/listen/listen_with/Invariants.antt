@@ -1,4 +1,4 @@
 use Rattle.nbbo_main.proofs.listen.listen_with.Given as goal
 
-abbrev pub ghosts-hear : goal.ghosts-hear
-ghosts-hear g a = record { lanes = a.feed }
+abbrev pub ghosts-run_feed : goal.ghosts-run_feed
+ghosts-run_feed g a = record { lanes = a.feed }
