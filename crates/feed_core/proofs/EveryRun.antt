@@ -14,8 +14,8 @@ use Rattle.feed_core.specs.declared.event.Event.{Event}
 use Rattle.feed_core.specs.declared.event.Event.TheVariants.{Packet, Push, Consume, Declare, Renew, Subscribe, Offer, Dequeue}
 use Rattle.feed_core.specs.declared.event.Done.{Done}
 use Rattle.feed_core.specs.declared.event.Done.TheVariants as done
-use Rattle.feed_core.specs.Worlds.{Venue, sent_of, World, Setting}
-use Rattle.feed_core.specs.Steps.{Came, stays, goes, Stays, Comes, put_venue, IsFaulty, answered, IsAnswered, renewal, IsNext, IsSubscribed}
+use Rattle.feed_core.specs.Worlds.{Venue, session_sent, World, Setting}
+use Rattle.feed_core.specs.Steps.{Transition, Refused, Changes, Stays, Applies, put_venue, RefusesBytes, packet_done, AnswersPacket, renewal_done, AnswersRenewal, AnswersSubscribe}
 use Rattle.feed_core.specs.Runs.{IsStep, IsRun, BringsBytes}
 
 -- some outcome and some world
@@ -27,21 +27,21 @@ known : {X : Type 0} (o : Option X) (refusal : Done) (old : World) (Known : X �
 known None refusal old Known each = (refusal, old, (refl, refl))
 known (Some x) refusal old Known each = each x
 
-came : {X : Type 0} (put : X → World) (c : Came X) (old : World) → HasStep (Comes put c old)
-came put (stays refusal) old = (refusal, old, (refl, refl))
-came put (goes outcome x) old = (outcome, put x, (refl, refl))
+came : {X : Type 0} (put : X → World) (c : Transition X) (old : World) → HasStep (Applies put c old)
+came put (Refused refusal) old = (refusal, old, (refl, refl))
+came put (Changes outcome x) old = (outcome, put x, (refl, refl))
 
 module _ (place : ℕ) (v : Venue) (old : World) where
   abbrev with_history : History → World
   with_history h = put_venue old place (record v { history = h })
 
-  packet : (window : ℕ) (line : LineId) (bytes : List ℕ) → AreBytes bytes → HasStep (λ outcome new. IsFaulty bytes old outcome new ⊎ IsAnswered window place v line bytes old outcome new)
+  packet : (window : ℕ) (line : LineId) (bytes : List ℕ) → AreBytes bytes → HasStep (λ outcome new. RefusesBytes bytes old outcome new ⊎ AnswersPacket window place v line bytes old outcome new)
   packet window line bytes are = elim (read_or_fault bytes are) [
     | inr fault ↦ (done.Refused (code_of fault.0), old, inl (record { fault = fault.0; has = fault.1; is = (refl, refl) }))
     | inl read ↦
-        let given = every_answer v.history.present.name window (sent_of v) v.history.present.packets read.0 in
+        let given = every_answer v.history.present.name window (session_sent v) v.history.present.packets read.0 in
         let history : History = after_arrival v.history (arrival_of line read.0 given.0) in (
-          answered given.0,
+          packet_done given.0,
           with_history history,
           inr (record {
             packet = read.0;
@@ -56,11 +56,11 @@ module _ (place : ℕ) (v : Venue) (old : World) where
         )
   ]
 
-  renewed : (name : List ℕ) → HasStep (IsNext place v name old)
+  renewed : (name : List ℕ) → HasStep (AnswersRenewal place v name old)
   renewed name =
-      let given = every_renewal (names_of v.history) (end_of v.history.present.packets) (sent_of v) name in
+      let given = every_renewal (names_of v.history) (end_of v.history.present.packets) (session_sent v) name in
       let history : History = history_after v.history name given.0 in (
-        renewal given.0,
+        renewal_done given.0,
         with_history history,
         record {
           answer = given.0;
@@ -71,7 +71,7 @@ module _ (place : ℕ) (v : Venue) (old : World) where
         },
       )
 
-subscription : (o : Option Terms) (old : World) → HasStep (IsSubscribed o old)
+subscription : (o : Option Terms) (old : World) → HasStep (AnswersSubscribe o old)
 subscription None old = (done.NoFilter, old, (refl, refl))
 subscription (Some terms) old = came _ _ (record old { used = old.used + 1 })
 

@@ -13,7 +13,7 @@ use Rattle.feed_core.specs.declared.event.Event.{Event}
 use Rattle.feed_core.specs.declared.event.Event.TheVariants.{Packet, Push, Consume, Declare, Renew, Subscribe, Offer, Dequeue}
 use Rattle.feed_core.specs.declared.event.Done.{Done}
 use Rattle.feed_core.specs.Worlds.{empty_lane, is_full, Venue, Subscriber, World, Setting}
-use Rattle.feed_core.specs.Steps.{stays, goes, next_in, next_out, pushed, journaled, is_same, offered, dequeued, journal_full, already_so, too_many_subscribers, unknown_venue, unknown_subscriber, put_subscriber, Stays, Comes, with_sent, with_intake, with_offered, with_dequeued, IsSubscribed}
+use Rattle.feed_core.specs.Steps.{Refused, Changes, next_in, next_out, push_next, journal_item, is_same, offer_next, dequeue_next, journal_full, already_so, too_many_subscribers, unknown_venue, unknown_subscriber, put_subscriber, Stays, Applies, with_sent, with_intake, with_offered, with_dequeued, AnswersSubscribe}
 use Rattle.feed_core.specs.Runs.{IsStep, IsRun}
 use Rattle.feed_core.specs.declared.event.Done.TheVariants as done
 use Rattle.feed_core.proofs.Lists.{get_set, get_push}
@@ -49,41 +49,41 @@ module _ (s : Setting) (Q : List Entry → Subscriber → Type 0) (kept : MoveKe
   more : (old : World) (e : Entry) → EachSubscriber Q old → (id : ℕ) (x : Subscriber) → slice_get old.subscribers id ≡ Some x → Q (old.entries ++ e ∷ []) x
   more old e each id x at = kept.grow old.entries e x (each id x at)
 
-  push_case : (old : World) (place : ℕ) (v : Venue) (full : Bool) (o : Option Numbered) (d : Done) (new : World) → EachSubscriber Q old → Comes (with_sent old place v) (pushed full o v.lane.sent) old d new → EachSubscriber Q new
+  push_case : (old : World) (place : ℕ) (v : Venue) (full : Bool) (o : Option Numbered) (d : Done) (new : World) → EachSubscriber Q old → Applies (with_sent old place v) (push_next full o v.lane.sent) old d new → EachSubscriber Q new
   push_case old place v full None d new each h = moved new old h.1 each
   push_case old place v true (Some n) d new each h = moved new old h.1 each
   push_case old place v false (Some n) d new each h = moved new _ h.1 each
 
   consume_case : (old : World) (place : ℕ) (v : Venue) (full : Bool) (o : Option Numbered) (d : Done) (new : World) → EachSubscriber Q old
-      → Comes (with_intake old place v) (if full then stays journal_full else journaled place o (record { received = v.lane.received; entries = old.entries })) old d new → EachSubscriber Q new
+      → Applies (with_intake old place v) (if full then Refused journal_full else journal_item place o (record { received = v.lane.received; entries = old.entries })) old d new → EachSubscriber Q new
   consume_case old place v true o d new each h = moved new old h.1 each
   consume_case old place v false None d new each h = moved new old h.1 each
   consume_case old place v false (Some n) d new each h = moved new _ h.1 (more old (entry.Consumed place n) each)
 
   declare_case : (old : World) (place : ℕ) (on same full : Bool) (d : Done) (new : World) → EachSubscriber Q old
-      → Comes (λ E. record old { entries = E }) (if same then stays already_so else (if full then stays journal_full else goes (done.Declared (length old.entries + 1)) (old.entries ++ entry.SelfHelp place on ∷ []))) old d new → EachSubscriber Q new
+      → Applies (λ E. record old { entries = E }) (if same then Refused already_so else (if full then Refused journal_full else Changes (done.Declared (length old.entries + 1)) (old.entries ++ entry.SelfHelp place on ∷ []))) old d new → EachSubscriber Q new
   declare_case old place on true full d new each h = moved new old h.1 each
   declare_case old place on false true d new each h = moved new old h.1 each
   declare_case old place on false false d new each h = moved new _ h.1 (more old (entry.SelfHelp place on) each)
 
   subscribe_place : (old : World) (terms : Terms) (full : Bool) (d : Done) (new : World) → EachSubscriber Q old
-      → Comes (λ xs. record old { used = old.used + 1; subscribers = xs }) (if full then stays too_many_subscribers else goes (done.Subscribed (length old.subscribers)) (old.subscribers ++ record { terms = terms; lane = empty_lane } ∷ [])) (record old { used = old.used + 1 }) d new → EachSubscriber Q new
+      → Applies (λ xs. record old { used = old.used + 1; subscribers = xs }) (if full then Refused too_many_subscribers else Changes (done.Subscribed (length old.subscribers)) (old.subscribers ++ record { terms = terms; lane = empty_lane } ∷ [])) (record old { used = old.used + 1 }) d new → EachSubscriber Q new
   subscribe_place old terms true d new each h = moved new _ h.1 each
   subscribe_place old terms false d new each h = moved new _ h.1 (λ id x e. elim (get_push old.subscribers id _ x e) [
     | inl now ↦ rw (now.1) (kept.new old.entries terms)
     | inr before ↦ each id x before.1
   ])
 
-  subscribe_case : (old : World) (o : Option Terms) (d : Done) (new : World) → EachSubscriber Q old → IsSubscribed o old d new → EachSubscriber Q new
+  subscribe_case : (old : World) (o : Option Terms) (d : Done) (new : World) → EachSubscriber Q old → AnswersSubscribe o old d new → EachSubscriber Q new
   subscribe_case old None d new each h = moved new old h.1 each
   subscribe_case old (Some terms) d new each h = subscribe_place old terms (nat_le 32 (length old.subscribers)) d new each h
 
-  offer_case : (old : World) (id : ℕ) (x : Subscriber) (full : Bool) (o : Option Notice) (d : Done) (new : World) → next_in (wanted_of s.symbols x.terms old.entries) x.lane ≡ o → EachSubscriber Q old → Q old.entries x → Comes (with_offered old id x) (offered full o x.lane.sent) old d new → EachSubscriber Q new
+  offer_case : (old : World) (id : ℕ) (x : Subscriber) (full : Bool) (o : Option Notice) (d : Done) (new : World) → next_in (wanted_of s.symbols x.terms old.entries) x.lane ≡ o → EachSubscriber Q old → Q old.entries x → Applies (with_offered old id x) (offer_next full o x.lane.sent) old d new → EachSubscriber Q new
   offer_case old id x full None d new e each here h = moved new old h.1 each
   offer_case old id x true (Some n) d new e each here h = moved new old h.1 each
   offer_case old id x false (Some n) d new e each here h = moved new _ h.1 (put old id _ each (kept.offer old.entries x n e here))
 
-  dequeue_case : (old : World) (id : ℕ) (x : Subscriber) (o : Option Notice) (d : Done) (new : World) → next_out x.lane ≡ o → EachSubscriber Q old → Q old.entries x → Comes (with_dequeued old id x) (dequeued o x.lane.received) old d new → EachSubscriber Q new
+  dequeue_case : (old : World) (id : ℕ) (x : Subscriber) (o : Option Notice) (d : Done) (new : World) → next_out x.lane ≡ o → EachSubscriber Q old → Q old.entries x → Applies (with_dequeued old id x) (dequeue_next o x.lane.received) old d new → EachSubscriber Q new
   dequeue_case old id x None d new e each here h = moved new old h.1 each
   dequeue_case old id x (Some n) d new e each here h = moved new _ h.1 (put old id _ each (kept.dequeue old.entries x n e here))
 

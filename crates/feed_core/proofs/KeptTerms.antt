@@ -14,7 +14,7 @@ use Rattle.feed_core.specs.declared.event.Event.TheVariants.{Packet, Push, Consu
 use Rattle.feed_core.specs.declared.event.Done.{Done}
 use Rattle.feed_core.specs.declared.event.Done.TheVariants as done
 use Rattle.feed_core.specs.Worlds.{empty_lane, is_full, Venue, Subscriber, World, Setting, new_world}
-use Rattle.feed_core.specs.Steps.{Came, stays, goes, next_in, next_out, pushed, consumed, declared, offered, dequeued, too_many_subscribers, unknown_venue, unknown_subscriber, put_subscriber, Stays, Comes, with_sent, with_intake, IsSubscribed}
+use Rattle.feed_core.specs.Steps.{Transition, Refused, Changes, next_in, next_out, push_next, consume_next, declare_help, offer_next, dequeue_next, too_many_subscribers, unknown_venue, unknown_subscriber, put_subscriber, Stays, Applies, with_sent, with_intake, AnswersSubscribe}
 use Rattle.feed_core.specs.Runs.{IsStep, IsRun}
 use Rattle.feed_core.proofs.Lists.{get_set, get_push}
 
@@ -46,18 +46,18 @@ module _ (s : Setting) where
   at_subscriber (Some x) old id d new Known e k f h = f x e h
 
   -- an event that changes neither
-  other_case : {X : Type 0} (old : World) (put : X → World) (came : Came X) (d : Done) (new : World)
+  other_case : {X : Type 0} (old : World) (put : X → World) (came : Transition X) (d : Done) (new : World)
       → ((x : X) → (put x).subscribers ≡ old.subscribers) → ((x : X) → (put x).used ≡ old.used) → InTurn s old
-      → Comes put came old d new → InTurn s new
-  other_case old put (stays e) d new a b k h = moved new old h.1 k
-  other_case old put (goes e x) d new a b k h = moved new (put x) h.1 (same old (put x) (a x) (b x) k)
+      → Applies put came old d new → InTurn s new
+  other_case old put (Refused e) d new a b k h = moved new old h.1 k
+  other_case old put (Changes e x) d new a b k h = moved new (put x) h.1 (same old (put x) (a x) (b x) k)
 
   -- one that changes a subscriber's lane
-  lane_case : {X : Type 0} (old : World) (id : ℕ) (x : Subscriber) (put : X → Subscriber) (came : Came X) (d : Done)
+  lane_case : {X : Type 0} (old : World) (id : ℕ) (x : Subscriber) (put : X → Subscriber) (came : Transition X) (d : Done)
       (new : World) → slice_get old.subscribers id ≡ Some x → ((y : X) → (put y).terms ≡ x.terms) → InTurn s old
-      → Comes (λ y. put_subscriber old id (put y)) came old d new → InTurn s new
-  lane_case old id x put (stays e) d new there same_terms k h = moved new old h.1 k
-  lane_case old id x put (goes e y) d new there same_terms k h =
+      → Applies (λ y. put_subscriber old id (put y)) came old d new → InTurn s new
+  lane_case old id x put (Refused e) d new there same_terms k h = moved new old h.1 k
+  lane_case old id x put (Changes e y) d new there same_terms k h =
       let len : length (slice_set old.subscribers id (put y)) ≡ length old.subscribers =
       length-set old.subscribers id (put y) in
       moved new (put_subscriber old id (put y)) h.1 (record {
@@ -70,9 +70,9 @@ module _ (s : Setting) where
 
   subscribe_place : (old : World) (terms : Terms) (full : Bool) (d : Done) (new : World)
       → nat_le 32 (length old.subscribers) ≡ full → slice_get s.filters old.used ≡ Some terms → InTurn s old
-      → Comes (λ xs. record old { used = old.used + 1; subscribers = xs })
-      (if full then stays too_many_subscribers
-      else goes (done.Subscribed (length old.subscribers))
+      → Applies (λ xs. record old { used = old.used + 1; subscribers = xs })
+      (if full then Refused too_many_subscribers
+      else Changes (done.Subscribed (length old.subscribers))
       (old.subscribers ++ record { terms = terms; lane = empty_lane } ∷ []))
       (record old { used = old.used + 1 }) d new → InTurn s new
   subscribe_place old terms true d new is filter k h =
@@ -93,7 +93,7 @@ module _ (s : Setting) where
       })
 
   subscribe_case : (old : World) (o : Option Terms) (d : Done) (new : World) → slice_get s.filters old.used ≡ o
-      → InTurn s old → IsSubscribed o old d new → InTurn s new
+      → InTurn s old → AnswersSubscribe o old d new → InTurn s new
   subscribe_case old None d new e k h = moved new old h.1 k
   subscribe_case old (Some terms) d new e k h =
       subscribe_place old terms (nat_le 32 (length old.subscribers)) d new refl e k h
@@ -108,25 +108,25 @@ module _ (s : Setting) where
       (λ v t. moved new _ t.new_is (record { terms = k.terms; used = k.used })) h
   step_keeps old (Push place) d new k h = at_venue (slice_get old.venues place) old d new _ k
       (λ v t. other_case old (with_sent old place v)
-      (pushed (is_full s.lane v.lane) (next_in (streams_of v.history) v.lane) v.lane.sent) d new (λ x. refl)
+      (push_next (is_full s.lane v.lane) (next_in (streams_of v.history) v.lane) v.lane.sent) d new (λ x. refl)
       (λ x. refl) k t) h
   step_keeps old (Consume place) d new k h = at_venue (slice_get old.venues place) old d new _ k
       (λ v t. other_case old (with_intake old place v)
-      (consumed s.journal place (next_out v.lane) (record { received = v.lane.received; entries = old.entries })) d new
+      (consume_next s.journal place (next_out v.lane) (record { received = v.lane.received; entries = old.entries })) d new
       (λ x. refl) (λ x. refl) k t) h
   step_keeps old (Declare place on) d new k h = at_venue (slice_get old.venues place) old d new _ k
       (λ v t. other_case old (λ entries. record old { entries = entries })
-      (declared s.journal place on old.entries) d new
+      (declare_help s.journal place on old.entries) d new
       (λ x. refl) (λ x. refl) k t) h
   step_keeps old Subscribe d new k h = subscribe_case old (slice_get s.filters old.used) d new refl k h
   step_keeps old (Offer id) d new k h = at_subscriber (slice_get old.subscribers id) old id d new _ refl k
       (λ x there t. lane_case old id x (λ sent. record x { lane = record x.lane { sent = sent } })
-      (offered (is_full s.lane x.lane) (next_in (wanted_of s.symbols x.terms old.entries) x.lane) x.lane.sent) d new
+      (offer_next (is_full s.lane x.lane) (next_in (wanted_of s.symbols x.terms old.entries) x.lane) x.lane.sent) d new
       there
       (λ y. refl) k t) h
   step_keeps old (Dequeue id) d new k h = at_subscriber (slice_get old.subscribers id) old id d new _ refl k
       (λ x there t. lane_case old id x (λ received. record x { lane = record x.lane { received = received } })
-      (dequeued (next_out x.lane) x.lane.received) d new there (λ y. refl) k t) h
+      (dequeue_next (next_out x.lane) x.lane.received) d new there (λ y. refl) k t) h
 
   run_keeps : (old : World) (events : List Event) (ds : List Done) (new : World) → InTurn s old
       → IsRun s old events ds new → InTurn s new

@@ -14,15 +14,15 @@ use Rattle.journal_book.specs.Wanted.{wanted_of}
 use Rattle.feed_core.specs.declared.event.Event.{Event}
 use Rattle.feed_core.specs.declared.event.Event.TheVariants.{Packet, Push, Consume, Declare, Renew, Subscribe, Offer, Dequeue}
 use Rattle.feed_core.specs.declared.event.Done.{Done}
-use Rattle.feed_core.specs.Worlds.{is_full, Venue, sent_of, Subscriber, World, Setting}
-use Rattle.feed_core.specs.Steps.{Came, stays, goes, next_in, next_out, IsTaken, IsRenewed, pushed, journaled, declared, subscribed, offered, dequeued, journal_full, unknown_venue, unknown_subscriber, put_venue, Stays, Comes, with_sent, with_intake, with_offered, with_dequeued, IsSubscribed}
+use Rattle.feed_core.specs.Worlds.{is_full, Venue, session_sent, Subscriber, World, Setting}
+use Rattle.feed_core.specs.Steps.{Transition, Refused, Changes, next_in, next_out, AddsArrival, AddsRenewal, push_next, journal_item, declare_help, add_subscriber, offer_next, dequeue_next, journal_full, unknown_venue, unknown_subscriber, put_venue, Stays, Applies, with_sent, with_intake, with_offered, with_dequeued, AnswersSubscribe}
 use Rattle.feed_core.specs.Runs.{IsStep, IsRun}
 use Rattle.feed_core.proofs.Lists.{get_set}
 
 pub record MoveKept (s : Setting) (May : Event → Type 0) (Q : ℕ → Venue → Type 0) : Type 0 where
   pub packet : (place : ℕ) (v : Venue) (line : LineId) (bytes : _) (p : Content) (rest : List ℕ) (answer : Result Outcome LineFault) (h : History)
-      → May (Packet place line bytes) → Spells bytes.now p rest → IsTaken s.window (sent_of v) line p v.history answer h → Q place v → Q place (record v { history = h })
-  pub renew : (place : ℕ) (v : Venue) (name : List ℕ) (answer : Result ℕ RenewFault) (h : History) → IsRenewed (sent_of v) name v.history answer h → Q place v → Q place (record v { history = h })
+      → May (Packet place line bytes) → Spells bytes.now p rest → AddsArrival s.window (session_sent v) line p v.history answer h → Q place v → Q place (record v { history = h })
+  pub renew : (place : ℕ) (v : Venue) (name : List ℕ) (answer : Result ℕ RenewFault) (h : History) → AddsRenewal (session_sent v) name v.history answer h → Q place v → Q place (record v { history = h })
   pub push : (place : ℕ) (v : Venue) (x : Numbered) → next_in (streams_of v.history) v.lane ≡ Some x → Q place v → Q place (record v { lane = record v.lane { sent = v.lane.sent ++ x ∷ [] } })
   pub consume : (place : ℕ) (v : Venue) (x : Numbered) → next_out v.lane ≡ Some x → Q place v → Q place (record v { lane = record v.lane { received = v.lane.received ++ x ∷ [] } })
 
@@ -49,25 +49,25 @@ module _ (s : Setting) (May : Event → Type 0) (Q : ℕ → Venue → Type 0) (
   at_subscriber None old d new Known each f h = moved new old h.1 each
   at_subscriber (Some x) old d new Known each f h = f x h
 
-  push_case : (old : World) (place : ℕ) (v : Venue) (full : Bool) (o : Option Numbered) (d : Done) (new : World) → next_in (streams_of v.history) v.lane ≡ o → EachVenue Q old → Q place v → Comes (with_sent old place v) (pushed full o v.lane.sent) old d new → EachVenue Q new
+  push_case : (old : World) (place : ℕ) (v : Venue) (full : Bool) (o : Option Numbered) (d : Done) (new : World) → next_in (streams_of v.history) v.lane ≡ o → EachVenue Q old → Q place v → Applies (with_sent old place v) (push_next full o v.lane.sent) old d new → EachVenue Q new
   push_case old place v full None d new e each here h = moved new old h.1 each
   push_case old place v true (Some x) d new e each here h = moved new old h.1 each
   push_case old place v false (Some x) d new e each here h = moved new _ h.1 (put old place _ each (kept.push place v x e here))
 
   consume_case : (old : World) (place : ℕ) (v : Venue) (full : Bool) (o : Option Numbered) (d : Done) (new : World) → next_out v.lane ≡ o → EachVenue Q old → Q place v
-      → Comes (with_intake old place v) (if full then stays journal_full else journaled place o (record { received = v.lane.received; entries = old.entries })) old d new → EachVenue Q new
+      → Applies (with_intake old place v) (if full then Refused journal_full else journal_item place o (record { received = v.lane.received; entries = old.entries })) old d new → EachVenue Q new
   consume_case old place v true o d new e each here h = moved new old h.1 each
   consume_case old place v false None d new e each here h = moved new old h.1 each
   consume_case old place v false (Some x) d new e each here h = moved new _ h.1 (put old place _ each (kept.consume place v x e here))
 
   -- an event that changes no venue
-  other_case : {X : Type 0} (old after : World) (put : X → World) (came : Came X) (d : Done) (new : World) → ((x : X) → (put x).venues ≡ after.venues) → EachVenue Q after → Comes put came after d new → EachVenue Q new
-  other_case old after put (stays e) d new same each h = moved new after h.1 each
-  other_case old after put (goes e x) d new same each h = moved new (put x) h.1 (λ place v at. each place v (subst (λ (vs : List Venue). slice_get vs place ≡ Some v) (same x) at))
+  other_case : {X : Type 0} (old after : World) (put : X → World) (came : Transition X) (d : Done) (new : World) → ((x : X) → (put x).venues ≡ after.venues) → EachVenue Q after → Applies put came after d new → EachVenue Q new
+  other_case old after put (Refused e) d new same each h = moved new after h.1 each
+  other_case old after put (Changes e x) d new same each h = moved new (put x) h.1 (λ place v at. each place v (subst (λ (vs : List Venue). slice_get vs place ≡ Some v) (same x) at))
 
-  subscribe_case : (old : World) (o : Option Terms) (d : Done) (new : World) → EachVenue Q old → IsSubscribed o old d new → EachVenue Q new
+  subscribe_case : (old : World) (o : Option Terms) (d : Done) (new : World) → EachVenue Q old → AnswersSubscribe o old d new → EachVenue Q new
   subscribe_case old None d new each h = moved new old h.1 each
-  subscribe_case old (Some terms) d new each h = other_case old (record old { used = old.used + 1 }) _ (subscribed terms old.subscribers) d new (λ x. refl) each h
+  subscribe_case old (Some terms) d new each h = other_case old (record old { used = old.used + 1 }) _ (add_subscriber terms old.subscribers) d new (λ x. refl) each h
 
   step_keeps : (old : World) (e : Event) (d : Done) (new : World) → May e → EachVenue Q old → IsStep s old e d new → EachVenue Q new
   step_keeps old (Packet place line bytes) d new may each h = at_venue (slice_get old.venues place) old place d new _ refl each
@@ -82,12 +82,12 @@ module _ (s : Setting) (May : Event → Type 0) (Q : ℕ → Venue → Type 0) (
   step_keeps old (Consume place) d new may each h = at_venue (slice_get old.venues place) old place d new _ refl each
       (λ v here k. consume_case old place v (nat_le s.journal (length old.entries)) (next_out v.lane) d new refl each here k) h
   step_keeps old (Declare place on) d new may each h = at_venue (slice_get old.venues place) old place d new _ refl each
-      (λ v here k. other_case old old _ (declared s.journal place on old.entries) d new (λ x. refl) each k) h
+      (λ v here k. other_case old old _ (declare_help s.journal place on old.entries) d new (λ x. refl) each k) h
   step_keeps old Subscribe d new may each h = subscribe_case old (slice_get s.filters old.used) d new each h
   step_keeps old (Offer id) d new may each h = at_subscriber (slice_get old.subscribers id) old d new _ each
-      (λ x k. other_case old old (with_offered old id x) (offered (is_full s.lane x.lane) (next_in (wanted_of s.symbols x.terms old.entries) x.lane) x.lane.sent) d new (λ y. refl) each k) h
+      (λ x k. other_case old old (with_offered old id x) (offer_next (is_full s.lane x.lane) (next_in (wanted_of s.symbols x.terms old.entries) x.lane) x.lane.sent) d new (λ y. refl) each k) h
   step_keeps old (Dequeue id) d new may each h = at_subscriber (slice_get old.subscribers id) old d new _ each
-      (λ x k. other_case old old (with_dequeued old id x) (dequeued (next_out x.lane) x.lane.received) d new (λ y. refl) each k) h
+      (λ x k. other_case old old (with_dequeued old id x) (dequeue_next (next_out x.lane) x.lane.received) d new (λ y. refl) each k) h
 
   pub run_keeps : (old : World) (events : List Event) (ds : List Done) (new : World) → AllByRecursion May events → EachVenue Q old → IsRun s old events ds new → EachVenue Q new
   run_keeps old [] [] new may each h = moved new old h each

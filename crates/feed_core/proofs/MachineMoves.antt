@@ -22,9 +22,9 @@ use Rattle.feed_core.specs.declared.event.Event.TheVariants as events
 use Rattle.feed_core.specs.declared.event.Done.{Done}
 use Rattle.feed_core.specs.declared.event.Done.TheVariants as done
 use Rattle.feed_core.specs.Worlds.{Lane, empty_lane, is_full, Venue, Subscriber, World, Setting, new_world}
-use Rattle.feed_core.specs.Steps.{Came, stays, goes, journal_full, already_so, is_same, next_in, next_out, pushed, Intake, journaled, consumed, declared, offered, dequeued, put_venue, put_subscriber, Comes, ComesTo, with_sent, with_intake, with_offered, with_dequeued, too_many_subscribers, IsSubscribed}
+use Rattle.feed_core.specs.Steps.{Transition, Refused, Changes, journal_full, already_so, is_same, next_in, next_out, push_next, Intake, journal_item, consume_next, declare_help, offer_next, dequeue_next, put_venue, put_subscriber, Applies, AppliesTo, with_sent, with_intake, with_offered, with_dequeued, too_many_subscribers, AnswersSubscribe}
 use Rattle.feed_core.specs.Runs.{IsStep, IsRun}
-use Rattle.feed_core.specs.Fitting.{VenueView, FitsVenue, LeftFaulty, LeftAnswered, LeftRenewed, LeftPushed, SubscriberView, FitsSubscriber, LeftOffered, intake_of, KeepsJournal, MachineView, FitSubscribers, FitsWorld, Stepped, Reached}
+use Rattle.feed_core.specs.Fitting.{VenueView, FitsVenue, LeftFaulty, LeftAnswered, LeftRenewed, LeftPushed, SubscriberView, FitsSubscriber, LeftOffered, intake_of, KeepsJournal, MachineView, FitSubscribers, FitsWorld, HasStepped, HasReached}
 use Rattle.journal_book.proofs.Growth.{changes_begin}
 use Rattle.feed_core.proofs.Lists.{get_set, get_push, get_within}
 
@@ -71,9 +71,9 @@ known_at (Some u) v P Known e k = let same : u ≡ v = cc in subst Known (sym sa
 
 -- ---- from the part to the world
 
-lift : {X W : Type 0} (put : X → W) (c : Came X) (old new : X) (w : W) (d : Done) → put old ≡ w → ComesTo c old d new → Comes put c w d (put new)
-lift put (stays e) old new w d same h = (h.0, ap put h.1 ∙ same)
-lift put (goes e x) old new w d same h = (h.0, ap put h.1)
+lift : {X W : Type 0} (put : X → W) (c : Transition X) (old new : X) (w : W) (d : Done) → put old ≡ w → AppliesTo c old d new → Applies put c w d (put new)
+lift put (Refused e) old new w d same h = (h.0, ap put h.1 ∙ same)
+lift put (Changes e x) old new w d same h = (h.0, ap put h.1)
 
 put_same : (w : World) (place : ℕ) (v : Venue) → slice_get w.venues place ≡ Some v → put_venue w place v ≡ w
 put_same w place v e = ap (λ (vs : List Venue). record w { venues = vs }) (set_same w.venues place v e)
@@ -114,8 +114,8 @@ fits_put s m w place new v f now = record {
 
 module _ (s : Setting) (m : MachineView) (w : World) (place n : ℕ) (c new : VenueView) (is : n ≡ place) (lt : n < length m.venues) (value : c ≡ get_or m.venues n c) (f : FitsWorld s m w) where
   pub packet_step : (line : LineId) (bytes : Bor (List ℕ)) (d : Done) → ((window p : ℕ) (v : Venue) → FitsVenue window p c v → LeftFaulty bytes.now d c new ⊎ LeftAnswered window p v line bytes.now d new)
-      → Stepped s w (events.Packet place line bytes) d (record m { venues = slice_set m.venues n new })
-  packet_step line bytes d left = subst (λ (k : ℕ). Stepped s w (events.Packet place line bytes) d (record m { venues = slice_set m.venues k new })) (sym is)
+      → HasStepped s w (events.Packet place line bytes) d (record m { venues = slice_set m.venues n new })
+  packet_step line bytes d left = subst (λ (k : ℕ). HasStepped s w (events.Packet place line bytes) d (record m { venues = slice_set m.venues k new })) (sym is)
       (let at = read m.venues place n c is lt value in
       let v = there s m w place c f at in
       elim (left s.window place v.venue v.fits) [
@@ -132,8 +132,8 @@ module _ (s : Setting) (m : MachineView) (w : World) (place n : ℕ) (c new : Ve
       ])
 
   pub renew_step : (name : List ℕ) (d : Done) → ((window p : ℕ) (v : Venue) → FitsVenue window p c v → LeftRenewed window p v name d new)
-      → Stepped s w (events.Renew place name) d (record m { venues = slice_set m.venues n new })
-  renew_step name d left = subst (λ (k : ℕ). Stepped s w (events.Renew place name) d (record m { venues = slice_set m.venues k new })) (sym is)
+      → HasStepped s w (events.Renew place name) d (record m { venues = slice_set m.venues n new })
+  renew_step name d left = subst (λ (k : ℕ). HasStepped s w (events.Renew place name) d (record m { venues = slice_set m.venues k new })) (sym is)
       (let at = read m.venues place n c is lt value in
       let v = there s m w place c f at in
       let renewed = left s.window place v.venue v.fits in
@@ -144,17 +144,17 @@ module _ (s : Setting) (m : MachineView) (w : World) (place n : ℕ) (c new : Ve
       })
 
   pub push_step : (d : Done) → ((window p : ℕ) (v : Venue) → FitsVenue window p c v → LeftPushed window p m.capacity v d new)
-      → Stepped s w (events.Push place) d (record m { venues = slice_set m.venues n new })
-  push_step d left = subst (λ (k : ℕ). Stepped s w (events.Push place) d (record m { venues = slice_set m.venues k new })) (sym is)
+      → HasStepped s w (events.Push place) d (record m { venues = slice_set m.venues n new })
+  push_step d left = subst (λ (k : ℕ). HasStepped s w (events.Push place) d (record m { venues = slice_set m.venues k new })) (sym is)
       (let at = read m.venues place n c is lt value in
       let v = there s m w place c f at in
       let gone = left s.window place v.venue v.fits in
       record {
         after = with_sent w place v.venue new.lane.sent;
         fits = fits_put s m w place new _ f gone.fits;
-        step = known_at (slice_get w.venues place) v.venue _ (λ u. Comes (with_sent w place u) (pushed (is_full s.lane u.lane) (next_in (streams_of u.history) u.lane) u.lane.sent) w d (with_sent w place v.venue new.lane.sent)) v.at
-            (lift (with_sent w place v.venue) (pushed (is_full s.lane v.venue.lane) (next_in (streams_of v.venue.history) v.venue.lane) v.venue.lane.sent) v.venue.lane.sent new.lane.sent w d (put_same w place v.venue v.at)
-            (subst (λ (k : ℕ). ComesTo (pushed (is_full k v.venue.lane) (next_in (streams_of v.venue.history) v.venue.lane) v.venue.lane.sent) v.venue.lane.sent d new.lane.sent) f.capacity gone.comes));
+        step = known_at (slice_get w.venues place) v.venue _ (λ u. Applies (with_sent w place u) (push_next (is_full s.lane u.lane) (next_in (streams_of u.history) u.lane) u.lane.sent) w d (with_sent w place v.venue new.lane.sent)) v.at
+            (lift (with_sent w place v.venue) (push_next (is_full s.lane v.venue.lane) (next_in (streams_of v.venue.history) v.venue.lane) v.venue.lane.sent) v.venue.lane.sent new.lane.sent w d (put_same w place v.venue v.at)
+            (subst (λ (k : ℕ). AppliesTo (push_next (is_full k v.venue.lane) (next_in (streams_of v.venue.history) v.venue.lane) v.venue.lane.sent) v.venue.lane.sent d new.lane.sent) f.capacity gone.comes));
       })
 
 pub if_ok : {T E : Type 0} (r : Result T E) (P Q : T → Type 0) → ((x : T) → P x → Q x) → IfOk r P → IfOk r Q
@@ -193,14 +193,14 @@ fit_grown s E F cs xs grown f = elim grown [
 Consumed : ℕ → Option Numbered → Intake → Intake → Type 0
 Consumed place o old new = (new ≡ old) ⊎ ((n : Numbered) × (o ≡ Some n) × (new ≡ record { received = old.received ++ n ∷ []; entries = old.entries ++ entry.Consumed place n ∷ [] }))
 
-consumed_is : (full : Bool) (o : Option Numbered) (place : ℕ) (old new : Intake) (d : Done) → ComesTo (if full then stays journal_full else journaled place o old) old d new
+consumed_is : (full : Bool) (o : Option Numbered) (place : ℕ) (old new : Intake) (d : Done) → AppliesTo (if full then Refused journal_full else journal_item place o old) old d new
     → Consumed place o old new
 unfolding Consumed
 consumed_is true o place old new d h = inl h.1
 consumed_is false None place old new d h = inl h.1
 consumed_is false (Some n) place old new d h = inr (n, refl, h.1)
 
-declared_is : (same full : Bool) (place : ℕ) (on : Bool) (old new : List Entry) (d : Done) → ComesTo (if same then stays already_so else (if full then stays journal_full else goes (done.Declared (length old + 1)) (old ++ entry.SelfHelp place on ∷ []))) old d new → Grown old new
+declared_is : (same full : Bool) (place : ℕ) (on : Bool) (old new : List Entry) (d : Done) → AppliesTo (if same then Refused already_so else (if full then Refused journal_full else Changes (done.Declared (length old + 1)) (old ++ entry.SelfHelp place on ∷ []))) old d new → Grown old new
 unfolding Grown
 declared_is true full place on old new d h = inl h.1
 declared_is false true place on old new d h = inl h.1
@@ -230,17 +230,17 @@ unfolding Consumed Grown
 grown_of place o old next what = elim what [ inl same ↦ inl (ap (λ (x : Intake). x.entries) same) | inr more ↦ inr (entry.Consumed place more.0, ap (λ (x : Intake). x.entries) more.2) ]
 
 module _ (s : Setting) (m : MachineView) (w : World) (place n : ℕ) (c new : VenueView) (journal : JournalState) (is : n ≡ place) (lt : n < length m.venues) (value : c ≡ get_or m.venues n c) (f : FitsWorld s m w) where
-  pub consume_step : (d : Done) → ComesTo (consumed m.journal.journal place (next_out c.lane) (intake_of c.lane m.journal)) (intake_of c.lane m.journal) d (intake_of new.lane journal)
-      → new ≡ record c { lane = record c.lane { received = new.lane.received } } → KeepsJournal m.journal journal → Stepped s w (events.Consume place) d (record m { venues = slice_set m.venues n new; journal = journal })
-  consume_step d comes only kept = subst (λ (k : ℕ). Stepped s w (events.Consume place) d (record m { venues = slice_set m.venues k new; journal = journal })) (sym is)
+  pub consume_step : (d : Done) → AppliesTo (consume_next m.journal.journal place (next_out c.lane) (intake_of c.lane m.journal)) (intake_of c.lane m.journal) d (intake_of new.lane journal)
+      → new ≡ record c { lane = record c.lane { received = new.lane.received } } → KeepsJournal m.journal journal → HasStepped s w (events.Consume place) d (record m { venues = slice_set m.venues n new; journal = journal })
+  consume_step d comes only kept = subst (λ (k : ℕ). HasStepped s w (events.Consume place) d (record m { venues = slice_set m.venues k new; journal = journal })) (sym is)
       (let at = read m.venues place n c is lt value in
       let v = there s m w place c f at in
       let lane = v.venue.lane in
       let old : Intake = record { received = lane.received; entries = w.entries } in
       let next : Intake = intake_of new.lane journal in
-      let of_lane = subst (λ (l : Lane Numbered). ComesTo (consumed m.journal.journal place (next_out l) (intake_of l m.journal)) (intake_of l m.journal) d next) v.fits.lane comes in
-      let of_entries = subst (λ (E : List Entry). ComesTo (consumed m.journal.journal place (next_out lane) (record { received = lane.received; entries = E })) (record { received = lane.received; entries = E }) d next) f.entries of_lane in
-      let of_world : ComesTo (consumed s.journal place (next_out lane) old) old d next = subst (λ (k : ℕ). ComesTo (consumed k place (next_out lane) old) old d next) f.journal of_entries in
+      let of_lane = subst (λ (l : Lane Numbered). AppliesTo (consume_next m.journal.journal place (next_out l) (intake_of l m.journal)) (intake_of l m.journal) d next) v.fits.lane comes in
+      let of_entries = subst (λ (E : List Entry). AppliesTo (consume_next m.journal.journal place (next_out lane) (record { received = lane.received; entries = E })) (record { received = lane.received; entries = E }) d next) f.entries of_lane in
+      let of_world : AppliesTo (consume_next s.journal place (next_out lane) old) old d next = subst (λ (k : ℕ). AppliesTo (consume_next k place (next_out lane) old) old d next) f.journal of_entries in
       let what = consumed_is (nat_le s.journal (length w.entries)) (next_out lane) place old next d of_world in
       let within : length new.lane.received ≤ length lane.sent = received_within place lane w.entries next what v.fits.within in
       let changed = fits_put s m w place new (record v.venue { lane = record lane { received = new.lane.received } }) f (received_fits s.window place c new v.venue v.fits only within) in
@@ -258,17 +258,17 @@ module _ (s : Setting) (m : MachineView) (w : World) (place n : ℕ) (c new : Ve
           used = f.used;
           in_turn = f.in_turn;
         };
-        step = known_at (slice_get w.venues place) v.venue _ (λ u. Comes (with_intake w place u) (consumed s.journal place (next_out u.lane) (record { received = u.lane.received; entries = w.entries })) w d (with_intake w place v.venue next)) v.at
-            (lift (with_intake w place v.venue) (consumed s.journal place (next_out lane) old) old next w d (put_same w place v.venue v.at) of_world);
+        step = known_at (slice_get w.venues place) v.venue _ (λ u. Applies (with_intake w place u) (consume_next s.journal place (next_out u.lane) (record { received = u.lane.received; entries = w.entries })) w d (with_intake w place v.venue next)) v.at
+            (lift (with_intake w place v.venue) (consume_next s.journal place (next_out lane) old) old next w d (put_same w place v.venue v.at) of_world);
       })
 
 module _ (s : Setting) (m : MachineView) (w : World) (place : ℕ) (on : Bool) (journal : JournalState) (lt : place < length m.venues) (f : FitsWorld s m w) where
-  pub declare_step : (d : Done) → ComesTo (declared m.journal.journal place on m.journal.entries) m.journal.entries d journal.entries → KeepsJournal m.journal journal → Stepped s w (events.Declare place on) d (record m { journal = journal })
+  pub declare_step : (d : Done) → AppliesTo (declare_help m.journal.journal place on m.journal.entries) m.journal.entries d journal.entries → KeepsJournal m.journal journal → HasStepped s w (events.Declare place on) d (record m { journal = journal })
   declare_step d comes kept =
       let n = f.venues.count in
       let v = get_within w.venues place (omega arith) in
-      let of_entries = subst (λ (E : List Entry). ComesTo (declared m.journal.journal place on E) E d journal.entries) f.entries comes in
-      let of_world : ComesTo (declared s.journal place on w.entries) w.entries d journal.entries = subst (λ (k : ℕ). ComesTo (declared k place on w.entries) w.entries d journal.entries) f.journal of_entries in
+      let of_entries = subst (λ (E : List Entry). AppliesTo (declare_help m.journal.journal place on E) E d journal.entries) f.entries comes in
+      let of_world : AppliesTo (declare_help s.journal place on w.entries) w.entries d journal.entries = subst (λ (k : ℕ). AppliesTo (declare_help k place on w.entries) w.entries d journal.entries) f.journal of_entries in
       let grown = declared_is (is_same (is_self_helped w.entries place) on) (nat_le s.journal (length w.entries)) place on w.entries journal.entries d of_world in
       record {
         after = record w { entries = journal.entries };
@@ -284,8 +284,8 @@ module _ (s : Setting) (m : MachineView) (w : World) (place : ℕ) (on : Bool) (
           used = f.used;
           in_turn = f.in_turn;
         };
-        step = known_at (slice_get w.venues place) v.0 _ (λ u. Comes (λ E. record w { entries = E }) (declared s.journal place on w.entries) w d (record w { entries = journal.entries })) v.1
-            (lift (λ (E : List Entry). record w { entries = E }) (declared s.journal place on w.entries) w.entries journal.entries w d refl of_world);
+        step = known_at (slice_get w.venues place) v.0 _ (λ u. Applies (λ E. record w { entries = E }) (declare_help s.journal place on w.entries) w d (record w { entries = journal.entries })) v.1
+            (lift (λ (E : List Entry). record w { entries = E }) (declare_help s.journal place on w.entries) w.entries journal.entries w d refl of_world);
       }
 
 -- ---- at a subscriber
@@ -335,8 +335,8 @@ terms_read g filters all place n x e is lt value = ap (λ (l : List Terms). slic
 module _ (s : Setting) (m : MachineView) (w : World) (id n : ℕ) (c new : SubscriberView) (is : n ≡ id) (lt : n < length m.subscribers) (value : c ≡ get_or m.subscribers n c) (f : FitsWorld s m w) where
   pub offer_step : (terms : Terms) (notices : List Notice) (d : Done) → slice_get s.filters id ≡ Some terms → notices ≡ changes_of m.journal.symbols m.journal.entries
       → ((symbols : List (List ℕ)) (entries : List Entry) (x : Subscriber) → x.terms ≡ terms → notices ≡ changes_of symbols entries → FitsSubscriber symbols entries c x → LeftOffered symbols entries m.capacity x d new)
-      → Stepped s w (events.Offer id) d (record m { subscribers = slice_set m.subscribers n new })
-  offer_step terms notices d filter_is are left = subst (λ (k : ℕ). Stepped s w (events.Offer id) d (record m { subscribers = slice_set m.subscribers k new })) (sym is)
+      → HasStepped s w (events.Offer id) d (record m { subscribers = slice_set m.subscribers n new })
+  offer_step terms notices d filter_is are left = subst (λ (k : ℕ). HasStepped s w (events.Offer id) d (record m { subscribers = slice_set m.subscribers k new })) (sym is)
       (let at = read m.subscribers id n c is lt value in
       let x = there_subscriber s m w id c f at in
       let some : Some x.subscriber.terms ≡ Some terms = sym x.terms ∙ filter_is in
@@ -346,14 +346,14 @@ module _ (s : Setting) (m : MachineView) (w : World) (id n : ℕ) (c new : Subsc
       record {
         after = with_offered w id x.subscriber new.lane.sent;
         fits = put_subscriber_fits s m w id new x.subscriber _ f x.at refl gone.fits;
-        step = known_at (slice_get w.subscribers id) x.subscriber _ (λ u. Comes (with_offered w id u) (offered (is_full s.lane u.lane) (next_in (wanted_of s.symbols u.terms w.entries) u.lane) u.lane.sent) w d (with_offered w id x.subscriber new.lane.sent)) x.at
-            (lift (with_offered w id x.subscriber) (offered (is_full s.lane x.subscriber.lane) (next_in (wanted_of s.symbols x.subscriber.terms w.entries) x.subscriber.lane) x.subscriber.lane.sent) x.subscriber.lane.sent new.lane.sent w d (put_same_subscriber w id x.subscriber x.at)
-            (subst (λ (k : ℕ). ComesTo (offered (is_full k x.subscriber.lane) (next_in (wanted_of s.symbols x.subscriber.terms w.entries) x.subscriber.lane) x.subscriber.lane.sent) x.subscriber.lane.sent d new.lane.sent) f.capacity gone.comes));
+        step = known_at (slice_get w.subscribers id) x.subscriber _ (λ u. Applies (with_offered w id u) (offer_next (is_full s.lane u.lane) (next_in (wanted_of s.symbols u.terms w.entries) u.lane) u.lane.sent) w d (with_offered w id x.subscriber new.lane.sent)) x.at
+            (lift (with_offered w id x.subscriber) (offer_next (is_full s.lane x.subscriber.lane) (next_in (wanted_of s.symbols x.subscriber.terms w.entries) x.subscriber.lane) x.subscriber.lane.sent) x.subscriber.lane.sent new.lane.sent w d (put_same_subscriber w id x.subscriber x.at)
+            (subst (λ (k : ℕ). AppliesTo (offer_next (is_full k x.subscriber.lane) (next_in (wanted_of s.symbols x.subscriber.terms w.entries) x.subscriber.lane) x.subscriber.lane.sent) x.subscriber.lane.sent d new.lane.sent) f.capacity gone.comes));
       })
 
-  pub dequeue_step : (d : Done) → ComesTo (dequeued (next_out c.lane) c.lane.received) c.lane.received d new.lane.received → new ≡ record c { lane = record c.lane { received = new.lane.received } }
-      → Stepped s w (events.Dequeue id) d (record m { subscribers = slice_set m.subscribers n new })
-  dequeue_step d comes only = subst (λ (k : ℕ). Stepped s w (events.Dequeue id) d (record m { subscribers = slice_set m.subscribers k new })) (sym is)
+  pub dequeue_step : (d : Done) → AppliesTo (dequeue_next (next_out c.lane) c.lane.received) c.lane.received d new.lane.received → new ≡ record c { lane = record c.lane { received = new.lane.received } }
+      → HasStepped s w (events.Dequeue id) d (record m { subscribers = slice_set m.subscribers n new })
+  dequeue_step d comes only = subst (λ (k : ℕ). HasStepped s w (events.Dequeue id) d (record m { subscribers = slice_set m.subscribers k new })) (sym is)
       (let at = read m.subscribers id n c is lt value in
       let x = there_subscriber s m w id c f at in
       let lane = x.subscriber.lane in
@@ -362,9 +362,9 @@ module _ (s : Setting) (m : MachineView) (w : World) (id n : ℕ) (c new : Subsc
         fits = put_subscriber_fits s m w id new x.subscriber _ f x.at refl
             (subst (λ (h : SubscriberView). FitsSubscriber s.symbols w.entries h (record x.subscriber { lane = record lane { received = new.lane.received } })) (sym only)
             (record { seen = x.fits.seen; sent = x.fits.sent; lane = ap (λ (l : List Notice). record { sent = l; received = new.lane.received }) (ap (λ (l : Lane Notice). l.sent) x.fits.lane) }));
-        step = known_at (slice_get w.subscribers id) x.subscriber _ (λ u. Comes (with_dequeued w id u) (dequeued (next_out u.lane) u.lane.received) w d (with_dequeued w id x.subscriber new.lane.received)) x.at
-            (lift (with_dequeued w id x.subscriber) (dequeued (next_out lane) lane.received) lane.received new.lane.received w d (put_same_subscriber w id x.subscriber x.at)
-            (subst (λ (l : Lane Notice). ComesTo (dequeued (next_out l) l.received) l.received d new.lane.received) x.fits.lane comes));
+        step = known_at (slice_get w.subscribers id) x.subscriber _ (λ u. Applies (with_dequeued w id u) (dequeue_next (next_out u.lane) u.lane.received) w d (with_dequeued w id x.subscriber new.lane.received)) x.at
+            (lift (with_dequeued w id x.subscriber) (dequeue_next (next_out lane) lane.received) lane.received new.lane.received w d (put_same_subscriber w id x.subscriber x.at)
+            (subst (λ (l : Lane Notice). AppliesTo (dequeue_next (next_out l) l.received) l.received d new.lane.received) x.fits.lane comes));
       })
 
 pub if_ok_both : {T E : Type 0} (r : Result T E) (P Q : T → Type 0) (A : Type 0) → ((x : T) → P x → A → Q x) → IfOk r P → OnOk r A → IfOk r Q
@@ -379,8 +379,8 @@ is_true a b h = grind (arith, nat_tests)
 is_false : (a b : ℕ) → b < a → nat_le a b ≡ false
 is_false a b h = grind (arith, nat_tests)
 
-asked : (o : Option Terms) (terms : Terms) (w : World) (d : Done) (new : World) → o ≡ Some terms → IsSubscribed (Some terms) w d new → IsSubscribed o w d new
-asked o terms w d new e h = subst (λ (x : Option Terms). IsSubscribed x w d new) (sym e) h
+asked : (o : Option Terms) (terms : Terms) (w : World) (d : Done) (new : World) → o ≡ Some terms → AnswersSubscribe (Some terms) w d new → AnswersSubscribe o w d new
+asked o terms w d new e h = subst (λ (x : Option Terms). AnswersSubscribe x w d new) (sym e) h
 
 pub filter_there : {X : Type 0} (g : X → Terms) (filters : List X) (all : List Terms) (n : ℕ) → all ≡ map g filters → n < length filters → (terms : Terms) × (slice_get all n ≡ Some terms)
 filter_there g filters all n e lt = get_within all n (let k = ap (λ (l : List Terms). length l) e in let j = length-map filters g in omega arith)
@@ -389,7 +389,7 @@ module _ (s : Setting) (m : MachineView) (w : World) (terms : Terms) (f : FitsWo
   asks : slice_get s.filters w.used ≡ Some terms
   asks = ap (slice_get s.filters) (sym f.used) ∙ next
 
-  pub subscribe_full : 32 ≤ length m.subscribers → Stepped s w events.Subscribe too_many_subscribers (record m { used = m.used + 1 })
+  pub subscribe_full : 32 ≤ length m.subscribers → HasStepped s w events.Subscribe too_many_subscribers (record m { used = m.used + 1 })
   subscribe_full full = record {
     after = record w { used = w.used + 1 };
     fits = record {
@@ -408,11 +408,11 @@ module _ (s : Setting) (m : MachineView) (w : World) (terms : Terms) (f : FitsWo
         (by_test (nat_le 32 (length w.subscribers)) (is_true 32 (length w.subscribers) (let n = f.subscribers.count in omega arith)));
   }
     where
-      by_test : (b : Bool) → b ≡ true → Comes (λ (xs : List Subscriber). record w { used = w.used + 1; subscribers = xs }) (if b then stays too_many_subscribers else goes (done.Subscribed (length w.subscribers)) (w.subscribers ++ record { terms = terms; lane = empty_lane } ∷ [])) (record w { used = w.used + 1 }) too_many_subscribers (record w { used = w.used + 1 })
+      by_test : (b : Bool) → b ≡ true → Applies (λ (xs : List Subscriber). record w { used = w.used + 1; subscribers = xs }) (if b then Refused too_many_subscribers else Changes (done.Subscribed (length w.subscribers)) (w.subscribers ++ record { terms = terms; lane = empty_lane } ∷ [])) (record w { used = w.used + 1 }) too_many_subscribers (record w { used = w.used + 1 })
       by_test true e = (refl, refl)
       by_test false e = absurd cc
 
-  pub subscribe_one : (id : ℕ) (cs : List SubscriberView) → length m.subscribers < 32 → id ≡ length m.subscribers → cs ≡ m.subscribers ++ record { seen = 0; lane = empty_lane } ∷ [] → Stepped s w events.Subscribe (done.Subscribed id) (record m { used = m.used + 1; subscribers = cs })
+  pub subscribe_one : (id : ℕ) (cs : List SubscriberView) → length m.subscribers < 32 → id ≡ length m.subscribers → cs ≡ m.subscribers ++ record { seen = 0; lane = empty_lane } ∷ [] → HasStepped s w events.Subscribe (done.Subscribed id) (record m { used = m.used + 1; subscribers = cs })
   subscribe_one id cs room is grown =
       let n = f.subscribers.count in
       let fresh : Subscriber = record { terms = terms; lane = empty_lane } in
@@ -455,7 +455,7 @@ module _ (s : Setting) (m : MachineView) (w : World) (terms : Terms) (f : FitsWo
       turn_is : {k : ℕ} → w.used ≡ length w.subscribers → k ≡ length w.subscribers + 1 → w.used + 1 ≡ k
       turn_is a b = ap (λ (j : ℕ). j + 1) a ∙ sym b
 
-      by_test : (b : Bool) → b ≡ false → id ≡ length w.subscribers → Comes (λ (xs : List Subscriber). record w { used = w.used + 1; subscribers = xs }) (if b then stays too_many_subscribers else goes (done.Subscribed (length w.subscribers)) (w.subscribers ++ record { terms = terms; lane = empty_lane } ∷ [])) (record w { used = w.used + 1 }) (done.Subscribed id) (record w { used = w.used + 1; subscribers = w.subscribers ++ record { terms = terms; lane = empty_lane } ∷ [] })
+      by_test : (b : Bool) → b ≡ false → id ≡ length w.subscribers → Applies (λ (xs : List Subscriber). record w { used = w.used + 1; subscribers = xs }) (if b then Refused too_many_subscribers else Changes (done.Subscribed (length w.subscribers)) (w.subscribers ++ record { terms = terms; lane = empty_lane } ∷ [])) (record w { used = w.used + 1 }) (done.Subscribed id) (record w { used = w.used + 1; subscribers = w.subscribers ++ record { terms = terms; lane = empty_lane } ∷ [] })
       by_test true e h = absurd cc
       by_test false e h = (ap (λ (k : ℕ). done.Subscribed k) h, refl)
 
@@ -467,21 +467,21 @@ run_push s start mid after [] (c ∷ ds) e d r step = absurd r
 run_push s start mid after (b ∷ es) [] e d r step = absurd r
 run_push s start mid after (b ∷ es) (c ∷ ds) e d r step = (r.0, r.1, run_push s r.0 mid after es ds e d r.2 step)
 
-pub reach_none : (s : Setting) (m : MachineView) → FitsWorld s m (new_world s) → Reached s [] [] m
+pub reach_none : (s : Setting) (m : MachineView) → FitsWorld s m (new_world s) → HasReached s [] [] m
 reach_none s m f = record { world = new_world s; fits = f; run = refl }
 
-reach_more : (s : Setting) (es : List Event) (ds : List Done) (e : Event) (d : Done) (m new : MachineView) → Reached s es ds m → ((v : World) → FitsWorld s m v → Stepped s v e d new) → Reached s (es ++ e ∷ []) (ds ++ d ∷ []) new
+reach_more : (s : Setting) (es : List Event) (ds : List Done) (e : Event) (d : Done) (m new : MachineView) → HasReached s es ds m → ((v : World) → FitsWorld s m v → HasStepped s v e d new) → HasReached s (es ++ e ∷ []) (ds ++ d ∷ []) new
 reach_more s es ds e d m new r step =
     let one = step r.world r.fits in
     record { world = one.after; fits = one.fits; run = run_push s (new_world s) r.world one.after es ds e d r.run one.step }
 
 pub reach_next : (s : Setting) (m new : MachineView) (es : List Event) (i : ℕ) (e : Event) (ds more : List Done) (d : Done) → i < length es → e ≡ get_or es i e → more ≡ ds ++ d ∷ []
-    → Reached s (take i es) ds m → ((v : World) → FitsWorld s m v → Stepped s v e d new) → Reached s (take (i + 1) es) more new
+    → HasReached s (take i es) ds m → ((v : World) → FitsWorld s m v → HasStepped s v e d new) → HasReached s (take (i + 1) es) more new
 reach_next s m new es i e ds more d lt is grown r step =
     let one = reach_more s (take i es) ds e d m new r step in
     let taken : take i es ++ e ∷ [] ≡ take (i + 1) es = ap (λ (x : Event). take i es ++ x ∷ []) is ∙ sym (take_more es i e lt) in
-    subst (λ (l : List Event). Reached s l more new) taken
-    (subst (λ (l : List Done). Reached s (take i es ++ e ∷ []) l new) (sym grown) one)
+    subst (λ (l : List Event). HasReached s l more new) taken
+    (subst (λ (l : List Done). HasReached s (take i es ++ e ∷ []) l new) (sym grown) one)
 
 take_whole : {X : Type 0} (xs : List X) (n : ℕ) → length xs ≤ n → take n xs ≡ xs
 take_whole [] zero h = refl
@@ -489,5 +489,5 @@ take_whole [] (suc n) h = refl
 take_whole (x ∷ xs) zero h = absurd (omega arith)
 take_whole (x ∷ xs) (suc n) h = ap (λ (zs : List _). x ∷ zs) (take_whole xs n (omega arith))
 
-pub reach_end : (s : Setting) (es : List Event) (i : ℕ) (ds : List Done) (m : MachineView) → length es ≤ i → Reached s (take i es) ds m → Reached s es ds m
-reach_end s es i ds m h r = subst (λ (l : List Event). Reached s l ds m) (take_whole es i h) r
+pub reach_end : (s : Setting) (es : List Event) (i : ℕ) (ds : List Done) (m : MachineView) → length es ≤ i → HasReached s (take i es) ds m → HasReached s es ds m
+reach_end s es i ds m h r = subst (λ (l : List Event). HasReached s l ds m) (take_whole es i h) r

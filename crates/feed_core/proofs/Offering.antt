@@ -10,7 +10,7 @@ use Rattle.journal_book.specs.Changes.{changes_of}
 use Rattle.journal_book.specs.Wanted.{wanted_of}
 use Rattle.feed_core.specs.declared.event.Done.TheVariants as done
 use Rattle.feed_core.specs.Worlds.{Lane, is_full, Subscriber}
-use Rattle.feed_core.specs.Steps.{next_in, offered, ComesTo}
+use Rattle.feed_core.specs.Steps.{next_in, offer_next, AppliesTo}
 use Rattle.feed_core.specs.Fitting.{SubscriberView, FitsSubscriber, LeftOffered}
 
 pub next_at : {X : Type 0} (p : X → Bool) (xs : List X) (i : ℕ) (d : X) → i < length xs → p (get_or xs i d) ≡ true → slice_get xs i ≡ slice_get (filter p xs) (length (filter p (take i xs)))
@@ -87,14 +87,14 @@ module _ (symbols : List (List ℕ)) (entries : List Entry) (capacity : ℕ) (x 
 
   pub offer_none : place ≤ length notices → None ≡ slice_get notices place → LeftOffered symbols entries capacity x done.NothingWanted (record old { seen = place })
   offer_none h e = record {
-    comes = subst (λ (o : Option Notice). ComesTo (offered (is_full capacity x.lane) o x.lane.sent) x.lane.sent done.NothingWanted old.lane.sent) (e ∙ sym next_is) (refl, lane_is);
+    comes = subst (λ (o : Option Notice). AppliesTo (offer_next (is_full capacity x.lane) o x.lane.sent) x.lane.sent done.NothingWanted old.lane.sent) (e ∙ sym next_is) (refl, lane_is);
     fits = stays_fit h;
   }
 
   pub offer_full : (n : Notice) → Some n ≡ slice_get notices place → is_full capacity old.lane ≡ true → LeftOffered symbols entries capacity x done.LaneFull (record old { seen = place })
   offer_full n e full = record {
-    comes = subst (λ (o : Option Notice). ComesTo (offered (is_full capacity x.lane) o x.lane.sent) x.lane.sent done.LaneFull old.lane.sent) (e ∙ sym next_is)
-        (subst (λ (b : Bool). ComesTo (offered b (Some n) x.lane.sent) x.lane.sent done.LaneFull old.lane.sent) (sym (ap (is_full capacity) (sym f.lane) ∙ full)) (refl, lane_is));
+    comes = subst (λ (o : Option Notice). AppliesTo (offer_next (is_full capacity x.lane) o x.lane.sent) x.lane.sent done.LaneFull old.lane.sent) (e ∙ sym next_is)
+        (subst (λ (b : Bool). AppliesTo (offer_next b (Some n) x.lane.sent) x.lane.sent done.LaneFull old.lane.sent) (sym (ap (is_full capacity) (sym f.lane) ∙ full)) (refl, lane_is));
     fits = stays_fit (let h = within notices place n (sym e) in omega arith);
   }
 
@@ -107,8 +107,8 @@ module _ (symbols : List (List ℕ)) (entries : List Entry) (capacity : ℕ) (x 
       let taken : filter (meets terms) (take (suc place) notices) ≡ lane.sent =
       take_wanted (meets terms) notices place n (sym e) meets_it ∙ ap (λ (l : List Notice). l ++ n ∷ []) (passed ∙ sym sent_to) ∙ sym sent in
       record {
-        comes = subst (λ (o : Option Notice). ComesTo (offered (is_full capacity x.lane) o x.lane.sent) x.lane.sent (done.Offered n.number) lane.sent) (e ∙ sym next_is)
-            (subst (λ (b : Bool). ComesTo (offered b (Some n) x.lane.sent) x.lane.sent (done.Offered n.number) lane.sent) (sym (ap (is_full capacity) (sym f.lane) ∙ room)) (refl, sent));
+        comes = subst (λ (o : Option Notice). AppliesTo (offer_next (is_full capacity x.lane) o x.lane.sent) x.lane.sent (done.Offered n.number) lane.sent) (e ∙ sym next_is)
+            (subst (λ (b : Bool). AppliesTo (offer_next b (Some n) x.lane.sent) x.lane.sent (done.Offered n.number) lane.sent) (sym (ap (is_full capacity) (sym f.lane) ∙ room)) (refl, sent));
         fits = record {
           seen = subst (λ (l : List Notice). seen ≤ length l) are (omega arith);
           sent = subst (λ (k : ℕ). lane.sent ≡ filter (meets x.terms) (take k (changes_of symbols entries))) (let same : suc place ≡ seen = omega arith in same) (back (suc place) lane.sent (sym taken));

@@ -17,8 +17,8 @@ use Rattle.feed_core.specs.declared.event.Event.{Event}
 use Rattle.feed_core.specs.declared.event.Event.TheVariants.{Packet, Push, Consume, Declare, Renew, Subscribe, Offer, Dequeue}
 use Rattle.feed_core.specs.declared.event.Done.{Done}
 use Rattle.feed_core.specs.declared.event.Done.TheVariants as done
-use Rattle.feed_core.specs.Worlds.{Venue, sent_of, World, Setting}
-use Rattle.feed_core.specs.Steps.{Came, stays, goes, Stays, Comes, put_venue, IsFaulty, answered, IsAnswered, renewal, IsNext, IsSubscribed}
+use Rattle.feed_core.specs.Worlds.{Venue, session_sent, World, Setting}
+use Rattle.feed_core.specs.Steps.{Transition, Refused, Changes, Stays, Applies, put_venue, RefusesBytes, packet_done, AnswersPacket, renewal_done, AnswersRenewal, AnswersSubscribe}
 use Rattle.feed_core.specs.Runs.{IsStep, IsRun}
 
 pub record Same (a b : Done) (v w : World) : Type 0 where
@@ -29,9 +29,9 @@ pub record Same (a b : Done) (v w : World) : Type 0 where
 same : {a b c d : Done} {v w x y : World} → c ≡ d → x ≡ y → a ≡ c → v ≡ x → b ≡ d → w ≡ y → Same a b v w
 same e f p q r t = record { outcome = p ∙ e ∙ sym r; world = q ∙ f ∙ sym t }
 
-came : {X : Type 0} {a b : Done} {v w : World} (put : X → World) (c : Came X) (old : World) → Comes put c old a v → Comes put c old b w → Same a b v w
-came put (stays d) old p q = same refl refl p.0 p.1 q.0 q.1
-came put (goes d x) old p q = same refl refl p.0 p.1 q.0 q.1
+came : {X : Type 0} {a b : Done} {v w : World} (put : X → World) (c : Transition X) (old : World) → Applies put c old a v → Applies put c old b w → Same a b v w
+came put (Refused d) old p q = same refl refl p.0 p.1 q.0 q.1
+came put (Changes d x) old p q = same refl refl p.0 p.1 q.0 q.1
 
 known : {X : Type 0} {a b : Done} {v w : World} (o : Option X) (d : Done) (old : World) (P Q : X → Type 0) → ((x : X) → P x → Q x → Same a b v w) → MatchOption o (Stays d old a v) P → MatchOption o (Stays d old b w) Q → Same a b v w
 known None d old P Q f p q = same refl refl p.0 p.1 q.0 q.1
@@ -44,7 +44,7 @@ module _ (place : ℕ) (x : Venue) (old : World) where
   arrival_same : (line : LineId) (p q : Content) (r s : Result Outcome LineFault) → p ≡ q → r ≡ s → after_arrival x.history (arrival_of line p r) ≡ after_arrival x.history (arrival_of line q s)
   arrival_same line p q r s e f = rw (e, f) refl
 
-  packets : (window : ℕ) (line : LineId) (bytes : List ℕ) (a b : Done) (v w : World) → IsFaulty bytes old a v ⊎ IsAnswered window place x line bytes old a v → IsFaulty bytes old b w ⊎ IsAnswered window place x line bytes old b w → Same a b v w
+  packets : (window : ℕ) (line : LineId) (bytes : List ℕ) (a b : Done) (v w : World) → RefusesBytes bytes old a v ⊎ AnswersPacket window place x line bytes old a v → RefusesBytes bytes old b w ⊎ AnswersPacket window place x line bytes old b w → Same a b v w
   packets window line bytes a b v w p q = elim p [
     | inl f ↦ elim q [
       | inl g ↦ same (ap (λ (e : PacketFault). done.Refused (code_of e)) (same_fault bytes f.fault g.fault f.has g.has)) refl f.is.0 f.is.1 g.is.0 g.is.1
@@ -54,20 +54,20 @@ module _ (place : ℕ) (x : Venue) (old : World) where
       | inl g ↦ absurd (no_fault bytes f.packet f.rest g.fault f.spells g.has)
       | inr g ↦
           let one = same_packet bytes f.packet g.packet f.rest g.rest f.spells g.spells in
-          let right = subst (λ (p : Content). IsOutcome x.history.present.name window (sent_of x) x.history.present.packets p f.answer) one f.taken.right in
-          let answer = one_answer x.history.present.name window (sent_of x) x.history.present.packets g.packet f.answer g.answer right g.taken.right in
+          let right = subst (λ (p : Content). IsOutcome x.history.present.name window (session_sent x) x.history.present.packets p f.answer) one f.taken.right in
+          let answer = one_answer x.history.present.name window (session_sent x) x.history.present.packets g.packet f.answer g.answer right g.taken.right in
           let history = f.taken.is ∙ arrival_same line f.packet g.packet f.answer g.answer one answer ∙ sym g.taken.is in
-          same (ap answered answer) (ap with_history history) f.outcome_is f.new_is g.outcome_is g.new_is
+          same (ap packet_done answer) (ap with_history history) f.outcome_is f.new_is g.outcome_is g.new_is
     ]
   ]
 
-  renewals : (name : List ℕ) (a b : Done) (v w : World) → IsNext place x name old a v → IsNext place x name old b w → Same a b v w
+  renewals : (name : List ℕ) (a b : Done) (v w : World) → AnswersRenewal place x name old a v → AnswersRenewal place x name old b w → Same a b v w
   renewals name a b v w f g =
-      let answer = one_renewal (names_of x.history) (end_of x.history.present.packets) (sent_of x) name f.answer g.answer f.renewed.right g.renewed.right in
+      let answer = one_renewal (names_of x.history) (end_of x.history.present.packets) (session_sent x) name f.answer g.answer f.renewed.right g.renewed.right in
       let history = f.renewed.is ∙ ap (history_after x.history name) answer ∙ sym g.renewed.is in
-      same (ap renewal answer) (ap with_history history) f.outcome_is f.new_is g.outcome_is g.new_is
+      same (ap renewal_done answer) (ap with_history history) f.outcome_is f.new_is g.outcome_is g.new_is
 
-subscriptions : (o : Option Terms) (old : World) (a b : Done) (v w : World) → IsSubscribed o old a v → IsSubscribed o old b w → Same a b v w
+subscriptions : (o : Option Terms) (old : World) (a b : Done) (v w : World) → AnswersSubscribe o old a v → AnswersSubscribe o old b w → Same a b v w
 subscriptions None old a b v w p q = same refl refl p.0 p.1 q.0 q.1
 subscriptions (Some terms) old a b v w p q = came _ _ (record old { used = old.used + 1 }) p q
 

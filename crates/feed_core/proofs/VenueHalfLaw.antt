@@ -22,8 +22,8 @@ use Rattle.line_arbiter.proofs.Giving.{gives_session}
 use Rattle.line_arbiter.proofs.Fronts.{front_is}
 use Rattle.feed_core.specs.declared.event.Event.{Event}
 use Rattle.feed_core.specs.declared.event.Done.{Done}
-use Rattle.feed_core.specs.Worlds.{Venue, sent_of, World, Setting, new_venue, new_world}
-use Rattle.feed_core.specs.Steps.{IsTaken, IsRenewed}
+use Rattle.feed_core.specs.Worlds.{Venue, session_sent, World, Setting, new_venue, new_world}
+use Rattle.feed_core.specs.Steps.{AddsArrival, AddsRenewal}
 use Rattle.feed_core.specs.Runs.{IsRun}
 use Rattle.feed_core.specs.VenueHalf.{BringsOnly, BringOnly, AreSession, VenueHalf}
 use Rattle.feed_core.proofs.Lists.{begins_self, begins_then, begins_len, begins_all, all_push}
@@ -50,18 +50,18 @@ grown earlier b c g = record {
 }
 
 -- the present session has ended: all of it came, and all was sent
-ended : (window : ℕ) (v : Venue) → IsKept window v → HasEnded (end_of v.history.present.packets) (sent_of v) → IsComplete v.history.present.packets × (v.lane.sent ≡ streams_of v.history)
+ended : (window : ℕ) (v : Venue) → IsKept window v → HasEnded (end_of v.history.present.packets) (session_sent v) → IsComplete v.history.present.packets × (v.lane.sent ≡ streams_of v.history)
 ended window v k has =
     let stream = stream_of v.history.present.packets in
     let items = items_of v.history.earlier in
     let from = begins_len k.begun in
     let to = begins_len k.serves.sent in
     let all : length (streams_of v.history) ≡ length items + length stream = ap length (items_push v.history.earlier v.history.present) ∙ length-append items stream in
-    let sent = all_sent v.history.present.name window (sent_of v) v.history.present.packets k.answered (omega arith) has in
+    let sent = all_sent v.history.present.name window (session_sent v) v.history.present.packets k.answered (omega arith) has in
     let whole = sent.1 in
     (sent.0, begins_all k.serves.sent (omega arith))
 
-renewed : (window : ℕ) (v : Venue) (name : List ℕ) (answer : Result ℕ RenewFault) (h : History) → IsRenewed (sent_of v) name v.history answer h → IsKept window v → IsKept window (record v { history = h })
+renewed : (window : ℕ) (v : Venue) (name : List ℕ) (answer : Result ℕ RenewFault) (h : History) → AddsRenewal (session_sent v) name v.history answer h → IsKept window v → IsKept window (record v { history = h })
 renewed window v name (Err fault) h r k = subst (λ (x : History). IsKept window (record v { history = x })) (sym r.is) k
 renewed window v name (Ok ordinal) h r k =
     let e = ended window v k r.right.0 in
@@ -73,11 +73,11 @@ renewed window v name (Ok ordinal) h r k =
       answered = tt;
     })
 
-arrived : (window : ℕ) (v : Venue) (line : LineId) (bytes : List ℕ) (p : Content) (rest : List ℕ) (answer : Result Outcome LineFault) (h : History) → Spells bytes p rest → IsTaken window (sent_of v) line p v.history answer h → IsKept window v → IsKept window (record v { history = h })
+arrived : (window : ℕ) (v : Venue) (line : LineId) (bytes : List ℕ) (p : Content) (rest : List ℕ) (answer : Result Outcome LineFault) (h : History) → Spells bytes p rest → AddsArrival window (session_sent v) line p v.history answer h → IsKept window v → IsKept window (record v { history = h })
 arrived window v line bytes p rest answer h spells taken k =
     let a : Arrival = arrival_of line p answer in
     let b : Begun = v.history.present in
-    let one : IsAnswered b.name window b.packets a = record { content = spells.content; sent = sent_of v; outcome = taken.right } in
+    let one : IsAnswered b.name window b.packets a = record { content = spells.content; sent = session_sent v; outcome = taken.right } in
     subst (λ (x : History). IsKept window (record v { history = x })) (sym taken.is) (record {
       serves = serve_more v.lane (streams_of v.history) _ (grown v.history.earlier b (record b { packets = b.packets ++ a ∷ [] }) (answered_grows b.name window b.packets a k.answered one)) k.serves;
       begun = k.begun;
@@ -116,17 +116,17 @@ record IsOnly (s : Session) (h : History) : Type 0 where
   pub present : AreOfSession s h.present.packets
 
 module _ (setting : Setting) (at : ℕ) (s : Session) where
-  taken_only : (window sent : ℕ) (line : LineId) (p : Content) (old : History) (answer : Result Outcome LineFault) (new : History) → (p.session ≡ s.name → IsOfSession s p) → IsTaken window sent line p old answer new → IsOnly s old → IsOnly s new
+  taken_only : (window sent : ℕ) (line : LineId) (p : Content) (old : History) (answer : Result Outcome LineFault) (new : History) → (p.session ≡ s.name → IsOfSession s p) → AddsArrival window sent line p old answer new → IsOnly s old → IsOnly s new
   taken_only window sent line p old answer new may taken k = subst (IsOnly s) (sym taken.is) (record { earlier = k.earlier; present = all_push (λ a. a.packet.session ≡ s.name → IsOfSession s a.packet) old.present.packets (arrival_of line p answer) k.present may })
 
-  renewed_only : (sent : ℕ) (name : List ℕ) (old : History) (answer : Result ℕ RenewFault) (new : History) → IsRenewed sent name old answer new → IsOnly s old → IsOnly s new
+  renewed_only : (sent : ℕ) (name : List ℕ) (old : History) (answer : Result ℕ RenewFault) (new : History) → AddsRenewal sent name old answer new → IsOnly s old → IsOnly s new
   renewed_only sent name old (Ok ordinal) new r k = subst (IsOnly s) (sym r.is) (record { earlier = all_push (λ b. AreOfSession s b.packets) old.earlier old.present k.earlier k.present; present = tt })
   renewed_only sent name old (Err fault) new r k = subst (IsOnly s) (sym r.is) k
 
   only_moves : MoveKept setting (BringsOnly at s) (λ place v. place ≡ at → IsOnly s v.history)
   only_moves = record {
-    packet = λ place v line bytes p rest answer h may spells taken k here. taken_only setting.window (sent_of v) line p v.history answer h (may here p rest spells) taken (k here);
-    renew = λ place v name answer h r k here. renewed_only (sent_of v) name v.history answer h r (k here);
+    packet = λ place v line bytes p rest answer h may spells taken k here. taken_only setting.window (session_sent v) line p v.history answer h (may here p rest spells) taken (k here);
+    renew = λ place v name answer h r k here. renewed_only (session_sent v) name v.history answer h r (k here);
     push = λ place v x e k. k;
     consume = λ place v x e k. k;
   }

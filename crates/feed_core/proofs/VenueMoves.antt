@@ -17,9 +17,9 @@ use Rattle.line_arbiter.specs.Fits.{Fits}
 use Rattle.line_arbiter.specs.Histories.{all_begun, items_of, names_of, streams_of, after_arrival, after_renewal}
 use Rattle.feed_core.specs.declared.event.Done.{Done}
 use Rattle.feed_core.specs.declared.event.Done.TheVariants as done
-use Rattle.feed_core.specs.Worlds.{Lane, empty_lane, inside, is_full, new_venue, Venue, sent_of}
-use Rattle.feed_core.specs.Steps.{next_in, answered, pushed, renewal, ComesTo}
-use Rattle.feed_core.specs.Fitting.{VenueView, FitsVenue, LeftAnswered, LeftPushed, LeftRenewed, ShowsVenue}
+use Rattle.feed_core.specs.Worlds.{Lane, empty_lane, inside, is_full, new_venue, Venue, session_sent}
+use Rattle.feed_core.specs.Steps.{next_in, packet_done, push_next, renewal_done, AppliesTo}
+use Rattle.feed_core.specs.Fitting.{VenueView, FitsVenue, LeftAnswered, LeftPushed, LeftRenewed, ShowsLane}
 use Rattle.line_arbiter.proofs.Histories.{items_push}
 use Rattle.line_arbiter.proofs.FitsHistory.{fits_new, fits_packet, fits_push, fits_renewal, keeps_session, outcome_in, renewal_in}
 
@@ -38,7 +38,7 @@ packet_fits window place old new lane v a f kept fits = record {
 
 pub answered_so : (window place : ℕ) (old new : State) (lane : Lane Numbered) (v : Venue) (line : LineId) (bytes rest : List ℕ) (p : Content) (answer : Result Outcome LineFault) (d : Done)
     → FitsVenue window place (record { arbiter = old; lane = lane }) v → Spells bytes p rest → KeepsItsPlace old new → IsOutcome old.session old.window old.sent v.history.present.packets p answer
-    → Fits new (v.history.present.packets ++ arrival_of line p answer ∷ []) → d ≡ answered answer → LeftAnswered window place v line bytes d (record { arbiter = new; lane = lane })
+    → Fits new (v.history.present.packets ++ arrival_of line p answer ∷ []) → d ≡ packet_done answer → LeftAnswered window place v line bytes d (record { arbiter = new; lane = lane })
 answered_so window place old new lane v line bytes rest p answer d f spells kept right fits e = record {
   packet = p;
   rest = rest;
@@ -50,8 +50,8 @@ answered_so window place old new lane v line bytes rest p answer d f spells kept
   fits = packet_fits window place old new lane v (arrival_of line p answer) f kept fits;
 }
   where
-    moved : IsOutcome v.history.present.name window (sent_of v) v.history.present.packets p answer
-    moved = subst (λ (w : ℕ). IsOutcome v.history.present.name w (sent_of v) v.history.present.packets p answer) f.width
+    moved : IsOutcome v.history.present.name window (session_sent v) v.history.present.packets p answer
+    moved = subst (λ (w : ℕ). IsOutcome v.history.present.name w (session_sent v) v.history.present.packets p answer) f.width
         (subst (λ (s : ℕ). IsOutcome v.history.present.name old.window s v.history.present.packets p answer) f.sent (outcome_in v.history p answer f.history right))
 
 -- a venue to which nothing came
@@ -97,7 +97,7 @@ renewed_so window place old new lane v name ordinal f right renewed fits whole =
         omega arith
 
 not_renewed : (window place : ℕ) (s : State) (lane : Lane Numbered) (v : Venue) (name : List ℕ) (fault : RenewFault)
-    → FitsVenue window place (record { arbiter = s; lane = lane }) v → IsRenewal s.sessions s.end s.sent name (Err fault) → LeftRenewed window place v name (renewal (Err fault)) (record { arbiter = s; lane = lane })
+    → FitsVenue window place (record { arbiter = s; lane = lane }) v → IsRenewal s.sessions s.end s.sent name (Err fault) → LeftRenewed window place v name (renewal_done (Err fault)) (record { arbiter = s; lane = lane })
 not_renewed window place s lane v name fault f right = record {
   answer = Err fault;
   history = v.history;
@@ -108,9 +108,9 @@ not_renewed window place s lane v name fault f right = record {
 
 pub renewal_left : (window place : ℕ) (old new : State) (lane : Lane Numbered) (v : Venue) (name : List ℕ) (answer : Result ℕ RenewFault)
     → FitsVenue window place (record { arbiter = old; lane = lane }) v → IsRenewal old.sessions old.end old.sent name answer → OnOk answer (IsRenewed old new name) → OnOk answer (Fits new [])
-    → OnOk answer (IsComplete v.history.present.packets × (old.sent ≡ length (stream_of v.history.present.packets))) → OnErr answer (new ≡ old) → LeftRenewed window place v name (renewal answer) (record { arbiter = new; lane = lane })
+    → OnOk answer (IsComplete v.history.present.packets × (old.sent ≡ length (stream_of v.history.present.packets))) → OnErr answer (new ≡ old) → LeftRenewed window place v name (renewal_done answer) (record { arbiter = new; lane = lane })
 renewal_left window place old new lane v name (Ok ordinal) f right renewed fits whole same = renewed_so window place old new lane v name ordinal f right renewed fits whole
-renewal_left window place old new lane v name (Err fault) f right renewed fits whole same = subst (λ (s : State). LeftRenewed window place v name (renewal (Err fault)) (record { arbiter = s; lane = lane })) (sym same) (not_renewed window place old lane v name fault f right)
+renewal_left window place old new lane v name (Err fault) f right renewed fits whole same = subst (λ (s : State). LeftRenewed window place v name (renewal_done (Err fault)) (record { arbiter = s; lane = lane })) (sym same) (not_renewed window place old lane v name fault f right)
 
 get_past : {X : Type 0} (xs ys : List X) (n : ℕ) → length xs ≤ n → slice_get (xs ++ ys) n ≡ slice_get ys (n - length xs)
 get_past [] ys n h = ap (slice_get ys) (omega arith)
@@ -133,14 +133,14 @@ module _ (window place capacity : ℕ) (v : Venue) (c : VenueView) (f : FitsVenu
 
   pub push_none : None ≡ slice_get (stream_of v.history.present.packets) c.arbiter.sent → LeftPushed window place capacity v done.NothingReady c
   push_none e = record {
-    comes = subst (λ (o : Option Numbered). ComesTo (pushed (is_full capacity v.lane) o v.lane.sent) v.lane.sent done.NothingReady c.lane.sent) (e ∙ sym (next_is window place c v f)) (refl, sent_same);
+    comes = subst (λ (o : Option Numbered). AppliesTo (push_next (is_full capacity v.lane) o v.lane.sent) v.lane.sent done.NothingReady c.lane.sent) (e ∙ sym (next_is window place c v f)) (refl, sent_same);
     fits = fits_same f;
   }
 
   pub push_full : (x : Numbered) → Some x ≡ slice_get (stream_of v.history.present.packets) c.arbiter.sent → is_full capacity c.lane ≡ true → LeftPushed window place capacity v done.LaneFull c
   push_full x e full = record {
-    comes = subst (λ (o : Option Numbered). ComesTo (pushed (is_full capacity v.lane) o v.lane.sent) v.lane.sent done.LaneFull c.lane.sent) (e ∙ sym (next_is window place c v f))
-        (subst (λ (b : Bool). ComesTo (pushed b (Some x) v.lane.sent) v.lane.sent done.LaneFull c.lane.sent) (sym (ap (is_full capacity) (sym f.lane) ∙ full)) (refl, sent_same));
+    comes = subst (λ (o : Option Numbered). AppliesTo (push_next (is_full capacity v.lane) o v.lane.sent) v.lane.sent done.LaneFull c.lane.sent) (e ∙ sym (next_is window place c v f))
+        (subst (λ (b : Bool). AppliesTo (push_next b (Some x) v.lane.sent) v.lane.sent done.LaneFull c.lane.sent) (sym (ap (is_full capacity) (sym f.lane) ∙ full)) (refl, sent_same));
     fits = fits_same f;
   }
 
@@ -150,8 +150,8 @@ module _ (window place capacity : ℕ) (v : Venue) (c : VenueView) (f : FitsVenu
       let sent : lane.sent ≡ v.lane.sent ++ x ∷ [] = ap (λ (l : Lane Numbered). l.sent) is ∙ ap (λ (xs : List Numbered). xs ++ x ∷ []) sent_same in
       let len : length lane.sent ≡ length v.lane.sent + 1 = ap length sent ∙ length-append v.lane.sent (x ∷ []) in
       record {
-        comes = subst (λ (o : Option Numbered). ComesTo (pushed (is_full capacity v.lane) o v.lane.sent) v.lane.sent (done.Pushed x.number) lane.sent) (e ∙ sym (next_is window place c v f))
-            (subst (λ (b : Bool). ComesTo (pushed b (Some x) v.lane.sent) v.lane.sent (done.Pushed x.number) lane.sent) (sym (ap (is_full capacity) (sym f.lane) ∙ room)) (refl, sent));
+        comes = subst (λ (o : Option Numbered). AppliesTo (push_next (is_full capacity v.lane) o v.lane.sent) v.lane.sent (done.Pushed x.number) lane.sent) (e ∙ sym (next_is window place c v f))
+            (subst (λ (b : Bool). AppliesTo (push_next b (Some x) v.lane.sent) v.lane.sent (done.Pushed x.number) lane.sent) (sym (ap (is_full capacity) (sym f.lane) ∙ room)) (refl, sent));
         fits = record {
           history = fits_push v.history f.history advanced.kept fits;
           number = advanced.kept.venue ∙ f.number;
@@ -173,7 +173,7 @@ drop_past (x ∷ xs) ys (suc n) h = drop_past xs ys n (omega arith) ∙ ap (λ (
 
 -- once what is ready came behind what was pushed, the lane shows the venue
 pub shown : (window place : ℕ) (c : VenueView) (v : Venue) (lane : Lane Numbered) → FitsVenue window place c v
-    → lane ≡ record c.lane { sent = c.lane.sent ++ drop c.arbiter.sent (stream_of v.history.present.packets) } → ShowsVenue lane v
+    → lane ≡ record c.lane { sent = c.lane.sent ++ drop c.arbiter.sent (stream_of v.history.present.packets) } → ShowsLane lane v
 shown window place c v lane f is =
     let more = drop c.arbiter.sent (stream_of v.history.present.packets) in
     let whole : lane ≡ record v.lane { sent = v.lane.sent ++ more } = is ∙ ap (λ (l : Lane Numbered). record l { sent = l.sent ++ more }) f.lane in

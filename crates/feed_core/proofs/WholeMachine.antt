@@ -12,12 +12,12 @@ use Rattle.feed_types.specs.declared.config.FeedConfig.{FeedConfig}
 use Rattle.filter_terms.specs.declared.terms.Terms.{Terms}
 use Rattle.journal_book.specs.Changes.{changes_of}
 use Rattle.journal_book.specs.Journals.{JournalState}
-use Rattle.feed_core.specs.Configs.{journal_of}
+use Rattle.feed_core.specs.Configs.{journal_of_config}
 use Rattle.feed_core.specs.declared.event.Event.{Event}
 use Rattle.feed_core.specs.declared.event.Done.{Done}
 use Rattle.feed_core.specs.Worlds.{Lane, inside, Venue, Subscriber, World, Setting, setting_of, new_venue, new_world}
 use Rattle.feed_core.specs.Headline.{ShownVenue, shown_venue, shown_subscriber, IsRunOf}
-use Rattle.feed_core.specs.Fitting.{VenueView, FitsVenue, ShowsVenue, SubscriberView, MachineView, FitVenues, FitSubscribers, FitsWorld, Reached, venue_shown, subscriber_shown, shown_by, ShownTo, ShowVenues}
+use Rattle.feed_core.specs.Fitting.{VenueView, FitsVenue, ShowsLane, SubscriberView, MachineView, FitVenues, FitSubscribers, FitsWorld, HasReached, venue_shown, subscriber_shown, shown_by, ShownTo, ShowVenues}
 use Rattle.feed_core.proofs.Lists.{get_set, get_push}
 
 -- ---- as it is made
@@ -47,7 +47,7 @@ fit_next window cs sessions i c f h now =
     length-take_le : (n : ℕ) (xs : List (List ℕ)) → n < length xs → length (take n xs) ≡ n
     length-take_le n xs h = grind (arith, common_steps)
 
-pub new_fits : (config : FeedConfig) (filters : List Terms) (cs : List VenueView) (journal : JournalState) → FitVenues config.window cs (map new_venue config.sessions.now) → journal ≡ journal_of config
+pub new_fits : (config : FeedConfig) (filters : List Terms) (cs : List VenueView) (journal : JournalState) → FitVenues config.window cs (map new_venue config.sessions.now) → journal ≡ journal_of_config config
     → FitsWorld (setting_of config filters) (record { venues = cs; journal = journal; subscribers = []; capacity = config.lane; used = 0 }) (new_world (setting_of config filters))
 new_fits config filters cs journal f empty = record {
   venues = f;
@@ -75,7 +75,7 @@ get_here (z ∷ xs) (suc i) x y e = get_here xs i x y e
 get_other : {X : Type 0} (xs : List X) (i j : ℕ) (x y : X) → slice_get (slice_set xs i x) j ≡ Some y → (j ≡ i → ⊥) → slice_get xs j ≡ Some y
 get_other xs i j x y e n = elim (get_set xs i j x y e) [ inl here ↦ absurd (n here.0) | inr there ↦ there ]
 
-pub shown_next : (window n : ℕ) (cs : List VenueView) (vs : List Venue) (c new : VenueView) → n < length cs → c ≡ get_or cs n c → ((w p : ℕ) (v : Venue) → FitsVenue w p c v → ShowsVenue new.lane v) → ShownTo window n cs vs → ShownTo window (n + 1) (slice_set cs n new) vs
+pub shown_next : (window n : ℕ) (cs : List VenueView) (vs : List Venue) (c new : VenueView) → n < length cs → c ≡ get_or cs n c → ((w p : ℕ) (v : Venue) → FitsVenue w p c v → ShowsLane new.lane v) → ShownTo window n cs vs → ShownTo window (n + 1) (slice_set cs n new) vs
 shown_next window n cs vs c new lt value shows s = record {
   count = length-set cs n new ∙ s.count;
   early = λ i d v h e g. elim (cases_lt i n) [
@@ -107,7 +107,7 @@ venues_shown cs vs s = same_map venue_shown shown_venue cs vs s.count (λ i c v 
 subscribers_shown : (s : Setting) (w : World) (cs : List SubscriberView) (xs : List Subscriber) → FitSubscribers s w.entries cs xs → map subscriber_shown cs ≡ map shown_subscriber xs
 subscribers_shown s w cs xs f = same_map subscriber_shown shown_subscriber cs xs f.count (λ i c x a b. ap (λ (l : Lane Notice). record { dequeued = l.received; queued = inside l }) (f.each i c x a b).lane)
 
-pub finished : (s : Setting) (es : List Event) (ds : List Done) (m : MachineView) (cs : List VenueView) → Reached s es ds m → ((window : ℕ) (vs : List Venue) → FitVenues window m.venues vs → ShowVenues cs vs) → IsRunOf s es (shown_by ds cs m.journal m.subscribers)
+pub finished : (s : Setting) (es : List Event) (ds : List Done) (m : MachineView) (cs : List VenueView) → HasReached s es ds m → ((window : ℕ) (vs : List Venue) → FitVenues window m.venues vs → ShowVenues cs vs) → IsRunOf s es (shown_by ds cs m.journal m.subscribers)
 finished s es ds m cs r shows =
     let f = r.fits in
     let venues = venues_shown cs r.world.venues (shows s.window r.world.venues f.venues) in

@@ -11,17 +11,17 @@ use Rattle.feed_core.specs.declared.config.ConfigFault.TheVariants.{BadVenueCoun
 use Rattle.feed_core.specs.declared.config.CoreFault.{CoreFault}
 use Rattle.feed_core.specs.declared.config.CoreFault.TheVariants.{BadConfig, NoMemory}
 
-abbrev pub IsWithin : ℕ → ℕ → ℕ → Type 0
-IsWithin least most n = (least ≤ n) × (n ≤ most)
+abbrev pub IsBetween : ℕ → ℕ → ℕ → Type 0
+IsBetween least most n = (least ≤ n) × (n ≤ most)
 
 abbrev pub HasVenues : FeedConfig → Type 0
-HasVenues config = IsWithin 1 16 (length config.sessions.now)
+HasVenues config = IsBetween 1 16 (length config.sessions.now)
 
 abbrev pub HasWindow : FeedConfig → Type 0
-HasWindow config = IsWithin 1 65535 config.window
+HasWindow config = IsBetween 1 65535 config.window
 
 abbrev pub HasLanes : FeedConfig → Type 0
-HasLanes config = IsWithin 1 65536 config.lane
+HasLanes config = IsBetween 1 65536 config.lane
 
 -- all but that no symbol comes twice
 abbrev pub IsSized : FeedConfig → Type 0
@@ -31,22 +31,22 @@ IsSized config =
 abbrev pub IsGood : FeedConfig → Type 0
 IsGood config = IsSized config × IsDistinct bytes_eq config.symbols.now
 
-abbrev pub IsBad : FeedConfig → ConfigFault → Type 0
-IsBad config BadVenueCount = ¬ HasVenues config
-IsBad config BadWindow = HasVenues config × (¬ HasWindow config)
-IsBad config BadCapacity = HasVenues config × HasWindow config × (¬ HasLanes config)
-IsBad config TooManySymbols =
+abbrev pub IsBadConfig : FeedConfig → ConfigFault → Type 0
+IsBadConfig config BadVenueCount = ¬ HasVenues config
+IsBadConfig config BadWindow = HasVenues config × (¬ HasWindow config)
+IsBadConfig config BadCapacity = HasVenues config × HasWindow config × (¬ HasLanes config)
+IsBadConfig config TooManySymbols =
     HasVenues config × HasWindow config × HasLanes config × (4097 ≤ length config.symbols.now)
-IsBad config DuplicateSymbol = IsSized config × (¬ IsDistinct bytes_eq config.symbols.now)
+IsBadConfig config DuplicateSymbol = IsSized config × (¬ IsDistinct bytes_eq config.symbols.now)
 
 -- the journal of a configuration, before an entry
-abbrev pub journal_of : FeedConfig → JournalState
-journal_of config =
+abbrev pub journal_of_config : FeedConfig → JournalState
+journal_of_config config =
     new_journal config.symbols.now (length config.sessions.now) config.journal
 
 -- why there is no world
 abbrev pub Explains : FeedConfig → CoreFault → Type 0
-Explains config (BadConfig fault) = IsBad config fault
+Explains config (BadConfig fault) = IsBadConfig config fault
 Explains config NoMemory = IsSized config
 
 -- the numbers that stand for the faults (this project's format)

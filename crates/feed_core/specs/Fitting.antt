@@ -14,7 +14,7 @@ use Rattle.line_arbiter.specs.Fits.{FitsHistory}
 use Rattle.line_arbiter.specs.Histories.{History, items_of, streams_of}
 use Rattle.feed_core.specs.declared.event.Done.{Done}
 use Rattle.feed_core.specs.declared.event.Done.TheVariants as done
-use Rattle.feed_core.specs.Worlds.{Lane, inside, is_full, Venue, sent_of, Subscriber, World, Setting, new_world}
+use Rattle.feed_core.specs.Worlds.{Lane, inside, is_full, Venue, session_sent, Subscriber, World, Setting, new_world}
 use Rattle.feed_core.specs.declared.event.Event.{Event}
 use Rattle.feed_core.specs.VenueHalf.{waiting}
 use Rattle.feed_core.specs.Headline.{ShownVenue, ShownSubscriber, Shown}
@@ -24,7 +24,7 @@ use Rattle.filter_terms.specs.Terms.{meets}
 use Rattle.journal_book.specs.Changes.{changes_of}
 use Rattle.journal_book.specs.Wanted.{wanted_of}
 use Rattle.journal_book.specs.Journals.{JournalState}
-use Rattle.feed_core.specs.Steps.{next_in, IsTaken, IsRenewed, answered, renewal, pushed, offered, ComesTo, Intake}
+use Rattle.feed_core.specs.Steps.{next_in, AddsArrival, AddsRenewal, packet_done, renewal_done, push_next, offer_next, AppliesTo, Intake}
 use Rattle.feed_core.specs.Runs.{IsStep, IsRun}
 
 -- a venue's arbiter, and its lane
@@ -37,7 +37,7 @@ pub record FitsVenue (window place : ℕ) (c : VenueView) (v : Venue) : Type 0 w
   pub history : FitsHistory c.arbiter v.history
   pub number : c.arbiter.venue ≡ place
   pub width : c.arbiter.window ≡ window
-  pub sent : c.arbiter.sent ≡ sent_of v
+  pub sent : c.arbiter.sent ≡ session_sent v
   pub begun : length (items_of v.history.earlier) ≤ length v.lane.sent
   pub lane : c.lane ≡ v.lane
   pub within : length v.lane.received ≤ length v.lane.sent
@@ -56,8 +56,8 @@ pub record LeftAnswered (window place : ℕ) (v : Venue) (line : LineId) (bytes 
   pub spells : Spells bytes packet rest
   pub answer : Result Outcome LineFault
   pub history : History
-  pub taken : IsTaken window (sent_of v) line packet v.history answer history
-  pub outcome_is : outcome ≡ answered answer
+  pub taken : AddsArrival window (session_sent v) line packet v.history answer history
+  pub outcome_is : outcome ≡ packet_done answer
   pub fits : FitsVenue window place new (record v { history = history })
 
 -- what Renew left
@@ -65,20 +65,20 @@ pub record LeftRenewed (window place : ℕ) (v : Venue) (name : List ℕ) (outco
     (new : VenueView) : Type 0 where
   pub answer : Result ℕ RenewFault
   pub history : History
-  pub renewed : IsRenewed (sent_of v) name v.history answer history
-  pub outcome_is : outcome ≡ renewal answer
+  pub renewed : AddsRenewal (session_sent v) name v.history answer history
+  pub outcome_is : outcome ≡ renewal_done answer
   pub fits : FitsVenue window place new (record v { history = history })
 
 -- what Push left
 pub record LeftPushed (window place capacity : ℕ) (v : Venue) (outcome : Done)
     (new : VenueView) : Type 0 where
-  pub comes : ComesTo
-      (pushed (is_full capacity v.lane) (next_in (streams_of v.history) v.lane) v.lane.sent)
+  pub comes : AppliesTo
+      (push_next (is_full capacity v.lane) (next_in (streams_of v.history) v.lane) v.lane.sent)
       v.lane.sent outcome new.lane.sent
   pub fits : FitsVenue window place new (record v { lane = record v.lane { sent = new.lane.sent } })
 
 -- the venue is shown so: what waits is in its lane
-pub record ShowsVenue (lane : Lane Numbered) (v : Venue) : Type 0 where
+pub record ShowsLane (lane : Lane Numbered) (v : Venue) : Type 0 where
   pub consumed : lane.received ≡ v.lane.received
   pub waiting : inside lane ≡ waiting v
 
@@ -97,8 +97,8 @@ pub record FitsSubscriber (symbols : List (List ℕ)) (entries : List Entry) (c 
 -- what Offer left
 pub record LeftOffered (symbols : List (List ℕ)) (entries : List Entry) (capacity : ℕ)
     (x : Subscriber) (outcome : Done) (new : SubscriberView) : Type 0 where
-  pub comes : ComesTo
-      (offered (is_full capacity x.lane) (next_in (wanted_of symbols x.terms entries) x.lane)
+  pub comes : AppliesTo
+      (offer_next (is_full capacity x.lane) (next_in (wanted_of symbols x.terms entries) x.lane)
       x.lane.sent)
       x.lane.sent outcome new.lane.sent
   pub fits : FitsSubscriber symbols entries new
@@ -151,14 +151,14 @@ pub record FitsWorld (s : Setting) (m : MachineView) (w : World) : Type 0 where
   pub in_turn : length w.subscribers < 32 → w.used ≡ length w.subscribers
 
 -- the event came with this outcome, and the machine stands for the world after it
-pub record Stepped (s : Setting) (old : World) (e : Event) (outcome : Done)
+pub record HasStepped (s : Setting) (old : World) (e : Event) (outcome : Done)
     (m : MachineView) : Type 0 where
   pub after : World
   pub fits : FitsWorld s m after
   pub step : IsStep s old e outcome after
 
 -- the events came with these outcomes, and the machine stands for the world after them
-pub record Reached (s : Setting) (events : List Event) (outcomes : List Done)
+pub record HasReached (s : Setting) (events : List Event) (outcomes : List Done)
     (m : MachineView) : Type 0 where
   pub world : World
   pub fits : FitsWorld s m world
@@ -175,7 +175,7 @@ subscriber_shown c = record { dequeued = c.lane.received; queued = inside c.lane
 pub record ShownTo (window n : ℕ) (cs : List VenueView) (vs : List Venue) : Type 0 where
   pub count : length cs ≡ length vs
   pub early : (i : ℕ) (c : VenueView) (v : Venue) → i < n
-      → slice_get cs i ≡ Some c → slice_get vs i ≡ Some v → ShowsVenue c.lane v
+      → slice_get cs i ≡ Some c → slice_get vs i ≡ Some v → ShowsLane c.lane v
   pub late : (i : ℕ) (c : VenueView) (v : Venue) → n ≤ i
       → slice_get cs i ≡ Some c → slice_get vs i ≡ Some v → FitsVenue window i c v
 
@@ -183,7 +183,7 @@ pub record ShownTo (window n : ℕ) (cs : List VenueView) (vs : List Venue) : Ty
 pub record ShowVenues (cs : List VenueView) (vs : List Venue) : Type 0 where
   pub count : length cs ≡ length vs
   pub each : (i : ℕ) (c : VenueView) (v : Venue)
-      → slice_get cs i ≡ Some c → slice_get vs i ≡ Some v → ShowsVenue c.lane v
+      → slice_get cs i ≡ Some c → slice_get vs i ≡ Some v → ShowsLane c.lane v
 
 -- what a finished machine shows
 abbrev pub shown_by : List Done → List VenueView → JournalState → List SubscriberView → Shown

@@ -8,7 +8,7 @@ use Rattle.feed_core.specs.declared.event.Event.{Event}
 use Rattle.feed_core.specs.declared.event.Event.TheVariants.{Packet, Push, Consume, Declare, Renew, Subscribe, Offer, Dequeue}
 use Rattle.feed_core.specs.declared.event.Done.{Done}
 use Rattle.feed_core.specs.Worlds.{is_full, Venue, Subscriber, World, Setting}
-use Rattle.feed_core.specs.Steps.{unknown_venue, unknown_subscriber, next_in, next_out, pushed, consumed, declared, offered, dequeued, Stays, Comes, with_sent, with_intake, with_offered, with_dequeued, IsFaulty, IsAnswered, IsNext, IsSubscribed}
+use Rattle.feed_core.specs.Steps.{unknown_venue, unknown_subscriber, next_in, next_out, push_next, consume_next, declare_help, offer_next, dequeue_next, Stays, Applies, with_sent, with_intake, with_offered, with_dequeued, RefusesBytes, AnswersPacket, AnswersRenewal, AnswersSubscribe}
 
 -- first of all a venue that isn't there, or a subscriber
 abbrev pub AtVenue : World → ℕ → Done → World → (Venue → Type 0) → Type 0
@@ -22,31 +22,31 @@ AtSubscriber old id outcome new Known =
 -- one event, from the old world to the new one, with its outcome
 abbrev pub IsStep : Setting → World → Event → Done → World → Type 0
 IsStep s old (Packet venue line bytes) outcome new = AtVenue old venue outcome new
-    (λ v. IsFaulty bytes.now old outcome new
-    ⊎ IsAnswered s.window venue v line bytes.now old outcome new)
+    (λ v. RefusesBytes bytes.now old outcome new
+    ⊎ AnswersPacket s.window venue v line bytes.now old outcome new)
 IsStep s old (Renew venue name) outcome new = AtVenue old venue outcome new
-    (λ v. IsNext venue v name old outcome new)
+    (λ v. AnswersRenewal venue v name old outcome new)
 IsStep s old (Push venue) outcome new = AtVenue old venue outcome new
-    (λ v. Comes (with_sent old venue v)
-    (pushed (is_full s.lane v.lane) (next_in (streams_of v.history) v.lane) v.lane.sent)
+    (λ v. Applies (with_sent old venue v)
+    (push_next (is_full s.lane v.lane) (next_in (streams_of v.history) v.lane) v.lane.sent)
     old outcome new)
 IsStep s old (Consume venue) outcome new = AtVenue old venue outcome new
-    (λ v. Comes (with_intake old venue v)
-    (consumed s.journal venue (next_out v.lane)
+    (λ v. Applies (with_intake old venue v)
+    (consume_next s.journal venue (next_out v.lane)
     (record { received = v.lane.received; entries = old.entries }))
     old outcome new)
 IsStep s old (Declare venue on) outcome new = AtVenue old venue outcome new
-    (λ v. Comes (λ entries. record old { entries = entries })
-    (declared s.journal venue on old.entries) old outcome new)
-IsStep s old Subscribe outcome new = IsSubscribed (slice_get s.filters old.used) old outcome new
+    (λ v. Applies (λ entries. record old { entries = entries })
+    (declare_help s.journal venue on old.entries) old outcome new)
+IsStep s old Subscribe outcome new = AnswersSubscribe (slice_get s.filters old.used) old outcome new
 IsStep s old (Offer id) outcome new = AtSubscriber old id outcome new
-    (λ x. Comes (with_offered old id x)
-    (offered (is_full s.lane x.lane)
+    (λ x. Applies (with_offered old id x)
+    (offer_next (is_full s.lane x.lane)
     (next_in (wanted_of s.symbols x.terms old.entries) x.lane) x.lane.sent)
     old outcome new)
 IsStep s old (Dequeue id) outcome new = AtSubscriber old id outcome new
-    (λ x. Comes (with_dequeued old id x)
-    (dequeued (next_out x.lane) x.lane.received) old outcome new)
+    (λ x. Applies (with_dequeued old id x)
+    (dequeue_next (next_out x.lane) x.lane.received) old outcome new)
 
 -- a run: the events are taken one after another, each with its outcome
 abbrev pub IsRun : Setting → World → List Event → List Done → World → Type 0

@@ -23,7 +23,7 @@ use Rattle.nbbo_book.specs.Eligible.{is_self_helped}
 use Rattle.feed_core.specs.declared.event.Event.TheVariants.{Packet, Push, Consume, Declare, Renew, Subscribe, Offer, Dequeue}
 use Rattle.feed_core.specs.declared.event.Done.{Done}
 use Rattle.feed_core.specs.declared.event.Done.TheVariants as done
-use Rattle.feed_core.specs.Worlds.{Lane, empty_lane, Venue, sent_of, Subscriber, World}
+use Rattle.feed_core.specs.Worlds.{Lane, empty_lane, Venue, session_sent, Subscriber, World}
 
 -- the refusals that are the machine's own, by their numbers
 abbrev pub journal_full : Done
@@ -43,9 +43,9 @@ unknown_subscriber = done.Refused 21
 
 -- What an event comes to on its part of the world: an outcome that leaves it as it is, or an
 -- outcome and what it is then.
-pub data Came (X : Type 0) : Type 0 where
-  stays : Done → Came X
-  goes : Done → X → Came X
+pub data Transition (X : Type 0) : Type 0 where
+  Refused : Done → Transition X
+  Changes : Done → X → Transition X
 
 -- ---- what goes into a lane next, and what comes out
 
@@ -61,23 +61,23 @@ next_out lane = slice_get lane.sent (length lane.received)
 
 -- Packet, on what came to a venue: a packet that was read stands among the others with its answer,
 -- a refused one too.
-pub record IsTaken (window sent : ℕ) (line : LineId) (packet : Content) (old : History)
+pub record AddsArrival (window sent : ℕ) (line : LineId) (packet : Content) (old : History)
     (answer : Result Outcome LineFault) (new : History) : Type 0 where
   pub right : IsOutcome old.present.name window sent old.present.packets packet answer
   pub is : new ≡ after_arrival old (record { line = line; packet = packet; answer = answer })
 
 -- Renew, on what came to a venue: the present session is over, and the next one begins, or nothing
 -- changes.
-pub record IsRenewed (sent : ℕ) (name : List ℕ) (old : History) (answer : Result ℕ RenewFault)
+pub record AddsRenewal (sent : ℕ) (name : List ℕ) (old : History) (answer : Result ℕ RenewFault)
     (new : History) : Type 0 where
   pub right : IsRenewal (names_of old) (end_of old.present.packets) sent name answer
   pub is : new ≡ history_after old name answer
 
 -- Push, on what was sent of a venue: its next item, unless the lane is full.
-abbrev pub pushed : Bool → Option Numbered → List Numbered → Came (List Numbered)
-pushed full None sent = stays done.NothingReady
-pushed full (Some x) sent =
-    if full then stays done.LaneFull else goes (done.Pushed x.number) (sent ++ x ∷ [])
+abbrev pub push_next : Bool → Option Numbered → List Numbered → Transition (List Numbered)
+push_next full None sent = Refused done.NothingReady
+push_next full (Some x) sent =
+    if full then Refused done.LaneFull else Changes (done.Pushed x.number) (sent ++ x ∷ [])
 
 -- Consume, on what was received from a venue and on the journal: the next item of the lane, unless
 -- the journal is full.
@@ -85,16 +85,16 @@ pub record Intake : Type 0 where
   pub received : List Numbered
   pub entries : List Entry
 
-abbrev pub journaled : ℕ → Option Numbered → Intake → Came Intake
-journaled venue None old = stays done.LaneEmpty
-journaled venue (Some x) old = goes (done.Consumed (length old.entries + 1)) (record {
+abbrev pub journal_item : ℕ → Option Numbered → Intake → Transition Intake
+journal_item venue None old = Refused done.LaneEmpty
+journal_item venue (Some x) old = Changes (done.Consumed (length old.entries + 1)) (record {
   received = old.received ++ x ∷ [];
   entries = old.entries ++ entry.Consumed venue x ∷ [];
 })
 
-abbrev pub consumed : ℕ → ℕ → Option Numbered → Intake → Came Intake
-consumed journal venue next old =
-    if nat_le journal (length old.entries) then stays journal_full else journaled venue next old
+abbrev pub consume_next : ℕ → ℕ → Option Numbered → Intake → Transition Intake
+consume_next journal venue next old =
+    if nat_le journal (length old.entries) then Refused journal_full else journal_item venue next old
 
 -- Declare, on the journal: unless it is so already, or the journal is full.
 abbrev pub is_same : Bool → Bool → Bool
@@ -102,29 +102,29 @@ is_same true b = b
 is_same false true = false
 is_same false false = true
 
-abbrev pub declared : ℕ → ℕ → Bool → List Entry → Came (List Entry)
-declared journal venue on entries =
-    if is_same (is_self_helped entries venue) on then stays already_so else
-    (if nat_le journal (length entries) then stays journal_full else
-    goes (done.Declared (length entries + 1)) (entries ++ entry.SelfHelp venue on ∷ []))
+abbrev pub declare_help : ℕ → ℕ → Bool → List Entry → Transition (List Entry)
+declare_help journal venue on entries =
+    if is_same (is_self_helped entries venue) on then Refused already_so else
+    (if nat_le journal (length entries) then Refused journal_full else
+    Changes (done.Declared (length entries + 1)) (entries ++ entry.SelfHelp venue on ∷ []))
 
 -- Subscribe, on the subscribers: one more with these terms, to whom nothing was offered, up to 32.
-abbrev pub subscribed : Terms → List Subscriber → Came (List Subscriber)
-subscribed terms subscribers =
-    if nat_le 32 (length subscribers) then stays too_many_subscribers else
-    goes (done.Subscribed (length subscribers))
+abbrev pub add_subscriber : Terms → List Subscriber → Transition (List Subscriber)
+add_subscriber terms subscribers =
+    if nat_le 32 (length subscribers) then Refused too_many_subscribers else
+    Changes (done.Subscribed (length subscribers))
     (subscribers ++ record { terms = terms; lane = empty_lane } ∷ [])
 
 -- Offer, on what was sent to a subscriber: the next notice that it wants, unless the lane is full.
-abbrev pub offered : Bool → Option Notice → List Notice → Came (List Notice)
-offered full None sent = stays done.NothingWanted
-offered full (Some n) sent =
-    if full then stays done.LaneFull else goes (done.Offered n.number) (sent ++ n ∷ [])
+abbrev pub offer_next : Bool → Option Notice → List Notice → Transition (List Notice)
+offer_next full None sent = Refused done.NothingWanted
+offer_next full (Some n) sent =
+    if full then Refused done.LaneFull else Changes (done.Offered n.number) (sent ++ n ∷ [])
 
 -- Dequeue, on what a subscriber received: the next notice of its lane.
-abbrev pub dequeued : Option Notice → List Notice → Came (List Notice)
-dequeued None received = stays done.LaneEmpty
-dequeued (Some n) received = goes (done.Dequeued n.number) (received ++ n ∷ [])
+abbrev pub dequeue_next : Option Notice → List Notice → Transition (List Notice)
+dequeue_next None received = Refused done.LaneEmpty
+dequeue_next (Some n) received = Changes (done.Dequeued n.number) (received ++ n ∷ [])
 
 -- ---- the part in its place
 
@@ -133,13 +133,13 @@ abbrev pub Stays : {W : Type 0} → Done → W → Done → W → Type 0
 Stays refusal old outcome new = (outcome ≡ refusal) × (new ≡ old)
 
 -- so it is, or it is the old one with its part changed
-abbrev pub Comes : {X W : Type 0} → (X → W) → Came X → W → Done → W → Type 0
-Comes put (stays d) old outcome new = Stays d old outcome new
-Comes put (goes d x) old outcome new = (outcome ≡ d) × (new ≡ put x)
+abbrev pub Applies : {X W : Type 0} → (X → W) → Transition X → W → Done → W → Type 0
+Applies put (Refused d) old outcome new = Stays d old outcome new
+Applies put (Changes d x) old outcome new = (outcome ≡ d) × (new ≡ put x)
 
 -- of the part alone
-abbrev pub ComesTo : {X : Type 0} → Came X → X → Done → X → Type 0
-ComesTo came old outcome new = Comes (λ x. x) came old outcome new
+abbrev pub AppliesTo : {X : Type 0} → Transition X → X → Done → X → Type 0
+AppliesTo came old outcome new = Applies (λ x. x) came old outcome new
 
 abbrev pub put_venue : World → ℕ → Venue → World
 put_venue w place v = record w { venues = slice_set w.venues place v }
@@ -167,43 +167,43 @@ with_dequeued w id x received =
 -- ---- what the step cites
 
 -- the datagram is no packet, and nothing changes
-pub record IsFaulty (bytes : List ℕ) (old : World) (outcome : Done) (new : World) : Type 0 where
+pub record RefusesBytes (bytes : List ℕ) (old : World) (outcome : Done) (new : World) : Type 0 where
   pub fault : PacketFault
   pub has : HasFault bytes fault
   pub is : Stays (done.Refused (code_of fault)) old outcome new
 
-abbrev pub answered : Result Outcome LineFault → Done
-answered (Ok outcome) = done.Packet outcome
-answered (Err fault) = done.Refused (line_fault_code fault)
+abbrev pub packet_done : Result Outcome LineFault → Done
+packet_done (Ok outcome) = done.Packet outcome
+packet_done (Err fault) = done.Refused (line_fault_code fault)
 
 -- it is a packet, and the venue's lines answer it
-pub record IsAnswered (window place : ℕ) (v : Venue) (line : LineId) (bytes : List ℕ) (old : World)
+pub record AnswersPacket (window place : ℕ) (v : Venue) (line : LineId) (bytes : List ℕ) (old : World)
     (outcome : Done) (new : World) : Type 0 where
   pub packet : Content
   pub rest : List ℕ
   pub spells : Spells bytes packet rest
   pub answer : Result Outcome LineFault
   pub history : History
-  pub taken : IsTaken window (sent_of v) line packet v.history answer history
-  pub outcome_is : outcome ≡ answered answer
+  pub taken : AddsArrival window (session_sent v) line packet v.history answer history
+  pub outcome_is : outcome ≡ packet_done answer
   pub new_is : new ≡ put_venue old place (record v { history = history })
 
-abbrev pub renewal : Result ℕ RenewFault → Done
-renewal (Ok ordinal) = done.Renewed ordinal
-renewal (Err fault) = done.Refused (renew_fault_code fault)
+abbrev pub renewal_done : Result ℕ RenewFault → Done
+renewal_done (Ok ordinal) = done.Renewed ordinal
+renewal_done (Err fault) = done.Refused (renew_fault_code fault)
 
-pub record IsNext (place : ℕ) (v : Venue) (name : List ℕ) (old : World) (outcome : Done)
+pub record AnswersRenewal (place : ℕ) (v : Venue) (name : List ℕ) (old : World) (outcome : Done)
     (new : World) : Type 0 where
   pub answer : Result ℕ RenewFault
   pub history : History
-  pub renewed : IsRenewed (sent_of v) name v.history answer history
-  pub outcome_is : outcome ≡ renewal answer
+  pub renewed : AddsRenewal (session_sent v) name v.history answer history
+  pub outcome_is : outcome ≡ renewal_done answer
   pub new_is : new ≡ put_venue old place (record v { history = history })
 
 -- the next filter is used up, also where there is no place for its subscriber
-abbrev pub IsSubscribed : Option Terms → World → Done → World → Type 0
-IsSubscribed None old outcome new = Stays done.NoFilter old outcome new
-IsSubscribed (Some terms) old outcome new =
+abbrev pub AnswersSubscribe : Option Terms → World → Done → World → Type 0
+AnswersSubscribe None old outcome new = Stays done.NoFilter old outcome new
+AnswersSubscribe (Some terms) old outcome new =
     let after : World = record old { used = old.used + 1 } in
-    Comes (λ xs. record after { subscribers = xs })
-    (subscribed terms old.subscribers) after outcome new
+    Applies (λ xs. record after { subscribers = xs })
+    (add_subscriber terms old.subscribers) after outcome new

@@ -31,8 +31,8 @@ pub record Venue : Type 0 where
   pub lane : Lane Numbered
 
 -- how many items of the present session were sent
-abbrev pub sent_of : Venue → ℕ
-sent_of v = length v.lane.sent - length (items_of v.history.earlier)
+abbrev pub session_sent : Venue → ℕ
+session_sent v = length v.lane.sent - length (items_of v.history.earlier)
 
 -- a subscriber: what it asked for, and the lane from the journal to it
 pub record Subscriber : Type 0 where

@@ -1,7 +1,7 @@
 //! What is made of a configuration first: its sizes are checked, and its journal begins.
 
 ghost use Rattle.std.specs.Prelude.{◌≡◌, IfOk, IfErr, MatchOption, OnOk};
-ghost use Rattle.feed_core.specs.Configs.{IsSized, IsGood, IsBad, Explains, journal_of};
+ghost use Rattle.feed_core.specs.Configs.{IsSized, IsGood, IsBadConfig, Explains, journal_of_config};
 
 use crate::config::{ConfigFault, CoreFault};
 use feed_types::FeedConfig;
@@ -11,7 +11,7 @@ use std::alloc::Global;
 
 /// The first fault of the configuration's sizes.
 fn fault_of(config: &FeedConfig<'_>) -> Option<ConfigFault>
-    ensures { MatchOption result (IsSized config.now) (IsBad config.now) }
+    ensures { MatchOption result (IsSized config.now) (IsBadConfig config.now) }
 {
     if config.sessions.is_empty() || config.sessions.len() > 16 {
         return Some(ConfigFault::BadVenueCount);
@@ -33,7 +33,7 @@ fn fault_of(config: &FeedConfig<'_>) -> Option<ConfigFault>
 /// BadConfig carries the configuration's first fault, in the order of [`ConfigFault`]; NoMemory
 /// comes where memory was refused.
 pub fn new_journal(alloc: Global, config: &FeedConfig<'_>) -> Result<Journal, CoreFault>
-    ensures empty { IfOk result (λ journal. journal ≡ journal_of config.now) }
+    ensures empty { IfOk result (λ journal. journal ≡ journal_of_config config.now) }
     ensures good { OnOk result (IsGood config.now) }
     ensures fault { IfErr result (Explains config.now) }
 {

@@ -1,7 +1,7 @@
 //! What happens to the journal of the machine.
 
 ghost use Rattle.std.specs.Prelude.{◌≡◌, ◌<◌, IfOk, OnOk};
-ghost use Rattle.feed_core.specs.Steps.{consumed, declared, next_out, ComesTo};
+ghost use Rattle.feed_core.specs.Steps.{consume_next, declare_help, next_out, AppliesTo};
 ghost use Rattle.feed_core.specs.Fitting.{intake_of, KeepsJournal};
 
 use crate::event::Done;
@@ -17,8 +17,8 @@ pub(crate) fn consume(
     state: &mut VenueState,
 ) -> Result<Done, AllocError>
     requires { venue < journal.old.venues }
-    ensures comes { IfOk result (λ d. ComesTo
-        (consumed journal.old.journal venue (next_out state.old.lane)
+    ensures comes { IfOk result (λ d. AppliesTo
+        (consume_next journal.old.journal venue (next_out state.old.lane)
         (intake_of state.old.lane journal.old))
         (intake_of state.old.lane journal.old) d (intake_of state.new.lane journal.new)) }
     ensures state { OnOk result (state.new
@@ -42,8 +42,8 @@ pub(crate) fn consume(
 /// Declare: self-help on the venue is on from here, or off.
 pub(crate) fn declare(journal: &mut Journal, venue: VenueId, on: bool) -> Result<Done, AllocError>
     requires { venue < journal.old.venues }
-    ensures comes { IfOk result (λ d. ComesTo
-        (declared journal.old.journal venue on journal.old.entries)
+    ensures comes { IfOk result (λ d. AppliesTo
+        (declare_help journal.old.journal venue on journal.old.entries)
         journal.old.entries d journal.new.entries) }
     ensures kept { KeepsJournal journal.old journal.new }
 {

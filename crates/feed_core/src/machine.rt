@@ -4,8 +4,8 @@ ghost use Rattle.std.specs.Prelude.{◌≡◌, ℕ, ◌<◌, ◌≤◌, List, le
 ghost use Rattle.filter_terms.specs.declared.terms.Terms.{Terms};
 ghost use Rattle.feed_core.specs.declared.event.Event.{Event};
 ghost use Rattle.feed_core.specs.Worlds.{Venue, World as WorldView, Setting, all_terms, new_venue, new_world, setting_of};
-ghost use Rattle.feed_core.specs.Configs.{journal_of};
-ghost use Rattle.feed_core.specs.Fitting.{FitVenues, ShowVenues, FitsWorld, Stepped, Reached};
+ghost use Rattle.feed_core.specs.Configs.{journal_of_config};
+ghost use Rattle.feed_core.specs.Fitting.{FitVenues, ShowVenues, FitsWorld, HasStepped, HasReached};
 ghost use Rattle.feed_core.specs.Headline.{IsRunOf};
 
 use crate::event::{Done, Event};
@@ -102,7 +102,7 @@ impl Machine {
     ) -> Result<Machine, AllocError>
         requires few { length config.now.sessions.now ≤ 16 }
         requires counted { journal.venues ≡ length config.now.sessions.now }
-        ensures fits { IfOk result (λ m. journal ≡ journal_of config.now → (filters : List Terms)
+        ensures fits { IfOk result (λ m. journal ≡ journal_of_config config.now → (filters : List Terms)
             → FitsWorld (setting_of config.now filters) m
             (new_world (setting_of config.now filters))) }
         ensures used { IfOk result (λ m. m.used ≡ 0) }
@@ -120,7 +120,7 @@ impl Machine {
     /// What the run shows, once what is ready of each venue came behind what was pushed.
     pub(crate) fn into_world(self, outcomes: Vec<Done>) -> Result<World, AllocError>
         ensures { IfOk result (λ shown. (s : Setting) (events : List Event)
-            → Reached s events outcomes.items self → IsRunOf s events shown) }
+            → HasReached s events outcomes.items self → IsRunOf s events shown) }
     {
         let Machine {
             mut venue_states,
@@ -135,7 +135,7 @@ impl Machine {
 
     fn packet(&mut self, venue: VenueId, line: LineId, bytes: &[u8]) -> Done
         ensures step { (s : Setting) (w : WorldView) → FitsWorld s self.old w
-            → Stepped s w (Event.Packet venue line bytes.entry) result self.new }
+            → HasStepped s w (Event.Packet venue line bytes.entry) result self.new }
         ensures used { self.new.used ≡ self.old.used }
     {
         let place = venue.index();
@@ -149,7 +149,7 @@ impl Machine {
     fn push(&mut self, venue: VenueId) -> Result<Done, AllocError>
         ensures step { IfOk result (λ d. (s : Setting) (w : WorldView)
             → FitsWorld s self.old w
-            → Stepped s w (Event.Push venue) d self.new) }
+            → HasStepped s w (Event.Push venue) d self.new) }
         ensures used { self.new.used ≡ self.old.used }
     {
         let place = venue.index();
@@ -162,7 +162,7 @@ impl Machine {
 
     fn renew(&mut self, venue: VenueId, session: [u8; 10]) -> Done
         ensures step { (s : Setting) (w : WorldView) → FitsWorld s self.old w
-            → Stepped s w (Event.Renew venue session) result self.new }
+            → HasStepped s w (Event.Renew venue session) result self.new }
         ensures used { self.new.used ≡ self.old.used }
     {
         let place = venue.index();
@@ -176,7 +176,7 @@ impl Machine {
     fn consume(&mut self, venue: VenueId) -> Result<Done, AllocError>
         ensures step { IfOk result (λ d. (s : Setting) (w : WorldView)
             → FitsWorld s self.old w
-            → Stepped s w (Event.Consume venue) d self.new) }
+            → HasStepped s w (Event.Consume venue) d self.new) }
         ensures used { self.new.used ≡ self.old.used }
     {
         let place = venue.index();
@@ -190,7 +190,7 @@ impl Machine {
     fn declare(&mut self, venue: VenueId, on: bool) -> Result<Done, AllocError>
         ensures step { IfOk result (λ d. (s : Setting) (w : WorldView)
             → FitsWorld s self.old w
-            → Stepped s w (Event.Declare venue on) d self.new) }
+            → HasStepped s w (Event.Declare venue on) d self.new) }
         ensures used { self.new.used ≡ self.old.used }
     {
         if venue.index() >= self.venue_states.len() {
@@ -203,7 +203,7 @@ impl Machine {
         requires { self.old.used ≤ length filters.now }
         ensures step { IfOk result (λ d. (s : Setting) (w : WorldView)
             → s.filters ≡ all_terms filters.now → FitsWorld s self.old w
-            → Stepped s w (Event.Offer id) d self.new) }
+            → HasStepped s w (Event.Offer id) d self.new) }
         ensures used { self.new.used ≡ self.old.used }
     {
         let place = id.index();
@@ -216,7 +216,7 @@ impl Machine {
 
     fn dequeue(&mut self, id: SubscriberId) -> Done
         ensures step { (s : Setting) (w : WorldView) → FitsWorld s self.old w
-            → Stepped s w (Event.Dequeue id) result self.new }
+            → HasStepped s w (Event.Dequeue id) result self.new }
         ensures used { self.new.used ≡ self.old.used }
     {
         let place = id.index();
@@ -232,7 +232,7 @@ impl Machine {
         requires { self.old.used ≤ length filters.now }
         ensures step { IfOk result (λ d. (s : Setting) (w : WorldView)
             → s.filters ≡ all_terms filters.now
-            → FitsWorld s self.old w → Stepped s w Event.Subscribe d self.new) }
+            → FitsWorld s self.old w → HasStepped s w Event.Subscribe d self.new) }
         ensures used { self.new.used ≤ length filters.now }
     {
         if self.filters_used >= filters.len() {
@@ -257,7 +257,7 @@ impl Machine {
         requires { self.old.used ≤ length filters.now }
         ensures step { IfOk result (λ d. (s : Setting) (w : WorldView)
             → s.filters ≡ all_terms filters.now
-            → FitsWorld s self.old w → Stepped s w event.now d self.new) }
+            → FitsWorld s self.old w → HasStepped s w event.now d self.new) }
         ensures used { self.new.used ≤ length filters.now }
     {
         match event {
@@ -281,7 +281,7 @@ impl Machine {
     ) -> Result<Vec<Done>, AllocError>
         requires { self.old.used ≤ length filters.now }
         ensures { IfOk result (λ outcomes. (s : Setting) → s.filters ≡ all_terms filters.now
-            → FitsWorld s self.old (new_world s) → Reached s events.now outcomes.items self.new) }
+            → FitsWorld s self.old (new_world s) → HasReached s events.now outcomes.items self.new) }
     {
         let mut outcomes = Vec::new(alloc);
         for event in events {

@@ -3,7 +3,7 @@
 ghost use Rattle.std.specs.Prelude.{◌≡◌, ◌≤◌, length, IfOk, IfErr, OnOk};
 ghost use Rattle.feed_core.specs.Worlds.{all_terms, setting_of};
 ghost use Rattle.feed_core.specs.Headline.{IsRunOf, ShowsHeadline};
-ghost use Rattle.feed_core.specs.Configs.{IsGood, Explains, journal_of};
+ghost use Rattle.feed_core.specs.Configs.{IsGood, Explains, journal_of_config};
 
 use crate::config::CoreFault;
 use crate::configured::new_journal;
@@ -24,7 +24,7 @@ fn run_over(
 ) -> Result<World, AllocError>
     requires few { length config.now.sessions.now ≤ 16 }
     requires counted { journal.venues ≡ length config.now.sessions.now }
-    ensures { IfOk result (λ shown. journal ≡ journal_of config.now
+    ensures { IfOk result (λ shown. journal ≡ journal_of_config config.now
         → IsRunOf (setting_of config.now (all_terms filters.now)) events.now shown) }
 {
     let mut machine = Machine::new(alloc, config, journal)?;

@@ -6,7 +6,7 @@ ghost use Rattle.filter_terms.specs.Terms.{meets};
 ghost use Rattle.filter_terms.specs.Filters.{terms_of};
 ghost use Rattle.journal_book.specs.Changes.{changes_of};
 ghost use Rattle.feed_core.specs.Worlds.{inside, empty_lane, Subscriber};
-ghost use Rattle.feed_core.specs.Steps.{dequeued, next_out, ComesTo};
+ghost use Rattle.feed_core.specs.Steps.{dequeue_next, next_out, AppliesTo};
 ghost use Rattle.feed_core.specs.Fitting.{FitsSubscriber, LeftOffered};
 
 use crate::event::Done;
@@ -95,7 +95,7 @@ impl SubscriberState {
 
     /// Dequeue: the next notice of the lane is taken out of it.
     pub(crate) fn dequeue(&mut self) -> Done
-        ensures comes { ComesTo (dequeued (next_out self.old.lane) self.old.lane.received)
+        ensures comes { AppliesTo (dequeue_next (next_out self.old.lane) self.old.lane.received)
             self.old.lane.received result self.new.lane.received }
         ensures others { self.new
             ≡ record self.old {
@@ -109,7 +109,7 @@ impl SubscriberState {
     }
 
     /// What was dequeued.
-    pub(crate) fn dequeued(&self) -> &[Notice]
+    pub(crate) fn dequeue_next(&self) -> &[Notice]
         ensures { result.now ≡ self.now.lane.received }
     {
         self.notices.received()

@@ -7,7 +7,7 @@ ghost use Rattle.line_arbiter.specs.Streams.{stream_of};
 ghost use Rattle.line_arbiter.specs.Fits.{Fits};
 ghost use Rattle.feed_core.specs.Worlds.{inside, Venue, new_venue};
 ghost use Rattle.feed_core.specs.Steps.{next_out};
-ghost use Rattle.feed_core.specs.Fitting.{FitsVenue, LeftFaulty, LeftAnswered, LeftRenewed, LeftPushed, ShowsVenue};
+ghost use Rattle.feed_core.specs.Fitting.{FitsVenue, LeftFaulty, LeftAnswered, LeftRenewed, LeftPushed, ShowsLane};
 
 use crate::event::Done;
 use crate::lane::Lane;
@@ -127,7 +127,7 @@ impl VenueState {
     /// Puts all that is ready into the lane, however much it holds, so that it shows what waits.
     pub(crate) fn finish(&mut self) -> Result<(), AllocError>
         ensures { OnOk result ((window place : ℕ) (v : Venue) → FitsVenue window place self.old v
-            → ShowsVenue self.new.lane v) }
+            → ShowsLane self.new.lane v) }
     {
         drain(&mut self.lines, &mut self.items)
     }

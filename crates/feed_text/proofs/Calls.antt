@@ -1,9 +1,9 @@
 use Rattle.std.proofs.Common.{◌≡◌, ℕ, ◌+◌, List, [], ◌++◌, take, drop, append_assoc, append-nil, refl, sym, subst, ◌∙◌}
 use Rattle.std.proofs.Math.Seq.{take-add}
-use Rattle.feed_text.specs.Devices.{Came, Moved}
+use Rattle.feed_text.specs.Devices.{HasGiven, Moved}
 
 -- calls after calls
-pub came_more : {R : Type 0} (gives : R → ℕ → List ℕ → R → Type 0) → ((s t u : R) (m n : ℕ) (xs ys : List ℕ) → gives s m xs t → gives t n ys u → gives s (m + n) (xs ++ ys) u) → (s t u : R) (a b c : List ℕ) (m n k : ℕ) → m + n ≡ k → Came gives s t a b m → Came gives t u b c n → Came gives s u a c k
+pub came_more : {R : Type 0} (gives : R → ℕ → List ℕ → R → Type 0) → ((s t u : R) (m n : ℕ) (xs ys : List ℕ) → gives s m xs t → gives t n ys u → gives s (m + n) (xs ++ ys) u) → (s t u : R) (a b c : List ℕ) (m n k : ℕ) → m + n ≡ k → HasGiven gives s t a b m → HasGiven gives t u b c n → HasGiven gives s u a c k
 came_more {R} gives law s t u a b c m n k e x y = record {
   bytes = x.bytes ++ y.bytes;
   given = subst (λ (j : ℕ). gives s j (x.bytes ++ y.bytes) u) e (law s t u m n x.bytes y.bytes x.given y.given);

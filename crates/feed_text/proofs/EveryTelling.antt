@@ -10,44 +10,44 @@ use Rattle.line_arbiter.specs.Packets.{arrival_of, end_of}
 use Rattle.line_arbiter.specs.Histories.{History, new_history, names_of, after_arrival, history_after}
 use Rattle.line_arbiter.proofs.EveryAnswer.{every_answer, every_renewal}
 use Rattle.feed_text.specs.declared.replay.ReplayConfig.{ReplayConfig}
-use Rattle.feed_text.specs.Capture.{CaptureRecord, datagram_record, renewal_record, self_help_record, venue_of, IsRecord, HoldsBytes}
-use Rattle.feed_text.specs.Happenings.{Happening, packet_answered, packet_refused, renewal_answered, self_help_declared}
-use Rattle.feed_text.specs.Told.{sent_of, gap_told, items_told, TellsAt, TellsRecord, Tells}
-use Rattle.feed_text.specs.Texts.{TellsAll}
+use Rattle.feed_text.specs.Capture.{CaptureRecord, datagram_record, renewal_record, self_help_record, record_venue, IsRecord, HoldsBytes}
+use Rattle.feed_text.specs.ReplayEvents.{ReplayEvent, packet_answered, packet_refused, renewal_answered, self_help_declared}
+use Rattle.feed_text.specs.Emitted.{stream_length, gap_emitted, items_emitted, EmitsAt, EmitsRecord, Emits}
+use Rattle.feed_text.specs.Texts.{EmitsAll}
 use Rattle.feed_text.specs.Replays.{venues_in}
 use Rattle.feed_text.proofs.Telling.{get_within}
 
 -- what a record tells of its venue, to which this came
-tells_at : (window : ℕ) (gaps : Bool) (r : CaptureRecord) (old : History) → HoldsBytes r → (told : List Happening) × (new : History) × TellsAt window gaps r old told new
+tells_at : (window : ℕ) (gaps : Bool) (r : CaptureRecord) (old : History) → HoldsBytes r → (emitted : List ReplayEvent) × (new : History) × EmitsAt window gaps r old emitted new
 tells_at window gaps (datagram_record venue line bytes) old are = elim (read_or_fault bytes are) [
-  | inr fault ↦ (packet_refused venue line fault.0 ∷ gap_told window gaps venue old, old, inl (record { fault = fault.0; has = fault.1; same = refl; told_is = refl }))
+  | inr fault ↦ (packet_refused venue line fault.0 ∷ gap_emitted window gaps venue old, old, inl (record { fault = fault.0; has = fault.1; same = refl; emitted_is = refl }))
   | inl read ↦
-      let given = every_answer old.present.name window (sent_of old) old.present.packets read.0 in
+      let given = every_answer old.present.name window (stream_length old) old.present.packets read.0 in
       let new : History = after_arrival old (arrival_of line read.0 given.0) in (
-        packet_answered venue line given.0 ∷ items_told venue old new.present.packets ++ gap_told window gaps venue new,
+        packet_answered venue line given.0 ∷ items_emitted venue old new.present.packets ++ gap_emitted window gaps venue new,
         new,
-        inr (record { packet = read.0; rest = read.1; answer = given.0; spells = read.2; outcome = given.1; grown = refl; told_is = refl }),
+        inr (record { packet = read.0; rest = read.1; answer = given.0; spells = read.2; outcome = given.1; grown = refl; emitted_is = refl }),
       )
 ]
 tells_at window gaps (renewal_record venue name) old are =
-    let given = every_renewal (names_of old) (end_of old.present.packets) (sent_of old) name in
-    (renewal_answered venue given.0 ∷ [], history_after old name given.0, record { answer = given.0; is = given.1; after = refl; told_is = refl })
-tells_at window gaps (self_help_record venue on) old are = (self_help_declared venue on ∷ [], old, record { same = refl; told_is = refl })
+    let given = every_renewal (names_of old) (end_of old.present.packets) (stream_length old) name in
+    (renewal_answered venue given.0 ∷ [], history_after old name given.0, record { answer = given.0; is = given.1; after = refl; emitted_is = refl })
+tells_at window gaps (self_help_record venue on) old are = (self_help_declared venue on ∷ [], old, record { same = refl; emitted_is = refl })
 
-tells_record : (window : ℕ) (gaps : Bool) (r : CaptureRecord) (old : List History) → venue_of r < length old → HoldsBytes r → (told : List Happening) × (new : List History) × TellsRecord window gaps r old told new
+tells_record : (window : ℕ) (gaps : Bool) (r : CaptureRecord) (old : List History) → record_venue r < length old → HoldsBytes r → (emitted : List ReplayEvent) × (new : List History) × EmitsRecord window gaps r old emitted new
 tells_record window gaps r old within are =
-    let h = get_within old (venue_of r) within in
+    let h = get_within old (record_venue r) within in
     let one = tells_at window gaps r h.0 are in
-    (one.0, slice_set old (venue_of r) one.1, record { before = h.0; after = one.1; at = h.1; tells = one.2; others = refl })
+    (one.0, slice_set old (record_venue r) one.1, record { before = h.0; after = one.1; at = h.1; emits = one.2; others = refl })
 
-tells : (window : ℕ) (gaps : Bool) (venues : ℕ) (rs : List CaptureRecord) (old : List History) → length old ≡ venues → AllByRecursion (IsRecord venues) rs → AllByRecursion HoldsBytes rs → (told : List Happening) × (new : List History) × Tells window gaps rs old told new
-tells window gaps venues [] old count all are = ([], old, (refl, refl))
-tells window gaps venues (r ∷ rs) old count all are =
+emits : (window : ℕ) (gaps : Bool) (venues : ℕ) (rs : List CaptureRecord) (old : List History) → length old ≡ venues → AllByRecursion (IsRecord venues) rs → AllByRecursion HoldsBytes rs → (emitted : List ReplayEvent) × (new : List History) × Emits window gaps rs old emitted new
+emits window gaps venues [] old count all are = ([], old, (refl, refl))
+emits window gaps venues (r ∷ rs) old count all are =
     let within = all.0.venue in
     let first = tells_record window gaps r old (omega arith) are.0 in
-    let others = tells window gaps venues rs first.1 (subst (λ (hs : List History). length hs ≡ venues) (sym first.2.others) (length-set old (venue_of r) first.2.after ∙ count)) all.1 are.1 in
+    let others = emits window gaps venues rs first.1 (subst (λ (hs : List History). length hs ≡ venues) (sym first.2.others) (length-set old (record_venue r) first.2.after ∙ count)) all.1 are.1 in
     (first.0 ++ others.0, others.1, (first.1, first.0, others.0, first.2, others.2, refl))
 
-pub every_telling : (config : ReplayConfig) (records : List CaptureRecord) → All (IsRecord (venues_in config)) records → All HoldsBytes records → (told : List Happening) × (histories : List History) × TellsAll config records told histories
+pub every_telling : (config : ReplayConfig) (records : List CaptureRecord) → All (IsRecord (venues_in config)) records → All HoldsBytes records → (emitted : List ReplayEvent) × (histories : List History) × EmitsAll config records emitted histories
 every_telling config records all are =
-    tells config.window config.gaps (venues_in config) records (map new_history config.sessions.now) (length-map config.sessions.now new_history) (recursion_from_All (IsRecord (venues_in config)) records all) (recursion_from_All HoldsBytes records are)
+    emits config.window config.gaps (venues_in config) records (map new_history config.sessions.now) (length-map config.sessions.now new_history) (recursion_from_All (IsRecord (venues_in config)) records all) (recursion_from_All HoldsBytes records are)

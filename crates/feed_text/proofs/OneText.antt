@@ -17,10 +17,10 @@ use Rattle.feed_text.proofs.Tales.{entries_more}
 use Rattle.feed_text.proofs.Steps.{tells_one}
 use Rattle.line_arbiter.specs.Histories.{History, names_of, after_arrival, history_after}
 use Rattle.feed_text.specs.declared.replay.ReplayConfig.{ReplayConfig}
-use Rattle.feed_text.specs.Capture.{CaptureRecord, datagram_record, renewal_record, self_help_record, venue_of}
-use Rattle.feed_text.specs.Happenings.{Happening, packet_answered, packet_refused, item_taken, gap_left, renewal_answered, self_help_declared, is_so, entries_after, entries_of}
-use Rattle.feed_text.specs.Told.{sent_of, gap_told, items_told, TellsFault, TellsPacket, TellsAt, TellsRecord, Tells}
-use Rattle.feed_text.specs.Texts.{last_lines, new_histories, TellsAll, lines_told, HasRoom, IsTextOf, IsLinesOf, IsLinesToFull}
+use Rattle.feed_text.specs.Capture.{CaptureRecord, datagram_record, renewal_record, self_help_record, record_venue}
+use Rattle.feed_text.specs.ReplayEvents.{ReplayEvent, packet_answered, packet_refused, item_taken, gap_left, renewal_answered, self_help_declared, is_so, entries_after, entries_of}
+use Rattle.feed_text.specs.Emitted.{stream_length, gap_emitted, items_emitted, EmitsFault, EmitsPacket, EmitsAt, EmitsRecord, Emits}
+use Rattle.feed_text.specs.Texts.{last_lines, new_histories, EmitsAll, lines_emitted, HasJournalRoom, IsTextOf, IsLinesOf, IsLinesToFull}
 
 -- the laws of packets and of their answers
 pub record Single : Type 0 where
@@ -29,62 +29,62 @@ pub record Single : Type 0 where
   pub fault : (bytes : List ℕ) (f g : PacketFault) → HasFault bytes f → HasFault bytes g → f ≡ g
   pub outcome : (session : List ℕ) (window sent : ℕ) (P : List Arrival) (p : Content) (a b : Result Outcome LineFault) → IsOutcome session window sent P p a → IsOutcome session window sent P p b → a ≡ b
 
-one_fault : (window : ℕ) (gaps : Bool) (venue : ℕ) (line : LineId) (bytes : List ℕ) (old n1 n2 : History) (l1 l2 : List Happening) → Single → TellsFault window gaps venue line bytes old l1 n1 → TellsFault window gaps venue line bytes old l2 n2 → (l1 ≡ l2) × (n1 ≡ n2)
+one_fault : (window : ℕ) (gaps : Bool) (venue : ℕ) (line : LineId) (bytes : List ℕ) (old n1 n2 : History) (l1 l2 : List ReplayEvent) → Single → EmitsFault window gaps venue line bytes old l1 n1 → EmitsFault window gaps venue line bytes old l2 n2 → (l1 ≡ l2) × (n1 ≡ n2)
 one_fault window gaps venue line bytes old n1 n2 l1 l2 one a b =
-    let F : PacketFault → History → List Happening = λ f h. packet_refused venue line f ∷ gap_told window gaps venue h in
+    let F : PacketFault → History → List ReplayEvent = λ f h. packet_refused venue line f ∷ gap_emitted window gaps venue h in
     let f = one.fault bytes a.fault b.fault a.has b.has in
     let n : n1 ≡ n2 = a.same ∙ sym b.same in
-    (a.told_is ∙ ap (λ (x : PacketFault). F x n1) f ∙ ap (λ (h : History). F b.fault h) n ∙ sym b.told_is, n)
+    (a.emitted_is ∙ ap (λ (x : PacketFault). F x n1) f ∙ ap (λ (h : History). F b.fault h) n ∙ sym b.emitted_is, n)
 
-one_packet : (window : ℕ) (gaps : Bool) (venue : ℕ) (line : LineId) (bytes : List ℕ) (old n1 n2 : History) (l1 l2 : List Happening) → Single → TellsPacket window gaps venue line bytes old l1 n1 → TellsPacket window gaps venue line bytes old l2 n2 → (l1 ≡ l2) × (n1 ≡ n2)
+one_packet : (window : ℕ) (gaps : Bool) (venue : ℕ) (line : LineId) (bytes : List ℕ) (old n1 n2 : History) (l1 l2 : List ReplayEvent) → Single → EmitsPacket window gaps venue line bytes old l1 n1 → EmitsPacket window gaps venue line bytes old l2 n2 → (l1 ≡ l2) × (n1 ≡ n2)
 one_packet window gaps venue line bytes old n1 n2 l1 l2 one a b =
     let G : Content → Result Outcome LineFault → History = λ p x. after_arrival old (arrival_of line p x) in
-    let F : Result Outcome LineFault → History → List Happening = λ x h. packet_answered venue line x ∷ items_told venue old h.present.packets ++ gap_told window gaps venue h in
+    let F : Result Outcome LineFault → History → List ReplayEvent = λ x h. packet_answered venue line x ∷ items_emitted venue old h.present.packets ++ gap_emitted window gaps venue h in
     let p : a.packet ≡ b.packet = one.packet bytes a.packet b.packet a.rest b.rest a.spells b.spells in
-    let first : IsOutcome old.present.name window (sent_of old) old.present.packets b.packet a.answer = subst (λ (q : Content). IsOutcome old.present.name window (sent_of old) old.present.packets q a.answer) p a.outcome in
-    let x : a.answer ≡ b.answer = one.outcome old.present.name window (sent_of old) old.present.packets b.packet a.answer b.answer first b.outcome in
+    let first : IsOutcome old.present.name window (stream_length old) old.present.packets b.packet a.answer = subst (λ (q : Content). IsOutcome old.present.name window (stream_length old) old.present.packets q a.answer) p a.outcome in
+    let x : a.answer ≡ b.answer = one.outcome old.present.name window (stream_length old) old.present.packets b.packet a.answer b.answer first b.outcome in
     let n : n1 ≡ n2 = a.grown ∙ ap (λ (q : Content). G q a.answer) p ∙ ap (λ (y : Result Outcome LineFault). G b.packet y) x ∙ sym b.grown in
-    (a.told_is ∙ ap (λ (y : Result Outcome LineFault). F y n1) x ∙ ap (λ (h : History). F b.answer h) n ∙ sym b.told_is, n)
+    (a.emitted_is ∙ ap (λ (y : Result Outcome LineFault). F y n1) x ∙ ap (λ (h : History). F b.answer h) n ∙ sym b.emitted_is, n)
 
-one_at : (window : ℕ) (gaps : Bool) (r : CaptureRecord) (old n1 n2 : History) (l1 l2 : List Happening) → Single → TellsAt window gaps r old l1 n1 → TellsAt window gaps r old l2 n2 → (l1 ≡ l2) × (n1 ≡ n2)
+one_at : (window : ℕ) (gaps : Bool) (r : CaptureRecord) (old n1 n2 : History) (l1 l2 : List ReplayEvent) → Single → EmitsAt window gaps r old l1 n1 → EmitsAt window gaps r old l2 n2 → (l1 ≡ l2) × (n1 ≡ n2)
 one_at window gaps (datagram_record venue line bytes) old n1 n2 l1 l2 one (inl a) (inl b) = one_fault window gaps venue line bytes old n1 n2 l1 l2 one a b
 one_at window gaps (datagram_record venue line bytes) old n1 n2 l1 l2 one (inl a) (inr b) = absurd (one.no_fault bytes b.packet b.rest a.fault b.spells a.has)
 one_at window gaps (datagram_record venue line bytes) old n1 n2 l1 l2 one (inr a) (inl b) = absurd (one.no_fault bytes a.packet a.rest b.fault a.spells b.has)
 one_at window gaps (datagram_record venue line bytes) old n1 n2 l1 l2 one (inr a) (inr b) = one_packet window gaps venue line bytes old n1 n2 l1 l2 one a b
 one_at window gaps (renewal_record venue name) old n1 n2 l1 l2 one a b =
-    let x = one_renewal (names_of old) _ (sent_of old) name a.answer b.answer a.is b.is in
-    (a.told_is ∙ ap (λ (y : Result ℕ RenewFault). renewal_answered venue y ∷ []) x ∙ sym b.told_is, a.after ∙ ap (history_after old name) x ∙ sym b.after)
-one_at window gaps (self_help_record venue on) old n1 n2 l1 l2 one a b = (a.told_is ∙ sym b.told_is, a.same ∙ sym b.same)
+    let x = one_renewal (names_of old) _ (stream_length old) name a.answer b.answer a.is b.is in
+    (a.emitted_is ∙ ap (λ (y : Result ℕ RenewFault). renewal_answered venue y ∷ []) x ∙ sym b.emitted_is, a.after ∙ ap (history_after old name) x ∙ sym b.after)
+one_at window gaps (self_help_record venue on) old n1 n2 l1 l2 one a b = (a.emitted_is ∙ sym b.emitted_is, a.same ∙ sym b.same)
 
-one_record : (window : ℕ) (gaps : Bool) (r : CaptureRecord) (old n1 n2 : List History) (l1 l2 : List Happening) → Single → TellsRecord window gaps r old l1 n1 → TellsRecord window gaps r old l2 n2 → (l1 ≡ l2) × (n1 ≡ n2)
+one_record : (window : ℕ) (gaps : Bool) (r : CaptureRecord) (old n1 n2 : List History) (l1 l2 : List ReplayEvent) → Single → EmitsRecord window gaps r old l1 n1 → EmitsRecord window gaps r old l2 n2 → (l1 ≡ l2) × (n1 ≡ n2)
 one_record window gaps r old n1 n2 l1 l2 one a b =
     let some : Some a.before ≡ Some b.before = sym a.at ∙ b.at in
     let same : a.before ≡ b.before = cc in
-    let x = one_at window gaps r b.before a.after b.after l1 l2 one (subst (λ (h : History). TellsAt window gaps r h l1 a.after) same a.tells) b.tells in
-    (x.0, a.others ∙ ap (slice_set old (venue_of r)) x.1 ∙ sym b.others)
+    let x = one_at window gaps r b.before a.after b.after l1 l2 one (subst (λ (h : History). EmitsAt window gaps r h l1 a.after) same a.emits) b.emits in
+    (x.0, a.others ∙ ap (slice_set old (record_venue r)) x.1 ∙ sym b.others)
 
-pub one_told : (window : ℕ) (gaps : Bool) (rs : List CaptureRecord) (old n1 n2 : List History) (l1 l2 : List Happening) → Single → Tells window gaps rs old l1 n1 → Tells window gaps rs old l2 n2 → (l1 ≡ l2) × (n1 ≡ n2)
+pub one_told : (window : ℕ) (gaps : Bool) (rs : List CaptureRecord) (old n1 n2 : List History) (l1 l2 : List ReplayEvent) → Single → Emits window gaps rs old l1 n1 → Emits window gaps rs old l2 n2 → (l1 ≡ l2) × (n1 ≡ n2)
 one_told window gaps [] old n1 n2 l1 l2 one a b = (a.0 ∙ sym b.0, a.1 ∙ sym b.1)
 one_told window gaps (r ∷ rs) old n1 n2 l1 l2 one (m, first, others, record_is, more, whole) (k, head, tail, is, rest, all) =
     let x = one_record window gaps r old m k first head one record_is is in
-    let y = one_told window gaps rs k n1 n2 others tail one (subst (λ (h : List History). Tells window gaps rs h others n1) x.1 more) rest in
-    (whole ∙ ap (λ (t : List Happening). t ++ others) x.0 ∙ ap (λ (t : List Happening). head ++ t) y.0 ∙ sym all, y.1)
+    let y = one_told window gaps rs k n1 n2 others tail one (subst (λ (h : List History). Emits window gaps rs h others n1) x.1 more) rest in
+    (whole ∙ ap (λ (t : List ReplayEvent). t ++ others) x.0 ∙ ap (λ (t : List ReplayEvent). head ++ t) y.0 ∙ sym all, y.1)
 
 pub one_text : (config : ReplayConfig) (records : List CaptureRecord) (t u : List ℕ) → Single → IsTextOf config records t → IsTextOf config records u → t ≡ u
 one_text config records t u one a b =
-    let x = one_told config.window config.gaps records (new_histories config) a.histories b.histories a.told b.told one a.tells b.tells in
-    a.text_is ∙ ap (λ (hs : List Happening). lines_told config hs ++ last_lines 0 a.histories) x.0 ∙ ap (λ (hs : List History). lines_told config b.told ++ last_lines 0 hs) x.1 ∙ sym b.text_is
+    let x = one_told config.window config.gaps records (new_histories config) a.histories b.histories a.emitted b.emitted one a.emits b.emits in
+    a.text_is ∙ ap (λ (hs : List ReplayEvent). lines_emitted config hs ++ last_lines 0 a.histories) x.0 ∙ ap (λ (hs : List History). lines_emitted config b.emitted ++ last_lines 0 hs) x.1 ∙ sym b.text_is
 
 pub one_lines : (config : ReplayConfig) (records : List CaptureRecord) (t u : List ℕ) → Single → IsLinesOf config records t → IsLinesOf config records u → t ≡ u
 one_lines config records t u one a b =
-    let x = one_told config.window config.gaps records (new_histories config) a.histories b.histories a.told b.told one a.tells b.tells in
-    a.lines_are ∙ ap (lines_told config) x.0 ∙ sym b.lines_are
+    let x = one_told config.window config.gaps records (new_histories config) a.histories b.histories a.emitted b.emitted one a.emits b.emits in
+    a.lines_are ∙ ap (lines_emitted config) x.0 ∙ sym b.lines_are
 
 if_grows : (b : Bool) (old : List Entry) (e : Entry) → length old ≤ length (if b then old else old ++ e ∷ [])
 if_grows true old e = omega arith
 if_grows false old e = let n = length-append old (e ∷ []) in omega arith
 
-after_grows : (old : List Entry) (h : Happening) → length old ≤ length (entries_after old h)
+after_grows : (old : List Entry) (h : ReplayEvent) → length old ≤ length (entries_after old h)
 after_grows old (packet_answered venue line answer) = omega arith
 after_grows old (packet_refused venue line fault) = omega arith
 after_grows old (item_taken venue numbered) = let n = length-append old (Consumed venue numbered ∷ []) in omega arith
@@ -93,12 +93,12 @@ after_grows old (renewal_answered venue answer) = omega arith
 after_grows old (self_help_declared venue on) = if_grows (is_so old venue on) old (SelfHelp venue on)
 
 -- the journal only grows
-pub entries_grow : (old : List Entry) (hs : List Happening) → length old ≤ length (entries_of old hs)
+pub entries_grow : (old : List Entry) (hs : List ReplayEvent) → length old ≤ length (entries_of old hs)
 entries_grow old [] = omega arith
 entries_grow old (h ∷ hs) = let a = after_grows old h in let b = entries_grow (entries_after old h) hs in omega arith
 
 -- what had room up to the next happening is the same front
-one_front : (limit : ℕ) (old : List Entry) (f g : List Happening) (x y : Happening) (xs ys : List Happening) → f ++ x ∷ xs ≡ g ++ y ∷ ys
+one_front : (limit : ℕ) (old : List Entry) (f g : List ReplayEvent) (x y : ReplayEvent) (xs ys : List ReplayEvent) → f ++ x ∷ xs ≡ g ++ y ∷ ys
     → length (entries_of old f) ≤ limit → length (entries_of old g) ≤ limit
     → limit < length (entries_of old (f ++ x ∷ [])) → limit < length (entries_of old (g ++ y ∷ []))
     → f ≡ g
@@ -135,41 +135,41 @@ last_one (z ∷ xs) (w ∷ ys) x y e =
     (cc, rest.1)
 
 -- what has room, and what has none, behind what was told before
-room_behind : (config : ReplayConfig) (told more : List Happening) → HasRoom config (told ++ more) → length (entries_of (entries_of [] told) more) ≤ config.journal
-room_behind config told more h = subst (λ (es : List Entry). length es ≤ config.journal) (entries_more [] told more) h
+room_behind : (config : ReplayConfig) (emitted more : List ReplayEvent) → HasJournalRoom config (emitted ++ more) → length (entries_of (entries_of [] emitted) more) ≤ config.journal
+room_behind config emitted more h = subst (λ (es : List Entry). length es ≤ config.journal) (entries_more [] emitted more) h
 
-full_behind : (config : ReplayConfig) (told first : List Happening) (next : Happening) → config.journal < length (entries_of [] (told ++ first ++ next ∷ [])) → config.journal < length (entries_of (entries_of [] told) (first ++ next ∷ []))
-full_behind config told first next h =
-    subst (λ (es : List Entry). config.journal < length es) (ap (entries_of []) (append_assoc told first (next ∷ [])) ∙ entries_more [] told (first ++ next ∷ [])) h
+full_behind : (config : ReplayConfig) (emitted first : List ReplayEvent) (next : ReplayEvent) → config.journal < length (entries_of [] (emitted ++ first ++ next ∷ [])) → config.journal < length (entries_of (entries_of [] emitted) (first ++ next ∷ []))
+full_behind config emitted first next h =
+    subst (λ (es : List Entry). config.journal < length es) (ap (entries_of []) (append_assoc emitted first (next ∷ [])) ∙ entries_more [] emitted (first ++ next ∷ [])) h
 
 pub one_full : (config : ReplayConfig) (records : List CaptureRecord) (t u : List ℕ) → Single → IsLinesToFull config records t → IsLinesToFull config records u → t ≡ u
 one_full config records t u one a b =
     let s = last_one a.earlier b.earlier a.last b.last (sym a.records_are ∙ b.records_are) in
-    let before : TellsAll config b.earlier a.told a.histories = subst (λ (rs : List CaptureRecord). TellsAll config rs a.told a.histories) s.0 a.tells in
-    let x = one_told config.window config.gaps b.earlier (new_histories config) a.histories b.histories a.told b.told one before b.tells in
-    let here : TellsRecord config.window config.gaps b.last b.histories (a.first ++ a.next ∷ a.others) a.after =
-    subst (λ (r : CaptureRecord). TellsRecord config.window config.gaps r b.histories (a.first ++ a.next ∷ a.others) a.after) s.1
-    (subst (λ (hs : List History). TellsRecord config.window config.gaps a.last hs (a.first ++ a.next ∷ a.others) a.after) x.1 a.last_tells) in
+    let before : EmitsAll config b.earlier a.emitted a.histories = subst (λ (rs : List CaptureRecord). EmitsAll config rs a.emitted a.histories) s.0 a.emits in
+    let x = one_told config.window config.gaps b.earlier (new_histories config) a.histories b.histories a.emitted b.emitted one before b.emits in
+    let here : EmitsRecord config.window config.gaps b.last b.histories (a.first ++ a.next ∷ a.others) a.after =
+    subst (λ (r : CaptureRecord). EmitsRecord config.window config.gaps r b.histories (a.first ++ a.next ∷ a.others) a.after) s.1
+    (subst (λ (hs : List History). EmitsRecord config.window config.gaps a.last hs (a.first ++ a.next ∷ a.others) a.after) x.1 a.last_tells) in
     let y = one_record config.window config.gaps b.last b.histories a.after b.after (a.first ++ a.next ∷ a.others) (b.first ++ b.next ∷ b.others) one here b.last_tells in
     let front : a.first ≡ b.first =
-    one_front config.journal (entries_of [] b.told) a.first b.first a.next b.next a.others b.others y.0
-    (room_behind config b.told a.first (subst (λ (hs : List Happening). HasRoom config (hs ++ a.first)) x.0 a.room))
-    (room_behind config b.told b.first b.room)
-    (full_behind config b.told a.first a.next (subst (λ (hs : List Happening). config.journal < length (entries_of [] (hs ++ a.first ++ a.next ∷ []))) x.0 a.full))
-    (full_behind config b.told b.first b.next b.full) in
-    a.lines_are ∙ ap (λ (hs : List Happening). lines_told config (hs ++ a.first)) x.0 ∙ ap (λ (hs : List Happening). lines_told config (b.told ++ hs)) front ∙ sym b.lines_are
+    one_front config.journal (entries_of [] b.emitted) a.first b.first a.next b.next a.others b.others y.0
+    (room_behind config b.emitted a.first (subst (λ (hs : List ReplayEvent). HasJournalRoom config (hs ++ a.first)) x.0 a.room))
+    (room_behind config b.emitted b.first b.room)
+    (full_behind config b.emitted a.first a.next (subst (λ (hs : List ReplayEvent). config.journal < length (entries_of [] (hs ++ a.first ++ a.next ∷ []))) x.0 a.full))
+    (full_behind config b.emitted b.first b.next b.full) in
+    a.lines_are ∙ ap (λ (hs : List ReplayEvent). lines_emitted config (hs ++ a.first)) x.0 ∙ ap (λ (hs : List ReplayEvent). lines_emitted config (b.emitted ++ hs)) front ∙ sym b.lines_are
 
 pub not_both : (config : ReplayConfig) (records : List CaptureRecord) (t u : List ℕ) → Single → IsLinesOf config records t → IsLinesToFull config records u → ⊥
 not_both config records t u one a b =
-    let all : TellsAll config (b.earlier ++ b.last ∷ []) (b.told ++ (b.first ++ b.next ∷ b.others)) b.after =
-    tells_one config.window config.gaps b.earlier b.last (new_histories config) b.histories b.after b.told (b.first ++ b.next ∷ b.others) b.tells b.last_tells in
-    let mine : TellsAll config (b.earlier ++ b.last ∷ []) a.told a.histories = subst (λ (rs : List CaptureRecord). TellsAll config rs a.told a.histories) b.records_are a.tells in
-    let x = one_told config.window config.gaps (b.earlier ++ b.last ∷ []) (new_histories config) a.histories b.after a.told (b.told ++ (b.first ++ b.next ∷ b.others)) one mine all in
-    let F : List Happening = b.told ++ b.first ++ b.next ∷ [] in
-    let split : b.told ++ (b.first ++ b.next ∷ b.others) ≡ F ++ b.others =
-    sym (append_assoc b.told b.first (b.next ∷ b.others))
-    ∙ sym (append_assoc (b.told ++ b.first) (b.next ∷ []) b.others) in
-    let room : HasRoom config (F ++ b.others) = subst (HasRoom config) (x.0 ∙ split) a.room in
+    let all : EmitsAll config (b.earlier ++ b.last ∷ []) (b.emitted ++ (b.first ++ b.next ∷ b.others)) b.after =
+    tells_one config.window config.gaps b.earlier b.last (new_histories config) b.histories b.after b.emitted (b.first ++ b.next ∷ b.others) b.emits b.last_tells in
+    let mine : EmitsAll config (b.earlier ++ b.last ∷ []) a.emitted a.histories = subst (λ (rs : List CaptureRecord). EmitsAll config rs a.emitted a.histories) b.records_are a.emits in
+    let x = one_told config.window config.gaps (b.earlier ++ b.last ∷ []) (new_histories config) a.histories b.after a.emitted (b.emitted ++ (b.first ++ b.next ∷ b.others)) one mine all in
+    let F : List ReplayEvent = b.emitted ++ b.first ++ b.next ∷ [] in
+    let split : b.emitted ++ (b.first ++ b.next ∷ b.others) ≡ F ++ b.others =
+    sym (append_assoc b.emitted b.first (b.next ∷ b.others))
+    ∙ sym (append_assoc (b.emitted ++ b.first) (b.next ∷ []) b.others) in
+    let room : HasJournalRoom config (F ++ b.others) = subst (HasJournalRoom config) (x.0 ∙ split) a.room in
     let behind : length (entries_of (entries_of [] F) b.others) ≤ config.journal = room_behind config F b.others room in
     let grown = entries_grow (entries_of [] F) b.others in
     let full : config.journal < length (entries_of [] F) = b.full in

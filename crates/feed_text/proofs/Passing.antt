@@ -18,10 +18,10 @@ use Rattle.line_arbiter.specs.declared.in_order.InOrder.TheVariants.{Next, Repea
 use Rattle.line_arbiter.specs.InOrder.{SendsInOrder, SendsPacket, sent_in_order}
 use Rattle.line_arbiter.specs.Fits.{Fits}
 use Rattle.line_arbiter.proofs.FitsHistory.{keeps_sent}
-use Rattle.feed_text.specs.declared.report.Stop.{Stop}
-use Rattle.feed_text.specs.Happenings.{Happening, packet_answered, item_taken}
-use Rattle.feed_text.specs.Tales.{Tale, GoesOn, TellsBy}
-use Rattle.feed_text.specs.Following.{Venue, Follows, TellsOutcome}
+use Rattle.feed_text.specs.declared.report.PublishStop.{PublishStop}
+use Rattle.feed_text.specs.ReplayEvents.{ReplayEvent, packet_answered, item_taken}
+use Rattle.feed_text.specs.ReplayStates.{ReplayState, GoesOn, EmitsInto}
+use Rattle.feed_text.specs.Following.{ReplayVenue, Follows, EmitsOutcome}
 use Rattle.feed_text.proofs.Tales.{goes_more, tells_more, tells_stop, tells_as}
 use Rattle.feed_text.proofs.VenueSteps.{Left, outcome_told}
 
@@ -34,30 +34,30 @@ one_more venue n k m now rest e is =
     ∙ ap (λ (j : ℕ). item_taken venue (record { number = n; item = item_of m }) ∷ map (item_taken venue) (numbered_from j (map item_of rest))) e
 
 -- the packet, its items and what is ready behind them are the stream's
-pub passed_all : (venue from to : ℕ) (items stream : List Numbered) (line : LineId) (o : Outcome) (t0 t1 t2 t3 : Tale) (done : Result (Unit {0}) Stop)
+pub passed_all : (venue from to : ℕ) (items stream : List Numbered) (line : LineId) (o : Outcome) (t0 t1 t2 t3 : ReplayState) (done : Result (Unit {0}) PublishStop)
     → drop from stream ≡ items ++ drop to stream
     → GoesOn t0 (packet_answered venue line (Ok o) ∷ []) t1
     → GoesOn t1 (map (item_taken venue) items) t2
-    → TellsBy t2 (map (item_taken venue) (drop to stream)) t3 done
-    → TellsBy t0 (packet_answered venue line (Ok o) ∷ map (item_taken venue) (drop from stream)) t3 done
+    → EmitsInto t2 (map (item_taken venue) (drop to stream)) t3 done
+    → EmitsInto t0 (packet_answered venue line (Ok o) ∷ map (item_taken venue) (drop from stream)) t3 done
 passed_all venue from to items stream line o t0 t1 t2 t3 done sends head first last =
-    let P : Happening = packet_answered venue line (Ok o) in
+    let P : ReplayEvent = packet_answered venue line (Ok o) in
     tells_as t0 t3 done
-    (ap (λ (hs : List Happening). P ∷ hs)
+    (ap (λ (hs : List ReplayEvent). P ∷ hs)
     (sym (map-append (item_taken venue) items (drop to stream)) ∙ ap (map (item_taken venue)) (sym sends)))
     (tells_more t3 (P ∷ map (item_taken venue) items) (map (item_taken venue) (drop to stream)) done
     (goes_more (P ∷ []) (map (item_taken venue) items) head first) last)
 
 -- the telling stopped within the packet's items
-pub passed_part : (venue from to : ℕ) (items stream : List Numbered) (line : LineId) (o : Outcome) (t0 t1 t2 : Tale) (stop : Stop)
+pub passed_part : (venue from to : ℕ) (items stream : List Numbered) (line : LineId) (o : Outcome) (t0 t1 t2 : ReplayState) (stop : PublishStop)
     → drop from stream ≡ items ++ drop to stream
     → GoesOn t0 (packet_answered venue line (Ok o) ∷ []) t1
-    → TellsBy t1 (map (item_taken venue) items) t2 (Err stop)
-    → TellsBy t0 (packet_answered venue line (Ok o) ∷ map (item_taken venue) (drop from stream)) t2 (Err stop)
+    → EmitsInto t1 (map (item_taken venue) items) t2 (Err stop)
+    → EmitsInto t0 (packet_answered venue line (Ok o) ∷ map (item_taken venue) (drop from stream)) t2 (Err stop)
 passed_part venue from to items stream line o t0 t1 t2 stop sends head first =
-    let P : Happening = packet_answered venue line (Ok o) in
+    let P : ReplayEvent = packet_answered venue line (Ok o) in
     tells_as t0 t2 (Err stop)
-    (ap (λ (hs : List Happening). P ∷ hs)
+    (ap (λ (hs : List ReplayEvent). P ∷ hs)
     (sym (map-append (item_taken venue) items (drop to stream)) ∙ ap (map (item_taken venue)) (sym sends)))
     (tells_more t2 (P ∷ []) (map (item_taken venue) items ++ map (item_taken venue) (drop to stream)) (Err stop) head
     (tells_stop t1 t2 (map (item_taken venue) items) (map (item_taken venue) (drop to stream)) stop first))
@@ -80,24 +80,24 @@ stays_repeated order last old new is sent kept = record {
 }
 
 -- a next packet was taken, and then all that is ready was told
-pub passed_told : (width place : ℕ) (h : History) (v : Venue) (mid new : State) (line : LineId) (p : Content) (o : Outcome) (t0 t1 : Tale) (done : Result (Unit {0}) Stop)
+pub passed_told : (width place : ℕ) (h : History) (v : ReplayVenue) (mid new : State) (line : LineId) (p : Content) (o : Outcome) (t0 t1 : ReplayState) (done : Result (Unit {0}) PublishStop)
     → Follows width place v h
     → ((packets : List Arrival) → Fits v.arbiter packets → IsOutcome v.arbiter.session v.arbiter.window v.arbiter.sent packets p (Ok o))
     → ((packets : List Arrival) → Fits v.arbiter packets → Fits mid (packets ++ arrival_of line p (Ok o) ∷ []))
     → ((packets : List Arrival) → Fits v.arbiter packets → SendsPacket v.arbiter.sent mid.sent p (packets ++ arrival_of line p (Ok o) ∷ []))
     → KeepsItsSession v.arbiter mid
     → ((from : ℕ) (packets : List Arrival) → Fits mid packets → SendsPacket from mid.sent p packets
-    → TellsBy t0 (packet_answered place line (Ok o) ∷ map (item_taken place) (drop from (stream_of packets))) t1 done)
+    → EmitsInto t0 (packet_answered place line (Ok o) ∷ map (item_taken place) (drop from (stream_of packets))) t1 done)
     → OnOk done ((packets : List Arrival) → Fits mid packets → Fits new packets × (new.sent ≡ length (stream_of packets)))
     → OnOk done (KeepsAllButSent mid new)
-    → TellsOutcome width place line p h t0 t1 (record { arbiter = new; sent_before = v.sent_before }) done
-passed_told width place h v mid new line p o t0 t1 done f outcome fits sends kept tells left stays =
+    → EmitsOutcome width place line p h t0 t1 (record { arbiter = new; sent_before = v.sent_before }) done
+passed_told width place h v mid new line p o t0 t1 done f outcome fits sends kept emits left stays =
     let Q = h.present.packets ++ arrival_of line p (Ok o) ∷ [] in
     outcome_told width place h v new line p (Ok o) t0 t1 done f (outcome h.present.packets f.history.present)
-    (tells v.arbiter.sent Q (fits h.present.packets f.history.present) (sends h.present.packets f.history.present))
+    (emits v.arbiter.sent Q (fits h.present.packets f.history.present) (sends h.present.packets f.history.present))
     (both done left stays)
   where
-    both : (r : Result (Unit {0}) Stop)
+    both : (r : Result (Unit {0}) PublishStop)
         → OnOk r ((packets : List Arrival) → Fits mid packets → Fits new packets × (new.sent ≡ length (stream_of packets)))
         → OnOk r (KeepsAllButSent mid new)
         → OnOk r (Left v (h.present.packets ++ arrival_of line p (Ok o) ∷ []) new)

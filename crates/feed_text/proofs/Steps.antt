@@ -6,17 +6,17 @@ use Rattle.std.proofs.lemmas.List.{places, length-map}
 use Rattle.std.proofs.lemmas.List.Elements.{All-nil, All-push}
 use Rattle.std.proofs.Math.Seq.{take-append-add}
 use Rattle.feed_text.specs.declared.replay.ReplayConfig.{ReplayConfig}
-use Rattle.feed_text.specs.Capture.{CaptureRecord, IsRecord, IsShort, IsUnfinished, IsWanted, IsHeader, len_at, spelling, capture_of}
-use Rattle.feed_text.specs.Devices.{Reading, Writing, Came, Wrote, Moved}
+use Rattle.feed_text.specs.Capture.{CaptureRecord, IsRecord, IsShort, IsUnfinished, IsWanted, IsHeader, len_at, record_bytes, capture_of}
+use Rattle.feed_text.specs.Devices.{Reading, Writing, HasGiven, Wrote, Moved}
 use Rattle.feed_types.specs.declared.journal.Entry.{Entry}
 use Rattle.line_arbiter.specs.Histories.{History, new_history}
-use Rattle.feed_text.specs.declared.report.Stop.TheVariants as stops
-use Rattle.feed_text.specs.Happenings.{Happening, entries_after, entries_of}
-use Rattle.feed_text.specs.Told.{TellsRecord, Tells}
-use Rattle.feed_text.specs.Texts.{text_of, new_histories, TellsAll, HasRoom, lines_told, IsLinesOf, IsTextOf, IsLinesToFull}
-use Rattle.feed_text.specs.Tales.{Tale, IsWithin, GoesOn}
+use Rattle.feed_text.specs.declared.report.PublishStop.TheVariants as stops
+use Rattle.feed_text.specs.ReplayEvents.{ReplayEvent, entries_after, entries_of}
+use Rattle.feed_text.specs.Emitted.{EmitsRecord, Emits}
+use Rattle.feed_text.specs.Texts.{text_of, new_histories, EmitsAll, HasJournalRoom, lines_emitted, IsLinesOf, IsTextOf, IsLinesToFull}
+use Rattle.feed_text.specs.ReplayStates.{ReplayState, IsWithinJournal, GoesOn}
 use Rattle.feed_text.specs.Following.{VenueList, FollowAll, TakesRecord, PrintsLast}
-use Rattle.feed_text.specs.Replays.{venues_in, HasRead, ReplaysAll, ReplaysTo, ReplaysUntil, ReplaysFront, texts_of}
+use Rattle.feed_text.specs.Replays.{venues_in, HasRead, WroteAll, WroteLines, WroteLinesUntil, WrotePrefix, texts_of}
 use Rattle.journal_book.specs.Running.{RunningState, new_running}
 use Rattle.feed_text.proofs.Tales.{entries_more, text_more, tale_with, tale_from}
 
@@ -30,13 +30,13 @@ pub record Laws {R W : Type 0} (reading : Reading R) (writing : Writing W) : Typ
       → writing.adds s (xs ++ ys) u
 
 -- The tale is that of these happenings, of whose lines these were written and the text is what is left.
-pub record Told (config : ReplayConfig) (told : List Happening) (shown : List ℕ) (tale : Tale) : Type 0 where
-  pub symbols : tale.symbols ≡ config.symbols.now
-  pub venues : tale.venues ≡ venues_in config
-  pub journal : tale.journal ≡ config.journal
-  pub entries : tale.entries ≡ entries_of [] told
-  pub within : IsWithin tale
-  pub all : shown ++ tale.text ≡ lines_told config told
+pub record Told (config : ReplayConfig) (emitted : List ReplayEvent) (shown : List ℕ) (state : ReplayState) : Type 0 where
+  pub symbols : state.symbols ≡ config.symbols.now
+  pub venues : state.venues ≡ venues_in config
+  pub journal : state.journal ≡ config.journal
+  pub entries : state.entries ≡ entries_of [] emitted
+  pub within : IsWithinJournal state
+  pub all : shown ++ state.text ≡ lines_emitted config emitted
 
 -- a journal without entries and no text
 pub told_none : {config : ReplayConfig} (j : RunningState) (text : List ℕ) → j ≡ new_running config.symbols.now (venues_in config) config.journal → text ≡ [] → Told config [] [] (tale_from j text)
@@ -45,31 +45,31 @@ told_none j text e none = rw (e, none) (record { symbols = refl; venues = refl; 
 -- By so many calls these records and then this rest were read, the venues follow the histories that the records
 -- lead to, the tale is that of what they tell, and of its lines these were written and the text is what is left.
 pub record SoFar {R W : Type 0} (reading : Reading R) (writing : Writing W) (config : ReplayConfig)
-    (from : R) (calls : ℕ) (to : R) (before after : W) (venues : VenueList) (rest : List ℕ) (tale : Tale)
+    (from : R) (calls : ℕ) (to : R) (before after : W) (venues : VenueList) (rest : List ℕ) (state : ReplayState)
     : Type 0 where
   pub records : List CaptureRecord
   pub read : HasRead reading config from calls to records rest
-  pub told : List Happening
+  pub emitted : List ReplayEvent
   pub histories : List History
-  pub tells : TellsAll config records told histories
+  pub emits : EmitsAll config records emitted histories
   pub follow : FollowAll config.window venues.items histories
   pub gaps : venues.gaps ≡ config.gaps
   pub count : length venues.items ≡ venues_in config
   pub shown : List ℕ
   pub wrote : writing.adds before shown after
-  pub tale_is : Told config told shown tale
+  pub tale_is : Told config emitted shown state
 
 -- the venues to which nothing came
-pub so_far_none : {R W : Type 0} {reading : Reading R} {writing : Writing W} {config : ReplayConfig} {venues : VenueList} {rest : List ℕ} {tale : Tale}
+pub so_far_none : {R W : Type 0} {reading : Reading R} {writing : Writing W} {config : ReplayConfig} {venues : VenueList} {rest : List ℕ} {state : ReplayState}
     → Laws reading writing → (from : R) (before : W) (calls : ℕ) → calls ≡ 0 → rest ≡ [] → FollowAll config.window venues.items (new_histories config) → venues.gaps ≡ config.gaps
-    → Told config [] [] tale
-    → SoFar reading writing config from calls from before before venues rest tale
+    → Told config [] [] state
+    → SoFar reading writing config from calls from before before venues rest state
 so_far_none {reading = reading} {writing = writing} {config = config} laws from before calls zero_calls no_rest follow gaps t = rw (zero_calls, no_rest) (record {
   records = [];
   read = record { each = All-nil (IsRecord (venues_in config)); bytes = laws.gives_none from };
-  told = [];
+  emitted = [];
   histories = new_histories config;
-  tells = (refl, refl);
+  emits = (refl, refl);
   follow = follow;
   gaps = gaps;
   count = follow.count ∙ length-map config.sessions.now new_history;
@@ -79,43 +79,43 @@ so_far_none {reading = reading} {writing = writing} {config = config} laws from 
 })
 
 -- the next record's bytes go from the rest to the records
-capture_more : (records : List CaptureRecord) (e : CaptureRecord) (rest left : List ℕ) → rest ≡ spelling e ++ left → capture_of records rest ≡ capture_of (records ++ e ∷ []) left
+capture_more : (records : List CaptureRecord) (e : CaptureRecord) (rest left : List ℕ) → rest ≡ record_bytes e ++ left → capture_of records rest ≡ capture_of (records ++ e ∷ []) left
 capture_more records e rest left s =
-    let F : List ℕ = flat_map spelling records in
-    let spelled : flat_map spelling (records ++ e ∷ []) ≡ F ++ spelling e = flat_map-append spelling records (e ∷ []) ∙ ap (λ (xs : List ℕ). F ++ xs) (append-nil (spelling e)) in
-    ap (λ (xs : List ℕ). F ++ xs) s ∙ (sym (append_assoc F (spelling e) left) ∙ ap (λ (xs : List ℕ). xs ++ left) (sym spelled))
+    let F : List ℕ = flat_map record_bytes records in
+    let spelled : flat_map record_bytes (records ++ e ∷ []) ≡ F ++ record_bytes e = flat_map-append record_bytes records (e ∷ []) ∙ ap (λ (xs : List ℕ). F ++ xs) (append-nil (record_bytes e)) in
+    ap (λ (xs : List ℕ). F ++ xs) s ∙ (sym (append_assoc F (record_bytes e) left) ∙ ap (λ (xs : List ℕ). xs ++ left) (sym spelled))
 
 -- records after records
-tells_records : (window : ℕ) (gaps : Bool) (rs qs : List CaptureRecord) (old mid new : List History) (xs ys : List Happening) → Tells window gaps rs old xs mid → Tells window gaps qs mid ys new → Tells window gaps (rs ++ qs) old (xs ++ ys) new
+tells_records : (window : ℕ) (gaps : Bool) (rs qs : List CaptureRecord) (old mid new : List History) (xs ys : List ReplayEvent) → Emits window gaps rs old xs mid → Emits window gaps qs mid ys new → Emits window gaps (rs ++ qs) old (xs ++ ys) new
 tells_records window gaps [] qs old mid new xs ys a b =
-    subst (λ (hs : List History). Tells window gaps qs hs (xs ++ ys) new) a.1 (subst (λ (ls : List Happening). Tells window gaps qs mid (ls ++ ys) new) (sym a.0) b)
+    subst (λ (hs : List History). Emits window gaps qs hs (xs ++ ys) new) a.1 (subst (λ (ls : List ReplayEvent). Emits window gaps qs mid (ls ++ ys) new) (sym a.0) b)
 tells_records window gaps (r ∷ rs) qs old mid new xs ys (m, first, others, one, more, whole) b =
-    (m, first, others ++ ys, one, tells_records window gaps rs qs m mid new others ys more b, ap (λ (ls : List Happening). ls ++ ys) whole ∙ append_assoc first others ys)
+    (m, first, others ++ ys, one, tells_records window gaps rs qs m mid new others ys more b, ap (λ (ls : List ReplayEvent). ls ++ ys) whole ∙ append_assoc first others ys)
 
 -- one record more
-pub tells_one : (window : ℕ) (gaps : Bool) (rs : List CaptureRecord) (r : CaptureRecord) (old mid new : List History) (xs ys : List Happening) → Tells window gaps rs old xs mid → TellsRecord window gaps r mid ys new → Tells window gaps (rs ++ r ∷ []) old (xs ++ ys) new
+pub tells_one : (window : ℕ) (gaps : Bool) (rs : List CaptureRecord) (r : CaptureRecord) (old mid new : List History) (xs ys : List ReplayEvent) → Emits window gaps rs old xs mid → EmitsRecord window gaps r mid ys new → Emits window gaps (rs ++ r ∷ []) old (xs ++ ys) new
 tells_one window gaps rs r old mid new xs ys a b = tells_records window gaps rs (r ∷ []) old mid new xs ys a (new, ys, [], b, (refl, refl), sym (append-nil ys))
 
 -- the tale goes on
-told_more : {config : ReplayConfig} {shown : List ℕ} {t u : Tale} (told more : List Happening) → Told config told shown t → GoesOn t more u → Told config (told ++ more) shown u
-told_more {config = config} {shown = shown} {t = t} {u = u} told more x g =
-    let entries : entries_of t.entries more ≡ entries_of [] (told ++ more) = rw x.entries (sym (entries_more [] told more)) in
-    let text : u.text ≡ t.text ++ text_of config.symbols.now (entries_of [] told) more =
-    ap (λ (s : Tale). s.text) g.is ∙ rw (x.symbols, x.entries) refl in
+told_more : {config : ReplayConfig} {shown : List ℕ} {t u : ReplayState} (emitted more : List ReplayEvent) → Told config emitted shown t → GoesOn t more u → Told config (emitted ++ more) shown u
+told_more {config = config} {shown = shown} {t = t} {u = u} emitted more x g =
+    let entries : entries_of t.entries more ≡ entries_of [] (emitted ++ more) = rw x.entries (sym (entries_more [] emitted more)) in
+    let text : u.text ≡ t.text ++ text_of config.symbols.now (entries_of [] emitted) more =
+    ap (λ (s : ReplayState). s.text) g.is ∙ rw (x.symbols, x.entries) refl in
     record {
-      symbols = ap (λ (s : Tale). s.symbols) g.is ∙ x.symbols;
-      venues = ap (λ (s : Tale). s.venues) g.is ∙ x.venues;
-      journal = ap (λ (s : Tale). s.journal) g.is ∙ x.journal;
-      entries = ap (λ (s : Tale). s.entries) g.is ∙ entries;
+      symbols = ap (λ (s : ReplayState). s.symbols) g.is ∙ x.symbols;
+      venues = ap (λ (s : ReplayState). s.venues) g.is ∙ x.venues;
+      journal = ap (λ (s : ReplayState). s.journal) g.is ∙ x.journal;
+      entries = ap (λ (s : ReplayState). s.entries) g.is ∙ entries;
       within = g.within x.within;
       all = ap (λ (l : List ℕ). shown ++ l) text
-          ∙ sym (append_assoc shown t.text (text_of config.symbols.now (entries_of [] told) more))
-          ∙ ap (λ (l : List ℕ). l ++ text_of config.symbols.now (entries_of [] told) more) x.all
-          ∙ sym (text_more config.symbols.now [] told more);
+          ∙ sym (append_assoc shown t.text (text_of config.symbols.now (entries_of [] emitted) more))
+          ∙ ap (λ (l : List ℕ). l ++ text_of config.symbols.now (entries_of [] emitted) more) x.all
+          ∙ sym (text_more config.symbols.now [] emitted more);
     }
 
 -- a front of the text was written
-told_moved : {config : ReplayConfig} {told : List Happening} {shown : List ℕ} {t : Tale} (out left : List ℕ) → Told config told shown t → t.text ≡ out ++ left → Told config told (shown ++ out) (tale_with t t.entries left)
+told_moved : {config : ReplayConfig} {emitted : List ReplayEvent} {shown : List ℕ} {t : ReplayState} (out left : List ℕ) → Told config emitted shown t → t.text ≡ out ++ left → Told config emitted (shown ++ out) (tale_with t t.entries left)
 told_moved {shown = shown} out left x e = record {
   symbols = x.symbols;
   venues = x.venues;
@@ -126,41 +126,41 @@ told_moved {shown = shown} out left x e = record {
 }
 
 -- what was told has room in the journal
-told_room : {config : ReplayConfig} {told : List Happening} {shown : List ℕ} {t : Tale} → Told config told shown t → HasRoom config told
+told_room : {config : ReplayConfig} {emitted : List ReplayEvent} {shown : List ℕ} {t : ReplayState} → Told config emitted shown t → HasJournalRoom config emitted
 told_room x = rw (← x.entries, ← x.journal) x.within
 
 -- the record that stands at the front of the unread bytes is taken, and they are what lies behind it
-pub so_far_step : {R W : Type 0} {reading : Reading R} {writing : Writing W} {config : ReplayConfig} {from to : R} {calls : ℕ} {before after : W} {venues next : VenueList} {unread : List ℕ} {t u : Tale}
-    (e : CaptureRecord) (len : ℕ) (seen left : List ℕ) → IsRecord (venues_in config) e → seen ≡ unread → seen ≡ spelling e ++ drop len seen → left ≡ drop len unread → TakesRecord venues e t u next (Ok tt)
+pub so_far_step : {R W : Type 0} {reading : Reading R} {writing : Writing W} {config : ReplayConfig} {from to : R} {calls : ℕ} {before after : W} {venues next : VenueList} {unread : List ℕ} {t u : ReplayState}
+    (e : CaptureRecord) (len : ℕ) (seen left : List ℕ) → IsRecord (venues_in config) e → seen ≡ unread → seen ≡ record_bytes e ++ drop len seen → left ≡ drop len unread → TakesRecord venues e t u next (Ok tt)
     → SoFar reading writing config from calls to before after venues unread t → SoFar reading writing config from calls to before after next left u
 so_far_step {reading = reading} {config = config} {from = from} {to = to} {calls = calls} {unread = unread} e len seen left i same front gone takes x =
-    let one = takes.told config.window x.histories x.follow in
-    let cut : unread ≡ spelling e ++ left = sym same ∙ (front ∙ ap (λ (xs : List ℕ). spelling e ++ xs) (ap (drop len) same ∙ sym gone)) in
+    let one = takes.emitted config.window x.histories x.follow in
+    let cut : unread ≡ record_bytes e ++ left = sym same ∙ (front ∙ ap (λ (xs : List ℕ). record_bytes e ++ xs) (ap (drop len) same ∙ sym gone)) in
     record {
       records = x.records ++ e ∷ [];
       read = record {
         each = All-push (IsRecord (venues_in config)) x.records e x.read.each i;
         bytes = subst (λ (xs : List ℕ). reading.gives from calls xs to) (capture_more x.records e unread left cut) x.read.bytes;
       };
-      told = x.told ++ one.told;
+      emitted = x.emitted ++ one.emitted;
       histories = one.after;
-      tells = tells_one config.window config.gaps x.records e _ x.histories one.after x.told one.told x.tells (subst (λ (g : Bool). TellsRecord config.window g e x.histories one.told one.after) x.gaps one.record_tells);
+      emits = tells_one config.window config.gaps x.records e _ x.histories one.after x.emitted one.emitted x.emits (subst (λ (g : Bool). EmitsRecord config.window g e x.histories one.emitted one.after) x.gaps one.record_tells);
       follow = one.follow;
       gaps = takes.gaps ∙ x.gaps;
       count = takes.count ∙ x.count;
       shown = x.shown;
       wrote = x.wrote;
-      tale_is = told_more x.told one.told x.tale_is one.tells;
+      tale_is = told_more x.emitted one.emitted x.tale_is one.emits;
     }
 
-pub so_far_moved : {R W : Type 0} {reading : Reading R} {writing : Writing W} {config : ReplayConfig} {from to : R} {calls : ℕ} {before mid after : W} {venues : VenueList} {rest left : List ℕ} {t : Tale}
+pub so_far_moved : {R W : Type 0} {reading : Reading R} {writing : Writing W} {config : ReplayConfig} {from to : R} {calls : ℕ} {before mid after : W} {venues : VenueList} {rest left : List ℕ} {t : ReplayState}
     → Laws reading writing → SoFar reading writing config from calls to before mid venues rest t → Moved writing.adds mid after t.text left → SoFar reading writing config from calls to before after venues rest (tale_with t t.entries left)
 so_far_moved {left = left} laws x m = record {
   records = x.records;
   read = x.read;
-  told = x.told;
+  emitted = x.emitted;
   histories = x.histories;
-  tells = x.tells;
+  emits = x.emits;
   follow = x.follow;
   gaps = x.gaps;
   count = x.count;
@@ -170,23 +170,23 @@ so_far_moved {left = left} laws x m = record {
 }
 
 -- and all of the text was written
-pub so_far_flushed : {R W : Type 0} {reading : Reading R} {writing : Writing W} {config : ReplayConfig} {from to : R} {calls : ℕ} {before mid after : W} {venues : VenueList} {rest left : List ℕ} {t : Tale}
+pub so_far_flushed : {R W : Type 0} {reading : Reading R} {writing : Writing W} {config : ReplayConfig} {from to : R} {calls : ℕ} {before mid after : W} {venues : VenueList} {rest left : List ℕ} {t : ReplayState}
     → Laws reading writing → SoFar reading writing config from calls to before mid venues rest t → Moved writing.adds mid after t.text left → left ≡ [] → SoFar reading writing config from calls to before after venues rest (tale_with t t.entries [])
 so_far_flushed laws x m e = rw (← e) (so_far_moved laws x m)
 
-pub so_far_read : {R W : Type 0} {reading : Reading R} {writing : Writing W} {config : ReplayConfig} {from mid to : R} {calls n : ℕ} {before after : W} {venues : VenueList} {rest longer : List ℕ} {t : Tale}
-    (all : ℕ) → calls + n ≡ all → Laws reading writing → SoFar reading writing config from calls mid before after venues rest t → Came reading.gives mid to rest longer n → SoFar reading writing config from all to before after venues longer t
+pub so_far_read : {R W : Type 0} {reading : Reading R} {writing : Writing W} {config : ReplayConfig} {from mid to : R} {calls n : ℕ} {before after : W} {venues : VenueList} {rest longer : List ℕ} {t : ReplayState}
+    (all : ℕ) → calls + n ≡ all → Laws reading writing → SoFar reading writing config from calls mid before after venues rest t → HasGiven reading.gives mid to rest longer n → SoFar reading writing config from all to before after venues longer t
 so_far_read {reading = reading} {from = from} {to = to} {calls = calls} {n = n} {rest = rest} {longer = longer} all e laws x m =
-    let joined : capture_of x.records rest ++ m.bytes ≡ capture_of x.records longer = append_assoc (flat_map spelling x.records) rest m.bytes ∙ ap (λ (xs : List ℕ). flat_map spelling x.records ++ xs) (sym m.behind) in
+    let joined : capture_of x.records rest ++ m.bytes ≡ capture_of x.records longer = append_assoc (flat_map record_bytes x.records) rest m.bytes ∙ ap (λ (xs : List ℕ). flat_map record_bytes x.records ++ xs) (sym m.behind) in
     record {
       records = x.records;
       read = record {
         each = x.read.each;
         bytes = subst (λ (j : ℕ). reading.gives from j (capture_of x.records longer) to) e (subst (λ (xs : List ℕ). reading.gives from (calls + n) xs to) joined (laws.gives_more _ _ _ _ _ _ _ x.read.bytes m.given));
       };
-      told = x.told;
+      emitted = x.emitted;
       histories = x.histories;
-      tells = x.tells;
+      emits = x.emits;
       follow = x.follow;
       gaps = x.gaps;
       count = x.count;
@@ -196,49 +196,49 @@ so_far_read {reading = reading} {from = from} {to = to} {calls = calls} {n = n} 
     }
 
 -- the lines of the records
-lines_of : {R W : Type 0} {reading : Reading R} {writing : Writing W} {config : ReplayConfig} {from to : R} {calls : ℕ} {before after : W} {venues : VenueList} {rest : List ℕ} {t : Tale} (x : SoFar reading writing config from calls to before after venues rest t) → IsLinesOf config x.records (lines_told config x.told)
-lines_of x = record { told = x.told; histories = x.histories; tells = x.tells; room = told_room x.tale_is; lines_are = refl }
+lines_of : {R W : Type 0} {reading : Reading R} {writing : Writing W} {config : ReplayConfig} {from to : R} {calls : ℕ} {before after : W} {venues : VenueList} {rest : List ℕ} {t : ReplayState} (x : SoFar reading writing config from calls to before after venues rest t) → IsLinesOf config x.records (lines_emitted config x.emitted)
+lines_of x = record { emitted = x.emitted; histories = x.histories; emits = x.emits; room = told_room x.tale_is; lines_are = refl }
 
 -- no text is left, so all of the lines were written
-shown_all : {R W : Type 0} {reading : Reading R} {writing : Writing W} {config : ReplayConfig} {from to : R} {calls : ℕ} {before after : W} {venues : VenueList} {rest : List ℕ} {t : Tale} (x : SoFar reading writing config from calls to before after venues rest t) → t.text ≡ [] → x.shown ≡ lines_told config x.told
+shown_all : {R W : Type 0} {reading : Reading R} {writing : Writing W} {config : ReplayConfig} {from to : R} {calls : ℕ} {before after : W} {venues : VenueList} {rest : List ℕ} {t : ReplayState} (x : SoFar reading writing config from calls to before after venues rest t) → t.text ≡ [] → x.shown ≡ lines_emitted config x.emitted
 shown_all x none = sym (append-nil x.shown) ∙ ap (λ (xs : List ℕ). x.shown ++ xs) (sym none) ∙ x.tale_is.all
 
 -- all of the lines are written
-pub replays_to : {R W : Type 0} {reading : Reading R} {writing : Writing W} {config : ReplayConfig} {from to : R} {calls : ℕ} {before after : W} {venues : VenueList} {rest : List ℕ} {t : Tale} {IsLeft : List ℕ → Type 0}
-    → SoFar reading writing config from calls to before after venues rest t → t.text ≡ [] → IsLeft rest → ReplaysTo reading writing config (IsLinesOf config) IsLeft from calls to before after
+pub replays_to : {R W : Type 0} {reading : Reading R} {writing : Writing W} {config : ReplayConfig} {from to : R} {calls : ℕ} {before after : W} {venues : VenueList} {rest : List ℕ} {t : ReplayState} {IsLeft : List ℕ → Type 0}
+    → SoFar reading writing config from calls to before after venues rest t → t.text ≡ [] → IsLeft rest → WroteLines reading writing config (IsLinesOf config) IsLeft from calls to before after
 replays_to {writing = writing} {config = config} {before = before} {after = after} x none h = record {
   records = x.records;
   rest = _;
   left = h;
   read = x.read;
-  lines = lines_told config x.told;
+  lines = lines_emitted config x.emitted;
   are = lines_of x;
   wrote = subst (λ (xs : List ℕ). writing.adds before xs after) (shown_all x none) x.wrote;
 }
 
-pub replays_until : {R W : Type 0} {reading : Reading R} {writing : Writing W} {config : ReplayConfig} {from to : R} {calls : ℕ} {before after : W} {venues : VenueList} {rest : List ℕ} {t : Tale} {IsLeft : List ℕ → Type 0} {Then : R → Type 0}
-    → SoFar reading writing config from calls to before after venues rest t → t.text ≡ [] → IsLeft rest → Then to → ReplaysUntil reading writing config (IsLinesOf config) IsLeft Then from before after
+pub replays_until : {R W : Type 0} {reading : Reading R} {writing : Writing W} {config : ReplayConfig} {from to : R} {calls : ℕ} {before after : W} {venues : VenueList} {rest : List ℕ} {t : ReplayState} {IsLeft : List ℕ → Type 0} {Then : R → Type 0}
+    → SoFar reading writing config from calls to before after venues rest t → t.text ≡ [] → IsLeft rest → Then to → WroteLinesUntil reading writing config (IsLinesOf config) IsLeft Then from before after
 replays_until x none h then_to = record { calls = _; mid = _; replays = replays_to x none h; came_to = then_to }
 
 -- all of the text was written, and then memory was refused
-pub refused_of : {R W : Type 0} {reading : Reading R} {writing : Writing W} {config : ReplayConfig} {from to : R} {calls : ℕ} {before mid after : W} {venues : VenueList} {rest : List ℕ} {t : Tale}
+pub refused_of : {R W : Type 0} {reading : Reading R} {writing : Writing W} {config : ReplayConfig} {from to : R} {calls : ℕ} {before mid after : W} {venues : VenueList} {rest : List ℕ} {t : ReplayState}
     → Laws reading writing → SoFar reading writing config from calls to before mid venues rest t → writing.adds mid t.text after
-    → ReplaysUntil reading writing config (IsLinesOf config) (λ rest. ⊤) (λ mid. (mid ≡ to) ⊎ reading.ends mid to) from before after
+    → WroteLinesUntil reading writing config (IsLinesOf config) (λ rest. ⊤) (λ mid. (mid ≡ to) ⊎ reading.ends mid to) from before after
 refused_of laws x w = replays_until (so_far_moved laws x (record { shown = _; taken = w; left = sym (append-nil _) })) refl tt (inl refl)
 
 -- the writer failed within the text
-pub front_wrote : {R W : Type 0} {reading : Reading R} {writing : Writing W} {config : ReplayConfig} {from to : R} {calls : ℕ} {before mid after : W} {venues : VenueList} {rest : List ℕ} {t : Tale}
-    → Laws reading writing → SoFar reading writing config from calls to before mid venues rest t → Wrote writing.adds mid t.text after → ReplaysFront reading writing config (texts_of config) from to before after
+pub front_wrote : {R W : Type 0} {reading : Reading R} {writing : Writing W} {config : ReplayConfig} {from to : R} {calls : ℕ} {before mid after : W} {venues : VenueList} {rest : List ℕ} {t : ReplayState}
+    → Laws reading writing → SoFar reading writing config from calls to before mid venues rest t → Wrote writing.adds mid t.text after → WrotePrefix reading writing config (texts_of config) from to before after
 front_wrote {writing = writing} {config = config} {before = before} {after = after} {t = t} laws x w =
-    let all : x.shown ++ t.text ≡ lines_told config x.told = x.tale_is.all in
-    let front : take (length x.shown + w.count) (lines_told config x.told) ≡ x.shown ++ take w.count t.text = rw (← all) (take-append-add x.shown _ _) in
+    let all : x.shown ++ t.text ≡ lines_emitted config x.emitted = x.tale_is.all in
+    let front : take (length x.shown + w.count) (lines_emitted config x.emitted) ≡ x.shown ++ take w.count t.text = rw (← all) (take-append-add x.shown _ _) in
     record {
       records = x.records;
       rest = _;
       calls = _;
       mid = _;
       read = x.read;
-      text = lines_told config x.told;
+      text = lines_emitted config x.emitted;
       is = inl (lines_of x, refl);
       wrote = record { count = length x.shown + w.count; taken = subst (λ (xs : List ℕ). writing.adds before xs after) (sym front) (laws.adds_more _ _ _ _ _ x.wrote w.taken) };
     }
@@ -256,16 +256,16 @@ pub record FullHere {R W : Type 0} (reading : Reading R) (writing : Writing W) (
   pub all : shown ++ text ≡ lines
 
 -- the record that stands at the front of the unread bytes had no room in the journal
-pub full_here : {R W : Type 0} {reading : Reading R} {writing : Writing W} {config : ReplayConfig} {from to : R} {calls : ℕ} {before after : W} {venues next : VenueList} {unread : List ℕ} {t u : Tale}
-    (e : CaptureRecord) (len : ℕ) (seen : List ℕ) → IsRecord (venues_in config) e → seen ≡ unread → seen ≡ spelling e ++ drop len seen → TakesRecord venues e t u next (Err stops.JournalFull)
+pub full_here : {R W : Type 0} {reading : Reading R} {writing : Writing W} {config : ReplayConfig} {from to : R} {calls : ℕ} {before after : W} {venues next : VenueList} {unread : List ℕ} {t u : ReplayState}
+    (e : CaptureRecord) (len : ℕ) (seen : List ℕ) → IsRecord (venues_in config) e → seen ≡ unread → seen ≡ record_bytes e ++ drop len seen → TakesRecord venues e t u next (Err stops.JournalFull)
     → SoFar reading writing config from calls to before after venues unread t → FullHere reading writing config from calls to before after u.text
 full_here {reading = reading} {config = config} {from = from} {to = to} {calls = calls} {unread = unread} {u = u} e len seen i same front takes x =
-    let one = takes.told config.window x.histories x.follow in
-    let full = one.tells in
-    let all = told_more x.told full.first x.tale_is full.goes in
-    let cut : unread ≡ spelling e ++ drop len unread = sym same ∙ (front ∙ ap (λ (xs : List ℕ). spelling e ++ xs) (ap (drop len) same)) in
-    let last : entries_of [] (x.told ++ full.first ++ full.next ∷ []) ≡ entries_after u.entries full.next =
-    entries_more [] (x.told ++ full.first) (full.next ∷ [])
+    let one = takes.emitted config.window x.histories x.follow in
+    let full = one.emits in
+    let all = told_more x.emitted full.first x.tale_is full.goes in
+    let cut : unread ≡ record_bytes e ++ drop len unread = sym same ∙ (front ∙ ap (λ (xs : List ℕ). record_bytes e ++ xs) (ap (drop len) same)) in
+    let last : entries_of [] (x.emitted ++ full.first ++ full.next ∷ []) ≡ entries_after u.entries full.next =
+    entries_more [] (x.emitted ++ full.first) (full.next ∷ [])
     ∙ ap (λ (es : List Entry). entries_after es full.next) (sym all.entries) in
     record {
       records = x.records ++ e ∷ [];
@@ -274,19 +274,19 @@ full_here {reading = reading} {config = config} {from = from} {to = to} {calls =
         each = All-push (IsRecord (venues_in config)) x.records e x.read.each i;
         bytes = subst (λ (xs : List ℕ). reading.gives from calls xs to) (capture_more x.records e unread (drop len unread) cut) x.read.bytes;
       };
-      lines = lines_told config (x.told ++ full.first);
+      lines = lines_emitted config (x.emitted ++ full.first);
       are = record {
         earlier = x.records;
         last = e;
         records_are = refl;
-        told = x.told;
+        emitted = x.emitted;
         histories = x.histories;
-        tells = x.tells;
+        emits = x.emits;
         first = full.first;
         next = full.next;
         others = full.others;
         after = one.after;
-        last_tells = subst (λ (hs : List Happening). TellsRecord config.window config.gaps e x.histories hs one.after) full.told_is (subst (λ (g : Bool). TellsRecord config.window g e x.histories one.told one.after) x.gaps one.record_tells);
+        last_tells = subst (λ (hs : List ReplayEvent). EmitsRecord config.window config.gaps e x.histories hs one.after) full.emitted_is (subst (λ (g : Bool). EmitsRecord config.window g e x.histories one.emitted one.after) x.gaps one.record_tells);
         room = told_room all;
         full = rw (last, ← all.journal) full.full;
         lines_are = refl;
@@ -299,7 +299,7 @@ full_here {reading = reading} {config = config} {from = from} {to = to} {calls =
 -- all of the text up to there was written
 pub full_until : {R W : Type 0} {reading : Reading R} {writing : Writing W} {config : ReplayConfig} {from to : R} {calls : ℕ} {before mid after : W} {text : List ℕ}
     → Laws reading writing → FullHere reading writing config from calls to before mid text → writing.adds mid text after
-    → ReplaysUntil reading writing config (IsLinesToFull config) (λ rest. ⊤) (λ mid. mid ≡ to) from before after
+    → WroteLinesUntil reading writing config (IsLinesToFull config) (λ rest. ⊤) (λ mid. mid ≡ to) from before after
 full_until {writing = writing} {before = before} {after = after} laws x w = record {
   calls = _;
   mid = _;
@@ -317,7 +317,7 @@ full_until {writing = writing} {before = before} {after = after} laws x w = reco
 
 -- or a front of it
 pub full_front : {R W : Type 0} {reading : Reading R} {writing : Writing W} {config : ReplayConfig} {from to : R} {calls : ℕ} {before mid after : W} {text : List ℕ}
-    → Laws reading writing → FullHere reading writing config from calls to before mid text → Wrote writing.adds mid text after → ReplaysFront reading writing config (texts_of config) from to before after
+    → Laws reading writing → FullHere reading writing config from calls to before mid text → Wrote writing.adds mid text after → WrotePrefix reading writing config (texts_of config) from to before after
 full_front {writing = writing} {before = before} {after = after} {text = text} laws x w =
     let all : x.shown ++ text ≡ x.lines = x.all in
     let front : take (length x.shown + w.count) x.lines ≡ x.shown ++ take w.count text = rw (← all) (take-append-add x.shown _ _) in
@@ -333,19 +333,19 @@ full_front {writing = writing} {before = before} {after = after} {text = text} l
     }
 
 -- the text of the records, and the last lines
-text_closed : {R W : Type 0} {reading : Reading R} {writing : Writing W} {config : ReplayConfig} {from to : R} {calls : ℕ} {before after : W} {venues : VenueList} {rest lines : List ℕ} {t : Tale} (x : SoFar reading writing config from calls to before after venues rest t) → PrintsLast venues [] lines → IsTextOf config x.records (lines_told config x.told ++ lines)
+text_closed : {R W : Type 0} {reading : Reading R} {writing : Writing W} {config : ReplayConfig} {from to : R} {calls : ℕ} {before after : W} {venues : VenueList} {rest lines : List ℕ} {t : ReplayState} (x : SoFar reading writing config from calls to before after venues rest t) → PrintsLast venues [] lines → IsTextOf config x.records (lines_emitted config x.emitted ++ lines)
 text_closed {config = config} x last = record {
-  told = x.told;
+  emitted = x.emitted;
   histories = x.histories;
-  tells = x.tells;
+  emits = x.emits;
   room = told_room x.tale_is;
-  text_is = ap (λ (ls : List ℕ). lines_told config x.told ++ ls) (last config.window x.histories x.follow);
+  text_is = ap (λ (ls : List ℕ). lines_emitted config x.emitted ++ ls) (last config.window x.histories x.follow);
 }
 
 -- all that was read is records, and the last lines were written
-pub replays_all : {R W : Type 0} {reading : Reading R} {writing : Writing W} {config : ReplayConfig} {from mid to : R} {calls : ℕ} {before written after : W} {venues : VenueList} {rest lines : List ℕ} {t : Tale}
+pub replays_all : {R W : Type 0} {reading : Reading R} {writing : Writing W} {config : ReplayConfig} {from mid to : R} {calls : ℕ} {before written after : W} {venues : VenueList} {rest lines : List ℕ} {t : ReplayState}
     → calls + 1 ≤ config.turns → Laws reading writing → SoFar reading writing config from calls mid before written venues rest t → t.text ≡ [] → rest ≡ [] → reading.ends mid to → PrintsLast venues [] lines → writing.adds written lines after
-    → ReplaysAll reading writing config (IsTextOf config) from to before after
+    → WroteAll reading writing config (IsTextOf config) from to before after
 replays_all {reading = reading} {writing = writing} {config = config} {from = from} {mid = mid} {calls = calls} {before = before} {after = after} {lines = lines} within laws x none e end last w = record {
   records = x.records;
   calls = calls;
@@ -353,32 +353,32 @@ replays_all {reading = reading} {writing = writing} {config = config} {from = fr
   mid = mid;
   read = subst (λ (xs : List ℕ). HasRead reading config from calls mid x.records xs) e x.read;
   end = end;
-  text = lines_told config x.told ++ lines;
+  text = lines_emitted config x.emitted ++ lines;
   is = text_closed x last;
   wrote = subst (λ (xs : List ℕ). writing.adds before (xs ++ lines) after) (shown_all x none) (laws.adds_more _ _ _ _ _ x.wrote w);
 }
 
 -- the writer failed within the last lines
-pub front_closed : {R W : Type 0} {reading : Reading R} {writing : Writing W} {config : ReplayConfig} {from mid to : R} {calls : ℕ} {before written after : W} {venues : VenueList} {rest lines : List ℕ} {t : Tale}
+pub front_closed : {R W : Type 0} {reading : Reading R} {writing : Writing W} {config : ReplayConfig} {from mid to : R} {calls : ℕ} {before written after : W} {venues : VenueList} {rest lines : List ℕ} {t : ReplayState}
     → Laws reading writing → SoFar reading writing config from calls mid before written venues rest t → t.text ≡ [] → rest ≡ [] → reading.ends mid to → PrintsLast venues [] lines → Wrote writing.adds written lines after
-    → ReplaysFront reading writing config (texts_of config) from to before after
+    → WrotePrefix reading writing config (texts_of config) from to before after
 front_closed {writing = writing} {config = config} {before = before} {after = after} {lines = lines} laws x none e end last w =
-    let shown : x.shown ≡ lines_told config x.told = shown_all x none in
-    let front : take (length x.shown + w.count) (lines_told config x.told ++ lines) ≡ x.shown ++ take w.count lines = rw (← shown) (take-append-add x.shown _ _) in
+    let shown : x.shown ≡ lines_emitted config x.emitted = shown_all x none in
+    let front : take (length x.shown + w.count) (lines_emitted config x.emitted ++ lines) ≡ x.shown ++ take w.count lines = rw (← shown) (take-append-add x.shown _ _) in
     record {
       records = x.records;
       rest = _;
       calls = _;
       mid = _;
       read = x.read;
-      text = lines_told config x.told ++ lines;
+      text = lines_emitted config x.emitted ++ lines;
       is = inr (inr (text_closed x last, e, end));
       wrote = record { count = length x.shown + w.count; taken = subst (λ (xs : List ℕ). writing.adds before xs after) (sym front) (laws.adds_more _ _ _ _ _ x.wrote w.taken) };
     }
 
 -- memory was refused before anything was read
 pub nothing_replayed : {R W : Type 0} {reading : Reading R} {writing : Writing W} → Laws reading writing → (config : ReplayConfig) (from : R) (before : W)
-    → ReplaysUntil reading writing config (IsLinesOf config) (λ rest. ⊤) (λ mid. (mid ≡ from) ⊎ reading.ends mid from) from before before
+    → WroteLinesUntil reading writing config (IsLinesOf config) (λ rest. ⊤) (λ mid. (mid ≡ from) ⊎ reading.ends mid from) from before before
 nothing_replayed laws config from before = record {
   calls = 0;
   mid = from;
@@ -388,7 +388,7 @@ nothing_replayed laws config from before = record {
     left = tt;
     read = record { each = All-nil (IsRecord (venues_in config)); bytes = laws.gives_none from };
     lines = [];
-    are = record { told = []; histories = new_histories config; tells = (refl, refl); room = omega arith; lines_are = refl };
+    are = record { emitted = []; histories = new_histories config; emits = (refl, refl); room = omega arith; lines_are = refl };
     wrote = laws.adds_none before;
   };
   came_to = inl refl;

@@ -5,11 +5,11 @@ use Rattle.std.proofs.Math.Seq.{take-append_seam}
 use Rattle.feed_text.specs.declared.fault.ReplayFault.{ReplayFault}
 use Rattle.feed_text.specs.declared.fault.ReplayFault.TheVariants.{ReadFailed, WriteFailed, BadRecord, ShortRecord, TooManyTurns, JournalFull, NoMemory}
 use Rattle.feed_text.specs.declared.replay.ReplayConfig.{ReplayConfig}
-use Rattle.feed_text.specs.Capture.{CaptureRecord, IsRecord, IsUnfinished, spelling}
-use Rattle.feed_text.specs.Devices.{Reading, Writing, Came, CameSome, Wrote, Moved}
-use Rattle.feed_text.specs.declared.report.Stop.{Stop}
-use Rattle.feed_text.specs.declared.report.Stop.TheVariants as stops
-use Rattle.feed_text.specs.Tales.{Tale, Grows}
+use Rattle.feed_text.specs.Capture.{CaptureRecord, IsRecord, IsUnfinished, record_bytes}
+use Rattle.feed_text.specs.Devices.{Reading, Writing, HasGiven, HasGivenSome, Wrote, Moved}
+use Rattle.feed_text.specs.declared.report.PublishStop.{PublishStop}
+use Rattle.feed_text.specs.declared.report.PublishStop.TheVariants as stops
+use Rattle.feed_text.specs.ReplayStates.{ReplayState, Grows}
 use Rattle.feed_text.specs.Following.{VenueList, TakesRecord, PrintsLast, Closes, Stops, left_by, fault_by}
 use Rattle.feed_text.specs.Replays.{Replays, venues_in}
 use Rattle.feed_text.proofs.Steps.{Laws, SoFar, so_far_read, replays_to, replays_until, refused_of, front_wrote, replays_all, front_closed, full_here, full_until, full_front}
@@ -42,27 +42,27 @@ closes_by adds failures at before after text left (Err TooManyTurns) last ok onl
 closes_by adds failures at before after text left (Err JournalFull) last ok only failed part = absurd (cc)
 
 -- what was told was written
-pub stops_written : {W : Type 0} (adds : W → List ℕ → W → Type 0) (failures : W → ℕ) (stop : Stop) (whole : ℕ) (text here left : List ℕ) (before after : W) (fault : ReplayFault)
+pub stops_written : {W : Type 0} (adds : W → List ℕ → W → Type 0) (failures : W → ℕ) (stop : PublishStop) (whole : ℕ) (text here left : List ℕ) (before after : W) (fault : ReplayFault)
     → fault ≡ fault_by stop → here ≡ left_by stop whole text → Moved adds before after here left × (left ≡ [])
     → Stops adds failures stop whole text before after fault
 stops_written adds failures stop whole text here left before after fault is e ok =
     record { ways = inl (is, subst (λ (xs : List ℕ). adds before xs after) e (taken_whole ok.0 ok.1)) }
 
 -- the writer failed within it
-pub stops_failed : {W : Type 0} (adds : W → List ℕ → W → Type 0) (failures : W → ℕ) (stop : Stop) (whole : ℕ) (text here : List ℕ) (before after : W) (fault : ReplayFault)
+pub stops_failed : {W : Type 0} (adds : W → List ℕ → W → Type 0) (failures : W → ℕ) (stop : PublishStop) (whole : ℕ) (text here : List ℕ) (before after : W) (fault : ReplayFault)
     → here ≡ left_by stop whole text → IsErrOf {T = Unit {0}} (Err fault) WriteFailed → failures after ≡ failures before + 1 → Wrote adds before here after
     → Stops adds failures stop whole text before after fault
 stops_failed adds failures stop whole text here before after fault e only failed part =
     record { ways = inr (only_fault fault only, subst (λ (xs : List ℕ). Wrote adds before xs after) e part, failed) }
 
 -- within a record memory was refused, or the journal was full
-pub stopped_by : {R W : Type 0} {reading : Reading R} {writing : Writing W} {config : ReplayConfig} {from to : R} {calls : ℕ} {before written : W} {venues next : VenueList} {rest : List ℕ} {t u : Tale}
-    (stop : Stop) (fault : ReplayFault) (after : W) (e : CaptureRecord) (len whole : ℕ) (seen : List ℕ) → Laws reading writing → SoFar reading writing config from calls to before written venues rest t → writing.failures written ≡ writing.failures before
-    → IsRecord (venues_in config) e → seen ≡ rest → seen ≡ spelling e ++ drop len seen → TakesRecord venues e t u next (Err stop) → whole ≡ length t.text
+pub stopped_by : {R W : Type 0} {reading : Reading R} {writing : Writing W} {config : ReplayConfig} {from to : R} {calls : ℕ} {before written : W} {venues next : VenueList} {rest : List ℕ} {t u : ReplayState}
+    (stop : PublishStop) (fault : ReplayFault) (after : W) (e : CaptureRecord) (len whole : ℕ) (seen : List ℕ) → Laws reading writing → SoFar reading writing config from calls to before written venues rest t → writing.failures written ≡ writing.failures before
+    → IsRecord (venues_in config) e → seen ≡ rest → seen ≡ record_bytes e ++ drop len seen → TakesRecord venues e t u next (Err stop) → whole ≡ length t.text
     → Stops writing.adds writing.failures stop whole u.text written after fault → Replays reading writing config from to before after (Err fault)
 stopped_by {reading = reading} {writing = writing} {config = config} {from = from} {to = to} {before = before} {t = t} {u = u} stops.NoMemory fault after e len whole seen laws x kept i same front takes cut s =
-    let one = takes.told config.window x.histories x.follow in
-    let text : take whole u.text ≡ t.text = rw cut (cut_back one.tells) in
+    let one = takes.emitted config.window x.histories x.follow in
+    let text : take whole u.text ≡ t.text = rw cut (cut_back one.emits) in
     elim s.ways [
       | inl a ↦ subst (λ (f : ReplayFault). Replays reading writing config from to before after (Err f)) (sym a.0) (refused_of laws x (rw (← text) a.1))
       | inr a ↦ subst (λ (f : ReplayFault). Replays reading writing config from to before after (Err f)) (sym a.0) (front_wrote laws x (rw (← text) a.1), a.2 ∙ ap (λ (n : ℕ). n + 1) kept)
@@ -75,16 +75,16 @@ stopped_by {reading = reading} {writing = writing} {config = config} {from = fro
     ]
 
 -- the writer failed
-pub unwritten : {R W : Type 0} {reading : Reading R} {writing : Writing W} {config : ReplayConfig} {from to : R} {calls : ℕ} {before written after : W} {venues : VenueList} {rest : List ℕ} {t : Tale}
+pub unwritten : {R W : Type 0} {reading : Reading R} {writing : Writing W} {config : ReplayConfig} {from to : R} {calls : ℕ} {before written after : W} {venues : VenueList} {rest : List ℕ} {t : ReplayState}
     → Laws reading writing → SoFar reading writing config from calls to before written venues rest t → writing.failures written ≡ writing.failures before
     → Wrote writing.adds written t.text after → writing.failures after ≡ writing.failures written + 1 → Replays reading writing config from to before after (Err WriteFailed)
 unwritten laws x kept part failed = (front_wrote laws x part, failed ∙ ap (λ (n : ℕ). n + 1) kept)
 
 -- the reader failed, or no turn was left
-pub unfilled_by : {R W : Type 0} {reading : Reading R} {writing : Writing W} {config : ReplayConfig} {from mid to : R} {calls left : ℕ} {before after : W} {venues : VenueList} {rest longer : List ℕ} {t : Tale}
+pub unfilled_by : {R W : Type 0} {reading : Reading R} {writing : Writing W} {config : ReplayConfig} {from mid to : R} {calls left : ℕ} {before after : W} {venues : VenueList} {rest longer : List ℕ} {t : ReplayState}
     (fault : ReplayFault) → Laws reading writing → SoFar reading writing config from calls mid before after venues rest t → t.text ≡ [] → calls + left ≡ config.turns → reading.failures mid ≡ reading.failures from
-    → (fault ≡ ReadFailed → CameSome reading.gives mid rest longer × (reading.failures to ≡ reading.failures mid + 1))
-    → (fault ≡ TooManyTurns → Came reading.gives mid to rest longer left)
+    → (fault ≡ ReadFailed → HasGivenSome reading.gives mid rest longer × (reading.failures to ≡ reading.failures mid + 1))
+    → (fault ≡ TooManyTurns → HasGiven reading.gives mid to rest longer left)
     → (fault ≢ ReadFailed → fault ≡ TooManyTurns)
     → ((came : List ℕ) → longer ≡ rest ++ came → IsUnfinished (venues_in config) longer)
     → Replays reading writing config from to before after (Err fault)
@@ -101,7 +101,7 @@ unfilled_by NoMemory laws x none all kept failed stopped only unfinished = let e
 unfilled_by JournalFull laws x none all kept failed stopped only unfinished = let e = only (λ e. cc) in absurd (cc)
 
 -- the input has ended, and the last lines were written or not
-pub closed_by : {R W : Type 0} {reading : Reading R} {writing : Writing W} {config : ReplayConfig} {from mid to : R} {calls : ℕ} {before written : W} {venues : VenueList} {rest : List ℕ} {t : Tale}
+pub closed_by : {R W : Type 0} {reading : Reading R} {writing : Writing W} {config : ReplayConfig} {from mid to : R} {calls : ℕ} {before written : W} {venues : VenueList} {rest : List ℕ} {t : ReplayState}
     (r : Result (Unit {0}) ReplayFault) (after : W) → calls + 1 ≤ config.turns → Laws reading writing → SoFar reading writing config from calls mid before written venues rest t → t.text ≡ [] → rest ≡ [] → reading.ends mid to → writing.failures written ≡ writing.failures before
     → Closes writing.adds writing.failures venues written after r → Replays reading writing config from to before after r
 closed_by (Ok done) after within laws x none e end kept c = replays_all within laws x none e end c.are c.taken

@@ -10,17 +10,17 @@ use Rattle.journal_book.specs.Changes.{changes_of, notices_since}
 use Rattle.journal_book.specs.Running.{RunningState, latest_of, GoesOnBy}
 use Rattle.journal_book.proofs.LastEntry.{before-put}
 use Rattle.feed_types.specs.declared.journal.Notice.{Notice}
-use Rattle.feed_text.specs.declared.report.Stop.{Stop}
-use Rattle.feed_text.specs.declared.report.Stop.TheVariants.{JournalFull, NoMemory}
-use Rattle.feed_text.specs.Happenings.{Happening, item_taken, gap_left, self_help_declared, is_so, entries_after, entries_of}
+use Rattle.feed_text.specs.declared.report.PublishStop.{PublishStop}
+use Rattle.feed_text.specs.declared.report.PublishStop.TheVariants.{JournalFull, NoMemory}
+use Rattle.feed_text.specs.ReplayEvents.{ReplayEvent, item_taken, gap_left, self_help_declared, is_so, entries_after, entries_of}
 use Rattle.mold_packet.specs.declared.request.Request.{Request}
-use Rattle.feed_text.specs.Told.{gap_happening}
+use Rattle.feed_text.specs.Emitted.{gap_event}
 use Rattle.feed_text.specs.Lines.{best_line, gap_line, item_line, declare_line}
 use Rattle.feed_text.specs.Texts.{line_of, lines_of, text_of}
-use Rattle.feed_text.specs.Tales.{Tale, tale_after, IsWithin, Grows, GoesOn, GoesToFull, TellsBy}
+use Rattle.feed_text.specs.ReplayStates.{ReplayState, state_after, IsWithinJournal, Grows, GoesOn, GoesToFull, EmitsInto}
 
 -- a running journal and a text
-abbrev pub tale_from : RunningState → List ℕ → Tale
+abbrev pub tale_from : RunningState → List ℕ → ReplayState
 tale_from j text = record {
   symbols = j.symbols;
   venues = j.venues;
@@ -30,7 +30,7 @@ tale_from j text = record {
 }
 
 -- a tale with other entries and another text
-abbrev pub tale_with : Tale → List Entry → List ℕ → Tale
+abbrev pub tale_with : ReplayState → List Entry → List ℕ → ReplayState
 tale_with t entries text = record {
   symbols = t.symbols;
   venues = t.venues;
@@ -39,17 +39,17 @@ tale_with t entries text = record {
   text = text;
 }
 
-pub entries_more : (old : List Entry) (xs ys : List Happening) → entries_of old (xs ++ ys) ≡ entries_of (entries_of old xs) ys
+pub entries_more : (old : List Entry) (xs ys : List ReplayEvent) → entries_of old (xs ++ ys) ≡ entries_of (entries_of old xs) ys
 entries_more old [] ys = refl
 entries_more old (x ∷ xs) ys = entries_more (entries_after old x) xs ys
 
-pub text_more : (symbols : List (List ℕ)) (old : List Entry) (xs ys : List Happening) → text_of symbols old (xs ++ ys) ≡ text_of symbols old xs ++ text_of symbols (entries_of old xs) ys
+pub text_more : (symbols : List (List ℕ)) (old : List Entry) (xs ys : List ReplayEvent) → text_of symbols old (xs ++ ys) ≡ text_of symbols old xs ++ text_of symbols (entries_of old xs) ys
 text_more symbols old [] ys = refl
 text_more symbols old (x ∷ xs) ys =
     ap (λ (t : List ℕ). lines_of symbols old x ++ t) (text_more symbols (entries_after old x) xs ys)
     ∙ sym (append_assoc (lines_of symbols old x) (text_of symbols (entries_after old x) xs) (text_of symbols (entries_of (entries_after old x) xs) ys))
 
-tale_more : (t : Tale) (xs ys : List Happening) → tale_after (tale_after t xs) ys ≡ tale_after t (xs ++ ys)
+tale_more : (t : ReplayState) (xs ys : List ReplayEvent) → state_after (state_after t xs) ys ≡ state_after t (xs ++ ys)
 tale_more t xs ys =
     let E : List Entry = entries_of t.entries xs in
     let A : List ℕ = text_of t.symbols t.entries xs in
@@ -58,17 +58,17 @@ tale_more t xs ys =
     ∙ ap (λ (x : List ℕ). tale_with t (entries_of t.entries (xs ++ ys)) x)
     (append_assoc t.text A B ∙ ap (λ (x : List ℕ). t.text ++ x) (sym (text_more t.symbols t.entries xs ys)))
 
-pub goes_none : (t : Tale) → GoesOn t [] t
+pub goes_none : (t : ReplayState) → GoesOn t [] t
 goes_none t = record { is = ap (λ (x : List ℕ). tale_with t t.entries x) (sym (append-nil t.text)); within = λ w. w }
 
-pub goes_more : {a b c : Tale} (xs ys : List Happening) → GoesOn a xs b → GoesOn b ys c → GoesOn a (xs ++ ys) c
+pub goes_more : {a b c : ReplayState} (xs ys : List ReplayEvent) → GoesOn a xs b → GoesOn b ys c → GoesOn a (xs ++ ys) c
 goes_more {a = a} xs ys g k = record {
-  is = k.is ∙ ap (λ (t : Tale). tale_after t ys) g.is ∙ tale_more a xs ys;
+  is = k.is ∙ ap (λ (t : ReplayState). state_after t ys) g.is ∙ tale_more a xs ys;
   within = λ w. k.within (g.within w);
 }
 
-pub goes_grows : {a b : Tale} (xs : List Happening) → GoesOn a xs b → Grows a.text b.text
-goes_grows {a = a} xs g = record { more = text_of a.symbols a.entries xs; behind = ap (λ (t : Tale). t.text) g.is }
+pub goes_grows : {a b : ReplayState} (xs : List ReplayEvent) → GoesOn a xs b → Grows a.text b.text
+goes_grows {a = a} xs g = record { more = text_of a.symbols a.entries xs; behind = ap (λ (t : ReplayState). t.text) g.is }
 
 pub grows_on : {a b c : List ℕ} → Grows a b → Grows b c → Grows a c
 grows_on {a = a} g k = record {
@@ -85,37 +85,37 @@ grows_as {old = old} e = record { more = []; behind = e ∙ sym (append-nil old)
 pub grows_same : (text : List ℕ) → Grows text text
 grows_same text = record { more = []; behind = sym (append-nil text) }
 
-full_more : {a b c : Tale} (xs ys : List Happening) → GoesOn a xs b → GoesToFull b ys c → GoesToFull a (xs ++ ys) c
+full_more : {a b c : ReplayState} (xs ys : List ReplayEvent) → GoesOn a xs b → GoesToFull b ys c → GoesToFull a (xs ++ ys) c
 full_more xs ys g k = record {
   first = xs ++ k.first;
   next = k.next;
   others = k.others;
-  told_is = ap (λ (hs : List Happening). xs ++ hs) k.told_is ∙ sym (append_assoc xs k.first (k.next ∷ k.others));
+  emitted_is = ap (λ (hs : List ReplayEvent). xs ++ hs) k.emitted_is ∙ sym (append_assoc xs k.first (k.next ∷ k.others));
   goes = goes_more xs k.first g k.goes;
   full = k.full;
 }
 
 -- what was told goes on with what was told next, or stops there
-pub tells_more : {a b : Tale} (c : Tale) (xs ys : List Happening) (done : Result (Unit {0}) Stop) → GoesOn a xs b → TellsBy b ys c done → TellsBy a (xs ++ ys) c done
+pub tells_more : {a b : ReplayState} (c : ReplayState) (xs ys : List ReplayEvent) (done : Result (Unit {0}) PublishStop) → GoesOn a xs b → EmitsInto b ys c done → EmitsInto a (xs ++ ys) c done
 tells_more c xs ys (Ok u) g k = goes_more xs ys g k
 tells_more c xs ys (Err JournalFull) g k = full_more xs ys g k
 tells_more c xs ys (Err NoMemory) g k = grows_on (goes_grows xs g) k
 
 -- where the telling stopped, nothing behind it was told
-pub tells_stop : (a c : Tale) (xs ys : List Happening) (stop : Stop) → TellsBy a xs c (Err stop) → TellsBy a (xs ++ ys) c (Err stop)
+pub tells_stop : (a c : ReplayState) (xs ys : List ReplayEvent) (stop : PublishStop) → EmitsInto a xs c (Err stop) → EmitsInto a (xs ++ ys) c (Err stop)
 tells_stop a c xs ys JournalFull k = record {
   first = k.first;
   next = k.next;
   others = k.others ++ ys;
-  told_is = ap (λ (hs : List Happening). hs ++ ys) k.told_is ∙ append_assoc k.first (k.next ∷ k.others) ys;
+  emitted_is = ap (λ (hs : List ReplayEvent). hs ++ ys) k.emitted_is ∙ append_assoc k.first (k.next ∷ k.others) ys;
   goes = k.goes;
   full = k.full;
 }
 tells_stop a c xs ys NoMemory k = k
 
 -- under another spelling of what was told
-pub tells_as : (a c : Tale) {xs ys : List Happening} (done : Result (Unit {0}) Stop) → xs ≡ ys → TellsBy a xs c done → TellsBy a ys c done
-tells_as a c done e k = subst (λ (hs : List Happening). TellsBy a hs c done) e k
+pub tells_as : (a c : ReplayState) {xs ys : List ReplayEvent} (done : Result (Unit {0}) PublishStop) → xs ≡ ys → EmitsInto a xs c done → EmitsInto a ys c done
+tells_as a c done e k = subst (λ (hs : List ReplayEvent). EmitsInto a hs c done) e k
 
 -- nothing new came, so no best line is due
 bests_none : (symbols : List (List ℕ)) (old new : List Entry) → new ≡ old → flat_map best_line (notices_since symbols old new) ≡ []
@@ -124,9 +124,9 @@ bests_none symbols old new e =
     ∙ ap (flat_map best_line) (drop_of_length-le (changes_of symbols old) (omega arith))
 
 -- one happening: its line and then the best lines, and the entries after it
-step_goes : (t : Tale) (h : Happening) (entries : List Entry) (text : List ℕ) → entries ≡ entries_after t.entries h
+step_goes : (t : ReplayState) (h : ReplayEvent) (entries : List Entry) (text : List ℕ) → entries ≡ entries_after t.entries h
     → text ≡ (t.text ++ line_of t.entries h) ++ flat_map best_line (notices_since t.symbols t.entries entries)
-    → (IsWithin t → length entries ≤ t.journal)
+    → (IsWithinJournal t → length entries ≤ t.journal)
     → GoesOn t (h ∷ []) (tale_with t entries text)
 step_goes t h entries text e put within = record {
   is =
@@ -140,17 +140,17 @@ step_goes t h entries text e put within = record {
 }
 
 -- a happening without an entry: its line alone
-pub line_goes : (t : Tale) (h : Happening) (text : List ℕ) → entries_after t.entries h ≡ t.entries → text ≡ t.text ++ line_of t.entries h → GoesOn t (h ∷ []) (tale_with t t.entries text)
+pub line_goes : (t : ReplayState) (h : ReplayEvent) (text : List ℕ) → entries_after t.entries h ≡ t.entries → text ≡ t.text ++ line_of t.entries h → GoesOn t (h ∷ []) (tale_with t t.entries text)
 line_goes t h text same put =
     step_goes t h t.entries text (sym same)
     (put ∙ sym (append-nil (t.text ++ line_of t.entries h)) ∙ ap (λ (x : List ℕ). (t.text ++ line_of t.entries h) ++ x) (sym (bests_none t.symbols t.entries t.entries refl)))
     (λ w. w)
 
 -- a gap, if there is one
-pub gap_goes : (t : Tale) (venue : ℕ) (gap : Option Request) (request : Request) (text : List ℕ) → gap ≡ Some request → text ≡ t.text ++ gap_line venue request → GoesOn t (gap_happening venue gap) (tale_with t t.entries text)
+pub gap_goes : (t : ReplayState) (venue : ℕ) (gap : Option Request) (request : Request) (text : List ℕ) → gap ≡ Some request → text ≡ t.text ++ gap_line venue request → GoesOn t (gap_event venue gap) (tale_with t t.entries text)
 gap_goes t venue gap request text e put = rw e (line_goes t (gap_left venue request) text refl put)
 
-pub no_gap_goes : (t : Tale) (venue : ℕ) (gap : Option Request) → gap ≡ None → GoesOn t (gap_happening venue gap) t
+pub no_gap_goes : (t : ReplayState) (venue : ℕ) (gap : Option Request) → gap ≡ None → GoesOn t (gap_event venue gap) t
 no_gap_goes t venue gap e = rw e (goes_none t)
 
 -- one more entry
@@ -180,7 +180,7 @@ item_goes o j venue n latest t0 t1 t2 room made head last bests =
     let text : t2 ≡ (t0 ++ item_line venue n) ++ flat_map best_line (notices_since o.symbols o.entries N) =
     bests_since o j (Consumed venue n) t1 t2 latest made last bests
     ∙ ap (λ (t : List ℕ). t ++ flat_map best_line (notices_since o.symbols o.entries N)) head in
-    subst (λ (x : Tale). GoesOn (tale_from o t0) (item_taken venue n ∷ []) x)
+    subst (λ (x : ReplayState). GoesOn (tale_from o t0) (item_taken venue n ∷ []) x)
     (sym (ap (λ (s : RunningState). tale_from s t2) made))
     (step_goes (tale_from o t0) (item_taken venue n) N t2 refl text (λ w. one_longer o.entries (Consumed venue n) o.journal room))
 
@@ -190,7 +190,7 @@ item_full o venue n text full = record {
   first = [];
   next = item_taken venue n;
   others = [];
-  told_is = refl;
+  emitted_is = refl;
   goes = goes_none (tale_from o text);
   full = let n = length-append o.entries (Consumed venue n ∷ []) in omega arith;
 }
@@ -226,7 +226,7 @@ declared_goes o j venue on position latest t0 t1 t2 other room made placed head 
     let text : t2 ≡ (t0 ++ line_of o.entries (self_help_declared venue on)) ++ flat_map best_line (notices_since o.symbols o.entries N) =
     bests_since o j (SelfHelp venue on) t1 t2 latest made last bests
     ∙ ap (λ (t : List ℕ). t ++ flat_map best_line (notices_since o.symbols o.entries N)) (head ∙ ap (λ (l : List ℕ). t0 ++ l) (sym line)) in
-    subst (λ (x : Tale). GoesOn (tale_from o t0) (self_help_declared venue on ∷ []) x)
+    subst (λ (x : ReplayState). GoesOn (tale_from o t0) (self_help_declared venue on ∷ []) x)
     (sym (ap (λ (s : RunningState). tale_from s t2) made))
     (step_goes (tale_from o t0) (self_help_declared venue on) N t2 (sym after) text (λ w. one_longer o.entries (SelfHelp venue on) o.journal room))
 
@@ -238,7 +238,7 @@ already_goes o j venue on t0 t1 so same head =
     let yes_so : is_so o.entries venue on ≡ true = so_yes o.entries venue on so in
     let after : entries_after o.entries (self_help_declared venue on) ≡ o.entries = rw yes_so refl in
     let line : line_of o.entries (self_help_declared venue on) ≡ declare_line venue on None = rw yes_so refl in
-    subst (λ (x : Tale). GoesOn (tale_from o t0) (self_help_declared venue on ∷ []) x)
+    subst (λ (x : ReplayState). GoesOn (tale_from o t0) (self_help_declared venue on ∷ []) x)
     (sym (ap (λ (s : RunningState). tale_from s t1) same))
     (line_goes (tale_from o t0) (self_help_declared venue on) t1 after (head ∙ ap (λ (l : List ℕ). t0 ++ l) (sym line)))
 
@@ -248,7 +248,7 @@ declared_full o venue on text other full = record {
   first = [];
   next = self_help_declared venue on;
   others = [];
-  told_is = refl;
+  emitted_is = refl;
   goes = goes_none (tale_from o text);
   full =
       let so : is_so o.entries venue on ≡ false = so_not o.entries venue on other in
@@ -257,30 +257,30 @@ declared_full o venue on text other full = record {
 }
 
 -- Of all these happenings some were told, and the rest is still to be told.
-pub record Took (whole rest : List Happening) (old new : Tale) : Type 0 where
-  pub done : List Happening
+pub record Took (whole rest : List ReplayEvent) (old new : ReplayState) : Type 0 where
+  pub done : List ReplayEvent
   pub goes : GoesOn old done new
   pub split : done ++ rest ≡ whole
 
-pub took_none : (whole : List Happening) (t : Tale) → Took whole whole t t
+pub took_none : (whole : List ReplayEvent) (t : ReplayState) → Took whole whole t t
 took_none whole t = record { done = []; goes = goes_none t; split = refl }
 
-pub took_one : {whole rest : List Happening} {a b c : Tale} (x : Happening) (left : List Happening) → rest ≡ x ∷ left → Took whole rest a b → GoesOn b (x ∷ []) c → Took whole left a c
+pub took_one : {whole rest : List ReplayEvent} {a b c : ReplayState} (x : ReplayEvent) (left : List ReplayEvent) → rest ≡ x ∷ left → Took whole rest a b → GoesOn b (x ∷ []) c → Took whole left a c
 took_one x left e k g = record {
   done = k.done ++ x ∷ [];
   goes = goes_more k.done (x ∷ []) k.goes g;
-  split = append_assoc k.done (x ∷ []) left ∙ ap (λ (hs : List Happening). k.done ++ hs) (sym e) ∙ k.split;
+  split = append_assoc k.done (x ∷ []) left ∙ ap (λ (hs : List ReplayEvent). k.done ++ hs) (sym e) ∙ k.split;
 }
 
-pub took_all : {whole rest : List Happening} {a b : Tale} → rest ≡ [] → Took whole rest a b → GoesOn a whole b
+pub took_all : {whole rest : List ReplayEvent} {a b : ReplayState} → rest ≡ [] → Took whole rest a b → GoesOn a whole b
 took_all {a = a} {b = b} e k =
-    subst (λ (hs : List Happening). GoesOn a hs b) (sym (append-nil k.done) ∙ ap (λ (hs : List Happening). k.done ++ hs) (sym e) ∙ k.split) k.goes
+    subst (λ (hs : List ReplayEvent). GoesOn a hs b) (sym (append-nil k.done) ∙ ap (λ (hs : List ReplayEvent). k.done ++ hs) (sym e) ∙ k.split) k.goes
 
-pub took_stop : {whole rest : List Happening} {a b : Tale} (c : Tale) (x : Happening) (left : List Happening) (stop : Stop) → rest ≡ x ∷ left → Took whole rest a b → TellsBy b (x ∷ []) c (Err stop) → TellsBy a whole c (Err stop)
+pub took_stop : {whole rest : List ReplayEvent} {a b : ReplayState} (c : ReplayState) (x : ReplayEvent) (left : List ReplayEvent) (stop : PublishStop) → rest ≡ x ∷ left → Took whole rest a b → EmitsInto b (x ∷ []) c (Err stop) → EmitsInto a whole c (Err stop)
 took_stop {a = a} {b = b} c x left stop e k g =
-    tells_as a c (Err stop) (ap (λ (hs : List Happening). k.done ++ hs) (sym e) ∙ k.split)
+    tells_as a c (Err stop) (ap (λ (hs : List ReplayEvent). k.done ++ hs) (sym e) ∙ k.split)
     (tells_more c k.done (x ∷ left) (Err stop) k.goes (tells_stop b c (x ∷ []) left stop g))
 
 -- the number of venues stays
-pub same_venues : {a b : Tale} (told : List Happening) → GoesOn a told b → b.venues ≡ a.venues
-same_venues told g = ap (λ (t : Tale). t.venues) g.is
+pub same_venues : {a b : ReplayState} (emitted : List ReplayEvent) → GoesOn a emitted b → b.venues ≡ a.venues
+same_venues emitted g = ap (λ (t : ReplayState). t.venues) g.is

@@ -6,13 +6,13 @@ use Rattle.std.proofs.Math.ListN.{length-set, drop_of_length-le}
 use Rattle.std.proofs.lemmas.List.{length-map, map-append, take_more}
 use Rattle.std.proofs.lemmas.Grind.{common_steps}
 use Rattle.std.proofs.lemmas.Option.{slice_get_within}
-use Rattle.feed_text.specs.Capture.{CaptureRecord, self_help_record, venue_of}
+use Rattle.feed_text.specs.Capture.{CaptureRecord, self_help_record, record_venue}
 use Rattle.line_arbiter.specs.Histories.{History, new_history}
-use Rattle.feed_text.specs.declared.report.Stop.{Stop}
+use Rattle.feed_text.specs.declared.report.PublishStop.{PublishStop}
 use Rattle.feed_text.specs.Texts.{last_line, last_lines}
-use Rattle.feed_text.specs.Tales.{Tale, TellsBy}
-use Rattle.feed_text.specs.Happenings.{self_help_declared}
-use Rattle.feed_text.specs.Following.{Venue, VenueList, Follows, FollowAll, TellsOne, TakesRecord}
+use Rattle.feed_text.specs.ReplayStates.{ReplayState, EmitsInto}
+use Rattle.feed_text.specs.ReplayEvents.{self_help_declared}
+use Rattle.feed_text.specs.Following.{ReplayVenue, VenueList, Follows, FollowAll, EmitsOne, TakesRecord}
 use Rattle.feed_text.proofs.VenueSteps.{on_ok}
 use Rattle.feed_text.proofs.Rest.{rest_at}
 
@@ -41,7 +41,7 @@ same_or_not (suc j) zero = inr (λ e. absurd (omega arith))
 same_or_not (suc j) (suc i) = elim (same_or_not j i) [ inl e ↦ inl (ap suc e) | inr n ↦ inr (λ e. n (omega arith)) ]
 
 -- one venue and its history go on
-follow_set : (window i : ℕ) (vs : List Venue) (hs : List History) (v : Venue) (h : History) → FollowAll window vs hs → Follows window i v h → FollowAll window (slice_set vs i v) (slice_set hs i h)
+follow_set : (window i : ℕ) (vs : List ReplayVenue) (hs : List History) (v : ReplayVenue) (h : History) → FollowAll window vs hs → Follows window i v h → FollowAll window (slice_set vs i v) (slice_set hs i h)
 follow_set window i vs hs v h f now = record {
   count = length-set vs i v ∙ f.count ∙ sym (length-set hs i h);
   each = λ j w k e g. elim (same_or_not j i) [
@@ -54,7 +54,7 @@ follow_set window i vs hs v h f now = record {
 }
 
 -- a list as long as one that has a place has it too
-pub history_at : (window : ℕ) (vs : List Venue) (hs : List History) (i : ℕ) (v : Venue) → FollowAll window vs hs → slice_get vs i ≡ Some v → (h : History) × (slice_get hs i ≡ Some h) × Follows window i v h
+pub history_at : (window : ℕ) (vs : List ReplayVenue) (hs : List History) (i : ℕ) (v : ReplayVenue) → FollowAll window vs hs → slice_get vs i ≡ Some v → (h : History) × (slice_get hs i ≡ Some h) × Follows window i v h
 history_at window vs hs i v f at =
     let within = slice_get_within vs i v at in
     let n = f.count in
@@ -62,20 +62,20 @@ history_at window vs hs i v f at =
     (h.0, h.1, f.each i v h.0 at h.1)
 
 -- one record
-pub takes_one : (from to : VenueList) (r : CaptureRecord) (old new : Tale) (done : Result (Unit {0}) Stop) (v w : Venue) → slice_get from.items (venue_of r) ≡ Some v → to.items ≡ slice_set from.items (venue_of r) w → to.gaps ≡ from.gaps
-    → ((width : ℕ) (h : History) → Follows width (venue_of r) v h → TellsOne width from.gaps r h old new w done) → TakesRecord from r old new to done
+pub takes_one : (from to : VenueList) (r : CaptureRecord) (old new : ReplayState) (done : Result (Unit {0}) PublishStop) (v w : ReplayVenue) → slice_get from.items (record_venue r) ≡ Some v → to.items ≡ slice_set from.items (record_venue r) w → to.gaps ≡ from.gaps
+    → ((width : ℕ) (h : History) → Follows width (record_venue r) v h → EmitsOne width from.gaps r h old new w done) → TakesRecord from r old new to done
 takes_one from to r old new done v w at set gaps step = record {
   gaps = on_ok done gaps;
-  count = on_ok done (ap length set ∙ length-set from.items (venue_of r) w);
-  told = λ window hs f.
-      let h = history_at window from.items hs (venue_of r) v f at in
+  count = on_ok done (ap length set ∙ length-set from.items (record_venue r) w);
+  emitted = λ window hs f.
+      let h = history_at window from.items hs (record_venue r) v f at in
       let one = step window h.0 h.2 in
       record {
-        told = one.told;
-        after = slice_set hs (venue_of r) one.after;
-        record_tells = record { before = h.0; after = one.after; at = h.1; tells = one.at; others = refl };
-        tells = one.tells;
-        follow = on_ok_weaker done (λ g. rw set (follow_set window (venue_of r) from.items hs w one.after f g)) one.follows;
+        emitted = one.emitted;
+        after = slice_set hs (record_venue r) one.after;
+        record_tells = record { before = h.0; after = one.after; at = h.1; emits = one.at; others = refl };
+        emits = one.emits;
+        follow = on_ok_weaker done (λ g. rw set (follow_set window (record_venue r) from.items hs w one.after f g)) one.follows;
       };
 }
 
@@ -85,18 +85,18 @@ same_set (y ∷ xs) zero x e = cc
 same_set (y ∷ xs) (suc i) x e = ap (λ (ys : List _). y ∷ ys) (same_set xs i x e)
 
 -- a declaration: the venues and what came to them stay
-pub takes_self_help : (at : VenueList) (venue : ℕ) (on : Bool) (old new : Tale) (done : Result (Unit {0}) Stop) → venue < length at.items
-    → TellsBy old (self_help_declared venue on ∷ []) new done → TakesRecord at (self_help_record venue on) old new at done
-takes_self_help at venue on old new done within tells = record {
+pub takes_self_help : (at : VenueList) (venue : ℕ) (on : Bool) (old new : ReplayState) (done : Result (Unit {0}) PublishStop) → venue < length at.items
+    → EmitsInto old (self_help_declared venue on ∷ []) new done → TakesRecord at (self_help_record venue on) old new at done
+takes_self_help at venue on old new done within emits = record {
   gaps = on_ok done refl;
   count = on_ok done refl;
-  told = λ window hs f.
+  emitted = λ window hs f.
       let h = get_within hs venue (rw (← f.count) within) in
       record {
-        told = self_help_declared venue on ∷ [];
+        emitted = self_help_declared venue on ∷ [];
         after = hs;
-        record_tells = record { before = h.0; after = h.0; at = h.1; tells = record { same = refl; told_is = refl }; others = sym (same_set hs venue h.0 h.1) };
-        tells = tells;
+        record_tells = record { before = h.0; after = h.0; at = h.1; emits = record { same = refl; emitted_is = refl }; others = sym (same_set hs venue h.0 h.1) };
+        emits = emits;
         follow = on_ok done f;
       };
 }
@@ -107,7 +107,7 @@ slice_get_push [] y (suc i) x e = absurd cc
 slice_get_push (z ∷ xs) y zero x e = inl e
 slice_get_push (z ∷ xs) y (suc i) x e = elim (slice_get_push xs y i x e) [ inl a ↦ inl a | inr b ↦ inr (ap suc b.0, b.1) ]
 
-follow_push : (window : ℕ) (vs : List Venue) (hs : List History) (v : Venue) (h : History) → FollowAll window vs hs → Follows window (length hs) v h → FollowAll window (vs ++ v ∷ []) (hs ++ h ∷ [])
+follow_push : (window : ℕ) (vs : List ReplayVenue) (hs : List History) (v : ReplayVenue) (h : History) → FollowAll window vs hs → Follows window (length hs) v h → FollowAll window (vs ++ v ∷ []) (hs ++ h ∷ [])
 follow_push window vs hs v h f now = record {
   count = length-append vs (v ∷ []) ∙ ap (λ (n : ℕ). n + 1) f.count ∙ sym (length-append hs (h ∷ []));
   each = λ i w k e g. elim (slice_get_push vs v i w e) [
@@ -123,7 +123,7 @@ follow_push window vs hs v h f now = record {
 }
 
 -- one more venue, to which nothing came
-pub follow_next : (window : ℕ) (vs : List Venue) (sessions : List (List ℕ)) (i : ℕ) (v : Venue) → FollowAll window vs (map new_history (take i sessions)) → i < length sessions → Follows window i v (new_history (get_or sessions i [])) → FollowAll window (vs ++ v ∷ []) (map new_history (take (i + 1) sessions))
+pub follow_next : (window : ℕ) (vs : List ReplayVenue) (sessions : List (List ℕ)) (i : ℕ) (v : ReplayVenue) → FollowAll window vs (map new_history (take i sessions)) → i < length sessions → Follows window i v (new_history (get_or sessions i [])) → FollowAll window (vs ++ v ∷ []) (map new_history (take (i + 1) sessions))
 follow_next window vs sessions i v f h now =
     let hs : List History = map new_history (take i sessions) in
     let len : length hs ≡ i = length-map (take i sessions) new_history ∙ length-take_le i sessions h in

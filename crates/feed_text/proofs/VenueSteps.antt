@@ -21,14 +21,14 @@ use Rattle.line_arbiter.specs.States.{State, KeepsItsPlace, KeepsItsSession, Kee
 use Rattle.line_arbiter.specs.Fits.{Fits}
 use Rattle.line_arbiter.proofs.Histories.{items_push}
 use Rattle.line_arbiter.proofs.FitsHistory.{fits_new, fits_packet, fits_renewal, keeps_sent, keeps_session, outcome_in, renewal_in, shown_more}
-use Rattle.feed_text.specs.declared.report.Stop.{Stop}
+use Rattle.feed_text.specs.declared.report.PublishStop.{PublishStop}
 use Rattle.feed_text.specs.Capture.{datagram_record, renewal_record}
 use Rattle.feed_text.specs.Lines.{venue_line, wins_by}
-use Rattle.feed_text.specs.Happenings.{Happening, packet_answered, packet_refused, item_taken, renewal_answered}
-use Rattle.feed_text.specs.Told.{sent_of, items_told, gap_happening, gap_told, TellsAt}
+use Rattle.feed_text.specs.ReplayEvents.{ReplayEvent, packet_answered, packet_refused, item_taken, renewal_answered}
+use Rattle.feed_text.specs.Emitted.{stream_length, items_emitted, gap_event, gap_emitted, EmitsAt}
 use Rattle.feed_text.specs.Texts.{last_line}
-use Rattle.feed_text.specs.Tales.{Tale, TellsBy}
-use Rattle.feed_text.specs.Following.{Venue, Follows, TellsOutcome, TellsOne, Renews}
+use Rattle.feed_text.specs.ReplayStates.{ReplayState, EmitsInto}
+use Rattle.feed_text.specs.Following.{ReplayVenue, Follows, EmitsOutcome, EmitsOne, Renews}
 use Rattle.feed_text.proofs.Tales.{tells_more, tells_stop, tells_as}
 
 -- nothing was sent yet
@@ -63,7 +63,7 @@ streams_more : (h : History) → length (streams_of h) ≡ length (items_of h.ea
 streams_more h = ap length (items_push h.earlier h.present) ∙ length-append (items_of h.earlier) (stream_of h.present.packets)
 
 -- how many items of all sessions were sent
-pub sent_all : {width place : ℕ} {v : Venue} (h : History) → Follows width place v h → (n : ℕ) → n ≡ shown (v.sent_before + v.arbiter.sent) → n ≡ shown (length (streams_of h))
+pub sent_all : {width place : ℕ} {v : ReplayVenue} (h : History) → Follows width place v h → (n : ℕ) → n ≡ shown (v.sent_before + v.arbiter.sent) → n ≡ shown (length (streams_of h))
 sent_all {v = v} h f n e =
     e ∙ shown_more v.sent_before (length (items_of h.earlier)) v.arbiter.sent f.sent_before
     ∙ ap (λ (m : ℕ). shown (length (items_of h.earlier) + m)) f.sent
@@ -79,40 +79,40 @@ on_ok (Ok x) p = p
 on_ok (Err e) p = tt
 
 -- a packet's datagram, where no gap is asked for
-pub packet_told : (width place : ℕ) (h : History) (v : Venue) (line : LineId) (bytes rest : List ℕ) (p : Content) (t0 t1 : Tale) (done : Result (Unit {0}) Stop)
-    → Spells bytes p rest → TellsOutcome width place line p h t0 t1 v done
-    → TellsOne width false (datagram_record place line bytes) h t0 t1 v done
+pub packet_told : (width place : ℕ) (h : History) (v : ReplayVenue) (line : LineId) (bytes rest : List ℕ) (p : Content) (t0 t1 : ReplayState) (done : Result (Unit {0}) PublishStop)
+    → Spells bytes p rest → EmitsOutcome width place line p h t0 t1 v done
+    → EmitsOne width false (datagram_record place line bytes) h t0 t1 v done
 packet_told width place h v line bytes rest p t0 t1 done spells x =
     let Q : List Arrival = h.present.packets ++ arrival_of line p x.answer ∷ [] in
     record {
-      told = packet_answered place line x.answer ∷ items_told place h Q ++ [];
+      emitted = packet_answered place line x.answer ∷ items_emitted place h Q ++ [];
       after = after_arrival h (arrival_of line p x.answer);
-      at = inr (record { packet = p; rest = rest; answer = x.answer; spells = spells; outcome = x.outcome; grown = refl; told_is = refl });
-      tells = tells_as t0 t1 done (ap (λ (hs : List Happening). packet_answered place line x.answer ∷ hs) (sym (append-nil (items_told place h Q)))) x.tells;
+      at = inr (record { packet = p; rest = rest; answer = x.answer; spells = spells; outcome = x.outcome; grown = refl; emitted_is = refl });
+      emits = tells_as t0 t1 done (ap (λ (hs : List ReplayEvent). packet_answered place line x.answer ∷ hs) (sym (append-nil (items_emitted place h Q)))) x.emits;
       follows = x.follows;
     }
 
 -- a datagram that is no packet
-pub fault_told : (width place : ℕ) (h : History) (v : Venue) (line : LineId) (bytes : List ℕ) (fault : PacketFault) (t0 t1 : Tale) (done : Result (Unit {0}) Stop)
-    → HasFault bytes fault → TellsBy t0 (packet_refused place line fault ∷ []) t1 done → Follows width place v h
-    → TellsOne width false (datagram_record place line bytes) h t0 t1 v done
-fault_told width place h v line bytes fault t0 t1 done has tells f = record {
-  told = packet_refused place line fault ∷ [];
+pub fault_told : (width place : ℕ) (h : History) (v : ReplayVenue) (line : LineId) (bytes : List ℕ) (fault : PacketFault) (t0 t1 : ReplayState) (done : Result (Unit {0}) PublishStop)
+    → HasFault bytes fault → EmitsInto t0 (packet_refused place line fault ∷ []) t1 done → Follows width place v h
+    → EmitsOne width false (datagram_record place line bytes) h t0 t1 v done
+fault_told width place h v line bytes fault t0 t1 done has emits f = record {
+  emitted = packet_refused place line fault ∷ [];
   after = h;
-  at = inl (record { fault = fault; has = has; same = refl; told_is = refl });
-  tells = tells;
+  at = inl (record { fault = fault; has = has; same = refl; emitted_is = refl });
+  emits = emits;
   follows = on_ok done f;
 }
 
 -- what a datagram tells where gaps are asked for, too
-gap_at : (width place : ℕ) (gaps : Bool) (line : LineId) (bytes : List ℕ) (h after : History) (told : List Happening)
-    → TellsAt width false (datagram_record place line bytes) h told after
-    → TellsAt width gaps (datagram_record place line bytes) h (told ++ gap_told width gaps place after) after
-gap_at width place gaps line bytes h after told (inl a) =
-    inl (record { fault = a.fault; has = a.has; same = a.same; told_is = ap (λ (hs : List Happening). hs ++ gap_told width gaps place after) a.told_is })
-gap_at width place gaps line bytes h after told (inr a) =
-    let G : List Happening = gap_told width gaps place after in
-    let items : List Happening = items_told place h after.present.packets in
+gap_at : (width place : ℕ) (gaps : Bool) (line : LineId) (bytes : List ℕ) (h after : History) (emitted : List ReplayEvent)
+    → EmitsAt width false (datagram_record place line bytes) h emitted after
+    → EmitsAt width gaps (datagram_record place line bytes) h (emitted ++ gap_emitted width gaps place after) after
+gap_at width place gaps line bytes h after emitted (inl a) =
+    inl (record { fault = a.fault; has = a.has; same = a.same; emitted_is = ap (λ (hs : List ReplayEvent). hs ++ gap_emitted width gaps place after) a.emitted_is })
+gap_at width place gaps line bytes h after emitted (inr a) =
+    let G : List ReplayEvent = gap_emitted width gaps place after in
+    let items : List ReplayEvent = items_emitted place h after.present.packets in
     inr (record {
       packet = a.packet;
       rest = a.rest;
@@ -120,57 +120,57 @@ gap_at width place gaps line bytes h after told (inr a) =
       spells = a.spells;
       outcome = a.outcome;
       grown = a.grown;
-      told_is = ap (λ (hs : List Happening). hs ++ G) a.told_is
-          ∙ ap (λ (hs : List Happening). packet_answered place line a.answer ∷ hs ++ G) (append-nil items);
+      emitted_is = ap (λ (hs : List ReplayEvent). hs ++ G) a.emitted_is
+          ∙ ap (λ (hs : List ReplayEvent). packet_answered place line a.answer ∷ hs ++ G) (append-nil items);
     })
 
 -- and then the gap was told
-pub gap_added : (width place : ℕ) (h : History) (v : Venue) (line : LineId) (bytes : List ℕ) (t0 t1 t2 : Tale) (done : Result (Unit {0}) Stop)
-    → TellsOne width false (datagram_record place line bytes) h t0 t1 v (Ok tt)
-    → ((P : List Arrival) → Fits v.arbiter P → TellsBy t1 (gap_happening place (gap_of v.arbiter.session v.arbiter.window v.arbiter.sent P)) t2 done)
-    → TellsOne width true (datagram_record place line bytes) h t0 t2 v done
+pub gap_added : (width place : ℕ) (h : History) (v : ReplayVenue) (line : LineId) (bytes : List ℕ) (t0 t1 t2 : ReplayState) (done : Result (Unit {0}) PublishStop)
+    → EmitsOne width false (datagram_record place line bytes) h t0 t1 v (Ok tt)
+    → ((P : List Arrival) → Fits v.arbiter P → EmitsInto t1 (gap_event place (gap_of v.arbiter.session v.arbiter.window v.arbiter.sent P)) t2 done)
+    → EmitsOne width true (datagram_record place line bytes) h t0 t2 v done
 gap_added width place h v line bytes t0 t1 t2 done x gap =
     let f : Follows width place v x.after = x.follows in
-    let G : List Happening = gap_happening place (gap_of x.after.present.name width (sent_of x.after) x.after.present.packets) in
-    let there : TellsBy t1 G t2 done = rw (← f.history.session, ← f.window, ← f.sent) (gap x.after.present.packets f.history.present) in
+    let G : List ReplayEvent = gap_event place (gap_of x.after.present.name width (stream_length x.after) x.after.present.packets) in
+    let there : EmitsInto t1 G t2 done = rw (← f.history.session, ← f.window, ← f.sent) (gap x.after.present.packets f.history.present) in
     record {
-      told = x.told ++ G;
+      emitted = x.emitted ++ G;
       after = x.after;
-      at = gap_at width place true line bytes h x.after x.told x.at;
-      tells = tells_more t2 x.told G done x.tells there;
+      at = gap_at width place true line bytes h x.after x.emitted x.at;
+      emits = tells_more t2 x.emitted G done x.emits there;
       follows = on_ok done f;
     }
 
 -- the telling had stopped before
-pub gap_never : (width place : ℕ) (gaps : Bool) (h : History) (v : Venue) (line : LineId) (bytes : List ℕ) (t0 t1 : Tale) (stop : Stop)
-    → TellsOne width false (datagram_record place line bytes) h t0 t1 v (Err stop)
-    → TellsOne width gaps (datagram_record place line bytes) h t0 t1 v (Err stop)
+pub gap_never : (width place : ℕ) (gaps : Bool) (h : History) (v : ReplayVenue) (line : LineId) (bytes : List ℕ) (t0 t1 : ReplayState) (stop : PublishStop)
+    → EmitsOne width false (datagram_record place line bytes) h t0 t1 v (Err stop)
+    → EmitsOne width gaps (datagram_record place line bytes) h t0 t1 v (Err stop)
 gap_never width place gaps h v line bytes t0 t1 stop x = record {
-  told = x.told ++ gap_told width gaps place x.after;
+  emitted = x.emitted ++ gap_emitted width gaps place x.after;
   after = x.after;
-  at = gap_at width place gaps line bytes h x.after x.told x.at;
-  tells = tells_stop t0 t1 x.told (gap_told width gaps place x.after) stop x.tells;
+  at = gap_at width place gaps line bytes h x.after x.emitted x.at;
+  emits = tells_stop t0 t1 x.emitted (gap_emitted width gaps place x.after) stop x.emits;
   follows = tt;
 }
 
-pub renewal_told : (width place : ℕ) (gaps : Bool) (h : History) (v : Venue) (name : List ℕ) (answer : Result ℕ RenewFault) (t0 t1 : Tale) (done : Result (Unit {0}) Stop)
-    → Renews width place name h v answer → TellsBy t0 (renewal_answered place answer ∷ []) t1 done
-    → TellsOne width gaps (renewal_record place name) h t0 t1 v done
-renewal_told width place gaps h v name answer t0 t1 done x tells = record {
-  told = renewal_answered place answer ∷ [];
+pub renewal_told : (width place : ℕ) (gaps : Bool) (h : History) (v : ReplayVenue) (name : List ℕ) (answer : Result ℕ RenewFault) (t0 t1 : ReplayState) (done : Result (Unit {0}) PublishStop)
+    → Renews width place name h v answer → EmitsInto t0 (renewal_answered place answer ∷ []) t1 done
+    → EmitsOne width gaps (renewal_record place name) h t0 t1 v done
+renewal_told width place gaps h v name answer t0 t1 done x emits = record {
+  emitted = renewal_answered place answer ∷ [];
   after = history_after h name answer;
-  at = record { answer = answer; is = x.is; after = refl; told_is = refl };
-  tells = tells;
+  at = record { answer = answer; is = x.is; after = refl; emitted_is = refl };
+  emits = emits;
   follows = on_ok done x.follows;
 }
 
 -- what a venue is after a packet and all that it made ready
-pub record Left (v : Venue) (Q : List Arrival) (new : State) : Type 0 where
+pub record Left (v : ReplayVenue) (Q : List Arrival) (new : State) : Type 0 where
   pub fits : Fits new Q
   pub sent : new.sent ≡ length (stream_of Q)
   pub stays : KeepsItsSession v.arbiter new
 
-left_follows : (width place : ℕ) (h : History) (v : Venue) (new : State) (a : Arrival)
+left_follows : (width place : ℕ) (h : History) (v : ReplayVenue) (new : State) (a : Arrival)
     → Follows width place v h → Left v (h.present.packets ++ a ∷ []) new
     → Follows width place (record { arbiter = new; sent_before = v.sent_before }) (after_arrival h a)
 left_follows width place h v new a f x = record {
@@ -182,39 +182,39 @@ left_follows width place h v new a f x = record {
 }
 
 -- a packet was answered, and what it made ready was told behind it
-pub outcome_told : (width place : ℕ) (h : History) (v : Venue) (new : State) (line : LineId) (p : Content) (answer : Result Outcome LineFault) (t0 t1 : Tale) (done : Result (Unit {0}) Stop)
+pub outcome_told : (width place : ℕ) (h : History) (v : ReplayVenue) (new : State) (line : LineId) (p : Content) (answer : Result Outcome LineFault) (t0 t1 : ReplayState) (done : Result (Unit {0}) PublishStop)
     → Follows width place v h
     → IsOutcome v.arbiter.session v.arbiter.window v.arbiter.sent h.present.packets p answer
-    → TellsBy t0 (packet_answered place line answer ∷ map (item_taken place) (drop v.arbiter.sent (stream_of (h.present.packets ++ arrival_of line p answer ∷ [])))) t1 done
+    → EmitsInto t0 (packet_answered place line answer ∷ map (item_taken place) (drop v.arbiter.sent (stream_of (h.present.packets ++ arrival_of line p answer ∷ [])))) t1 done
     → OnOk done (Left v (h.present.packets ++ arrival_of line p answer ∷ []) new)
-    → TellsOutcome width place line p h t0 t1 (record { arbiter = new; sent_before = v.sent_before }) done
-outcome_told width place h v new line p answer t0 t1 done f outcome tells left =
+    → EmitsOutcome width place line p h t0 t1 (record { arbiter = new; sent_before = v.sent_before }) done
+outcome_told width place h v new line p answer t0 t1 done f outcome emits left =
     let Q = h.present.packets ++ arrival_of line p answer ∷ [] in
     record {
       answer = answer;
       outcome = rw (← f.window, ← f.sent) (outcome_in h p answer f.history outcome);
-      tells = tells_as t0 t1 done (ap (λ (n : ℕ). packet_answered place line answer ∷ map (item_taken place) (drop n (stream_of Q))) f.sent) tells;
+      emits = tells_as t0 t1 done (ap (λ (n : ℕ). packet_answered place line answer ∷ map (item_taken place) (drop n (stream_of Q))) f.sent) emits;
       follows = on_ok_weaker done (left_follows width place h v new (arrival_of line p answer) f) left;
     }
 
 -- a packet was answered, and then all that is ready was told
-pub answered_told : (width place : ℕ) (h : History) (v : Venue) (mid new : State) (line : LineId) (p : Content) (answer : Result Outcome LineFault) (t0 t1 : Tale) (done : Result (Unit {0}) Stop)
+pub answered_told : (width place : ℕ) (h : History) (v : ReplayVenue) (mid new : State) (line : LineId) (p : Content) (answer : Result Outcome LineFault) (t0 t1 : ReplayState) (done : Result (Unit {0}) PublishStop)
     → Follows width place v h
     → ((packets : List Arrival) → Fits v.arbiter packets → IsOutcome v.arbiter.session v.arbiter.window v.arbiter.sent packets p answer)
     → ((packets : List Arrival) → Fits v.arbiter packets → Fits mid (packets ++ arrival_of line p answer ∷ []))
     → KeepsItsPlace v.arbiter mid
-    → ((packets : List Arrival) → Fits mid packets → TellsBy t0 (packet_answered place line answer ∷ map (item_taken place) (drop mid.sent (stream_of packets))) t1 done)
+    → ((packets : List Arrival) → Fits mid packets → EmitsInto t0 (packet_answered place line answer ∷ map (item_taken place) (drop mid.sent (stream_of packets))) t1 done)
     → OnOk done ((packets : List Arrival) → Fits mid packets → Fits new packets × (new.sent ≡ length (stream_of packets)))
     → OnOk done (KeepsAllButSent mid new)
-    → TellsOutcome width place line p h t0 t1 (record { arbiter = new; sent_before = v.sent_before }) done
-answered_told width place h v mid new line p answer t0 t1 done f outcome fits kept tells left stays =
+    → EmitsOutcome width place line p h t0 t1 (record { arbiter = new; sent_before = v.sent_before }) done
+answered_told width place h v mid new line p answer t0 t1 done f outcome fits kept emits left stays =
     let Q = h.present.packets ++ arrival_of line p answer ∷ [] in
     outcome_told width place h v new line p answer t0 t1 done f (outcome h.present.packets f.history.present)
     (tells_as t0 t1 done (ap (λ (n : ℕ). packet_answered place line answer ∷ map (item_taken place) (drop n (stream_of Q))) kept.sent)
-    (tells Q (fits h.present.packets f.history.present)))
+    (emits Q (fits h.present.packets f.history.present)))
     (both done left stays)
   where
-    both : (r : Result (Unit {0}) Stop)
+    both : (r : Result (Unit {0}) PublishStop)
         → OnOk r ((packets : List Arrival) → Fits mid packets → Fits new packets × (new.sent ≡ length (stream_of packets)))
         → OnOk r (KeepsAllButSent mid new)
         → OnOk r (Left v (h.present.packets ++ arrival_of line p answer ∷ []) new)
@@ -224,7 +224,7 @@ answered_told width place h v mid new line p answer t0 t1 done f outcome fits ke
     both (Err e) a b = tt
 
 -- the next session began
-pub renewed_follows : (width place : ℕ) (h : History) (v : Venue) (new : State) (name : List ℕ) (ordinal sent : ℕ)
+pub renewed_follows : (width place : ℕ) (h : History) (v : ReplayVenue) (new : State) (name : List ℕ) (ordinal sent : ℕ)
     → Follows width place v h
     → IsRenewal v.arbiter.sessions v.arbiter.end v.arbiter.sent name (Ok ordinal)
     → IsRenewed v.arbiter new name
@@ -242,7 +242,7 @@ renewed_follows width place h v new name ordinal sent f is renewed fits count = 
   };
 }
 
-pub not_renewed : (width place : ℕ) (h : History) (v : Venue) (name : List ℕ) (fault : RenewFault)
+pub not_renewed : (width place : ℕ) (h : History) (v : ReplayVenue) (name : List ℕ) (fault : RenewFault)
     → Follows width place v h → IsRenewal v.arbiter.sessions v.arbiter.end v.arbiter.sent name (Err fault) → Renews width place name h v (Err fault)
 not_renewed width place h v name fault f is = record {
   is = subst (λ (n : ℕ). IsRenewal (names_of h) (end_of h.present.packets) n name (Err fault)) f.sent (renewal_in h name (Err fault) f.history is);

@@ -11,8 +11,8 @@ use Rattle.feed_types.specs.Text.{line_letter}
 use Rattle.mold_packet.specs.Bytes.{AreBytes}
 use Rattle.feed_text.specs.declared.capture.Record.{Record}
 use Rattle.feed_text.specs.declared.capture.Record.TheVariants.{Datagram, Renewal, SelfHelp}
-use Rattle.feed_text.specs.declared.capture.Front.{Front}
-use Rattle.feed_text.specs.declared.capture.Front.TheVariants.{Whole, Bad, Wants}
+use Rattle.feed_text.specs.declared.capture.Parse.{Parse}
+use Rattle.feed_text.specs.declared.capture.Parse.TheVariants.{Whole, Bad, Wants}
 
 -- a record of a capture, wherever its bytes lie in memory
 pub data CaptureRecord : Type 0 where
@@ -20,10 +20,10 @@ pub data CaptureRecord : Type 0 where
   renewal_record : (venue : ℕ) (session : List ℕ) → CaptureRecord
   self_help_record : (venue : ℕ) (on : Bool) → CaptureRecord
 
-abbrev pub venue_of : CaptureRecord → ℕ
-venue_of (datagram_record venue line bytes) = venue
-venue_of (renewal_record venue session) = venue
-venue_of (self_help_record venue on) = venue
+abbrev pub record_venue : CaptureRecord → ℕ
+record_venue (datagram_record venue line bytes) = venue
+record_venue (renewal_record venue session) = venue
+record_venue (self_help_record venue on) = venue
 
 -- the byte that tells what a record holds
 abbrev pub kind_byte : CaptureRecord → ℕ
@@ -33,25 +33,25 @@ kind_byte (self_help_record venue true) = 72
 kind_byte (self_help_record venue false) = 87
 
 -- the bytes that the length counts
-abbrev pub bytes_of : CaptureRecord → List ℕ
-bytes_of (datagram_record venue line bytes) = bytes
-bytes_of (renewal_record venue session) = session
-bytes_of (self_help_record venue on) = []
+abbrev pub payload_of : CaptureRecord → List ℕ
+payload_of (datagram_record venue line bytes) = bytes
+payload_of (renewal_record venue session) = session
+payload_of (self_help_record venue on) = []
 
 -- A record's numbers are bytes. Code knows it of a `u8`; a law, which speaks of all lists, asks for
 -- it.
 abbrev pub HoldsBytes : CaptureRecord → Type 0
-HoldsBytes r = AreBytes (bytes_of r)
+HoldsBytes r = AreBytes (payload_of r)
 
 -- the bytes of a record
-abbrev pub spelling : CaptureRecord → List ℕ
-spelling r =
-    let len = length (bytes_of r) in
-    venue_of r ∷ kind_byte r ∷ len / 256 ∷ len % 256 ∷ bytes_of r
+abbrev pub record_bytes : CaptureRecord → List ℕ
+record_bytes r =
+    let len = length (payload_of r) in
+    record_venue r ∷ kind_byte r ∷ len / 256 ∷ len % 256 ∷ payload_of r
 
 -- these records, and then this rest
 abbrev pub capture_of : List CaptureRecord → List ℕ → List ℕ
-capture_of records rest = flat_map spelling records ++ rest
+capture_of records rest = flat_map record_bytes records ++ rest
 
 -- a kind with a length that it may have: A, B and R with any, N with that of a session name, H and
 -- W with 0
@@ -62,9 +62,9 @@ IsKind kind len =
 
 -- a record that a capture of so many venues may hold
 pub record IsRecord (venues : ℕ) (r : CaptureRecord) : Type 0 where
-  pub venue : venue_of r < venues
-  pub kind : IsKind (kind_byte r) (length (bytes_of r))
-  pub len : length (bytes_of r) < 65536
+  pub venue : record_venue r < venues
+  pub kind : IsKind (kind_byte r) (length (payload_of r))
+  pub len : length (payload_of r) < 65536
 
 -- the length that a record's first four bytes give
 abbrev pub len_at : List ℕ → ℕ
@@ -77,7 +77,7 @@ pub record IsHeader (venues : ℕ) (rest : List ℕ) : Type 0 where
   pub kind : IsKind (slice_index rest 1) (len_at rest)
 
 -- four bytes that begin no record, however the bytes go on
-pub record IsBad (venues : ℕ) (rest : List ℕ) : Type 0 where
+pub record IsBadRecord (venues : ℕ) (rest : List ℕ) : Type 0 where
   pub four : 4 ≤ length rest
   pub wrong : IsHeader venues rest → ⊥
 
@@ -92,7 +92,7 @@ IsUnfinished venues rest = (rest ≡ []) ⊎ IsShort venues rest
 
 -- no record stands at the front: nothing is there, or what begins none, or less than one
 abbrev pub NoRecord : ℕ → List ℕ → Type 0
-NoRecord venues rest = (rest ≡ []) ⊎ (IsBad venues rest ⊎ IsShort venues rest)
+NoRecord venues rest = (rest ≡ []) ⊎ (IsBadRecord venues rest ⊎ IsShort venues rest)
 
 -- how many bytes tell what stands at the front: the first four, and once they are there all that
 -- they count
@@ -109,10 +109,10 @@ record_of (SelfHelp venue on) = self_help_record venue on
 
 -- what stands at the front of some bytes: a record and what is left behind it, no record, or less
 -- than one
-abbrev pub StandsAtFront : ℕ → List ℕ → Front → Type 0
+abbrev pub StandsAtFront : ℕ → List ℕ → Parse → Type 0
 StandsAtFront venues bytes (Whole r len) =
     IsRecord venues (record_of r)
-    × (len ≡ length (spelling (record_of r)))
-    × (bytes ≡ spelling (record_of r) ++ drop len bytes)
-StandsAtFront venues bytes Bad = IsBad venues bytes
+    × (len ≡ length (record_bytes (record_of r)))
+    × (bytes ≡ record_bytes (record_of r) ++ drop len bytes)
+StandsAtFront venues bytes Bad = IsBadRecord venues bytes
 StandsAtFront venues bytes (Wants n) = IsWanted venues bytes n × (n < 65540)

@@ -1,12 +1,12 @@
 -- The laws of the devices over memory, and of calls that are counted.
 use Rattle.std.proofs.Common.{◌≡◌, ℕ, ◌+◌, ◌*◌, ◌≤◌, List, [], ◌++◌, length, append_assoc, append-nil, refl, sym, ◌∙◌, arith, length-append}
 use Rattle.std.proofs.Math.Nat.{add-mul}
-use Rattle.feed_text.specs.Devices.{Held, GivesPieces}
+use Rattle.feed_text.specs.Devices.{HeldBytes, GivesPieces}
 
-pub gives_none : (s : Held) → GivesPieces s 0 [] s
+pub gives_none : (s : HeldBytes) → GivesPieces s 0 [] s
 gives_none s = record { front = refl; least = omega arith; most = omega arith; piece = refl }
 
-pub gives_more : (s t u : Held) (m n : ℕ) (xs ys : List ℕ)
+pub gives_more : (s t u : HeldBytes) (m n : ℕ) (xs ys : List ℕ)
     → GivesPieces s m xs t → GivesPieces t n ys u → GivesPieces s (m + n) (xs ++ ys) u
 gives_more s t u m n xs ys a b =
     let len : length (xs ++ ys) ≡ length xs + length ys = length-append xs ys in

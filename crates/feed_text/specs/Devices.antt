@@ -18,43 +18,43 @@ pub record WriteStream (W : Type 0) : Type 0 where
   pub failures : ℕ
 
 -- bytes in memory that are still to be given, and how many one call gives at most
-pub record Held : Type 0 where
+pub record HeldBytes : Type 0 where
   pub bytes : List ℕ
   pub piece : ℕ
 
 -- By so many calls these bytes came from the front, by each at least one and at most a piece.
-pub record GivesPieces (before : Held) (calls : ℕ) (bytes : List ℕ) (after : Held) : Type 0 where
+pub record GivesPieces (before : HeldBytes) (calls : ℕ) (bytes : List ℕ) (after : HeldBytes) : Type 0 where
   pub front : before.bytes ≡ bytes ++ after.bytes
   pub least : calls ≤ length bytes
   pub most : length bytes ≤ calls * before.piece
   pub piece : after.piece ≡ before.piece
 
 -- No byte was left, and nothing changed.
-pub record GivesEnd (before after : Held) : Type 0 where
+pub record GivesEnd (before after : HeldBytes) : Type 0 where
   pub none : before.bytes ≡ []
   pub same : after ≡ before
 
 -- By so many calls a reader came from one state to the other, and what it gave came behind the old
 -- bytes.
-pub record Came {R : Type 0} (gives : R → ℕ → List ℕ → R → Type 0)
+pub record HasGiven {R : Type 0} (gives : R → ℕ → List ℕ → R → Type 0)
     (from to : R) (old new : List ℕ) (calls : ℕ) : Type 0 where
   pub bytes : List ℕ
   pub given : gives from calls bytes to
   pub behind : new ≡ old ++ bytes
 
 -- The same, and then one more call showed the end.
-pub record CameAll {R : Type 0} (gives : R → ℕ → List ℕ → R → Type 0) (ends : R → R → Type 0)
+pub record HasGivenAll {R : Type 0} (gives : R → ℕ → List ℕ → R → Type 0) (ends : R → R → Type 0)
     (from to : R) (old new : List ℕ) (calls : ℕ) : Type 0 where
   pub mid : R
-  pub came : Came gives from mid old new calls
+  pub came : HasGiven gives from mid old new calls
   pub end : ends mid to
 
 -- The same after some calls, whatever came of the reader then.
-pub record CameSome {R : Type 0} (gives : R → ℕ → List ℕ → R → Type 0)
+pub record HasGivenSome {R : Type 0} (gives : R → ℕ → List ℕ → R → Type 0)
     (from : R) (old new : List ℕ) : Type 0 where
   pub calls : ℕ
   pub mid : R
-  pub came : Came gives from mid old new calls
+  pub came : HasGiven gives from mid old new calls
 
 -- A writer took a front of the text.
 pub record Wrote {W : Type 0} (adds : W → List ℕ → W → Type 0)

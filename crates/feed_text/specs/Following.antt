@@ -16,94 +16,94 @@ use Rattle.line_arbiter.specs.States.{State, KeepsAllButSent}
 use Rattle.line_arbiter.specs.Fits.{Fits, FitsHistory}
 use Rattle.feed_text.specs.declared.fault.ReplayFault.{ReplayFault}
 use Rattle.feed_text.specs.declared.fault.ReplayFault.TheVariants as faults
-use Rattle.feed_text.specs.declared.report.Stop.{Stop}
-use Rattle.feed_text.specs.declared.report.Stop.TheVariants.{JournalFull, NoMemory}
-use Rattle.feed_text.specs.Capture.{CaptureRecord, venue_of}
+use Rattle.feed_text.specs.declared.report.PublishStop.{PublishStop}
+use Rattle.feed_text.specs.declared.report.PublishStop.TheVariants.{JournalFull, NoMemory}
+use Rattle.feed_text.specs.Capture.{CaptureRecord, record_venue}
 use Rattle.feed_text.specs.Devices.{Wrote}
-use Rattle.feed_text.specs.Happenings.{Happening, item_taken, packet_answered}
-use Rattle.feed_text.specs.Told.{sent_of, items_told, TellsAt, TellsRecord}
+use Rattle.feed_text.specs.ReplayEvents.{ReplayEvent, item_taken, packet_answered}
+use Rattle.feed_text.specs.Emitted.{stream_length, items_emitted, EmitsAt, EmitsRecord}
 use Rattle.feed_text.specs.Texts.{last_lines}
-use Rattle.feed_text.specs.Tales.{Tale, TellsBy}
+use Rattle.feed_text.specs.ReplayStates.{ReplayState, EmitsInto}
 
 -- a venue's arbiter, and how many items of the sessions that are over were sent, as far as a u64
 -- shows it
-pub record Venue : Type 0 where
+pub record ReplayVenue : Type 0 where
   pub arbiter : State
   pub sent_before : ℕ
 
 -- The venue, at this place and with a window of this width, is that to which this came, and all
 -- that is ready was sent.
-pub record Follows (width place : ℕ) (v : Venue) (h : History) : Type 0 where
+pub record Follows (width place : ℕ) (v : ReplayVenue) (h : History) : Type 0 where
   pub history : FitsHistory v.arbiter h
   pub number : v.arbiter.venue ≡ place
   pub window : v.arbiter.window ≡ width
-  pub sent : v.arbiter.sent ≡ sent_of h
+  pub sent : v.arbiter.sent ≡ stream_length h
   pub sent_before : v.sent_before ≡ shown (length (items_of h.earlier))
 
 -- The items that are ready were taken, each once and in sequence, and where all of them were the
 -- arbiter has sent them, and keeps the rest.
-pub record TakesReady (venue : ℕ) (from to : State) (old new : Tale)
-    (done : Result (Unit {0}) Stop) : Type 0 where
-  pub tells : (P : List Arrival) → Fits from P
-      → TellsBy old (map (item_taken venue) (drop from.sent (stream_of P))) new done
+pub record TakesReady (venue : ℕ) (from to : State) (old new : ReplayState)
+    (done : Result (Unit {0}) PublishStop) : Type 0 where
+  pub emits : (P : List Arrival) → Fits from P
+      → EmitsInto old (map (item_taken venue) (drop from.sent (stream_of P))) new done
   pub fits : OnOk done ((P : List Arrival) → Fits from P
       → Fits to P × (to.sent ≡ length (stream_of P)))
   pub kept : OnOk done (KeepsAllButSent from to)
 
 -- A packet and then the items that it made ready were told, and where all of them were the venue
 -- follows the history with this packet.
-pub record TellsOutcome (width place : ℕ) (line : LineId) (packet : Content) (h : History)
-    (old new : Tale) (v : Venue) (done : Result (Unit {0}) Stop) : Type 0 where
+pub record EmitsOutcome (width place : ℕ) (line : LineId) (packet : Content) (h : History)
+    (old new : ReplayState) (v : ReplayVenue) (done : Result (Unit {0}) PublishStop) : Type 0 where
   pub answer : Result Outcome LineFault
-  pub outcome : IsOutcome h.present.name width (sent_of h) h.present.packets packet answer
-  pub tells : TellsBy old
+  pub outcome : IsOutcome h.present.name width (stream_length h) h.present.packets packet answer
+  pub emits : EmitsInto old
       (packet_answered place line answer
-      ∷ items_told place h (h.present.packets ++ arrival_of line packet answer ∷ []))
+      ∷ items_emitted place h (h.present.packets ++ arrival_of line packet answer ∷ []))
       new done
   pub follows : OnOk done (Follows width place v (after_arrival h (arrival_of line packet answer)))
 
 -- A renewal was answered, and the venue follows the history after it.
-pub record Renews (width place : ℕ) (name : List ℕ) (h : History) (v : Venue)
+pub record Renews (width place : ℕ) (name : List ℕ) (h : History) (v : ReplayVenue)
     (answer : Result ℕ RenewFault) : Type 0 where
-  pub is : IsRenewal (names_of h) (end_of h.present.packets) (sent_of h) name answer
+  pub is : IsRenewal (names_of h) (end_of h.present.packets) (stream_length h) name answer
   pub follows : Follows width place v (history_after h name answer)
 
 -- What one record tells was told, and where all of it was the venue follows the history after it.
-pub record TellsOne (window : ℕ) (gaps : Bool) (r : CaptureRecord) (h : History)
-    (old new : Tale) (v : Venue) (done : Result (Unit {0}) Stop) : Type 0 where
-  pub told : List Happening
+pub record EmitsOne (window : ℕ) (gaps : Bool) (r : CaptureRecord) (h : History)
+    (old new : ReplayState) (v : ReplayVenue) (done : Result (Unit {0}) PublishStop) : Type 0 where
+  pub emitted : List ReplayEvent
   pub after : History
-  pub at : TellsAt window gaps r h told after
-  pub tells : TellsBy old told new done
-  pub follows : OnOk done (Follows window (venue_of r) v after)
+  pub at : EmitsAt window gaps r h emitted after
+  pub emits : EmitsInto old emitted new done
+  pub follows : OnOk done (Follows window (record_venue r) v after)
 
 -- the venues of a capture, and whether gap lines are asked for
 pub record VenueList : Type 0 where
-  pub items : List Venue
+  pub items : List ReplayVenue
   pub gaps : Bool
 
 -- each venue follows its history
-pub record FollowAll (window : ℕ) (vs : List Venue) (hs : List History) : Type 0 where
+pub record FollowAll (window : ℕ) (vs : List ReplayVenue) (hs : List History) : Type 0 where
   pub count : length vs ≡ length hs
-  pub each : (i : ℕ) (v : Venue) (h : History) → slice_get vs i ≡ Some v → slice_get hs i ≡ Some h
+  pub each : (i : ℕ) (v : ReplayVenue) (h : History) → slice_get vs i ≡ Some v → slice_get hs i ≡ Some h
       → Follows window i v h
 
 -- What a record tells was told, and where all of it was the venues follow the histories after it.
-pub record TellsNext (window : ℕ) (gaps : Bool) (r : CaptureRecord) (hs : List History)
-    (old new : Tale) (vs : List Venue) (done : Result (Unit {0}) Stop) : Type 0 where
-  pub told : List Happening
+pub record EmitsNext (window : ℕ) (gaps : Bool) (r : CaptureRecord) (hs : List History)
+    (old new : ReplayState) (vs : List ReplayVenue) (done : Result (Unit {0}) PublishStop) : Type 0 where
+  pub emitted : List ReplayEvent
   pub after : List History
-  pub record_tells : TellsRecord window gaps r hs told after
-  pub tells : TellsBy old told new done
+  pub record_tells : EmitsRecord window gaps r hs emitted after
+  pub emits : EmitsInto old emitted new done
   pub follow : OnOk done (FollowAll window vs after)
 
 -- The venues take a record, whatever histories they follow.
-pub record TakesRecord (from : VenueList) (r : CaptureRecord) (old new : Tale) (to : VenueList)
-    (done : Result (Unit {0}) Stop) : Type 0 where
+pub record TakesRecord (from : VenueList) (r : CaptureRecord) (old new : ReplayState) (to : VenueList)
+    (done : Result (Unit {0}) PublishStop) : Type 0 where
   pub gaps : OnOk done (to.gaps ≡ from.gaps)
   pub count : OnOk done (length to.items ≡ length from.items)
-  pub told : (window : ℕ) (hs : List History) → FollowAll window from.items hs
-      → TellsNext window from.gaps r hs old new to.items done
+  pub emitted : (window : ℕ) (hs : List History) → FollowAll window from.items hs
+      → EmitsNext window from.gaps r hs old new to.items done
 
 -- The venues' last lines came behind the old text, whatever histories they follow.
 abbrev pub PrintsLast : VenueList → List ℕ → List ℕ → Type 0
@@ -112,17 +112,17 @@ PrintsLast at old new =
 
 -- what is still to be written where the telling stopped, and the text of the records before is so
 -- long: all up to a full journal, or that of these records
-abbrev pub left_by : Stop → ℕ → List ℕ → List ℕ
+abbrev pub left_by : PublishStop → ℕ → List ℕ → List ℕ
 left_by JournalFull whole text = text
 left_by NoMemory whole text = take whole text
 
-abbrev pub fault_by : Stop → ReplayFault
+abbrev pub fault_by : PublishStop → ReplayFault
 fault_by JournalFull = faults.JournalFull
 fault_by NoMemory = faults.NoMemory
 
 -- The text was written, or the writer failed within it.
 pub record Stops {W : Type 0} (adds : W → List ℕ → W → Type 0) (failures : W → ℕ)
-    (stop : Stop) (whole : ℕ) (text : List ℕ) (before after : W)
+    (stop : PublishStop) (whole : ℕ) (text : List ℕ) (before after : W)
     (fault : ReplayFault) : Type 0 where
   pub ways : ((fault ≡ fault_by stop) × adds before (left_by stop whole text) after)
       ⊎ ((fault ≡ faults.WriteFailed) × Wrote adds before (left_by stop whole text) after

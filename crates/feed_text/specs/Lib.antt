@@ -3,11 +3,11 @@ pub mod Devices
 pub mod Kind
 pub mod DeviceLaws
 pub mod Lines
-pub mod Happenings
-pub mod Told
+pub mod ReplayEvents
+pub mod Emitted
 pub mod VenueItems
 pub mod Texts
-pub mod Tales
+pub mod ReplayStates
 pub mod Following
 pub mod Replays
 pub mod Placing

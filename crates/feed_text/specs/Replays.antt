@@ -3,7 +3,7 @@ use Rattle.std.specs.Prelude.{◌≡◌, ◌⊎◌, ⊤, ℕ, ◌+◌, ◌≤◌
 use Rattle.feed_text.specs.declared.fault.ReplayFault.{ReplayFault}
 use Rattle.feed_text.specs.declared.fault.ReplayFault.TheVariants.{ReadFailed, WriteFailed, BadRecord, ShortRecord, TooManyTurns, JournalFull, NoMemory}
 use Rattle.feed_text.specs.declared.replay.ReplayConfig.{ReplayConfig}
-use Rattle.feed_text.specs.Capture.{CaptureRecord, IsRecord, IsBad, IsShort, IsUnfinished, capture_of}
+use Rattle.feed_text.specs.Capture.{CaptureRecord, IsRecord, IsBadRecord, IsShort, IsUnfinished, capture_of}
 use Rattle.feed_text.specs.Devices.{Reading, Writing, Wrote}
 use Rattle.feed_text.specs.Texts.{IsLinesOf, IsTextOf, IsLinesToFull}
 
@@ -26,7 +26,7 @@ pub record HasRead {R : Type 0} (reading : Reading R) (config : ReplayConfig)
 
 -- A whole capture was read by fewer than so many calls, one more call showed the end, and its
 -- text was written, and nothing else.
-pub record ReplaysAll {R W : Type 0} (reading : Reading R) (writing : Writing W)
+pub record WroteAll {R W : Type 0} (reading : Reading R) (writing : Writing W)
     (config : ReplayConfig) (IsText : List CaptureRecord → List ℕ → Type 0)
     (from to : R) (before after : W) : Type 0 where
   pub records : List CaptureRecord
@@ -41,7 +41,7 @@ pub record ReplaysAll {R W : Type 0} (reading : Reading R) (writing : Writing W)
 
 -- By so many calls records and then a rest of this kind were read, and exactly these lines of the
 -- records were written, and no venue line.
-pub record ReplaysTo {R W : Type 0} (reading : Reading R) (writing : Writing W)
+pub record WroteLines {R W : Type 0} (reading : Reading R) (writing : Writing W)
     (config : ReplayConfig) (AreLines : List CaptureRecord → List ℕ → Type 0)
     (IsLeft : List ℕ → Type 0) (from : R) (calls : ℕ) (to : R) (before after : W) : Type 0 where
   pub records : List CaptureRecord
@@ -53,18 +53,18 @@ pub record ReplaysTo {R W : Type 0} (reading : Reading R) (writing : Writing W)
   pub wrote : writing.adds before lines after
 
 -- The same by some calls, and then the reader came to this state.
-pub record ReplaysUntil {R W : Type 0} (reading : Reading R) (writing : Writing W)
+pub record WroteLinesUntil {R W : Type 0} (reading : Reading R) (writing : Writing W)
     (config : ReplayConfig) (AreLines : List CaptureRecord → List ℕ → Type 0)
     (IsLeft : List ℕ → Type 0) (Then : R → Type 0) (from : R) (before after : W) : Type 0 where
   pub calls : ℕ
   pub mid : R
-  pub replays : ReplaysTo reading writing config AreLines IsLeft from calls mid before after
+  pub replays : WroteLines reading writing config AreLines IsLeft from calls mid before after
   pub came_to : Then mid
 
 -- Records and then a rest were read by some calls, and a front of a text of theirs was written:
 -- of their lines, of those up to a full journal, or, where nothing is left and one more call showed
 -- the end, of their lines and the venues'.
-pub record ReplaysFront {R W : Type 0} (reading : Reading R) (writing : Writing W)
+pub record WrotePrefix {R W : Type 0} (reading : Reading R) (writing : Writing W)
     (config : ReplayConfig) (texts : TextFacts) (from to : R) (before after : W) : Type 0 where
   pub records : List CaptureRecord
   pub rest : List ℕ
@@ -78,32 +78,32 @@ pub record ReplaysFront {R W : Type 0} (reading : Reading R) (writing : Writing 
   pub wrote : Wrote writing.adds before text after
 
 -- What a replay came to, by its answer, where this is said of what it writes.
-abbrev pub ReplaysBy : {R W : Type 0} (reading : Reading R) (writing : Writing W)
+abbrev pub AnswersReplay : {R W : Type 0} (reading : Reading R) (writing : Writing W)
     (config : ReplayConfig) (texts : TextFacts) (from to : R) (before after : W)
     → Result (Unit {0}) ReplayFault → Type 0
-ReplaysBy reading writing config texts from to before after (Ok done) =
-    ReplaysAll reading writing config texts.IsText from to before after
-ReplaysBy reading writing config texts from to before after (Err BadRecord) =
-    ReplaysUntil reading writing config texts.AreLines (IsBad (venues_in config))
+AnswersReplay reading writing config texts from to before after (Ok done) =
+    WroteAll reading writing config texts.IsText from to before after
+AnswersReplay reading writing config texts from to before after (Err BadRecord) =
+    WroteLinesUntil reading writing config texts.AreLines (IsBadRecord (venues_in config))
     (λ mid. mid ≡ to) from before after
-ReplaysBy reading writing config texts from to before after (Err ShortRecord) =
-    ReplaysUntil reading writing config texts.AreLines (IsShort (venues_in config))
+AnswersReplay reading writing config texts from to before after (Err ShortRecord) =
+    WroteLinesUntil reading writing config texts.AreLines (IsShort (venues_in config))
     (λ mid. reading.ends mid to) from before after
-ReplaysBy reading writing config texts from to before after (Err TooManyTurns) =
-    ReplaysTo reading writing config texts.AreLines (IsUnfinished (venues_in config))
+AnswersReplay reading writing config texts from to before after (Err TooManyTurns) =
+    WroteLines reading writing config texts.AreLines (IsUnfinished (venues_in config))
     from config.turns to before after
-ReplaysBy reading writing config texts from to before after (Err JournalFull) =
-    ReplaysUntil reading writing config texts.AreLinesToFull (λ rest. ⊤) (λ mid. mid ≡ to)
+AnswersReplay reading writing config texts from to before after (Err JournalFull) =
+    WroteLinesUntil reading writing config texts.AreLinesToFull (λ rest. ⊤) (λ mid. mid ≡ to)
     from before after
-ReplaysBy reading writing config texts from to before after (Err ReadFailed) =
-    ReplaysUntil reading writing config texts.AreLines (IsUnfinished (venues_in config))
+AnswersReplay reading writing config texts from to before after (Err ReadFailed) =
+    WroteLinesUntil reading writing config texts.AreLines (IsUnfinished (venues_in config))
     (λ mid. ⊤) from before after
     × (reading.failures to ≡ reading.failures from + 1)
-ReplaysBy reading writing config texts from to before after (Err WriteFailed) =
-    ReplaysFront reading writing config texts from to before after
+AnswersReplay reading writing config texts from to before after (Err WriteFailed) =
+    WrotePrefix reading writing config texts from to before after
     × (writing.failures after ≡ writing.failures before + 1)
-ReplaysBy reading writing config texts from to before after (Err NoMemory) =
-    ReplaysUntil reading writing config texts.AreLines (λ rest. ⊤)
+AnswersReplay reading writing config texts from to before after (Err NoMemory) =
+    WroteLinesUntil reading writing config texts.AreLines (λ rest. ⊤)
     (λ mid. (mid ≡ to) ⊎ reading.ends mid to) from before after
 
 -- the text of a capture, and the lines of its records
@@ -119,4 +119,4 @@ abbrev pub Replays : {R W : Type 0} (reading : Reading R) (writing : Writing W)
     (config : ReplayConfig) (from to : R) (before after : W)
     → Result (Unit {0}) ReplayFault → Type 0
 Replays reading writing config from to before after answer =
-    ReplaysBy reading writing config (texts_of config) from to before after answer
+    AnswersReplay reading writing config (texts_of config) from to before after answer

@@ -7,9 +7,9 @@ use Rattle.line_arbiter.specs.Counts.{shown}
 use Rattle.journal_book.specs.Changes.{notices_since}
 use Rattle.feed_text.specs.declared.replay.ReplayConfig.{ReplayConfig}
 use Rattle.feed_text.specs.Capture.{CaptureRecord}
-use Rattle.feed_text.specs.Happenings.{Happening, packet_answered, packet_refused, item_taken, gap_left, renewal_answered, self_help_declared, is_so, entries_after, entries_of}
+use Rattle.feed_text.specs.ReplayEvents.{ReplayEvent, packet_answered, packet_refused, item_taken, gap_left, renewal_answered, self_help_declared, is_so, entries_after, entries_of}
 use Rattle.feed_text.specs.Lines.{packet_line, fault_line, item_line, best_line, gap_line, renew_line, declare_line, venue_line}
-use Rattle.feed_text.specs.Told.{TellsRecord, Tells}
+use Rattle.feed_text.specs.Emitted.{EmitsRecord, Emits}
 
 -- the position of the entry that a declaration adds, unless it is so already
 abbrev pub position_of : List Entry → ℕ → Bool → Option ℕ
@@ -17,7 +17,7 @@ position_of entries venue on =
     if is_so entries venue on then None else Some (length entries + 1)
 
 -- the line of a happening, where these are the entries before it
-abbrev pub line_of : List Entry → Happening → List ℕ
+abbrev pub line_of : List Entry → ReplayEvent → List ℕ
 line_of entries (packet_answered venue line answer) = packet_line venue line answer
 line_of entries (packet_refused venue line fault) = fault_line venue line (code_of fault)
 line_of entries (item_taken venue numbered) = item_line venue numbered
@@ -27,13 +27,13 @@ line_of entries (self_help_declared venue on) =
     declare_line venue on (position_of entries venue on)
 
 -- the lines of a happening: its own, and then the best lines of the notices that it made
-abbrev pub lines_of : List (List ℕ) → List Entry → Happening → List ℕ
+abbrev pub lines_of : List (List ℕ) → List Entry → ReplayEvent → List ℕ
 lines_of symbols entries h =
     line_of entries h
     ++ flat_map best_line (notices_since symbols entries (entries_after entries h))
 
 -- the lines of happenings, one after another
-abbrev pub text_of : List (List ℕ) → List Entry → List Happening → List ℕ
+abbrev pub text_of : List (List ℕ) → List Entry → List ReplayEvent → List ℕ
 text_of symbols entries [] = []
 text_of symbols entries (h ∷ hs) =
     lines_of symbols entries h ++ text_of symbols (entries_after entries h) hs
@@ -54,35 +54,35 @@ abbrev pub new_histories : ReplayConfig → List History
 new_histories config = map new_history config.sessions.now
 
 -- records tell this, and lead to these histories
-abbrev pub TellsAll : ReplayConfig → List CaptureRecord → List Happening → List History → Type 0
-TellsAll config records told histories =
-    Tells config.window config.gaps records (new_histories config) told histories
+abbrev pub EmitsAll : ReplayConfig → List CaptureRecord → List ReplayEvent → List History → Type 0
+EmitsAll config records emitted histories =
+    Emits config.window config.gaps records (new_histories config) emitted histories
 
 -- what happened has room in the journal
-abbrev pub HasRoom : ReplayConfig → List Happening → Type 0
-HasRoom config told = length (entries_of [] told) ≤ config.journal
+abbrev pub HasJournalRoom : ReplayConfig → List ReplayEvent → Type 0
+HasJournalRoom config emitted = length (entries_of [] emitted) ≤ config.journal
 
 -- the lines of what happened, from an empty journal on
-abbrev pub lines_told : ReplayConfig → List Happening → List ℕ
-lines_told config told = text_of config.symbols.now [] told
+abbrev pub lines_emitted : ReplayConfig → List ReplayEvent → List ℕ
+lines_emitted config emitted = text_of config.symbols.now [] emitted
 
 -- the lines of records that have room in the journal, without those of the venues at the end
 pub record IsLinesOf (config : ReplayConfig) (records : List CaptureRecord) (lines : List ℕ)
     : Type 0 where
-  pub told : List Happening
+  pub emitted : List ReplayEvent
   pub histories : List History
-  pub tells : TellsAll config records told histories
-  pub room : HasRoom config told
-  pub lines_are : lines ≡ lines_told config told
+  pub emits : EmitsAll config records emitted histories
+  pub room : HasJournalRoom config emitted
+  pub lines_are : lines ≡ lines_emitted config emitted
 
 -- the text of a whole capture: the lines of its records, and then the last lines
 pub record IsTextOf (config : ReplayConfig) (records : List CaptureRecord) (text : List ℕ)
     : Type 0 where
-  pub told : List Happening
+  pub emitted : List ReplayEvent
   pub histories : List History
-  pub tells : TellsAll config records told histories
-  pub room : HasRoom config told
-  pub text_is : text ≡ lines_told config told ++ last_lines 0 histories
+  pub emits : EmitsAll config records emitted histories
+  pub room : HasJournalRoom config emitted
+  pub text_is : text ≡ lines_emitted config emitted ++ last_lines 0 histories
 
 -- The lines up to a full journal: all records but the last have room; of what the last one tells
 -- these first happenings have room, too, and the next one would add an entry past the journal's
@@ -92,15 +92,15 @@ pub record IsLinesToFull (config : ReplayConfig) (records : List CaptureRecord) 
   pub earlier : List CaptureRecord
   pub last : CaptureRecord
   pub records_are : records ≡ earlier ++ last ∷ []
-  pub told : List Happening
+  pub emitted : List ReplayEvent
   pub histories : List History
-  pub tells : TellsAll config earlier told histories
-  pub first : List Happening
-  pub next : Happening
-  pub others : List Happening
+  pub emits : EmitsAll config earlier emitted histories
+  pub first : List ReplayEvent
+  pub next : ReplayEvent
+  pub others : List ReplayEvent
   pub after : List History
-  pub last_tells : TellsRecord config.window config.gaps last histories
+  pub last_tells : EmitsRecord config.window config.gaps last histories
       (first ++ next ∷ others) after
-  pub room : HasRoom config (told ++ first)
-  pub full : config.journal < length (entries_of [] (told ++ first ++ next ∷ []))
-  pub lines_are : lines ≡ lines_told config (told ++ first)
+  pub room : HasJournalRoom config (emitted ++ first)
+  pub full : config.journal < length (entries_of [] (emitted ++ first ++ next ∷ []))
+  pub lines_are : lines ≡ lines_emitted config (emitted ++ first)

@@ -32,7 +32,7 @@ pub enum Record<'a> {
 
 /// What stands at the front of some bytes.
 #[derive(Clone, Copy, Debug, PartialEq, Eq)]
-pub enum Front<'a> {
+pub enum Parse<'a> {
     /// A whole record, and how many bytes it takes: from 4 to 65,539.
     Whole(Record<'a>, usize),
     /// No record, however the bytes go on: of a venue or a kind that isn't there, a renewal whose
@@ -101,22 +101,22 @@ fn name_from(bytes: &[u8]) -> [u8; 10]
 }
 
 /// Reads the record at the front of the bytes, of a capture of so many venues.
-pub fn front_of(venues: usize, bytes: &[u8]) -> Front<'_>
+pub fn parse_record(venues: usize, bytes: &[u8]) -> Parse<'_>
     requires { venues ≤ 16 }
     ensures { StandsAtFront venues bytes.now result }
 {
     if bytes.len() < HEADER {
-        return Front::Wants(HEADER);
+        return Parse::Wants(HEADER);
     }
     let len = usize::from(bytes[2]) * 256 + usize::from(bytes[3]);
     let Some(venue) = venue_from(venues, bytes[0]) else {
-        return Front::Bad;
+        return Parse::Bad;
     };
     let Some(kind) = kind_from(bytes[1], len) else {
-        return Front::Bad;
+        return Parse::Bad;
     };
     if bytes.len() < HEADER + len {
-        return Front::Wants(HEADER + len);
+        return Parse::Wants(HEADER + len);
     }
     let held = &bytes[HEADER..HEADER + len];
     let record = match kind {
@@ -131,5 +131,5 @@ pub fn front_of(venues: usize, bytes: &[u8]) -> Front<'_>
         },
         Kind::SelfHelp(on) => Record::SelfHelp { venue, on },
     };
-    Front::Whole(record, HEADER + len)
+    Parse::Whole(record, HEADER + len)
 }

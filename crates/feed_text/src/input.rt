@@ -1,32 +1,32 @@
 //! Calls of a reader, until enough bytes are there.
 ghost use Rattle.std.specs.Prelude.{◌≡◌, ◌≢◌, ◌+◌, ◌-◌, ◌<◌, ◌≤◌, Ok, Err, OnOk, IsErrOf, length, true, false};
-ghost use Rattle.feed_text.specs.Devices.{Came, CameAll, CameSome};
+ghost use Rattle.feed_text.specs.Devices.{HasGiven, HasGivenAll, HasGivenSome};
 
 use crate::devices::CaptureIn;
 use crate::fault::ReplayFault;
-use crate::unread::{Turn, Unread};
+use crate::unread::{ReadBuffer, ReadStep};
 
 /// Calls the reader until so many bytes are there, or it shows the end.
 pub fn fill<R: CaptureIn>(
-    unread: &mut Unread,
+    unread: &mut ReadBuffer,
     reader: &mut R,
     wanted: usize,
     turns: &mut u64,
 ) -> Result<bool, ReplayFault>
     requires wanted { wanted < 65540 }
     ensures more { result ≡ Ok true
-        → Came R.gives reader.old reader.new unread.old unread.new (turns.old - turns.new)
+        → HasGiven R.gives reader.old reader.new unread.old unread.new (turns.old - turns.new)
         × (wanted ≤ length unread.new) }
     ensures end { result ≡ Ok false
-        → CameAll R.gives R.ends reader.old reader.new unread.old unread.new
+        → HasGivenAll R.gives R.ends reader.old reader.new unread.old unread.new
         (turns.old - turns.new - 1)
         × (turns.new < turns.old) }
     ensures lacking { (result ≡ Ok true → ⊥) → length unread.new < wanted }
     ensures failed { IsErrOf result ReplayFault.ReadFailed
-        → CameSome R.gives reader.old unread.old unread.new
+        → HasGivenSome R.gives reader.old unread.old unread.new
         × (R.failures reader.new ≡ R.failures reader.old + 1) }
     ensures stopped { IsErrOf result ReplayFault.TooManyTurns
-        → Came R.gives reader.old reader.new unread.old unread.new turns.old }
+        → HasGiven R.gives reader.old reader.new unread.old unread.new turns.old }
     ensures turns { turns.new ≤ turns.old }
     ensures progress { length unread.old < wanted → OnOk result (turns.new < turns.old) }
     ensures faults { (e : _) → IsErrOf result e
@@ -40,9 +40,9 @@ pub fn fill<R: CaptureIn>(
         }
         *turns -= 1;
         match unread.read_from(reader) {
-            Turn::Went => {}
-            Turn::Ended => return Ok(false),
-            Turn::Failed => return Err(ReplayFault::ReadFailed),
+            ReadStep::Went => {}
+            ReadStep::Ended => return Ok(false),
+            ReadStep::Failed => return Err(ReplayFault::ReadFailed),
         }
     }
     Ok(true)

@@ -3,9 +3,9 @@ ghost use Rattle.std.specs.Prelude.{◌≡◌, ℕ, Bool, List, Some, All, slice
 ghost use Rattle.line_arbiter.specs.Histories.{History, streams_of};
 ghost use Rattle.feed_text.specs.declared.replay.ReplayConfig.{ReplayConfig};
 ghost use Rattle.feed_text.specs.Capture.{CaptureRecord, HoldsBytes, IsRecord, NoRecord, capture_of};
-ghost use Rattle.feed_text.specs.Happenings.{Happening};
-ghost use Rattle.feed_text.specs.Told.{Tells};
-ghost use Rattle.feed_text.specs.Texts.{TellsAll, IsLinesOf, IsTextOf, IsLinesToFull};
+ghost use Rattle.feed_text.specs.ReplayEvents.{ReplayEvent};
+ghost use Rattle.feed_text.specs.Emitted.{Emits};
+ghost use Rattle.feed_text.specs.Texts.{EmitsAll, IsLinesOf, IsTextOf, IsLinesToFull};
 ghost use Rattle.feed_text.specs.Replays.{venues_in};
 ghost use Rattle.feed_text.specs.VenueItems.{items_taken};
 
@@ -22,9 +22,9 @@ pub fn one_reading()
 /// So do the lines of records, and those up to a full journal; and records have either the one or
 /// the other.
 pub fn one_text()
-    ensures told { (window : ℕ) (gaps : Bool) (records : List CaptureRecord)
-        (old new last : List History) (t u : List Happening)
-        → Tells window gaps records old t new → Tells window gaps records old u last
+    ensures emitted { (window : ℕ) (gaps : Bool) (records : List CaptureRecord)
+        (old new last : List History) (t u : List ReplayEvent)
+        → Emits window gaps records old t new → Emits window gaps records old u last
         → (t ≡ u) × (new ≡ last) }
     ensures text { (config : ReplayConfig) (records : List CaptureRecord) (t u : List ℕ)
         → IsTextOf config records t → IsTextOf config records u → t ≡ u }
@@ -44,16 +44,16 @@ pub fn one_text()
 pub fn every_capture_tells()
     ensures { (config : ReplayConfig) (records : List CaptureRecord)
         → All (IsRecord (venues_in config)) records → All HoldsBytes records
-        → (told : List Happening) × (histories : List History)
-        × TellsAll config records told histories }
+        → (emitted : List ReplayEvent) × (histories : List History)
+        × EmitsAll config records emitted histories }
 {}
 
 /// The items that are told of a venue are its streams: session after session, what its lines
 /// brought up to the first gap, each once and in sequence, whether or not the journal has room.
 pub fn items_are_the_streams()
-    ensures { (config : ReplayConfig) (records : List CaptureRecord) (told : List Happening)
+    ensures { (config : ReplayConfig) (records : List CaptureRecord) (emitted : List ReplayEvent)
         (histories : List History)
-        → TellsAll config records told histories
+        → EmitsAll config records emitted histories
         → (place : ℕ) (h : History) → slice_get histories place ≡ Some h
-        → items_taken place told ≡ streams_of h }
+        → items_taken place emitted ≡ streams_of h }
 {}

@@ -13,7 +13,7 @@ use crate::fields::{
     place, place_field, place_name, place_number, place_price, place_short_field, place_venue,
     place_word,
 };
-use crate::page::Page;
+use crate::page::LineBuffer;
 use feed_types::{Best, Item, LineId, NationalState, Notice, Numbered, VenueId};
 use line_arbiter::{LineFault, Outcome, RenewFault};
 use mold_packet::Request;
@@ -129,7 +129,7 @@ fn place_packet(
 /// The line of a datagram whose packet was answered.
 #[inline(always)]
 pub(crate) fn put_packet(
-    text: &mut Page,
+    text: &mut LineBuffer,
     venue: VenueId,
     line: LineId,
     outcome: &Result<Outcome, LineFault>,
@@ -148,7 +148,7 @@ pub(crate) fn put_packet(
 /// The line of a datagram that is no packet. It is rare, and so a call of its own.
 #[inline(never)]
 pub(crate) fn put_fault(
-    text: &mut Page,
+    text: &mut LineBuffer,
     venue: VenueId,
     line: LineId,
     code: u8,
@@ -194,7 +194,11 @@ fn place_item_head(room: &mut [u8], at: usize, venue: VenueId) -> usize
 
 /// The line of an item that was ready.
 #[inline(always)]
-pub(crate) fn put_item(text: &mut Page, venue: VenueId, item: &Numbered) -> Result<(), AllocError>
+pub(crate) fn put_item(
+    text: &mut LineBuffer,
+    venue: VenueId,
+    item: &Numbered,
+) -> Result<(), AllocError>
     ensures line { OnOk result (text.new.items ≡ text.old.items ++ item_line venue item.now) }
     ensures part { OnErr result (text.new.items ≡ text.old.items) }
 {
@@ -262,7 +266,11 @@ fn place_state(room: &mut [u8], at: usize, state: NationalState) -> usize
 
 /// The line of a change of the national best, under this number.
 #[inline(never)]
-pub(crate) fn put_change(text: &mut Page, number: u64, change: &Change) -> Result<(), AllocError>
+pub(crate) fn put_change(
+    text: &mut LineBuffer,
+    number: u64,
+    change: &Change,
+) -> Result<(), AllocError>
     ensures line { OnOk result
         (text.new.items ≡ text.old.items ++ best_line (notice_of number change.now)) }
     ensures part { OnErr result (text.new.items ≡ text.old.items) }
@@ -283,7 +291,7 @@ pub(crate) fn put_change(text: &mut Page, number: u64, change: &Change) -> Resul
 }
 
 /// The line of a notice.
-pub fn put_best(text: &mut Page, notice: &Notice) -> Result<(), AllocError>
+pub fn put_best(text: &mut LineBuffer, notice: &Notice) -> Result<(), AllocError>
     ensures line { OnOk result (text.new.items ≡ text.old.items ++ best_line notice.now) }
     ensures part { OnErr result (text.new.items ≡ text.old.items) }
 {
@@ -296,7 +304,11 @@ pub fn put_best(text: &mut Page, notice: &Notice) -> Result<(), AllocError>
 }
 
 /// The line of the run of messages to ask for.
-pub(crate) fn put_gap(text: &mut Page, venue: VenueId, request: &Request) -> Result<(), AllocError>
+pub(crate) fn put_gap(
+    text: &mut LineBuffer,
+    venue: VenueId,
+    request: &Request,
+) -> Result<(), AllocError>
     ensures line { OnOk result (text.new.items ≡ text.old.items ++ gap_line venue request.now) }
     ensures part { OnErr result (text.new.items ≡ text.old.items) }
 {
@@ -328,7 +340,7 @@ fn place_on(room: &mut [u8], at: usize, on: bool) -> usize
 
 /// The line of a declaration: the position of its entry, or that it is so already.
 pub(crate) fn put_declared(
-    text: &mut Page,
+    text: &mut LineBuffer,
     venue: VenueId,
     on: bool,
     position: Option<u64>,
@@ -355,7 +367,7 @@ pub(crate) fn put_declared(
 
 /// The line of a renewal: the ordinal of the session that begins, or why none does.
 pub(crate) fn put_renewal(
-    text: &mut Page,
+    text: &mut LineBuffer,
     venue: VenueId,
     renewal: &Result<u64, RenewFault>,
 ) -> Result<(), AllocError>
@@ -381,7 +393,7 @@ pub(crate) fn put_renewal(
 /// The last line of a venue: how many items were sent, and how many numbers came first on A, on B
 /// and by recovery.
 pub fn put_venue(
-    text: &mut Page,
+    text: &mut LineBuffer,
     venue: VenueId,
     sent: u64,
     a: u64,

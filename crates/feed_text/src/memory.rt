@@ -18,9 +18,9 @@ pub struct MemoryIn<'a> {
 
 impl<'a> Model for MemoryIn<'a> {
     ghost use Rattle.std.specs.Prelude.{◌<◌};
-    ghost use Rattle.feed_text.specs.Devices.{Held};
+    ghost use Rattle.feed_text.specs.Devices.{HeldBytes};
 
-    ghost Value = { Held };
+    ghost Value = { HeldBytes };
 
     ghost view = { λ s. record { bytes = s.left.now; piece = s.piece } };
 

@@ -4,7 +4,7 @@ ghost use Rattle.feed_text.specs.Devices.{Wrote, Moved};
 
 use crate::devices::{TextOut, WriteStop};
 use crate::fault::ReplayFault;
-use crate::page::Page;
+use crate::page::LineBuffer;
 
 /// Text goes out once it has so many bytes.
 const PAGE: usize = 65_536;
@@ -27,7 +27,7 @@ pub fn write_all<W: TextOut>(text: &[u8], writer: &mut W) -> Result<(), WriteSto
 }
 
 /// Writes all of the text, and empties it.
-pub(crate) fn flush<W: TextOut>(text: &mut Page, writer: &mut W) -> Result<(), ReplayFault>
+pub(crate) fn flush<W: TextOut>(text: &mut LineBuffer, writer: &mut W) -> Result<(), ReplayFault>
     ensures ok { OnOk result
         (Moved W.adds writer.old writer.new text.old.items text.new.items
         × (text.new.items ≡ [])) }
@@ -46,7 +46,10 @@ pub(crate) fn flush<W: TextOut>(text: &mut Page, writer: &mut W) -> Result<(), R
 }
 
 /// Writes all of the text once it fills a page.
-pub(crate) fn flush_full<W: TextOut>(text: &mut Page, writer: &mut W) -> Result<(), ReplayFault>
+pub(crate) fn flush_full<W: TextOut>(
+    text: &mut LineBuffer,
+    writer: &mut W,
+) -> Result<(), ReplayFault>
     ensures ok { OnOk result
         (Moved W.adds writer.old writer.new text.old.items text.new.items) }
     ensures only { OnErr result (IsErrOf result ReplayFault.WriteFailed) }

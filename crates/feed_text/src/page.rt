@@ -10,14 +10,14 @@ static MORE: [u8; 2048] = [0; 2048];
 /// A text that grows by lines. A line's room is made before it is placed, so that its parts need no
 /// test.
 #[derive(Drop)]
-pub struct Page {
+pub struct LineBuffer {
     /// The text, and then room whose bytes say nothing.
     pub(crate) bytes: Vec<u8>,
     /// Where the text ends.
     pub(crate) end: usize,
 }
 
-impl Model for Page {
+impl Model for LineBuffer {
     ghost use Rattle.std.specs.Prelude.{◌-◌, ◌≤◌, length, take};
     ghost use Rattle.feed_text.specs.Pages.{Written, written_code};
 
@@ -33,12 +33,12 @@ impl Model for Page {
     ghost invariant = { λ p. p.end ≤ length p.bytes.items };
 }
 
-impl Page {
+impl LineBuffer {
     /// No text. It takes no memory before there is some.
-    pub fn new(alloc: Global) -> Page
+    pub fn new(alloc: Global) -> LineBuffer
         ensures items { result.items ≡ [] }
     {
-        Page {
+        LineBuffer {
             bytes: Vec::new(alloc),
             end: 0,
         }

@@ -6,14 +6,14 @@ ghost use Rattle.journal_book.specs.Running.{new_running};
 ghost use Rattle.feed_text.specs.Following.{Closes, Stops, fault_by, left_by};
 ghost use Rattle.feed_text.specs.Replays.{Replays};
 
-use crate::capture::{Front, front_of};
+use crate::capture::{Parse, parse_record};
 use crate::devices::{CaptureIn, TextOut};
 use crate::fault::ReplayFault;
 use crate::input::fill;
 use crate::output::{flush, flush_full};
-use crate::page::Page;
-use crate::report::{Report, Stop};
-use crate::unread::Unread;
+use crate::page::LineBuffer;
+use crate::report::{PublishStop, ReplaySink};
+use crate::unread::ReadBuffer;
 use crate::venues::Venues;
 use feed_types::SymbolName;
 use journal_book::RunningJournal;
@@ -41,13 +41,13 @@ pub struct ReplayConfig<'a> {
 
 /// What is still to be written where the telling stopped: all of the text where the journal is
 /// full, and where memory was refused that of the records before, so many bytes.
-fn keep_told(stop: Stop, text: &mut Page, whole: usize) -> ReplayFault
+fn keep_told(stop: PublishStop, text: &mut LineBuffer, whole: usize) -> ReplayFault
     ensures fault { result ≡ fault_by stop }
     ensures left { text.new.items ≡ left_by stop whole text.old.items }
 {
     match stop {
-        Stop::JournalFull => ReplayFault::JournalFull,
-        Stop::NoMemory => {
+        PublishStop::JournalFull => ReplayFault::JournalFull,
+        PublishStop::NoMemory => {
             text.truncate(whole);
             ReplayFault::NoMemory
         }
@@ -55,7 +55,12 @@ fn keep_told(stop: Stop, text: &mut Page, whole: usize) -> ReplayFault
 }
 
 /// Writes what was told before the telling stopped, and says how that ended.
-fn stopped<W: TextOut>(stop: Stop, text: &mut Page, whole: usize, writer: &mut W) -> ReplayFault
+fn stopped<W: TextOut>(
+    stop: PublishStop,
+    text: &mut LineBuffer,
+    whole: usize,
+    writer: &mut W,
+) -> ReplayFault
     ensures { Stops W.adds W.failures stop whole text.old.items writer.old writer.new result }
 {
     let fault = keep_told(stop, text, whole);
@@ -67,7 +72,7 @@ fn stopped<W: TextOut>(stop: Stop, text: &mut Page, whole: usize, writer: &mut W
 
 /// A journal of no entries, and no text. The symbols are few enough and distinct, so that want of
 /// memory alone is refused.
-fn new_report(alloc: Global, config: &ReplayConfig<'_>) -> Result<Report, AllocError>
+fn new_report(alloc: Global, config: &ReplayConfig<'_>) -> Result<ReplaySink, AllocError>
     requires some { 1 ≤ length config.now.sessions.now }
     requires few { length config.now.sessions.now ≤ 16 }
     requires symbols { length config.now.symbols.now ≤ 4096 }
@@ -77,16 +82,20 @@ fn new_report(alloc: Global, config: &ReplayConfig<'_>) -> Result<Report, AllocE
     ensures text { IfOk result (λ report. report.text.items ≡ []) }
 {
     match RunningJournal::new(alloc, config.symbols, config.sessions.len(), config.journal) {
-        Ok(journal) => Ok(Report {
+        Ok(journal) => Ok(ReplaySink {
             journal,
-            text: Page::new(alloc),
+            text: LineBuffer::new(alloc),
         }),
         Err(_) => Err(AllocError),
     }
 }
 
 /// Writes the last lines.
-fn close<W: TextOut>(venues: &Venues, mut text: Page, writer: &mut W) -> Result<(), ReplayFault>
+fn close<W: TextOut>(
+    venues: &Venues,
+    mut text: LineBuffer,
+    writer: &mut W,
+) -> Result<(), ReplayFault>
     requires { text.items ≡ [] }
     ensures { Closes W.adds W.failures venues.now writer.old writer.new result }
 {
@@ -121,11 +130,11 @@ pub fn replay<R: CaptureIn, W: TextOut>(
 {
     let mut venues = Venues::new(alloc, config.sessions, config.window, config.gaps)?;
     let mut report = new_report(alloc, config)?;
-    let mut unread = Unread::new(alloc)?;
+    let mut unread = ReadBuffer::new(alloc)?;
     let mut turns = config.turns;
     'records: loop {
-        match front_of(config.sessions.len(), unread.bytes()) {
-            Front::Whole(record, len) => {
+        match parse_record(config.sessions.len(), unread.bytes()) {
+            Parse::Whole(record, len) => {
                 let whole = report.text.len();
                 match venues.take(record, &mut report) {
                     Ok(()) => unread.advance(len),
@@ -133,11 +142,11 @@ pub fn replay<R: CaptureIn, W: TextOut>(
                 }
                 flush_full(&mut report.text, writer)?;
             }
-            Front::Bad => {
+            Parse::Bad => {
                 flush(&mut report.text, writer)?;
                 return Err(ReplayFault::BadRecord);
             }
-            Front::Wants(wanted) => {
+            Parse::Wants(wanted) => {
                 flush(&mut report.text, writer)?;
                 if fill(&mut unread, reader, wanted, &mut turns)? {
                     continue;

@@ -1,44 +1,44 @@
 //! What happens, journaled and printed.
 ghost use Rattle.std.specs.Prelude.{◌≡◌, ◌<◌, ◌≤◌, ◌∷◌, [], ◌+◌, ◌++◌, length, flat_map, OnOk};
 ghost use Rattle.journal_book.specs.Changes.{notices_from};
-ghost use Rattle.feed_text.specs.Happenings.{item_taken, self_help_declared};
+ghost use Rattle.feed_text.specs.ReplayEvents.{item_taken, self_help_declared};
 ghost use Rattle.feed_text.specs.Lines.{best_line};
-ghost use Rattle.feed_text.specs.Tales.{Grows, TellsBy, tale_of};
-ghost use Rattle.feed_text.specs.declared.report.Stop.TheVariants.{NoMemory};
+ghost use Rattle.feed_text.specs.ReplayStates.{Grows, EmitsInto, state_of_replay};
+ghost use Rattle.feed_text.specs.declared.report.PublishStop.TheVariants.{NoMemory};
 
 use crate::lines::{put_change, put_declared, put_item};
-use crate::page::Page;
+use crate::page::LineBuffer;
 use feed_types::{Numbered, VenueId};
 use journal_book::{JournalFault, Latest, RunningJournal};
 use std::alloc::AllocError;
 
 /// Why what happens was not told to its end.
 #[derive(Clone, Copy, Debug, PartialEq, Eq)]
-pub enum Stop {
+pub enum PublishStop {
     /// The journal has as many entries as it holds, and the next happening needs one more.
     JournalFull,
     /// Memory was refused.
     NoMemory,
 }
 
-impl From<AllocError> for Stop {
+impl From<AllocError> for PublishStop {
     ghost from_gives = { λ _ e. e ≡ NoMemory };
 
-    fn from(_error: AllocError) -> Stop {
-        Stop::NoMemory
+    fn from(_error: AllocError) -> PublishStop {
+        PublishStop::NoMemory
     }
 }
 
 /// The journal of a replay, and the text that waits to be written.
 #[derive(Drop)]
-pub struct Report {
+pub struct ReplaySink {
     pub journal: RunningJournal,
-    pub text: Page,
+    pub text: LineBuffer,
 }
 
 /// Prints the changes that the last entry made.
 #[inline(always)]
-fn put_bests(text: &mut Page, latest: Latest<'_>) -> Result<(), AllocError>
+fn put_bests(text: &mut LineBuffer, latest: Latest<'_>) -> Result<(), AllocError>
     requires { latest.first + length latest.changes.now ≤ 18446744073709551615 }
     ensures lines { OnOk result (text.new.items ≡ text.old.items
         ++ flat_map best_line (notices_from latest.entry.first latest.entry.changes.now)) }
@@ -52,16 +52,16 @@ fn put_bests(text: &mut Page, latest: Latest<'_>) -> Result<(), AllocError>
     Ok(())
 }
 
-impl Report {
+impl ReplaySink {
     /// Journals the venue's next item, and prints its line and those of the changes that it makes.
     #[inline(always)]
-    pub fn take_item(&mut self, venue: VenueId, numbered: &Numbered) -> Result<(), Stop>
+    pub fn take_item(&mut self, venue: VenueId, numbered: &Numbered) -> Result<(), PublishStop>
         requires { venue < self.old.journal.venues }
-        ensures { TellsBy (tale_of self.old) (item_taken venue numbered.now ∷ [])
-            (tale_of self.new) result }
+        ensures { EmitsInto (state_of_replay self.old) (item_taken venue numbered.now ∷ [])
+            (state_of_replay self.new) result }
     {
         if !self.journal.has_room() {
-            return Err(Stop::JournalFull);
+            return Err(PublishStop::JournalFull);
         }
         // Journaled before its line is placed: what the book keeps of the symbol comes meanwhile.
         self.journal.record(venue, *numbered);
@@ -73,10 +73,10 @@ impl Report {
     /// Journals a declaration, unless it is so already, and prints its line and those of the
     /// changes that it makes.
     #[inline(never)]
-    pub fn declare(&mut self, venue: VenueId, on: bool) -> Result<(), Stop>
+    pub fn declare(&mut self, venue: VenueId, on: bool) -> Result<(), PublishStop>
         requires { venue < self.old.journal.venues }
-        ensures { TellsBy (tale_of self.old) (self_help_declared venue on ∷ [])
-            (tale_of self.new) result }
+        ensures { EmitsInto (state_of_replay self.old) (self_help_declared venue on ∷ [])
+            (state_of_replay self.new) result }
     {
         match self.journal.declare(venue, on) {
             Ok(position) => {
@@ -88,8 +88,8 @@ impl Report {
                 put_declared(&mut self.text, venue, on, None)?;
                 Ok(())
             }
-            Err(JournalFault::JournalFull) => Err(Stop::JournalFull),
-            Err(_) => Err(Stop::NoMemory),
+            Err(JournalFault::JournalFull) => Err(PublishStop::JournalFull),
+            Err(_) => Err(PublishStop::NoMemory),
         }
     }
 }

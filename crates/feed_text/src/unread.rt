@@ -1,6 +1,6 @@
 //! The bytes that were read and not yet used.
 ghost use Rattle.std.specs.Prelude.{◌≡◌, ℕ, ◌+◌, ◌-◌, [], ◌<◌, ◌≤◌, List, IfOk, Ok, Err, take, drop, length, slice_range, IsTrue, ◌↔◌};
-ghost use Rattle.feed_text.specs.Devices.{Came};
+ghost use Rattle.feed_text.specs.Devices.{HasGiven};
 
 use crate::devices::{CaptureIn, ReadStop};
 use std::alloc::{AllocError, Global};
@@ -14,7 +14,7 @@ const LEAST_ROOM: usize = 65_536;
 
 /// What one call of the reader came to.
 #[derive(Clone, Copy, Debug, PartialEq, Eq)]
-pub enum Turn {
+pub enum ReadStep {
     /// Bytes came, or the call was interrupted and none did.
     Went,
     /// The input is at its end.
@@ -25,13 +25,13 @@ pub enum Turn {
 
 /// The bytes that were read and not yet used, in order. Contracts see their list.
 #[derive(Drop)]
-pub struct Unread {
+pub struct ReadBuffer {
     bytes: Vec<u8>,
     start: usize,
     end: usize,
 }
 
-impl Model for Unread {
+impl Model for ReadBuffer {
     ghost use Rattle.std.specs.Prelude.{◌≡◌, ℕ, ◌≤◌, List, length, slice_range};
 
     ghost Value = { List ℕ };
@@ -83,13 +83,13 @@ fn read_behind<R: CaptureIn>(
     reader.read(&mut bytes.as_mut_slice()[end..])
 }
 
-impl Unread {
+impl ReadBuffer {
     /// No byte yet. Its memory is asked for here and never again.
-    pub fn new(alloc: Global) -> Result<Unread, AllocError>
+    pub fn new(alloc: Global) -> Result<ReadBuffer, AllocError>
         ensures { IfOk result (λ w. w ≡ []) }
     {
         let bytes = vec![in alloc; 0u8; ROOM]?;
-        Ok(Unread {
+        Ok(ReadBuffer {
             bytes,
             start: 0,
             end: 0,
@@ -127,25 +127,25 @@ impl Unread {
     }
 
     /// One call of the reader, which adds what it gives at the end.
-    pub fn read_from<R: CaptureIn>(&mut self, reader: &mut R) -> Turn
+    pub fn read_from<R: CaptureIn>(&mut self, reader: &mut R) -> ReadStep
         requires room { length self.old < 131072 }
-        ensures went { result ≡ Turn.Went → Came R.gives reader.old reader.new self.old self.new 1 }
-        ensures ended { result ≡ Turn.Ended → R.ends reader.old reader.new × (self.new ≡ self.old) }
-        ensures failed { result ≡ Turn.Failed
+        ensures went { result ≡ ReadStep.Went → HasGiven R.gives reader.old reader.new self.old self.new 1 }
+        ensures ended { result ≡ ReadStep.Ended → R.ends reader.old reader.new × (self.new ≡ self.old) }
+        ensures failed { result ≡ ReadStep.Failed
             → (R.failures reader.new ≡ R.failures reader.old + 1) × (self.new ≡ self.old) }
-        ensures kept { (result ≡ Turn.Failed → ⊥) → R.failures reader.new ≡ R.failures reader.old }
+        ensures kept { (result ≡ ReadStep.Failed → ⊥) → R.failures reader.new ≡ R.failures reader.old }
     {
         let (start, end) = make_room(&mut self.bytes, self.start, self.end);
         self.start = start;
         self.end = end;
         match read_behind(reader, &mut self.bytes, end) {
-            Ok(0) => Turn::Ended,
+            Ok(0) => ReadStep::Ended,
             Ok(count) => {
                 self.end = end + count;
-                Turn::Went
+                ReadStep::Went
             }
-            Err(ReadStop::Interrupted) => Turn::Went,
-            Err(ReadStop::Failed) => Turn::Failed,
+            Err(ReadStop::Interrupted) => ReadStep::Went,
+            Err(ReadStop::Failed) => ReadStep::Failed,
         }
     }
 }

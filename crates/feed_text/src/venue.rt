@@ -10,15 +10,15 @@ ghost use Rattle.line_arbiter.specs.States.{KeepsAllButSent};
 ghost use Rattle.line_arbiter.specs.Fits.{Fits};
 ghost use Rattle.line_arbiter.specs.Histories.{History, new_history, streams_of};
 ghost use Rattle.feed_text.specs.Capture.{datagram_record, renewal_record};
-ghost use Rattle.feed_text.specs.Happenings.{item_taken, packet_answered};
-ghost use Rattle.feed_text.specs.Told.{gap_happening};
+ghost use Rattle.feed_text.specs.ReplayEvents.{item_taken, packet_answered};
+ghost use Rattle.feed_text.specs.Emitted.{gap_event};
 ghost use Rattle.feed_text.specs.Texts.{last_line};
-ghost use Rattle.feed_text.specs.Tales.{TellsBy, tale_of};
-ghost use Rattle.feed_text.specs.Following.{Follows, TakesReady, TellsOutcome, TellsOne, Renews};
+ghost use Rattle.feed_text.specs.ReplayStates.{EmitsInto, state_of_replay};
+ghost use Rattle.feed_text.specs.Following.{Follows, TakesReady, EmitsOutcome, EmitsOne, Renews};
 
 use crate::lines::{put_fault, put_gap, put_packet, put_renewal, put_venue};
-use crate::page::Page;
-use crate::report::{Report, Stop};
+use crate::page::LineBuffer;
+use crate::report::{PublishStop, ReplaySink};
 use feed_types::{Anything, LineId, Numbered, VenueId};
 use line_arbiter::{Arbiter, InOrder, LineFault, Outcome, RenewFault};
 use mold_packet::{Messages, Packet, read_packet};
@@ -38,22 +38,22 @@ pub struct VenueReplay {
 }
 
 impl Model for VenueReplay {
-    ghost use Rattle.feed_text.specs.Following.{Venue};
+    ghost use Rattle.feed_text.specs.Following.{ReplayVenue};
 
-    ghost Value = { Venue };
+    ghost Value = { ReplayVenue };
 
     ghost view = { λ v. record { arbiter = v.arbiter; sent_before = v.sent_before } };
 }
 
 /// Takes each item that is ready.
 #[inline(never)]
-fn take_each(
+fn publish_each(
     arbiter: &mut Arbiter<Anything>,
     venue: VenueId,
-    report: &mut Report,
-) -> Result<(), Stop>
+    report: &mut ReplaySink,
+) -> Result<(), PublishStop>
     requires { venue < report.old.journal.venues }
-    ensures { TakesReady venue arbiter.old arbiter.new (tale_of report.old) (tale_of report.new)
+    ensures { TakesReady venue arbiter.old arbiter.new (state_of_replay report.old) (state_of_replay report.new)
         result }
 {
     while let Some(next) = arbiter.next_ready() {
@@ -65,29 +65,33 @@ fn take_each(
 
 /// Takes each item that is ready. Most often there is none, which a glance tells.
 #[inline(always)]
-fn take_ready(
+fn publish_ready(
     arbiter: &mut Arbiter<Anything>,
     venue: VenueId,
-    report: &mut Report,
-) -> Result<(), Stop>
+    report: &mut ReplaySink,
+) -> Result<(), PublishStop>
     requires { venue < report.old.journal.venues }
-    ensures { TakesReady venue arbiter.old arbiter.new (tale_of report.old) (tale_of report.new)
+    ensures { TakesReady venue arbiter.old arbiter.new (state_of_replay report.old) (state_of_replay report.new)
         result }
 {
     match arbiter.next_ready() {
-        Some(_) => take_each(arbiter, venue, report),
+        Some(_) => publish_each(arbiter, venue, report),
         None => Ok(()),
     }
 }
 
 /// Takes the items that a packet's messages are, one by one.
 #[inline(always)]
-fn take_messages(venue: VenueId, packet: &Packet<'_>, report: &mut Report) -> Result<(), Stop>
+fn publish_messages(
+    venue: VenueId,
+    packet: &Packet<'_>,
+    report: &mut ReplaySink,
+) -> Result<(), PublishStop>
     requires { venue < report.old.journal.venues }
-    ensures { TellsBy (tale_of report.old)
+    ensures { EmitsInto (state_of_replay report.old)
         (map (item_taken venue)
         (numbered_from packet.now.number (map item_of packet.now.messages)))
-        (tale_of report.new) result }
+        (state_of_replay report.new) result }
 {
     let first = packet.number();
     let mut messages = packet.messages();
@@ -106,7 +110,7 @@ fn take_messages(venue: VenueId, packet: &Packet<'_>, report: &mut Report) -> Re
 /// Has the book prefetch at once what the quotations among the first of these messages will read of it,
 /// where that pays.
 #[inline(never)]
-fn prefetch(venue: VenueId, mut messages: Messages<'_>, report: &mut Report)
+fn prefetch(venue: VenueId, mut messages: Messages<'_>, report: &mut ReplaySink)
     ensures { report.new ≡ report.old }
 {
     for _ in 0..MOST_AHEAD {
@@ -123,7 +127,7 @@ fn prefetch(venue: VenueId, mut messages: Messages<'_>, report: &mut Report)
 
 /// Looks ahead at a packet of several messages.
 #[inline(always)]
-fn look_ahead(venue: VenueId, packet: &Packet<'_>, report: &mut Report)
+fn look_ahead(venue: VenueId, packet: &Packet<'_>, report: &mut ReplaySink)
     ensures { report.new ≡ report.old }
 {
     if packet.count() > 1 {
@@ -139,45 +143,45 @@ fn take_next(
     line: LineId,
     packet: &Packet<'_>,
     outcome: Outcome,
-    report: &mut Report,
-) -> Result<(), Stop>
+    report: &mut ReplaySink,
+) -> Result<(), PublishStop>
     requires { venue < report.old.journal.venues }
     ensures tells { (from : ℕ) (packets : List Arrival) → Fits arbiter.old packets
         → SendsPacket from arbiter.old.sent packet.now packets
-        → TellsBy (tale_of report.old)
+        → EmitsInto (state_of_replay report.old)
         (packet_answered venue line (Ok outcome)
         ∷ map (item_taken venue) (drop from (stream_of packets)))
-        (tale_of report.new) result }
+        (state_of_replay report.new) result }
     ensures fits { OnOk result ((packets : List Arrival) → Fits arbiter.old packets
         → Fits arbiter.new packets × (arbiter.new.sent ≡ length (stream_of packets))) }
     ensures kept { OnOk result (KeepsAllButSent arbiter.old arbiter.new) }
 {
     put_packet(&mut report.text, venue, line, &Ok(outcome))?;
-    take_messages(venue, packet, report)?;
-    take_ready(arbiter, venue, report)
+    publish_messages(venue, packet, report)?;
+    publish_ready(arbiter, venue, report)
 }
 
 /// Tells of a packet that was answered, and takes what is ready then.
 #[inline(always)]
-fn tell_answer(
+fn publish_answer(
     arbiter: &mut Arbiter<Anything>,
     venue: VenueId,
     line: LineId,
     answer: &Result<Outcome, LineFault>,
-    report: &mut Report,
-) -> Result<(), Stop>
+    report: &mut ReplaySink,
+) -> Result<(), PublishStop>
     requires { venue < report.old.journal.venues }
     ensures tells { (packets : List Arrival) → Fits arbiter.old packets
-        → TellsBy (tale_of report.old)
+        → EmitsInto (state_of_replay report.old)
         (packet_answered venue line answer.now
         ∷ map (item_taken venue) (drop arbiter.old.sent (stream_of packets)))
-        (tale_of report.new) result }
+        (state_of_replay report.new) result }
     ensures fits { OnOk result ((packets : List Arrival) → Fits arbiter.old packets
         → Fits arbiter.new packets × (arbiter.new.sent ≡ length (stream_of packets))) }
     ensures kept { OnOk result (KeepsAllButSent arbiter.old arbiter.new) }
 {
     put_packet(&mut report.text, venue, line, answer)?;
-    take_ready(arbiter, venue, report)
+    publish_ready(arbiter, venue, report)
 }
 
 impl VenueReplay {
@@ -216,16 +220,16 @@ impl VenueReplay {
         venue: VenueId,
         line: LineId,
         packet: &Packet<'_>,
-        report: &mut Report,
-    ) -> Result<(), Stop>
+        report: &mut ReplaySink,
+    ) -> Result<(), PublishStop>
         requires { venue < report.old.journal.venues }
         ensures { (width : ℕ) (h : History) → Follows width venue self.old h
-            → TellsOutcome width venue line packet.now h
-            (tale_of report.old) (tale_of report.new) self.new result }
+            → EmitsOutcome width venue line packet.now h
+            (state_of_replay report.old) (state_of_replay report.new) self.new result }
     {
         match self.arbiter.take(line, packet) {
-            Ok(outcome) => tell_answer(&mut self.arbiter, venue, line, &Ok(outcome), report),
-            Err(fault) => tell_answer(&mut self.arbiter, venue, line, &Err(fault), report),
+            Ok(outcome) => publish_answer(&mut self.arbiter, venue, line, &Ok(outcome), report),
+            Err(fault) => publish_answer(&mut self.arbiter, venue, line, &Err(fault), report),
         }
     }
 
@@ -236,12 +240,12 @@ impl VenueReplay {
         venue: VenueId,
         line: LineId,
         packet: &Packet<'_>,
-        report: &mut Report,
-    ) -> Result<(), Stop>
+        report: &mut ReplaySink,
+    ) -> Result<(), PublishStop>
         requires { venue < report.old.journal.venues }
         ensures { (width : ℕ) (h : History) → Follows width venue self.old h
-            → TellsOutcome width venue line packet.now h
-            (tale_of report.old) (tale_of report.new) self.new result }
+            → EmitsOutcome width venue line packet.now h
+            (state_of_replay report.old) (state_of_replay report.new) self.new result }
     {
         self.take_any(venue, line, &packet.copied(), report)
     }
@@ -254,12 +258,12 @@ impl VenueReplay {
         venue: VenueId,
         line: LineId,
         packet: &Packet<'_>,
-        report: &mut Report,
-    ) -> Result<(), Stop>
+        report: &mut ReplaySink,
+    ) -> Result<(), PublishStop>
         requires { venue < report.old.journal.venues }
         ensures { (width : ℕ) (h : History) → Follows width venue self.old h
-            → TellsOutcome width venue line packet.now h
-            (tale_of report.old) (tale_of report.new) self.new result }
+            → EmitsOutcome width venue line packet.now h
+            (state_of_replay report.old) (state_of_replay report.new) self.new result }
     {
         let Some(order) = self.arbiter.peek_in_order(packet) else {
             return self.take_copied(venue, line, packet, report);
@@ -271,7 +275,7 @@ impl VenueReplay {
                 take_next(&mut self.arbiter, venue, line, packet, outcome, report)
             }
             InOrder::Repeat { .. } => {
-                tell_answer(&mut self.arbiter, venue, line, &Ok(outcome), report)
+                publish_answer(&mut self.arbiter, venue, line, &Ok(outcome), report)
             }
         }
     }
@@ -282,12 +286,12 @@ impl VenueReplay {
         venue: VenueId,
         line: LineId,
         bytes: &[u8],
-        report: &mut Report,
-    ) -> Result<(), Stop>
+        report: &mut ReplaySink,
+    ) -> Result<(), PublishStop>
         requires { venue < report.old.journal.venues }
         ensures { (width : ℕ) (h : History) → Follows width venue self.old h
-            → TellsOne width false (datagram_record venue line bytes.now) h
-            (tale_of report.old) (tale_of report.new) self.new result }
+            → EmitsOne width false (datagram_record venue line bytes.now) h
+            (state_of_replay report.old) (state_of_replay report.new) self.new result }
     {
         match read_packet(bytes) {
             Ok(packet) => self.take_packet(venue, line, &packet, report),
@@ -301,12 +305,12 @@ impl VenueReplay {
     /// Tells the gap, if one is left. It is a call of its own, so that the loop over records has the
     /// registers.
     #[inline(never)]
-    fn tell_gap(&self, venue: VenueId, report: &mut Report) -> Result<(), Stop>
+    fn publish_gap(&self, venue: VenueId, report: &mut ReplaySink) -> Result<(), PublishStop>
         ensures { (P : List Arrival) → Fits self.now.arbiter P
-            → TellsBy (tale_of report.old)
-            (gap_happening venue
+            → EmitsInto (state_of_replay report.old)
+            (gap_event venue
             (gap_of self.now.arbiter.session self.now.arbiter.window self.now.arbiter.sent P))
-            (tale_of report.new) result }
+            (state_of_replay report.new) result }
     {
         match self.arbiter.gap() {
             Some(request) => {
@@ -326,19 +330,19 @@ impl VenueReplay {
         line: LineId,
         bytes: &[u8],
         gaps: bool,
-        report: &mut Report,
-    ) -> Result<(), Stop>
+        report: &mut ReplaySink,
+    ) -> Result<(), PublishStop>
         requires { venue < report.old.journal.venues }
         ensures { (width : ℕ) (h : History) → Follows width venue self.old h
-            → TellsOne width gaps (datagram_record venue line bytes.now) h
-            (tale_of report.old) (tale_of report.new) self.new result }
+            → EmitsOne width gaps (datagram_record venue line bytes.now) h
+            (state_of_replay report.old) (state_of_replay report.new) self.new result }
     {
-        let told = self.take_datagram(venue, line, bytes, report);
+        let emitted = self.take_datagram(venue, line, bytes, report);
         if !gaps {
-            return told;
+            return emitted;
         }
-        told?;
-        self.tell_gap(venue, report)
+        emitted?;
+        self.publish_gap(venue, report)
     }
 
     /// Begins the next session, where it may begin.
@@ -358,11 +362,11 @@ impl VenueReplay {
         &mut self,
         venue: VenueId,
         session: [u8; 10],
-        report: &mut Report,
-    ) -> Result<(), Stop>
+        report: &mut ReplaySink,
+    ) -> Result<(), PublishStop>
         ensures { (width : ℕ) (gaps : Bool) (h : History) → Follows width venue self.old h
-            → TellsOne width gaps (renewal_record venue session) h
-            (tale_of report.old) (tale_of report.new) self.new result }
+            → EmitsOne width gaps (renewal_record venue session) h
+            (state_of_replay report.old) (state_of_replay report.new) self.new result }
     {
         let answer = self.next_session(session);
         put_renewal(&mut report.text, venue, &answer)?;
@@ -370,7 +374,7 @@ impl VenueReplay {
     }
 
     /// Prints the last line.
-    pub fn put_last(&self, text: &mut Page) -> Result<(), AllocError>
+    pub fn put_last(&self, text: &mut LineBuffer) -> Result<(), AllocError>
         ensures { OnOk result
             ((width place : ℕ) (h : History) → Follows width place self.now h
             → text.new.items ≡ text.old.items ++ last_line place h) }

@@ -2,12 +2,12 @@
 ghost use Rattle.std.specs.Prelude.{◌≡◌, ◌<◌, ◌≤◌, IfOk, OnOk, length, map};
 ghost use Rattle.feed_text.specs.Capture.{IsRecord, record_of};
 ghost use Rattle.line_arbiter.specs.Histories.{new_history};
-ghost use Rattle.feed_text.specs.Tales.{tale_of};
+ghost use Rattle.feed_text.specs.ReplayStates.{state_of_replay};
 ghost use Rattle.feed_text.specs.Following.{FollowAll, PrintsLast, TakesRecord};
 
 use crate::capture::Record;
-use crate::page::Page;
-use crate::report::{Report, Stop};
+use crate::page::LineBuffer;
+use crate::report::{PublishStop, ReplaySink};
 use crate::venue::VenueReplay;
 use feed_types::VenueId;
 use std::alloc::{AllocError, Global};
@@ -65,11 +65,11 @@ impl Venues {
 
     /// Takes a record, and tells of it. Where it stops, no other record can be taken: for a full
     /// journal all that had room was told, and where memory was refused some of it may be.
-    pub fn take(&mut self, next: Record<'_>, report: &mut Report) -> Result<(), Stop>
+    pub fn take(&mut self, next: Record<'_>, report: &mut ReplaySink) -> Result<(), PublishStop>
         requires kind { IsRecord (length self.old.items) (record_of next) }
         requires venues { report.old.journal.venues ≡ length self.old.items }
         ensures { TakesRecord self.old (record_of next.entry)
-            (tale_of report.old) (tale_of report.new) self.new result }
+            (state_of_replay report.old) (state_of_replay report.new) self.new result }
     {
         match next {
             Record::Datagram { venue, line, bytes } => {
@@ -85,7 +85,7 @@ impl Venues {
     }
 
     /// Prints the last lines behind the text.
-    pub fn put_last(&self, text: &mut Page) -> Result<(), AllocError>
+    pub fn put_last(&self, text: &mut LineBuffer) -> Result<(), AllocError>
         ensures { OnOk result (PrintsLast self.now text.old.items text.new.items) }
     {
         for venue in &self.venues {

@@ -6,7 +6,7 @@ use Rattle.crossbeam_queue.specs.Fifo.{Pushes, Pops, Forks, Merges, Learns}
 use Rattle.crossbeam_queue.proofs.Lists.{at_set, at_snoc}
 use Rattle.fifo_lane.specs.declared.known.Known.{Known}
 use Rattle.fifo_lane.specs.Lane.{Keeps}
-use Rattle.fifo_lane.specs.Passes.{first, sending, receiving, joined, spent, with_sent, with_received, Fits, IsLane}
+use Rattle.fifo_lane.specs.Passes.{first, sending, receiving, joined, spent, with_sent, with_received, FitsPass, IsLane}
 
 module _ {T : Type 0} where
   -- a view that stands in a longer list and not in the shorter one stands at its end
@@ -39,7 +39,7 @@ module _ {T : Type 0} where
       sent = [];
       received = [];
       keeps = record { whole = refl; room = omega arith; ruled = empty 0 };
-      fits = AllViews-set (Fits 0 0 0 0 [] []) (first ∷ []) 0 first (record { sends = λ _. (refl, refl, refl, refl); receives = λ _. (refl, refl, refl, refl) })
+      fits = AllViews-set (FitsPass 0 0 0 0 [] []) (first ∷ []) 0 first (record { sends = λ _. (refl, refl, refl, refl); receives = λ _. (refl, refl, refl, refl) })
           (λ j u other e. absurd (other (at_end [] _ u j (λ x. some-ne-none u (sym x)) e)));
     }
 
@@ -94,7 +94,7 @@ module _ {T : Type 0} where
               room = within;
               ruled = subst (λ (y : ℕ × List T). may y.0 y.1) (λ i. (me.1 i, same i)) ok;
             };
-            fits = AllViews-set (Fits h.sender h.receiver h.tag h.capacity sent h.received) views port w (record { sends = λ _. (me.0, me.1, me.2, same); receives = mine.receives })
+            fits = AllViews-set (FitsPass h.sender h.receiver h.tag h.capacity sent h.received) views port w (record { sends = λ _. (me.0, me.1, me.2, same); receives = mine.receives })
                 (λ j u other e. record { sends = λ p. absurd (other (((h.fits j u e).sends p).0 ∙ sym me.0)); receives = (h.fits j u e).receives });
           },
           refl,
@@ -119,7 +119,7 @@ module _ {T : Type 0} where
         let vs : List (Known T) = set views port both in
         let was : get_elem? views other ≡ some u = ⊎_elim (λ x. absurd (two x.0)) (λ x. x.1) (at_set views port other both u at') in
         let theirs = (h.fits other u was).receives b in
-        let Now : ℕ → Known T → Type 0 = λ j y. j ≢ other → Fits h.sender port h.tag h.capacity h.sent h.received j y in
+        let Now : ℕ → Known T → Type 0 = λ j y. j ≢ other → FitsPass h.sender port h.tag h.capacity h.sent h.received j y in
         let now : AllViews Now vs = AllViews-set Now views port both
         (λ _. record { sends = λ _. mine.sends a; receives = λ _. (refl, (mine.sends a).1, (mine.sends a).2, theirs.3) })
         (λ j y _ e apart. record { sends = (h.fits j y e).sends; receives = λ p. absurd (apart (((h.fits j y e).receives p).0 ∙ sym theirs.0)) }) in
@@ -131,7 +131,7 @@ module _ {T : Type 0} where
           sent = h.sent;
           received = h.received;
           keeps = h.keeps;
-          fits = AllViews-set (Fits h.sender port h.tag h.capacity h.sent h.received) vs other spent
+          fits = AllViews-set (FitsPass h.sender port h.tag h.capacity h.sent h.received) vs other spent
               (record { sends = λ p. absurd (true≢false (sym p)); receives = λ p. absurd (true≢false (sym p)) }) (λ j y apart e. now j y e apart);
         }
 
@@ -162,7 +162,7 @@ module _ {T : Type 0} where
               sent = h.sent;
               received = received;
               keeps = record { whole = whole; room = within; ruled = h.keeps.ruled };
-              fits = AllViews-set (Fits h.sender h.receiver h.tag h.capacity h.sent received) views port w (record { sends = mine.sends; receives = λ _. (me.0, me.1, me.2, same) })
+              fits = AllViews-set (FitsPass h.sender h.receiver h.tag h.capacity h.sent received) views port w (record { sends = mine.sends; receives = λ _. (me.0, me.1, me.2, same) })
                   (λ j u other e. record { sends = (h.fits j u e).sends; receives = λ p. absurd (other (((h.fits j u e).receives p).0 ∙ sym me.0)) });
             },
             (refl, subst (λ (y : ℕ × List T). may y.0 y.1) (λ i. (sym me.1 i, sym same i)) begun),

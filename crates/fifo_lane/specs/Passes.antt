@@ -44,7 +44,7 @@ module _ {T : Type 0} where
   with_received v x = record v { received = v.received ++ x ∷ [] }
 
   -- the pass at this port knows what it may know of the lane
-  pub record Fits (sender receiver tag capacity : ℕ) (sent received : List T) (port : ℕ)
+  pub record FitsPass (sender receiver tag capacity : ℕ) (sent received : List T) (port : ℕ)
       (v : Known T) : Type 0 where
     pub sends : v.may_push ≡ true →
         (port ≡ sender) × (v.tag ≡ tag) × (v.capacity ≡ capacity) × (v.sent ≡ sent)
@@ -63,4 +63,4 @@ module _ {T : Type 0} where
     pub received : List T
     pub keeps : Keeps may_send tag capacity sent received inside
     pub fits : (port : ℕ) (v : Known T) → get_elem? views port ≡ some v →
-        Fits sender receiver tag capacity sent received port v
+        FitsPass sender receiver tag capacity sent received port v

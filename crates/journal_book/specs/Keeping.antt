@@ -3,14 +3,14 @@ use Rattle.std.specs.Prelude.{◌≡◌, ℕ, ◌+◌, ◌≤◌, nat_lt, nat_le
 use Rattle.std.specs.List.{AllByRecursion}
 use Rattle.feed_types.specs.declared.journal.Entry.{Entry}
 use Rattle.feed_types.specs.declared.journal.Notice.{Notice}
-use Rattle.nbbo_book.specs.Books.{BookState, Fits}
+use Rattle.nbbo_book.specs.Books.{BookState, FitsBook}
 use Rattle.journal_book.specs.declared.cursor.Cursor.{Cursor}
 use Rattle.journal_book.specs.Changes.{changes_of}
 
 -- the book and the notices are those of the entries, and no cursor is past the notices
 pub record Keeps (book : BookState) (venues limit scratch : ℕ)
     (entries : List Entry) (notices : List Notice) (cursors : List Cursor) : Type 0 where
-  pub fits : Fits book entries
+  pub fits : FitsBook book entries
   pub last : book.last ≡ length entries
   pub venues_same : book.venues ≡ venues
   pub all : notices ≡ changes_of book.symbols entries

@@ -4,7 +4,7 @@ use Rattle.feed_types.specs.declared.journal.Entry.{Entry}
 use Rattle.feed_types.specs.declared.journal.Entry.TheVariants.{SelfHelp}
 use Rattle.feed_types.specs.declared.journal.Notice.{Notice}
 use Rattle.nbbo_book.specs.declared.change.Change.{Change}
-use Rattle.nbbo_book.specs.Books.{BookState, Fits}
+use Rattle.nbbo_book.specs.Books.{BookState, FitsBook}
 use Rattle.nbbo_book.specs.Eligible.{is_self_helped}
 use Rattle.journal_book.specs.declared.fault.JournalFault.{JournalFault}
 use Rattle.journal_book.specs.declared.fault.JournalFault.TheVariants.{NoMemory, JournalFull, UnknownVenue, AlreadySo, TooManySubscribers}
@@ -56,9 +56,9 @@ DeclaresNext old venue on (Ok position) new =
 
 -- Cited by private clauses alone: the book, the counts and the last entry's changes are those of the
 -- entries.
-pub record Runs (book : BookState) (limit scratch earlier : ℕ) (latest : List Change)
+pub record KeepsLatest (book : BookState) (limit scratch earlier : ℕ) (latest : List Change)
     (entries : List Entry) : Type 0 where
-  pub fits : Fits book entries
+  pub fits : FitsBook book entries
   pub last : book.last ≡ length entries
   pub within : length entries ≤ limit
   pub limited : limit ≤ 4294967295

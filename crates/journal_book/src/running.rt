@@ -41,7 +41,7 @@ pub struct RunningJournal {
 
 impl Model for RunningJournal {
     ghost use Rattle.std.specs.Vec.{vec_capacity};
-    ghost use Rattle.journal_book.specs.Running.{RunningState, Runs};
+    ghost use Rattle.journal_book.specs.Running.{RunningState, KeepsLatest};
 
     ghost Value = { RunningState };
 
@@ -52,7 +52,7 @@ impl Model for RunningJournal {
       entries = j.past.entries;
     } };
 
-    ghost invariant = { λ j. Runs j.book j.limit (vec_capacity j.latest) j.earlier j.latest.items
+    ghost invariant = { λ j. KeepsLatest j.book j.limit (vec_capacity j.latest) j.earlier j.latest.items
         j.past.entries };
 }
 

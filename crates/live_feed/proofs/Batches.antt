@@ -14,11 +14,11 @@ use Rattle.journal_book.specs.Wanted.{wanted_of}
 use Rattle.fifo_lane.specs.Lane.{LaneEnd, with_items}
 use Rattle.feed_core.proofs.Lists.{get_within}
 use Rattle.feed_core.specs.declared.event.Done.TheVariants as done
-use Rattle.feed_core.specs.Steps.{ComesTo, Intake, journaled, journal_full, offered, stays}
+use Rattle.feed_core.specs.Steps.{AppliesTo, Intake, journal_item, journal_full, offer_next, Refused}
 use Rattle.live_feed.specs.declared.unsent.Unsent.{Unsent}
 use Rattle.live_feed.specs.declared.unsent.Unsent.TheVariants as unsent
 use Rattle.live_feed.specs.hub.Hubs.{HubState}
-use Rattle.live_feed.specs.hub.Sections.{ConsumesOne, KeepsButIntake, OffersOne, intake_of}
+use Rattle.live_feed.specs.hub.Sections.{ConsumesOne, KeepsButIntake, HubOffersOne, hub_intake}
 use Rattle.live_feed.specs.hub.Batches.{ConsumesCount, ConsumesItems, HadNoItem, OffersCount, sent_to_all}
 use Rattle.live_feed.proofs.HubMoves.{one_there, put_same}
 use Rattle.live_feed.proofs.CellMoves.{shown_sum}
@@ -27,20 +27,20 @@ use Rattle.live_feed.proofs.CellMoves.{shown_sum}
 
 module _ (journal venue : ℕ) (old after : Intake) where
   -- what was journaled is an item
-  item_journaled : (b : Bool) (next : Option Numbered) (position : ℕ) → ComesTo (if b then stays journal_full else journaled venue next old) old (done.Consumed position) after
+  item_journaled : (b : Bool) (next : Option Numbered) (position : ℕ) → AppliesTo (if b then Refused journal_full else journal_item venue next old) old (done.Consumed position) after
       → (x : Numbered) × (after ≡ record { received = old.received ++ x ∷ []; entries = old.entries ++ entry.Consumed venue x ∷ [] })
   item_journaled true next position e = absurd (let h = e.0 in cc)
   item_journaled false None position e = absurd (let h = e.0 in cc)
   item_journaled false (Some x) position e = (x, e.1)
 
   -- where there was no item, there was room
-  none_journaled : (b : Bool) (next : Option Numbered) → ComesTo (if b then stays journal_full else journaled venue next old) old done.LaneEmpty after → (b ≡ false) × (after ≡ old)
+  none_journaled : (b : Bool) (next : Option Numbered) → AppliesTo (if b then Refused journal_full else journal_item venue next old) old done.LaneEmpty after → (b ≡ false) × (after ≡ old)
   none_journaled true next e = absurd (let h = e.0 in cc)
   none_journaled false None e = (refl, e.1)
   none_journaled false (Some x) e = absurd (let h = e.0 in cc)
 
   -- and where the journal was full, there was none
-  refused_full : (b : Bool) (next : Option Numbered) → ComesTo (if b then stays journal_full else journaled venue next old) old (done.Refused 17) after → (b ≡ true) × (after ≡ old)
+  refused_full : (b : Bool) (next : Option Numbered) → AppliesTo (if b then Refused journal_full else journal_item venue next old) old (done.Refused 17) after → (b ≡ true) × (after ≡ old)
   refused_full true next e = (refl, e.1)
   refused_full false None e = absurd (let h = e.0 in cc)
   refused_full false (Some x) e = absurd (let h = e.0 in cc)
@@ -93,7 +93,7 @@ module _ (may_send : ℕ → List Numbered → Type 0) (venue : ℕ) (old : HubS
         let lane = with_items r.lane (r.lane.items ++ items) in
         let here : slice_get between.receivers venue ≡ Some lane = ap (λ (l : List (LaneEnd Numbered)). slice_get l venue) r.received ∙ get_there old.receivers venue r.lane lane r.at in
         let same : one.lane ≡ lane = one_there (slice_get between.receivers venue) one.lane lane one.at here in
-        let found = item_journaled between.journal.journal venue (intake_of one.lane between.journal) one.after (nat_le between.journal.journal (length between.journal.entries)) one.next position one.comes in
+        let found = item_journaled between.journal.journal venue (hub_intake one.lane between.journal) one.after (nat_le between.journal.journal (length between.journal.entries)) one.next position one.comes in
         let x = found.0 in (
           x,
           record {
@@ -119,7 +119,7 @@ module _ (may_send : ℕ → List Numbered → Type 0) (venue : ℕ) (old : HubS
     -- and there is none more
     pub no_item_more : (items : List Numbered) → ConsumesItems venue items old between → ConsumesOne may_send venue (Ok None) between new → ConsumesItems venue items old new
     no_item_more items r one =
-        let found = none_journaled between.journal.journal venue (intake_of one.lane between.journal) one.after (nat_le between.journal.journal (length between.journal.entries)) one.next one.comes in
+        let found = none_journaled between.journal.journal venue (hub_intake one.lane between.journal) one.after (nat_le between.journal.journal (length between.journal.entries)) one.next one.comes in
         record {
           lane = r.lane;
           at = r.at;
@@ -146,7 +146,7 @@ module _ (may_send : ℕ → List Numbered → Type 0) (venue : ℕ) (old : HubS
   pub had_no_item : (between new : HubState) → between ≡ old → ConsumesOne may_send venue (Ok None) between new → HadNoItem may_send venue old
   had_no_item between new same later =
       let one = subst (λ (s : HubState). ConsumesOne may_send venue (Ok None) s new) same later in
-      let found = none_journaled old.journal.journal venue (intake_of one.lane old.journal) one.after (nat_le old.journal.journal (length old.journal.entries)) one.next one.comes in
+      let found = none_journaled old.journal.journal venue (hub_intake one.lane old.journal) one.after (nat_le old.journal.journal (length old.journal.entries)) one.next one.comes in
       record {
         room = room_of old.journal.journal (length old.journal.entries) found.0;
         lane = one.lane;
@@ -157,7 +157,7 @@ module _ (may_send : ℕ → List Numbered → Type 0) (venue : ℕ) (old : HubS
   -- the journal was full
   pub was_full : (new : HubState) → ConsumesOne may_send venue (Err JournalFull) old new → old.journal.journal ≤ length old.journal.entries
   was_full new one =
-      let found = refused_full old.journal.journal venue (intake_of one.lane old.journal) one.after (nat_le old.journal.journal (length old.journal.entries)) one.next one.comes in
+      let found = refused_full old.journal.journal venue (hub_intake one.lane old.journal) one.after (nat_le old.journal.journal (length old.journal.entries)) one.next one.comes in
       full_of old.journal.journal (length old.journal.entries) found.0
 
 -- ---- Offer
@@ -178,29 +178,29 @@ sum_put (x ∷ xs) (suc i) n l w at long =
     omega (arith, rest, old, new)
 
 module _ (old after : List Notice) where
-  notice_sent : (full : Bool) (next : Option Notice) (number : ℕ) → ComesTo (offered full next old) old (done.Offered number) after → (n : Notice) × (after ≡ old ++ n ∷ [])
+  notice_sent : (full : Bool) (next : Option Notice) (number : ℕ) → AppliesTo (offer_next full next old) old (done.Offered number) after → (n : Notice) × (after ≡ old ++ n ∷ [])
   notice_sent full None number e = absurd (let h = e.0 in cc)
   notice_sent true (Some n) number e = absurd (let h = e.0 in cc)
   notice_sent false (Some n) number e = (n, e.1)
 
-  none_sent : (full : Bool) (next : Option Notice) → ComesTo (offered full next old) old done.NothingWanted after → after ≡ old
+  none_sent : (full : Bool) (next : Option Notice) → AppliesTo (offer_next full next old) old done.NothingWanted after → after ≡ old
   none_sent full None e = e.1
   none_sent true (Some n) e = absurd (let h = e.0 in cc)
   none_sent false (Some n) e = absurd (let h = e.0 in cc)
 
-  full_sent : (full : Bool) (next : Option Notice) → ComesTo (offered full next old) old done.LaneFull after → after ≡ old
+  full_sent : (full : Bool) (next : Option Notice) → AppliesTo (offer_next full next old) old done.LaneFull after → after ≡ old
   full_sent full None e = absurd (let h = e.0 in cc)
   full_sent true (Some n) e = e.1
   full_sent false (Some n) e = absurd (let h = e.0 in cc)
 
 module _ (may_send : ℕ → List Notice → Type 0) (id : ℕ) (old new : HubState) where
-  pub one_sent : (number : ℕ) → OffersOne may_send id (Ok number) old new → sent_to_all new ≡ sent_to_all old + 1
+  pub one_sent : (number : ℕ) → HubOffersOne may_send id (Ok number) old new → sent_to_all new ≡ sent_to_all old + 1
   one_sent number one =
       let found = notice_sent one.lane.items one.sent one.full (slice_get (wanted_of old.journal.symbols one.terms old.journal.entries) (length one.lane.items)) number one.comes in
       let long : length one.sent ≡ length one.lane.items + 1 = ap length found.1 ∙ length-append one.lane.items (found.0 ∷ []) in
       ap (λ (l : List (LaneEnd Notice)). sum_by (λ (e : LaneEnd Notice). length e.items) l) one.sent_is ∙ sum_put old.senders id 1 one.lane (with_items one.lane one.sent) one.at long
 
-  pub no_more_sent : (why : Unsent) → OffersOne may_send id (Err why) old new → sent_to_all new ≡ sent_to_all old
+  pub no_more_sent : (why : Unsent) → HubOffersOne may_send id (Err why) old new → sent_to_all new ≡ sent_to_all old
   no_more_sent unsent.Nothing one =
       ap (λ (l : List (LaneEnd Notice)). sum_by (λ (e : LaneEnd Notice). length e.items) l)
       (one.sent_is ∙ ap (λ (l : List Notice). slice_set old.senders id (with_items one.lane l)) (none_sent one.lane.items one.sent one.full (slice_get (wanted_of old.journal.symbols one.terms old.journal.entries) (length one.lane.items)) one.comes) ∙ put_same old.senders id one.lane one.at)
@@ -209,7 +209,7 @@ module _ (may_send : ℕ → List Notice → Type 0) (id : ℕ) (old new : HubSt
       (one.sent_is ∙ ap (λ (l : List Notice). slice_set old.senders id (with_items one.lane l)) (full_sent one.lane.items one.sent one.full (slice_get (wanted_of old.journal.symbols one.terms old.journal.entries) (length one.lane.items)) one.comes) ∙ put_same old.senders id one.lane one.at)
 
 -- one notice more was sent
-pub one_counted : (may_send : ℕ → List Notice → Type 0) (id number pushed more : ℕ) (old between new : HubState) → OffersCount pushed old between → OffersOne may_send id (Ok number) between new → more ≡ shown (pushed + 1)
+pub one_counted : (may_send : ℕ → List Notice → Type 0) (id number pushed more : ℕ) (old between new : HubState) → OffersCount pushed old between → HubOffersOne may_send id (Ok number) between new → more ≡ shown (pushed + 1)
     → OffersCount more old new
 one_counted may_send id number pushed more old between new r one is =
     let sent = one_sent may_send id between new number one in
@@ -221,15 +221,15 @@ one_counted may_send id number pushed more old between new r one is =
     }
 
 -- none was
-pub none_counted : (may_send : ℕ → List Notice → Type 0) (id pushed : ℕ) (why : Unsent) (old between new : HubState) → OffersCount pushed old between → OffersOne may_send id (Err why) between new → OffersCount pushed old new
+pub none_counted : (may_send : ℕ → List Notice → Type 0) (id pushed : ℕ) (why : Unsent) (old between new : HubState) → OffersCount pushed old between → HubOffersOne may_send id (Err why) between new → OffersCount pushed old new
 none_counted may_send id pushed why old between new r one = record { more = r.more; total = no_more_sent may_send id between new why one ∙ r.total; counted = r.counted }
 
 both_shown : (m n : ℕ) → shown (shown m + shown n) ≡ shown (m + n)
 both_shown m n = grind (arith)
 
 -- as many more as the next subscriber was sent
-pub all_counted : (offered pushed sum : ℕ) (old between new : HubState) → OffersCount offered old between → OffersCount pushed between new → sum ≡ shown (offered + pushed) → OffersCount sum old new
-all_counted offered pushed sum old between new r next is =
+pub all_counted : (offer_next pushed sum : ℕ) (old between new : HubState) → OffersCount offer_next old between → OffersCount pushed between new → sum ≡ shown (offer_next + pushed) → OffersCount sum old new
+all_counted offer_next pushed sum old between new r next is =
     let first = r.total in
     let second = next.total in
     record {

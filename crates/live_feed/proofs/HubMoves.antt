@@ -28,7 +28,7 @@ use Rattle.feed_core.proofs.Lists.{begins_len, get_push}
 use Rattle.live_feed.specs.declared.hub.spare.SpareLane.{SpareLane}
 use Rattle.live_feed.specs.Lanes.{FeedLanes}
 use Rattle.live_feed.specs.hub.Hubs.{HubState, IsConsumed, HubLockInvariant, IsOffered, IsSpare, item_by, items_in}
-use Rattle.live_feed.specs.hub.Sections.{Consumes, ConsumesOne, OffersOne, intake_of}
+use Rattle.live_feed.specs.hub.Sections.{Consumes, ConsumesOne, HubOffersOne, hub_intake}
 use Rattle.live_feed.specs.declared.unsent.Unsent.TheVariants as unsent
 use Rattle.live_feed.proofs.Histories.{take_same, take_next}
 
@@ -239,7 +239,7 @@ module _ (may_send : ℕ → List Numbered → Type 0) (venue : ℕ) (s : HubSta
     at = at;
     next = None;
     was_empty = λ t. absurd cc;
-    after = intake_of r s.journal;
+    after = hub_intake r s.journal;
     comes = rw (full_is s.journal.journal (length s.journal.entries) e.0) (refl, refl);
     received = sym (put_same s.receivers venue r at);
     entries = ap (λ (x : JournalState). x.entries) e.1;
@@ -256,7 +256,7 @@ module _ (may_send : ℕ → List Numbered → Type 0) (venue : ℕ) (s : HubSta
       at = at;
       next = None;
       was_empty = λ t. was;
-      after = intake_of r s.journal;
+      after = hub_intake r s.journal;
       comes = rw (room_is s.journal.journal (length s.journal.entries) room) (refl, refl);
       received = ap (slice_set s.receivers venue) same;
       entries = ap (λ (x : JournalState). x.entries) is;
@@ -327,7 +327,7 @@ module _ (carries : Carries) (ends : Ends) (lanes : FeedLanes) (s : HubState) (i
       (may_offer s.journal.symbols c.terms s.journal.entries (place + 1))
 
   module _ (may_send : ℕ → List Notice → Type 0) (j : JournalState) where
-    pub offer_nothing : None ≡ slice_get (changes s.journal) place → OffersOne may_send id (Err unsent.Nothing) s (record s { journal = j })
+    pub offer_nothing : None ≡ slice_get (changes s.journal) place → HubOffersOne may_send id (Err unsent.Nothing) s (record s { journal = j })
     offer_nothing none = record {
       lane = l;
       at = from;
@@ -340,7 +340,7 @@ module _ (carries : Carries) (ends : Ends) (lanes : FeedLanes) (s : HubState) (i
       sent_is = sym (put_same s.senders id l from);
     }
 
-    pub offer_full : (n : Notice) (w : LaneEnd Notice) → Some n ≡ slice_get (changes s.journal) place → w ≡ l → WasFull may_send l → OffersOne may_send id (Err unsent.LaneFull) s (record s { journal = j; senders = slice_set s.senders id w })
+    pub offer_full : (n : Notice) (w : LaneEnd Notice) → Some n ≡ slice_get (changes s.journal) place → w ≡ l → WasFull may_send l → HubOffersOne may_send id (Err unsent.LaneFull) s (record s { journal = j; senders = slice_set s.senders id w })
     offer_full n w here same was = record {
       lane = l;
       at = from;
@@ -354,7 +354,7 @@ module _ (carries : Carries) (ends : Ends) (lanes : FeedLanes) (s : HubState) (i
     }
 
     pub offer_one : (n : Notice) (w : LaneEnd Notice) (number : ℕ) → Some n ≡ slice_get (changes s.journal) place → number ≡ n.number → w ≡ with_items l (l.items ++ n ∷ [])
-        → OffersOne may_send id (Ok number) s (record s { journal = j; senders = slice_set s.senders id w })
+        → HubOffersOne may_send id (Ok number) s (record s { journal = j; senders = slice_set s.senders id w })
     offer_one n w number here is grown = record {
       lane = l;
       at = from;

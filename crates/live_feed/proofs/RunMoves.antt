@@ -16,7 +16,7 @@ use Rattle.live_feed.specs.Lanes.{FeedLanes}
 use Rattle.live_feed.specs.venue.Seats.{SeatState}
 use Rattle.live_feed.specs.venue.Datagrams.{AreGenuineBytes, IsTakenBy}
 use Rattle.live_feed.specs.subscriber.Logs.{SubscriberLogState, Polls, logged}
-use Rattle.live_feed.specs.run.Runs.{Taking, AreTakenBy, HasTaken, HasEnded, HasPolled, Pairwise}
+use Rattle.live_feed.specs.run.Runs.{Taking, AreTakenBy, HasTaken, LineHasEnded, HasPolled, Pairwise}
 use Rattle.live_feed.proofs.CellMoves.{shown_sum}
 
 -- a datagram leaves a seat where it is
@@ -133,13 +133,13 @@ read_more brought bytes count more so_far is =
 pub ended_of : {S : Type 0} (takes : SeatState → List (List ℕ) → SeatState → Type 0)
     (brings : S → List (List ℕ) → S → Type 0) (failures : S → ℕ) (seat given : SeatState) (source first : S) (last_seat : SeatState)
     (last_source : S) (datagrams : ℕ) (fault : Option SourceFault) → seat ≡ given → source ≡ first
-    → HasEnded takes brings failures seat source last_seat last_source datagrams fault
-    → HasEnded takes brings failures given first last_seat last_source datagrams fault
+    → LineHasEnded takes brings failures seat source last_seat last_source datagrams fault
+    → LineHasEnded takes brings failures given first last_seat last_source datagrams fault
 ended_of takes brings failures seat given source first last_seat last_source datagrams fault same_seat
     same ended =
-    let P : SeatState → Type 0 = λ s. HasEnded takes brings failures s source last_seat last_source
+    let P : SeatState → Type 0 = λ s. LineHasEnded takes brings failures s source last_seat last_source
     datagrams fault in
-    let Q : _ → Type 0 = λ s. HasEnded takes brings failures given s last_seat last_source datagrams
+    let Q : _ → Type 0 = λ s. LineHasEnded takes brings failures given s last_seat last_source datagrams
     fault in
     subst Q same (subst P same_seat ended)
 

@@ -14,6 +14,6 @@ content_of p = record {
 }
 
 -- the blocks are whole, and the fields in their ranges
-pub record IsSound (p : Inside) : Type 0 where
+pub record IsWellFormed (p : Inside) : Type 0 where
   pub blocks : AreBlocks p.count p.blocks.now
   pub content : IsContent (content_of p)

@@ -33,11 +33,11 @@ impl<'a> Model for Packet<'a> {
 
     ghost Value = { Content };
 
-    ghost use Rattle.mold_packet.specs.Packet.{content_of, IsSound};
+    ghost use Rattle.mold_packet.specs.Packet.{content_of, IsWellFormed};
 
     ghost view = { content_of };
 
-    ghost invariant = { IsSound };
+    ghost invariant = { IsWellFormed };
 }
 
 impl<'a> Packet<'a> {

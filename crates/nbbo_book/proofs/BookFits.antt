@@ -12,9 +12,9 @@ use Rattle.nbbo_book.specs.declared.row.Row.{Row}
 use Rattle.nbbo_book.specs.Eligible.{ranked_by, is_self_helped}
 use Rattle.nbbo_book.specs.Nationals.{national_of, IsRanking}
 use Rattle.nbbo_book.specs.Changes.{changes_by}
-use Rattle.nbbo_book.specs.Books.{BookState, RowFits, Fits, venue_of}
+use Rattle.nbbo_book.specs.Books.{BookState, RowFits, FitsBook, venue_of}
 use Rattle.nbbo_book.specs.Rows.{may_at, side_at, row_after, row_change, national_at, helped_after, empty_row}
-use Rattle.nbbo_book.specs.Tables.{IsSide, IsRow, IsBook, IsTable, symbols_of}
+use Rattle.nbbo_book.specs.Tables.{IsSide, IsRow, IsBook, IsTable, symbols_in_rows}
 use Rattle.nbbo_book.specs.VenueSides.{venue_side_at}
 use Rattle.nbbo_book.specs.BookSides.{empty_side}
 use Rattle.nbbo_book.proofs.Eligibility.{ranking_is}
@@ -25,7 +25,7 @@ use Rattle.nbbo_book.proofs.Stepping.{rows_are, rows_fit, rows_keep_symbols, cha
 abbrev pub book_after : ℕ → Entry → BookState → BookState
 book_after last e b =
     record {
-      symbols = symbols_of (map (row_after (helped_after e b.helped) (b.applied + 1) e) b.rows);
+      symbols = symbols_in_rows (map (row_after (helped_after e b.helped) (b.applied + 1) e) b.rows);
       venues = b.venues;
       last = last;
       applied = b.applied + 1;
@@ -50,7 +50,7 @@ after_is keys b e last below rising h = record {
 }
 
 pub after_fits : (keys : List ℕ) (b : BookState) (e : Entry) (last : ℕ) (es : List Entry) → venue_of e < b.venues
-    → IsBook keys b → Fits b es → Fits (book_after last e b) (es ++ e ∷ [])
+    → IsBook keys b → FitsBook b es → FitsBook (book_after last e b) (es ++ e ∷ [])
 after_fits keys b e last es below h fits =
     let young : b.applied + 1 ≡ suc (length es) = (let a = fits.applied in omega (arith, a)) in
     let under : venue_of e < 16 = (let few = h.venues in omega (arith, below, few)) in
@@ -62,7 +62,7 @@ after_fits keys b e last es below h fits =
     }
 
 pub after_changes : (keys : List ℕ) (b : BookState) (e : Entry) (p : ℕ) (es : List Entry) → venue_of e < b.venues
-    → IsBook keys b → Fits b es → filter_map (row_change (helped_after e b.helped) (b.applied + 1) p e) b.rows ≡
+    → IsBook keys b → FitsBook b es → filter_map (row_change (helped_after e b.helped) (b.applied + 1) p e) b.rows ≡
     changes_by b.symbols es p e
 after_changes keys b e p es below h fits =
     changes_are es e p b.helped (b.applied + 1) b.rows (let few = h.venues in omega (arith, below, few)) h.count
@@ -71,7 +71,7 @@ after_changes keys b e p es below h fits =
 
 -- the row at the place that a symbol was found
 pub national_found : (keys : List ℕ) (b : BookState) (es : List Entry) (s : List ℕ) (i : ℕ) (d : Row) → IsBook keys b
-    → Fits b es → position (bytes_eq s) (symbols_of b.rows) ≡ Some i
+    → FitsBook b es → position (bytes_eq s) (symbols_in_rows b.rows) ≡ Some i
     → national_at (get_or b.rows i d) ≡ national_of es s
 national_found keys b es s i d h fits at =
     let found = found_symbol b.rows s i d at in
@@ -93,7 +93,7 @@ row_ranking es Offer helped n r flags h fits =
     fits.offers h.offers)
 
 pub ranking_found : (keys : List ℕ) (b : BookState) (es : List Entry) (s : List ℕ) (side : Side) (i : ℕ) (d : Row)
-    → IsBook keys b → Fits b es → position (bytes_eq s) (symbols_of b.rows) ≡ Some i
+    → IsBook keys b → FitsBook b es → position (bytes_eq s) (symbols_in_rows b.rows) ≡ Some i
     → IsRanking es s side (side_at side (get_or b.rows i d)).ranks
 ranking_found keys b es s side i d h fits at =
     let found = found_symbol b.rows s i d at in
@@ -158,13 +158,13 @@ rows_more [] i s d l e = absurd (omega (arith, l))
 rows_more (t ∷ ss) zero s d l e = ap (λ u. empty_row u ∷ []) e
 rows_more (t ∷ ss) (suc i) s d l e = ap (λ u. empty_row t ∷ u) (rows_more ss i s d (omega (arith, l)) e)
 
-pub empty_symbols : (ss : List (List ℕ)) → symbols_of (map empty_row ss) ≡ ss
+pub empty_symbols : (ss : List (List ℕ)) → symbols_in_rows (map empty_row ss) ≡ ss
 empty_symbols [] = refl
 empty_symbols (s ∷ ss) = ap (λ t. s ∷ t) (empty_symbols ss)
 
 abbrev pub empty_book : ℕ → List Row → BookState
 empty_book venues rows = record
-    { symbols = symbols_of rows; venues = venues; last = 0; applied = 0; helped = replicate 16 false; rows = rows }
+    { symbols = symbols_in_rows rows; venues = venues; last = 0; applied = 0; helped = replicate 16 false; rows = rows }
 
 pub empty_is : (keys : List ℕ) (ss : List (List ℕ)) (venues : ℕ) (rows : List Row) → venues ≤ 16
     → rows ≡ map empty_row ss → IsTable ss keys → IsBook keys (empty_book venues rows)
@@ -179,9 +179,9 @@ empty_is keys ss venues rows few is table =
     })
 
 pub empty_fits : (ss : List (List ℕ)) (venues : ℕ) (rows : List Row) → rows ≡ map empty_row ss
-    → Fits (empty_book venues rows) []
+    → FitsBook (empty_book venues rows) []
 empty_fits ss venues rows is =
-    subst (λ (t : List Row). Fits (empty_book venues t) []) (sym is) (record {
+    subst (λ (t : List Row). FitsBook (empty_book venues t) []) (sym is) (record {
       applied = refl;
       helped = λ v l. all_alike 16 v false;
       rows = empty_rows_fit ss;

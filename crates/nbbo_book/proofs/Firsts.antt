@@ -5,7 +5,7 @@ use Rattle.std.specs.List.{filter_map, list_all, cons_option, range_with_len}
 use Rattle.feed_types.specs.declared.national.Best.{Best}
 use Rattle.feed_types.specs.declared.line.Side.{Side}
 use Rattle.nbbo_book.specs.Nationals.{beats, all_venues, beats_others}
-use Rattle.nbbo_book.specs.Ranks.{front_of, IsRankingOf}
+use Rattle.nbbo_book.specs.Ranks.{best_of_ranks, IsRankingOf}
 use Rattle.nbbo_book.proofs.Beating.{beats_chain, beats_one_way, beats_either}
 use Rattle.nbbo_book.proofs.Ranking.{nat_same, nat_refl, nat_apart, nat_split, some_same, in_all}
 use Rattle.nbbo_book.proofs.EntryEffects.{and_left, and_right}
@@ -224,7 +224,7 @@ top_is b f g own apart =
 
 -- the first of the ranks beats every other one
 front_is_top : (b : Side) (f : ℕ → ℕ) (g : ℕ → Option Best) (xs : List Best) → IsOwn g → IsRankingOf b g f xs
-    → IsTop (IsBelow 16) b f g (front_of xs)
+    → IsTop (IsBelow 16) b f g (best_of_ranks xs)
 front_is_top b f g [] own h = λ w l.
     (elim (g w) as (λ o. g w ≡ o → o ≡ None) [
       | None ↦ λ e. refl
@@ -242,5 +242,5 @@ front_is_top b f g (x ∷ xs) own h =
     )
 
 pub front_is_best : (b : Side) (f : ℕ → ℕ) (g : ℕ → Option Best) (xs : List Best) → IsOwn g → IsRankingOf b g f xs
-    → front_of xs ≡ best_in b f g
-front_is_best b f g xs own h = sym (top_found b f g (front_of xs) own (front_is_top b f g xs own h))
+    → best_of_ranks xs ≡ best_in b f g
+front_is_best b f g xs own h = sym (top_found b f g (best_of_ranks xs) own (front_is_top b f g xs own h))

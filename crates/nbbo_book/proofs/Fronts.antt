@@ -5,7 +5,7 @@ use Rattle.std.specs.List.{insert, remove}
 use Rattle.feed_types.specs.declared.national.Best.{Best}
 use Rattle.feed_types.specs.declared.national.National.{National}
 use Rattle.nbbo_book.specs.Changes.{is_same_best, is_same_national}
-use Rattle.nbbo_book.specs.Ranks.{IsIn, HasNone, front_of}
+use Rattle.nbbo_book.specs.Ranks.{IsIn, HasNone, best_of_ranks}
 use Rattle.nbbo_book.proofs.EntryEffects.{and_left, and_right}
 use Rattle.nbbo_book.proofs.Ranking.{nat_same, nat_refl, nat_apart}
 
@@ -59,21 +59,21 @@ stays_first n y = not_first n ∙ ap not (sym (same_best_refl (Some y)))
 
 -- where a side was put in
 pub added_moves : (xs : List Best) (x : Best) (to : ℕ) → to ≤ length xs → HasNone x.venue xs
-    → nat_eq to 0 ≡ not (is_same_best (front_of xs) (front_of (insert xs to x)))
+    → nat_eq to 0 ≡ not (is_same_best (best_of_ranks xs) (best_of_ranks (insert xs to x)))
 added_moves [] x zero l h = refl
 added_moves [] x (suc to) l h = absurd (omega (arith, l))
 added_moves (y ∷ ys) x zero l h = ap not (sym (other_venue y x h.0))
 added_moves (y ∷ ys) x (suc to) l h = stays_first to y
 
 after_first : (y : Best) (ys : List Best) (v : ℕ) → y.venue ≡ v → HasNone v ys
-    → true ≡ not (is_same_best (Some y) (front_of ys))
+    → true ≡ not (is_same_best (Some y) (best_of_ranks ys))
 after_first y [] v own h = refl
 after_first y (z ∷ zs) v own h =
     ap not (sym (other_venue y z (ap (λ (n : ℕ). nat_eq n z.venue) own ∙ nat_apart z.venue v h.0)))
 
 -- where a side was taken out
 pub taken_moves : (xs : List Best) (v at : ℕ) (d : Best) → at < length xs → (get_or xs at d).venue ≡ v
-    → HasNone v (remove xs at) → nat_eq at 0 ≡ not (is_same_best (front_of xs) (front_of (remove xs at)))
+    → HasNone v (remove xs at) → nat_eq at 0 ≡ not (is_same_best (best_of_ranks xs) (best_of_ranks (remove xs at)))
 taken_moves [] v at d l own h = absurd (omega (arith, l))
 taken_moves (y ∷ ys) v zero d l own h = after_first y ys v own h
 taken_moves (y ∷ ys) v (suc at) d l own h = stays_first at y
@@ -81,7 +81,7 @@ taken_moves (y ∷ ys) v (suc at) d l own h = stays_first at y
 -- where a side went from one place to another
 pub moved_moves : (xs : List Best) (x : Best) (from to : ℕ) → from < length xs → to ≤ length (remove xs from)
     → (get_or xs from x).venue ≡ x.venue → HasNone x.venue (remove xs from) → (IsIn xs x → ⊥)
-    → (nat_eq from 0 || nat_eq to 0) ≡ not (is_same_best (front_of xs) (front_of (insert (remove xs from) to x)))
+    → (nat_eq from 0 || nat_eq to 0) ≡ not (is_same_best (best_of_ranks xs) (best_of_ranks (insert (remove xs from) to x)))
 moved_moves [] x from to l m own h new = absurd (omega (arith, l))
 moved_moves (y ∷ ys) x zero zero l m own h new = ap not (sym (not_same y x (λ e. new (inl e))))
 moved_moves (y ∷ []) x zero (suc to) l m own h new = absurd (omega (arith, m))

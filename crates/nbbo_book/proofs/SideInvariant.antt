@@ -15,7 +15,7 @@ use Rattle.nbbo_book.specs.Ranks.{CanUpdate, IsCause, InRank, IsIn, IsNewest, wi
 use Rattle.nbbo_book.specs.Tables.{IsSide}
 use Rattle.nbbo_book.specs.VenueSides.{venue_side_at, age_at}
 use Rattle.nbbo_book.specs.declared.book_side.BookSide.{BookSide}
-use Rattle.nbbo_book.specs.BookSides.{CanRank, IsCausedBy, rank_at, side_set, side_quoted, side_rechecked, IsPast, IsRanked}
+use Rattle.nbbo_book.specs.BookSides.{CanRank, IsCausedBy, rank_at, side_set, side_quoted, side_rechecked, ArePast, IsRanked}
 use Rattle.nbbo_book.proofs.EntryEffects.{and_left, same_side_refl}
 use Rattle.nbbo_book.proofs.Fronts.{best_same}
 use Rattle.nbbo_book.proofs.Ranking.{nat_split, some_same, ranking_same, ranking_set, ranking_room, without_none, without_nobody, InRank-ages, InRank-without, all_from_in, in_all}
@@ -121,7 +121,7 @@ others_stay b k v st h = InRank-ages b (age_at k.venue_sides) (age_at (set k.ven
     (others_in_order b k v h)
 
 -- none of them is newer than a side that is of the next entry
-age_at_most : (next : ℕ) (ss : List VenueSide) (w : ℕ) → IsPast next ss → length ss ≡ 16 → age_at ss w ≤ next
+age_at_most : (next : ℕ) (ss : List VenueSide) (w : ℕ) → ArePast next ss → length ss ≡ 16 → age_at ss w ≤ next
 age_at_most next ss w past count =
     (elim (nat_lt w 16) as (λ t. nat_lt w 16 ≡ t → age_at ss w ≤ next) [
       | true ↦ λ e. (let p = past w (grind (arith, e)) in omega (arith, p))
@@ -130,7 +130,7 @@ age_at_most next ss w past count =
     ]) refl
 
 pub others_older : (b : Side) (k : BookSide) (v : ℕ) (x : Best) (st : VenueSide) → v < 16 → x.venue ≡ v
-    → IsPast st.age k.venue_sides → IsRanked b k → IsNewest (age_at (set k.venue_sides v st)) x (without v k.ranks)
+    → ArePast st.age k.venue_sides → IsRanked b k → IsNewest (age_at (set k.venue_sides v st)) x (without v k.ranks)
 others_older b k v x st below at past h =
     let ss = set k.venue_sides v st in
     let own : age_at ss x.venue ≡ st.age = ap (age_at ss) at

@@ -23,9 +23,9 @@ use Rattle.nbbo_book.specs.Eligible.{ranked_by, may_rank, is_self_helped, eligib
 use Rattle.nbbo_book.specs.Nationals.{national_of, best_of}
 use Rattle.nbbo_book.specs.Changes.{is_same_best, is_same_national, change_of, changes_by}
 use Rattle.nbbo_book.specs.Books.{SideFits, RowFits, venue_of}
-use Rattle.nbbo_book.specs.Ranks.{front_of, IsRankingOf}
+use Rattle.nbbo_book.specs.Ranks.{best_of_ranks, IsRankingOf}
 use Rattle.nbbo_book.specs.Rows.{may_at, row_quoted, row_rechecked, row_halted, row_after, row_after_item, row_change, national_at, helped_after, symbol_in, symbol_in_item, IsRowRanked}
-use Rattle.nbbo_book.specs.Tables.{IsSide, IsRow, symbols_of}
+use Rattle.nbbo_book.specs.Tables.{IsSide, IsRow, symbols_in_rows}
 use Rattle.nbbo_book.specs.declared.book_side.BookSide.{BookSide}
 use Rattle.nbbo_book.specs.VenueSides.{venue_side_at, age_at}
 use Rattle.nbbo_book.specs.BookSides.{rank_at}
@@ -136,10 +136,10 @@ row_keeps_symbol helped n (Consumed v x) r = item_keeps_symbol helped n v x.item
 row_keeps_symbol helped n (SelfHelp v on) r = refl
 
 pub rows_keep_symbols : (helped : List Bool) (n : ℕ) (e : Entry) (rs : List Row)
-    → symbols_of (map (row_after helped n e) rs) ≡ symbols_of rs
+    → symbols_in_rows (map (row_after helped n e) rs) ≡ symbols_in_rows rs
 rows_keep_symbols helped n e [] = refl
 rows_keep_symbols helped n e (r ∷ rs) =
-    ap (λ s. s ∷ symbols_of (map (row_after helped n e) rs)) (row_keeps_symbol helped n e r)
+    ap (λ s. s ∷ symbols_in_rows (map (row_after helped n e) rs)) (row_keeps_symbol helped n e r)
     ∙ ap (λ ss. r.symbol ∷ ss) (rows_keep_symbols helped n e rs)
 
 -- a side's ranks are those of the entries
@@ -157,7 +157,7 @@ side_ranking es s b may n k leave fits h =
 -- and the first of them is the best of the entries
 best_is : (es : List Entry) (s : List ℕ) (b : Side) (may : ℕ → Bool) (n : ℕ) (k : BookSide)
     → ((w : ℕ) → w < 16 → may w ≡ may_rank es w s) → SideFits es s b k.venue_sides → IsSide b may n k
-    → front_of k.ranks ≡ best_of es s b
+    → best_of_ranks k.ranks ≡ best_of es s b
 best_is es s b may n k leave fits h =
     front_is_best b (λ w. age_of es w s b) (eligible_of es s b) k.ranks
     (λ w x e. ranked_own (may_rank es w s) w (side_of es w s b) x e) (side_ranking es s b may n k leave fits h)
@@ -172,7 +172,7 @@ pub national_is : (es : List Entry) (helped : List Bool) (n : ℕ) (r : Row)
     → ((w : ℕ) → w < 16 → slice_index_or helped w false ≡ is_self_helped es w) → IsRow helped n r → RowFits es r
     → national_at r ≡ national_of es r.symbol
 national_is es helped n r flags h fits =
-    ap (λ t. record { bid = t; offer = front_of r.offers.ranks })
+    ap (λ t. record { bid = t; offer = best_of_ranks r.offers.ranks })
     (best_is es r.symbol Bid (may_at helped r.halted) n (side_at Bid r) (may_is es helped r flags fits) fits.bids
     h.bids)
     ∙ ap (λ t. record { bid = best_of es r.symbol Bid; offer = t })
@@ -200,7 +200,7 @@ pub changes_are : (es : List Entry) (e : Entry) (p : ℕ) (helped : List Bool) (
     → venue_of e < 16 → length helped ≡ 16 → n ≡ suc (length es)
     → ((w : ℕ) → w < 16 → slice_index_or helped w false ≡ is_self_helped es w) → AllByRecursion (IsRow helped n) rs
     → AllByRecursion (RowFits es) rs
-    → filter_map (row_change (helped_after e helped) n p e) rs ≡ changes_by (symbols_of rs) es p e
+    → filter_map (row_change (helped_after e helped) n p e) rs ≡ changes_by (symbols_in_rows rs) es p e
 changes_are es e p helped n [] below long young flags h fits = refl
 changes_are es e p helped n (r ∷ rs) below long young flags h fits =
     let next = row_after (helped_after e helped) n e r in
@@ -313,15 +313,15 @@ pub nothing_steps : (helped : List Bool) (n p v : ℕ) (x : Numbered) (rs : List
 nothing_steps helped n p v x rs c = still helped n p (Consumed v x) rs (no_rows helped n v x rs c)
 
 missed_rows : (helped : List Bool) (n : ℕ) (e : Entry) (s : List ℕ) (rs : List Row) → symbol_in e ≡ Some s
-    → AllByRecursion (λ t. bytes_eq s t ≡ false) (symbols_of rs) → AllByRecursion (λ r. row_after helped n e r ≡ r) rs
+    → AllByRecursion (λ t. bytes_eq s t ≡ false) (symbols_in_rows rs) → AllByRecursion (λ r. row_after helped n e r ≡ r) rs
 missed_rows helped n e s [] c h = tt
 missed_rows helped n e s (r ∷ rs) c h = (other_row helped n e s r c h.0, missed_rows helped n e s rs c h.1)
 
 pub missed_steps : (helped : List Bool) (n p : ℕ) (e : Entry) (s : List ℕ) (rs : List Row) → symbol_in e ≡ Some s
-    → position (bytes_eq s) (symbols_of rs) ≡ None
+    → position (bytes_eq s) (symbols_in_rows rs) ≡ None
     → (map (row_after helped n e) rs ≡ rs) × (filter_map (row_change helped n p e) rs ≡ [])
 missed_steps helped n p e s rs c h =
-    still helped n p e rs (missed_rows helped n e s rs c (missed_all s (symbols_of rs) h))
+    still helped n p e rs (missed_rows helped n e s rs c (missed_all s (symbols_in_rows rs) h))
 
 option_list : {X : Type 0} (o : Option X) (xs : List X) → cons_option o xs ≡ option_to_list o ++ xs
 option_list None xs = refl
@@ -360,41 +360,41 @@ one_moves helped n p e (r ∷ rs) (suc i) d l h =
       ap (λ o. cons_option o (filter_map (row_change helped n p e) rs)) (quiet helped n p e r here) ∙ k.1,
     )
 
-symbol_at : (rs : List Row) (i : ℕ) (d : Row) → get_or (symbols_of rs) i d.symbol ≡ (get_or rs i d).symbol
+symbol_at : (rs : List Row) (i : ℕ) (d : Row) → get_or (symbols_in_rows rs) i d.symbol ≡ (get_or rs i d).symbol
 symbol_at [] i d = refl
 symbol_at (r ∷ rs) zero d = refl
 symbol_at (r ∷ rs) (suc i) d = symbol_at rs i d
 
-long_symbols : (rs : List Row) → length (symbols_of rs) ≡ length rs
+long_symbols : (rs : List Row) → length (symbols_in_rows rs) ≡ length rs
 long_symbols [] = refl
 long_symbols (r ∷ rs) = ap suc (long_symbols rs)
 
 -- the row at the place that a symbol was found is the symbol's
-pub found_symbol : (rs : List Row) (s : List ℕ) (i : ℕ) (d : Row) → position (bytes_eq s) (symbols_of rs) ≡ Some i
+pub found_symbol : (rs : List Row) (s : List ℕ) (i : ℕ) (d : Row) → position (bytes_eq s) (symbols_in_rows rs) ≡ Some i
     → (i < length rs) × ((get_or rs i d).symbol ≡ s)
 found_symbol rs s i d e =
-    let k = position-Some (bytes_eq s) (symbols_of rs) i d.symbol e in (
+    let k = position-Some (bytes_eq s) (symbols_in_rows rs) i d.symbol e in (
       omega (arith, k.0, long_symbols rs),
-      sym ((bytes_decides s (get_or (symbols_of rs) i d.symbol)).0 k.1 ∙ symbol_at rs i d),
+      sym ((bytes_decides s (get_or (symbols_in_rows rs) i d.symbol)).0 k.1 ∙ symbol_at rs i d),
     )
 
 -- a row's place is that of its symbol
-pub place_found : (rs : List Row) (s : List ℕ) (i : ℕ) (d : Row) → IsDistinct bytes_eq (symbols_of rs)
-    → i < length rs → bytes_eq s (get_or rs i d).symbol ≡ true → position (bytes_eq s) (symbols_of rs) ≡ Some i
+pub place_found : (rs : List Row) (s : List ℕ) (i : ℕ) (d : Row) → IsDistinct bytes_eq (symbols_in_rows rs)
+    → i < length rs → bytes_eq s (get_or rs i d).symbol ≡ true → position (bytes_eq s) (symbols_in_rows rs) ≡ Some i
 place_found rs s i d distinct l e =
-    place_is s (symbols_of rs) i d.symbol distinct (omega (arith, l, long_symbols rs))
+    place_is s (symbols_in_rows rs) i d.symbol distinct (omega (arith, l, long_symbols rs))
     (ap (bytes_eq s) (symbol_at rs i d) ∙ e)
 
 pub found_steps : (helped : List Bool) (n p : ℕ) (e : Entry) (s : List ℕ) (rs : List Row) (i : ℕ) (d : Row)
-    → symbol_in e ≡ Some s → IsDistinct bytes_eq (symbols_of rs) → position (bytes_eq s) (symbols_of rs) ≡ Some i
+    → symbol_in e ≡ Some s → IsDistinct bytes_eq (symbols_in_rows rs) → position (bytes_eq s) (symbols_in_rows rs) ≡ Some i
     → (map (row_after helped n e) rs ≡ set rs i (row_after helped n e (get_or rs i d))) ×
     (filter_map (row_change helped n p e) rs ≡ option_to_list (row_change helped n p e (get_or rs i d)))
 found_steps helped n p e s rs i d c distinct at =
     let found = found_symbol rs s i d at in
     one_moves helped n p e rs i d found.0 (λ j l q. other_row helped n e s (get_or rs j d) c
     (ap (λ t. bytes_eq t (get_or rs j d).symbol) (sym found.1 ∙ sym (symbol_at rs i d))
-    ∙ ap (bytes_eq (get_or (symbols_of rs) i d.symbol)) (sym (symbol_at rs j d))
-    ∙ apart_at (symbols_of rs) i j d.symbol distinct (omega (arith, found.0, long_symbols rs))
+    ∙ ap (bytes_eq (get_or (symbols_in_rows rs) i d.symbol)) (sym (symbol_at rs j d))
+    ∙ apart_at (symbols_in_rows rs) i j d.symbol distinct (omega (arith, found.0, long_symbols rs))
     (omega (arith, l, long_symbols rs)) q))
 
 -- a walk over all rows that has come to a place

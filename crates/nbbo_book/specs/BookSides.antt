@@ -56,8 +56,8 @@ pub record IsRanked (side : Side) (kept : BookSide) : Type 0 where
   pub room : (venue : ℕ) → venue < 16 → length (without venue kept.ranks) < 16
 
 -- the ages are those of entries before this one
-abbrev pub IsPast : ℕ → List VenueSide → Type 0
-IsPast next venue_sides = (venue : ℕ) → venue < 16 → age_at venue_sides venue < next
+abbrev pub ArePast : ℕ → List VenueSide → Type 0
+ArePast next venue_sides = (venue : ℕ) → venue < 16 → age_at venue_sides venue < next
 
 -- What a venue shows by now has this cause: where it was quoted, it is the newest of all, and isn't
 -- what was ranked; where it was rechecked, the ranks are as they are for what it shows.

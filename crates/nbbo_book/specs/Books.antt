@@ -12,7 +12,7 @@ use Rattle.nbbo_book.specs.VenueSides.{venue_side_at}
 use Rattle.nbbo_book.specs.Sides.{side_of, age_of}
 use Rattle.nbbo_book.specs.Eligible.{is_self_helped, is_halted}
 
--- what contracts see of a book; callers cite `Fits` and read no other field than the first three
+-- what contracts see of a book; callers cite `FitsBook` and read no other field than the first three
 pub record BookState : Type 0 where
   pub symbols : List (List ℕ)
   pub venues : ℕ
@@ -39,7 +39,7 @@ pub record RowFits (entries : List Entry) (row : Row) : Type 0 where
       → slice_index_or row.halted venue false ≡ is_halted entries venue row.symbol
 
 -- The book's sides, their ages, its halts and its self-help are those of the entries.
-pub record Fits (book : BookState) (entries : List Entry) : Type 0 where
+pub record FitsBook (book : BookState) (entries : List Entry) : Type 0 where
   pub applied : book.applied ≡ length entries
   pub helped : (venue : ℕ) → venue < 16
       → slice_index_or book.helped venue false ≡ is_self_helped entries venue

@@ -43,9 +43,9 @@ abbrev pub placed : Side → (ℕ → ℕ) → Option Best → List Best → Lis
 placed side age None xs = xs
 placed side age (Some x) xs = with_rank side age x xs
 
-abbrev pub front_of : List Best → Option Best
-front_of [] = None
-front_of (x ∷ xs) = Some x
+abbrev pub best_of_ranks : List Best → Option Best
+best_of_ranks [] = None
+best_of_ranks (x ∷ xs) = Some x
 
 -- Whether x, the side that is ranked anew, ranks before y. The newest of all does so by price and
 -- size alone.

@@ -15,8 +15,8 @@ use Rattle.nbbo_book.specs.declared.row.Row.{Row}
 use Rattle.nbbo_book.specs.declared.change.Change.{Change}
 use Rattle.nbbo_book.specs.Sides.{quoted_by}
 use Rattle.nbbo_book.specs.Changes.{change_of}
-use Rattle.nbbo_book.specs.Ranks.{front_of}
-use Rattle.nbbo_book.specs.BookSides.{IsPast, IsRanked, empty_side, side_quoted, side_rechecked}
+use Rattle.nbbo_book.specs.Ranks.{best_of_ranks}
+use Rattle.nbbo_book.specs.BookSides.{ArePast, IsRanked, empty_side, side_quoted, side_rechecked}
 
 abbrev pub may_at : List Bool → List Bool → ℕ → Bool
 may_at helped halted venue =
@@ -29,8 +29,8 @@ side_at Offer row = row.offers
 pub record IsRowRanked (next : ℕ) (row : Row) : Type 0 where
   pub bids : IsRanked Bid row.bids
   pub offers : IsRanked Offer row.offers
-  pub past_bids : IsPast next row.bids.venue_sides
-  pub past_offers : IsPast next row.offers.venue_sides
+  pub past_bids : ArePast next row.bids.venue_sides
+  pub past_offers : ArePast next row.offers.venue_sides
 
 abbrev pub row_quoted : List Bool → ℕ → Quote → ℕ → Row → Row
 row_quoted helped venue quote age row =
@@ -89,7 +89,7 @@ helped_after (SelfHelp venue on) helped = slice_set helped venue on
 
 abbrev pub national_at : Row → National
 national_at row =
-    record { bid = front_of row.bids.ranks; offer = front_of row.offers.ranks }
+    record { bid = best_of_ranks row.bids.ranks; offer = best_of_ranks row.offers.ranks }
 
 abbrev pub row_change : List Bool → ℕ → ℕ → Entry → Row → Option Change
 row_change helped age position entry row =

@@ -11,10 +11,10 @@ use Rattle.nbbo_book.specs.Ranks.{IsRankingOf}
 use Rattle.nbbo_book.specs.Rows.{may_at, side_at}
 use Rattle.nbbo_book.specs.VenueSides.{venue_side_at, age_at}
 use Rattle.nbbo_book.specs.declared.book_side.BookSide.{BookSide}
-use Rattle.nbbo_book.specs.BookSides.{rank_at, IsPast}
+use Rattle.nbbo_book.specs.BookSides.{rank_at, ArePast}
 
-abbrev pub symbols_of : List Row → List (List ℕ)
-symbols_of rows = map (λ (row : Row). row.symbol) rows
+abbrev pub symbols_in_rows : List Row → List (List ℕ)
+symbols_in_rows rows = map (λ (row : Row). row.symbol) rows
 
 -- the eight bytes can be told from their word
 pub record HasWord (symbol : List ℕ) : Type 0 where
@@ -30,7 +30,7 @@ pub record IsTable (symbols : List (List ℕ)) (keys : List ℕ) : Type 0 where
 -- the ranks are those of the venues that may be ranked.
 pub record IsSide (side : Side) (may : ℕ → Bool) (next : ℕ) (kept : BookSide) : Type 0 where
   pub count : length kept.venue_sides ≡ 16
-  pub past : IsPast next kept.venue_sides
+  pub past : ArePast next kept.venue_sides
   pub apart : (v w : ℕ) → v < 16 → w < 16 → v ≢ w
       → IsSome (venue_side_at kept.venue_sides v).quote
       → IsSome (venue_side_at kept.venue_sides w).quote
@@ -44,7 +44,7 @@ pub record IsRow (helped : List Bool) (next : ℕ) (row : Row) : Type 0 where
 
 -- what every book keeps
 pub record IsBook (keys : List ℕ) (book : BookState) : Type 0 where
-  pub symbols : book.symbols ≡ symbols_of book.rows
+  pub symbols : book.symbols ≡ symbols_in_rows book.rows
   pub table : IsTable book.symbols keys
   pub venues : book.venues ≤ 16
   pub applied : book.applied ≤ book.last
@@ -52,10 +52,10 @@ pub record IsBook (keys : List ℕ) (book : BookState) : Type 0 where
   pub rows : AllByRecursion (IsRow book.helped (book.applied + 1)) book.rows
 
 -- what contracts see of a book of these parts
-abbrev pub state_of : List Row → ℕ → ℕ → ℕ → List Bool → BookState
-state_of rows venues last applied helped =
+abbrev pub book_state_of : List Row → ℕ → ℕ → ℕ → List Bool → BookState
+book_state_of rows venues last applied helped =
     record {
-      symbols = symbols_of rows;
+      symbols = symbols_in_rows rows;
       venues = venues;
       last = last;
       applied = applied;

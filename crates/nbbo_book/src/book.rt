@@ -3,7 +3,7 @@
 ghost use Rattle.std.specs.Prelude.{◌≡◌, ◌↔◌, ◌<◌, ◌≤◌, ◌+◌, ◌++◌, ◌∷◌, [], List, length, map, IfOk, IfSome, IsSome, IsTrue, Some, false};
 ghost use Rattle.std.specs.Vec.{vec_len, vec_capacity};
 ghost use Rattle.feed_types.specs.declared.journal.Entry.{Entry};
-ghost use Rattle.nbbo_book.specs.Books.{Fits, venue_of, is_configured};
+ghost use Rattle.nbbo_book.specs.Books.{FitsBook, venue_of, is_configured};
 ghost use Rattle.nbbo_book.specs.Eligible.{is_self_helped as self_helped};
 ghost use Rattle.nbbo_book.specs.Nationals.{national_of, IsRanking};
 ghost use Rattle.nbbo_book.specs.Changes.{changes_by};
@@ -41,14 +41,14 @@ pub struct Book {
 
 impl Model for Book {
     ghost use Rattle.nbbo_book.specs.Books.{BookState};
-    ghost use Rattle.nbbo_book.specs.Tables.{IsBook, state_of};
+    ghost use Rattle.nbbo_book.specs.Tables.{IsBook, book_state_of};
 
     ghost Value = { BookState };
 
-    ghost view = { λ b. state_of b.rows.items b.venues.count b.last b.applied b.venues.helped };
+    ghost view = { λ b. book_state_of b.rows.items b.venues.count b.last b.applied b.venues.helped };
 
     ghost invariant = { λ b. IsBook b.table.words.keys
-        (state_of b.rows.items b.venues.count b.last b.applied b.venues.helped) };
+        (book_state_of b.rows.items b.venues.count b.last b.applied b.venues.helped) };
 }
 
 fn empty_rows(alloc: Global, symbols: &[SymbolName]) -> Result<Vec<Row>, AllocError>
@@ -75,7 +75,7 @@ impl Book {
     /// DuplicateSymbol, or NoMemory where there is none for what is kept of the symbols: the first
     /// of these that fits.
     pub fn new(alloc: Global, symbols: &[SymbolName], venue_count: usize) -> Result<Book, BookFault>
-        ensures fits { IfOk result (λ book. Fits book []) }
+        ensures fits { IfOk result (λ book. FitsBook book []) }
         ensures symbols { IfOk result (λ book. book.symbols ≡ symbols.now) }
         ensures venues { IfOk result (λ book. book.venues ≡ venue_count) }
         ensures last { IfOk result (λ book. book.last ≡ 0) }
@@ -111,9 +111,9 @@ impl Book {
         requires room { vec_len out.old + length self.old.symbols ≤ vec_capacity out.old }
         requires venue { venue_of entry.now < self.old.venues }
         requires rising { self.old.last < position }
-        ensures fits { (entries : List Entry) → Fits self.old entries
-            → Fits self.new (entries ++ entry.now ∷ []) }
-        ensures changes { (entries : List Entry) → Fits self.old entries
+        ensures fits { (entries : List Entry) → FitsBook self.old entries
+            → FitsBook self.new (entries ++ entry.now ∷ []) }
+        ensures changes { (entries : List Entry) → FitsBook self.old entries
             → out.new.items
             ≡ out.old.items ++ changes_by self.old.symbols entries position entry.now }
         ensures count { vec_len out.new ≤ vec_len out.old + length self.old.symbols }
@@ -155,7 +155,7 @@ impl Book {
     /// Returns the national best of the symbol, `None` exactly where it isn't configured.
     pub fn national(&self, symbol: &SymbolName) -> Option<National>
         ensures configured { IsSome result ↔ IsTrue (is_configured self.now.symbols symbol.now) }
-        ensures value { (entries : List Entry) → Fits self.now entries
+        ensures value { (entries : List Entry) → FitsBook self.now entries
             → IfSome result (λ national. national ≡ national_of entries symbol.now) }
     {
         let place = find(&self.table, self.rows.as_slice(), *symbol)?;
@@ -166,7 +166,7 @@ impl Book {
     /// `None` exactly where the symbol isn't configured.
     pub fn ranked(&self, symbol: &SymbolName, side: Side) -> Option<&[Best]>
         ensures configured { IsSome result ↔ IsTrue (is_configured self.now.symbols symbol.now) }
-        ensures ranking { (entries : List Entry) → Fits self.now entries
+        ensures ranking { (entries : List Entry) → FitsBook self.now entries
             → IfSome result (λ ranks. IsRanking entries symbol.now side ranks.now) }
     {
         let place = find(&self.table, self.rows.as_slice(), *symbol)?;
@@ -175,7 +175,7 @@ impl Book {
 
     /// Returns whether self-help stands on the venue.
     pub fn is_self_helped(&self, venue: VenueId) -> bool
-        ensures { (entries : List Entry) → Fits self.now entries
+        ensures { (entries : List Entry) → FitsBook self.now entries
             → result ≡ self_helped entries venue }
     {
         self.venues.helped[venue.index()]

@@ -2,8 +2,8 @@
 
 ghost use Rattle.std.specs.Prelude.{◌≡◌, not, false, None};
 ghost use Rattle.nbbo_book.specs.Changes.{is_same_best};
-ghost use Rattle.nbbo_book.specs.Ranks.{front_of};
-ghost use Rattle.nbbo_book.specs.BookSides.{CanRank, IsPast, IsRanked, empty_side, side_quoted, side_rechecked};
+ghost use Rattle.nbbo_book.specs.Ranks.{best_of_ranks};
+ghost use Rattle.nbbo_book.specs.BookSides.{CanRank, ArePast, IsRanked, empty_side, side_quoted, side_rechecked};
 
 use crate::ranks::{Cause, Order, Ranks};
 use crate::side_quote::{is_same, rank_of};
@@ -52,7 +52,7 @@ impl BookSide {
         requires { CanRank side quoter.now.venue cause self.old }
         ensures side { self.new ≡ side_rechecked side quoter.now.venue quoter.now.may_rank self.old }
         ensures moved { result
-            ≡ not (is_same_best (front_of self.old.ranks) (front_of self.new.ranks)) }
+            ≡ not (is_same_best (best_of_ranks self.old.ranks) (best_of_ranks self.new.ranks)) }
     {
         let shown = venue_side_at(&self.venue_sides, quoter.venue);
         let order = Order {
@@ -69,11 +69,11 @@ impl BookSide {
     #[inline(always)]
     pub fn set_quote(&mut self, side: Side, quoter: &Quoter, venue_side: VenueSide) -> bool
         requires ranked { IsRanked side self.old }
-        requires past { IsPast venue_side.age self.old.venue_sides }
+        requires past { ArePast venue_side.age self.old.venue_sides }
         ensures side { self.new ≡ side_quoted side quoter.now.venue venue_side.quote venue_side.age
             quoter.now.may_rank self.old }
         ensures moved { result
-            ≡ not (is_same_best (front_of self.old.ranks) (front_of self.new.ranks)) }
+            ≡ not (is_same_best (best_of_ranks self.old.ranks) (best_of_ranks self.new.ranks)) }
     {
         let shown = venue_side_at(&self.venue_sides, quoter.venue);
         if is_same(shown.quote(), venue_side.quote()) {
@@ -88,10 +88,10 @@ impl BookSide {
     #[inline(always)]
     pub fn clear_quote(&mut self, side: Side, venue: VenueId, age: u64) -> bool
         requires ranked { IsRanked side self.old }
-        requires past { IsPast age self.old.venue_sides }
+        requires past { ArePast age self.old.venue_sides }
         ensures side { self.new ≡ side_quoted side venue None age false self.old }
         ensures moved { result
-            ≡ not (is_same_best (front_of self.old.ranks) (front_of self.new.ranks)) }
+            ≡ not (is_same_best (best_of_ranks self.old.ranks) (best_of_ranks self.new.ranks)) }
     {
         match venue_side_at(&self.venue_sides, venue).quote() {
             None => false,
@@ -105,10 +105,10 @@ impl BookSide {
     #[inline(never)]
     fn clear_shown(&mut self, side: Side, venue: VenueId, age: u64) -> bool
         requires ranked { IsRanked side self.old }
-        requires past { IsPast age self.old.venue_sides }
+        requires past { ArePast age self.old.venue_sides }
         ensures side { self.new ≡ side_quoted side venue None age false self.old }
         ensures moved { result
-            ≡ not (is_same_best (front_of self.old.ranks) (front_of self.new.ranks)) }
+            ≡ not (is_same_best (best_of_ranks self.old.ranks) (best_of_ranks self.new.ranks)) }
     {
         let quoter = Quoter {
             venue,
@@ -124,7 +124,7 @@ impl BookSide {
         requires { IsRanked side self.old }
         ensures side { self.new ≡ side_rechecked side quoter.now.venue quoter.now.may_rank self.old }
         ensures moved { result
-            ≡ not (is_same_best (front_of self.old.ranks) (front_of self.new.ranks)) }
+            ≡ not (is_same_best (best_of_ranks self.old.ranks) (best_of_ranks self.new.ranks)) }
     {
         let shown = venue_side_at(&self.venue_sides, quoter.venue);
         match shown.quote() {
@@ -140,7 +140,7 @@ impl BookSide {
         requires { IsRanked side self.old }
         ensures side { self.new ≡ side_rechecked side quoter.now.venue quoter.now.may_rank self.old }
         ensures moved { result
-            ≡ not (is_same_best (front_of self.old.ranks) (front_of self.new.ranks)) }
+            ≡ not (is_same_best (best_of_ranks self.old.ranks) (best_of_ranks self.new.ranks)) }
     {
         self.update_ranks(side, quoter, Cause::Rechecked)
     }
@@ -155,7 +155,7 @@ impl BookSide {
     /// Returns the best side.
     #[inline(always)]
     pub fn front(&self) -> Option<Best>
-        ensures { result ≡ front_of self.now.ranks }
+        ensures { result ≡ best_of_ranks self.now.ranks }
     {
         self.ranks.front()
     }

@@ -4,7 +4,7 @@ ghost use Rattle.std.specs.Prelude.{◌≡◌, ℕ, ◌+◌, ◌<◌, ◌≤◌,
 ghost use Rattle.nbbo_book.specs.Changes.{is_same_best};
 ghost use Rattle.nbbo_book.specs.Nationals.{is_better as is_better_side, beats as beats_side};
 ghost use Rattle.nbbo_book.specs.VenueSides.{age_at};
-ghost use Rattle.nbbo_book.specs.Ranks.{is_ahead as is_ahead_side, ages_in, AreNoted, CanUpdate, HasNone, IsPlace, without, with_rank, placed, front_of};
+ghost use Rattle.nbbo_book.specs.Ranks.{is_ahead as is_ahead_side, ages_in, AreNoted, CanUpdate, HasNone, IsPlace, without, with_rank, placed, best_of_ranks};
 
 use crate::venue_side::{VenueSide, venue_side_at};
 use arrayvec::ArrayVec;
@@ -240,7 +240,7 @@ impl Ranks {
     /// Returns the best side.
     #[inline(always)]
     pub fn front(&self) -> Option<Best>
-        ensures { result ≡ front_of self.now }
+        ensures { result ≡ best_of_ranks self.now }
     {
         match self.best_first.as_slice().first() {
             Some(best) => Some(*best),
@@ -262,7 +262,7 @@ impl Ranks {
         requires ready { CanUpdate order.now x.venue (Some x) self.old }
         requires absent { without x.venue self.old ≡ self.old }
         ensures ranks { self.new ≡ with_rank order.now.side (ages_in order.now) x self.old }
-        ensures moved { result ≡ not (is_same_best (front_of self.old) (front_of self.new)) }
+        ensures moved { result ≡ not (is_same_best (best_of_ranks self.old) (best_of_ranks self.new)) }
     {
         let from = self.best_first.len();
         self.best_first.push(x);
@@ -286,7 +286,7 @@ impl Ranks {
     fn take_out(&mut self, venue: VenueId) -> bool
         requires { HasNone venue (without venue self.old) }
         ensures ranks { self.new ≡ without venue self.old }
-        ensures moved { result ≡ not (is_same_best (front_of self.old) (front_of self.new)) }
+        ensures moved { result ≡ not (is_same_best (best_of_ranks self.old) (best_of_ranks self.new)) }
     {
         match place_of(self.best_first.as_slice(), &self.places, venue) {
             Some(at) => {
@@ -305,7 +305,7 @@ impl Ranks {
         requires { CanUpdate order.now venue best self.old }
         ensures ranks { self.new
             ≡ placed order.now.side (ages_in order.now) best (without venue self.old) }
-        ensures moved { result ≡ not (is_same_best (front_of self.old) (front_of self.new)) }
+        ensures moved { result ≡ not (is_same_best (best_of_ranks self.old) (best_of_ranks self.new)) }
     {
         let Some(x) = best else {
             return self.take_out(venue);

@@ -5,7 +5,7 @@ ghost use Rattle.std.specs.List.{AllByRecursion};
 ghost use Rattle.std.specs.Vec.{vec_len, vec_capacity};
 ghost use Rattle.std.specs.Option.{option_to_list};
 ghost use Rattle.nbbo_book.specs.Rows.{IsRowRanked, row_after, row_change, symbol_in, Applies};
-ghost use Rattle.nbbo_book.specs.Tables.{IsTable, symbols_of};
+ghost use Rattle.nbbo_book.specs.Tables.{IsTable, symbols_in_rows};
 
 use crate::change::Change;
 use crate::row::Row;
@@ -104,7 +104,7 @@ fn step_symbol(
     out: &mut Vec<Change>,
 )
     requires symbol { symbol_in step.now.entry.now ≡ Some symbol }
-    requires table { IsTable (symbols_of rows.old) table.now.words.keys }
+    requires table { IsTable (symbols_in_rows rows.old) table.now.words.keys }
     requires ranked { AllByRecursion (IsRowRanked step.now.age) rows.old }
     requires room { vec_len out.old + length rows.old ≤ vec_capacity out.old }
     ensures applies { Applies step.now.venues.now.helped step.now.age step.now.position
@@ -121,7 +121,7 @@ fn step_symbol(
 /// flags of self-help are those after it.
 #[inline(always)]
 pub fn apply_step(table: &Table, rows: &mut [Row], step: &Step<'_>, out: &mut Vec<Change>)
-    requires table { IsTable (symbols_of rows.old) table.now.words.keys }
+    requires table { IsTable (symbols_in_rows rows.old) table.now.words.keys }
     requires ranked { AllByRecursion (IsRowRanked step.now.age) rows.old }
     requires room { vec_len out.old + length rows.old ≤ vec_capacity out.old }
     ensures applies { Applies step.now.venues.now.helped step.now.age step.now.position

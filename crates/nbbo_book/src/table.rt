@@ -3,7 +3,7 @@
 ghost use Rattle.std.specs.Prelude.{◌≡◌, ◌↔◌, ◌<◌, length, position, IfOk, OnOk, IsErrOf};
 ghost use Rattle.std.specs.List.{IsDistinct};
 ghost use Rattle.std.specs.Str.{bytes_eq};
-ghost use Rattle.nbbo_book.specs.Tables.{IsTable, symbols_of};
+ghost use Rattle.nbbo_book.specs.Tables.{IsTable, symbols_in_rows};
 
 use crate::fault::BookFault;
 use crate::row::Row;
@@ -71,8 +71,8 @@ pub fn symbol_table(alloc: Global, symbols: &[SymbolName]) -> Result<Table, Book
 /// Returns where the symbol stands. Most often that is where it is guessed to be.
 #[inline(always)]
 pub fn find(table: &Table, rows: &[Row], symbol: SymbolName) -> Option<usize>
-    requires { IsTable (symbols_of rows.now) table.now.words.keys }
-    ensures { result ≡ position (bytes_eq symbol) (symbols_of rows.now) }
+    requires { IsTable (symbols_in_rows rows.now) table.now.words.keys }
+    ensures { result ≡ position (bytes_eq symbol) (symbols_in_rows rows.now) }
 {
     let guess = table.cache.place_of(symbol.word());
     if guess < rows.len() && rows[guess].is_of(symbol) {

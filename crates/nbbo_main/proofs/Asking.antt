@@ -7,7 +7,7 @@ use Rattle.clap.specs.Walk.{Row, Text}
 use Rattle.clap.specs.Faults.{fault_of}
 use Rattle.clap.specs.declared.error.kind.ErrorKind.{ErrorKind}
 use Rattle.clap.specs.declared.error.kind.ErrorKind.TheVariants.{DisplayHelp, DisplayVersion, OutOfMemory}
-use Rattle.nbbo_main.specs.CommandLine.{GivesNone, IsCount, IsRefused, IsWindow, RefusesBy, list_in, refusal_by, symbol_words_in, symbols_refusal_by}
+use Rattle.nbbo_main.specs.CommandLine.{GivesNone, IsCount, IsRefused, IsWindowOf, RefusesBy, list_in, refusal_by, symbol_words_in, symbols_refusal_by}
 use Rattle.nbbo_main.specs.Commands.{nbbo_app}
 use Rattle.nbbo_main.specs.Sessions.{sessions_in}
 use Rattle.nbbo_main.specs.declared.sessions.SessionsFault.{SessionsFault}
@@ -26,21 +26,21 @@ abbrev number_of : Text → ℕ
 number_of text = digits_value 10 (without_leading_plus text)
 
 -- a number that was read and kept is the window
-pub IsWindow-read : (text : Option Text) (w : ℕ) → (text ≡ None → Some w ≡ None) → ((t : Text) → text ≡ Some t → w ≡ number_of t) → IsWindow text w
-IsWindow-read None w none value = absurd (not_some w (none refl))
-IsWindow-read (Some t) w none value = λ numeral some few. value t refl
+pub IsWindowOf-read : (text : Option Text) (w : ℕ) → (text ≡ None → Some w ≡ None) → ((t : Text) → text ≡ Some t → w ≡ number_of t) → IsWindowOf text w
+IsWindowOf-read None w none value = absurd (not_some w (none refl))
+IsWindowOf-read (Some t) w none value = λ numeral some few. value t refl
 
 -- where the number that was read is out of range the window is the usual one
-pub IsWindow-out : (text : Option Text) (w : ℕ) → ((t : Text) → text ≡ Some t → w ≡ number_of t) → (w < 1) ⊎ (65535 < w) → IsWindow text 4096
-IsWindow-out None w value out = refl
-IsWindow-out (Some t) w value out = λ numeral some few.
+pub IsWindowOf-out : (text : Option Text) (w : ℕ) → ((t : Text) → text ≡ Some t → w ≡ number_of t) → (w < 1) ⊎ (65535 < w) → IsWindowOf text 4096
+IsWindowOf-out None w value out = refl
+IsWindowOf-out (Some t) w value out = λ numeral some few.
     let is = value t refl in
     elim out [ inl low ↦ absurd (omega arith) | inr high ↦ absurd (omega arith) ]
 
 -- and where none was read
-pub IsWindow-none : (text : Option Text) → ((t : Text) → text ≡ Some t → IsNumeral 10 (without_leading_plus t) × (number_of t < 2 ^ 32) → ⊥) → IsWindow text 4096
-IsWindow-none None unread = refl
-IsWindow-none (Some t) unread = λ numeral some few. absurd (unread t refl (numeral, omega arith))
+pub IsWindowOf-none : (text : Option Text) → ((t : Text) → text ≡ Some t → IsNumeral 10 (without_leading_plus t) × (number_of t < 2 ^ 32) → ⊥) → IsWindowOf text 4096
+IsWindowOf-none None unread = refl
+IsWindowOf-none (Some t) unread = λ numeral some few. absurd (unread t refl (numeral, omega arith))
 
 -- a number that was read is the count
 pub IsCount-read : (text : Option Text) (n : ℕ) → (text ≡ None → Some n ≡ None) → ((t : Text) → text ≡ Some t → n ≡ number_of t) → IsCount text n

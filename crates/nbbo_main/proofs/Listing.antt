@@ -7,7 +7,7 @@ use Rattle.std.proofs.lemmas.List.{length-map}
 use Rattle.std.proofs.lemmas.List.Folds.{list_all-map}
 use Rattle.std.proofs.lemmas.Simd.{map-map}
 use Rattle.feed_types.specs.Symbols.{filled, is_symbol_name}
-use Rattle.nbbo_main.specs.Symbols.{HasSymbolsFault, NameSymbols, symbols_of}
+use Rattle.nbbo_main.specs.Symbols.{HasSymbolsFault, NameSymbols, named_symbols}
 use Rattle.nbbo_main.specs.declared.symbols.SymbolsFault.TheVariants.{BadSymbol, TooManySymbols, DuplicateSymbol}
 
 -- the texts behind references
@@ -18,7 +18,7 @@ texts words = map (λ word. word.now) words
 abbrev AreNamed : List (Bor (List ℕ)) → List (List ℕ) → Type 0
 AreNamed words symbols = symbols ≡ map (λ word. filled word.now) words
 
-are_all : (words : List (Bor (List ℕ))) (symbols : List (List ℕ)) → AreNamed words symbols → symbols ≡ symbols_of (texts words)
+are_all : (words : List (Bor (List ℕ))) (symbols : List (List ℕ)) → AreNamed words symbols → symbols ≡ named_symbols (texts words)
 are_all words symbols e = e ∙ sym (map-map filled (λ word. word.now) words)
 
 pub symbols_named : (words : List (Bor (List ℕ))) (symbols : List (List ℕ)) → list_all (λ word. is_symbol_name word.now) words ≡ true → length words ≤ 4096 → AreNamed words symbols → IsDistinct bytes_eq symbols → NameSymbols (texts words) symbols

@@ -55,9 +55,9 @@ abbrev pub symbol_words_in : List Row → List Text
 symbol_words_in rows = unwrap_or (all_of (codes "symbols") rows) []
 
 -- the window that a text gives: the number that it is, where that is one from 1 to 65535
-abbrev pub IsWindow : Option Text → ℕ → Type 0
-IsWindow None window = window ≡ 4096
-IsWindow (Some text) window =
+abbrev pub IsWindowOf : Option Text → ℕ → Type 0
+IsWindowOf None window = window ≡ 4096
+IsWindowOf (Some text) window =
     let number = digits_value 10 (without_leading_plus text) in
     IsNumeral 10 (without_leading_plus text) → 1 ≤ number → number ≤ 65535 → window ≡ number
 
@@ -79,7 +79,7 @@ pub record IsFlag (text : Option Text) (flag : Bool) : Type 0 where
 pub record Gives (rows : List Row) (settings : ReplaySettings) : Type 0 where
   pub sessions : sessions_in (list_in rows) ≡ Ok settings.sessions.items
   pub symbols : NameSymbols (symbol_words_in rows) settings.symbols.items
-  pub window : IsWindow (one_of (codes "window") rows) settings.window
+  pub window : IsWindowOf (one_of (codes "window") rows) settings.window
   pub journal : IsCount (one_of (codes "journal") rows) settings.journal
   pub gaps : IsFlag (one_of (codes "gaps") rows) settings.gaps
 
@@ -89,7 +89,7 @@ pub record GivesListening (rows : List Row) (settings : ListenSettings) : Type 0
   pub lines : NameLines (lines_in rows) (length settings.sessions.items) settings.lines.items
   pub request : NamesRequest (first_of (codes "request") rows) settings.request
   pub symbols : NameSymbols (symbol_words_in rows) settings.symbols.items
-  pub window : IsWindow (one_of (codes "window") rows) settings.window
+  pub window : IsWindowOf (one_of (codes "window") rows) settings.window
   pub journal : IsCount (one_of (codes "journal") rows) settings.journal
   pub datagrams : IsCount (one_of (codes "datagrams") rows) settings.datagrams
 
@@ -195,17 +195,17 @@ IsListening words =
     option_map (λ found. found.0) (subcommand_of nbbo_app words) ≡ Some (codes "listen")
 
 -- clap takes the words
-abbrev pub IsTaken : List Text → Type 0
-IsTaken words = fault_of nbbo_app words ≡ []
+abbrev pub IsAccepted : List Text → Type 0
+IsAccepted words = fault_of nbbo_app words ≡ []
 
 -- The words ask for a replay with these settings.
 pub record AsksReplay (words : List Text) (settings : ReplaySettings) : Type 0 where
-  pub taken : IsTaken words
+  pub taken : IsAccepted words
   pub given : Gives (values_of words) settings
 
 -- The words ask to listen with these settings.
 pub record AsksListening (words : List Text) (settings : ListenSettings) : Type 0 where
-  pub taken : IsTaken words
+  pub taken : IsAccepted words
   pub given : GivesListening (listen_values_of words) settings
 
 -- The words ask for this. Each of the two needs values that the other's subcommand doesn't give.
@@ -215,7 +215,7 @@ Asks words (Listen settings) = AsksListening words settings
 
 -- clap takes the words, and the values of their options give no settings of the subcommand
 pub record GivesNoTask (words : List Text) (refusal : Refusal) : Type 0 where
-  pub taken : IsTaken words
+  pub taken : IsAccepted words
   pub listening : IsListening words → GivesNoListening (listen_values_of words) refusal
   pub replaying : (IsListening words → ⊥) → GivesNone (values_of words) refusal
 

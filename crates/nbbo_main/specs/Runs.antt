@@ -9,7 +9,7 @@ use Rattle.feed_text.specs.declared.fault.ReplayFault.{ReplayFault}
 use Rattle.feed_text.specs.declared.fault.ReplayFault.TheVariants.{WriteFailed}
 use Rattle.feed_text.specs.declared.replay.ReplayConfig.{ReplayConfig}
 use Rattle.feed_text.specs.Devices.{Reading, Writing, Wrote}
-use Rattle.feed_text.specs.Replays.{Replays, ReplaysBy}
+use Rattle.feed_text.specs.Replays.{Replays, AnswersReplay}
 use Rattle.replay_run.specs.Printed.{texts_of_run}
 use Rattle.nbbo_main.specs.CommandLine.{Asks, AsksReplay, IsRefused, refusal_status, refusal_text}
 use Rattle.nbbo_main.specs.Ending.{ending_status, ending_text}
@@ -54,7 +54,7 @@ pub record RunsReplay {R W E : Type 0}
   pub is : IsConfigOf settings config
   pub outcome : Result (Unit {0}) ReplayFault
   pub replays : Replays reading writing config from to before after outcome
-  pub run : ReplaysBy reading writing config (texts_of_run config) from to before after outcome
+  pub run : AnswersReplay reading writing config (texts_of_run config) from to before after outcome
   pub hinted : E
   pub hint : Says telling (hint_text at_terminal) silent hinted
   pub line : Says telling (ending_text outcome) hinted told

@@ -10,12 +10,12 @@ abbrev pub names_in : List ℕ → List (List ℕ)
 names_in list = slice_split (λ byte. byte == 44) list
 
 -- printable ASCII, the space among it
-abbrev pub is_name_byte : ℕ → Bool
-is_name_byte byte = nat_le 32 byte && nat_le byte 126
+abbrev pub is_session_byte : ℕ → Bool
+is_session_byte byte = nat_le 32 byte && nat_le byte 126
 
 abbrev pub is_session_name : List ℕ → Bool
 is_session_name name =
-    nat_le 1 (length name) && (nat_le (length name) 10 && list_all is_name_byte name)
+    nat_le 1 (length name) && (nat_le (length name) 10 && list_all is_session_byte name)
 
 -- the session of a name, as packets carry it: filled on the right with spaces to ten bytes
 abbrev pub filled_name : List ℕ → List ℕ

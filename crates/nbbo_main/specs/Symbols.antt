@@ -11,14 +11,14 @@ abbrev pub AreNames : List (List ℕ) → Type 0
 AreNames words = list_all is_symbol_name words ≡ true
 
 -- the symbols with these names, as quotations carry them: filled on the right with spaces
-abbrev pub symbols_of : List (List ℕ) → List (List ℕ)
-symbols_of words = map filled words
+abbrev pub named_symbols : List (List ℕ) → List (List ℕ)
+named_symbols words = map filled words
 
 -- The words name these symbols.
 pub record NameSymbols (words symbols : List (List ℕ)) : Type 0 where
   pub names : AreNames words
   pub few : length words ≤ 4096
-  pub symbols_are : symbols ≡ symbols_of words
+  pub symbols_are : symbols ≡ named_symbols words
   pub distinct : IsDistinct bytes_eq symbols
 
 -- Why words name no symbols: a word that is no name is told before that there are more than 4,096,
@@ -27,5 +27,5 @@ abbrev pub HasSymbolsFault : List (List ℕ) → SymbolsFault → Type 0
 HasSymbolsFault words BadSymbol = list_all is_symbol_name words ≡ false
 HasSymbolsFault words TooManySymbols = AreNames words × (4096 < length words)
 HasSymbolsFault words DuplicateSymbol =
-    AreNames words × (length words ≤ 4096) × (¬ IsDistinct bytes_eq (symbols_of words))
+    AreNames words × (length words ≤ 4096) × (¬ IsDistinct bytes_eq (named_symbols words))
 HasSymbolsFault words NoMemory = Unit {0}

@@ -5,7 +5,7 @@ ghost use Rattle.clap.specs.Simple.{subcommand_of, subcommand_rows_of};
 ghost use Rattle.clap.specs.Values.{kind_of};
 ghost use Rattle.clap.specs.Walk.{first_of, one_of, rows_of};
 ghost use Rattle.nbbo_main.specs.Addresses.{HasLinesFault, NameLines, NamesNoRequest, NamesRequest};
-ghost use Rattle.nbbo_main.specs.CommandLine.{Asks, Gives, GivesListening, GivesNoListening, GivesNone, IsCount, IsFlag, IsRefused, IsTaken, IsWindow, RefusesBy, lines_in, symbol_words_in};
+ghost use Rattle.nbbo_main.specs.CommandLine.{Asks, Gives, GivesListening, GivesNoListening, GivesNone, IsCount, IsFlag, IsRefused, IsAccepted, IsWindowOf, RefusesBy, lines_in, symbol_words_in};
 ghost use Rattle.nbbo_main.specs.Commands.{nbbo_app};
 ghost use Rattle.nbbo_main.specs.Symbols.{HasSymbolsFault, NameSymbols};
 
@@ -52,7 +52,7 @@ fn refusal_of(alloc: Global, error: &Error) -> Refusal
 
 /// What the words give to the commands and their options.
 fn parsed<'a>(alloc: Global, words: &'a [String]) -> Result<ArgMatches<'a>, Refusal>
-    ensures taken { OnOk result (IsTaken (map (λ word. string_bytes word) words.entry.now)) }
+    ensures taken { OnOk result (IsAccepted (map (λ word. string_bytes word) words.entry.now)) }
     ensures values { IfOk result (λ m.
         subcommand_rows_of m
         ≡ subcommand_of nbbo_app (map (λ word. string_bytes word) words.entry.now)) }
@@ -66,7 +66,7 @@ fn parsed<'a>(alloc: Global, words: &'a [String]) -> Result<ArgMatches<'a>, Refu
 
 /// The window that the option gives. The parser has refused a number that is out of range.
 fn window_of(options: &ArgMatches<'_>) -> u32
-    ensures value { IsWindow (one_of (codes "window") (rows_of (found_of options.now))) result }
+    ensures value { IsWindowOf (one_of (codes "window") (rows_of (found_of options.now))) result }
     ensures some { 1 ≤ result }
     ensures in_range { result ≤ 65535 }
 {

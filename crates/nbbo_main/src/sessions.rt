@@ -1,7 +1,7 @@
 //! The list of sessions on the command line.
 ghost use Rattle.std.specs.Prelude.{◌≡◌, ◌≢◌, ◌≤◌, All, IfOk, IfErr, length, map, vec_len};
 ghost use Rattle.std.specs.List.{list_all};
-ghost use Rattle.nbbo_main.specs.Sessions.{is_name_byte, is_session_name, filled_name, sessions_in};
+ghost use Rattle.nbbo_main.specs.Sessions.{is_session_byte, is_session_name, filled_name, sessions_in};
 ghost use Rattle.nbbo_main.specs.declared.sessions.SessionsFault.TheVariants.{NoMemory};
 
 use std::alloc::{AllocError, Global};
@@ -32,7 +32,7 @@ impl From<AllocError> for SessionsFault {
 }
 
 fn is_printable(bytes: &[u8]) -> bool
-    ensures { result ≡ list_all is_name_byte bytes.now }
+    ensures { result ≡ list_all is_session_byte bytes.now }
 {
     bytes.iter().all(|&byte| 0x20 <= byte && byte <= 0x7e)
 }

@@ -4,13 +4,13 @@ ghost use Rattle.feed_text.specs.Lines.{best_line};
 ghost use Rattle.nbbo_main.specs.Listening.{end_line, end_lines, subscriber_lines, summary_text};
 
 use feed_text::lines::{put_best, put_venue};
-use feed_text::page::Page;
+use feed_text::page::LineBuffer;
 use feed_types::{LineId, Notice, SubscriberId, VenueId};
 use live_feed::{Logged, Settlement};
 use std::alloc::{AllocError, Global};
 
 /// Appends the best lines of the notices.
-fn put_notices(text: &mut Page, notices: &[Notice]) -> Result<(), AllocError>
+fn put_notices(text: &mut LineBuffer, notices: &[Notice]) -> Result<(), AllocError>
     ensures { OnOk result (text.new.items ≡ text.old.items ++ flat_map best_line notices.now) }
 {
     for notice in notices {
@@ -20,7 +20,7 @@ fn put_notices(text: &mut Page, notices: &[Notice]) -> Result<(), AllocError>
 }
 
 /// Appends the best lines of the notices that a subscriber took.
-fn put_log(text: &mut Page, log: &[Logged]) -> Result<(), AllocError>
+fn put_log(text: &mut LineBuffer, log: &[Logged]) -> Result<(), AllocError>
     ensures { OnOk result (text.new.items
         ≡ text.old.items ++ flat_map (λ logged. best_line logged.notice) log.now) }
 {
@@ -31,7 +31,7 @@ fn put_log(text: &mut Page, log: &[Logged]) -> Result<(), AllocError>
 }
 
 /// Appends the last line of a venue, which is below the number of venues.
-fn put_end(text: &mut Page, settlement: &Settlement, venue: VenueId) -> Result<(), AllocError>
+fn put_end(text: &mut LineBuffer, settlement: &Settlement, venue: VenueId) -> Result<(), AllocError>
     requires { venue < length settlement.now.venues }
     ensures { OnOk result (IfSome (slice_get settlement.now.venues venue)
         (λ v. text.new.items ≡ text.old.items ++ end_line venue v)) }
@@ -45,7 +45,11 @@ fn put_end(text: &mut Page, settlement: &Settlement, venue: VenueId) -> Result<(
 
 /// Appends the best lines of all that the subscriber wanted: what it took, what still lay in its
 /// lane, and what was not offered. The id is below the number of subscribers.
-fn put_bests(text: &mut Page, settlement: &Settlement, id: SubscriberId) -> Result<(), AllocError>
+fn put_bests(
+    text: &mut LineBuffer,
+    settlement: &Settlement,
+    id: SubscriberId,
+) -> Result<(), AllocError>
     requires { id < length settlement.now.subscribers }
     ensures { OnOk result (IfSome (slice_get settlement.now.subscribers id)
         (λ x. text.new.items ≡ text.old.items ++ subscriber_lines x)) }
@@ -56,7 +60,7 @@ fn put_bests(text: &mut Page, settlement: &Settlement, id: SubscriberId) -> Resu
 }
 
 /// Appends the best lines of the first subscriber, if there is one.
-fn put_first_bests(text: &mut Page, settlement: &Settlement) -> Result<(), AllocError>
+fn put_first_bests(text: &mut LineBuffer, settlement: &Settlement) -> Result<(), AllocError>
     ensures { OnOk result (text.new.items
         ≡ text.old.items ++ flat_map subscriber_lines (take 1 settlement.now.subscribers)) }
 {
@@ -70,7 +74,7 @@ fn put_first_bests(text: &mut Page, settlement: &Settlement) -> Result<(), Alloc
 }
 
 /// Appends the last line of each venue, of 16 at most.
-fn put_ends(text: &mut Page, settlement: &Settlement) -> Result<(), AllocError>
+fn put_ends(text: &mut LineBuffer, settlement: &Settlement) -> Result<(), AllocError>
     ensures { OnOk result (text.new.items
         ≡ text.old.items ++ end_lines 0 (take 16 settlement.now.venues)) }
 {
@@ -84,10 +88,10 @@ fn put_ends(text: &mut Page, settlement: &Settlement) -> Result<(), AllocError>
 
 /// What is printed once all lines have ended: the best lines of the first subscriber, and then a line
 /// for each venue.
-pub fn summary_of(alloc: Global, settlement: &Settlement) -> Result<Page, AllocError>
+pub fn summary_of(alloc: Global, settlement: &Settlement) -> Result<LineBuffer, AllocError>
     ensures { IfOk result (λ text. text.items ≡ summary_text settlement.now) }
 {
-    let mut text = Page::new(alloc);
+    let mut text = LineBuffer::new(alloc);
     put_first_bests(&mut text, settlement)?;
     put_ends(&mut text, settlement)?;
     Ok(text)

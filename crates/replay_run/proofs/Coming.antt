@@ -33,8 +33,8 @@ use Rattle.line_arbiter.proofs.Options.{IsSome-or}
 use Rattle.feed_core.specs.Worlds.{Setting}
 use Rattle.feed_text.specs.declared.replay.ReplayConfig.{ReplayConfig}
 use Rattle.feed_text.specs.Capture.{CaptureRecord, datagram_record}
-use Rattle.feed_text.specs.Happenings.{Happening, packet_answered, item_taken, entries_of}
-use Rattle.feed_text.specs.Told.{sent_of, items_told, TellsRecord, Tells}
+use Rattle.feed_text.specs.ReplayEvents.{ReplayEvent, packet_answered, item_taken, entries_of}
+use Rattle.feed_text.specs.Emitted.{stream_length, items_emitted, EmitsRecord, Emits}
 use Rattle.feed_text.proofs.Tales.{entries_more}
 use Rattle.replay_run.specs.Events.{replay_setting, consumed_all, world_of, outcomes_of, IsReplayRun}
 use Rattle.replay_run.specs.VenueItems.{HoldsOnly, HoldOnly}
@@ -256,35 +256,35 @@ came s P = record { earlier = []; present = record { name = s.name; packets = P 
 
 -- what these records lead to
 record Reaches (s : Session) (window place k : ℕ) (ms : List (List ℕ)) (hs : List History) : Type 0 where
-  told : List Happening
+  emitted : List ReplayEvent
   new : List History
-  tells : Tells window false (records_from place s.name k ms) hs told new
-  count : (E : List Entry) → length (entries_of E told) ≡ length E + length ms + 1
+  emits : Emits window false (records_from place s.name k ms) hs emitted new
+  count : (E : List Entry) → length (entries_of E emitted) ≡ length E + length ms + 1
   packets : List Arrival
   there : slice_get new place ≡ Some (came s packets)
   whole : stream_of packets ≡ whole_session s
 
 -- a packet that is answered, and makes items ready
-abbrev told_of : ℕ → Session → List Arrival → Arrival → List Happening
-told_of place s P a = packet_answered place A a.answer ∷ items_told place (came s P) (P ++ a ∷ []) ++ []
+abbrev told_of : ℕ → Session → List Arrival → Arrival → List ReplayEvent
+told_of place s P a = packet_answered place A a.answer ∷ items_emitted place (came s P) (P ++ a ∷ []) ++ []
 
 tells_one : (s : Session) (window place : ℕ) (P : List Arrival) (p : Content) (hs : List History) (a : Arrival)
     → a ≡ arrival_of A p a.answer → slice_get hs place ≡ Some (came s P) → IsContent p → p.ignored ≡ 0
     → IsOutcome s.name window (length (stream_of P)) P p a.answer
-    → TellsRecord window false (datagram_record place A (spelling p)) hs (told_of place s P a)
+    → EmitsRecord window false (datagram_record place A (spelling p)) hs (told_of place s P a)
     (slice_set hs place (came s (P ++ a ∷ [])))
 tells_one s window place P p hs a is there content none answer = record {
   before = came s P;
   after = came s (P ++ a ∷ []);
   at = there;
-  tells = inr (record {
+  emits = inr (record {
     packet = p;
     rest = [];
     answer = a.answer;
     spells = spells p content none;
     outcome = answer;
     grown = ap (λ (x : Arrival). came s (P ++ x ∷ [])) is;
-    told_is = refl;
+    emitted_is = refl;
   });
   others = refl;
 }
@@ -297,7 +297,7 @@ one_entry place s P a grows E =
     let n : length items ≡ length (stream_of (P ++ a ∷ [])) - length (stream_of P) =
     length-drop (length (stream_of P)) (stream_of (P ++ a ∷ [])) in
     let one : length items ≡ 1 = omega arith in
-    ap (λ (hs : List Happening). length (entries_of E hs)) (append-nil (map (item_taken place) items))
+    ap (λ (hs : List ReplayEvent). length (entries_of E hs)) (append-nil (map (item_taken place) items))
     ∙ items_len place items E ∙ ap (λ (x : ℕ). length E + x) one
 
 numbered_len : (n : ℕ) (xs : List Item) → length (numbered_from n xs) ≡ length xs
@@ -322,9 +322,9 @@ reaches s window place k [] P hs ten wide f u there =
     let more : length (stream_of (P ++ a ∷ [])) ≡ length (stream_of P) + 1 = ap length to_end ∙ whole_len s
     ∙ (let b = len in omega arith) in
     record {
-      told = told_of place s P a ++ [];
+      emitted = told_of place s P a ++ [];
       new = slice_set hs place (came s (P ++ a ∷ []));
-      tells = (
+      emits = (
         slice_set hs place (came s (P ++ a ∷ [])),
         told_of place s P a,
         [],
@@ -333,7 +333,7 @@ reaches s window place k [] P hs ten wide f u there =
         (refl, refl),
         refl,
       );
-      count = λ E. ap (λ (l : List Happening). length (entries_of E l)) (append-nil (told_of place s P a))
+      count = λ E. ap (λ (l : List ReplayEvent). length (entries_of E l)) (append-nil (told_of place s P a))
           ∙ one_entry place s P a more E ∙ (let e : length E + 1 ≡ length E + 0 + 1 = omega arith in e);
       packets = P ++ a ∷ [];
       there = get_set_here hs place (came s P) (came s (P ++ a ∷ [])) there;
@@ -354,19 +354,19 @@ reaches s window place k (m ∷ ms) P hs ten wide f u there =
     reaches s window place (k + 1) ms (P ++ a ∷ []) mid ten wide (from_next s k m ms f) up
     (get_set_here hs place (came s P) (came s (P ++ a ∷ [])) there) in
     record {
-      told = told_of place s P a ++ r.told;
+      emitted = told_of place s P a ++ r.emitted;
       new = r.new;
-      tells = (
+      emits = (
         mid,
         told_of place s P a,
-        r.told,
+        r.emitted,
         tells_one s window place P p hs a refl there content refl
             (answer s window k P u wide m content at (length (stream_of P)) len),
-        r.tells,
+        r.emits,
         refl,
       );
       count = λ E.
-          ap length (entries_more E (told_of place s P a) r.told)
+          ap length (entries_more E (told_of place s P a) r.emitted)
           ∙ r.count (entries_of E (told_of place s P a))
           ∙ (let first =
           one_entry place s P a more E in let e : length
@@ -448,14 +448,14 @@ comes_through s place name messages wide lane room at ten each small =
     let r : Reaches t s.window place 0 messages hs =
     reaches t s.window place 0 messages [] hs ten wide from (none_came t s.window)
     (get_map new_history s.sessions place name at) in
-    let count : length (entries_of [] r.told) ≡ 0 + length messages + 1 = r.count [] in
-    let fits : length (entries_of [] r.told) ≤ s.journal = omega arith in
-    let run : IsReplayRun s (records_from place name 0 messages) r.told r.new =
-    replay_run config s.lane s.filters (records_from place name 0 messages) r.told r.new lane r.tells fits in
+    let count : length (entries_of [] r.emitted) ≡ 0 + length messages + 1 = r.count [] in
+    let fits : length (entries_of [] r.emitted) ≤ s.journal = omega arith in
+    let run : IsReplayRun s (records_from place name 0 messages) r.emitted r.new =
+    replay_run config s.lane s.filters (records_from place name 0 messages) r.emitted r.new lane r.emits fits in
     record {
       events = run.events;
-      outcomes = outcomes_of [] r.told;
-      world = world_of r.new (entries_of [] r.told);
+      outcomes = outcomes_of [] r.emitted;
+      world = world_of r.new (entries_of [] r.emitted);
       only = run.only place t (hold t s.window place 0 messages ten from);
       run = run.run;
       venue = consumed_all (came t r.packets);

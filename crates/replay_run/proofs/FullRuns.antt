@@ -18,15 +18,15 @@ use Rattle.feed_core.specs.declared.event.Event.TheVariants.{Packet, Push, Consu
 use Rattle.feed_core.specs.declared.event.Done.{Done}
 use Rattle.feed_core.specs.declared.event.Done.TheVariants as outcome
 use Rattle.feed_core.specs.Worlds.{Venue, World, Setting, new_venue, new_world}
-use Rattle.feed_core.specs.Steps.{Comes, stays, goes, next_out, journaled, consumed, journal_full, already_so, declared, with_intake}
+use Rattle.feed_core.specs.Steps.{Applies, Refused, Changes, next_out, journal_item, consume_next, journal_full, already_so, declare_help, with_intake}
 use Rattle.feed_core.specs.Runs.{IsStep, IsRun}
 use Rattle.feed_core.specs.Steps as steps
 use Rattle.feed_core.specs.VenueHalf.{BringsOnly, BringOnly}
 use Rattle.feed_core.proofs.HeadlineLaw.{headline}
 use Rattle.feed_text.specs.declared.replay.ReplayConfig.{ReplayConfig}
-use Rattle.feed_text.specs.Capture.{CaptureRecord, datagram_record, renewal_record, self_help_record, venue_of}
-use Rattle.feed_text.specs.Happenings.{Happening, packet_answered, packet_refused, item_taken, gap_left, renewal_answered, self_help_declared, is_so, entries_after, entries_of}
-use Rattle.feed_text.specs.Told.{gap_happening, gap_told, TellsFault, TellsPacket, TellsSelfHelp, TellsAt, TellsRecord}
+use Rattle.feed_text.specs.Capture.{CaptureRecord, datagram_record, renewal_record, self_help_record, record_venue}
+use Rattle.feed_text.specs.ReplayEvents.{ReplayEvent, packet_answered, packet_refused, item_taken, gap_left, renewal_answered, self_help_declared, is_so, entries_after, entries_of}
+use Rattle.feed_text.specs.Emitted.{gap_event, gap_emitted, EmitsFault, EmitsPacket, EmitsSelfHelp, EmitsAt, EmitsRecord}
 use Rattle.feed_text.specs.Told as telling
 use Rattle.feed_text.specs.Texts.{IsLinesToFull}
 use Rattle.feed_text.specs.VenueItems.{taken_by, items_taken}
@@ -42,7 +42,7 @@ use Rattle.replay_run.proofs.Runs.{at, venue_at, venue_more, at_venue, get_map, 
 -- ---- the happening that finds no room
 
 -- it adds an entry
-abbrev Adds : List Entry → Happening → Type 0
+abbrev Adds : List Entry → ReplayEvent → Type 0
 Adds E next = length E < length (entries_after E next)
 
 head_is : {X : Type 0} (x y : X) (xs ys : List X) → x ∷ xs ≡ y ∷ ys → x ≡ y
@@ -56,37 +56,37 @@ none_is [] y ys e = cc
 none_is (x ∷ xs) y ys e = cc
 
 -- one that adds none had room
-record IsPast (x : Happening) (xs first others : List Happening) (next : Happening) : Type 0 where
-  rest : List Happening
+record IsPast (x : ReplayEvent) (xs first others : List ReplayEvent) (next : ReplayEvent) : Type 0 where
+  rest : List ReplayEvent
   first_is : first ≡ x ∷ rest
   rest_are : xs ≡ rest ++ next ∷ others
 
-past : (E : List Entry) (x : Happening) (xs first others : List Happening) (next : Happening)
+past : (E : List Entry) (x : ReplayEvent) (xs first others : List ReplayEvent) (next : ReplayEvent)
     → x ∷ xs ≡ first ++ next ∷ others → entries_after E x ≡ E → Adds E next → IsPast x xs first others next
 past E x xs [] others next e same adds =
     let is : length (entries_after E next) ≡ length E =
-    ap (λ (h : Happening). length (entries_after E h)) (sym (head_is x next xs others e)) ∙ ap length same in
+    ap (λ (h : ReplayEvent). length (entries_after E h)) (sym (head_is x next xs others e)) ∙ ap length same in
     absurd (omega arith)
 past E x xs (y ∷ first) others next e same adds = record {
   rest = first;
-  first_is = ap (λ (h : Happening). h ∷ first) (sym (head_is x y xs (first ++ next ∷ others) e));
+  first_is = ap (λ (h : ReplayEvent). h ∷ first) (sym (head_is x y xs (first ++ next ∷ others) e));
   rest_are = tail_is x y xs (first ++ next ∷ others) e;
 }
 
-in_gap : (window : ℕ) (gaps : Bool) (venue : ℕ) (h : History) (E : List Entry) (first others : List Happening)
-    (next : Happening) → gap_told window gaps venue h ≡ first ++ next ∷ others → Adds E next → ⊥
+in_gap : (window : ℕ) (gaps : Bool) (venue : ℕ) (h : History) (E : List Entry) (first others : List ReplayEvent)
+    (next : ReplayEvent) → gap_emitted window gaps venue h ≡ first ++ next ∷ others → Adds E next → ⊥
 in_gap window false venue h E first others next e adds = none_is first next others e
 in_gap window true venue h E first others next e adds =
     by (gap_of h.present.name window (telling.sent_of h) h.present.packets) e
   where
-    by : (o : Option Request) → gap_happening venue o ≡ first ++ next ∷ others → ⊥
+    by : (o : Option Request) → gap_event venue o ≡ first ++ next ∷ others → ⊥
     by None e = none_is first next others e
     by (Some request) e =
         (let p = past E (gap_left venue request) [] first others next e refl adds in none_is p.rest next others
         p.rest_are)
 
 -- it is one of the items
-record IsInItems (venue : ℕ) (ready : List Numbered) (first : List Happening) (next : Happening) : Type 0 where
+record IsInItems (venue : ℕ) (ready : List Numbered) (first : List ReplayEvent) (next : ReplayEvent) : Type 0 where
   had : List Numbered
   item : Numbered
   rest : List Numbered
@@ -95,8 +95,8 @@ record IsInItems (venue : ℕ) (ready : List Numbered) (first : List Happening) 
   next_is : next ≡ item_taken venue item
 
 in_items : (window : ℕ) (gaps : Bool) (venue : ℕ) (h : History) (E : List Entry) (ready : List Numbered)
-    (first others : List Happening) (next : Happening)
-    → map (item_taken venue) ready ++ gap_told window gaps venue h ≡ first ++ next ∷ others → Adds E next
+    (first others : List ReplayEvent) (next : ReplayEvent)
+    → map (item_taken venue) ready ++ gap_emitted window gaps venue h ≡ first ++ next ∷ others → Adds E next
     → IsInItems venue ready first next
 in_items window gaps venue h E [] first others next e adds =
     absurd (in_gap window gaps venue h E first others next e adds)
@@ -107,11 +107,11 @@ in_items window gaps venue h E (x ∷ ready) [] others next e adds = record {
   ready_are = refl;
   first_are = refl;
   next_is =
-      sym (head_is (item_taken venue x) next (map (item_taken venue) ready ++ gap_told window gaps venue h) others e);
+      sym (head_is (item_taken venue x) next (map (item_taken venue) ready ++ gap_emitted window gaps venue h) others e);
 }
 in_items window gaps venue h E (x ∷ ready) (y ∷ first) others next e adds =
     let i = in_items window gaps venue h E ready first others next
-    (tail_is (item_taken venue x) y (map (item_taken venue) ready ++ gap_told window gaps venue h)
+    (tail_is (item_taken venue x) y (map (item_taken venue) ready ++ gap_emitted window gaps venue h)
     (first ++ next ∷ others) e) adds in
     record {
       had = x ∷ i.had;
@@ -119,9 +119,9 @@ in_items window gaps venue h E (x ∷ ready) (y ∷ first) others next e adds =
       rest = i.rest;
       ready_are = ap (λ (xs : List Numbered). x ∷ xs) i.ready_are;
       first_are =
-          ap (λ (z : Happening). z ∷ first)
-          (sym (head_is (item_taken venue x) y (map (item_taken venue) ready ++ gap_told window gaps venue h)
-          (first ++ next ∷ others) e)) ∙ ap (λ (zs : List Happening). item_taken venue x ∷ zs) i.first_are;
+          ap (λ (z : ReplayEvent). z ∷ first)
+          (sym (head_is (item_taken venue x) y (map (item_taken venue) ready ++ gap_emitted window gaps venue h)
+          (first ++ next ∷ others) e)) ∙ ap (λ (zs : List ReplayEvent). item_taken venue x ∷ zs) i.first_are;
       next_is = i.next_is;
     }
 
@@ -134,12 +134,12 @@ get_map_back f (x ∷ xs) zero y e = (x, refl, (let same : f x ≡ y = cc in sym
 get_map_back f (x ∷ xs) (suc i) y e = get_map_back f xs i y e
 
 -- the items that were told before are the streams of these histories
-abbrev AreTold : List Happening → List History → Type 0
-AreTold told hs = (place : ℕ) (h : History) → slice_get hs place ≡ Some h → items_taken place told ≡ streams_of h
+abbrev AreTold : List ReplayEvent → List History → Type 0
+AreTold emitted hs = (place : ℕ) (h : History) → slice_get hs place ≡ Some h → items_taken place emitted ≡ streams_of h
 
 -- the record's events that found room, and the one that doesn't
 record LastRan (s : Setting) (r : CaptureRecord) (hs : List History) (E : List Entry)
-    (told first : List Happening) : Type 0 where
+    (emitted first : List ReplayEvent) : Type 0 where
   events : List Event
   refused : Event
   stops : StopsAt r events refused
@@ -147,11 +147,11 @@ record LastRan (s : Setting) (r : CaptureRecord) (hs : List History) (E : List E
   full : World
   run : IsRun s (world_of hs E) events (outcomes_of E first ++ pushed) full
   entries_are : full.entries ≡ entries_of E first
-  items : AreTold told hs → (place : ℕ) (v : Venue) → slice_get full.venues place ≡ Some v
-      → items_taken place (told ++ first) ≡ v.lane.received
+  items : AreTold emitted hs → (place : ℕ) (v : Venue) → slice_get full.venues place ≡ Some v
+      → items_taken place (emitted ++ first) ≡ v.lane.received
   next : IsStep s full refused journal_full full
 
-module _ (s : Setting) (gaps : Bool) (lane : 1 ≤ s.lane) (hs : List History) (E : List Entry) (told : List Happening)
+module _ (s : Setting) (gaps : Bool) (lane : 1 ≤ s.lane) (hs : List History) (E : List Entry) (emitted : List ReplayEvent)
     (venue : ℕ) (h : History) (there : slice_get hs venue ≡ Some h) (kept : IsKept s.window h) where
   -- the item that was pushed isn't consumed
   refused_next : (new : History) (items : List Numbered) (x : Numbered) (F : List Entry) → s.journal ≤ length F
@@ -162,30 +162,30 @@ module _ (s : Setting) (gaps : Bool) (lane : 1 ≤ s.lane) (hs : List History) (
       let w : World = at (map consumed_all hs) venue v F in
       let no : nat_le s.journal (length F) ≡ true = le-leb s.journal (length F) full in
       at_venue w venue v journal_full w
-      (λ v. Comes (with_intake w venue v)
-      (consumed s.journal venue (next_out v.lane) (record { received = v.lane.received; entries = w.entries })) w
+      (λ v. Applies (with_intake w venue v)
+      (consume_next s.journal venue (next_out v.lane) (record { received = v.lane.received; entries = w.entries })) w
       journal_full w)
       (get_set_here (map consumed_all hs) venue (consumed_all h) v (get_map consumed_all hs venue h there))
-      (subst (λ (b : Bool). Comes (with_intake w venue v)
-      (if b then stays journal_full else journaled venue (next_out v.lane)
+      (subst (λ (b : Bool). Applies (with_intake w venue v)
+      (if b then Refused journal_full else journal_item venue (next_out v.lane)
       (record { received = v.lane.received; entries = w.entries })) w journal_full w) (sym no) (refl, refl))
 
-  items_more : (new : History) (had : List Numbered) (x : Numbered) (F : List Entry) (first : List Happening)
-      → ((place : ℕ) → items_taken place first ≡ items_taken place (map (item_taken venue) had)) → AreTold told hs
+  items_more : (new : History) (had : List Numbered) (x : Numbered) (F : List Entry) (first : List ReplayEvent)
+      → ((place : ℕ) → items_taken place first ≡ items_taken place (map (item_taken venue) had)) → AreTold emitted hs
       → (place : ℕ) (v : Venue)
       → slice_get (slice_set (map consumed_all hs) venue (venue_more new (streams_of h ++ had) x)) place ≡ Some v
-      → items_taken place (told ++ first) ≡ v.lane.received
+      → items_taken place (emitted ++ first) ≡ v.lane.received
   items_more new had x F first taken before place v at_place =
       let u : Venue = venue_more new (streams_of h ++ had) x in
-      let split : items_taken place (told ++ first) ≡ items_taken place told ++ items_taken place
-      (map (item_taken venue) had) = flat_map-append (taken_by place) told first
-      ∙ ap (λ (xs : List Numbered). items_taken place told ++ xs) (taken place) in
+      let split : items_taken place (emitted ++ first) ≡ items_taken place emitted ++ items_taken place
+      (map (item_taken venue) had) = flat_map-append (taken_by place) emitted first
+      ∙ ap (λ (xs : List Numbered). items_taken place emitted ++ xs) (taken place) in
       elim (same_or_not place venue) [
         | inl here ↦ rw (here)
             (let is : v ≡ u =
             get_set_same (map consumed_all hs) venue u v
             (subst (λ (n : ℕ). slice_get (slice_set (map consumed_all hs) venue u) n ≡ Some v) here at_place) in
-            subst (λ (n : ℕ). items_taken n (told ++ first) ≡ items_taken n told ++ items_taken n
+            subst (λ (n : ℕ). items_taken n (emitted ++ first) ≡ items_taken n emitted ++ items_taken n
             (map (item_taken venue) had)) here split
             ∙ ap (λ (xs : List Numbered). xs ++ items_taken venue (map (item_taken venue) had)) (before venue h there)
             ∙ ap (λ (xs : List Numbered). streams_of h ++ xs) (items_same venue had)
@@ -195,27 +195,27 @@ module _ (s : Setting) (gaps : Bool) (lane : 1 ≤ s.lane) (hs : List History) (
             get_map_back consumed_all hs place v
             (sym (get_set_other (map consumed_all hs) venue place u away) ∙ at_place) in
             split
-            ∙ ap (λ (xs : List Numbered). items_taken place told ++ xs)
+            ∙ ap (λ (xs : List Numbered). items_taken place emitted ++ xs)
             (items_other place venue had (λ e. away (sym e)))
-            ∙ append-nil (items_taken place told)
+            ∙ append-nil (items_taken place emitted)
             ∙ before place old.0 old.1
             ∙ sym (ap (λ (x : Venue). x.lane.received) old.2))
       ]
 
-  packet_stops : (line : LineId) (bytes : List ℕ) (first others : List Happening) (next : Happening) (new : History)
-      → TellsPacket s.window gaps venue line bytes h (first ++ next ∷ others) new
+  packet_stops : (line : LineId) (bytes : List ℕ) (first others : List ReplayEvent) (next : ReplayEvent) (new : History)
+      → EmitsPacket s.window gaps venue line bytes h (first ++ next ∷ others) new
       → length (entries_of E first) ≤ s.journal → s.journal < length (entries_after (entries_of E first) next)
-      → LastRan s (datagram_record venue line bytes) hs E told first
+      → LastRan s (datagram_record venue line bytes) hs E emitted first
   packet_stops line bytes first others next new t room short =
       let ready : List Numbered = drop (telling.sent_of h) (stream_of new.present.packets) in
       let F : List Entry = entries_of E first in
       let p = past F (packet_answered venue line t.answer)
-      (map (item_taken venue) ready ++ gap_told s.window gaps venue new) first others next (sym t.told_is) refl
+      (map (item_taken venue) ready ++ gap_emitted s.window gaps venue new) first others next (sym t.emitted_is) refl
       (omega arith) in
       let i = in_items s.window gaps venue new F ready p.rest others next p.rest_are (omega arith) in
-      let taken : List Happening = map (item_taken venue) i.had in
+      let taken : List ReplayEvent = map (item_taken venue) i.had in
       let first_is : first ≡ packet_answered venue line t.answer ∷ taken =
-      p.first_is ∙ ap (λ (xs : List Happening). packet_answered venue line t.answer ∷ xs) i.first_are in
+      p.first_is ∙ ap (λ (xs : List ReplayEvent). packet_answered venue line t.answer ∷ xs) i.first_are in
       let after : F ≡ entries_of E taken = ap (entries_of E) first_is in
       let outcomes : outcomes_of E first ≡ steps.answered t.answer ∷ outcomes_of E taken =
       ap (outcomes_of E) first_is in
@@ -233,7 +233,7 @@ module _ (s : Setting) (gaps : Bool) (lane : 1 ≤ s.lane) (hs : List History) (
       let fits : length E + length i.had ≤ s.journal = (let n = items_len venue i.had E in omega arith) in
       let no_room : s.journal ≤ length (entries_of E taken) =
       (let n : length (entries_after F next) ≡ length (F ++ entry.Consumed venue i.item ∷ []) =
-      ap (λ (x : Happening). length (entries_after F x)) i.next_is in let m =
+      ap (λ (x : ReplayEvent). length (entries_after F x)) i.next_is in let m =
       length-append F (entry.Consumed venue i.item ∷ []) in omega arith) in
       let ran : IsRun s w (Packet venue line (slice_of bytes) ∷ drains venue (length i.had) ++ Push venue ∷ [])
       ((steps.answered t.answer ∷ outcomes_of E taken) ++ outcome.Pushed i.item.number ∷ []) full = (
@@ -265,41 +265,41 @@ module _ (s : Setting) (gaps : Bool) (lane : 1 ≤ s.lane) (hs : List History) (
         next = refused_next new (streams_of h ++ i.had) i.item (entries_of E taken) no_room;
       }
 
-  fault_stops : (line : LineId) (bytes : List ℕ) (first others : List Happening) (next : Happening) (new : History)
-      → TellsFault s.window gaps venue line bytes h (first ++ next ∷ others) new
+  fault_stops : (line : LineId) (bytes : List ℕ) (first others : List ReplayEvent) (next : ReplayEvent) (new : History)
+      → EmitsFault s.window gaps venue line bytes h (first ++ next ∷ others) new
       → s.journal < length (entries_after (entries_of E first) next) → length (entries_of E first) ≤ s.journal → ⊥
   fault_stops line bytes first others next new t short room =
       let F : List Entry = entries_of E first in
-      let p = past F (packet_refused venue line t.fault) (gap_told s.window gaps venue new) first others next
-      (sym t.told_is) refl (omega arith) in
+      let p = past F (packet_refused venue line t.fault) (gap_emitted s.window gaps venue new) first others next
+      (sym t.emitted_is) refl (omega arith) in
       in_gap s.window gaps venue new F p.rest others next p.rest_are (omega arith)
 
   -- the declaration isn't so already, and there is no room for it
   declared_full : (on b : Bool) → is_so E venue on ≡ b → length E ≤ s.journal
       → s.journal < length (if b then E else E ++ entry.SelfHelp venue on ∷ [])
-      → Comes (λ (x : List Entry). world_of hs x)
-      (if b then stays already_so else
-      (if nat_le s.journal (length E) then stays journal_full else goes (outcome.Declared (length E + 1))
+      → Applies (λ (x : List Entry). world_of hs x)
+      (if b then Refused already_so else
+      (if nat_le s.journal (length E) then Refused journal_full else Changes (outcome.Declared (length E + 1))
       (E ++ entry.SelfHelp venue on ∷ []))) (world_of hs E) journal_full (world_of hs E)
   declared_full on true e room short = absurd (omega arith)
   declared_full on false e room short =
       let n = length-append E (entry.SelfHelp venue on ∷ []) in
       let no : nat_le s.journal (length E) ≡ true = le-leb s.journal (length E) (omega arith) in
-      subst (λ (b : Bool). Comes (λ (x : List Entry). world_of hs x)
-      (if b then stays journal_full else goes (outcome.Declared (length E + 1))
+      subst (λ (b : Bool). Applies (λ (x : List Entry). world_of hs x)
+      (if b then Refused journal_full else Changes (outcome.Declared (length E + 1))
       (E ++ entry.SelfHelp venue on ∷ [])) (world_of hs E) journal_full (world_of hs E)) (sym no) (refl, refl)
 
-  self_help_stops : (on : Bool) (first others : List Happening) (next : Happening)
+  self_help_stops : (on : Bool) (first others : List ReplayEvent) (next : ReplayEvent)
       → first ++ next ∷ others ≡ self_help_declared venue on ∷ [] → length (entries_of E first) ≤ s.journal
       → s.journal < length (entries_after (entries_of E first) next)
-      → LastRan s (self_help_record venue on) hs E told first
+      → LastRan s (self_help_record venue on) hs E emitted first
   self_help_stops on (y ∷ first) others next e room short =
       absurd (none_is first next others (sym (tail_is y (self_help_declared venue on) (first ++ next ∷ others) [] e)))
   self_help_stops on [] others next e room short =
       let w : World = world_of hs E in
       let is : next ≡ self_help_declared venue on = head_is next (self_help_declared venue on) others [] e in
       let over : s.journal < length (if is_so E venue on then E else E ++ entry.SelfHelp venue on ∷ []) =
-      subst (λ (x : Happening). s.journal < length (entries_after E x)) is short in
+      subst (λ (x : ReplayEvent). s.journal < length (entries_after E x)) is short in
       record {
         events = [];
         refused = Declare venue on;
@@ -309,41 +309,41 @@ module _ (s : Setting) (gaps : Bool) (lane : 1 ≤ s.lane) (hs : List History) (
         run = refl;
         entries_are = refl;
         items = λ before place v at_place.
-            (let old = get_map_back consumed_all hs place v at_place in ap (items_taken place) (append-nil told)
+            (let old = get_map_back consumed_all hs place v at_place in ap (items_taken place) (append-nil emitted)
             ∙ before place old.0 old.1 ∙ sym (ap (λ (x : Venue). x.lane.received) old.2));
         next = at_venue w venue (consumed_all h) journal_full w
-            (λ v. Comes (λ (x : List Entry). record w { entries = x })
-            (declared s.journal venue on E) w journal_full w) (get_map consumed_all hs venue h there)
-            (subst (λ (x : Bool). Comes (λ (F : List Entry). world_of hs F)
-            (if x then stays already_so else
-            (if nat_le s.journal (length E) then stays journal_full else goes (outcome.Declared (length E + 1))
+            (λ v. Applies (λ (x : List Entry). record w { entries = x })
+            (declare_help s.journal venue on E) w journal_full w) (get_map consumed_all hs venue h there)
+            (subst (λ (x : Bool). Applies (λ (F : List Entry). world_of hs F)
+            (if x then Refused already_so else
+            (if nat_le s.journal (length E) then Refused journal_full else Changes (outcome.Declared (length E + 1))
             (E ++ entry.SelfHelp venue on ∷ []))) w journal_full w)
             (sym (same_so E venue on)) (declared_full on (is_so E venue on) refl room over));
       }
 
 last_ran : (s : Setting) (gaps : Bool) → 1 ≤ s.lane
-    → (hs after : List History) (E : List Entry) (r : CaptureRecord) (told first others : List Happening)
-    (next : Happening) → Each s.window hs → TellsRecord s.window gaps r hs (first ++ next ∷ others) after
+    → (hs after : List History) (E : List Entry) (r : CaptureRecord) (emitted first others : List ReplayEvent)
+    (next : ReplayEvent) → Each s.window hs → EmitsRecord s.window gaps r hs (first ++ next ∷ others) after
     → length (entries_of E first) ≤ s.journal → s.journal < length (entries_after (entries_of E first) next)
-    → LastRan s r hs E told first
-last_ran s gaps lane hs after E r told first others next each t room short =
-    by r t.at (each (venue_of r) t.before t.at) t.tells
+    → LastRan s r hs E emitted first
+last_ran s gaps lane hs after E r emitted first others next each t room short =
+    by r t.at (each (record_venue r) t.before t.at) t.emits
   where
-    by : (r : CaptureRecord) → slice_get hs (venue_of r) ≡ Some t.before → IsKept s.window t.before
-        → TellsAt s.window gaps r t.before (first ++ next ∷ others) t.after → LastRan s r hs E told first
+    by : (r : CaptureRecord) → slice_get hs (record_venue r) ≡ Some t.before → IsKept s.window t.before
+        → EmitsAt s.window gaps r t.before (first ++ next ∷ others) t.after → LastRan s r hs E emitted first
     by (datagram_record venue line bytes) at kept x = elim x [
       | inl f ↦
-          absurd (fault_stops s gaps lane hs E told venue t.before at kept line bytes first others next t.after f
+          absurd (fault_stops s gaps lane hs E emitted venue t.before at kept line bytes first others next t.after f
           short room)
       | inr p ↦
-          packet_stops s gaps lane hs E told venue t.before at kept line bytes first others next t.after p room short
+          packet_stops s gaps lane hs E emitted venue t.before at kept line bytes first others next t.after p room short
     ]
     by (renewal_record venue name) at kept x =
-        let p = past (entries_of E first) (renewal_answered venue x.answer) [] first others next (sym x.told_is) refl
+        let p = past (entries_of E first) (renewal_answered venue x.answer) [] first others next (sym x.emitted_is) refl
         (omega arith) in
         absurd (none_is p.rest next others p.rest_are)
     by (self_help_record venue on) at kept x =
-        self_help_stops s gaps lane hs E told venue t.before at kept on first others next x.told_is room short
+        self_help_stops s gaps lane hs E emitted venue t.before at kept on first others next x.emitted_is room short
 
 -- ---- from the first record on
 
@@ -366,36 +366,36 @@ all_front Q (y ∷ xs) x all = (let f = all_front Q xs x all.1 in ((all.0, f.0),
 
 pub full_run : (config : ReplayConfig) (lane : ℕ) (filters : List Terms) (records : List CaptureRecord)
     (lines : List ℕ) → 1 ≤ lane → (x : IsLinesToFull config records lines)
-    → IsRunToFull (replay_setting config lane filters) x.earlier x.last (x.told ++ x.first)
+    → IsRunToFull (replay_setting config lane filters) x.earlier x.last (x.emitted ++ x.first)
 full_run config lane filters records lines some x =
     let s : Setting = replay_setting config lane filters in
     let hs : List History = x.histories in
-    let E : List Entry = entries_of [] x.told in
+    let E : List Entry = entries_of [] x.emitted in
     let F : List Entry = entries_of E x.first in
-    let told_first : entries_of [] (x.told ++ x.first) ≡ F = entries_more [] x.told x.first in
+    let told_first : entries_of [] (x.emitted ++ x.first) ≡ F = entries_more [] x.emitted x.first in
     let room : length F ≤ config.journal = subst (λ (l : List Entry). length l ≤ config.journal) told_first x.room in
-    let past_end : entries_of [] (x.told ++ x.first ++ x.next ∷ []) ≡ entries_after F x.next =
-    entries_more [] (x.told ++ x.first) (x.next ∷ []) ∙ ap (λ (l : List Entry). entries_after l x.next) told_first in
+    let past_end : entries_of [] (x.emitted ++ x.first ++ x.next ∷ []) ≡ entries_after F x.next =
+    entries_more [] (x.emitted ++ x.first) (x.next ∷ []) ∙ ap (λ (l : List Entry). entries_after l x.next) told_first in
     let short : config.journal < length (entries_after F x.next) =
     subst (λ (l : List Entry). config.journal < length l) past_end x.full in
     let before_fits : length E ≤ config.journal = (let g = entries_grow E x.first in omega arith) in
-    let ran : RanAll s x.earlier (map new_history config.sessions.now) [] x.told hs =
-    all_ran s config.gaps some x.earlier (map new_history config.sessions.now) hs [] x.told
-    (new_kept config) x.tells before_fits in
-    let run : IsRun s (new_world s) ran.0 (outcomes_of [] x.told) (world_of hs E) =
-    subst (λ (w : World). IsRun s w ran.0 (outcomes_of [] x.told) (world_of hs E))
+    let ran : RanAll s x.earlier (map new_history config.sessions.now) [] x.emitted hs =
+    all_ran s config.gaps some x.earlier (map new_history config.sessions.now) hs [] x.emitted
+    (new_kept config) x.emits before_fits in
+    let run : IsRun s (new_world s) ran.0 (outcomes_of [] x.emitted) (world_of hs E) =
+    subst (λ (w : World). IsRun s w ran.0 (outcomes_of [] x.emitted) (world_of hs E))
     (with_venues [] (map consumed_all (map new_history config.sessions.now)) (map new_venue config.sessions.now)
     (begins config.sessions.now)) ran.2 in
-    let l : LastRan s x.last hs E x.told x.first =
-    last_ran s config.gaps some hs x.after E x.last x.told x.first x.others x.next
-    (all_kept config x.earlier x.told hs x.tells) x.last_tells room short in
-    let whole : outcomes_of [] x.told ++ (outcomes_of E x.first ++ l.pushed) ≡ outcomes_of []
-    (x.told ++ x.first) ++ l.pushed =
-    sym (append_assoc (outcomes_of [] x.told) (outcomes_of E x.first) l.pushed)
-    ∙ ap (λ (ds : List Done). ds ++ l.pushed) (sym (outcomes_more [] x.told x.first)) in
-    let all : IsRun s (new_world s) (ran.0 ++ l.events) (outcomes_of [] (x.told ++ x.first) ++ l.pushed) l.full =
+    let l : LastRan s x.last hs E x.emitted x.first =
+    last_ran s config.gaps some hs x.after E x.last x.emitted x.first x.others x.next
+    (all_kept config x.earlier x.emitted hs x.emits) x.last_tells room short in
+    let whole : outcomes_of [] x.emitted ++ (outcomes_of E x.first ++ l.pushed) ≡ outcomes_of []
+    (x.emitted ++ x.first) ++ l.pushed =
+    sym (append_assoc (outcomes_of [] x.emitted) (outcomes_of E x.first) l.pushed)
+    ∙ ap (λ (ds : List Done). ds ++ l.pushed) (sym (outcomes_more [] x.emitted x.first)) in
+    let all : IsRun s (new_world s) (ran.0 ++ l.events) (outcomes_of [] (x.emitted ++ x.first) ++ l.pushed) l.full =
     subst (λ (ds : List Done). IsRun s (new_world s) (ran.0 ++ l.events) ds l.full) whole
-    (run_more s (new_world s) (world_of hs E) l.full ran.0 l.events (outcomes_of [] x.told)
+    (run_more s (new_world s) (world_of hs E) l.full ran.0 l.events (outcomes_of [] x.emitted)
     (outcomes_of E x.first ++ l.pushed) run l.run) in
     record {
       before = ran.0;
@@ -410,7 +410,7 @@ full_run config lane filters records lines some x =
       full = l.full;
       run = all;
       entries = l.entries_are ∙ sym told_first;
-      items = l.items (λ place h there. taken_are_streams config x.earlier x.told hs x.tells place h there);
-      headline = headline s (ran.0 ++ l.events) (outcomes_of [] (x.told ++ x.first) ++ l.pushed) l.full all;
+      items = l.items (λ place h there. taken_are_streams config x.earlier x.emitted hs x.emits place h there);
+      headline = headline s (ran.0 ++ l.events) (outcomes_of [] (x.emitted ++ x.first) ++ l.pushed) l.full all;
       next = l.next;
     }

@@ -6,7 +6,7 @@ use Rattle.feed_text.specs.declared.replay.ReplayConfig.{ReplayConfig}
 use Rattle.feed_text.specs.Capture.{CaptureRecord}
 use Rattle.feed_text.specs.Devices.{Reading, Writing}
 use Rattle.feed_text.specs.Texts.{IsLinesOf, IsLinesToFull, IsTextOf}
-use Rattle.feed_text.specs.Replays.{TextFacts, ReplaysAll, ReplaysTo, ReplaysUntil, ReplaysFront, ReplaysBy, texts_of, Replays}
+use Rattle.feed_text.specs.Replays.{TextFacts, WroteAll, WroteLines, WroteLinesUntil, WrotePrefix, AnswersReplay, texts_of, Replays}
 use Rattle.replay_run.specs.Printed.{AreLinesOfRun, AreLinesOfRunToFull, IsTextOfRun, texts_of_run}
 use Rattle.replay_run.proofs.Runs.{replay_run}
 use Rattle.replay_run.proofs.FullRuns.{full_run}
@@ -15,14 +15,14 @@ pub lines_of_run : (config : ReplayConfig) (records : List CaptureRecord) (lines
     → IsLinesOf config records lines → AreLinesOfRun config records lines
 lines_of_run config records lines x = record {
   are = x;
-  run = λ lane filters some. replay_run config lane filters records x.told x.histories some x.tells x.room;
+  run = λ lane filters some. replay_run config lane filters records x.emitted x.histories some x.emits x.room;
 }
 
 pub text_of_run : (config : ReplayConfig) (records : List CaptureRecord) (text : List ℕ)
     → IsTextOf config records text → IsTextOfRun config records text
 text_of_run config records text x = record {
   is = x;
-  run = λ lane filters some. replay_run config lane filters records x.told x.histories some x.tells x.room;
+  run = λ lane filters some. replay_run config lane filters records x.emitted x.histories some x.emits x.room;
 }
 
 pub lines_to_full : (config : ReplayConfig) (records : List CaptureRecord) (lines : List ℕ)
@@ -43,8 +43,8 @@ module _ {R W : Type 0} (reading : Reading R) (writing : Writing W) (config : Re
   to_more : {One Other : List CaptureRecord → List ℕ → Type 0} {IsLeft : List ℕ → Type 0} {from : R} {calls : ℕ}
       {to : R} {before after : W}
       → ((records : List CaptureRecord) (text : List ℕ) → One records text → Other records text)
-      → ReplaysTo reading writing config One IsLeft from calls to before after
-      → ReplaysTo reading writing config Other IsLeft from calls to before after
+      → WroteLines reading writing config One IsLeft from calls to before after
+      → WroteLines reading writing config Other IsLeft from calls to before after
   to_more more x =
       record {
         records = x.records;
@@ -60,13 +60,13 @@ module _ {R W : Type 0} (reading : Reading R) (writing : Writing W) (config : Re
   until_more : {One Other : List CaptureRecord → List ℕ → Type 0} {IsLeft : List ℕ → Type 0} {Then : R → Type 0}
       {from : R} {before after : W}
       → ((records : List CaptureRecord) (text : List ℕ) → One records text → Other records text)
-      → ReplaysUntil reading writing config One IsLeft Then from before after
-      → ReplaysUntil reading writing config Other IsLeft Then from before after
+      → WroteLinesUntil reading writing config One IsLeft Then from before after
+      → WroteLinesUntil reading writing config Other IsLeft Then from before after
   until_more more x = record { calls = x.calls; mid = x.mid; replays = to_more more x.replays; came_to = x.came_to }
 
   front_more : {one other : TextFacts} {from to : R} {before after : W} → Implies one other
-      → ReplaysFront reading writing config one from to before after
-      → ReplaysFront reading writing config other from to before after
+      → WrotePrefix reading writing config one from to before after
+      → WrotePrefix reading writing config other from to before after
   front_more more x = record {
     records = x.records;
     rest = x.rest;
@@ -86,8 +86,8 @@ module _ {R W : Type 0} (reading : Reading R) (writing : Writing W) (config : Re
 
   all_more : {One Other : List CaptureRecord → List ℕ → Type 0} {from to : R} {before after : W}
       → ((records : List CaptureRecord) (text : List ℕ) → One records text → Other records text)
-      → ReplaysAll reading writing config One from to before after
-      → ReplaysAll reading writing config Other from to before after
+      → WroteAll reading writing config One from to before after
+      → WroteAll reading writing config Other from to before after
   all_more more x = record {
     records = x.records;
     calls = x.calls;
@@ -101,8 +101,8 @@ module _ {R W : Type 0} (reading : Reading R) (writing : Writing W) (config : Re
   }
 
   by_more : (one other : TextFacts) (from to : R) (before after : W) → Implies one other
-      → (answer : Result (Unit {0}) ReplayFault) → ReplaysBy reading writing config one from to before after answer
-      → ReplaysBy reading writing config other from to before after answer
+      → (answer : Result (Unit {0}) ReplayFault) → AnswersReplay reading writing config one from to before after answer
+      → AnswersReplay reading writing config other from to before after answer
   by_more one other from to before after more (Ok done) x = all_more more.text x
   by_more one other from to before after more (Err BadRecord) x = until_more more.lines x
   by_more one other from to before after more (Err ShortRecord) x = until_more more.lines x
@@ -115,7 +115,7 @@ module _ {R W : Type 0} (reading : Reading R) (writing : Writing W) (config : Re
 pub replays_run : {R W : Type 0} (reading : Reading R) (writing : Writing W) (config : ReplayConfig) (from to : R)
     (before after : W) (answer : Result (Unit {0}) ReplayFault)
     → Replays reading writing config from to before after answer
-    → ReplaysBy reading writing config (texts_of_run config) from to before after answer
+    → AnswersReplay reading writing config (texts_of_run config) from to before after answer
 replays_run reading writing config from to before after answer x =
     by_more reading writing config (texts_of config) (texts_of_run config) from to before after
     (record { text = text_of_run config; lines = lines_of_run config; full = lines_to_full config }) answer x

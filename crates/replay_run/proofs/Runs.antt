@@ -24,7 +24,7 @@ use Rattle.feed_core.specs.declared.event.Done.{Done}
 use Rattle.feed_core.specs.declared.event.Done.TheVariants as done
 use Rattle.feed_core.specs.Worlds.{Lane, is_full, Venue, World, Setting, new_venue, new_world}
 use Rattle.feed_core.specs.Worlds as worlds
-use Rattle.feed_core.specs.Steps.{Stays, Comes, stays, goes, next_in, next_out, pushed, journaled, consumed, journal_full, unknown_venue, already_so, declared, is_same, Intake, put_venue, with_sent, with_intake, IsTaken, IsRenewed, IsFaulty, IsNext}
+use Rattle.feed_core.specs.Steps.{Stays, Applies, Refused, Changes, next_in, next_out, push_next, journal_item, consume_next, journal_full, unknown_venue, already_so, declare_help, is_same, Intake, put_venue, with_sent, with_intake, AddsArrival, AddsRenewal, RefusesBytes, AnswersRenewal}
 use Rattle.feed_core.specs.Runs.{IsStep, IsRun}
 use Rattle.feed_core.specs.Steps as steps
 use Rattle.feed_core.specs.VenueHalf.{BringsOnly, BringOnly, VenueHalf}
@@ -32,11 +32,11 @@ use Rattle.feed_core.specs.Headline.{Headline}
 use Rattle.feed_core.proofs.HeadlineLaw.{headline}
 use Rattle.line_arbiter.proofs.Histories.{items_push}
 use Rattle.feed_text.specs.declared.replay.ReplayConfig.{ReplayConfig}
-use Rattle.feed_text.specs.Capture.{CaptureRecord, datagram_record, renewal_record, self_help_record, venue_of}
-use Rattle.feed_text.specs.Happenings.{Happening, item_taken, is_so, entries_after, entries_of}
-use Rattle.feed_text.specs.Told.{gap_happening, gap_told, items_told, TellsFault, TellsPacket, TellsRenewal, TellsSelfHelp, TellsAt, TellsRecord, Tells}
+use Rattle.feed_text.specs.Capture.{CaptureRecord, datagram_record, renewal_record, self_help_record, record_venue}
+use Rattle.feed_text.specs.ReplayEvents.{ReplayEvent, item_taken, is_so, entries_after, entries_of}
+use Rattle.feed_text.specs.Emitted.{gap_event, gap_emitted, items_emitted, EmitsFault, EmitsPacket, EmitsRenewal, EmitsSelfHelp, EmitsAt, EmitsRecord, Emits}
 use Rattle.feed_text.specs.Told as telling
-use Rattle.feed_text.specs.Texts.{TellsAll, HasRoom}
+use Rattle.feed_text.specs.Texts.{EmitsAll, HasJournalRoom}
 use Rattle.feed_text.proofs.Telling.{same_set}
 use Rattle.feed_text.proofs.Tales.{entries_more}
 use Rattle.feed_text.proofs.OneText.{entries_grow}
@@ -95,7 +95,7 @@ at_venue old place v d new Known e k =
 
 -- ---- what was told
 
-pub outcomes_more : (old : List Entry) (xs ys : List Happening)
+pub outcomes_more : (old : List Entry) (xs ys : List ReplayEvent)
     → outcomes_of old (xs ++ ys) ≡ outcomes_of old xs ++ outcomes_of (entries_of old xs) ys
 outcomes_more old [] ys = refl
 outcomes_more old (x ∷ xs) ys =
@@ -104,15 +104,15 @@ outcomes_more old (x ∷ xs) ys =
     (outcomes_of (entries_of (entries_after old x) xs) ys))
 
 -- a gap has no outcome and no entry
-record IsSilent (hs : List Happening) : Type 0 where
+record IsSilent (hs : List ReplayEvent) : Type 0 where
   outcomes : (old : List Entry) → outcomes_of old hs ≡ []
   entries : (old : List Entry) → entries_of old hs ≡ old
 
-gap_silent : (window : ℕ) (gaps : Bool) (venue : ℕ) (h : History) → IsSilent (gap_told window gaps venue h)
+gap_silent : (window : ℕ) (gaps : Bool) (venue : ℕ) (h : History) → IsSilent (gap_emitted window gaps venue h)
 gap_silent window false venue h = record { outcomes = λ old. refl; entries = λ old. refl }
 gap_silent window true venue h = at (gap_of h.present.name window (telling.sent_of h) h.present.packets)
   where
-    at : (o : Option Request) → IsSilent (gap_happening venue o)
+    at : (o : Option Request) → IsSilent (gap_event venue o)
     at None = record { outcomes = λ old. refl; entries = λ old. refl }
     at (Some request) = record { outcomes = λ old. refl; entries = λ old. refl }
 
@@ -152,12 +152,12 @@ module _ (s : Setting) (lane : 1 ≤ s.lane) (vs : List Venue) (place : ℕ) (u 
       let next : slice_get (streams_of h) (length items) ≡ Some x =
       ap (λ (l : List Numbered). slice_get l (length items)) e ∙ get_seam items rest x in
       at_venue w place v d new
-      (λ v. Comes (with_sent w place v)
-      (pushed (is_full s.lane v.lane) (next_in (streams_of v.history) v.lane) v.lane.sent) w d new)
+      (λ v. Applies (with_sent w place v)
+      (push_next (is_full s.lane v.lane) (next_in (streams_of v.history) v.lane) v.lane.sent) w d new)
       (get_set_here vs place u v there)
-      (subst (λ (b : Bool). Comes (with_sent w place v) (pushed b (slice_get (streams_of h) (length items)) items) w d
+      (subst (λ (b : Bool). Applies (with_sent w place v) (push_next b (slice_get (streams_of h) (length items)) items) w d
       new) (sym room)
-      (subst (λ (o : Option Numbered). Comes (with_sent w place v) (pushed false o items) w d new) (sym next)
+      (subst (λ (o : Option Numbered). Applies (with_sent w place v) (push_next false o items) w d new) (sym next)
       (refl, with_venues entries _ _ (sym (set_twice vs place v (venue_more h items x))))))
 
   consume_step : (items : List Numbered) (x : Numbered) (entries : List Entry) → length entries < s.journal
@@ -172,13 +172,13 @@ module _ (s : Setting) (lane : 1 ≤ s.lane) (vs : List Venue) (place : ℕ) (u 
       let room : nat_le s.journal (length entries) ≡ false = lt-leb s.journal (length entries) short in
       let next : slice_get (items ++ x ∷ []) (length items) ≡ Some x = get_seam items [] x in
       at_venue w place v d new
-      (λ v. Comes (with_intake w place v)
-      (consumed s.journal place (next_out v.lane) (record { received = v.lane.received; entries = w.entries })) w
+      (λ v. Applies (with_intake w place v)
+      (consume_next s.journal place (next_out v.lane) (record { received = v.lane.received; entries = w.entries })) w
       d new) (get_set_here vs place u v there)
-      (subst (λ (b : Bool). Comes (with_intake w place v)
-      (if b then stays journal_full else journaled place (slice_get (items ++ x ∷ []) (length items)) old) w d
+      (subst (λ (b : Bool). Applies (with_intake w place v)
+      (if b then Refused journal_full else journal_item place (slice_get (items ++ x ∷ []) (length items)) old) w d
       new) (sym room)
-      (subst (λ (o : Option Numbered). Comes (with_intake w place v) (journaled place o old) w d new) (sym next) (
+      (subst (λ (o : Option Numbered). Applies (with_intake w place v) (journal_item place o old) w d new) (sym next) (
         refl,
         with_venues (entries ++ entry.Consumed place x ∷ []) _ _
             (sym (set_twice vs place v (venue_at h (items ++ x ∷ [])))),
@@ -243,10 +243,10 @@ run_as s a es ds gs b c e f x =
     subst (λ (w : World). IsRun s a es gs w) f (subst (λ (l : List Done). IsRun s a es l b) e x)
 
 -- the record's event and so many drains of its venue come to what is told of it
-abbrev Ran : Setting → CaptureRecord → List History → List Entry → List Happening → List History → Type 0
-Ran s r hs entries told new =
-    (n : ℕ) × IsRun s (world_of hs entries) (event_of r ∷ drains (venue_of r) n) (outcomes_of entries told)
-    (world_of new (entries_of entries told))
+abbrev Ran : Setting → CaptureRecord → List History → List Entry → List ReplayEvent → List History → Type 0
+Ran s r hs entries emitted new =
+    (n : ℕ) × IsRun s (world_of hs entries) (event_of r ∷ drains (record_venue r) n) (outcomes_of entries emitted)
+    (world_of new (entries_of entries emitted))
 
 module _ (s : Setting) (gaps : Bool) (lane : 1 ≤ s.lane) (hs : List History) (entries : List Entry) (venue : ℕ)
     (h : History) (there : slice_get hs venue ≡ Some h) (kept : IsKept s.window h) where
@@ -265,37 +265,37 @@ module _ (s : Setting) (gaps : Bool) (lane : 1 ≤ s.lane) (hs : List History) (
       ∙ ap (λ (l : List History). world_of l F) (sym (same_set hs venue h there))
       ∙ ap (λ (k : History). world_of (slice_set hs venue k) F) (sym e)
 
-  fault_ran : (line : LineId) (bytes : List ℕ) (told : List Happening) (new : History)
-      → TellsFault s.window gaps venue line bytes h told new
-      → Ran s (datagram_record venue line bytes) hs entries told (slice_set hs venue new)
-  fault_ran line bytes told new t =
+  fault_ran : (line : LineId) (bytes : List ℕ) (emitted : List ReplayEvent) (new : History)
+      → EmitsFault s.window gaps venue line bytes h emitted new
+      → Ran s (datagram_record venue line bytes) hs entries emitted (slice_set hs venue new)
+  fault_ran line bytes emitted new t =
       let w : World = world_of hs entries in
       let d : Done = done.Refused (code_of t.fault) in
       let silent = gap_silent s.window gaps venue new in
       let step : IsStep s w (Packet venue line (slice_of bytes)) d w =
       at_venue w venue (consumed_all h) d w
-      (λ v. IsFaulty bytes w d w ⊎ steps.IsAnswered s.window venue v line bytes w d w) there_is
+      (λ v. RefusesBytes bytes w d w ⊎ steps.IsAnswered s.window venue v line bytes w d w) there_is
       (inl (record { fault = t.fault; has = t.has; is = (refl, refl) })) in (
         0,
-        run_as s w (Packet venue line (slice_of bytes) ∷ []) (d ∷ []) (outcomes_of entries told) w
-            (world_of (slice_set hs venue new) (entries_of entries told))
-            (sym (ap (outcomes_of entries) t.told_is ∙ ap (λ (ds : List Done). d ∷ ds) (silent.outcomes entries)))
-            (unmoved new entries (entries_of entries told) t.same
-            (sym (ap (entries_of entries) t.told_is ∙ silent.entries entries)))
+        run_as s w (Packet venue line (slice_of bytes) ∷ []) (d ∷ []) (outcomes_of entries emitted) w
+            (world_of (slice_set hs venue new) (entries_of entries emitted))
+            (sym (ap (outcomes_of entries) t.emitted_is ∙ ap (λ (ds : List Done). d ∷ ds) (silent.outcomes entries)))
+            (unmoved new entries (entries_of entries emitted) t.same
+            (sym (ap (entries_of entries) t.emitted_is ∙ silent.entries entries)))
             (w, step, refl),
       )
 
   -- the packet is answered, and nothing is pushed yet
-  pub packet_begins : (line : LineId) (bytes : List ℕ) (told : List Happening) (new : History)
-      (t : TellsPacket s.window gaps venue line bytes h told new)
+  pub packet_begins : (line : LineId) (bytes : List ℕ) (emitted : List ReplayEvent) (new : History)
+      (t : EmitsPacket s.window gaps venue line bytes h emitted new)
       → IsStep s (world_of hs entries) (Packet venue line (slice_of bytes)) (steps.answered t.answer)
       (at (map consumed_all hs) venue (venue_at new (streams_of h)) entries)
-  packet_begins line bytes told new t =
+  packet_begins line bytes emitted new t =
       let w : World = world_of hs entries in
       let d : Done = steps.answered t.answer in
       let mid : World = at (map consumed_all hs) venue (venue_at new (streams_of h)) entries in
       at_venue w venue (consumed_all h) d mid
-      (λ v. IsFaulty bytes w d mid ⊎ steps.IsAnswered s.window venue v line bytes w d mid) there_is (inr (record {
+      (λ v. RefusesBytes bytes w d mid ⊎ steps.IsAnswered s.window venue v line bytes w d mid) there_is (inr (record {
         packet = t.packet;
         rest = t.rest;
         spells = t.spells;
@@ -312,66 +312,66 @@ module _ (s : Setting) (gaps : Bool) (lane : 1 ≤ s.lane) (hs : List History) (
       }))
 
   -- what it made ready comes behind the streams
-  pub ready_behind : (line : LineId) (bytes : List ℕ) (told : List Happening) (new : History)
-      → TellsPacket s.window gaps venue line bytes h told new
+  pub ready_behind : (line : LineId) (bytes : List ℕ) (emitted : List ReplayEvent) (new : History)
+      → EmitsPacket s.window gaps venue line bytes h emitted new
       → streams_of new ≡ streams_of h ++ drop (telling.sent_of h) (stream_of new.present.packets)
-  ready_behind line bytes told new t =
-      (here s.window gaps (datagram_record venue line bytes) h new told kept (inr t)).items
-      ∙ ap (λ (xs : List Numbered). streams_of h ++ xs) (ready_items s.window gaps venue line bytes h new told t)
+  ready_behind line bytes emitted new t =
+      (here s.window gaps (datagram_record venue line bytes) h new emitted kept (inr t)).items
+      ∙ ap (λ (xs : List Numbered). streams_of h ++ xs) (ready_items s.window gaps venue line bytes h new emitted t)
 
-  packet_ran : (line : LineId) (bytes : List ℕ) (told : List Happening) (new : History)
-      → TellsPacket s.window gaps venue line bytes h told new → length (entries_of entries told) ≤ s.journal
-      → Ran s (datagram_record venue line bytes) hs entries told (slice_set hs venue new)
-  packet_ran line bytes told new t room =
+  packet_ran : (line : LineId) (bytes : List ℕ) (emitted : List ReplayEvent) (new : History)
+      → EmitsPacket s.window gaps venue line bytes h emitted new → length (entries_of entries emitted) ≤ s.journal
+      → Ran s (datagram_record venue line bytes) hs entries emitted (slice_set hs venue new)
+  packet_ran line bytes emitted new t room =
       let w : World = world_of hs entries in
       let d : Done = steps.answered t.answer in
       let ready : List Numbered = drop (telling.sent_of h) (stream_of new.present.packets) in
       let mid : World = at (map consumed_all hs) venue (venue_at new (streams_of h)) entries in
       let silent = gap_silent s.window gaps venue new in
-      let hs1 : List Happening = map (item_taken venue) ready in
-      let outcomes : outcomes_of entries told ≡ d ∷ outcomes_of entries hs1 =
-      ap (outcomes_of entries) t.told_is
+      let hs1 : List ReplayEvent = map (item_taken venue) ready in
+      let outcomes : outcomes_of entries emitted ≡ d ∷ outcomes_of entries hs1 =
+      ap (outcomes_of entries) t.emitted_is
       ∙ ap (λ (ds : List Done). d ∷ ds)
-      (outcomes_more entries hs1 (gap_told s.window gaps venue new)
+      (outcomes_more entries hs1 (gap_emitted s.window gaps venue new)
       ∙ ap (λ (ds : List Done). outcomes_of entries hs1 ++ ds) (silent.outcomes (entries_of entries hs1))
       ∙ append-nil (outcomes_of entries hs1)) in
-      let after : entries_of entries told ≡ entries_of entries hs1 =
-      ap (entries_of entries) t.told_is ∙ entries_more entries hs1 (gap_told s.window gaps venue new)
+      let after : entries_of entries emitted ≡ entries_of entries hs1 =
+      ap (entries_of entries) t.emitted_is ∙ entries_more entries hs1 (gap_emitted s.window gaps venue new)
       ∙ silent.entries (entries_of entries hs1) in
-      let streams : streams_of new ≡ streams_of h ++ ready = ready_behind line bytes told new t in
+      let streams : streams_of new ≡ streams_of h ++ ready = ready_behind line bytes emitted new t in
       let all : streams_of new ≡ streams_of h ++ (ready ++ []) =
       streams ∙ ap (λ (xs : List Numbered). streams_of h ++ xs) (sym (append-nil ready)) in
       let fits : length entries + length ready ≤ s.journal =
-      (let n = items_len venue ready entries in let m : length (entries_of entries told) ≡ length
+      (let n = items_len venue ready entries in let m : length (entries_of entries emitted) ≡ length
       (entries_of entries hs1) = ap length after in omega arith) in (
         length ready,
         run_as s w (Packet venue line (slice_of bytes) ∷ drains venue (length ready)) (d ∷ outcomes_of entries hs1)
-            (outcomes_of entries told)
+            (outcomes_of entries emitted)
             (at (map consumed_all hs) venue (venue_at new (streams_of h ++ ready)) (entries_of entries hs1))
-            (world_of (slice_set hs venue new) (entries_of entries told))
+            (world_of (slice_set hs venue new) (entries_of entries emitted))
             (sym outcomes)
             (ap (λ (xs : List Numbered). at (map consumed_all hs) venue (venue_at new xs) (entries_of entries hs1))
             (sym streams) ∙ settled new (entries_of entries hs1)
             ∙ ap (λ (E : List Entry). world_of (slice_set hs venue new) E) (sym after)) (
               mid,
-              packet_begins line bytes told new t,
+              packet_begins line bytes emitted new t,
               drain s lane (map consumed_all hs) venue
                   (consumed_all h) there_is new ready (streams_of h) [] entries all fits,
             ),
       )
 
-  renewal_ran : (name : List ℕ) (told : List Happening) (new : History) → TellsRenewal venue name h told new
-      → Ran s (renewal_record venue name) hs entries told (slice_set hs venue new)
-  renewal_ran name told new t =
+  renewal_ran : (name : List ℕ) (emitted : List ReplayEvent) (new : History) → EmitsRenewal venue name h emitted new
+      → Ran s (renewal_record venue name) hs entries emitted (slice_set hs venue new)
+  renewal_ran name emitted new t =
       let w : World = world_of hs entries in
       let d : Done = steps.renewal t.answer in
       let mid : World = at (map consumed_all hs) venue (venue_at new (streams_of h)) entries in
       let streams : streams_of new ≡ streams_of h =
-      (here s.window gaps (renewal_record venue name) h new told kept t).items
-      ∙ ap (λ (xs : List Numbered). streams_of h ++ xs) (ap (items_taken venue) t.told_is)
+      (here s.window gaps (renewal_record venue name) h new emitted kept t).items
+      ∙ ap (λ (xs : List Numbered). streams_of h ++ xs) (ap (items_taken venue) t.emitted_is)
       ∙ append-nil (streams_of h) in
       let step : IsStep s w (Renew venue name) d mid =
-      at_venue w venue (consumed_all h) d mid (λ v. IsNext venue v name w d mid) there_is (record {
+      at_venue w venue (consumed_all h) d mid (λ v. AnswersRenewal venue v name w d mid) there_is (record {
         answer = t.answer;
         history = new;
         renewed =
@@ -385,20 +385,20 @@ module _ (s : Setting) (gaps : Bool) (lane : 1 ≤ s.lane) (hs : List History) (
         new_is = refl;
       }) in (
         0,
-        run_as s w (Renew venue name ∷ []) (d ∷ []) (outcomes_of entries told) mid
-            (world_of (slice_set hs venue new) (entries_of entries told))
-            (sym (ap (outcomes_of entries) t.told_is))
+        run_as s w (Renew venue name ∷ []) (d ∷ []) (outcomes_of entries emitted) mid
+            (world_of (slice_set hs venue new) (entries_of entries emitted))
+            (sym (ap (outcomes_of entries) t.emitted_is))
             (ap (λ (xs : List Numbered). at (map consumed_all hs) venue (venue_at new xs) entries) (sym streams)
             ∙ settled new entries
             ∙ ap (λ (E : List Entry). world_of (slice_set hs venue new) E)
-            (sym (ap (entries_of entries) t.told_is)))
+            (sym (ap (entries_of entries) t.emitted_is)))
             (mid, step, refl),
       )
 
   declared_so : (on b : Bool) → length (if b then entries else entries ++ entry.SelfHelp venue on ∷ []) ≤ s.journal
-      → Comes (λ (E : List Entry). world_of hs E)
-      (if b then stays already_so else
-      (if nat_le s.journal (length entries) then stays journal_full else goes (done.Declared (length entries + 1))
+      → Applies (λ (E : List Entry). world_of hs E)
+      (if b then Refused already_so else
+      (if nat_le s.journal (length entries) then Refused journal_full else Changes (done.Declared (length entries + 1))
       (entries ++ entry.SelfHelp venue on ∷ []))) (world_of hs entries)
       (if b then already_so else done.Declared (length entries + 1))
       (world_of hs (if b then entries else entries ++ entry.SelfHelp venue on ∷ []))
@@ -406,93 +406,93 @@ module _ (s : Setting) (gaps : Bool) (lane : 1 ≤ s.lane) (hs : List History) (
   declared_so on false room =
       let n = length-append entries (entry.SelfHelp venue on ∷ []) in
       let free : nat_le s.journal (length entries) ≡ false = lt-leb s.journal (length entries) (omega arith) in
-      subst (λ (b : Bool). Comes (λ (E : List Entry). world_of hs E)
-      (if b then stays journal_full else goes (done.Declared (length entries + 1))
+      subst (λ (b : Bool). Applies (λ (E : List Entry). world_of hs E)
+      (if b then Refused journal_full else Changes (done.Declared (length entries + 1))
       (entries ++ entry.SelfHelp venue on ∷ [])) (world_of hs entries) (done.Declared (length entries + 1))
       (world_of hs (entries ++ entry.SelfHelp venue on ∷ [])))
       (sym free) (refl, refl)
 
-  self_help_ran : (on : Bool) (told : List Happening) (new : History) → TellsSelfHelp venue on h told new
-      → length (entries_of entries told) ≤ s.journal
-      → Ran s (self_help_record venue on) hs entries told (slice_set hs venue new)
-  self_help_ran on told new t room =
+  self_help_ran : (on : Bool) (emitted : List ReplayEvent) (new : History) → EmitsSelfHelp venue on h emitted new
+      → length (entries_of entries emitted) ≤ s.journal
+      → Ran s (self_help_record venue on) hs entries emitted (slice_set hs venue new)
+  self_help_ran on emitted new t room =
       let w : World = world_of hs entries in
       let b : Bool = is_so entries venue on in
       let d : Done = if b then already_so else done.Declared (length entries + 1) in
       let E : List Entry = if b then entries else entries ++ entry.SelfHelp venue on ∷ [] in
       let mid : World = world_of hs E in
-      let after : entries_of entries told ≡ E = ap (entries_of entries) t.told_is in
+      let after : entries_of entries emitted ≡ E = ap (entries_of entries) t.emitted_is in
       let fits : length E ≤ s.journal = subst (λ (l : List Entry). length l ≤ s.journal) after room in
       let step : IsStep s w (Declare venue on) d mid =
       at_venue w venue (consumed_all h) d mid
-      (λ v. Comes (λ (x : List Entry). record w { entries = x }) (declared s.journal venue on entries) w d mid)
+      (λ v. Applies (λ (x : List Entry). record w { entries = x }) (declare_help s.journal venue on entries) w d mid)
       there_is
-      (subst (λ (x : Bool). Comes (λ (E : List Entry). world_of hs E)
-      (if x then stays already_so else
-      (if nat_le s.journal (length entries) then stays journal_full else goes (done.Declared (length entries + 1))
+      (subst (λ (x : Bool). Applies (λ (E : List Entry). world_of hs E)
+      (if x then Refused already_so else
+      (if nat_le s.journal (length entries) then Refused journal_full else Changes (done.Declared (length entries + 1))
       (entries ++ entry.SelfHelp venue on ∷ []))) w d mid)
       (sym (same_so entries venue on)) (declared_so on b fits)) in (
         0,
-        run_as s w (Declare venue on ∷ []) (d ∷ []) (outcomes_of entries told) mid
-            (world_of (slice_set hs venue new) (entries_of entries told))
-            (sym (ap (outcomes_of entries) t.told_is))
-            (unmoved new E (entries_of entries told) t.same (sym after))
+        run_as s w (Declare venue on ∷ []) (d ∷ []) (outcomes_of entries emitted) mid
+            (world_of (slice_set hs venue new) (entries_of entries emitted))
+            (sym (ap (outcomes_of entries) t.emitted_is))
+            (unmoved new E (entries_of entries emitted) t.same (sym after))
             (mid, step, refl),
       )
 
 record_ran : (s : Setting) (gaps : Bool) → 1 ≤ s.lane
-    → (hs new : List History) (entries : List Entry) (r : CaptureRecord) (told : List Happening) → Each s.window hs
-    → TellsRecord s.window gaps r hs told new → length (entries_of entries told) ≤ s.journal
-    → Ran s r hs entries told new
-record_ran s gaps lane hs new entries r told each t room =
-    subst (Ran s r hs entries told) (sym t.others) (by r t.at (each (venue_of r) t.before t.at) t.tells)
+    → (hs new : List History) (entries : List Entry) (r : CaptureRecord) (emitted : List ReplayEvent) → Each s.window hs
+    → EmitsRecord s.window gaps r hs emitted new → length (entries_of entries emitted) ≤ s.journal
+    → Ran s r hs entries emitted new
+record_ran s gaps lane hs new entries r emitted each t room =
+    subst (Ran s r hs entries emitted) (sym t.others) (by r t.at (each (record_venue r) t.before t.at) t.emits)
   where
-    by : (r : CaptureRecord) → slice_get hs (venue_of r) ≡ Some t.before → IsKept s.window t.before
-        → TellsAt s.window gaps r t.before told t.after → Ran s r hs entries told (slice_set hs (venue_of r) t.after)
+    by : (r : CaptureRecord) → slice_get hs (record_venue r) ≡ Some t.before → IsKept s.window t.before
+        → EmitsAt s.window gaps r t.before emitted t.after → Ran s r hs entries emitted (slice_set hs (record_venue r) t.after)
     by (datagram_record venue line bytes) at kept x = elim x [
-      | inl f ↦ fault_ran s gaps lane hs entries venue t.before at kept line bytes told t.after f
-      | inr p ↦ packet_ran s gaps lane hs entries venue t.before at kept line bytes told t.after p room
+      | inl f ↦ fault_ran s gaps lane hs entries venue t.before at kept line bytes emitted t.after f
+      | inr p ↦ packet_ran s gaps lane hs entries venue t.before at kept line bytes emitted t.after p room
     ]
     by (renewal_record venue name) at kept x =
-        renewal_ran s gaps lane hs entries venue t.before at kept name told t.after x
+        renewal_ran s gaps lane hs entries venue t.before at kept name emitted t.after x
     by (self_help_record venue on) at kept x =
-        self_help_ran s gaps lane hs entries venue t.before at kept on told t.after x room
+        self_help_ran s gaps lane hs entries venue t.before at kept on emitted t.after x room
 
 -- ---- records
 
-abbrev pub RanAll : Setting → List CaptureRecord → List History → List Entry → List Happening → List History → Type 0
-RanAll s rs hs entries told new =
-    (events : List Event) × AreEvents rs events × IsRun s (world_of hs entries) events (outcomes_of entries told)
-    (world_of new (entries_of entries told))
+abbrev pub RanAll : Setting → List CaptureRecord → List History → List Entry → List ReplayEvent → List History → Type 0
+RanAll s rs hs entries emitted new =
+    (events : List Event) × AreEvents rs events × IsRun s (world_of hs entries) events (outcomes_of entries emitted)
+    (world_of new (entries_of entries emitted))
 
 pub all_ran : (s : Setting) (gaps : Bool) → 1 ≤ s.lane
-    → (rs : List CaptureRecord) (hs new : List History) (entries : List Entry) (told : List Happening)
-    → Each s.window hs → Tells s.window gaps rs hs told new → length (entries_of entries told) ≤ s.journal
-    → RanAll s rs hs entries told new
-all_ran s gaps lane [] hs new entries told each t room = (
+    → (rs : List CaptureRecord) (hs new : List History) (entries : List Entry) (emitted : List ReplayEvent)
+    → Each s.window hs → Emits s.window gaps rs hs emitted new → length (entries_of entries emitted) ≤ s.journal
+    → RanAll s rs hs entries emitted new
+all_ran s gaps lane [] hs new entries emitted each t room = (
   [],
   refl,
-  run_as s (world_of hs entries) [] [] (outcomes_of entries told) (world_of hs entries)
-      (world_of new (entries_of entries told))
+  run_as s (world_of hs entries) [] [] (outcomes_of entries emitted) (world_of hs entries)
+      (world_of new (entries_of entries emitted))
       (sym (ap (outcomes_of entries) t.0))
       (ap (λ (l : List History). world_of l entries) (sym t.1)
       ∙ ap (λ (E : List Entry). world_of new E) (sym (ap (entries_of entries) t.0)))
       refl,
 )
-all_ran s gaps lane (r ∷ rs) hs new entries told each (mid, first, others, one, rest, whole) room =
+all_ran s gaps lane (r ∷ rs) hs new entries emitted each (mid, first, others, one, rest, whole) room =
     let E : List Entry = entries_of entries first in
-    let after : entries_of entries told ≡ entries_of E others = ap (entries_of entries) whole
+    let after : entries_of entries emitted ≡ entries_of E others = ap (entries_of entries) whole
     ∙ entries_more entries first others in
     let fits : length (entries_of E others) ≤ s.journal = subst (λ (l : List Entry). length l ≤ s.journal) after room in
     let fits_first : length E ≤ s.journal = (let g = entries_grow E others in omega arith) in
     let a = record_ran s gaps lane hs mid entries r first each one fits_first in
     let b = all_ran s gaps lane rs mid new E others
     (λ i k e. (one_came s.window gaps r hs mid first each one i k e).2.kept) rest fits in
-    let own : List Event = event_of r ∷ drains (venue_of r) a.0 in (
+    let own : List Event = event_of r ∷ drains (record_venue r) a.0 in (
       own ++ b.0,
       (a.0, b.0, b.1, refl),
       run_as s (world_of hs entries) (own ++ b.0) (outcomes_of entries first ++ outcomes_of E others)
-          (outcomes_of entries told) (world_of new (entries_of E others)) (world_of new (entries_of entries told))
+          (outcomes_of entries emitted) (world_of new (entries_of E others)) (world_of new (entries_of entries emitted))
           (sym (ap (outcomes_of entries) whole ∙ outcomes_more entries first others))
           (ap (λ (x : List Entry). world_of new x) (sym after))
           (run_more s (world_of hs entries) (world_of mid E) (world_of new (entries_of E others)) own b.0
@@ -521,8 +521,8 @@ pub events_only : (place : ℕ) (session : Session) (rs : List CaptureRecord) (e
 events_only place session [] events are may = subst (λ (es : List Event). BringOnly place es session) (sym are) tt
 events_only place session (r ∷ rs) events (ready, others, more, is) may =
     subst (λ (es : List Event). BringOnly place es session) (sym is)
-    (all_more (BringsOnly place session) (event_of r ∷ drains (venue_of r) ready) others
-    (event_only place session r may.0, drains_only place (venue_of r) session ready)
+    (all_more (BringsOnly place session) (event_of r ∷ drains (record_venue r) ready) others
+    (event_only place session r may.0, drains_only place (record_venue r) session ready)
     (events_only place session rs others more may.1))
 
 -- ---- the items that were told
@@ -535,11 +535,11 @@ brought place records events only [] all = tt
 brought place records events only (session ∷ sessions) all =
     (only session all.0, brought place records events only sessions all.1)
 
-tells_sessions : (place : ℕ) (records : List CaptureRecord) (events : List Event) (told : List Happening)
+tells_sessions : (place : ℕ) (records : List CaptureRecord) (events : List Event) (emitted : List ReplayEvent)
     (h : History) → ((session : Session) → HoldOnly place records session → BringOnly place events session)
-    → items_taken place told ≡ streams_of h → VenueHalf events place (consumed_all h)
-    → TellsSessions records place told h
-tells_sessions place records events told h only items half = record {
+    → items_taken place emitted ≡ streams_of h → VenueHalf events place (consumed_all h)
+    → TellsSessions records place emitted h
+tells_sessions place records events emitted h only items half = record {
   items = items;
   session = λ s may. half.session s (only s may);
   sessions = λ earlier present e all. items ∙ sym half.items
@@ -553,19 +553,19 @@ begins [] = refl
 begins (name ∷ names) = ap (λ (vs : List Venue). new_venue name ∷ vs) (begins names)
 
 pub replay_run : (config : ReplayConfig) (lane : ℕ) (filters : List Terms) (records : List CaptureRecord)
-    (told : List Happening) (histories : List History) → 1 ≤ lane
-    → TellsAll config records told histories → HasRoom config told
-    → IsReplayRun (replay_setting config lane filters) records told histories
-replay_run config lane filters records told hs some tells room =
+    (emitted : List ReplayEvent) (histories : List History) → 1 ≤ lane
+    → EmitsAll config records emitted histories → HasJournalRoom config emitted
+    → IsReplayRun (replay_setting config lane filters) records emitted histories
+replay_run config lane filters records emitted hs some emits room =
     let s : Setting = replay_setting config lane filters in
-    let ran : RanAll s records (map new_history config.sessions.now) [] told hs =
-    all_ran s config.gaps some records (map new_history config.sessions.now) hs [] told
-    (new_kept config) tells room in
-    let run : IsRun s (new_world s) ran.0 (outcomes_of [] told) (world_of hs (entries_of [] told)) =
-    subst (λ (w : World). IsRun s w ran.0 (outcomes_of [] told) (world_of hs (entries_of [] told)))
+    let ran : RanAll s records (map new_history config.sessions.now) [] emitted hs =
+    all_ran s config.gaps some records (map new_history config.sessions.now) hs [] emitted
+    (new_kept config) emits room in
+    let run : IsRun s (new_world s) ran.0 (outcomes_of [] emitted) (world_of hs (entries_of [] emitted)) =
+    subst (λ (w : World). IsRun s w ran.0 (outcomes_of [] emitted) (world_of hs (entries_of [] emitted)))
     (with_venues [] _ _ (begins config.sessions.now)) ran.2 in
-    let head : Headline s ran.0 (world_of hs (entries_of [] told)) =
-    headline s ran.0 (outcomes_of [] told) (world_of hs (entries_of [] told)) run in
+    let head : Headline s ran.0 (world_of hs (entries_of [] emitted)) =
+    headline s ran.0 (outcomes_of [] emitted) (world_of hs (entries_of [] emitted)) run in
     let only : (place : ℕ) (session : Session) → HoldOnly place records session → BringOnly place ran.0 session =
     λ place session may. events_only place session records ran.0 ran.1 may in
     record {
@@ -574,7 +574,7 @@ replay_run config lane filters records told hs some tells room =
       only = only;
       run = run;
       headline = head;
-      items = λ place h at. tells_sessions place records ran.0 told h (only place)
-          (taken_are_streams config records told hs tells place h at)
+      items = λ place h at. tells_sessions place records ran.0 emitted h (only place)
+          (taken_are_streams config records emitted hs emits place h at)
           (head.venues place (consumed_all h) (get_map consumed_all hs place h at));
     }

@@ -12,13 +12,13 @@ use Rattle.feed_core.specs.declared.event.Event.TheVariants.{Packet, Push, Consu
 use Rattle.feed_core.specs.declared.event.Done.{Done}
 use Rattle.feed_core.specs.declared.event.Done.TheVariants as done
 use Rattle.feed_core.specs.Worlds.{Venue, World, Setting, new_world}
-use Rattle.feed_core.specs.Steps.{answered, renewal, already_so}
+use Rattle.feed_core.specs.Steps.{packet_done, renewal_done, already_so}
 use Rattle.feed_core.specs.Runs.{IsRun}
 use Rattle.feed_core.specs.VenueHalf.{BringOnly}
 use Rattle.feed_core.specs.Headline.{Headline}
 use Rattle.feed_text.specs.declared.replay.ReplayConfig.{ReplayConfig}
-use Rattle.feed_text.specs.Capture.{CaptureRecord, datagram_record, renewal_record, self_help_record, venue_of}
-use Rattle.feed_text.specs.Happenings.{Happening, packet_answered, packet_refused, item_taken, gap_left, renewal_answered, self_help_declared, is_so, entries_after, entries_of}
+use Rattle.feed_text.specs.Capture.{CaptureRecord, datagram_record, renewal_record, self_help_record, record_venue}
+use Rattle.feed_text.specs.ReplayEvents.{ReplayEvent, packet_answered, packet_refused, item_taken, gap_left, renewal_answered, self_help_declared, is_so, entries_after, entries_of}
 use Rattle.replay_run.specs.VenueItems.{HoldOnly, TellsSessions}
 
 -- a slice of these bytes, wherever they lie
@@ -41,20 +41,20 @@ abbrev pub AreEvents : List CaptureRecord → List Event → Type 0
 AreEvents [] events = events ≡ []
 AreEvents (r ∷ rs) events =
     (ready : ℕ) × (others : List Event) × AreEvents rs others
-    × (events ≡ (event_of r ∷ drains (venue_of r) ready) ++ others)
+    × (events ≡ (event_of r ∷ drains (record_venue r) ready) ++ others)
 
 -- the outcomes that a happening tells, where these are the entries before it
-abbrev pub outcomes_by : List Entry → Happening → List Done
-outcomes_by entries (packet_answered venue line answer) = answered answer ∷ []
+abbrev pub outcomes_by : List Entry → ReplayEvent → List Done
+outcomes_by entries (packet_answered venue line answer) = packet_done answer ∷ []
 outcomes_by entries (packet_refused venue line fault) = done.Refused (code_of fault) ∷ []
 outcomes_by entries (item_taken venue numbered) =
     done.Pushed numbered.number ∷ done.Consumed (length entries + 1) ∷ []
 outcomes_by entries (gap_left venue request) = []
-outcomes_by entries (renewal_answered venue answer) = renewal answer ∷ []
+outcomes_by entries (renewal_answered venue answer) = renewal_done answer ∷ []
 outcomes_by entries (self_help_declared venue on) =
     (if is_so entries venue on then already_so else done.Declared (length entries + 1)) ∷ []
 
-abbrev pub outcomes_of : List Entry → List Happening → List Done
+abbrev pub outcomes_of : List Entry → List ReplayEvent → List Done
 outcomes_of entries [] = []
 outcomes_of entries (h ∷ hs) =
     outcomes_by entries h ++ outcomes_of (entries_after entries h) hs
@@ -91,14 +91,14 @@ world_of histories entries = record {
 -- outcomes that were told, to the world of these histories and of what was journaled; and the
 -- headline holds of it. The premise of its sessions is one of the records, and what it says of a
 -- venue's items is so of those that were told.
-pub record IsReplayRun (s : Setting) (records : List CaptureRecord) (told : List Happening)
+pub record IsReplayRun (s : Setting) (records : List CaptureRecord) (emitted : List ReplayEvent)
     (histories : List History) : Type 0 where
   pub events : List Event
   pub are : AreEvents records events
   pub only : (place : ℕ) (session : Session) → HoldOnly place records session
       → BringOnly place events session
-  pub run : IsRun s (new_world s) events (outcomes_of [] told)
-      (world_of histories (entries_of [] told))
-  pub headline : Headline s events (world_of histories (entries_of [] told))
+  pub run : IsRun s (new_world s) events (outcomes_of [] emitted)
+      (world_of histories (entries_of [] emitted))
+  pub headline : Headline s events (world_of histories (entries_of [] emitted))
   pub items : (place : ℕ) (h : History) → slice_get histories place ≡ Some h
-      → TellsSessions records place told h
+      → TellsSessions records place emitted h

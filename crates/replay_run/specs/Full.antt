@@ -10,7 +10,7 @@ use Rattle.feed_core.specs.Runs.{IsStep, IsRun}
 use Rattle.feed_core.specs.VenueHalf.{BringOnly}
 use Rattle.feed_core.specs.Headline.{Headline}
 use Rattle.feed_text.specs.Capture.{CaptureRecord, datagram_record, renewal_record, self_help_record}
-use Rattle.feed_text.specs.Happenings.{Happening, entries_of}
+use Rattle.feed_text.specs.ReplayEvents.{ReplayEvent, entries_of}
 use Rattle.feed_text.specs.VenueItems.{items_taken}
 use Rattle.replay_run.specs.Events.{slice_of, drains, AreEvents, outcomes_of}
 use Rattle.replay_run.specs.VenueItems.{HoldOnly}
@@ -30,7 +30,7 @@ StopsAt (renewal_record venue name) done refused = ⊥
 -- pushed, to a world with the entries that were told; the headline holds of it. The next event is
 -- refused since the journal is full.
 pub record IsRunToFull (s : Setting) (earlier : List CaptureRecord) (last : CaptureRecord)
-    (told : List Happening) : Type 0 where
+    (emitted : List ReplayEvent) : Type 0 where
   pub before : List Event
   pub are : AreEvents earlier before
   pub done : List Event
@@ -40,9 +40,9 @@ pub record IsRunToFull (s : Setting) (earlier : List CaptureRecord) (last : Capt
       → BringOnly place (before ++ done) session
   pub pushed : List Done
   pub full : World
-  pub run : IsRun s (new_world s) (before ++ done) (outcomes_of [] told ++ pushed) full
-  pub entries : full.entries ≡ entries_of [] told
+  pub run : IsRun s (new_world s) (before ++ done) (outcomes_of [] emitted ++ pushed) full
+  pub entries : full.entries ≡ entries_of [] emitted
   pub items : (place : ℕ) (v : Venue) → slice_get full.venues place ≡ Some v
-      → items_taken place told ≡ v.lane.received
+      → items_taken place emitted ≡ v.lane.received
   pub headline : Headline s (before ++ done) full
   pub next : IsStep s full refused journal_full full

@@ -19,19 +19,19 @@ InAnySetting config Is =
 pub record AreLinesOfRun (config : ReplayConfig) (records : List CaptureRecord) (lines : List ℕ)
     : Type 0 where
   pub are : IsLinesOf config records lines
-  pub run : InAnySetting config (λ s. IsReplayRun s records are.told are.histories)
+  pub run : InAnySetting config (λ s. IsReplayRun s records are.emitted are.histories)
 
 -- the text of a capture, and what its records tell is a run
 pub record IsTextOfRun (config : ReplayConfig) (records : List CaptureRecord) (text : List ℕ)
     : Type 0 where
   pub is : IsTextOf config records text
-  pub run : InAnySetting config (λ s. IsReplayRun s records is.told is.histories)
+  pub run : InAnySetting config (λ s. IsReplayRun s records is.emitted is.histories)
 
 -- the lines of records up to a full journal, and what they tell is a run up to it
 pub record AreLinesOfRunToFull (config : ReplayConfig) (records : List CaptureRecord)
     (lines : List ℕ) : Type 0 where
   pub are : IsLinesToFull config records lines
-  pub run : InAnySetting config (λ s. IsRunToFull s are.earlier are.last (are.told ++ are.first))
+  pub run : InAnySetting config (λ s. IsRunToFull s are.earlier are.last (are.emitted ++ are.first))
 
 -- what a replay writes is that of a run
 abbrev pub texts_of_run : ReplayConfig → TextFacts

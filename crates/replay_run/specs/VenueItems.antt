@@ -9,7 +9,7 @@ use Rattle.line_arbiter.specs.OfSession.{IsOfSession, session_stream}
 use Rattle.line_arbiter.specs.Histories.{History, names_of, streams_of}
 use Rattle.feed_core.specs.VenueHalf.{AreSession}
 use Rattle.feed_text.specs.Capture.{CaptureRecord, datagram_record, renewal_record, self_help_record}
-use Rattle.feed_text.specs.Happenings.{Happening}
+use Rattle.feed_text.specs.ReplayEvents.{ReplayEvent}
 use Rattle.feed_text.specs.VenueItems.{items_taken}
 
 -- the premise: a packet of the session's name in the record is of the session, where the record is
@@ -28,13 +28,13 @@ HoldOnly place records s = AllByRecursion (HoldsOnly place s) records
 -- session of which the records hold the packets alone is the one that came under its name; and
 -- where that is so of all that the venue began, the items are these sessions, each whole but the
 -- last, which comes up to its first gap.
-pub record TellsSessions (records : List CaptureRecord) (place : ℕ) (told : List Happening)
+pub record TellsSessions (records : List CaptureRecord) (place : ℕ) (emitted : List ReplayEvent)
     (h : History) : Type 0 where
-  pub items : items_taken place told ≡ streams_of h
+  pub items : items_taken place emitted ≡ streams_of h
   pub session : (s : Session) → HoldOnly place records s → AreSession s h
   pub sessions : (earlier : List Session) (present : Session)
       → map (λ s. s.name) (earlier ++ present ∷ []) ≡ names_of h
       → AllByRecursion (HoldOnly place records) (earlier ++ present ∷ [])
-      → items_taken place told
+      → items_taken place emitted
       ≡ whole_sessions earlier
       ++ session_stream present (front_of h.present.packets) (end_of h.present.packets)

@@ -16,9 +16,9 @@ ghost use Rattle.filter_terms.specs.declared.terms.Terms.{Terms};
 ghost use Rattle.feed_core.specs.Worlds.{Setting};
 ghost use Rattle.feed_text.specs.declared.replay.ReplayConfig.{ReplayConfig};
 ghost use Rattle.feed_text.specs.Capture.{CaptureRecord};
-ghost use Rattle.feed_text.specs.Happenings.{Happening};
-ghost use Rattle.feed_text.specs.Texts.{TellsAll, HasRoom, IsLinesOf, IsLinesToFull, IsTextOf};
-ghost use Rattle.feed_text.specs.Replays.{Replays, ReplaysBy};
+ghost use Rattle.feed_text.specs.ReplayEvents.{ReplayEvent};
+ghost use Rattle.feed_text.specs.Texts.{EmitsAll, HasJournalRoom, IsLinesOf, IsLinesToFull, IsTextOf};
+ghost use Rattle.feed_text.specs.Replays.{Replays, AnswersReplay};
 ghost use Rattle.replay_run.specs.Events.{IsReplayRun, replay_setting};
 ghost use Rattle.replay_run.specs.Moving.{ComesThrough, session_of};
 ghost use Rattle.replay_run.specs.Printed.{AreLinesOfRun, AreLinesOfRunToFull, IsTextOfRun, texts_of_run};
@@ -32,10 +32,10 @@ use std::alloc::Global;
 /// it, whatever the lanes hold.
 pub fn a_replay_is_a_run()
     ensures { (config : ReplayConfig) (lane : ℕ) (filters : List Terms)
-        (records : List CaptureRecord) (told : List Happening) (histories : List History)
+        (records : List CaptureRecord) (emitted : List ReplayEvent) (histories : List History)
         → 1 ≤ lane
-        → TellsAll config records told histories → HasRoom config told
-        → IsReplayRun (replay_setting config lane filters) records told histories }
+        → EmitsAll config records emitted histories → HasJournalRoom config emitted
+        → IsReplayRun (replay_setting config lane filters) records emitted histories }
 {}
 
 /// So the text of a whole capture, the lines of its records and the lines up to a full journal are
@@ -80,7 +80,7 @@ pub fn replay<R: CaptureIn, W: TextOut>(
         (record { gives = R.gives; ends = R.ends; failures = R.failures })
         (record { adds = W.adds; failures = W.failures })
         config.now reader.old reader.new writer.old writer.new result }
-    ensures headline { ReplaysBy
+    ensures headline { AnswersReplay
         (record { gives = R.gives; ends = R.ends; failures = R.failures })
         (record { adds = W.adds; failures = W.failures })
         config.now (texts_of_run config.now) reader.old reader.new writer.old writer.new result }

@@ -13,15 +13,15 @@ use Rattle.journal_book.specs.Wanted.{wanted_of}
 use Rattle.fifo_lane.specs.Lane.{LaneEnd, WasEmpty, WasFull, with_items}
 use Rattle.feed_core.specs.declared.event.Done.{Done}
 use Rattle.feed_core.specs.declared.event.Done.TheVariants as done
-use Rattle.feed_core.specs.Steps.{Intake, consumed, offered, ComesTo}
+use Rattle.feed_core.specs.Steps.{Intake, consume_next, offer_next, AppliesTo}
 use Rattle.live_feed.specs.declared.unsent.Unsent.{Unsent}
 use Rattle.live_feed.specs.declared.unsent.Unsent.TheVariants as unsent
 use Rattle.live_feed.specs.Lanes.{FeedLanes}
 use Rattle.live_feed.specs.hub.Hubs.{HubState}
 
 -- what Consume looks at
-abbrev pub intake_of : LaneEnd Numbered → JournalState → Intake
-intake_of lane journal = record { received = lane.items; entries = journal.entries }
+abbrev pub hub_intake : LaneEnd Numbered → JournalState → Intake
+hub_intake lane journal = record { received = lane.items; entries = journal.entries }
 
 -- the outcome of Consume that an answer is
 abbrev pub consume_done : Result (Option ℕ) JournalFault → Done
@@ -38,9 +38,9 @@ pub record ConsumesOne (may_send : ℕ → List Numbered → Type 0) (venue : �
   pub next : Option Numbered
   pub was_empty : answer ≡ Ok None → WasEmpty may_send lane
   pub after : Intake
-  pub comes : ComesTo
-      (consumed old.journal.journal venue next (intake_of lane old.journal))
-      (intake_of lane old.journal) (consume_done answer) after
+  pub comes : AppliesTo
+      (consume_next old.journal.journal venue next (hub_intake lane old.journal))
+      (hub_intake lane old.journal) (consume_done answer) after
   pub received : new.receivers ≡ slice_set old.receivers venue (with_items lane after.received)
   pub entries : new.journal.entries ≡ after.entries
 
@@ -70,7 +70,7 @@ offer_done (Err unsent.LaneFull) = done.LaneFull
 
 -- Offer: the next notice that the subscriber wants was sent to it, or was refused by a lane that was
 -- full at a moment of the call.
-pub record OffersOne (may_send : ℕ → List Notice → Type 0) (id : ℕ) (answer : Result ℕ Unsent)
+pub record HubOffersOne (may_send : ℕ → List Notice → Type 0) (id : ℕ) (answer : Result ℕ Unsent)
     (old new : HubState) : Type 0 where
   pub lane : LaneEnd Notice
   pub at : slice_get old.senders id ≡ Some lane
@@ -79,8 +79,8 @@ pub record OffersOne (may_send : ℕ → List Notice → Type 0) (id : ℕ) (ans
   pub full : Bool
   pub was_full : full ≡ true → WasFull may_send lane
   pub sent : List Notice
-  pub comes : ComesTo
-      (offered full
+  pub comes : AppliesTo
+      (offer_next full
       (slice_get (wanted_of old.journal.symbols terms old.journal.entries) (length lane.items))
       lane.items)
       lane.items (offer_done answer) sent
@@ -116,13 +116,13 @@ RefusesSubscriber s UnknownVenue = ⊥
 RefusesSubscriber s AlreadySo = ⊥
 
 -- the answer to `subscribe`, by cases: a refused call hands the terms back and changes nothing
-abbrev pub Subscribes : FeedLanes → Terms → Result (ℕ × LaneEnd Notice) (JournalFault × Terms)
+abbrev pub HubSubscribes : FeedLanes → Terms → Result (ℕ × LaneEnd Notice) (JournalFault × Terms)
     → HubState → HubState → Type 0
-Subscribes lanes terms (Ok (id, e)) old new = AddsSubscriber lanes terms id e old new
-Subscribes lanes terms (Err (TooManySubscribers, back)) old new =
+HubSubscribes lanes terms (Ok (id, e)) old new = AddsSubscriber lanes terms id e old new
+HubSubscribes lanes terms (Err (TooManySubscribers, back)) old new =
     (32 ≤ length old.journal.cursors) × (back ≡ terms) × (new ≡ old)
-Subscribes lanes terms (Err (NoMemory, back)) old new =
+HubSubscribes lanes terms (Err (NoMemory, back)) old new =
     (length old.journal.cursors < 32) × (back ≡ terms) × (new ≡ old)
-Subscribes lanes terms (Err (JournalFull, back)) old new = ⊥
-Subscribes lanes terms (Err (UnknownVenue, back)) old new = ⊥
-Subscribes lanes terms (Err (AlreadySo, back)) old new = ⊥
+HubSubscribes lanes terms (Err (JournalFull, back)) old new = ⊥
+HubSubscribes lanes terms (Err (UnknownVenue, back)) old new = ⊥
+HubSubscribes lanes terms (Err (AlreadySo, back)) old new = ⊥

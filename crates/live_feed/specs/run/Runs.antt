@@ -63,7 +63,7 @@ pub record HasTaken (sessions : SessionNames) (carries : Carries) (ends : Ends)
 -- A line that has ended: its seat took each datagram that its source brought, in order and once; the
 -- count of datagrams is how many these are, empty ones too, as a u64 shows it; and of the source's
 -- calls none failed but the last, where the line has a fault.
-pub record HasEnded {S : Type 0} (takes : SeatState → List (List ℕ) → SeatState → Type 0)
+pub record LineHasEnded {S : Type 0} (takes : SeatState → List (List ℕ) → SeatState → Type 0)
     (brings : S → List (List ℕ) → S → Type 0) (failures : S → ℕ)
     (seat : SeatState) (source : S) (last_seat : SeatState) (last_source : S) (datagrams : ℕ)
     (fault : Option SourceFault) : Type 0 where

@@ -91,14 +91,14 @@ pub record AgreesOn (seats : List SeatState) (c : CellState) (line : LineId) : T
   pub accepted : sums_on line c.accepted ≡ (tally_of c.arbiter.venue line seats).accepted
 
 -- it is the cell of the venue, and agrees with the seats
-pub record Agrees (seats : List SeatState) (venue : ℕ) (c : CellState) : Type 0 where
+pub record AgreesWithSeats (seats : List SeatState) (venue : ℕ) (c : CellState) : Type 0 where
   pub venue_is : c.arbiter.venue ≡ venue
   pub on : (line : LineId) → AgreesOn seats c line
 
 -- so do the cells of all venues, which are in order
 abbrev pub AllAgree : List SeatState → List CellState → Type 0
 AllAgree seats cells =
-    (venue : ℕ) (c : CellState) → slice_get cells venue ≡ Some c → Agrees seats venue c
+    (venue : ℕ) (c : CellState) → slice_get cells venue ≡ Some c → AgreesWithSeats seats venue c
 
 -- the cells are those of the venues, in order
 abbrev pub AreVenues : List CellState → Type 0

@@ -17,7 +17,7 @@ use Rattle.line_arbiter.specs.States.{KeepsItsPlace, KeepsItsSession, KeepsAllBu
 use Rattle.fifo_lane.specs.Lane.{WasFull, with_items}
 use Rattle.feed_core.specs.declared.event.Done.{Done}
 use Rattle.feed_core.specs.declared.event.Done.TheVariants as done
-use Rattle.feed_core.specs.Steps.{IsTaken, IsRenewed, pushed, ComesTo}
+use Rattle.feed_core.specs.Steps.{AddsArrival, AddsRenewal, push_next, AppliesTo}
 use Rattle.live_feed.specs.declared.unsent.Unsent.{Unsent}
 use Rattle.live_feed.specs.declared.unsent.Unsent.TheVariants as unsent
 use Rattle.live_feed.specs.Lanes.{FeedLanes}
@@ -27,7 +27,7 @@ use Rattle.live_feed.specs.venue.Cells.{CellState, FitsCell, VenueLockInvariant,
 pub record TakesPacket (line : LineId) (p : Content) (answer : Result Outcome LineFault)
     (h : History) (old new : CellState) : Type 0 where
   pub after : History
-  pub taken : IsTaken old.arbiter.window old.arbiter.sent line p h answer after
+  pub taken : AddsArrival old.arbiter.window old.arbiter.sent line p h answer after
   pub fits : FitsCell new after
 
 -- Where the lines bring exactly these sessions, a packet of one of them is accepted, or is of another
@@ -67,8 +67,8 @@ pub record PushesOne (may_send : ℕ → List Numbered → Type 0) (answer : Res
     (h : History) (old new : CellState) : Type 0 where
   pub full : Bool
   pub was_full : full ≡ true → WasFull may_send old.lane
-  pub comes : ComesTo
-      (pushed full (slice_get (streams_of h) (length old.lane.items)) old.lane.items)
+  pub comes : AppliesTo
+      (push_next full (slice_get (streams_of h) (length old.lane.items)) old.lane.items)
       old.lane.items (push_done answer) new.lane.items
   pub fits : FitsCell new h
 
@@ -83,8 +83,8 @@ pub record KeepsButSent (old new : CellState) : Type 0 where
 pub record TakesAndPushes (line : LineId) (p : Content) (outcome : Outcome) (h : History)
     (old new : CellState) : Type 0 where
   pub takes : TakesPacket line p (Ok outcome) h old new
-  pub comes : ComesTo
-      (pushed false (slice_get (streams_of takes.after) (length old.lane.items)) old.lane.items)
+  pub comes : AppliesTo
+      (push_next false (slice_get (streams_of takes.after) (length old.lane.items)) old.lane.items)
       old.lane.items (done.Pushed p.number) new.lane.items
 
 -- and nothing else has changed
@@ -110,7 +110,7 @@ IsLeft may_send p c =
 pub record RenewsSession (name : List ℕ) (answer : Result ℕ RenewFault) (h : History)
     (old new : CellState) : Type 0 where
   pub after : History
-  pub renewed : IsRenewed old.arbiter.sent name h answer after
+  pub renewed : AddsRenewal old.arbiter.sent name h answer after
   pub fits : FitsCell new after
 
 -- the next session of the cell's venue, with no request to be repeated

@@ -2,7 +2,7 @@
 
 ghost use Rattle.std.specs.Prelude.{◌≡◌, ◌<◌, length, IfOk, IfErr, OnErr};
 ghost use Rattle.journal_book.specs.Journals.{Declares};
-ghost use Rattle.live_feed.specs.hub.Sections.{Consumes, KeepsButIntake, OffersOne, KeepsButOffers, AddsSubscriber, RefusesSubscriber};
+ghost use Rattle.live_feed.specs.hub.Sections.{Consumes, KeepsButIntake, HubOffersOne, KeepsButOffers, AddsSubscriber, RefusesSubscriber};
 ghost use Rattle.filter_terms.specs.declared.terms.Terms.{Terms};
 ghost use Rattle.filter_terms.specs.Copies.{IsCopy};
 ghost use Rattle.filter_terms.specs.Filters.{terms_of};
@@ -102,7 +102,7 @@ impl<G: Genuine, N: FeedName> HubCell<G, N> {
     #[inline(always)]
     pub fn offer_one<W: Wait>(&mut self, rt: &W, id: SubscriberId) -> Result<u64, Unsent>
         requires { id < length self.old.core.journal.cursors }
-        ensures offer { OffersOne ⟦<RisingNotices as LaneRule<Notice>>⟧.may_send id result
+        ensures offer { HubOffersOne ⟦<RisingNotices as LaneRule<Notice>>⟧.may_send id result
             self.old.core self.new.core }
         ensures kept { KeepsButOffers self.old.core self.new.core }
         ensures count { length self.new.core.journal.cursors

@@ -4,7 +4,7 @@ ghost use Rattle.std.specs.Prelude.{◌≡◌, ◌<◌, ◌^◌, ◌↔◌, leng
 ghost use Rattle.journal_book.specs.Journals.{Declares};
 ghost use Rattle.journal_book.specs.Places.{IsNextOf};
 ghost use Rattle.live_feed.specs.hub.Hubs.{HubLockInvariant};
-ghost use Rattle.live_feed.specs.hub.Sections.{Consumes, KeepsButIntake, OffersOne, KeepsButOffers, Subscribes};
+ghost use Rattle.live_feed.specs.hub.Sections.{Consumes, KeepsButIntake, HubOffersOne, KeepsButOffers, HubSubscribes};
 
 use crate::feed_name::FeedName;
 use crate::hub::next_wanted::next_wanted;
@@ -199,7 +199,7 @@ impl<G: Genuine, N: FeedName> JournalAndLanes<G, N> {
         &mut self,
         terms: Terms,
     ) -> Result<(SubscriberId, Receiver<Notice, RisingNotices>), (JournalFault, Terms)>
-        ensures { Subscribes N.lanes terms result self.old self.new }
+        ensures { HubSubscribes N.lanes terms result self.old self.new }
     {
         if self.kept.subscriber_count() >= 32 {
             return Err((JournalFault::TooManySubscribers, terms));
@@ -239,7 +239,7 @@ impl<G: Genuine, N: FeedName> JournalAndLanes<G, N> {
         requires known { id < length self.old.journal.cursors }
         requires next { IsNextOf self.old.journal id place }
         requires small { place < 2 ^ 63 }
-        ensures offer { OffersOne ⟦<RisingNotices as LaneRule<Notice>>⟧.may_send id result
+        ensures offer { HubOffersOne ⟦<RisingNotices as LaneRule<Notice>>⟧.may_send id result
             self.old self.new }
         ensures kept { KeepsButOffers self.old self.new }
         ensures count { length self.new.journal.cursors ≡ length self.old.journal.cursors }

@@ -3,7 +3,7 @@
 ghost use Rattle.std.specs.Prelude.{◌≡◌, ◌↔◌, true, IsTrue, map};
 ghost use Rattle.std.specs.List.{list_any};
 ghost use Rattle.live_feed.specs.venue.Seats.{HasItsSeats, has_seat, is_seat_of};
-ghost use Rattle.live_feed.specs.settle.Settlements.{AgreesOn, Agrees, AllAgree, AreInOrder};
+ghost use Rattle.live_feed.specs.settle.Settlements.{AgreesOn, AgreesWithSeats, AllAgree, AreInOrder};
 
 use crate::feed::open_feed::Guarded;
 use crate::feed_name::FeedName;
@@ -70,7 +70,7 @@ fn agrees<G: Genuine, N: FeedName>(
     place: usize,
     seats: &[LineSeat<G, N>],
 ) -> bool
-    ensures { IsTrue result → Agrees seats.now place cell.now }
+    ensures { IsTrue result → AgreesWithSeats seats.now place cell.now }
 {
     cell.venue().index() == place
         && agrees_on(cell, seats, LineId::A)

@@ -1,8 +1,8 @@
 use Rattle.feed_text.proofs.OneText.{Single, one_told, one_text, one_lines, one_full, not_both}
 use Rattle.feed_text.proofs.laws.one_text.Goals as goal
 
-pub returns-clause-told : goal.returns-clause-told
-returns-clause-told c window gaps records old new last t u a b =
+pub returns-clause-emitted : goal.returns-clause-emitted
+returns-clause-emitted c window gaps records old new last t u a b =
     let one : Single = record {
       packet = c.one_reading.ensures.packet;
       no_fault = c.one_reading.ensures.no_fault;

@@ -2,7 +2,7 @@ use Rattle.std.proofs.Common.{◌≡◌, ◌+◌, ◌++◌, drop}
 use Rattle.std.specs.Prelude.{flat_map}
 use Rattle.journal_book.specs.Changes.{notices_from}
 use Rattle.feed_text.specs.Lines.{best_line}
-use Rattle.feed_text.specs.Tales.{Grows}
+use Rattle.feed_text.specs.ReplayStates.{Grows}
 use Rattle.feed_text.proofs.report.put_bests.Given as goal
 
 abbrev pub invariant-loop-change : goal.invariant-loop-change

@@ -1,5 +1,5 @@
 use Rattle.std.proofs.Common.{◌≡◌, subst}
-use Rattle.live_feed.specs.run.Runs.{HasTaken, HasEnded, HasPolled}
+use Rattle.live_feed.specs.run.Runs.{HasTaken, LineHasEnded, HasPolled}
 use Rattle.live_feed.proofs.RunMoves.{joined, ended_of}
 use Rattle.live_feed.proofs.run.run_in.Goals as goal
 
@@ -11,9 +11,9 @@ returns-clause-lines g c =
     joined
     (λ line handle. (handle.promise.seat.value ≡ line.seat)
     × (handle.promise.source.value ≡ line.source))
-    (λ line ended. HasEnded takes brings failures line.seat line.source ended.seat ended.source
+    (λ line ended. LineHasEnded takes brings failures line.seat line.source ended.seat ended.source
     ended.datagrams ended.fault)
-    (λ handle ended. HasEnded takes brings failures handle.promise.seat.value
+    (λ handle ended. LineHasEnded takes brings failures handle.promise.seat.value
     handle.promise.source.value ended.seat ended.source ended.datagrams ended.fault)
     (λ line handle ended made kept. ended_of takes brings failures handle.promise.seat.value line.seat
     handle.promise.source.value line.source ended.seat ended.source ended.datagrams ended.fault made.0 made.1

@@ -4,7 +4,7 @@ use Rattle.std.specs.Int.{w64, to_be_bytes}
 use Rattle.std.specs.Str.{bytes_eq}
 use Rattle.feed_types.specs.Symbols.{word_of}
 use Rattle.nbbo_book.specs.declared.row.Row.{Row}
-use Rattle.nbbo_book.specs.Tables.{HasWord, symbols_of}
+use Rattle.nbbo_book.specs.Tables.{HasWord, symbols_in_rows}
 use Rattle.nbbo_book.proofs.Words.{found_by_word, symbols_apart}
 use Rattle.nbbo_book.proofs.Stepping.{place_found}
 use Rattle.nbbo_book.proofs.table.find.Goals as goal
@@ -12,7 +12,7 @@ use Rattle.nbbo_book.proofs.table.find.Goals as goal
 pub returns-then-is_of : goal.returns-then-is_of
 returns-then-is_of c =
     let rows : List Row = c.args.rows.now in
-    let distinct = symbols_apart (symbols_of rows) c.args.table.now.words.keys c.requires in
+    let distinct = symbols_apart (symbols_in_rows rows) c.args.table.now.words.keys c.requires in
     sym (place_found rows c.args.symbol c.place_of-guess.result c.index-rows-guess.result distinct
     (omega (arith, c.if-guess-rows.true))
     (ap (λ (row : Row). bytes_eq c.args.symbol row.symbol) (sym c.index-rows-guess.is) ∙ sym c.is_of.ensures
@@ -20,7 +20,7 @@ returns-then-is_of c =
 
 pub returns : goal.returns
 returns c =
-    let symbols = symbols_of c.args.rows.now in
+    let symbols = symbols_in_rows c.args.rows.now in
     let has : HasWord c.args.symbol =
     record { told = ap (to_be_bytes w64) (sym c.word-2.ensures.value) ∙ c.word-2.ensures.field } in
     c.get_index_of.ensures.index

@@ -1,18 +1,18 @@
 use Rattle.std.proofs.lemmas.Result.{err_from_is_err_and}
-use Rattle.feed_text.specs.Tales.{tale_of}
+use Rattle.feed_text.specs.ReplayStates.{state_of_replay}
 use Rattle.feed_text.proofs.VenueSteps.{gap_added, gap_never}
 use Rattle.feed_text.proofs.venue.VenueReplay.take.Goals as goal
 
 pub returns : goal.returns
 returns c = λ width h f.
     rw c.if-not-gaps.false
-    (gap_added width c.args.venue h c.take_datagram-told.new.self c.args.line c.args.bytes.now
-    (tale_of c.args.report.now) (tale_of c.take_datagram-told.new.report) (tale_of c.tell_gap.new.report) c.tell_gap.result
-    (c.in_ok-told.ensures width h f) c.tell_gap.ensures)
+    (gap_added width c.args.venue h c.take_datagram-emitted.new.self c.args.line c.args.bytes.now
+    (state_of_replay c.args.report.now) (state_of_replay c.take_datagram-emitted.new.report) (state_of_replay c.publish_gap.new.report) c.publish_gap.result
+    (c.in_ok-emitted.ensures width h f) c.publish_gap.ensures)
 
-pub returns-in_err-told : goal.returns-in_err-told
-returns-in_err-told c = λ width h f.
+pub returns-in_err-emitted : goal.returns-in_err-emitted
+returns-in_err-emitted c = λ width h f.
     let p = err_from_is_err_and c.from_residual.result c.from_residual.ensures.1 in
     rw (p.1, p.2)
-    (gap_never width c.args.venue c.args.gaps h c.take_datagram-told.new.self c.args.line c.args.bytes.now (tale_of c.args.report.now) (tale_of c.take_datagram-told.new.report) c.in_err-told.field-0.0
-    (c.in_err-told.ensures width h f))
+    (gap_never width c.args.venue c.args.gaps h c.take_datagram-emitted.new.self c.args.line c.args.bytes.now (state_of_replay c.args.report.now) (state_of_replay c.take_datagram-emitted.new.report) c.in_err-emitted.field-0.0
+    (c.in_err-emitted.ensures width h f))

@@ -1,38 +1,38 @@
 use Rattle.std.proofs.Common.{rules, ◌<◌, ℕ, List, length, refl, ap, subst}
 use Rattle.std.specs.Prelude.{slice_set}
 use Rattle.std.proofs.lemmas.Option.{slice_get_read}
-use Rattle.feed_text.specs.Capture.{CaptureRecord, venue_of, datagram_record, renewal_record}
-use Rattle.feed_text.specs.Tales.{tale_of}
-use Rattle.feed_text.specs.Following.{Venue, VenueList, TakesRecord}
+use Rattle.feed_text.specs.Capture.{CaptureRecord, record_venue, datagram_record, renewal_record}
+use Rattle.feed_text.specs.ReplayStates.{state_of_replay}
+use Rattle.feed_text.specs.Following.{ReplayVenue, VenueList, TakesRecord}
 use Rattle.feed_text.proofs.Telling.{takes_one, takes_self_help}
 use Rattle.feed_text.proofs.venues.Venues.take.Goals as goal
 
 pub returns-in-Datagram : goal.returns-in-Datagram
 returns-in-Datagram c =
-    let items : List Venue = c.self.inside.venues.items in
+    let items : List ReplayVenue = c.self.inside.venues.items in
     let from : VenueList = record { items = items; gaps = c.self.inside.gaps } in
     let to : VenueList = record { items = slice_set items c.index.result c.take.new.self; gaps = c.self.inside.gaps } in
     let r : CaptureRecord = datagram_record c.in-Datagram.venue c.in-Datagram.line c.in-Datagram.bytes.now in
-    let there : venue_of r < length items = rw (← c.index.ensures.value) (search rules) in
+    let there : record_venue r < length items = rw (← c.index.ensures.value) (search rules) in
     rw c.in-Datagram.is
-    (subst (λ (s : VenueList). TakesRecord s r (tale_of c.args.report.now) (tale_of c.take.new.report) to c.take.result) c.self.view_is
-    (takes_one from to r (tale_of c.args.report.now) (tale_of c.take.new.report) c.take.result c.index_mut-replay.result.now c.take.new.self
-    (slice_get_read items (length items) (venue_of r) _ refl there (rw (← c.index.ensures.value) c.index_mut-replay.ensures.value))
+    (subst (λ (s : VenueList). TakesRecord s r (state_of_replay c.args.report.now) (state_of_replay c.take.new.report) to c.take.result) c.self.view_is
+    (takes_one from to r (state_of_replay c.args.report.now) (state_of_replay c.take.new.report) c.take.result c.index_mut-replay.result.now c.take.new.self
+    (slice_get_read items (length items) (record_venue r) _ refl there (rw (← c.index.ensures.value) c.index_mut-replay.ensures.value))
     (ap (λ (i : ℕ). slice_set items i c.take.new.self) c.index.ensures.value)
     refl
     c.take.ensures))
 
 pub returns-in-Renewal : goal.returns-in-Renewal
 returns-in-Renewal c =
-    let items : List Venue = c.self.inside.venues.items in
+    let items : List ReplayVenue = c.self.inside.venues.items in
     let from : VenueList = record { items = items; gaps = c.self.inside.gaps } in
     let to : VenueList = record { items = slice_set items c.index-in-Renewal.result c.renew.new.self; gaps = c.self.inside.gaps } in
     let r : CaptureRecord = renewal_record c.in-Renewal.venue c.in-Renewal.session in
-    let there : venue_of r < length items = rw (← c.index-in-Renewal.ensures.value) (search rules) in
+    let there : record_venue r < length items = rw (← c.index-in-Renewal.ensures.value) (search rules) in
     rw c.in-Renewal.is
-    (subst (λ (s : VenueList). TakesRecord s r (tale_of c.args.report.now) (tale_of c.renew.new.report) to c.renew.result) c.self.view_is
-    (takes_one from to r (tale_of c.args.report.now) (tale_of c.renew.new.report) c.renew.result c.index_mut-replay-in-Renewal.result.now c.renew.new.self
-    (slice_get_read items (length items) (venue_of r) _ refl there (rw (← c.index-in-Renewal.ensures.value) c.index_mut-replay-in-Renewal.ensures.value))
+    (subst (λ (s : VenueList). TakesRecord s r (state_of_replay c.args.report.now) (state_of_replay c.renew.new.report) to c.renew.result) c.self.view_is
+    (takes_one from to r (state_of_replay c.args.report.now) (state_of_replay c.renew.new.report) c.renew.result c.index_mut-replay-in-Renewal.result.now c.renew.new.self
+    (slice_get_read items (length items) (record_venue r) _ refl there (rw (← c.index-in-Renewal.ensures.value) c.index_mut-replay-in-Renewal.ensures.value))
     (ap (λ (i : ℕ). slice_set items i c.renew.new.self) c.index-in-Renewal.ensures.value)
     refl
     (λ width h f. c.renew.ensures width c.self.inside.gaps h f)))
@@ -40,5 +40,5 @@ returns-in-Renewal c =
 pub returns-in-SelfHelp : goal.returns-in-SelfHelp
 returns-in-SelfHelp c =
     rw c.in-SelfHelp.is
-    (takes_self_help c.args.self.now c.in-SelfHelp.venue c.in-SelfHelp.on (tale_of c.args.report.now) (tale_of c.declare.new.self) c.declare.result
+    (takes_self_help c.args.self.now c.in-SelfHelp.venue c.in-SelfHelp.on (state_of_replay c.args.report.now) (state_of_replay c.declare.new.self) c.declare.result
     (search rules) c.declare.ensures)

@@ -1,5 +1,5 @@
 use Rattle.std.proofs.Common.{◌≡◌, MatchResult, length, vec_len, vec_capacity}
-use Rattle.live_feed.specs.run.Runs.{Pairwise, HasTaken, HasEnded}
+use Rattle.live_feed.specs.run.Runs.{Pairwise, HasTaken, LineHasEnded}
 use Rattle.live_feed.proofs.run.line_threads.start_lines.Given as goal
 
 abbrev pub invariant-loop-line : goal.invariant-loop-line
@@ -9,7 +9,7 @@ invariant-loop-line g l =
     × Pairwise (λ line thread. MatchResult thread
     (λ handle. (handle.promise.seat.value ≡ line.seat)
     × (handle.promise.source.value ≡ line.source))
-    (λ ended. HasEnded (HasTaken g.G.Genuine.sessions g.G.Genuine.carries g.G.Genuine.ends
+    (λ ended. LineHasEnded (HasTaken g.G.Genuine.sessions g.G.Genuine.carries g.G.Genuine.ends
     g.N.FeedName.lanes) g.S.LineSource.brings g.S.LineSource.failures line.seat line.source
     ended.seat ended.source ended.datagrams ended.fault))
     l.yielded l.threads.items

@@ -1,7 +1,7 @@
 use Rattle.std.proofs.Common.{map, refl, sym, subst, arith}
 use Rattle.std.proofs.lemmas.List.{length-map}
 use Rattle.journal_book.proofs.Offering.{at_index}
-use Rattle.live_feed.specs.settle.Settlements.{Agrees}
+use Rattle.live_feed.specs.settle.Settlements.{AgreesWithSeats}
 use Rattle.live_feed.proofs.Sides.{at_map, one_more, all_places}
 use Rattle.live_feed.proofs.settle.agreeing.all_agree.Goals as goal
 
@@ -11,8 +11,8 @@ loop-place-preserved g c =
     let place = c.loop-place.place in
     let x = c.index-venues-place.result in
     let at = at_index all place place x refl c.loop-place-test.true c.index-venues-place.is in
-    let here = subst (λ v. Agrees c.args.seats.now place v.cell) (sym c.index-venues-place.is) (c.if-not-agrees.ensures refl) in
-    one_more (Agrees c.args.seats.now) place (map (λ v. v.cell) all) x.cell (at_map (λ v. v.cell) all place x at) here c.loop-place.invariant
+    let here = subst (λ v. AgreesWithSeats c.args.seats.now place v.cell) (sym c.index-venues-place.is) (c.if-not-agrees.ensures refl) in
+    one_more (AgreesWithSeats c.args.seats.now) place (map (λ v. v.cell) all) x.cell (at_map (λ v. v.cell) all place x at) here c.loop-place.invariant
 
 pub returns : goal.returns
 returns g c = λ yes.
@@ -20,4 +20,4 @@ returns g c = λ yes.
     let place = c.loop-place.place in
     let past = c.loop-place-test.false in
     let long = length-map all (λ v. v.cell) in
-    all_places (Agrees c.args.seats.now) place (map (λ v. v.cell) all) (omega arith) c.loop-place.invariant)
+    all_places (AgreesWithSeats c.args.seats.now) place (map (λ v. v.cell) all) (omega arith) c.loop-place.invariant)

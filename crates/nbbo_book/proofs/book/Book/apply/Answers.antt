@@ -4,10 +4,10 @@ use Rattle.std.specs.Vec.{with_items}
 use Rattle.std.specs.List.{AllByRecursion, filter_map}
 use Rattle.nbbo_book.specs.declared.row.Row.{Row}
 use Rattle.nbbo_book.specs.declared.change.Change.{Change}
-use Rattle.nbbo_book.specs.Books.{BookState, Fits, venue_of}
+use Rattle.nbbo_book.specs.Books.{BookState, FitsBook, venue_of}
 use Rattle.nbbo_book.specs.Changes.{changes_by}
 use Rattle.nbbo_book.specs.Rows.{row_after, row_change, helped_after, IsRowRanked}
-use Rattle.nbbo_book.specs.Tables.{IsBook, symbols_of}
+use Rattle.nbbo_book.specs.Tables.{IsBook, symbols_in_rows}
 use Rattle.nbbo_book.proofs.Stepping.{rows_are_ranked, rows_keep_symbols}
 use Rattle.nbbo_book.proofs.BookFits.{after_is, after_fits, after_changes}
 use Rattle.nbbo_book.proofs.book.Book.apply.Goals as goal
@@ -22,7 +22,7 @@ apply_step-requires-clause-ranked c =
 pub invariant_of-self : goal.invariant_of-self
 invariant_of-self c =
     let b : BookState = record {
-      symbols = symbols_of c.self.inside.rows.items;
+      symbols = symbols_in_rows c.self.inside.rows.items;
       venues =
           c.self.inside.venues.count;
       last = c.self.inside.last;
@@ -46,7 +46,7 @@ invariant_of-self c =
     let items : List Row = (with_items c.self.inside.rows c.apply_step.new.rows).items in
     subst (λ (n : ℕ). IsBook c.self.inside.table.words.keys
     (record {
-      symbols = symbols_of items;
+      symbols = symbols_in_rows items;
       venues = n;
       last = c.args.position;
       applied =
@@ -57,7 +57,7 @@ invariant_of-self c =
     (sym c.take_self_help.ensures.count)
     (subst (λ (t : List Row). IsBook c.self.inside.table.words.keys
     (record {
-      symbols = symbols_of t;
+      symbols = symbols_in_rows t;
       venues = c.self.inside.venues.count;
       last = c.args.position;
       applied =
@@ -67,7 +67,7 @@ invariant_of-self c =
     })) (sym rows)
     (subst (λ (t : List Bool). IsBook c.self.inside.table.words.keys
     (record {
-      symbols = symbols_of
+      symbols = symbols_in_rows
           (map (row_after (helped_after c.args.entry.now c.self.inside.venues.helped) (c.self.inside.applied + 1)
           c.args.entry.now) c.self.inside.rows.items);
       venues = c.self.inside.venues.count;
@@ -84,7 +84,7 @@ invariant_of-self c =
 pub returns-clause-fits : goal.returns-clause-fits
 returns-clause-fits c = λ entries fits.
     let b : BookState = record {
-      symbols = symbols_of c.self.inside.rows.items;
+      symbols = symbols_in_rows c.self.inside.rows.items;
       venues =
           c.self.inside.venues.count;
       last = c.self.inside.last;
@@ -93,7 +93,7 @@ returns-clause-fits c = λ entries fits.
           c.self.inside.venues.helped;
       rows = c.self.inside.rows.items;
     } in
-    let here : Fits b entries = subst (λ (t : BookState). Fits t entries) (sym c.self.view_is) fits in
+    let here : FitsBook b entries = subst (λ (t : BookState). FitsBook t entries) (sym c.self.view_is) fits in
     let below : venue_of c.args.entry.now < b.venues =
     subst (λ (t : BookState). venue_of c.args.entry.now < t.venues) (sym c.self.view_is) c.requires.venue in
     let helped = c.take_self_help.ensures.helped in
@@ -105,8 +105,8 @@ returns-clause-fits c = λ entries fits.
     ∙ ap (λ (t : List Bool). map (row_after t (c.self.inside.applied + 1) c.args.entry.now) c.self.inside.rows.items)
     helped in
     let items : List Row = (with_items c.self.inside.rows c.apply_step.new.rows).items in
-    subst (λ (n : ℕ). Fits (record {
-      symbols = symbols_of items;
+    subst (λ (n : ℕ). FitsBook (record {
+      symbols = symbols_in_rows items;
       venues = n;
       last = c.args.position;
       applied =
@@ -115,9 +115,9 @@ returns-clause-fits c = λ entries fits.
       rows = items;
     })
     (entries ++ c.args.entry.now ∷ [])) (sym c.take_self_help.ensures.count)
-    (subst (λ (t : List Row). Fits
+    (subst (λ (t : List Row). FitsBook
     (record {
-      symbols = symbols_of t;
+      symbols = symbols_in_rows t;
       venues = c.self.inside.venues.count;
       last = c.args.position;
       applied =
@@ -126,9 +126,9 @@ returns-clause-fits c = λ entries fits.
       rows = t;
     })
     (entries ++ c.args.entry.now ∷ [])) (sym rows)
-    (subst (λ (t : List Bool). Fits
+    (subst (λ (t : List Bool). FitsBook
     (record {
-      symbols = symbols_of
+      symbols = symbols_in_rows
           (map (row_after (helped_after c.args.entry.now c.self.inside.venues.helped) (c.self.inside.applied + 1)
           c.args.entry.now) c.self.inside.rows.items);
       venues = c.self.inside.venues.count;
@@ -145,7 +145,7 @@ returns-clause-fits c = λ entries fits.
 pub returns-clause-changes : goal.returns-clause-changes
 returns-clause-changes c = λ entries fits.
     let b : BookState = record {
-      symbols = symbols_of c.self.inside.rows.items;
+      symbols = symbols_in_rows c.self.inside.rows.items;
       venues =
           c.self.inside.venues.count;
       last = c.self.inside.last;
@@ -154,7 +154,7 @@ returns-clause-changes c = λ entries fits.
           c.self.inside.venues.helped;
       rows = c.self.inside.rows.items;
     } in
-    let here : Fits b entries = subst (λ (t : BookState). Fits t entries) (sym c.self.view_is) fits in
+    let here : FitsBook b entries = subst (λ (t : BookState). FitsBook t entries) (sym c.self.view_is) fits in
     let below : venue_of c.args.entry.now < b.venues =
     subst (λ (t : BookState). venue_of c.args.entry.now < t.venues) (sym c.self.view_is) c.requires.venue in
     c.apply_step.ensures.applies.items
@@ -170,7 +170,7 @@ returns-clause-changes c = λ entries fits.
 
 pub returns-clause-symbols : goal.returns-clause-symbols
 returns-clause-symbols c =
-    ap symbols_of
+    ap symbols_in_rows
     (with_items_is c.self.inside.rows c.apply_step.new.rows (c.apply_step.auto.rows ∙ c.as_mut_slice.ensures.len)
     ∙ c.apply_step.ensures.applies.rows
     ∙ ap (λ (t : List Row). map (row_after c.take_self_help.new.self.helped (c.self.inside.applied + 1)

@@ -2,9 +2,9 @@ use Rattle.std.proofs.Common.{position, List, ◌≡◌, ◌∙◌, ap, sym, sub
 use Rattle.std.specs.Prelude.{is_some}
 use Rattle.std.specs.Str.{bytes_eq}
 use Rattle.nbbo_book.specs.declared.row.Row.{Row}
-use Rattle.nbbo_book.specs.Books.{BookState, Fits, is_configured}
+use Rattle.nbbo_book.specs.Books.{BookState, FitsBook, is_configured}
 use Rattle.nbbo_book.specs.Rows.{national_at}
-use Rattle.nbbo_book.specs.Tables.{symbols_of}
+use Rattle.nbbo_book.specs.Tables.{symbols_in_rows}
 use Rattle.nbbo_book.proofs.Words.{found_configured, missed_configured}
 use Rattle.nbbo_book.proofs.BookFits.{national_found}
 use Rattle.nbbo_book.proofs.book.Book.national.Goals as goal
@@ -14,8 +14,8 @@ returns-in_err-place-clause-configured c =
     let was : c.find.result ≡ None = c.in_err-place.was in
     let missed : is_configured c.args.self.now.symbols c.args.symbol.now ≡ false =
     sym (ap (λ (b : BookState). is_configured b.symbols c.args.symbol.now) c.self.view_is)
-    ∙ missed_configured c.args.symbol.now (symbols_of c.self.inside.rows.items)
-    (sym (c.find.ensures ∙ ap (λ (t : List Row). position (bytes_eq c.args.symbol.now) (symbols_of t))
+    ∙ missed_configured c.args.symbol.now (symbols_in_rows c.self.inside.rows.items)
+    (sym (c.find.ensures ∙ ap (λ (t : List Row). position (bytes_eq c.args.symbol.now) (symbols_in_rows t))
     c.as_slice.ensures.value) ∙ was) in (
       (λ h. (let no : false ≡ true = sym (ap is_some c.from_residual.ensures) ∙ h in cc)),
       (λ h. (let no : true ≡ false = sym h ∙ missed in cc)),
@@ -26,8 +26,8 @@ returns-clause-configured c =
     let was : c.find.result ≡ Some c.in_ok-place.place = c.in_ok-place.was in
     let found : is_configured c.args.self.now.symbols c.args.symbol.now ≡ true =
     sym (ap (λ (b : BookState). is_configured b.symbols c.args.symbol.now) c.self.view_is)
-    ∙ found_configured c.args.symbol.now (symbols_of c.self.inside.rows.items) c.in_ok-place.place
-    (sym (c.find.ensures ∙ ap (λ (t : List Row). position (bytes_eq c.args.symbol.now) (symbols_of t))
+    ∙ found_configured c.args.symbol.now (symbols_in_rows c.self.inside.rows.items) c.in_ok-place.place
+    (sym (c.find.ensures ∙ ap (λ (t : List Row). position (bytes_eq c.args.symbol.now) (symbols_in_rows t))
     c.as_slice.ensures.value) ∙ was) in
     ((λ h. found), (λ h. refl))
 
@@ -35,7 +35,7 @@ pub returns-clause-value : goal.returns-clause-value
 returns-clause-value c = λ entries fits.
     let was : c.find.result ≡ Some c.in_ok-place.place = c.in_ok-place.was in
     let b : BookState = record {
-      symbols = symbols_of c.self.inside.rows.items;
+      symbols = symbols_in_rows c.self.inside.rows.items;
       venues =
           c.self.inside.venues.count;
       last = c.self.inside.last;
@@ -44,9 +44,9 @@ returns-clause-value c = λ entries fits.
           c.self.inside.venues.helped;
       rows = c.self.inside.rows.items;
     } in
-    let here : Fits b entries = subst (λ (t : BookState). Fits t entries) (sym c.self.view_is) fits in
+    let here : FitsBook b entries = subst (λ (t : BookState). FitsBook t entries) (sym c.self.view_is) fits in
     c.national.ensures ∙ ap national_at c.index.ensures
     ∙ national_found c.self.inside.table.words.keys b entries c.args.symbol.now c.in_ok-place.place
     c.index.result.now c.self.invariant here
-    (sym (c.find.ensures ∙ ap (λ (t : List Row). position (bytes_eq c.args.symbol.now) (symbols_of t))
+    (sym (c.find.ensures ∙ ap (λ (t : List Row). position (bytes_eq c.args.symbol.now) (symbols_in_rows t))
     c.as_slice.ensures.value) ∙ was)

@@ -1,5 +1,5 @@
 use Rattle.std.proofs.Common.{◌≤◌, ◌∙◌, ap, arith}
-use Rattle.nbbo_book.specs.Tables.{symbols_of}
+use Rattle.nbbo_book.specs.Tables.{symbols_in_rows}
 use Rattle.nbbo_book.proofs.BookFits.{empty_is, empty_fits, empty_symbols}
 use Rattle.nbbo_book.proofs.book.Book.new.Goals as goal
 
@@ -13,4 +13,4 @@ pub returns-clause-fits : goal.returns-clause-fits
 returns-clause-fits c = empty_fits c.args.symbols.now c.args.venue_count c.in-Ok.rows.items c.in-Ok.ensures
 
 pub returns-clause-symbols : goal.returns-clause-symbols
-returns-clause-symbols c = ap symbols_of c.in-Ok.ensures ∙ empty_symbols c.args.symbols.now
+returns-clause-symbols c = ap symbols_in_rows c.in-Ok.ensures ∙ empty_symbols c.args.symbols.now

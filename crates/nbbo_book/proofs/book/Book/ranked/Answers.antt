@@ -1,10 +1,10 @@
 use Rattle.std.proofs.Common.{List, ◌≡◌, ◌∙◌, ap, sym, subst, refl, true, false, Some, None}
 use Rattle.std.specs.Prelude.{position, is_some}
 use Rattle.std.specs.Str.{bytes_eq}
-use Rattle.nbbo_book.specs.Books.{BookState, Fits, is_configured}
+use Rattle.nbbo_book.specs.Books.{BookState, FitsBook, is_configured}
 use Rattle.feed_types.specs.declared.national.Best.{Best}
 use Rattle.nbbo_book.specs.Nationals.{IsRanking}
-use Rattle.nbbo_book.specs.Tables.{symbols_of}
+use Rattle.nbbo_book.specs.Tables.{symbols_in_rows}
 use Rattle.nbbo_book.specs.declared.row.Row.{Row}
 use Rattle.nbbo_book.specs.Rows.{side_at}
 use Rattle.nbbo_book.proofs.Words.{found_configured, missed_configured}
@@ -16,8 +16,8 @@ returns-in_err-place-clause-configured c =
     let was : c.find.result ≡ None = c.in_err-place.was in
     let missed : is_configured c.args.self.now.symbols c.args.symbol.now ≡ false =
     sym (ap (λ (b : BookState). is_configured b.symbols c.args.symbol.now) c.self.view_is)
-    ∙ missed_configured c.args.symbol.now (symbols_of c.self.inside.rows.items)
-    (sym (c.find.ensures ∙ ap (λ (t : List Row). position (bytes_eq c.args.symbol.now) (symbols_of t))
+    ∙ missed_configured c.args.symbol.now (symbols_in_rows c.self.inside.rows.items)
+    (sym (c.find.ensures ∙ ap (λ (t : List Row). position (bytes_eq c.args.symbol.now) (symbols_in_rows t))
     c.as_slice.ensures.value) ∙ was) in (
       (λ h. (let no : false ≡ true = sym (ap is_some c.from_residual.ensures) ∙ h in cc)),
       (λ h. (let no : true ≡ false = sym h ∙ missed in cc)),
@@ -28,8 +28,8 @@ returns-clause-configured c =
     let was : c.find.result ≡ Some c.in_ok-place.place = c.in_ok-place.was in
     let found : is_configured c.args.self.now.symbols c.args.symbol.now ≡ true =
     sym (ap (λ (b : BookState). is_configured b.symbols c.args.symbol.now) c.self.view_is)
-    ∙ found_configured c.args.symbol.now (symbols_of c.self.inside.rows.items) c.in_ok-place.place
-    (sym (c.find.ensures ∙ ap (λ (t : List Row). position (bytes_eq c.args.symbol.now) (symbols_of t))
+    ∙ found_configured c.args.symbol.now (symbols_in_rows c.self.inside.rows.items) c.in_ok-place.place
+    (sym (c.find.ensures ∙ ap (λ (t : List Row). position (bytes_eq c.args.symbol.now) (symbols_in_rows t))
     c.as_slice.ensures.value) ∙ was) in
     ((λ h. found), (λ h. refl))
 
@@ -37,7 +37,7 @@ pub returns-clause-ranking : goal.returns-clause-ranking
 returns-clause-ranking c = λ entries fits.
     let was : c.find.result ≡ Some c.in_ok-place.place = c.in_ok-place.was in
     let b : BookState = record {
-      symbols = symbols_of c.self.inside.rows.items;
+      symbols = symbols_in_rows c.self.inside.rows.items;
       venues =
           c.self.inside.venues.count;
       last = c.self.inside.last;
@@ -46,9 +46,9 @@ returns-clause-ranking c = λ entries fits.
           c.self.inside.venues.helped;
       rows = c.self.inside.rows.items;
     } in
-    let here : Fits b entries = subst (λ (t : BookState). Fits t entries) (sym c.self.view_is) fits in
-    let at : position (bytes_eq c.args.symbol.now) (symbols_of c.self.inside.rows.items) ≡ Some c.in_ok-place.place =
-    sym (c.find.ensures ∙ ap (λ (t : List Row). position (bytes_eq c.args.symbol.now) (symbols_of t))
+    let here : FitsBook b entries = subst (λ (t : BookState). FitsBook t entries) (sym c.self.view_is) fits in
+    let at : position (bytes_eq c.args.symbol.now) (symbols_in_rows c.self.inside.rows.items) ≡ Some c.in_ok-place.place =
+    sym (c.find.ensures ∙ ap (λ (t : List Row). position (bytes_eq c.args.symbol.now) (symbols_in_rows t))
     c.as_slice.ensures.value) ∙ was in
     subst (λ (t : List Best). IsRanking entries c.args.symbol.now c.args.side t)
     (sym (c.ranks.ensures ∙ ap (λ (t : Row). (side_at c.args.side t).ranks) c.index.ensures))

@@ -2,7 +2,7 @@ use Rattle.std.proofs.Common.{ℕ, List, ◌≡◌, ◌<◌, ◌∙◌, ap, sym,
 use Rattle.std.specs.List.{remove}
 use Rattle.feed_types.specs.declared.national.Best.{Best}
 use Rattle.nbbo_book.specs.Changes.{is_same_best}
-use Rattle.nbbo_book.specs.Ranks.{HasNone, front_of, without}
+use Rattle.nbbo_book.specs.Ranks.{HasNone, best_of_ranks, without}
 use Rattle.nbbo_book.proofs.Fronts.{taken_moves}
 use Rattle.nbbo_book.proofs.ranks.Ranks.take_out.Goals as goal
 
@@ -20,5 +20,5 @@ returns-in-Some-clause-moved c =
     subst (λ (t : List Best). without v t ≡ remove t at) seen c.in-Some.ensures.there in
     let none : HasNone v (remove xs at) = subst (λ (t : List Best). HasNone v t) there c.requires in
     taken_moves xs v at d found own none
-    ∙ ap (λ (t : List Best). not (is_same_best (front_of xs) (front_of t)))
+    ∙ ap (λ (t : List Best). not (is_same_best (best_of_ranks xs) (best_of_ranks t)))
     (sym c.remove_at.ensures)

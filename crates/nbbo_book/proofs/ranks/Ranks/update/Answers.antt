@@ -4,7 +4,7 @@ use Rattle.feed_types.specs.declared.national.Best.{Best}
 use Rattle.nbbo_book.specs.declared.ranks.Cause.{Cause}
 use Rattle.nbbo_book.specs.declared.ranks.Order.{Order}
 use Rattle.nbbo_book.specs.Changes.{is_same_best}
-use Rattle.nbbo_book.specs.Ranks.{AreNoted, HasNone, IsCause, IsIn, IsNewest, IsPlace, ages_in, front_of, placed, with_rank, without}
+use Rattle.nbbo_book.specs.Ranks.{AreNoted, HasNone, IsCause, IsIn, IsNewest, IsPlace, ages_in, best_of_ranks, placed, with_rank, without}
 use Rattle.nbbo_book.proofs.Fronts.{moved_moves}
 use Rattle.nbbo_book.proofs.Moving.{in_at, walked_here, ranked_stays, refill_whole}
 use Rattle.nbbo_book.proofs.Places.{noted_in_place}
@@ -63,7 +63,7 @@ returns-in-Quoted-clause-moved c =
     let new : IsIn xs x → ⊥ = (subst (λ (u : Cause). IsCause u order.side ages x xs) c.in-Quoted.is
     (c.requires.caused x c.in-Some.is)).1 in
     moved_moves xs x from to found place.within its none new
-    ∙ ap (λ (t : List Best). not (is_same_best (front_of xs) (front_of t)))
+    ∙ ap (λ (t : List Best). not (is_same_best (best_of_ranks xs) (best_of_ranks t)))
     (sym (refill_whole c.self.inside.best_first.items c.settle-to.new.ranks
     (c.settle-to.auto.ranks ∙ ap length c.as_mut_slice-ranks.ensures.value)
     ∙ c.settle-to.ensures.ranks ∙ ap (λ (t : List Best). insert (remove t from) to x) lent))

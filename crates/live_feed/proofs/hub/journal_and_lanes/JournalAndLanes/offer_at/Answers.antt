@@ -6,7 +6,7 @@ use Rattle.journal_book.specs.Places.{IsNextOf}
 use Rattle.journal_book.proofs.Offering.{at_index}
 use Rattle.feed_core.proofs.Lists.{get_within}
 use Rattle.live_feed.specs.hub.Hubs.{HubState}
-use Rattle.live_feed.specs.hub.Sections.{OffersOne}
+use Rattle.live_feed.specs.hub.Sections.{HubOffersOne}
 use Rattle.live_feed.specs.declared.unsent.Unsent.TheVariants as unsent
 use Rattle.live_feed.proofs.HubMoves.{below_of, looked, found_at, looks_only, looks_kept, offers_kept, offer_may, offer_nothing, offer_full, offer_one}
 use Rattle.live_feed.proofs.hub.journal_and_lanes.JournalAndLanes.offer_at.Goals as goal
@@ -31,7 +31,7 @@ returns-in_default-clause-offer g c =
     let count = c.self.invariant.subscribers in
     let there = get_within c.self.inside.to_subscribers.items c.args.id (omega arith) in
     let none = sym c.in_default.is ∙ c.notice_at.ensures ∙ ap (λ (xs : List Notice). slice_get xs c.args.place) c.changes.ensures in
-    subst (λ (x : HubState). OffersOne RisingNotices c.args.id (Err unsent.Nothing) x (record { journal = c.look_to.new.self; receivers = c.self.inside.from_venues.items; senders = c.self.inside.to_subscribers.items; spare = c.self.inside.spare_lanes.items })) c.self.view_is
+    subst (λ (x : HubState). HubOffersOne RisingNotices c.args.id (Err unsent.Nothing) x (record { journal = c.look_to.new.self; receivers = c.self.inside.from_venues.items; senders = c.self.inside.to_subscribers.items; spare = c.self.inside.spare_lanes.items })) c.self.view_is
     (offer_nothing g.G.Genuine.carries g.G.Genuine.ends g.N.FeedName.lanes _ c.args.id c.args.place c.self.invariant there.0 there.1 cursor.0 cursor.1 found RisingNotices c.look_to.new.self none)
 
 pub push-requires : goal.push-requires
@@ -82,7 +82,7 @@ returns-in-Ok-clause-offer g c =
     let index = c.index.ensures.value in
     let from = at_index c.self.inside.to_subscribers.items c.index.result c.args.id c.index_mut-sender.result.now index (omega arith) c.index_mut-sender.ensures.value in
     let here = c.in-Some.ensures ∙ ap (λ (xs : List Notice). slice_get xs c.args.place) c.changes.ensures in
-    subst (λ (x : HubState × ℕ). OffersOne RisingNotices c.args.id (Ok c.in-Some.notice.number) x.0 (record { journal = c.look_to-in-Ok.new.self; receivers = c.self.inside.from_venues.items; senders = slice_set c.self.inside.to_subscribers.items x.1 c.push.new.self; spare = c.self.inside.spare_lanes.items }))
+    subst (λ (x : HubState × ℕ). HubOffersOne RisingNotices c.args.id (Ok c.in-Some.notice.number) x.0 (record { journal = c.look_to-in-Ok.new.self; receivers = c.self.inside.from_venues.items; senders = slice_set c.self.inside.to_subscribers.items x.1 c.push.new.self; spare = c.self.inside.spare_lanes.items }))
     (λ i. (c.self.view_is i, sym index i))
     (offer_one g.G.Genuine.carries g.G.Genuine.ends g.N.FeedName.lanes _ c.args.id c.args.place c.self.invariant c.index_mut-sender.result.now from cursor.0 cursor.1 found RisingNotices c.look_to-in-Ok.new.self c.in-Some.notice c.push.new.self c.in-Some.notice.number here refl c.in-Ok.ensures)
 
@@ -95,6 +95,6 @@ returns-in-Err-clause-offer g c =
     let index = c.index.ensures.value in
     let from = at_index c.self.inside.to_subscribers.items c.index.result c.args.id c.index_mut-sender.result.now index (omega arith) c.index_mut-sender.ensures.value in
     let here = c.in-Some.ensures ∙ ap (λ (xs : List Notice). slice_get xs c.args.place) c.changes.ensures in
-    subst (λ (x : HubState × ℕ). OffersOne RisingNotices c.args.id (Err unsent.LaneFull) x.0 (record { journal = c.look_to-in-Err.new.self; receivers = c.self.inside.from_venues.items; senders = slice_set c.self.inside.to_subscribers.items x.1 c.push.new.self; spare = c.self.inside.spare_lanes.items }))
+    subst (λ (x : HubState × ℕ). HubOffersOne RisingNotices c.args.id (Err unsent.LaneFull) x.0 (record { journal = c.look_to-in-Err.new.self; receivers = c.self.inside.from_venues.items; senders = slice_set c.self.inside.to_subscribers.items x.1 c.push.new.self; spare = c.self.inside.spare_lanes.items }))
     (λ i. (c.self.view_is i, sym index i))
     (offer_full g.G.Genuine.carries g.G.Genuine.ends g.N.FeedName.lanes _ c.args.id c.args.place c.self.invariant c.index_mut-sender.result.now from cursor.0 cursor.1 found RisingNotices c.look_to-in-Err.new.self c.in-Some.notice c.push.new.self here c.in-Err.ensures.1 c.in-Err.ensures.2)

@@ -1,6 +1,6 @@
 use Rattle.std.proofs.Common.{rules, arith, sym, ◌∙◌, ◌+◌, [], append-nil, slice_range}
 use Rattle.feed_text.proofs.Ranges.{range_kept, range_more}
-use Rattle.feed_text.proofs.unread.Unread.read_from.Goals as goal
+use Rattle.feed_text.proofs.unread.ReadBuffer.read_from.Goals as goal
 
 pub returns-in-Ok-clause-went : goal.returns-in-Ok-clause-went
 returns-in-Ok-clause-went g c = λ _. record {

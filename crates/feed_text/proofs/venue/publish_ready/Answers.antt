@@ -1,18 +1,18 @@
 use Rattle.std.proofs.Common.{◌≤◌, length, sym, ap, ◌∙◌, arith}
 use Rattle.std.specs.Prelude.{map}
 use Rattle.line_arbiter.specs.Streams.{stream_of}
-use Rattle.feed_text.specs.Happenings.{item_taken}
-use Rattle.feed_text.specs.Tales.{tale_of}
+use Rattle.feed_text.specs.ReplayEvents.{item_taken}
+use Rattle.feed_text.specs.ReplayStates.{state_of_replay}
 use Rattle.feed_text.proofs.Rest.{rest_end, no_more}
 use Rattle.feed_text.proofs.Tales.{took_none, took_all}
 use Rattle.feed_text.proofs.VenueSteps.{kept_none}
-use Rattle.feed_text.proofs.venue.take_ready.Goals as goal
+use Rattle.feed_text.proofs.venue.publish_ready.Goals as goal
 
 pub returns-in-None : goal.returns-in-None
 returns-in-None c = record {
-  tells = λ P f.
+  emits = λ P f.
       let here = c.next_ready.ensures.stream P f in
-      took_all (ap (map (item_taken c.args.venue)) (rest_end (stream_of P) c.args.arbiter.now.sent (sym c.in-None.is ∙ here))) (took_none _ (tale_of c.args.report.now));
+      took_all (ap (map (item_taken c.args.venue)) (rest_end (stream_of P) c.args.arbiter.now.sent (sym c.in-None.is ∙ here))) (took_none _ (state_of_replay c.args.report.now));
   fits = λ P f.
       let here = c.next_ready.ensures.stream P f in
       let most : length (stream_of P) ≤ c.args.arbiter.now.sent = no_more (stream_of P) c.args.arbiter.now.sent (sym c.in-None.is ∙ here) in

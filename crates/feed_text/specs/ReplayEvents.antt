@@ -14,13 +14,13 @@ use Rattle.nbbo_book.specs.Eligible.{is_self_helped}
 -- A packet was answered, a datagram was no packet, an item was ready and taken, a run of messages
 -- is to be asked for, a renewal was answered, or self-help was declared or withdrawn: each at a
 -- venue.
-pub data Happening : Type 0 where
-  packet_answered : (venue : ℕ) (line : LineId) (answer : Result Outcome LineFault) → Happening
-  packet_refused : (venue : ℕ) (line : LineId) (fault : PacketFault) → Happening
-  item_taken : (venue : ℕ) (numbered : Numbered) → Happening
-  gap_left : (venue : ℕ) (request : Request) → Happening
-  renewal_answered : (venue : ℕ) (answer : Result ℕ RenewFault) → Happening
-  self_help_declared : (venue : ℕ) (on : Bool) → Happening
+pub data ReplayEvent : Type 0 where
+  packet_answered : (venue : ℕ) (line : LineId) (answer : Result Outcome LineFault) → ReplayEvent
+  packet_refused : (venue : ℕ) (line : LineId) (fault : PacketFault) → ReplayEvent
+  item_taken : (venue : ℕ) (numbered : Numbered) → ReplayEvent
+  gap_left : (venue : ℕ) (request : Request) → ReplayEvent
+  renewal_answered : (venue : ℕ) (answer : Result ℕ RenewFault) → ReplayEvent
+  self_help_declared : (venue : ℕ) (on : Bool) → ReplayEvent
 
 -- self-help on the venue is on, or off, already; at first it is off
 abbrev pub is_so : List Entry → ℕ → Bool → Bool
@@ -29,7 +29,7 @@ is_so entries venue false = not (is_self_helped entries venue)
 
 -- The journal after one happening more: an item adds its entry, a declaration does unless it is so
 -- already, and the others add none.
-abbrev pub entries_after : List Entry → Happening → List Entry
+abbrev pub entries_after : List Entry → ReplayEvent → List Entry
 entries_after entries (packet_answered venue line answer) = entries
 entries_after entries (packet_refused venue line fault) = entries
 entries_after entries (item_taken venue numbered) = entries ++ Consumed venue numbered ∷ []
@@ -39,6 +39,6 @@ entries_after entries (self_help_declared venue on) =
     if is_so entries venue on then entries else entries ++ SelfHelp venue on ∷ []
 
 -- the journal after these happenings, one after another
-abbrev pub entries_of : List Entry → List Happening → List Entry
+abbrev pub entries_of : List Entry → List ReplayEvent → List Entry
 entries_of entries [] = entries
 entries_of entries (h ∷ hs) = entries_of (entries_after entries h) hs

@@ -2,19 +2,19 @@ use Rattle.std.proofs.Common.{◌≤◌, length, refl, sym, ap, ◌∙◌, arith
 use Rattle.std.specs.Prelude.{map}
 use Rattle.std.proofs.lemmas.Result.{err_from_is_err_and}
 use Rattle.line_arbiter.specs.Streams.{stream_of}
-use Rattle.feed_text.specs.Happenings.{item_taken}
-use Rattle.feed_text.specs.Tales.{tale_of}
+use Rattle.feed_text.specs.ReplayEvents.{item_taken}
+use Rattle.feed_text.specs.ReplayStates.{state_of_replay}
 use Rattle.feed_text.proofs.Rest.{rest_at, rest_end, no_more}
 use Rattle.feed_text.proofs.Tales.{took_none, took_one, took_all, took_stop, same_venues}
 use Rattle.feed_text.proofs.VenueSteps.{kept_none, kept_more}
-use Rattle.feed_text.proofs.venue.take_each.Goals as goal
+use Rattle.feed_text.proofs.venue.publish_each.Goals as goal
 
 pub loop-next-init : goal.loop-next-init
 loop-next-init c = record {
   fits = λ P f. f;
   kept = kept_none c.args.arbiter.now;
   venues = refl;
-  told = λ P f. took_none _ (tale_of c.args.report.now);
+  emitted = λ P f. took_none _ (state_of_replay c.args.report.now);
 }
 
 pub loop-next-preserved : goal.loop-next-preserved
@@ -22,18 +22,18 @@ loop-next-preserved c = record {
   fits = λ P f. c.advance.ensures.fits P (c.loop-next.invariant.fits P f);
   kept = kept_more c.args.arbiter.now c.loop-next.arbiter c.advance.new.self c.loop-next.invariant.kept c.advance.ensures.after.kept;
   venues = same_venues _ c.in_ok-take_item.ensures ∙ c.loop-next.invariant.venues;
-  told = λ P f.
+  emitted = λ P f.
       rw c.advance.ensures.after.sent
       (took_one (item_taken c.args.venue c.in-Some.next) _
       (ap (map (item_taken c.args.venue)) (rest_at (stream_of P) c.loop-next.arbiter.sent c.in-Some.next (c.in-Some.ensures.stream P (c.loop-next.invariant.fits P f))))
-      (c.loop-next.invariant.told P f) c.in_ok-take_item.ensures);
+      (c.loop-next.invariant.emitted P f) c.in_ok-take_item.ensures);
 }
 
 pub returns : goal.returns
 returns c = record {
-  tells = λ P f.
+  emits = λ P f.
       let here = c.next_ready.ensures.stream P (c.loop-next.invariant.fits P f) in
-      took_all (ap (map (item_taken c.args.venue)) (rest_end (stream_of P) c.loop-next.arbiter.sent (sym c.in_default.is ∙ here))) (c.loop-next.invariant.told P f);
+      took_all (ap (map (item_taken c.args.venue)) (rest_end (stream_of P) c.loop-next.arbiter.sent (sym c.in_default.is ∙ here))) (c.loop-next.invariant.emitted P f);
   fits = λ P f.
       let fits = c.loop-next.invariant.fits P f in
       let here = c.next_ready.ensures.stream P fits in
@@ -47,10 +47,10 @@ pub returns-in_err-take_item : goal.returns-in_err-take_item
 returns-in_err-take_item c =
     let p = err_from_is_err_and c.from_residual.result c.from_residual.ensures.1 in
     rw (p.1, p.2) (record {
-      tells = λ P f.
-          took_stop (tale_of c.take_item.new.self) (item_taken c.args.venue c.in-Some.next) _ c.in_err-take_item.field-0.0
+      emits = λ P f.
+          took_stop (state_of_replay c.take_item.new.self) (item_taken c.args.venue c.in-Some.next) _ c.in_err-take_item.field-0.0
           (ap (map (item_taken c.args.venue)) (rest_at (stream_of P) c.loop-next.arbiter.sent c.in-Some.next (c.in-Some.ensures.stream P (c.loop-next.invariant.fits P f))))
-          (c.loop-next.invariant.told P f) c.in_err-take_item.ensures;
+          (c.loop-next.invariant.emitted P f) c.in_err-take_item.ensures;
       fits = tt;
       kept = tt;
     })

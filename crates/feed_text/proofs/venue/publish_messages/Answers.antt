@@ -4,11 +4,11 @@ use Rattle.feed_types.specs.declared.item.Item.{Item}
 use Rattle.std.proofs.lemmas.Result.{err_from_is_err_and}
 use Rattle.feed_types.specs.Sessions.{numbered_from}
 use Rattle.quote_payload.specs.Payload.{item_of}
-use Rattle.feed_text.specs.Happenings.{item_taken}
-use Rattle.feed_text.specs.Tales.{TellsBy, tale_of}
+use Rattle.feed_text.specs.ReplayEvents.{item_taken}
+use Rattle.feed_text.specs.ReplayStates.{EmitsInto, state_of_replay}
 use Rattle.feed_text.proofs.Tales.{took_none, took_one, took_all, took_stop, same_venues}
 use Rattle.feed_text.proofs.Passing.{one_more}
-use Rattle.feed_text.proofs.venue.take_messages.Goals as goal
+use Rattle.feed_text.proofs.venue.publish_messages.Goals as goal
 
 pub loop-message-init : goal.loop-message-init
 loop-message-init c =
@@ -20,7 +20,7 @@ loop-message-init c =
       room = omega arith;
       count = omega arith;
       venues = refl;
-      told = rw (e, c.messages-messages.ensures.value) (took_none _ (tale_of c.args.report.now));
+      emitted = rw (e, c.messages-messages.ensures.value) (took_none _ (state_of_replay c.args.report.now));
     }
 
 pub overflow_add-item : goal.overflow_add-item
@@ -39,19 +39,19 @@ loop-message-preserved c =
       room = omega arith;
       count = omega arith;
       venues = same_venues _ one ∙ c.loop-message.invariant.venues;
-      told = took_one _ _ (one_more c.args.venue (c.number-first.result + c.loop-message.place) (c.number-first.result + (c.loop-message.place + 1)) c.in-Some.message.now c.loop-message.messages c.next.new.self (omega arith) c.in-Some.ensures.steps) c.loop-message.invariant.told one;
+      emitted = took_one _ _ (one_more c.args.venue (c.number-first.result + c.loop-message.place) (c.number-first.result + (c.loop-message.place + 1)) c.in-Some.message.now c.loop-message.messages c.next.new.self (omega arith) c.in-Some.ensures.steps) c.loop-message.invariant.emitted one;
     }
 
 pub returns : goal.returns
 returns c =
     took_all
     (ap (λ (xs : List (List ℕ)). map (item_taken c.args.venue) (numbered_from (c.number-first.result + c.loop-message.place) (map item_of xs))) c.in_default.ensures.steps.0)
-    c.loop-message.invariant.told
+    c.loop-message.invariant.emitted
 
 pub returns-in_err-take_item : goal.returns-in_err-take_item
 returns-in_err-take_item c =
     let p = err_from_is_err_and c.from_residual.result c.from_residual.ensures.1 in
     rw (p.1, p.2)
-    (took_stop (tale_of c.take_item.new.self) _ _ c.in_err-take_item.field-0.0
+    (took_stop (state_of_replay c.take_item.new.self) _ _ c.in_err-take_item.field-0.0
     (one_more c.args.venue (c.number-first.result + c.loop-message.place) (c.number-first.result + (c.loop-message.place + 1)) c.in-Some.message.now c.loop-message.messages c.next.new.self (omega arith) c.in-Some.ensures.steps)
-    c.loop-message.invariant.told (subst (λ (i : Item). TellsBy (tale_of c.loop-message.report) (item_taken c.args.venue (record { number = c.number-first.result + c.loop-message.place; item = i }) ∷ []) (tale_of c.take_item.new.self) (Err c.in_err-take_item.field-0.0)) c.read_item.ensures.value c.in_err-take_item.ensures))
+    c.loop-message.invariant.emitted (subst (λ (i : Item). EmitsInto (state_of_replay c.loop-message.report) (item_taken c.args.venue (record { number = c.number-first.result + c.loop-message.place; item = i }) ∷ []) (state_of_replay c.take_item.new.self) (Err c.in_err-take_item.field-0.0)) c.read_item.ensures.value c.in_err-take_item.ensures))

@@ -4,17 +4,17 @@ use Rattle.line_arbiter.specs.Packets.{Arrival}
 use Rattle.line_arbiter.specs.Streams.{stream_of}
 use Rattle.line_arbiter.specs.States.{KeepsAllButSent}
 use Rattle.line_arbiter.specs.Fits.{Fits}
-use Rattle.feed_text.specs.Happenings.{item_taken}
-use Rattle.feed_text.specs.Tales.{tale_of}
+use Rattle.feed_text.specs.ReplayEvents.{item_taken}
+use Rattle.feed_text.specs.ReplayStates.{state_of_replay}
 use Rattle.feed_text.proofs.Tales.{Took}
-use Rattle.feed_text.proofs.venue.take_each.Given as goal
+use Rattle.feed_text.proofs.venue.publish_each.Given as goal
 
 abbrev pub invariant-loop-next : goal.invariant-loop-next
 invariant-loop-next l = record {
   fits : (P : List Arrival) → Fits l.fn.arbiter P → Fits l.arbiter P;
   kept : KeepsAllButSent l.fn.arbiter l.arbiter;
   venues : l.report.journal.venues ≡ l.fn.report.journal.venues;
-  told : (P : List Arrival) → Fits l.fn.arbiter P → Took (map (item_taken l.venue) (drop l.fn.arbiter.sent (stream_of P))) (map (item_taken l.venue) (drop l.arbiter.sent (stream_of P))) (tale_of l.fn.report) (tale_of l.report);
+  emitted : (P : List Arrival) → Fits l.fn.arbiter P → Took (map (item_taken l.venue) (drop l.fn.arbiter.sent (stream_of P))) (map (item_taken l.venue) (drop l.arbiter.sent (stream_of P))) (state_of_replay l.fn.report) (state_of_replay l.report);
 }
 
 abbrev pub decreases-loop-next : goal.decreases-loop-next

@@ -2,7 +2,7 @@ use Rattle.std.proofs.Common.{◌<◌, ◌+◌, length, arith}
 use Rattle.std.proofs.Math.Nat.{lt_of_not-le}
 use Rattle.journal_book.specs.Changes.{notices_from}
 use Rattle.feed_text.proofs.Tales.{item_full, item_goes}
-use Rattle.feed_text.proofs.report.Report.take_item.Goals as goal
+use Rattle.feed_text.proofs.report.ReplaySink.take_item.Goals as goal
 
 pub returns-then-not-has_room : goal.returns-then-not-has_room
 returns-then-not-has_room c =

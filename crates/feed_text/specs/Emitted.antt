@@ -1,0 +1,97 @@
+-- What the records of a capture tell: what happened, one record after the other, by the definitions
+-- over what came to each venue.
+use Rattle.std.specs.Prelude.{◌≡◌, ◌⊎◌, ℕ, Bool, List, [], ◌∷◌, ◌++◌, length, drop, map, Option, Some, None, Result, slice_get, slice_set, if◌then◌else◌}
+use Rattle.feed_types.specs.declared.line.LineId.{LineId}
+use Rattle.mold_packet.specs.declared.fault.PacketFault.{PacketFault}
+use Rattle.mold_packet.specs.declared.request.Request.{Request}
+use Rattle.mold_packet.specs.Content.{Content, Spells}
+use Rattle.mold_packet.specs.Faults.{HasFault}
+use Rattle.line_arbiter.specs.declared.outcome.Outcome.{Outcome}
+use Rattle.line_arbiter.specs.declared.outcome.LineFault.{LineFault}
+use Rattle.line_arbiter.specs.declared.faults.RenewFault.{RenewFault}
+use Rattle.line_arbiter.specs.Packets.{Arrival, arrival_of, end_of}
+use Rattle.line_arbiter.specs.Streams.{stream_of, gap_of}
+use Rattle.line_arbiter.specs.Histories.{History, names_of, after_arrival, history_after}
+use Rattle.line_arbiter.specs.Outcomes.{IsOutcome}
+use Rattle.line_arbiter.specs.Renewals.{IsRenewal}
+use Rattle.feed_text.specs.Capture.{CaptureRecord, datagram_record, renewal_record, self_help_record, record_venue}
+use Rattle.feed_text.specs.ReplayEvents.{ReplayEvent, packet_answered, packet_refused, item_taken, gap_left, renewal_answered, self_help_declared}
+
+-- how many items of the present session were taken: each was, once it was ready
+abbrev pub stream_length : History → ℕ
+stream_length h = length (stream_of h.present.packets)
+
+-- a gap, where there is one
+abbrev pub gap_event : ℕ → Option Request → List ReplayEvent
+gap_event venue None = []
+gap_event venue (Some request) = gap_left venue request ∷ []
+
+-- the gap that is left, where gaps are asked for
+abbrev pub gap_emitted : ℕ → Bool → ℕ → History → List ReplayEvent
+gap_emitted window gaps venue h =
+    if gaps then gap_event venue (gap_of h.present.name window (stream_length h) h.present.packets)
+    else []
+
+-- the items that one more packet made ready
+abbrev pub items_emitted : ℕ → History → List Arrival → List ReplayEvent
+items_emitted venue h packets = map (item_taken venue) (drop (stream_length h) (stream_of packets))
+
+-- a datagram that is no packet: its fault, and nothing changes
+pub record EmitsFault (window : ℕ) (gaps : Bool) (venue : ℕ) (line : LineId) (bytes : List ℕ)
+    (old : History) (emitted : List ReplayEvent) (new : History) : Type 0 where
+  pub fault : PacketFault
+  pub has : HasFault bytes fault
+  pub same : new ≡ old
+  pub emitted_is : emitted ≡ packet_refused venue line fault ∷ gap_emitted window gaps venue new
+
+-- a datagram that is a packet: what became of it, and then each item that it made ready
+pub record EmitsPacket (window : ℕ) (gaps : Bool) (venue : ℕ) (line : LineId) (bytes : List ℕ)
+    (old : History) (emitted : List ReplayEvent) (new : History) : Type 0 where
+  pub packet : Content
+  pub rest : List ℕ
+  pub answer : Result Outcome LineFault
+  pub spells : Spells bytes packet rest
+  pub outcome : IsOutcome old.present.name window (stream_length old) old.present.packets packet answer
+  pub grown : new ≡ after_arrival old (arrival_of line packet answer)
+  pub emitted_is : emitted ≡ packet_answered venue line answer
+      ∷ items_emitted venue old new.present.packets ++ gap_emitted window gaps venue new
+
+-- a renewal: its answer, and where it is Ok the next session
+pub record EmitsRenewal (venue : ℕ) (name : List ℕ) (old : History) (emitted : List ReplayEvent)
+    (new : History) : Type 0 where
+  pub answer : Result ℕ RenewFault
+  pub is : IsRenewal (names_of old) (end_of old.present.packets) (stream_length old) name answer
+  pub after : new ≡ history_after old name answer
+  pub emitted_is : emitted ≡ renewal_answered venue answer ∷ []
+
+-- a declaration of self-help: what came to the venue stays
+pub record EmitsSelfHelp (venue : ℕ) (on : Bool) (old : History) (emitted : List ReplayEvent)
+    (new : History) : Type 0 where
+  pub same : new ≡ old
+  pub emitted_is : emitted ≡ self_help_declared venue on ∷ []
+
+-- a record of one venue
+abbrev pub EmitsAt : ℕ → Bool → CaptureRecord → History → List ReplayEvent → History → Type 0
+EmitsAt window gaps (datagram_record venue line bytes) old emitted new =
+    EmitsFault window gaps venue line bytes old emitted new
+    ⊎ EmitsPacket window gaps venue line bytes old emitted new
+EmitsAt window gaps (renewal_record venue name) old emitted new = EmitsRenewal venue name old emitted new
+EmitsAt window gaps (self_help_record venue on) old emitted new = EmitsSelfHelp venue on old emitted new
+
+-- a record: its venue's history goes on, and the others stay
+pub record EmitsRecord (window : ℕ) (gaps : Bool) (r : CaptureRecord) (old : List History)
+    (emitted : List ReplayEvent) (new : List History) : Type 0 where
+  pub before : History
+  pub after : History
+  pub at : slice_get old (record_venue r) ≡ Some before
+  pub emits : EmitsAt window gaps r before emitted after
+  pub others : new ≡ slice_set old (record_venue r) after
+
+-- records, one after the other
+abbrev pub Emits : ℕ → Bool → List CaptureRecord → List History → List ReplayEvent → List History
+    → Type 0
+Emits window gaps [] old emitted new = (emitted ≡ []) × (new ≡ old)
+Emits window gaps (r ∷ rs) old emitted new =
+    (mid : List History) × (first : List ReplayEvent) × (others : List ReplayEvent)
+    × EmitsRecord window gaps r old first mid × Emits window gaps rs mid others new
+    × (emitted ≡ first ++ others)

@@ -1,0 +1,64 @@
+-- What a replay keeps of all venues together: its journal, and the text that waits to be written.
+-- Private clauses alone cite this file.
+use Rattle.std.specs.Prelude.{◌≡◌, ℕ, ◌<◌, ◌≤◌, List, ◌∷◌, ◌++◌, length, Result, Ok, Err}
+use Rattle.feed_types.specs.declared.journal.Entry.{Entry}
+use Rattle.feed_text.specs.declared.report.ReplaySink.{ReplaySink}
+use Rattle.feed_text.specs.declared.report.PublishStop.{PublishStop}
+use Rattle.feed_text.specs.declared.report.PublishStop.TheVariants.{JournalFull, NoMemory}
+use Rattle.feed_text.specs.ReplayEvents.{ReplayEvent, entries_after, entries_of}
+use Rattle.feed_text.specs.Texts.{text_of}
+
+-- the symbols, the number of venues, how many entries the journal holds, the entries, and the text
+pub record ReplayState : Type 0 where
+  pub symbols : List (List ℕ)
+  pub venues : ℕ
+  pub journal : ℕ
+  pub entries : List Entry
+  pub text : List ℕ
+
+abbrev pub state_of_replay : ReplaySink → ReplayState
+state_of_replay report = record {
+  symbols = report.journal.symbols;
+  venues = report.journal.venues;
+  journal = report.journal.journal;
+  entries = report.journal.entries;
+  text = report.text.items;
+}
+
+-- the tale goes on with these happenings
+abbrev pub state_after : ReplayState → List ReplayEvent → ReplayState
+state_after state emitted = record {
+  symbols = state.symbols;
+  venues = state.venues;
+  journal = state.journal;
+  entries = entries_of state.entries emitted;
+  text = state.text ++ text_of state.symbols state.entries emitted;
+}
+
+abbrev pub IsWithinJournal : ReplayState → Type 0
+IsWithinJournal state = length state.entries ≤ state.journal
+
+-- nothing of the old text is lost
+pub record Grows (old new : List ℕ) : Type 0 where
+  pub more : List ℕ
+  pub behind : new ≡ old ++ more
+
+-- The tale went on with these happenings.
+pub record GoesOn (old : ReplayState) (emitted : List ReplayEvent) (new : ReplayState) : Type 0 where
+  pub is : new ≡ state_after old emitted
+  pub within : IsWithinJournal old → IsWithinJournal new
+
+-- The tale went on with the first of these happenings, and for the next one the journal had no room.
+pub record GoesToFull (old : ReplayState) (emitted : List ReplayEvent) (new : ReplayState) : Type 0 where
+  pub first : List ReplayEvent
+  pub next : ReplayEvent
+  pub others : List ReplayEvent
+  pub emitted_is : emitted ≡ first ++ next ∷ others
+  pub goes : GoesOn old first new
+  pub full : new.journal < length (entries_after new.entries next)
+
+-- What telling these happenings came to, by its answer.
+abbrev pub EmitsInto : ReplayState → List ReplayEvent → ReplayState → Result (Unit {0}) PublishStop → Type 0
+EmitsInto old emitted new (Ok done) = GoesOn old emitted new
+EmitsInto old emitted new (Err JournalFull) = GoesToFull old emitted new
+EmitsInto old emitted new (Err NoMemory) = Grows old.text new.text
