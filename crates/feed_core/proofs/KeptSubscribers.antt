@@ -1,4 +1,5 @@
--- What one more entry, a subscription, an offer and a dequeue keep of each subscriber, an event keeps of all, and a run too.
+-- What one more entry, a subscription, an offer and a dequeue keep of each subscriber; an event
+-- keeps it of all, and so does a run.
 use Rattle.std.proofs.Common.{◌≡◌, ℕ, ◌+◌, Bool, true, false, List, [], ◌∷◌, ◌++◌, length, Option, Some, None, sym, subst, refl, inl, inr}
 use Rattle.std.specs.Prelude.{MatchOption, slice_get, if◌then◌else◌, nat_le}
 use Rattle.feed_types.specs.declared.item.Numbered.{Numbered}

@@ -1,4 +1,5 @@
--- Each subscriber's terms are those of the filter at its place: an event keeps it, and a run too.
+-- Each subscriber's terms are those of the filter at its place: an event keeps that, and so does a
+-- run.
 use Rattle.std.proofs.Common.{◌≡◌, ℕ, ◌+◌, ◌<◌, Bool, true, false, List, [], ◌∷◌, ◌++◌, length, Option, Some, None, sym, ap, subst, refl, ◌∙◌, arith, length-append, inl, inr}
 use Rattle.std.specs.Prelude.{MatchOption, slice_get, slice_set, if◌then◌else◌, nat_le}
 use Rattle.std.proofs.Math.ListN.{length-set}
@@ -18,7 +19,8 @@ use Rattle.feed_core.specs.Steps.{Transition, Refused, Changes, next_in, next_ou
 use Rattle.feed_core.specs.Runs.{IsStep, IsRun}
 use Rattle.feed_core.proofs.Lists.{get_set, get_push}
 
--- each subscriber has the terms of the filter at its place, and as long as there is place no other filter was used up
+-- each subscriber has the terms of the filter at its place, and as long as there is place no other
+-- filter was used
 pub record InTurn (s : Setting) (w : World) : Type 0 where
   pub terms : (id : ℕ) (x : Subscriber) → slice_get w.subscribers id ≡ Some x → slice_get s.filters id ≡ Some x.terms
   pub used : length w.subscribers < 32 → w.used ≡ length w.subscribers

@@ -1,4 +1,4 @@
--- What each venue's four moves keep, an event keeps of all venues, and a run too.
+-- What each venue's four moves keep, an event keeps of all venues, and so does a run.
 use Rattle.std.proofs.Common.{◌≡◌, ℕ, Bool, true, false, List, [], ◌∷◌, ◌++◌, length, Option, Some, None, Result, sym, subst, refl, ◌+◌, inl, inr}
 use Rattle.std.specs.Prelude.{MatchOption, slice_get, if◌then◌else◌, nat_le}
 use Rattle.std.specs.List.{AllByRecursion}

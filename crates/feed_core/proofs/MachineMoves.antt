@@ -1,4 +1,4 @@
--- What an event leaves of the machine, said of plain states.
+-- What an event leaves of the machine, in terms of plain states.
 use Rattle.std.proofs.Common.{take, Bor, get_or, ◌≡◌, ℕ, zero, suc, ◌+◌, ◌<◌, ◌≤◌, Bool, true, false, List, [], ◌∷◌, ◌++◌, length, Option, Some, None, refl, sym, ap, subst, ◌∙◌, arith, inl, inr, length-append}
 use Rattle.std.specs.Prelude.{slice_get, slice_set, MatchOption, IfOk, OnOk, Result, Ok, Err, nat_le, if◌then◌else◌, ◌⊎◌, filter, map}
 use Rattle.std.proofs.Math.ListN.{length-set}

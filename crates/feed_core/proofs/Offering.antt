@@ -23,13 +23,13 @@ past_end [] i h = refl
 past_end (x ∷ xs) zero h = grind (arith, h)
 past_end (x ∷ xs) (suc i) h = past_end xs i (omega (arith, h))
 
--- all of a list was gone through
+-- everything in a list was looked at
 pub none_next : {X : Type 0} (p : X → Bool) (xs : List X) (i : ℕ) (ys : List X) → length xs ≤ i → filter p (take i xs) ≡ ys → slice_get xs (length xs) ≡ slice_get (filter p xs) (length ys)
 none_next p xs i ys h e =
     let whole : filter p xs ≡ ys = ap (filter p) (sym (take_all i xs h)) ∙ e in
     past_end xs (length xs) (omega arith) ∙ sym (past_end (filter p xs) (length ys) (let n : length (filter p xs) ≡ length ys = ap length whole in omega (arith, n)))
 
--- what stands at a place
+-- the element at a place
 get_is : {X : Type 0} (xs : List X) (i : ℕ) (d : X) → i < length xs → slice_get xs i ≡ Some (get_or xs i d)
 get_is [] i d h = absurd (omega arith)
 get_is (x ∷ xs) zero d h = refl
@@ -71,7 +71,7 @@ module _ (symbols : List (List ℕ)) (entries : List Entry) (capacity : ℕ) (x 
       ∙ ap (λ (l : List Notice). slice_get (filter (meets terms) notices) (length l)) sent_to
       ∙ sym next
 
-  -- the filter's words, said of the changes again
+  -- the filter's words, in terms of the changes again
   back : (k : ℕ) (l : List Notice) → l ≡ filter (meets terms) (take k notices) → l ≡ filter (meets x.terms) (take k (changes_of symbols entries))
   back k l e = e ∙ ap (λ (t : Terms). filter (meets t) (take k notices)) (sym of) ∙ ap (λ (n : List Notice). filter (meets x.terms) (take k n)) are
 

@@ -25,7 +25,7 @@ pub record Same (a b : Done) (v w : World) : Type 0 where
   pub outcome : a ≡ b
   pub world : v ≡ w
 
--- two outcomes that are these, and two worlds that are these
+-- two outcomes and two worlds, each equal to the other
 same : {a b c d : Done} {v w x y : World} → c ≡ d → x ≡ y → a ≡ c → v ≡ x → b ≡ d → w ≡ y → Same a b v w
 same e f p q r t = record { outcome = p ∙ e ∙ sym r; world = q ∙ f ∙ sym t }
 

@@ -30,13 +30,13 @@ use Rattle.feed_core.proofs.Lists.{begins_self, begins_then, begins_len, begins_
 use Rattle.feed_core.proofs.Lanes.{Serves, serve_in, serve_out, serve_more, serve_all}
 use Rattle.feed_core.proofs.KeptVenues.{MoveKept, EachVenue, run_keeps}
 
--- a session that is over: each packet was answered as it should be, and all of its messages came
+-- a session that is over: each packet was answered by the definitions, and all of its messages came
 pub record IsOver (window : ℕ) (b : Begun) : Type 0 where
   pub answered : AreAnswered b.name window b.packets
   pub complete : IsComplete b.packets
 
--- What a venue keeps: its lane serves its streams, all items of the sessions that are over were sent, and each packet was
--- answered as it should be.
+-- What a venue keeps: its lane serves its streams, all items of the sessions that are over were
+-- sent, and each packet was answered by the definitions.
 pub record IsKept (window : ℕ) (v : Venue) : Type 0 where
   pub serves : Serves v.lane (streams_of v.history)
   pub begun : IsPrefix (items_of v.history.earlier) v.lane.sent
@@ -164,8 +164,8 @@ head_is x y xs ys e = cc
 tail_is : {X : Type 0} (x y : X) (xs ys : List X) → x ∷ xs ≡ y ∷ ys → xs ≡ ys
 tail_is x y xs ys e = cc
 
--- what is known of a session that was brought: where a session that is over has its name, that is whole; where the present
--- one has, it is up to its first gap
+-- what is known of a session that was brought: a session that is over and has its name is whole;
+-- the present one, if it has the name, is up to its first gap
 Known : Session → List Begun → Begun → Type 0
 Known s bs b = AllByRecursion (λ c. c.name ≡ s.name → stream_of c.packets ≡ whole_session s) bs × (b.name ≡ s.name → stream_of b.packets ≡ session_stream s (front_of b.packets) (end_of b.packets))
 

@@ -1,4 +1,4 @@
--- What a venue's moves leave, said of plain states.
+-- What a venue's moves leave, in terms of plain states.
 use Rattle.std.proofs.Common.{◌≡◌, ℕ, zero, suc, ◌+◌, ◌-◌, ◌≤◌, Bool, true, false, List, [], ◌∷◌, ◌++◌, length, drop, Option, Some, None, Result, Ok, Err, refl, sym, ap, subst, ◌∙◌, arith, length-append, append_assoc, append-nil}
 use Rattle.std.proofs.lemmas.List.{drop-append-le}
 use Rattle.std.specs.Prelude.{slice_get, OnErr, OnOk}
@@ -171,7 +171,7 @@ drop_past [] ys n h = ap (λ (k : ℕ). drop k ys) (omega arith)
 drop_past (x ∷ xs) ys zero h = absurd (omega arith)
 drop_past (x ∷ xs) ys (suc n) h = drop_past xs ys n (omega arith) ∙ ap (λ (k : ℕ). drop k ys) (omega arith)
 
--- once what is ready came behind what was pushed, the lane shows the venue
+-- once what is ready is put in after what was pushed, the lane shows the venue
 pub shown : (window place : ℕ) (c : VenueView) (v : Venue) (lane : Lane Numbered) → FitsVenue window place c v
     → lane ≡ record c.lane { sent = c.lane.sent ++ drop c.arbiter.sent (stream_of v.history.present.packets) } → ShowsLane lane v
 shown window place c v lane f is =

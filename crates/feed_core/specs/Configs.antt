@@ -1,6 +1,5 @@
--- Which configuration is refused, and why: the first that fits, in this order. Refused memory is
--- the last refusal, but that for the table of symbols, which is asked for before it is seen that
--- one comes twice.
+-- Which configuration is refused, and why: the first reason that fits, in this order. Refused
+-- memory comes last, but that of the table of symbols comes before a symbol that is there twice.
 use Rattle.std.specs.Prelude.{ℕ, ◌≤◌, length}
 use Rattle.std.specs.List.{IsDistinct}
 use Rattle.std.specs.Str.{bytes_eq}
@@ -23,7 +22,7 @@ HasWindow config = IsBetween 1 65535 config.window
 abbrev pub HasLanes : FeedConfig → Type 0
 HasLanes config = IsBetween 1 65536 config.lane
 
--- all but that no symbol comes twice
+-- everything but that no symbol is there twice
 abbrev pub IsSized : FeedConfig → Type 0
 IsSized config =
     HasVenues config × HasWindow config × HasLanes config × (length config.symbols.now ≤ 4096)
@@ -49,7 +48,7 @@ abbrev pub Explains : FeedConfig → CoreFault → Type 0
 Explains config (BadConfig fault) = IsBadConfig config fault
 Explains config NoMemory = IsSized config
 
--- the numbers that stand for the faults (this project's format)
+-- the codes of the faults (this project's format)
 abbrev pub config_fault_code : ConfigFault → ℕ
 config_fault_code BadWindow = 13
 config_fault_code BadVenueCount = 14

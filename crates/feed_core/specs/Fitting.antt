@@ -1,4 +1,4 @@
--- What the machine keeps, and that it stands for a world: private clauses alone cite this.
+-- What the machine keeps, and the world that it represents. Cited by private clauses alone.
 use Rattle.std.specs.Prelude.{◌≡◌, ℕ, ◌≤◌, ◌<◌, List, length, filter, take, map, slice_get, Some}
 use Rattle.feed_types.specs.declared.item.Numbered.{Numbered}
 use Rattle.feed_types.specs.declared.line.LineId.{LineId}
@@ -32,7 +32,7 @@ pub record VenueView : Type 0 where
   pub arbiter : State
   pub lane : Lane Numbered
 
--- they are the venue's at this place
+-- they are those of the venue at this place
 pub record FitsVenue (window place : ℕ) (c : VenueView) (v : Venue) : Type 0 where
   pub history : FitsHistory c.arbiter v.history
   pub number : c.arbiter.venue ≡ place
@@ -42,7 +42,7 @@ pub record FitsVenue (window place : ℕ) (c : VenueView) (v : Venue) : Type 0 w
   pub lane : c.lane ≡ v.lane
   pub within : length v.lane.received ≤ length v.lane.sent
 
--- what Packet left of a venue: nothing changed where the bytes are no packet
+-- what Packet leaves of a venue: nothing changes where the bytes are no packet
 pub record LeftFaulty (bytes : List ℕ) (outcome : Done) (old new : VenueView) : Type 0 where
   pub fault : PacketFault
   pub has : HasFault bytes fault
@@ -60,7 +60,7 @@ pub record LeftAnswered (window place : ℕ) (v : Venue) (line : LineId) (bytes 
   pub outcome_is : outcome ≡ packet_done answer
   pub fits : FitsVenue window place new (record v { history = history })
 
--- what Renew left
+-- what Renew leaves
 pub record LeftRenewed (window place : ℕ) (v : Venue) (name : List ℕ) (outcome : Done)
     (new : VenueView) : Type 0 where
   pub answer : Result ℕ RenewFault
@@ -69,7 +69,7 @@ pub record LeftRenewed (window place : ℕ) (v : Venue) (name : List ℕ) (outco
   pub outcome_is : outcome ≡ renewal_done answer
   pub fits : FitsVenue window place new (record v { history = history })
 
--- what Push left
+-- what Push leaves
 pub record LeftPushed (window place capacity : ℕ) (v : Venue) (outcome : Done)
     (new : VenueView) : Type 0 where
   pub comes : AppliesTo
@@ -77,7 +77,7 @@ pub record LeftPushed (window place capacity : ℕ) (v : Venue) (outcome : Done)
       v.lane.sent outcome new.lane.sent
   pub fits : FitsVenue window place new (record v { lane = record v.lane { sent = new.lane.sent } })
 
--- the venue is shown so: what waits is in its lane
+-- the venue as it is shown: everything that waits is in its lane
 pub record ShowsLane (lane : Lane Numbered) (v : Venue) : Type 0 where
   pub consumed : lane.received ≡ v.lane.received
   pub waiting : inside lane ≡ waiting v
@@ -87,14 +87,14 @@ pub record SubscriberView : Type 0 where
   pub seen : ℕ
   pub lane : Lane Notice
 
--- they are the subscriber's
+-- they are those of the subscriber
 pub record FitsSubscriber (symbols : List (List ℕ)) (entries : List Entry) (c : SubscriberView)
     (x : Subscriber) : Type 0 where
   pub seen : c.seen ≤ length (changes_of symbols entries)
   pub sent : x.lane.sent ≡ filter (meets x.terms) (take c.seen (changes_of symbols entries))
   pub lane : c.lane ≡ x.lane
 
--- what Offer left
+-- what Offer leaves
 pub record LeftOffered (symbols : List (List ℕ)) (entries : List Entry) (capacity : ℕ)
     (x : Subscriber) (outcome : Done) (new : SubscriberView) : Type 0 where
   pub comes : AppliesTo
@@ -108,14 +108,14 @@ pub record LeftOffered (symbols : List (List ℕ)) (entries : List Entry) (capac
 abbrev pub intake_of : Lane Numbered → JournalState → Intake
 intake_of lane journal = record { received = lane.received; entries = journal.entries }
 
--- all of a journal but its entries stays
+-- everything of a journal but its entries stays
 pub record KeepsJournal (old new : JournalState) : Type 0 where
   pub symbols : new.symbols ≡ old.symbols
   pub venues : new.venues ≡ old.venues
   pub journal : new.journal ≡ old.journal
 
--- the machine: its venues, the journal, its subscribers, how much a lane holds, and how many
--- filters were used up
+-- the machine: its venues, the journal, its subscribers, the capacity of a lane, and how many
+-- filters were used
 pub record MachineView : Type 0 where
   pub venues : List VenueView
   pub journal : JournalState
@@ -150,14 +150,14 @@ pub record FitsWorld (s : Setting) (m : MachineView) (w : World) : Type 0 where
   pub used : m.used ≡ w.used
   pub in_turn : length w.subscribers < 32 → w.used ≡ length w.subscribers
 
--- the event came with this outcome, and the machine stands for the world after it
+-- the event had this outcome, and the machine represents the world after it
 pub record HasStepped (s : Setting) (old : World) (e : Event) (outcome : Done)
     (m : MachineView) : Type 0 where
   pub after : World
   pub fits : FitsWorld s m after
   pub step : IsStep s old e outcome after
 
--- the events came with these outcomes, and the machine stands for the world after them
+-- the events had these outcomes, and the machine represents the world after them
 pub record HasReached (s : Setting) (events : List Event) (outcomes : List Done)
     (m : MachineView) : Type 0 where
   pub world : World
@@ -179,7 +179,7 @@ pub record ShownTo (window n : ℕ) (cs : List VenueView) (vs : List Venue) : Ty
   pub late : (i : ℕ) (c : VenueView) (v : Venue) → n ≤ i
       → slice_get cs i ≡ Some c → slice_get vs i ≡ Some v → FitsVenue window i c v
 
--- all are shown
+-- all venues are shown
 pub record ShowVenues (cs : List VenueView) (vs : List Venue) : Type 0 where
   pub count : length cs ≡ length vs
   pub each : (i : ℕ) (c : VenueView) (v : Venue)

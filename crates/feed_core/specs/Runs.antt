@@ -1,5 +1,5 @@
--- The machine over events: one event, and a run. A world that an event leads to is the old one with
--- the part changed that the event looks at (Steps.antt).
+-- The machine over events: one event, and a run. An event leads to the old world with the part
+-- changed that the event looks at (Steps.antt).
 use Rattle.std.specs.Prelude.{◌≡◌, ◌⊎◌, ℕ, List, [], ◌∷◌, MatchOption, slice_get}
 use Rattle.mold_packet.specs.Bytes.{AreBytes}
 use Rattle.line_arbiter.specs.Histories.{streams_of}
@@ -10,7 +10,7 @@ use Rattle.feed_core.specs.declared.event.Done.{Done}
 use Rattle.feed_core.specs.Worlds.{is_full, Venue, Subscriber, World, Setting}
 use Rattle.feed_core.specs.Steps.{unknown_venue, unknown_subscriber, next_in, next_out, push_next, consume_next, declare_help, offer_next, dequeue_next, Stays, Applies, with_sent, with_intake, with_offered, with_dequeued, RefusesBytes, AnswersPacket, AnswersRenewal, AnswersSubscribe}
 
--- first of all a venue that isn't there, or a subscriber
+-- first of all: the venue or the subscriber isn't there
 abbrev pub AtVenue : World → ℕ → Done → World → (Venue → Type 0) → Type 0
 AtVenue old place outcome new Known =
     MatchOption (slice_get old.venues place) (Stays unknown_venue old outcome new) Known
@@ -55,8 +55,8 @@ IsRun s old (e ∷ es) (d ∷ ds) new = (mid : World) × IsStep s old e d mid ×
 IsRun s old [] (d ∷ ds) new = ⊥
 IsRun s old (e ∷ es) [] new = ⊥
 
--- A datagram's numbers are bytes. The type of an event knows it; a law, which speaks of all lists
--- of numbers, asks for it.
+-- A datagram's numbers are bytes. The type of an event says so; a law, which speaks of all lists of
+-- numbers, asks for it.
 abbrev pub BringsBytes : Event → Type 0
 BringsBytes (Packet venue line bytes) = AreBytes bytes.now
 BringsBytes (Push venue) = Unit {0}

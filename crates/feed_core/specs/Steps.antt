@@ -1,6 +1,6 @@
--- What one event makes of its part of the world: of that which it looks at, and which in a running
--- feed one lock or one end of a lane sees. The step (Runs.antt) puts that part back in its place.
--- The refusals stand in the order in which they are looked for.
+-- One event on its part of the world: the part that it looks at, and that in a running feed is
+-- under one lock or at one end of a lane. The step (Runs.antt) puts that part back in its place.
+-- Refusals are listed in the order in which they are looked for.
 use Rattle.std.specs.Prelude.{◌≡◌, ℕ, ◌+◌, Bool, true, false, nat_le, List, [], ◌∷◌, ◌++◌, length, Option, Some, None, Result, Ok, Err, slice_get, slice_set, if◌then◌else◌}
 use Rattle.feed_types.specs.declared.item.Numbered.{Numbered}
 use Rattle.feed_types.specs.declared.line.LineId.{LineId}
@@ -25,7 +25,7 @@ use Rattle.feed_core.specs.declared.event.Done.{Done}
 use Rattle.feed_core.specs.declared.event.Done.TheVariants as done
 use Rattle.feed_core.specs.Worlds.{Lane, empty_lane, Venue, session_sent, Subscriber, World}
 
--- the refusals that are the machine's own, by their numbers
+-- the machine's own refusals, by their codes
 abbrev pub journal_full : Done
 journal_full = done.Refused 17
 
@@ -41,46 +41,45 @@ too_many_subscribers = done.Refused 20
 abbrev pub unknown_subscriber : Done
 unknown_subscriber = done.Refused 21
 
--- What an event comes to on its part of the world: an outcome that leaves it as it is, or an
--- outcome and what it is then.
+-- The effect of an event on its part of the world: an outcome that leaves the part unchanged, or an
+-- outcome and the new part.
 pub data Transition (X : Type 0) : Type 0 where
   Refused : Done → Transition X
   Changes : Done → X → Transition X
 
--- ---- what goes into a lane next, and what comes out
+-- ---- what goes into a lane next, and what is taken out next
 
--- the first of all these that was not put in yet
+-- the first item of the list that was not put in yet
 abbrev pub next_in : {X : Type 0} → List X → Lane X → Option X
 next_in all lane = slice_get all (length lane.sent)
 
--- the first that was put in and not taken out
+-- the first item that was put in and not taken out
 abbrev pub next_out : {X : Type 0} → Lane X → Option X
 next_out lane = slice_get lane.sent (length lane.received)
 
 -- ---- each event on its part
 
--- Packet, on what came to a venue: a packet that was read stands among the others with its answer,
--- a refused one too.
+-- Packet, on a venue's history: a packet that was read is added with its answer, a refused one too.
 pub record AddsArrival (window sent : ℕ) (line : LineId) (packet : Content) (old : History)
     (answer : Result Outcome LineFault) (new : History) : Type 0 where
   pub right : IsOutcome old.present.name window sent old.present.packets packet answer
   pub is : new ≡ after_arrival old (record { line = line; packet = packet; answer = answer })
 
--- Renew, on what came to a venue: the present session is over, and the next one begins, or nothing
+-- Renew, on a venue's history: the present session is over and the next one begins, or nothing
 -- changes.
 pub record AddsRenewal (sent : ℕ) (name : List ℕ) (old : History) (answer : Result ℕ RenewFault)
     (new : History) : Type 0 where
   pub right : IsRenewal (names_of old) (end_of old.present.packets) sent name answer
   pub is : new ≡ history_after old name answer
 
--- Push, on what was sent of a venue: its next item, unless the lane is full.
+-- Push, on what was sent of a venue: adds its next item, unless the lane is full.
 abbrev pub push_next : Bool → Option Numbered → List Numbered → Transition (List Numbered)
 push_next full None sent = Refused done.NothingReady
 push_next full (Some x) sent =
     if full then Refused done.LaneFull else Changes (done.Pushed x.number) (sent ++ x ∷ [])
 
--- Consume, on what was received from a venue and on the journal: the next item of the lane, unless
--- the journal is full.
+-- Consume, on what was received from a venue and on the journal: moves the next item of the lane,
+-- unless the journal is full.
 pub record Intake : Type 0 where
   pub received : List Numbered
   pub entries : List Entry
@@ -96,7 +95,7 @@ abbrev pub consume_next : ℕ → ℕ → Option Numbered → Intake → Transit
 consume_next journal venue next old =
     if nat_le journal (length old.entries) then Refused journal_full else journal_item venue next old
 
--- Declare, on the journal: unless it is so already, or the journal is full.
+-- Declare, on the journal: adds an entry, unless that is declared already or the journal is full.
 abbrev pub is_same : Bool → Bool → Bool
 is_same true b = b
 is_same false true = false
@@ -108,36 +107,37 @@ declare_help journal venue on entries =
     (if nat_le journal (length entries) then Refused journal_full else
     Changes (done.Declared (length entries + 1)) (entries ++ entry.SelfHelp venue on ∷ []))
 
--- Subscribe, on the subscribers: one more with these terms, to whom nothing was offered, up to 32.
+-- Subscribe, on the subscribers: adds one with these terms, to whom nothing was offered, up to 32.
 abbrev pub add_subscriber : Terms → List Subscriber → Transition (List Subscriber)
 add_subscriber terms subscribers =
     if nat_le 32 (length subscribers) then Refused too_many_subscribers else
     Changes (done.Subscribed (length subscribers))
     (subscribers ++ record { terms = terms; lane = empty_lane } ∷ [])
 
--- Offer, on what was sent to a subscriber: the next notice that it wants, unless the lane is full.
+-- Offer, on what was sent to a subscriber: adds the next notice that it wants, unless the lane is
+-- full.
 abbrev pub offer_next : Bool → Option Notice → List Notice → Transition (List Notice)
 offer_next full None sent = Refused done.NothingWanted
 offer_next full (Some n) sent =
     if full then Refused done.LaneFull else Changes (done.Offered n.number) (sent ++ n ∷ [])
 
--- Dequeue, on what a subscriber received: the next notice of its lane.
+-- Dequeue, on what a subscriber received: adds the next notice of its lane.
 abbrev pub dequeue_next : Option Notice → List Notice → Transition (List Notice)
 dequeue_next None received = Refused done.LaneEmpty
 dequeue_next (Some n) received = Changes (done.Dequeued n.number) (received ++ n ∷ [])
 
 -- ---- the part in its place
 
--- the world, or a part of it, is as it was
+-- the world, or a part of it, is unchanged
 abbrev pub Stays : {W : Type 0} → Done → W → Done → W → Type 0
 Stays refusal old outcome new = (outcome ≡ refusal) × (new ≡ old)
 
--- so it is, or it is the old one with its part changed
+-- the world is unchanged, or it is the old one with its part changed
 abbrev pub Applies : {X W : Type 0} → (X → W) → Transition X → W → Done → W → Type 0
 Applies put (Refused d) old outcome new = Stays d old outcome new
 Applies put (Changes d x) old outcome new = (outcome ≡ d) × (new ≡ put x)
 
--- of the part alone
+-- the same of the part alone
 abbrev pub AppliesTo : {X : Type 0} → Transition X → X → Done → X → Type 0
 AppliesTo came old outcome new = Applies (λ x. x) came old outcome new
 
@@ -176,7 +176,7 @@ abbrev pub packet_done : Result Outcome LineFault → Done
 packet_done (Ok outcome) = done.Packet outcome
 packet_done (Err fault) = done.Refused (line_fault_code fault)
 
--- it is a packet, and the venue's lines answer it
+-- the datagram is a packet, and the venue's lines answer it
 pub record AnswersPacket (window place : ℕ) (v : Venue) (line : LineId) (bytes : List ℕ) (old : World)
     (outcome : Done) (new : World) : Type 0 where
   pub packet : Content
@@ -200,7 +200,7 @@ pub record AnswersRenewal (place : ℕ) (v : Venue) (name : List ℕ) (old : Wor
   pub outcome_is : outcome ≡ renewal_done answer
   pub new_is : new ≡ put_venue old place (record v { history = history })
 
--- the next filter is used up, also where there is no place for its subscriber
+-- the next filter is used, also where there is no place for its subscriber
 abbrev pub AnswersSubscribe : Option Terms → World → Done → World → Type 0
 AnswersSubscribe None old outcome new = Stays done.NoFilter old outcome new
 AnswersSubscribe (Some terms) old outcome new =

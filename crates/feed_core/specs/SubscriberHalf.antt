@@ -9,8 +9,8 @@ use Rattle.journal_book.specs.Wanted.{wanted_of}
 use Rattle.journal_book.specs.Changes.{RisesPast}
 use Rattle.feed_core.specs.Worlds.{inside, Subscriber}
 
--- What was dequeued, and that with what is queued behind it, are the first of the notices that are
--- wanted by these terms.
+-- What was dequeued, and that with what is queued after it, are each a prefix of the notices that
+-- these terms want.
 pub record AreNotices (symbols : List (List ℕ)) (entries : List Entry) (terms : Terms)
     (taken left : List Notice) : Type 0 where
   pub dequeued : IsPrefix taken (wanted_of symbols terms entries)

@@ -34,20 +34,20 @@ BringsOnly place s (Dequeue id) = Unit {0}
 abbrev pub BringOnly : ℕ → List Event → Session → Type 0
 BringOnly place events s = AllByRecursion (BringsOnly place s) events
 
--- Each session of this name that the venue began is the one that came: its items from the first up
--- to the first gap, each once, and then End exactly where the end was announced and nothing is
--- missing; no packet of it that came while it was the present one was refused; and one that is
--- over is whole.
+-- Each session of this name that the venue began is the session `s`: its items from the first up to
+-- the first gap, each once, and then End exactly where the end was announced and nothing is
+-- missing; no packet of it that came while it was the present one was refused; and one that is over
+-- is whole.
 pub record AreSession (s : Session) (h : History) : Type 0 where
   pub earlier : AllByRecursion
       (λ b. b.name ≡ s.name → GivesSession s b.packets × (stream_of b.packets ≡ whole_session s))
       h.earlier
   pub present : h.present.name ≡ s.name → GivesSession s h.present.packets
 
--- These are the items of the venue at a place, to which this came: its streams; each session of
--- which the events bring the packets alone is the one that came under its name; and where that is
--- so of all that the venue began, they are these sessions, each whole but the last, which comes up
--- to its first gap: each message before it was taken, and the one there was not.
+-- The items of the venue at a place, which has this history: they are its streams. Each session of
+-- which the events bring the packets alone is the one that came under its name. Where that holds of
+-- all sessions that the venue began, the items are these sessions, each whole but the last, which
+-- goes up to its first gap: each message before the gap was taken, and the one at the gap was not.
 pub record AreVenueItems (events : List Event) (place : ℕ) (all : List Numbered) (h : History)
     : Type 0 where
   pub items : all ≡ streams_of h

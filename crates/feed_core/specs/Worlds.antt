@@ -1,4 +1,4 @@
--- What has happened to a feed: the world of the machine over events. It begins empty.
+-- The world of the machine over events: what has happened to a feed. It begins empty.
 use Rattle.std.specs.Prelude.{ℕ, ◌-◌, Bool, nat_le, List, [], length, drop, map}
 use Rattle.feed_types.specs.declared.item.Numbered.{Numbered}
 use Rattle.feed_types.specs.declared.journal.Entry.{Entry}
@@ -21,7 +21,7 @@ empty_lane = record { sent = []; received = [] }
 abbrev pub inside : {X : Type 0} → Lane X → List X
 inside lane = drop (length lane.received) lane.sent
 
--- as many are inside as the lane holds
+-- whether the lane holds as many items as it can
 abbrev pub is_full : {X : Type 0} → ℕ → Lane X → Bool
 is_full capacity lane = nat_le capacity (length lane.sent - length lane.received)
 
@@ -39,16 +39,16 @@ pub record Subscriber : Type 0 where
   pub terms : Terms
   pub lane : Lane Notice
 
--- the world; `used` counts the filters that were used up
+-- the world; `used` counts the filters that were used
 pub record World : Type 0 where
   pub venues : List Venue
   pub entries : List Entry
   pub subscribers : List Subscriber
   pub used : ℕ
 
--- What a feed is set up with: the name of each venue's first session, the symbols, how many
--- messages a window holds and how many items a lane and the journal hold, and the terms of the
--- filters that were handed in.
+-- The setting of a feed: the name of each venue's first session, the symbols, the capacities of a
+-- window in messages and of a lane and the journal in items, and the terms of the filters that were
+-- handed in.
 pub record Setting : Type 0 where
   pub sessions : List (List ℕ)
   pub symbols : List (List ℕ)

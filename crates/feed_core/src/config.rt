@@ -1,11 +1,11 @@
-//! Why a feed isn't run.
+//! The faults of a configuration and of a run.
 
 ghost use Rattle.std.specs.Prelude.{◌≡◌};
 ghost use Rattle.feed_core.specs.Configs.{config_fault_code, core_fault_code};
 
 use thiserror::Error;
 
-/// Why a configuration is refused: the first of these that fits, in this order.
+/// Why a configuration is refused: the first fault that fits, in this order.
 #[derive(Clone, Copy, Debug, PartialEq, Eq, Hash, Error)]
 pub enum ConfigFault {
     /// A feed has 1 to 16 venues.
@@ -26,7 +26,7 @@ pub enum ConfigFault {
 }
 
 impl ConfigFault {
-    /// The number that stands for the fault, 13 to 16 or 22.
+    /// The code of the fault, 13 to 16 or 22.
     pub fn code(self) -> u8
         ensures { result ≡ config_fault_code self }
     {
@@ -52,7 +52,7 @@ pub enum CoreFault {
 }
 
 impl CoreFault {
-    /// The number that stands for the fault, 12 for memory.
+    /// The code of the fault; 12 for memory.
     pub fn code(self) -> u8
         ensures { result ≡ core_fault_code self }
     {

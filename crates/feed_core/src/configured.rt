@@ -1,4 +1,4 @@
-//! What is made of a configuration first: its sizes are checked, and its journal begins.
+//! The first steps of a run: the configuration's sizes are checked, and its journal begins.
 
 ghost use Rattle.std.specs.Prelude.{◌≡◌, IfOk, IfErr, MatchOption, OnOk};
 ghost use Rattle.feed_core.specs.Configs.{IsSized, IsGood, IsBadConfig, Explains, journal_of_config};
@@ -28,7 +28,7 @@ fn fault_of(config: &FeedConfig<'_>) -> Option<ConfigFault>
     None
 }
 
-/// The journal of the configuration, before an entry.
+/// Makes the journal of the configuration, without an entry.
 ///
 /// BadConfig carries the configuration's first fault, in the order of [`ConfigFault`]; NoMemory
 /// comes where memory was refused.

@@ -1,10 +1,10 @@
-//! What may happen to a feed, and what comes of it.
+//! The events of a feed, and their outcomes.
 
 use feed_types::{LineId, SubscriberId, VenueId};
 use line_arbiter::Outcome;
 
-/// One thing that happens to a feed. A running feed does each in one section under one lock, or as
-/// one step of a queue.
+/// An event of a feed. A running feed does each in one section under one lock, or as one step of a
+/// queue.
 #[derive(Clone, Copy, Debug)]
 pub enum Event<'a> {
     /// A datagram comes on a line of the venue.
@@ -43,13 +43,13 @@ pub enum Event<'a> {
     },
 }
 
-/// What came of an event.
+/// The outcome of an event.
 #[derive(Clone, Copy, Debug, PartialEq, Eq, Hash)]
 pub enum Done {
-    /// It was refused, by the number of the refusal: 1 to 4 a datagram that is no packet, 7 to 11 a
-    /// packet that the venue's lines refuse, 17 a full journal, 18 no such venue, 19 a declaration
-    /// that changes nothing, 20 one subscriber too many, 21 no such subscriber, 35 to 37 a session
-    /// that can't begin.
+    /// The event was refused, by the code of the refusal: 1 to 4 a datagram that is no packet, 7 to
+    /// 11 a packet that the venue's lines refuse, 17 a full journal, 18 no such venue, 19 a
+    /// declaration that changes nothing, 20 one subscriber too many, 21 no such subscriber, 35 to
+    /// 37 a session that can't begin.
     Refused(u8),
     Packet(Outcome),
     /// The item of this number was pushed.
@@ -67,12 +67,12 @@ pub enum Done {
     Dequeued(u64),
     /// The venue has no next item in sequence.
     NothingReady,
-    /// As many items are in the lane as it holds.
+    /// The lane holds as many items as it can.
     LaneFull,
-    /// Nothing is in the lane.
+    /// The lane is empty.
     LaneEmpty,
     /// No further notice meets the subscriber's terms.
     NothingWanted,
-    /// All filters that were handed in are used up.
+    /// All filters that were handed in are used.
     NoFilter,
 }

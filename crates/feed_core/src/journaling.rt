@@ -1,4 +1,4 @@
-//! What happens to the journal of the machine.
+//! The events that change the machine's journal.
 
 ghost use Rattle.std.specs.Prelude.{◌≡◌, ◌<◌, IfOk, OnOk};
 ghost use Rattle.feed_core.specs.Steps.{consume_next, declare_help, next_out, AppliesTo};
@@ -39,7 +39,7 @@ pub(crate) fn consume(
     Ok(Done::Consumed(position))
 }
 
-/// Declare: self-help on the venue is on from here, or off.
+/// Declare: self-help on the venue is on from here (`on`), or off.
 pub(crate) fn declare(journal: &mut Journal, venue: VenueId, on: bool) -> Result<Done, AllocError>
     requires { venue < journal.old.venues }
     ensures comes { IfOk result (λ d. AppliesTo

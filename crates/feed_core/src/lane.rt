@@ -1,4 +1,4 @@
-//! A lane of the machine: all that was ever put in, and how much of it was taken out.
+//! A lane of the machine: everything that was ever put in, and how much of it was taken out.
 
 ghost use Rattle.std.specs.Prelude.{◌≡◌, ◌++◌, ◌∷◌, [], None, IfSome, OnOk, OnErr};
 ghost use Rattle.feed_core.specs.Worlds.{empty_lane, inside, is_full as full_of};
@@ -7,7 +7,7 @@ ghost use Rattle.feed_core.specs.Steps.{next_out};
 use std::alloc::{AllocError, Global};
 use std::marker::Model;
 
-/// Items in the order in which they were put in. Those that were taken out stay, before the others.
+/// Items in the order in which they were put in. Items that were taken out stay, before the others.
 #[derive(Drop)]
 pub(crate) struct Lane<T> {
     items: Vec<T>,
@@ -38,14 +38,14 @@ impl<T: Drop> Lane<T> {
         }
     }
 
-    /// Whether as many items are inside as the lane holds.
+    /// Whether the lane holds `capacity` items or more.
     pub(crate) fn is_full(&self, capacity: u32) -> bool
         ensures { result ≡ full_of capacity self.now }
     {
         capacity as usize <= self.items.len() - self.taken
     }
 
-    /// Puts an item in, behind the others.
+    /// Puts an item in after the others. Fails where memory was refused.
     pub(crate) fn put(&mut self, item: T) -> Result<(), AllocError>
         ensures ok { OnOk result (self.new
             ≡ record self.old { sent = self.old.sent ++ item ∷ [] }) }
@@ -57,14 +57,14 @@ impl<T: Drop> Lane<T> {
         }
     }
 
-    /// What was taken out.
+    /// The items that were taken out.
     pub(crate) fn received(&self) -> &[T]
         ensures { result.now ≡ self.now.received }
     {
         &self.items.as_slice()[..self.taken]
     }
 
-    /// What is inside.
+    /// The items that are inside.
     pub(crate) fn inside(&self) -> &[T]
         ensures { result.now ≡ inside self.now }
     {
@@ -73,7 +73,7 @@ impl<T: Drop> Lane<T> {
 }
 
 impl<T: Copy + Drop> Lane<T> {
-    /// The next item, which is taken out.
+    /// Takes the next item out and returns it; none where the lane is empty.
     pub(crate) fn next(&mut self) -> Option<T>
         ensures next { result ≡ next_out self.old }
         ensures some { IfSome result (λ x. self.new

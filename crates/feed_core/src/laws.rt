@@ -1,4 +1,4 @@
-//! What the definitions mean. Each function has an empty body, and its contract is a law.
+//! Laws of the definitions. Each function has an empty body, and its contract is a law.
 
 ghost use Rattle.std.specs.Prelude.{◌≡◌, ℕ, List, Some, slice_get};
 ghost use Rattle.std.specs.List.{AllByRecursion};
@@ -19,14 +19,14 @@ pub fn headline()
         → IsRun s (new_world s) events outcomes w → Headline s events w }
 {}
 
-/// Its venue half alone.
+/// The headline's venue half alone.
 pub fn venue_half()
     ensures { (s : Setting) (events : List Event) (outcomes : List Done) (w : World)
         → IsRun s (new_world s) events outcomes w
         → (place : ℕ) (v : Venue) → slice_get w.venues place ≡ Some v → VenueHalf events place v }
 {}
 
-/// Its subscriber half alone.
+/// The headline's subscriber half alone.
 pub fn subscriber_half()
     ensures { (s : Setting) (events : List Event) (outcomes : List Done) (w : World)
         → IsRun s (new_world s) events outcomes w
@@ -44,9 +44,8 @@ pub fn one_run()
         → IsRun s old events a v → IsRun s old events b w → v ≡ w }
 {}
 
-/// And it has one: whatever the events, in whatever order and from whatever world, they lead on.
-/// With [`one_run`], exactly one list of outcomes and one world, so that no clause over runs is
-/// empty.
+/// Every list of events has a run, in whatever order and from whatever world. With [`one_run`] it
+/// has exactly one list of outcomes and one world, so that no clause over runs is empty.
 pub fn every_list_of_events_has_a_run()
     ensures { (s : Setting) (old : World) (events : List Event)
         → AllByRecursion BringsBytes events

@@ -1,13 +1,14 @@
 //! The machine over events, and the headline: what a whole feed does, as one list of events.
 //!
 //! [`run`] takes a list of events (packets that come on lines, items that are pushed and consumed,
-//! notices that are offered and dequeued, ..) and shows what they came to as a [`World`]. It has no
-//! threads: a running feed does the same events, each in one section under one lock or as one step
-//! of a queue.
+//! notices that are offered and dequeued, ..) and returns their outcomes and what the feed then
+//! holds as a [`World`]. It has no threads: a running feed does the same events, each in one
+//! section under one lock or as one step of a queue.
 //!
 //! Contract: what is shown is that of the one run over the events (`specs/Runs.antt`), and the
 //! headline holds of it (`specs/Headline.antt`, law [`headline`]). Begin at `specs/Worlds.antt`,
-//! `specs/Runs.antt` and `specs/Steps.antt` for what an event does, and at `running.rt` for the code.
+//! `specs/Runs.antt` and `specs/Steps.antt` for what an event does, and at `running.rt` for the
+//! code.
 #![tactic(auto)]
 
 mod config;

@@ -19,10 +19,10 @@ use journal_book::Journal;
 use std::alloc::{AllocError, Global};
 use std::marker::Model;
 
-/// How many subscribers there are at most.
+/// The most subscribers that a machine has.
 const MAX_SUBSCRIBERS: usize = 32;
 
-/// The parts of a feed. The filters stand beside it, that of each subscriber at its place.
+/// The parts of a feed. The filters are kept beside it, that of each subscriber at its place.
 #[derive(Drop)]
 pub(crate) struct Machine {
     venue_states: Vec<VenueState>,
@@ -81,7 +81,7 @@ fn new_venues(
     Ok(states)
 }
 
-/// Puts what is ready of each venue into its lane.
+/// Puts everything that is ready of each venue into its lane.
 fn finish_all(states: &mut Vec<VenueState>) -> Result<(), AllocError>
     ensures { OnOk result ((window : ℕ) (vs : List Venue) → FitVenues window states.old.items vs
         → ShowVenues states.new.items vs) }
@@ -117,7 +117,7 @@ impl Machine {
         })
     }
 
-    /// What the run shows, once what is ready of each venue came behind what was pushed.
+    /// What the run shows, once what is ready of each venue is put in after what was pushed.
     pub(crate) fn into_world(self, outcomes: Vec<Done>) -> Result<World, AllocError>
         ensures { IfOk result (λ shown. (s : Setting) (events : List Event)
             → HasReached s events outcomes.items self → IsRunOf s events shown) }
@@ -227,7 +227,7 @@ impl Machine {
         state.dequeue()
     }
 
-    /// The next filter is used up, also where there is no place for its subscriber.
+    /// Uses the next filter, also where there is no place for its subscriber.
     fn subscribe(&mut self, alloc: Global, filters: &[Filter]) -> Result<Done, AllocError>
         requires { self.old.used ≤ length filters.now }
         ensures step { IfOk result (λ d. (s : Setting) (w : WorldView)
@@ -247,7 +247,7 @@ impl Machine {
         Ok(Done::Subscribed(subscriber_at(count)))
     }
 
-    /// One event. Each subscriber's filter stands at its place.
+    /// Takes one event. Each subscriber's filter is at its place.
     fn step(
         &mut self,
         alloc: Global,
@@ -272,7 +272,7 @@ impl Machine {
         }
     }
 
-    /// One event after another.
+    /// Takes the events one after another.
     pub(crate) fn take_all(
         &mut self,
         alloc: Global,

@@ -32,12 +32,12 @@ fn run_over(
     machine.into_world(outcomes)
 }
 
-/// Takes the events one after another, and shows what they came to. `filters` are handed in for
-/// Subscribe, in this order.
+/// Takes `events` one after another, and returns their outcomes and what the feed then holds.
+/// `filters` are handed in for Subscribe, in this order.
 ///
-/// The events may be any, in any order: one that can't be is refused by its number, and changes
-/// nothing. A packet that the lines refuse stands among the packets that came, and a Subscribe that
-/// is refused for want of a place uses up its filter. The configuration's `log` isn't used.
+/// The events may be any, in any order: an impossible one is refused by its code, and changes
+/// nothing. A packet that the lines refuse is listed among the packets that came, and a Subscribe
+/// that is refused for want of a place uses its filter. The configuration's `log` isn't used.
 /// BadConfig carries the first fault that fits, in the order of [`ConfigFault`]; NoMemory comes
 /// where memory was refused, and then nothing is shown. The filters are dropped in each case.
 pub fn run(

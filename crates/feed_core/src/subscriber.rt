@@ -1,4 +1,4 @@
-//! One subscriber of the machine: how far its filter has come, and the lane behind it.
+//! One subscriber of the machine: how far its filter has looked, and the lane after it.
 
 ghost use Rattle.std.specs.Prelude.{◌≡◌, ℕ, ◌≤◌, List, None, IfOk, IfSome, IsTrue, filter, take, length, slice_get};
 ghost use Rattle.feed_types.specs.declared.journal.Entry.{Entry};
@@ -31,7 +31,7 @@ impl Model for SubscriberState {
     ghost view = { λ s. record { seen = s.looked_at; lane = s.notices } };
 }
 
-/// The place of the next notice that the filter answers for, from one on; or the end.
+/// The place of the first notice, from place `from` on, that the filter wants; else their number.
 fn next_wanted(asked: &Filter, notices: &[Notice], from: usize) -> usize
     ensures within { result ≤ length notices.now }
     ensures passed { filter (meets (terms_of asked.now)) (take result notices.now)
@@ -67,7 +67,7 @@ impl SubscriberState {
         }
     }
 
-    /// Offer, into a lane that holds so many notices.
+    /// Offer, into a lane of this capacity.
     pub(crate) fn offer(
         &mut self,
         asked: &Filter,
@@ -93,7 +93,7 @@ impl SubscriberState {
         Ok(Done::Offered(number))
     }
 
-    /// Dequeue: the next notice of the lane is taken out of it.
+    /// Dequeue: takes the next notice out of the lane.
     pub(crate) fn dequeue(&mut self) -> Done
         ensures comes { AppliesTo (dequeue_next (next_out self.old.lane) self.old.lane.received)
             self.old.lane.received result self.new.lane.received }
@@ -108,14 +108,14 @@ impl SubscriberState {
         }
     }
 
-    /// What was dequeued.
+    /// The notices that were dequeued.
     pub(crate) fn dequeue_next(&self) -> &[Notice]
         ensures { result.now ≡ self.now.lane.received }
     {
         self.notices.received()
     }
 
-    /// What is in the lane.
+    /// The notices that are in the lane.
     pub(crate) fn queued(&self) -> &[Notice]
         ensures { result.now ≡ inside self.now.lane }
     {

@@ -1,4 +1,4 @@
-//! One venue of the machine: its arbiter, and the lane behind it.
+//! One venue of the machine: its arbiter, and the lane after it.
 
 ghost use Rattle.std.specs.Prelude.{◌≡◌, ◌⊎◌, ℕ, ◌++◌, ◌∷◌, [], List, None, IfOk, IfSome, OnOk, OnErr, drop};
 ghost use Rattle.mold_packet.specs.Content.{Spells};
@@ -72,7 +72,7 @@ impl VenueState {
         }
     }
 
-    /// Packet.
+    /// Packet: takes the bytes of a datagram on the line.
     pub(crate) fn take(&mut self, line: LineId, bytes: &[u8]) -> Done
         ensures { (window place : ℕ) (v : Venue) → FitsVenue window place self.old v
             → LeftFaulty bytes.now result self.old self.new
@@ -84,7 +84,7 @@ impl VenueState {
         }
     }
 
-    /// Renew.
+    /// Renew: begins the venue's next session, under this name.
     pub(crate) fn renew(&mut self, session: [u8; 10]) -> Done
         ensures { (window place : ℕ) (v : Venue) → FitsVenue window place self.old v
             → LeftRenewed window place v session result self.new }
@@ -95,7 +95,7 @@ impl VenueState {
         }
     }
 
-    /// Push, into a lane that holds so many items.
+    /// Push, into a lane of this capacity.
     pub(crate) fn push(&mut self, capacity: u32) -> Result<Done, AllocError>
         ensures { IfOk result (λ d. (window place : ℕ) (v : Venue)
             → FitsVenue window place self.old v
@@ -113,7 +113,7 @@ impl VenueState {
         Ok(Done::Pushed(number))
     }
 
-    /// The next item of the lane, which is taken out of it.
+    /// Takes the next item out of the lane and returns it; none where the lane is empty.
     pub(crate) fn next(&mut self) -> Option<Numbered>
         ensures next { result ≡ next_out self.old.lane }
         ensures some { IfSome result (λ x. self.new ≡ record self.old {
@@ -124,7 +124,8 @@ impl VenueState {
         self.items.next()
     }
 
-    /// Puts all that is ready into the lane, however much it holds, so that it shows what waits.
+    /// Puts everything that is ready into the lane, beyond its capacity too, so that it shows what
+    /// waits.
     pub(crate) fn finish(&mut self) -> Result<(), AllocError>
         ensures { OnOk result ((window place : ℕ) (v : Venue) → FitsVenue window place self.old v
             → ShowsLane self.new.lane v) }
@@ -132,14 +133,14 @@ impl VenueState {
         drain(&mut self.lines, &mut self.items)
     }
 
-    /// What was consumed of the venue.
+    /// The venue's items that were consumed.
     pub(crate) fn consumed(&self) -> &[Numbered]
         ensures { result.now ≡ self.now.lane.received }
     {
         self.items.received()
     }
 
-    /// What is in its lane.
+    /// The venue's items that are in its lane.
     pub(crate) fn waiting(&self) -> &[Numbered]
         ensures { result.now ≡ inside self.now.lane }
     {

@@ -1,4 +1,4 @@
-//! What a run over events shows.
+//! The result of a run over events.
 
 ghost use Rattle.std.specs.Prelude.{◌≡◌, ◌<◌, length, IfSome, slice_get};
 ghost use Rattle.feed_core.specs.Fitting.{shown_by};
@@ -10,7 +10,7 @@ use feed_types::{Entry, Notice, Numbered, SubscriberId, VenueId};
 use journal_book::Journal;
 use std::marker::Model;
 
-/// A finished run: what came of each event, and what the feed had come to after the last one.
+/// A finished run: the outcome of each event, and what the feed holds after the last one.
 #[derive(Drop)]
 pub struct World {
     done: Vec<Done>,
@@ -46,21 +46,21 @@ impl World {
         }
     }
 
-    /// What came of each event, in order.
+    /// The outcome of each event, in order.
     pub fn outcomes(&self) -> &[Done]
         ensures { result.now ≡ self.now.outcomes }
     {
         self.done.as_slice()
     }
 
-    /// How many venues there are.
+    /// The number of venues.
     pub fn venue_count(&self) -> usize
         ensures { result ≡ length self.now.venues }
     {
         self.venue_states.len()
     }
 
-    /// How many subscribers there are.
+    /// The number of subscribers.
     pub fn subscriber_count(&self) -> usize
         ensures { result ≡ length self.now.subscribers }
     {
