@@ -109,7 +109,7 @@ joined t u a b c d =
     sym (append_assoc t u (a ++ (b ++ (c ++ d)))) ∙ sym (append_assoc (t ++ u) a (b ++ (c ++ d)))
     ∙ sym (append_assoc (t ++ u ++ a) b (c ++ d)) ∙ sym (append_assoc (t ++ u ++ a ++ b) c d)
 
--- a price behind its dollars: a point, and two pairs for the four digits
+-- a price after its dollars: a point, and two pairs for the four digits
 pub price_digits : (dollars : List ℕ) (p : ℕ) → dollars ++ (46 ∷ [] ++ (pair (p % 10000 / 100) ++ pair (p % 10000 % 100)))
     ≡ dollars ++ (46 ∷ []) ++ decimal (p / 1000 % 10) ++ decimal (p / 100 % 10) ++ decimal (p / 10 % 10) ++ decimal (p % 10)
 price_digits dollars p =

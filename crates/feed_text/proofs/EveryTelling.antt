@@ -1,4 +1,4 @@
--- Each list of records tells something.
+-- Each list of records emits events.
 use Rattle.std.proofs.Common.{◌≡◌, ℕ, ◌<◌, Bool, List, [], ◌∷◌, ◌++◌, length, refl, sym, subst, ◌∙◌, arith, inl, inr}
 use Rattle.std.specs.Prelude.{All, map, slice_set}
 use Rattle.std.specs.List.{AllByRecursion}
@@ -17,7 +17,7 @@ use Rattle.feed_text.specs.Texts.{EmitsAll}
 use Rattle.feed_text.specs.Replays.{venues_in}
 use Rattle.feed_text.proofs.Telling.{get_within}
 
--- what a record tells of its venue, to which this came
+-- the events that a record emits of its venue, which has this history
 tells_at : (window : ℕ) (gaps : Bool) (r : CaptureRecord) (old : History) → HoldsBytes r → (emitted : List ReplayEvent) × (new : History) × EmitsAt window gaps r old emitted new
 tells_at window gaps (datagram_record venue line bytes) old are = elim (read_or_fault bytes are) [
   | inr fault ↦ (packet_refused venue line fault.0 ∷ gap_emitted window gaps venue old, old, inl (record { fault = fault.0; has = fault.1; same = refl; emitted_is = refl }))

@@ -97,7 +97,7 @@ pub entries_grow : (old : List Entry) (hs : List ReplayEvent) → length old ≤
 entries_grow old [] = omega arith
 entries_grow old (h ∷ hs) = let a = after_grows old h in let b = entries_grow (entries_after old h) hs in omega arith
 
--- what had room up to the next happening is the same front
+-- what had room up to the next event is the same prefix
 one_front : (limit : ℕ) (old : List Entry) (f g : List ReplayEvent) (x y : ReplayEvent) (xs ys : List ReplayEvent) → f ++ x ∷ xs ≡ g ++ y ∷ ys
     → length (entries_of old f) ≤ limit → length (entries_of old g) ≤ limit
     → limit < length (entries_of old (f ++ x ∷ [])) → limit < length (entries_of old (g ++ y ∷ []))
@@ -134,7 +134,7 @@ last_one (z ∷ xs) (w ∷ ys) x y e =
     let back : xs ≡ ys = rest.0 in
     (cc, rest.1)
 
--- what has room, and what has none, behind what was told before
+-- what has room, and what has none, after what was emitted before
 room_behind : (config : ReplayConfig) (emitted more : List ReplayEvent) → HasJournalRoom config (emitted ++ more) → length (entries_of (entries_of [] emitted) more) ≤ config.journal
 room_behind config emitted more h = subst (λ (es : List Entry). length es ≤ config.journal) (entries_more [] emitted more) h
 

@@ -1,4 +1,4 @@
--- A packet that needed no place in the window, and its items told one after the other.
+-- A packet that needed no place in the window, and its items emitted one after the other.
 use Rattle.std.proofs.Common.{◌≡◌, ℕ, ◌+◌, List, [], ◌∷◌, ◌++◌, length, sym, ap, subst, ◌∙◌}
 use Rattle.std.specs.Prelude.{drop, map, Result, Ok, Err, OnOk}
 use Rattle.std.proofs.lemmas.List.{map-append}
@@ -33,7 +33,7 @@ one_more venue n k m now rest e is =
     ap (λ (xs : List (List ℕ)). map (item_taken venue) (numbered_from n (map item_of xs))) is
     ∙ ap (λ (j : ℕ). item_taken venue (record { number = n; item = item_of m }) ∷ map (item_taken venue) (numbered_from j (map item_of rest))) e
 
--- the packet, its items and what is ready behind them are the stream's
+-- the packet, its items and what is ready after them are the stream's
 pub passed_all : (venue from to : ℕ) (items stream : List Numbered) (line : LineId) (o : Outcome) (t0 t1 t2 t3 : ReplayState) (done : Result (Unit {0}) PublishStop)
     → drop from stream ≡ items ++ drop to stream
     → GoesOn t0 (packet_answered venue line (Ok o) ∷ []) t1
@@ -48,7 +48,7 @@ passed_all venue from to items stream line o t0 t1 t2 t3 done sends head first l
     (tells_more t3 (P ∷ map (item_taken venue) items) (map (item_taken venue) (drop to stream)) done
     (goes_more (P ∷ []) (map (item_taken venue) items) head first) last)
 
--- the telling stopped within the packet's items
+-- a stop within the packet's items
 pub passed_part : (venue from to : ℕ) (items stream : List Numbered) (line : LineId) (o : Outcome) (t0 t1 t2 : ReplayState) (stop : PublishStop)
     → drop from stream ≡ items ++ drop to stream
     → GoesOn t0 (packet_answered venue line (Ok o) ∷ []) t1
@@ -79,7 +79,7 @@ stays_repeated order last old new is sent kept = record {
   earlier = kept.earlier;
 }
 
--- a next packet was taken, and then all that is ready was told
+-- a next packet was taken, and then everything that is ready was emitted
 pub passed_told : (width place : ℕ) (h : History) (v : ReplayVenue) (mid new : State) (line : LineId) (p : Content) (o : Outcome) (t0 t1 : ReplayState) (done : Result (Unit {0}) PublishStop)
     → Follows width place v h
     → ((packets : List Arrival) → Fits v.arbiter packets → IsOutcome v.arbiter.session v.arbiter.window v.arbiter.sent packets p (Ok o))

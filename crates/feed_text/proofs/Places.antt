@@ -1,4 +1,4 @@
--- Bytes that were placed one after the other, and a front of what was placed.
+-- Bytes that were placed one after the other, and a prefix of what was placed.
 use Rattle.std.proofs.Common.{◌≡◌, ℕ, ◌+◌, ◌≤◌, List, ◌++◌, length, take, sym, ap, subst, ◌∙◌, arith, append_assoc, length-append, length-take-le}
 use Rattle.std.proofs.Math.Seq.{take-append-add}
 use Rattle.std.proofs.lemmas.List.{take-take}
@@ -8,7 +8,7 @@ use Rattle.feed_text.specs.Placing.{Placed}
 pub placed_as : (old new xs ys : List ℕ) (at end : ℕ) → Placed old new at xs end → xs ≡ ys → Placed old new at ys end
 placed_as old new xs ys at end h e = subst (λ (s : List ℕ). Placed old new at s end) e h
 
--- one piece behind another
+-- one piece after another
 pub placed_more : (old mid new xs ys : List ℕ) (at here end : ℕ) → Placed old mid at xs here → Placed mid new here ys end → Placed old new at (xs ++ ys) end
 placed_more old mid new xs ys at here end first next = record {
   front = next.front ∙ ap (λ (s : List ℕ). s ++ ys) first.front ∙ append_assoc _ xs ys;
@@ -16,7 +16,7 @@ placed_more old mid new xs ys at here end first next = record {
   len = next.len ∙ first.len;
 }
 
--- a front of what was placed
+-- a prefix of what was placed
 pub placed_front : (old new xs : List ℕ) (at end n : ℕ) → Placed old new at xs end → at ≤ length old → n ≤ length xs → Placed old new at (take n xs) (at + n)
 placed_front old new xs at end n h room few =
     let l : length (take at old) ≡ at = length-take-le at old room in

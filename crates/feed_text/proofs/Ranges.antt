@@ -9,13 +9,13 @@ range_drop b view s n e v h k m =
     let same : slice_range b (s + n) e ≡ drop n (slice_range b s e) = same_lists _ _ (search (rules, places)) (λ i d l. grind (arith, places)) in
     same ∙ ap (drop n) v
 
--- a part that lies within the front that stayed
+-- a part that lies within the prefix that stayed
 pub range_kept : (moved new view : List ℕ) (s e : ℕ) → slice_range moved s e ≡ view → s ≤ e → e ≤ length moved → e ≤ length new → take e new ≡ take e moved → slice_range new s e ≡ view
 range_kept moved new view s e v h k m front =
     let same : slice_range new s e ≡ slice_range moved s e = same_lists _ _ (search (rules, places)) (λ i d l. let at : get_or (take e new) (s + i) d ≡ get_or (take e moved) (s + i) d = ap (λ xs. get_or xs (s + i) d) front in grind (arith, places)) in
     same ∙ v
 
--- what was there, and what came behind it
+-- what was there, and what follows it
 pub range_more : (moved new view : List ℕ) (s e n : ℕ) → slice_range moved s e ≡ view → s ≤ e → e ≤ length moved → e + n ≤ length new → take e new ≡ take e moved → slice_range new s (e + n) ≡ view ++ slice_range new e (e + n)
 range_more moved new view s e n v h k m front =
     let split : slice_range new s (e + n) ≡ slice_range new s e ++ slice_range new e (e + n) = same_lists _ _ (search (rules, places)) (λ i d l. grind (arith, places)) in

@@ -29,7 +29,8 @@ pub record Laws {R W : Type 0} (reading : Reading R) (writing : Writing W) : Typ
   pub adds_more : (s t u : W) (xs ys : List ℕ) → writing.adds s xs t → writing.adds t ys u
       → writing.adds s (xs ++ ys) u
 
--- The tale is that of these happenings, of whose lines these were written and the text is what is left.
+-- The state is that after these events, of whose lines these were written and the text is what is
+-- left.
 pub record Told (config : ReplayConfig) (emitted : List ReplayEvent) (shown : List ℕ) (state : ReplayState) : Type 0 where
   pub symbols : state.symbols ≡ config.symbols.now
   pub venues : state.venues ≡ venues_in config
@@ -42,8 +43,9 @@ pub record Told (config : ReplayConfig) (emitted : List ReplayEvent) (shown : Li
 pub told_none : {config : ReplayConfig} (j : RunningState) (text : List ℕ) → j ≡ new_running config.symbols.now (venues_in config) config.journal → text ≡ [] → Told config [] [] (tale_from j text)
 told_none j text e none = rw (e, none) (record { symbols = refl; venues = refl; journal = refl; entries = refl; within = omega arith; all = refl })
 
--- By so many calls these records and then this rest were read, the venues follow the histories that the records
--- lead to, the tale is that of what they tell, and of its lines these were written and the text is what is left.
+-- `calls` calls read these records and then this rest, the venues follow the histories that the
+-- records lead to, the state is that after their events, and of its lines these were written and
+-- the text is what is left.
 pub record SoFar {R W : Type 0} (reading : Reading R) (writing : Writing W) (config : ReplayConfig)
     (from : R) (calls : ℕ) (to : R) (before after : W) (venues : VenueList) (rest : List ℕ) (state : ReplayState)
     : Type 0 where
@@ -96,7 +98,7 @@ tells_records window gaps (r ∷ rs) qs old mid new xs ys (m, first, others, one
 pub tells_one : (window : ℕ) (gaps : Bool) (rs : List CaptureRecord) (r : CaptureRecord) (old mid new : List History) (xs ys : List ReplayEvent) → Emits window gaps rs old xs mid → EmitsRecord window gaps r mid ys new → Emits window gaps (rs ++ r ∷ []) old (xs ++ ys) new
 tells_one window gaps rs r old mid new xs ys a b = tells_records window gaps rs (r ∷ []) old mid new xs ys a (new, ys, [], b, (refl, refl), sym (append-nil ys))
 
--- the tale goes on
+-- the state goes on
 told_more : {config : ReplayConfig} {shown : List ℕ} {t u : ReplayState} (emitted more : List ReplayEvent) → Told config emitted shown t → GoesOn t more u → Told config (emitted ++ more) shown u
 told_more {config = config} {shown = shown} {t = t} {u = u} emitted more x g =
     let entries : entries_of t.entries more ≡ entries_of [] (emitted ++ more) = rw x.entries (sym (entries_more [] emitted more)) in
@@ -114,7 +116,7 @@ told_more {config = config} {shown = shown} {t = t} {u = u} emitted more x g =
           ∙ sym (text_more config.symbols.now [] emitted more);
     }
 
--- a front of the text was written
+-- a prefix of the text was written
 told_moved : {config : ReplayConfig} {emitted : List ReplayEvent} {shown : List ℕ} {t : ReplayState} (out left : List ℕ) → Told config emitted shown t → t.text ≡ out ++ left → Told config emitted (shown ++ out) (tale_with t t.entries left)
 told_moved {shown = shown} out left x e = record {
   symbols = x.symbols;
@@ -125,11 +127,11 @@ told_moved {shown = shown} out left x e = record {
   all = append_assoc shown out left ∙ ap (λ (l : List ℕ). shown ++ l) (sym e) ∙ x.all;
 }
 
--- what was told has room in the journal
+-- the emitted events have room in the journal
 told_room : {config : ReplayConfig} {emitted : List ReplayEvent} {shown : List ℕ} {t : ReplayState} → Told config emitted shown t → HasJournalRoom config emitted
 told_room x = rw (← x.entries, ← x.journal) x.within
 
--- the record that stands at the front of the unread bytes is taken, and they are what lies behind it
+-- the record that begins the unread bytes is taken, and they are what follows it
 pub so_far_step : {R W : Type 0} {reading : Reading R} {writing : Writing W} {config : ReplayConfig} {from to : R} {calls : ℕ} {before after : W} {venues next : VenueList} {unread : List ℕ} {t u : ReplayState}
     (e : CaptureRecord) (len : ℕ) (seen left : List ℕ) → IsRecord (venues_in config) e → seen ≡ unread → seen ≡ record_bytes e ++ drop len seen → left ≡ drop len unread → TakesRecord venues e t u next (Ok tt)
     → SoFar reading writing config from calls to before after venues unread t → SoFar reading writing config from calls to before after next left u
@@ -243,7 +245,8 @@ front_wrote {writing = writing} {config = config} {before = before} {after = aft
       wrote = record { count = length x.shown + w.count; taken = subst (λ (xs : List ℕ). writing.adds before xs after) (sym front) (laws.adds_more _ _ _ _ _ x.wrote w.taken) };
     }
 
--- What was read and told where the journal was full within a record: all but what lies behind that place.
+-- What was read and emitted where the journal was full within a record: everything before that
+-- place.
 pub record FullHere {R W : Type 0} (reading : Reading R) (writing : Writing W) (config : ReplayConfig)
     (from : R) (calls : ℕ) (to : R) (before after : W) (text : List ℕ) : Type 0 where
   pub records : List CaptureRecord
@@ -255,7 +258,7 @@ pub record FullHere {R W : Type 0} (reading : Reading R) (writing : Writing W) (
   pub wrote : writing.adds before shown after
   pub all : shown ++ text ≡ lines
 
--- the record that stands at the front of the unread bytes had no room in the journal
+-- the record that begins the unread bytes had no room in the journal
 pub full_here : {R W : Type 0} {reading : Reading R} {writing : Writing W} {config : ReplayConfig} {from to : R} {calls : ℕ} {before after : W} {venues next : VenueList} {unread : List ℕ} {t u : ReplayState}
     (e : CaptureRecord) (len : ℕ) (seen : List ℕ) → IsRecord (venues_in config) e → seen ≡ unread → seen ≡ record_bytes e ++ drop len seen → TakesRecord venues e t u next (Err stops.JournalFull)
     → SoFar reading writing config from calls to before after venues unread t → FullHere reading writing config from calls to before after u.text
@@ -315,7 +318,7 @@ full_until {writing = writing} {before = before} {after = after} laws x w = reco
   came_to = refl;
 }
 
--- or a front of it
+-- or a prefix of it
 pub full_front : {R W : Type 0} {reading : Reading R} {writing : Writing W} {config : ReplayConfig} {from to : R} {calls : ℕ} {before mid after : W} {text : List ℕ}
     → Laws reading writing → FullHere reading writing config from calls to before mid text → Wrote writing.adds mid text after → WrotePrefix reading writing config (texts_of config) from to before after
 full_front {writing = writing} {before = before} {after = after} {text = text} laws x w =
@@ -398,7 +401,7 @@ pub on_err : {T E : Type 0} (r : Result T E) {P : Type 0} → P → OnErr r P
 on_err (Ok x) p = tt
 on_err (Err e) p = p
 
--- a header stays one, whatever comes behind it
+-- a header stays one, whatever follows it
 header_grows : (venues : ℕ) (s more : List ℕ) → IsHeader venues s → IsHeader venues (s ++ more) × (len_at (s ++ more) ≡ len_at s)
 header_grows venues s more h =
     let four : 4 ≤ length s = h.whole in

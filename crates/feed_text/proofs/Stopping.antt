@@ -14,7 +14,7 @@ use Rattle.feed_text.specs.Following.{VenueList, TakesRecord, PrintsLast, Closes
 use Rattle.feed_text.specs.Replays.{Replays, venues_in}
 use Rattle.feed_text.proofs.Steps.{Laws, SoFar, so_far_read, replays_to, replays_until, refused_of, front_wrote, replays_all, front_closed, full_here, full_until, full_front}
 
--- a text that has only grown, cut where it ended
+-- a text that has only grown, cut where it ended before
 pub cut_back : {old new : List ℕ} → Grows old new → take (length old) new ≡ old
 cut_back {old} g = rw g.behind (take-append_seam old g.more)
 
@@ -25,7 +25,7 @@ taken_whole {adds = adds} {before = before} {after = after} m e = subst (λ (xs 
 pub only_fault : (fault : ReplayFault) → IsErrOf {T = Unit {0}} (Err fault) WriteFailed → fault ≡ WriteFailed
 only_fault fault e = cc
 
--- the last lines, behind no text
+-- the last lines, after no text
 pub last_of : (at : VenueList) (none lines : List ℕ) → none ≡ [] → PrintsLast at none lines → PrintsLast at [] lines
 last_of at none lines e p = subst (λ (t : List ℕ). PrintsLast at t lines) e p
 
@@ -41,7 +41,7 @@ closes_by adds failures at before after text left (Err ShortRecord) last ok only
 closes_by adds failures at before after text left (Err TooManyTurns) last ok only failed part = absurd (cc)
 closes_by adds failures at before after text left (Err JournalFull) last ok only failed part = absurd (cc)
 
--- what was told was written
+-- what was emitted was written
 pub stops_written : {W : Type 0} (adds : W → List ℕ → W → Type 0) (failures : W → ℕ) (stop : PublishStop) (whole : ℕ) (text here left : List ℕ) (before after : W) (fault : ReplayFault)
     → fault ≡ fault_by stop → here ≡ left_by stop whole text → Moved adds before after here left × (left ≡ [])
     → Stops adds failures stop whole text before after fault

@@ -1,4 +1,4 @@
--- Tales that go on: happenings after happenings.
+-- States that go on: events after events.
 use Rattle.std.proofs.Common.{◌≡◌, ℕ, Bool, true, false, ◌+◌, ◌<◌, ◌≤◌, List, [], ◌∷◌, ◌++◌, length, drop, refl, sym, ap, subst, ◌∙◌, arith, append_assoc, append-nil, length-append}
 use Rattle.std.specs.Prelude.{Result, Ok, Err, flat_map, not, Some, None, Option}
 use Rattle.std.proofs.Math.ListN.{drop_of_length-le}
@@ -29,7 +29,7 @@ tale_from j text = record {
   text = text;
 }
 
--- a tale with other entries and another text
+-- a state with other entries and another text
 abbrev pub tale_with : ReplayState → List Entry → List ℕ → ReplayState
 tale_with t entries text = record {
   symbols = t.symbols;
@@ -95,13 +95,13 @@ full_more xs ys g k = record {
   full = k.full;
 }
 
--- what was told goes on with what was told next, or stops there
+-- what was emitted goes on with what was emitted next, or stops there
 pub tells_more : {a b : ReplayState} (c : ReplayState) (xs ys : List ReplayEvent) (done : Result (Unit {0}) PublishStop) → GoesOn a xs b → EmitsInto b ys c done → EmitsInto a (xs ++ ys) c done
 tells_more c xs ys (Ok u) g k = goes_more xs ys g k
 tells_more c xs ys (Err JournalFull) g k = full_more xs ys g k
 tells_more c xs ys (Err NoMemory) g k = grows_on (goes_grows xs g) k
 
--- where the telling stopped, nothing behind it was told
+-- after a stop nothing was emitted
 pub tells_stop : (a c : ReplayState) (xs ys : List ReplayEvent) (stop : PublishStop) → EmitsInto a xs c (Err stop) → EmitsInto a (xs ++ ys) c (Err stop)
 tells_stop a c xs ys JournalFull k = record {
   first = k.first;
@@ -113,7 +113,7 @@ tells_stop a c xs ys JournalFull k = record {
 }
 tells_stop a c xs ys NoMemory k = k
 
--- under another spelling of what was told
+-- under another spelling of what was emitted
 pub tells_as : (a c : ReplayState) {xs ys : List ReplayEvent} (done : Result (Unit {0}) PublishStop) → xs ≡ ys → EmitsInto a xs c done → EmitsInto a ys c done
 tells_as a c done e k = subst (λ (hs : List ReplayEvent). EmitsInto a hs c done) e k
 
@@ -123,7 +123,7 @@ bests_none symbols old new e =
     ap (λ (n : List Entry). flat_map best_line (notices_since symbols old n)) e
     ∙ ap (flat_map best_line) (drop_of_length-le (changes_of symbols old) (omega arith))
 
--- one happening: its line and then the best lines, and the entries after it
+-- one event: its line and then the best lines, and the entries after it
 step_goes : (t : ReplayState) (h : ReplayEvent) (entries : List Entry) (text : List ℕ) → entries ≡ entries_after t.entries h
     → text ≡ (t.text ++ line_of t.entries h) ++ flat_map best_line (notices_since t.symbols t.entries entries)
     → (IsWithinJournal t → length entries ≤ t.journal)
@@ -139,7 +139,7 @@ step_goes t h entries text e put within = record {
   within = within;
 }
 
--- a happening without an entry: its line alone
+-- an event without an entry: its line alone
 pub line_goes : (t : ReplayState) (h : ReplayEvent) (text : List ℕ) → entries_after t.entries h ≡ t.entries → text ≡ t.text ++ line_of t.entries h → GoesOn t (h ∷ []) (tale_with t t.entries text)
 line_goes t h text same put =
     step_goes t h t.entries text (sym same)
@@ -161,7 +161,7 @@ one_longer entries e limit h = let n = length-append entries (e ∷ []) in omega
 since-last : (symbols : List (List ℕ)) (old : List Entry) (e : Entry) → latest_of symbols (old ++ e ∷ []) ≡ notices_since symbols old (old ++ e ∷ [])
 since-last symbols old e = ap (λ (es : List Entry). drop (length (changes_of symbols es)) (changes_of symbols (old ++ e ∷ []))) (before-put old e)
 
--- the best lines of the last entry, behind a text
+-- the best lines of the last entry, after a text
 bests_since : (o j : RunningState) (e : Entry) (t1 t2 : List ℕ) (latest : List Notice)
     → GoesOnBy o e j → latest ≡ latest_of j.symbols j.entries → t2 ≡ t1 ++ flat_map best_line latest
     → t2 ≡ t1 ++ flat_map best_line (notices_since o.symbols o.entries (o.entries ++ e ∷ []))
@@ -230,7 +230,7 @@ declared_goes o j venue on position latest t0 t1 t2 other room made placed head 
     (sym (ap (λ (s : RunningState). tale_from s t2) made))
     (step_goes (tale_from o t0) (self_help_declared venue on) N t2 (sym after) text (λ w. one_longer o.entries (SelfHelp venue on) o.journal room))
 
--- one that is so already
+-- one that is declared already
 pub already_goes : (o j : RunningState) (venue : ℕ) (on : Bool) (t0 t1 : List ℕ)
     → is_self_helped o.entries venue ≡ on → j ≡ o → t1 ≡ t0 ++ declare_line venue on None
     → GoesOn (tale_from o t0) (self_help_declared venue on ∷ []) (tale_from j t1)
@@ -256,7 +256,7 @@ declared_full o venue on text other full = record {
       rw so (omega arith);
 }
 
--- Of all these happenings some were told, and the rest is still to be told.
+-- Of all these events some were emitted, and the rest is still to be emitted.
 pub record Took (whole rest : List ReplayEvent) (old new : ReplayState) : Type 0 where
   pub done : List ReplayEvent
   pub goes : GoesOn old done new

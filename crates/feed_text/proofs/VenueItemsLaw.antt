@@ -1,4 +1,4 @@
--- What is told of a venue's items is its streams.
+-- The items that are emitted of a venue are its streams.
 use Rattle.std.proofs.Common.{◌≡◌, ◌≢◌, ℕ, zero, suc, Bool, true, false, List, [], ◌∷◌, ◌++◌, length, map, drop, Some, None, Option, Result, Ok, Err, refl, sym, ap, subst, ◌∙◌, arith, append_assoc, append-nil, inl, inr}
 use Rattle.std.specs.Prelude.{◌==◌, slice_get, slice_set, if◌then◌else◌}
 use Rattle.std.specs.List.{AllByRecursion}
@@ -30,17 +30,17 @@ use Rattle.feed_text.proofs.Telling.{get_set_same, get_set_other, same_or_not}
 
 -- ---- what came to a venue
 
--- a session that is over: each packet was answered as it should be, and all of its messages came
+-- a session that is over: each packet was answered by the definitions, and all of its messages came
 pub record IsOver (window : ℕ) (b : Begun) : Type 0 where
   pub answered : AreAnswered b.name window b.packets
   pub complete : IsComplete b.packets
 
--- each packet of the present session, too, was answered as it should be
+-- each packet of the present session was answered by the definitions, too
 pub record IsKept (window : ℕ) (h : History) : Type 0 where
   pub over : AllByRecursion (IsOver window) h.earlier
   pub answered : AreAnswered h.present.name window h.present.packets
 
--- What a record makes of a venue: what was told of its items comes behind its streams.
+-- The effect of a record on a venue: the items that it emits follow the venue's streams.
 pub record GoesOn (window place : ℕ) (old : History) (emitted : List ReplayEvent) (new : History) : Type 0 where
   pub items : streams_of new ≡ streams_of old ++ items_taken place emitted
   pub kept : IsKept window new
@@ -49,7 +49,7 @@ all_push : {X : Type 0} (Q : X → Type 0) (xs : List X) (x : X) → AllByRecurs
 all_push Q [] x all one = (one, tt)
 all_push Q (y ∷ xs) x all one = (all.0, all_push Q xs x all.1 one)
 
--- ---- the items among what was told
+-- ---- the items among what was emitted
 
 same : (n : ℕ) → (n == n) ≡ true
 same n = grind (arith, nat_tests)
@@ -73,7 +73,7 @@ no_gap_items place window true venue h = at (gap_of h.present.name window (strea
     at None = refl
     at (Some request) = refl
 
--- of a packet's happenings
+-- of a packet's events
 packet_items : (place window : ℕ) (gaps : Bool) (venue : ℕ) (line : LineId) (answer : Result Outcome LineFault) (xs : List Numbered) (h : History)
     → items_taken place (packet_answered venue line answer ∷ map (item_taken venue) xs ++ gap_emitted window gaps venue h) ≡ items_taken place (map (item_taken venue) xs)
 packet_items place window gaps venue line answer xs h =
@@ -155,7 +155,7 @@ no_items window gaps place (self_help_record venue on) old new emitted away t = 
 abbrev pub Each : ℕ → List History → Type 0
 Each window hs = (place : ℕ) (h : History) → slice_get hs place ≡ Some h → IsKept window h
 
--- what records make of the venue at a place
+-- the effect of records on the venue at a place
 record Came (window place : ℕ) (old : List History) (emitted : List ReplayEvent) (new : History) : Type 0 where
   before : History
   at : slice_get old place ≡ Some before
@@ -220,6 +220,6 @@ taken_are_streams config records emitted hs t place h at =
     let first = new_at (λ k. streams_of k ≡ []) config.sessions.now (λ name. refl) place c.before c.at in
     sym (c.items ∙ ap (λ (xs : List Numbered). xs ++ items_taken place emitted) first)
 
--- each packet of what came was answered as it should be
+-- each packet that came was answered by the definitions
 pub all_kept : (config : ReplayConfig) (records : List CaptureRecord) (emitted : List ReplayEvent) (histories : List History) → EmitsAll config records emitted histories → Each config.window histories
 all_kept config records emitted hs t place h at = (came config records emitted hs t place h at).kept

@@ -1,4 +1,4 @@
--- What a venue's steps leave, said of plain states.
+-- What a venue's steps leave, in terms of plain states.
 use Rattle.std.proofs.Common.{◌≡◌, ℕ, ◌+◌, Bool, true, false, List, [], ◌∷◌, ◌++◌, length, refl, sym, ap, subst, ◌∙◌, append-nil, arith, length-append, inl, inr}
 use Rattle.std.specs.Prelude.{Option, Result, Ok, Err, OnOk, drop, map}
 use Rattle.std.proofs.lemmas.Result.{on_ok_weaker}
@@ -104,7 +104,7 @@ fault_told width place h v line bytes fault t0 t1 done has emits f = record {
   follows = on_ok done f;
 }
 
--- what a datagram tells where gaps are asked for, too
+-- the events of a datagram where gaps are asked for, too
 gap_at : (width place : ℕ) (gaps : Bool) (line : LineId) (bytes : List ℕ) (h after : History) (emitted : List ReplayEvent)
     → EmitsAt width false (datagram_record place line bytes) h emitted after
     → EmitsAt width gaps (datagram_record place line bytes) h (emitted ++ gap_emitted width gaps place after) after
@@ -124,7 +124,7 @@ gap_at width place gaps line bytes h after emitted (inr a) =
           ∙ ap (λ (hs : List ReplayEvent). packet_answered place line a.answer ∷ hs ++ G) (append-nil items);
     })
 
--- and then the gap was told
+-- and then the gap was emitted
 pub gap_added : (width place : ℕ) (h : History) (v : ReplayVenue) (line : LineId) (bytes : List ℕ) (t0 t1 t2 : ReplayState) (done : Result (Unit {0}) PublishStop)
     → EmitsOne width false (datagram_record place line bytes) h t0 t1 v (Ok tt)
     → ((P : List Arrival) → Fits v.arbiter P → EmitsInto t1 (gap_event place (gap_of v.arbiter.session v.arbiter.window v.arbiter.sent P)) t2 done)
@@ -141,7 +141,7 @@ gap_added width place h v line bytes t0 t1 t2 done x gap =
       follows = on_ok done f;
     }
 
--- the telling had stopped before
+-- a stop came before
 pub gap_never : (width place : ℕ) (gaps : Bool) (h : History) (v : ReplayVenue) (line : LineId) (bytes : List ℕ) (t0 t1 : ReplayState) (stop : PublishStop)
     → EmitsOne width false (datagram_record place line bytes) h t0 t1 v (Err stop)
     → EmitsOne width gaps (datagram_record place line bytes) h t0 t1 v (Err stop)
@@ -181,7 +181,7 @@ left_follows width place h v new a f x = record {
   sent_before = f.sent_before;
 }
 
--- a packet was answered, and what it made ready was told behind it
+-- a packet was answered, and the items that it made ready were emitted after it
 pub outcome_told : (width place : ℕ) (h : History) (v : ReplayVenue) (new : State) (line : LineId) (p : Content) (answer : Result Outcome LineFault) (t0 t1 : ReplayState) (done : Result (Unit {0}) PublishStop)
     → Follows width place v h
     → IsOutcome v.arbiter.session v.arbiter.window v.arbiter.sent h.present.packets p answer
@@ -197,7 +197,7 @@ outcome_told width place h v new line p answer t0 t1 done f outcome emits left =
       follows = on_ok_weaker done (left_follows width place h v new (arrival_of line p answer) f) left;
     }
 
--- a packet was answered, and then all that is ready was told
+-- a packet was answered, and then everything that is ready was emitted
 pub answered_told : (width place : ℕ) (h : History) (v : ReplayVenue) (mid new : State) (line : LineId) (p : Content) (answer : Result Outcome LineFault) (t0 t1 : ReplayState) (done : Result (Unit {0}) PublishStop)
     → Follows width place v h
     → ((packets : List Arrival) → Fits v.arbiter packets → IsOutcome v.arbiter.session v.arbiter.window v.arbiter.sent packets p answer)

@@ -1,4 +1,4 @@
--- The capture, this project's own format for what came on the lines.
+-- The capture, this project's own format for what comes on the lines.
 --
 -- A capture is a list of records, one after the other. A record is the venue (1 byte), a kind
 -- (1 byte), a length (2 bytes, big-endian) and that many bytes. Kinds 41 (A), 42 (B) and 52 (R) are
@@ -14,7 +14,7 @@ use Rattle.feed_text.specs.declared.capture.Record.TheVariants.{Datagram, Renewa
 use Rattle.feed_text.specs.declared.capture.Parse.{Parse}
 use Rattle.feed_text.specs.declared.capture.Parse.TheVariants.{Whole, Bad, Wants}
 
--- a record of a capture, wherever its bytes lie in memory
+-- a record of a capture, wherever its bytes are in memory
 pub data CaptureRecord : Type 0 where
   datagram_record : (venue : ℕ) (line : LineId) (bytes : List ℕ) → CaptureRecord
   renewal_record : (venue : ℕ) (session : List ℕ) → CaptureRecord
@@ -25,7 +25,7 @@ record_venue (datagram_record venue line bytes) = venue
 record_venue (renewal_record venue session) = venue
 record_venue (self_help_record venue on) = venue
 
--- the byte that tells what a record holds
+-- the byte that says what a record holds
 abbrev pub kind_byte : CaptureRecord → ℕ
 kind_byte (datagram_record venue line bytes) = line_letter line
 kind_byte (renewal_record venue session) = 78
@@ -38,8 +38,8 @@ payload_of (datagram_record venue line bytes) = bytes
 payload_of (renewal_record venue session) = session
 payload_of (self_help_record venue on) = []
 
--- A record's numbers are bytes. Code knows it of a `u8`; a law, which speaks of all lists, asks for
--- it.
+-- A record's numbers are bytes. The type `u8` says so of code; a law, which speaks of all lists,
+-- asks for it.
 abbrev pub HoldsBytes : CaptureRecord → Type 0
 HoldsBytes r = AreBytes (payload_of r)
 
@@ -49,18 +49,18 @@ record_bytes r =
     let len = length (payload_of r) in
     record_venue r ∷ kind_byte r ∷ len / 256 ∷ len % 256 ∷ payload_of r
 
--- these records, and then this rest
+-- the bytes of these records, and then this rest
 abbrev pub capture_of : List CaptureRecord → List ℕ → List ℕ
 capture_of records rest = flat_map record_bytes records ++ rest
 
--- a kind with a length that it may have: A, B and R with any, N with that of a session name, H and
--- W with 0
+-- a kind with a length that it may have: any for A, B and R, that of a session name for N, 0 for H
+-- and W
 abbrev pub IsKind : ℕ → ℕ → Type 0
 IsKind kind len =
     (kind ≡ 65) ⊎ (kind ≡ 66) ⊎ (kind ≡ 82) ⊎ ((kind ≡ 78) × (len ≡ 10))
     ⊎ (((kind ≡ 72) ⊎ (kind ≡ 87)) × (len ≡ 0))
 
--- a record that a capture of so many venues may hold
+-- a record that a capture of this number of venues may hold
 pub record IsRecord (venues : ℕ) (r : CaptureRecord) : Type 0 where
   pub venue : record_venue r < venues
   pub kind : IsKind (kind_byte r) (length (payload_of r))
@@ -70,7 +70,7 @@ pub record IsRecord (venues : ℕ) (r : CaptureRecord) : Type 0 where
 abbrev pub len_at : List ℕ → ℕ
 len_at rest = slice_index rest 2 * 256 + slice_index rest 3
 
--- the first four bytes can begin a record
+-- the first four bytes may begin a record
 pub record IsHeader (venues : ℕ) (rest : List ℕ) : Type 0 where
   pub whole : 4 ≤ length rest
   pub venue : slice_index rest 0 < venues
@@ -81,34 +81,34 @@ pub record IsBadRecord (venues : ℕ) (rest : List ℕ) : Type 0 where
   pub four : 4 ≤ length rest
   pub wrong : IsHeader venues rest → ⊥
 
--- some bytes, but less than a record: fewer than four, or a header and a part of what it counts
+-- some bytes, but less than a record: fewer than four, or a header and a part of the bytes that it
+-- counts
 pub record IsShort (venues : ℕ) (rest : List ℕ) : Type 0 where
   pub some : 0 < length rest
   pub cut : (length rest < 4) ⊎ (IsHeader venues rest × (length rest < 4 + len_at rest))
 
--- no record, and none that is wrong: nothing, or less than one
+-- no record, and no wrong one: nothing, or less than a record
 abbrev pub IsUnfinished : ℕ → List ℕ → Type 0
 IsUnfinished venues rest = (rest ≡ []) ⊎ IsShort venues rest
 
--- no record stands at the front: nothing is there, or what begins none, or less than one
+-- no whole record begins the bytes: there are none, or they begin no record, or less than one
 abbrev pub NoRecord : ℕ → List ℕ → Type 0
 NoRecord venues rest = (rest ≡ []) ⊎ (IsBadRecord venues rest ⊎ IsShort venues rest)
 
--- how many bytes tell what stands at the front: the first four, and once they are there all that
--- they count
+-- how many bytes are needed to read the first record: four, and once they are there all that they
+-- count
 abbrev pub IsWanted : ℕ → List ℕ → ℕ → Type 0
 IsWanted venues bytes n =
     ((length bytes < 4) × (n ≡ 4))
     ⊎ (IsHeader venues bytes × (n ≡ 4 + len_at bytes) × (length bytes < n))
 
--- the record that a borrowing one is
+-- the record that a borrowed one is
 abbrev pub record_of : Record → CaptureRecord
 record_of (Datagram venue line bytes) = datagram_record venue line bytes.now
 record_of (Renewal venue session) = renewal_record venue session
 record_of (SelfHelp venue on) = self_help_record venue on
 
--- what stands at the front of some bytes: a record and what is left behind it, no record, or less
--- than one
+-- what some bytes begin with: a record before the bytes that are left, no record, or less than one
 abbrev pub StandsAtFront : ℕ → List ℕ → Parse → Type 0
 StandsAtFront venues bytes (Whole r len) =
     IsRecord venues (record_of r)

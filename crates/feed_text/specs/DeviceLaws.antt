@@ -1,4 +1,4 @@
--- The laws of the devices over memory, and of calls that are counted.
+-- The laws of the devices over memory, and of counted calls.
 use Rattle.std.proofs.Common.{◌≡◌, ℕ, ◌+◌, ◌*◌, ◌≤◌, List, [], ◌++◌, length, append_assoc, append-nil, refl, sym, ◌∙◌, arith, length-append}
 use Rattle.std.proofs.Math.Nat.{add-mul}
 use Rattle.feed_text.specs.Devices.{HeldBytes, GivesPieces}
@@ -22,11 +22,11 @@ gives_more s t u m n xs ys a b =
 pub back_none : (s : List ℕ) → s ≡ s ++ []
 back_none s = sym (append-nil s)
 
--- what two calls added at the end
+-- what two calls add at the end
 pub back_more : (s t u xs ys : List ℕ) → t ≡ s ++ xs → u ≡ t ++ ys → u ≡ s ++ (xs ++ ys)
 back_more s t u xs ys a b = rw (b, a, append_assoc) refl
 
--- no call counts nothing
+-- no call adds nothing to the count
 pub no_calls : (calls : ℕ) → calls ≡ calls + 0
 no_calls calls = omega arith
 

@@ -1,4 +1,4 @@
--- What the records of a capture tell: what happened, one record after the other, by the definitions
+-- The events that the records of a capture emit, one record after the other, by the definitions
 -- over what came to each venue.
 use Rattle.std.specs.Prelude.{◌≡◌, ◌⊎◌, ℕ, Bool, List, [], ◌∷◌, ◌++◌, length, drop, map, Option, Some, None, Result, slice_get, slice_set, if◌then◌else◌}
 use Rattle.feed_types.specs.declared.line.LineId.{LineId}
@@ -17,26 +17,26 @@ use Rattle.line_arbiter.specs.Renewals.{IsRenewal}
 use Rattle.feed_text.specs.Capture.{CaptureRecord, datagram_record, renewal_record, self_help_record, record_venue}
 use Rattle.feed_text.specs.ReplayEvents.{ReplayEvent, packet_answered, packet_refused, item_taken, gap_left, renewal_answered, self_help_declared}
 
--- how many items of the present session were taken: each was, once it was ready
+-- how many items of the present session were taken: every item is, once it is ready
 abbrev pub stream_length : History → ℕ
 stream_length h = length (stream_of h.present.packets)
 
--- a gap, where there is one
+-- the event of a gap, where there is one
 abbrev pub gap_event : ℕ → Option Request → List ReplayEvent
 gap_event venue None = []
 gap_event venue (Some request) = gap_left venue request ∷ []
 
--- the gap that is left, where gaps are asked for
+-- the event of the gap that is left, where gaps are asked for
 abbrev pub gap_emitted : ℕ → Bool → ℕ → History → List ReplayEvent
 gap_emitted window gaps venue h =
     if gaps then gap_event venue (gap_of h.present.name window (stream_length h) h.present.packets)
     else []
 
--- the items that one more packet made ready
+-- the events of the items that one more packet made ready
 abbrev pub items_emitted : ℕ → History → List Arrival → List ReplayEvent
 items_emitted venue h packets = map (item_taken venue) (drop (stream_length h) (stream_of packets))
 
--- a datagram that is no packet: its fault, and nothing changes
+-- a datagram that is no packet emits its fault, and nothing changes
 pub record EmitsFault (window : ℕ) (gaps : Bool) (venue : ℕ) (line : LineId) (bytes : List ℕ)
     (old : History) (emitted : List ReplayEvent) (new : History) : Type 0 where
   pub fault : PacketFault
@@ -44,7 +44,7 @@ pub record EmitsFault (window : ℕ) (gaps : Bool) (venue : ℕ) (line : LineId)
   pub same : new ≡ old
   pub emitted_is : emitted ≡ packet_refused venue line fault ∷ gap_emitted window gaps venue new
 
--- a datagram that is a packet: what became of it, and then each item that it made ready
+-- a datagram that is a packet emits its answer, and then each item that it made ready
 pub record EmitsPacket (window : ℕ) (gaps : Bool) (venue : ℕ) (line : LineId) (bytes : List ℕ)
     (old : History) (emitted : List ReplayEvent) (new : History) : Type 0 where
   pub packet : Content
@@ -56,7 +56,7 @@ pub record EmitsPacket (window : ℕ) (gaps : Bool) (venue : ℕ) (line : LineId
   pub emitted_is : emitted ≡ packet_answered venue line answer
       ∷ items_emitted venue old new.present.packets ++ gap_emitted window gaps venue new
 
--- a renewal: its answer, and where it is Ok the next session
+-- a renewal emits its answer, and where that is Ok the next session begins
 pub record EmitsRenewal (venue : ℕ) (name : List ℕ) (old : History) (emitted : List ReplayEvent)
     (new : History) : Type 0 where
   pub answer : Result ℕ RenewFault
@@ -64,7 +64,7 @@ pub record EmitsRenewal (venue : ℕ) (name : List ℕ) (old : History) (emitted
   pub after : new ≡ history_after old name answer
   pub emitted_is : emitted ≡ renewal_answered venue answer ∷ []
 
--- a declaration of self-help: what came to the venue stays
+-- a declaration of self-help leaves the venue's history unchanged
 pub record EmitsSelfHelp (venue : ℕ) (on : Bool) (old : History) (emitted : List ReplayEvent)
     (new : History) : Type 0 where
   pub same : new ≡ old

@@ -1,5 +1,5 @@
--- What a replay keeps of each venue, and that it follows the histories. Private clauses alone cite
--- this file.
+-- What a replay keeps of each venue, and that it follows the histories. Cited by private clauses
+-- alone.
 use Rattle.std.specs.Prelude.{◌≡◌, ◌⊎◌, ℕ, Bool, List, [], ◌∷◌, ◌++◌, ◌+◌, length, Some, Result, Ok, Err, OnOk, slice_get, take, drop, map}
 use Rattle.feed_types.specs.declared.line.LineId.{LineId}
 use Rattle.mold_packet.specs.Content.{Content}
@@ -26,13 +26,13 @@ use Rattle.feed_text.specs.Texts.{last_lines}
 use Rattle.feed_text.specs.ReplayStates.{ReplayState, EmitsInto}
 
 -- a venue's arbiter, and how many items of the sessions that are over were sent, as far as a u64
--- shows it
+-- shows that
 pub record ReplayVenue : Type 0 where
   pub arbiter : State
   pub sent_before : ℕ
 
--- The venue, at this place and with a window of this width, is that to which this came, and all
--- that is ready was sent.
+-- The venue at this place, with a window of this width, has this history, and everything that is
+-- ready was sent.
 pub record Follows (width place : ℕ) (v : ReplayVenue) (h : History) : Type 0 where
   pub history : FitsHistory v.arbiter h
   pub number : v.arbiter.venue ≡ place
@@ -40,7 +40,7 @@ pub record Follows (width place : ℕ) (v : ReplayVenue) (h : History) : Type 0 
   pub sent : v.arbiter.sent ≡ stream_length h
   pub sent_before : v.sent_before ≡ shown (length (items_of h.earlier))
 
--- The items that are ready were taken, each once and in sequence, and where all of them were the
+-- The items that are ready were taken, each once and in sequence. Where all of them were, the
 -- arbiter has sent them, and keeps the rest.
 pub record TakesReady (venue : ℕ) (from to : State) (old new : ReplayState)
     (done : Result (Unit {0}) PublishStop) : Type 0 where
@@ -50,8 +50,8 @@ pub record TakesReady (venue : ℕ) (from to : State) (old new : ReplayState)
       → Fits to P × (to.sent ≡ length (stream_of P)))
   pub kept : OnOk done (KeepsAllButSent from to)
 
--- A packet and then the items that it made ready were told, and where all of them were the venue
--- follows the history with this packet.
+-- A packet's answer and then the items that it made ready were emitted. Where all of them were, the
+-- venue follows the history with this packet.
 pub record EmitsOutcome (width place : ℕ) (line : LineId) (packet : Content) (h : History)
     (old new : ReplayState) (v : ReplayVenue) (done : Result (Unit {0}) PublishStop) : Type 0 where
   pub answer : Result Outcome LineFault
@@ -68,7 +68,8 @@ pub record Renews (width place : ℕ) (name : List ℕ) (h : History) (v : Repla
   pub is : IsRenewal (names_of h) (end_of h.present.packets) (stream_length h) name answer
   pub follows : Follows width place v (history_after h name answer)
 
--- What one record tells was told, and where all of it was the venue follows the history after it.
+-- The events of one record were emitted, and where all of them were the venue follows the history
+-- after it.
 pub record EmitsOne (window : ℕ) (gaps : Bool) (r : CaptureRecord) (h : History)
     (old new : ReplayState) (v : ReplayVenue) (done : Result (Unit {0}) PublishStop) : Type 0 where
   pub emitted : List ReplayEvent
@@ -88,7 +89,8 @@ pub record FollowAll (window : ℕ) (vs : List ReplayVenue) (hs : List History) 
   pub each : (i : ℕ) (v : ReplayVenue) (h : History) → slice_get vs i ≡ Some v → slice_get hs i ≡ Some h
       → Follows window i v h
 
--- What a record tells was told, and where all of it was the venues follow the histories after it.
+-- The events of a record were emitted, and where all of them were the venues follow the histories
+-- after it.
 pub record EmitsNext (window : ℕ) (gaps : Bool) (r : CaptureRecord) (hs : List History)
     (old new : ReplayState) (vs : List ReplayVenue) (done : Result (Unit {0}) PublishStop) : Type 0 where
   pub emitted : List ReplayEvent
@@ -105,13 +107,13 @@ pub record TakesRecord (from : VenueList) (r : CaptureRecord) (old new : ReplayS
   pub emitted : (window : ℕ) (hs : List History) → FollowAll window from.items hs
       → EmitsNext window from.gaps r hs old new to.items done
 
--- The venues' last lines came behind the old text, whatever histories they follow.
+-- The venues' last lines follow the old text, whatever histories the venues follow.
 abbrev pub PrintsLast : VenueList → List ℕ → List ℕ → Type 0
 PrintsLast at old new =
     (window : ℕ) (hs : List History) → FollowAll window at.items hs → new ≡ old ++ last_lines 0 hs
 
--- what is still to be written where the telling stopped, and the text of the records before is so
--- long: all up to a full journal, or that of these records
+-- the text that is still to be written after a stop, where `whole` is the length of the text of the
+-- records before: all of it after a full journal, or that of these records
 abbrev pub left_by : PublishStop → ℕ → List ℕ → List ℕ
 left_by JournalFull whole text = text
 left_by NoMemory whole text = take whole text
@@ -134,7 +136,7 @@ pub record WritesLast (at : VenueList) (Takes : List ℕ → Type 0) : Type 0 wh
   pub are : PrintsLast at [] lines
   pub taken : Takes lines
 
--- What writing the last lines came to, by its answer.
+-- The results of writing the last lines, by the answer.
 abbrev pub Closes : {W : Type 0} (adds : W → List ℕ → W → Type 0) (failures : W → ℕ)
     (at : VenueList) (before after : W) → Result (Unit {0}) ReplayFault → Type 0
 Closes adds failures at before after (Ok done) = WritesLast at (λ lines. adds before lines after)

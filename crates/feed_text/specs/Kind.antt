@@ -1,10 +1,10 @@
--- What the second byte of a record and its length tell.
+-- The kinds of records, by their second byte and their length.
 use Rattle.std.specs.Prelude.{◌≡◌, ℕ, true, false}
 use Rattle.feed_text.specs.declared.capture.Kind.{Kind}
 use Rattle.feed_text.specs.declared.capture.Kind.TheVariants.{Line, Renewal, SelfHelp}
 use Rattle.feed_types.specs.Text.{line_letter}
 
--- a byte and a length are of this kind
+-- a byte and a length have this kind
 abbrev pub IsKindOf : ℕ → ℕ → Kind → Type 0
 IsKindOf byte len (Line line) = line_letter line ≡ byte
 IsKindOf byte len Renewal = (byte ≡ 78) × (len ≡ 10)

@@ -26,7 +26,7 @@ field n = codes " " ++ decimal n
 abbrev pub line_end : List ℕ
 line_end = codes "\n"
 
--- packet V L ..: the venue's number and the line's letter, and what became of the datagram
+-- packet V L ..: the venue's number and the line's letter, before the outcome of the datagram
 abbrev pub packet_head : ℕ → LineId → List ℕ
 packet_head venue line = codes "packet" ++ field venue ++ codes " " ++ line_letter line ∷ []
 
@@ -94,14 +94,14 @@ abbrev pub renew_line : ℕ → Result ℕ RenewFault → List ℕ
 renew_line venue (Ok ordinal) = codes "renew" ++ field venue ++ field ordinal ++ line_end
 renew_line venue (Err fault) = codes "renew" ++ field venue ++ refused_tail (renew_fault_code fault)
 
--- venue V sent SENT wins A B R: how many items were sent, and which lines brought how many numbers
+-- venue V sent SENT wins A B R: how many items were sent, and how many numbers each line brought
 -- first
 abbrev pub venue_line : ℕ → ℕ → (LineId → ℕ) → List ℕ
 venue_line venue sent wins =
     codes "venue" ++ field venue ++ codes " sent" ++ field sent
     ++ codes " wins" ++ field (wins A) ++ field (wins B) ++ field (wins Recovery) ++ line_end
 
--- counts by their lines
+-- the counts, each by its line
 abbrev pub wins_by : ℕ → ℕ → ℕ → LineId → ℕ
 wins_by a b recovery A = a
 wins_by a b recovery B = b

@@ -1,4 +1,5 @@
--- What a page shows: its text, and how many more bytes may be placed behind it before it grows.
+-- What a line buffer shows: its text, and how many more bytes may be placed after it before it
+-- grows.
 use Rattle.std.specs.Prelude.{ℕ, List, refl}
 use Rattle.std.specs.Coded.{Coded, code_by, coded×, coded_list, coded_ℕ}
 

@@ -1,4 +1,4 @@
--- What happens in a replay, parted from how it is printed, and the journal that it leads to.
+-- The events of a replay, apart from how they are printed, and the journal that they make.
 use Rattle.std.specs.Prelude.{ℕ, Bool, true, false, not, List, [], ◌∷◌, ◌++◌, Result, if◌then◌else◌}
 use Rattle.feed_types.specs.declared.item.Numbered.{Numbered}
 use Rattle.feed_types.specs.declared.journal.Entry.{Entry}
@@ -27,8 +27,8 @@ abbrev pub is_so : List Entry → ℕ → Bool → Bool
 is_so entries venue true = is_self_helped entries venue
 is_so entries venue false = not (is_self_helped entries venue)
 
--- The journal after one happening more: an item adds its entry, a declaration does unless it is so
--- already, and the others add none.
+-- The journal after one more event: an item adds its entry, a declaration adds one unless that is
+-- declared already, and other events add none.
 abbrev pub entries_after : List Entry → ReplayEvent → List Entry
 entries_after entries (packet_answered venue line answer) = entries
 entries_after entries (packet_refused venue line fault) = entries
@@ -38,7 +38,7 @@ entries_after entries (renewal_answered venue answer) = entries
 entries_after entries (self_help_declared venue on) =
     if is_so entries venue on then entries else entries ++ SelfHelp venue on ∷ []
 
--- the journal after these happenings, one after another
+-- the journal after these events, one after another
 abbrev pub entries_of : List Entry → List ReplayEvent → List Entry
 entries_of entries [] = entries
 entries_of entries (h ∷ hs) = entries_of (entries_after entries h) hs

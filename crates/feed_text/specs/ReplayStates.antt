@@ -1,5 +1,5 @@
 -- What a replay keeps of all venues together: its journal, and the text that waits to be written.
--- Private clauses alone cite this file.
+-- Cited by private clauses alone.
 use Rattle.std.specs.Prelude.{◌≡◌, ℕ, ◌<◌, ◌≤◌, List, ◌∷◌, ◌++◌, length, Result, Ok, Err}
 use Rattle.feed_types.specs.declared.journal.Entry.{Entry}
 use Rattle.feed_text.specs.declared.report.ReplaySink.{ReplaySink}
@@ -8,7 +8,7 @@ use Rattle.feed_text.specs.declared.report.PublishStop.TheVariants.{JournalFull,
 use Rattle.feed_text.specs.ReplayEvents.{ReplayEvent, entries_after, entries_of}
 use Rattle.feed_text.specs.Texts.{text_of}
 
--- the symbols, the number of venues, how many entries the journal holds, the entries, and the text
+-- the symbols, the number of venues, the capacity of the journal, its entries, and the text
 pub record ReplayState : Type 0 where
   pub symbols : List (List ℕ)
   pub venues : ℕ
@@ -25,7 +25,7 @@ state_of_replay report = record {
   text = report.text.items;
 }
 
--- the tale goes on with these happenings
+-- the state after these events
 abbrev pub state_after : ReplayState → List ReplayEvent → ReplayState
 state_after state emitted = record {
   symbols = state.symbols;
@@ -43,12 +43,12 @@ pub record Grows (old new : List ℕ) : Type 0 where
   pub more : List ℕ
   pub behind : new ≡ old ++ more
 
--- The tale went on with these happenings.
+-- The state goes on with these events.
 pub record GoesOn (old : ReplayState) (emitted : List ReplayEvent) (new : ReplayState) : Type 0 where
   pub is : new ≡ state_after old emitted
   pub within : IsWithinJournal old → IsWithinJournal new
 
--- The tale went on with the first of these happenings, and for the next one the journal had no room.
+-- The state goes on with the first of these events, and the journal has no room for the next one.
 pub record GoesToFull (old : ReplayState) (emitted : List ReplayEvent) (new : ReplayState) : Type 0 where
   pub first : List ReplayEvent
   pub next : ReplayEvent
@@ -57,7 +57,7 @@ pub record GoesToFull (old : ReplayState) (emitted : List ReplayEvent) (new : Re
   pub goes : GoesOn old first new
   pub full : new.journal < length (entries_after new.entries next)
 
--- What telling these happenings came to, by its answer.
+-- The results of emitting these events, by the answer.
 abbrev pub EmitsInto : ReplayState → List ReplayEvent → ReplayState → Result (Unit {0}) PublishStop → Type 0
 EmitsInto old emitted new (Ok done) = GoesOn old emitted new
 EmitsInto old emitted new (Err JournalFull) = GoesToFull old emitted new

@@ -1,4 +1,4 @@
--- What a replay came to.
+-- The results of a replay.
 use Rattle.std.specs.Prelude.{◌≡◌, ◌⊎◌, ⊤, ℕ, ◌+◌, ◌≤◌, List, [], length, All, Result, Ok, Err}
 use Rattle.feed_text.specs.declared.fault.ReplayFault.{ReplayFault}
 use Rattle.feed_text.specs.declared.fault.ReplayFault.TheVariants.{ReadFailed, WriteFailed, BadRecord, ShortRecord, TooManyTurns, JournalFull, NoMemory}
@@ -7,25 +7,25 @@ use Rattle.feed_text.specs.Capture.{CaptureRecord, IsRecord, IsBadRecord, IsShor
 use Rattle.feed_text.specs.Devices.{Reading, Writing, Wrote}
 use Rattle.feed_text.specs.Texts.{IsLinesOf, IsTextOf, IsLinesToFull}
 
--- how many venues there are
+-- the number of venues
 abbrev pub venues_in : ReplayConfig → ℕ
 venues_in config = length config.sessions.now
 
--- What is said of what a replay writes: of the text of a whole capture, of the lines of its
--- records, and of the lines up to a full journal.
+-- What a definition says of the text of a whole capture, of the lines of its records, and of the
+-- lines up to a full journal.
 pub record TextFacts : Type 1 where
   pub IsText : List CaptureRecord → List ℕ → Type 0
   pub AreLines : List CaptureRecord → List ℕ → Type 0
   pub AreLinesToFull : List CaptureRecord → List ℕ → Type 0
 
--- By so many calls these records and then this rest were read.
+-- `calls` calls read these records and then this rest.
 pub record HasRead {R : Type 0} (reading : Reading R) (config : ReplayConfig)
     (from : R) (calls : ℕ) (to : R) (records : List CaptureRecord) (rest : List ℕ) : Type 0 where
   pub each : All (IsRecord (venues_in config)) records
   pub bytes : reading.gives from calls (capture_of records rest) to
 
--- A whole capture was read by fewer than so many calls, one more call showed the end, and its
--- text was written, and nothing else.
+-- A whole capture was read by fewer than `turns` calls, one more call showed the end, and its text
+-- was written, and nothing else.
 pub record WroteAll {R W : Type 0} (reading : Reading R) (writing : Writing W)
     (config : ReplayConfig) (IsText : List CaptureRecord → List ℕ → Type 0)
     (from to : R) (before after : W) : Type 0 where
@@ -39,8 +39,8 @@ pub record WroteAll {R W : Type 0} (reading : Reading R) (writing : Writing W)
   pub is : IsText records text
   pub wrote : writing.adds before text after
 
--- By so many calls records and then a rest of this kind were read, and exactly these lines of the
--- records were written, and no venue line.
+-- `calls` calls read records and then a rest of this kind, and exactly these lines of the records
+-- were written, and no venue line.
 pub record WroteLines {R W : Type 0} (reading : Reading R) (writing : Writing W)
     (config : ReplayConfig) (AreLines : List CaptureRecord → List ℕ → Type 0)
     (IsLeft : List ℕ → Type 0) (from : R) (calls : ℕ) (to : R) (before after : W) : Type 0 where
@@ -52,7 +52,7 @@ pub record WroteLines {R W : Type 0} (reading : Reading R) (writing : Writing W)
   pub are : AreLines records lines
   pub wrote : writing.adds before lines after
 
--- The same by some calls, and then the reader came to this state.
+-- The same by some calls, after which the reader leads to a state of this kind.
 pub record WroteLinesUntil {R W : Type 0} (reading : Reading R) (writing : Writing W)
     (config : ReplayConfig) (AreLines : List CaptureRecord → List ℕ → Type 0)
     (IsLeft : List ℕ → Type 0) (Then : R → Type 0) (from : R) (before after : W) : Type 0 where
@@ -61,8 +61,8 @@ pub record WroteLinesUntil {R W : Type 0} (reading : Reading R) (writing : Writi
   pub replays : WroteLines reading writing config AreLines IsLeft from calls mid before after
   pub came_to : Then mid
 
--- Records and then a rest were read by some calls, and a front of a text of theirs was written:
--- of their lines, of those up to a full journal, or, where nothing is left and one more call showed
+-- Some calls read records and then a rest, and a prefix of a text of these records was written: of
+-- their lines, of those up to a full journal, or, where nothing is left and one more call showed
 -- the end, of their lines and the venues'.
 pub record WrotePrefix {R W : Type 0} (reading : Reading R) (writing : Writing W)
     (config : ReplayConfig) (texts : TextFacts) (from to : R) (before after : W) : Type 0 where
@@ -77,7 +77,7 @@ pub record WrotePrefix {R W : Type 0} (reading : Reading R) (writing : Writing W
       ⊎ (texts.IsText records text × (rest ≡ []) × reading.ends mid to)
   pub wrote : Wrote writing.adds before text after
 
--- What a replay came to, by its answer, where this is said of what it writes.
+-- The result of a replay, by its answer, where `texts` says what it writes.
 abbrev pub AnswersReplay : {R W : Type 0} (reading : Reading R) (writing : Writing W)
     (config : ReplayConfig) (texts : TextFacts) (from to : R) (before after : W)
     → Result (Unit {0}) ReplayFault → Type 0
@@ -114,7 +114,7 @@ texts_of config = record {
   AreLinesToFull = IsLinesToFull config;
 }
 
--- What a replay came to, by its answer.
+-- The result of a replay, by its answer.
 abbrev pub Replays : {R W : Type 0} (reading : Reading R) (writing : Writing W)
     (config : ReplayConfig) (from to : R) (before after : W)
     → Result (Unit {0}) ReplayFault → Type 0

@@ -1,4 +1,5 @@
--- The text of a capture: the lines of what its records tell, and at the end a line for each venue.
+-- The text of a capture: the lines of the events that its records emit, and at the end a line for
+-- each venue.
 use Rattle.std.specs.Prelude.{◌≡◌, ℕ, ◌+◌, ◌<◌, ◌≤◌, Bool, List, [], ◌∷◌, ◌++◌, length, flat_map, map, Option, Some, None, if◌then◌else◌}
 use Rattle.feed_types.specs.declared.journal.Entry.{Entry}
 use Rattle.mold_packet.specs.Faults.{code_of}
@@ -11,12 +12,12 @@ use Rattle.feed_text.specs.ReplayEvents.{ReplayEvent, packet_answered, packet_re
 use Rattle.feed_text.specs.Lines.{packet_line, fault_line, item_line, best_line, gap_line, renew_line, declare_line, venue_line}
 use Rattle.feed_text.specs.Emitted.{EmitsRecord, Emits}
 
--- the position of the entry that a declaration adds, unless it is so already
+-- the position of the entry that a declaration adds, unless that is declared already
 abbrev pub position_of : List Entry → ℕ → Bool → Option ℕ
 position_of entries venue on =
     if is_so entries venue on then None else Some (length entries + 1)
 
--- the line of a happening, where these are the entries before it
+-- the line of an event, after these entries
 abbrev pub line_of : List Entry → ReplayEvent → List ℕ
 line_of entries (packet_answered venue line answer) = packet_line venue line answer
 line_of entries (packet_refused venue line fault) = fault_line venue line (code_of fault)
@@ -26,20 +27,20 @@ line_of entries (renewal_answered venue answer) = renew_line venue answer
 line_of entries (self_help_declared venue on) =
     declare_line venue on (position_of entries venue on)
 
--- the lines of a happening: its own, and then the best lines of the notices that it made
+-- the lines of an event: its own, and then the best lines of its notices
 abbrev pub lines_of : List (List ℕ) → List Entry → ReplayEvent → List ℕ
 lines_of symbols entries h =
     line_of entries h
     ++ flat_map best_line (notices_since symbols entries (entries_after entries h))
 
--- the lines of happenings, one after another
+-- the lines of events, one after another
 abbrev pub text_of : List (List ℕ) → List Entry → List ReplayEvent → List ℕ
 text_of symbols entries [] = []
 text_of symbols entries (h ∷ hs) =
     lines_of symbols entries h ++ text_of symbols (entries_after entries h) hs
 
--- a venue's last line: how many items of all its sessions were taken, and which lines brought how
--- many numbers first
+-- a venue's last line: how many items of all its sessions were taken, and how many numbers each
+-- line brought first
 abbrev pub last_line : ℕ → History → List ℕ
 last_line venue h =
     venue_line venue (shown (length (streams_of h))) (λ line. shown (wins_in (all_begun h) line))
@@ -53,20 +54,20 @@ last_lines venue (h ∷ hs) = last_line venue h ++ last_lines (venue + 1) hs
 abbrev pub new_histories : ReplayConfig → List History
 new_histories config = map new_history config.sessions.now
 
--- records tell this, and lead to these histories
+-- records emit these events, and lead to these histories
 abbrev pub EmitsAll : ReplayConfig → List CaptureRecord → List ReplayEvent → List History → Type 0
 EmitsAll config records emitted histories =
     Emits config.window config.gaps records (new_histories config) emitted histories
 
--- what happened has room in the journal
+-- the events have room in the journal
 abbrev pub HasJournalRoom : ReplayConfig → List ReplayEvent → Type 0
 HasJournalRoom config emitted = length (entries_of [] emitted) ≤ config.journal
 
--- the lines of what happened, from an empty journal on
+-- the lines of events, from an empty journal on
 abbrev pub lines_emitted : ReplayConfig → List ReplayEvent → List ℕ
 lines_emitted config emitted = text_of config.symbols.now [] emitted
 
--- the lines of records that have room in the journal, without those of the venues at the end
+-- the lines of records that have room in the journal, without the last lines of the venues
 pub record IsLinesOf (config : ReplayConfig) (records : List CaptureRecord) (lines : List ℕ)
     : Type 0 where
   pub emitted : List ReplayEvent
@@ -84,9 +85,9 @@ pub record IsTextOf (config : ReplayConfig) (records : List CaptureRecord) (text
   pub room : HasJournalRoom config emitted
   pub text_is : text ≡ lines_emitted config emitted ++ last_lines 0 histories
 
--- The lines up to a full journal: all records but the last have room; of what the last one tells
--- these first happenings have room, too, and the next one would add an entry past the journal's
--- end. The lines are those of all that had room.
+-- The lines up to a full journal: all records but the last have room; the first events of the last
+-- record have room, too, and the next one would add an entry past the journal's end. The lines are
+-- those of all events that had room.
 pub record IsLinesToFull (config : ReplayConfig) (records : List CaptureRecord) (lines : List ℕ)
     : Type 0 where
   pub earlier : List CaptureRecord

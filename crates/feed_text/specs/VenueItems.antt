@@ -1,9 +1,9 @@
--- What was told of a venue's items.
+-- The items of a venue among emitted events.
 use Rattle.std.specs.Prelude.{ℕ, ◌==◌, List, [], ◌∷◌, flat_map, if◌then◌else◌}
 use Rattle.feed_types.specs.declared.item.Numbered.{Numbered}
 use Rattle.feed_text.specs.ReplayEvents.{ReplayEvent, packet_answered, packet_refused, item_taken, gap_left, renewal_answered, self_help_declared}
 
--- the item that a happening takes of a venue, if it does
+-- the item that an event takes of a venue, if it does
 abbrev pub taken_by : ℕ → ReplayEvent → List Numbered
 taken_by place (item_taken venue numbered) = if venue == place then numbered ∷ [] else []
 taken_by place (packet_answered venue line answer) = []
@@ -12,6 +12,6 @@ taken_by place (gap_left venue request) = []
 taken_by place (renewal_answered venue answer) = []
 taken_by place (self_help_declared venue on) = []
 
--- the items that were told of a venue, in order
+-- the items that were emitted of a venue, in order
 abbrev pub items_taken : ℕ → List ReplayEvent → List Numbered
 items_taken place emitted = flat_map (taken_by place) emitted

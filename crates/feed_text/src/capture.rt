@@ -6,10 +6,10 @@ ghost use Rattle.feed_text.specs.Kind.{IsKindOf};
 
 use feed_types::{LineId, VenueId};
 
-/// How many bytes stand before those that a record's length counts.
+/// The number of bytes before those that a record's length counts.
 const HEADER: usize = 4;
 
-/// A record of a capture, which borrows what it holds.
+/// A record of a capture, which borrows its bytes.
 #[derive(Clone, Copy, Debug, PartialEq, Eq)]
 pub enum Record<'a> {
     /// The bytes of one datagram, as they came on a line: at most 65,535.
@@ -30,19 +30,19 @@ pub enum Record<'a> {
     },
 }
 
-/// What stands at the front of some bytes.
+/// The answer of [`parse_record`].
 #[derive(Clone, Copy, Debug, PartialEq, Eq)]
 pub enum Parse<'a> {
-    /// A whole record, and how many bytes it takes: from 4 to 65,539.
+    /// A whole record, and its length in bytes: from 4 to 65,539.
     Whole(Record<'a>, usize),
     /// No record, however the bytes go on: of a venue or a kind that isn't there, a renewal whose
     /// length isn't 10, or a declaration whose length isn't 0.
     Bad,
-    /// Less than a record. So many bytes have to be there, with those that are, before more can be told.
+    /// Less than a record. This number of bytes, with those that are there, is needed to go on.
     Wants(usize),
 }
 
-/// What a record holds.
+/// The kind of a record.
 #[derive(Clone, Copy, Debug, PartialEq, Eq)]
 enum Kind {
     Line(LineId),
@@ -50,8 +50,8 @@ enum Kind {
     SelfHelp(bool),
 }
 
-/// The kind of a byte that is no line's letter and a length, where there is one. Few records have
-/// such a byte.
+/// Returns the kind of a byte that is no line's letter, with a length, if there is one. Few records
+/// have such a byte.
 #[inline(never)]
 fn other_kind(byte: u8, len: usize) -> Option<Kind>
     requires { (byte ≢ 65) × (byte ≢ 66) × (byte ≢ 82) }
@@ -65,7 +65,7 @@ fn other_kind(byte: u8, len: usize) -> Option<Kind>
     }
 }
 
-/// The kind of a byte and a length, where there is one.
+/// Returns the kind of a byte with a length, if there is one.
 #[inline(always)]
 fn kind_from(byte: u8, len: usize) -> Option<Kind>
     ensures { MatchOption result (IsKind byte len → ⊥) (IsKindOf byte len) }
@@ -78,7 +78,7 @@ fn kind_from(byte: u8, len: usize) -> Option<Kind>
     }
 }
 
-/// The venue of a byte, where it is one of so many.
+/// Returns the venue of a byte, where it is below `venues`.
 fn venue_from(venues: usize, byte: u8) -> Option<VenueId>
     requires { venues ≤ 16 }
     ensures { SomeIff result (byte < venues) byte }
@@ -90,7 +90,7 @@ fn venue_from(venues: usize, byte: u8) -> Option<VenueId>
     }
 }
 
-/// The ten bytes.
+/// Copies ten bytes as a session's name.
 fn name_from(bytes: &[u8]) -> [u8; 10]
     requires { length bytes.now ≡ 10 }
     ensures { result ≡ bytes.now }
@@ -100,7 +100,7 @@ fn name_from(bytes: &[u8]) -> [u8; 10]
     session
 }
 
-/// Reads the record at the front of the bytes, of a capture of so many venues.
+/// Reads the record at the front of `bytes`, in a capture of `venues` venues.
 pub fn parse_record(venues: usize, bytes: &[u8]) -> Parse<'_>
     requires { venues ≤ 16 }
     ensures { StandsAtFront venues bytes.now result }

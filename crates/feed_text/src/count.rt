@@ -4,7 +4,8 @@ ghost use Rattle.std.specs.Prelude.{◌≡◌, ℕ, ◌+◌, ◌<◌};
 use std::marker::Model;
 use std::sync::ledger::{Blank, Book, Ledger, Share};
 
-/// How many calls of a device were made, or failed. The number stands in the contracts alone, as a sum in std's
+/// The number of calls of a device, or of those that failed. It exists in the contracts alone, as a
+/// sum in std's ledger named `L`.
 /// ledger named `L`.
 #[derive(Drop)]
 pub struct Count<L: Ledger> {
@@ -21,7 +22,7 @@ impl<L: Ledger> Model for Count<L> {
 }
 
 impl<L: Ledger> Count<L> {
-    /// Begins at 0. The blank page is of this ledger, with at least one part.
+    /// Begins at 0. `blank` is a blank page of this ledger, with at least one part.
     pub fn new(blank: Blank) -> Count<L>
         requires name { blank.name ≡ L.name }
         requires parts { blank.parts ≡ L.parts }
@@ -32,7 +33,7 @@ impl<L: Ledger> Count<L> {
         Count { book, share }
     }
 
-    /// Counts one call more.
+    /// Counts one more call.
     pub fn add_one(&mut self)
         ensures { self.new ≡ self.old + 1 }
     {

@@ -1,12 +1,12 @@
-//! What a replay reads from and writes to.
+//! The traits that a replay reads from and writes to.
 //!
-//! A replay can't know what a file or a pipe holds, so the two traits speak of it by relations between
-//! the states of a device, with laws. Over memory the relations are equations; over the standard streams
-//! they count the calls of a reader, and say nothing of the bytes.
+//! A replay can't know what a file or a pipe holds, so the two traits speak of it by relations
+//! between the states of a device, with laws. Over memory the relations are equations; over the
+//! standard streams they count the calls of a reader, and say nothing of the bytes.
 ghost use Rattle.std.specs.Prelude.{◌≡◌, ℕ, ◌+◌, ◌++◌, [], ◌<◌, ◌≤◌, List, Ok, Err, IfOk, OnOk, OnErr, length, take};
 ghost use Rattle.feed_text.specs.declared.devices.ReadStop.TheVariants.{Interrupted, Failed};
 
-/// Why a call of a reader gave no bytes.
+/// Why a call of a reader read no bytes.
 #[derive(Clone, Copy, Debug, PartialEq, Eq)]
 pub enum ReadStop {
     /// The call was broken off before it read a byte. It may be made again, and is no failure.
@@ -22,18 +22,18 @@ pub enum WriteStop {
     Failed,
 }
 
-/// What a capture is read from.
+/// A source of a capture.
 pub trait CaptureIn {
-    /// By so many calls, of which none failed and none showed the end, these bytes came.
+    /// This number of calls, of which none failed and none showed the end, read these bytes.
     ghost gives: { Self → ℕ → List ℕ → Self → Type 0 };
 
     /// One call showed the end.
     ghost ends: { Self → Self → Type 0 };
 
-    /// How many calls failed.
+    /// The number of calls that failed.
     ghost failures: { Self → ℕ };
 
-    /// Reads some bytes into the front of `buf`, and says how many. None are the end.
+    /// Reads some bytes into the front of `buf`, and returns how many. None mean the end.
     fn read(&mut self, buf: &mut [u8]) -> Result<usize, ReadStop>
         requires { 0 < length buf.old }
         ensures count { IfOk result (λ n. n ≤ length buf.new) }
@@ -43,23 +43,23 @@ pub trait CaptureIn {
         ensures failed { result ≡ Err Failed → failures self.new ≡ failures self.old + 1 }
         ensures kept { (result ≡ Err Failed → ⊥) → failures self.new ≡ failures self.old };
 
-    /// By no call nothing came.
+    /// No calls read nothing.
     ghost gives_none: { (s : Self) → gives s 0 [] s };
 
-    /// Calls after calls give bytes after bytes.
+    /// Calls after calls read bytes after bytes.
     ghost gives_more: { (s t u : Self) (m n : ℕ) (xs ys : List ℕ)
         → gives s m xs t → gives t n ys u → gives s (m + n) (xs ++ ys) u };
 }
 
-/// What lines are written to.
+/// A sink of lines.
 pub trait TextOut {
-    /// By calls of which none failed this text was taken.
+    /// Calls of which none failed took this text.
     ghost adds: { Self → List ℕ → Self → Type 0 };
 
-    /// How many calls failed.
+    /// The number of calls that failed.
     ghost failures: { Self → ℕ };
 
-    /// Writes a front of the piece that isn't empty, and says how long it is. A call that failed has
+    /// Writes a prefix of `piece` that isn't empty, and returns its length. A call that failed has
     /// taken nothing.
     fn write(&mut self, piece: &[u8]) -> Result<usize, WriteStop>
         requires { 0 < length piece.now }
@@ -70,7 +70,7 @@ pub trait TextOut {
         ensures failed { OnErr result (failures self.new ≡ failures self.old + 1) }
         ensures untaken { OnErr result (adds self.old [] self.new) };
 
-    /// By no call no text was taken.
+    /// No calls take no text.
     ghost adds_none: { (s : Self) → adds s [] s };
 
     /// Calls after calls take text after text.

@@ -13,7 +13,7 @@ pub(crate) static PAIRS: [[u8; 2]; 100] = [
     *b"96", *b"97", *b"98", *b"99",
 ];
 
-/// The digits of each number below 1,000, and spaces behind them.
+/// The digits of each number below 1,000, and spaces after them.
 pub(crate) static FRONTS: [[u8; 4]; 1000] = [
     *b"0   ", *b"1   ", *b"2   ", *b"3   ", *b"4   ", *b"5   ", *b"6   ", *b"7   ", *b"8   ",
     *b"9   ", *b"10  ", *b"11  ", *b"12  ", *b"13  ", *b"14  ", *b"15  ", *b"16  ", *b"17  ",

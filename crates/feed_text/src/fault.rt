@@ -1,4 +1,4 @@
-//! Why a replay ended early.
+//! The faults of a replay.
 ghost use Rattle.std.specs.Prelude.{◌≡◌};
 ghost use Rattle.feed_text.specs.declared.fault.ReplayFault.TheVariants.{NoMemory};
 
@@ -14,16 +14,16 @@ pub enum ReplayFault {
     /// A call of the writer failed, was interrupted, or would take nothing.
     #[error("write failed")]
     WriteFailed,
-    /// Four bytes that begin no record stand where a record should.
+    /// Four bytes begin no record where a record should begin.
     #[error("bad record")]
     BadRecord,
     /// The input ends within a record.
     #[error("short record")]
     ShortRecord,
-    /// As many calls of the reader as are allowed were made, and none had shown the end.
+    /// All calls of the reader that are allowed were made, and none showed the end.
     #[error("too many turns")]
     TooManyTurns,
-    /// The journal has as many entries as it holds, and a record needs one more.
+    /// The journal is full, and a record needs one more entry.
     #[error("journal full")]
     JournalFull,
     /// Memory was refused.

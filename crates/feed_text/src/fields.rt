@@ -1,7 +1,7 @@
 //! Parts of a printed line, placed in room that was made for the whole line.
 //!
-//! Each call writes behind the first `at` bytes of the room, and tells where what it wrote ends.
-//! What stands behind that end may have changed.
+//! Each call writes after the first `at` bytes of the room, and returns the end of what it wrote.
+//! Bytes after that end may have changed.
 ghost use Rattle.std.specs.Prelude.{◌≡◌, ◌+◌, ◌/◌, ◌%◌, ◌<◌, ◌≤◌, [], ◌∷◌, length, take, decimal};
 ghost use Rattle.feed_types.specs.Symbols.{name_of};
 ghost use Rattle.feed_types.specs.Text.{price_text};
@@ -12,16 +12,16 @@ use crate::digit_tables::{FRONTS, PAIRS};
 use feed_types::{SymbolName, VenueId};
 use itoa::write_digits;
 
-/// How many bytes the longest number has.
+/// The length of the longest number in bytes.
 const LONGEST_NUMBER: usize = 20;
 
-/// From here on a number has more than four digits.
+/// The first number of more than four digits.
 const FIVE_DIGITS: u64 = 10_000;
 
-/// From here on a number has more than eight digits.
+/// The first number of more than eight digits.
 const NINE_DIGITS: u64 = 100_000_000;
 
-/// Any bytes.
+/// Places any bytes.
 #[inline(always)]
 fn place_slice(room: &mut [u8], at: usize, bytes: &[u8]) -> usize
     requires { at + length bytes.now ≤ length room.old }
@@ -32,7 +32,7 @@ fn place_slice(room: &mut [u8], at: usize, bytes: &[u8]) -> usize
     end
 }
 
-/// A few bytes. They come by value, so that they are stored without a look at where they stood.
+/// Places `N` bytes. They come by value, so that they are stored without a look at where they were.
 #[inline(always)]
 pub(crate) fn place<const N: usize>(room: &mut [u8], at: usize, bytes: [u8; N]) -> usize
     requires few { N ≤ 64 }
@@ -42,7 +42,7 @@ pub(crate) fn place<const N: usize>(room: &mut [u8], at: usize, bytes: [u8; N]) 
     place_slice(room, at, &bytes)
 }
 
-/// The first `len` of these bytes, which are stored as one word.
+/// Places the first `len` of these bytes, which are stored as one word.
 #[inline(always)]
 pub(crate) fn place_word<const N: usize>(
     room: &mut [u8],
@@ -59,7 +59,7 @@ pub(crate) fn place_word<const N: usize>(
     at + len
 }
 
-/// Two digits, of which the first may be 0.
+/// Places two digits, of which the first may be 0.
 #[inline(always)]
 fn place_pair(room: &mut [u8], at: usize, number: u32) -> usize
     requires small { number < 100 }
@@ -70,8 +70,8 @@ fn place_pair(room: &mut [u8], at: usize, number: u32) -> usize
     place(room, at, PAIRS[number as usize])
 }
 
-/// How many digits a number below 1,000 has. Which of two counts it is is a coin's toss, for a price
-/// or a size as for a venue, so that no branch hangs on it.
+/// Counts the digits of a number below 1,000. The count is hard to predict for a price or a size as
+/// for a venue, so that no branch depends on it.
 #[inline(always)]
 fn digit_count(number: u32) -> usize
     requires { number < 1000 }
@@ -87,7 +87,7 @@ fn digit_count(number: u32) -> usize
     }
 }
 
-/// A number of one to three digits.
+/// Places a number of one to three digits.
 #[inline(always)]
 fn place_three(room: &mut [u8], at: usize, number: u32) -> usize
     requires small { number < 1000 }
@@ -98,7 +98,7 @@ fn place_three(room: &mut [u8], at: usize, number: u32) -> usize
     place_word(room, at, FRONTS[number as usize], digit_count(number))
 }
 
-/// A number of one or two digits.
+/// Places a number of one or two digits.
 #[inline(always)]
 fn place_two(room: &mut [u8], at: usize, number: u32) -> usize
     requires small { number < 100 }
@@ -110,7 +110,7 @@ fn place_two(room: &mut [u8], at: usize, number: u32) -> usize
     place_word(room, at, FRONTS[number as usize], len)
 }
 
-/// A number of one to four digits.
+/// Places a number of one to four digits.
 #[inline(always)]
 fn place_four(room: &mut [u8], at: usize, number: u32) -> usize
     requires small { number < 10000 }
@@ -125,7 +125,7 @@ fn place_four(room: &mut [u8], at: usize, number: u32) -> usize
     place_pair(room, at, number % 100)
 }
 
-/// A number of five to eight digits.
+/// Places a number of five to eight digits.
 #[inline(always)]
 fn place_many(room: &mut [u8], at: usize, number: u32) -> usize
     requires least { 10000 ≤ number }
@@ -140,7 +140,7 @@ fn place_many(room: &mut [u8], at: usize, number: u32) -> usize
     place_pair(room, at, four % 100)
 }
 
-/// A number of one to eight digits.
+/// Places a number of one to eight digits.
 #[inline(always)]
 fn place_eight(room: &mut [u8], at: usize, number: u32) -> usize
     requires small { number < 100000000 }
@@ -154,7 +154,7 @@ fn place_eight(room: &mut [u8], at: usize, number: u32) -> usize
     place_many(room, at, number)
 }
 
-/// A number of any length.
+/// Places a number of any length.
 #[cold]
 #[inline(never)]
 fn place_long(room: &mut [u8], at: usize, number: u64) -> usize
@@ -167,7 +167,7 @@ fn place_long(room: &mut [u8], at: usize, number: u64) -> usize
     place_slice(room, at, &digits[start..])
 }
 
-/// A number.
+/// Places a number.
 #[inline(always)]
 pub(crate) fn place_number(room: &mut [u8], at: usize, number: u64) -> usize
     requires { at + 20 ≤ length room.old }
@@ -183,7 +183,7 @@ pub(crate) fn place_number(room: &mut [u8], at: usize, number: u64) -> usize
     }
 }
 
-/// A number after a space.
+/// Places a number after a space.
 #[inline(always)]
 pub(crate) fn place_field(room: &mut [u8], at: usize, number: u64) -> usize
     requires { at + 21 ≤ length room.old }
@@ -194,7 +194,7 @@ pub(crate) fn place_field(room: &mut [u8], at: usize, number: u64) -> usize
     place_number(room, at, number)
 }
 
-/// A venue's number after a space.
+/// Places a venue's number after a space.
 #[inline(always)]
 pub(crate) fn place_venue(room: &mut [u8], at: usize, venue: VenueId) -> usize
     requires { at + 5 ≤ length room.old }
@@ -205,7 +205,7 @@ pub(crate) fn place_venue(room: &mut [u8], at: usize, venue: VenueId) -> usize
     place_two(room, at, venue.index() as u32)
 }
 
-/// The dollars of a price. Most have two digits or three.
+/// Places the dollars of a price. Most have two digits or three.
 #[inline(always)]
 fn place_dollars(room: &mut [u8], at: usize, dollars: u32) -> usize
     requires small { dollars < 100000000 }
@@ -219,7 +219,7 @@ fn place_dollars(room: &mut [u8], at: usize, dollars: u32) -> usize
     place_eight(room, at, dollars)
 }
 
-/// A price: its dollars, a point and four digits.
+/// Places a price: its dollars, a point and four digits.
 #[inline(always)]
 pub(crate) fn place_price(room: &mut [u8], at: usize, price: u32) -> usize
     requires { at + 13 ≤ length room.old }
@@ -233,7 +233,7 @@ pub(crate) fn place_price(room: &mut [u8], at: usize, price: u32) -> usize
     place_pair(room, at, four % 100)
 }
 
-/// A symbol's name, of which all eight bytes are stored.
+/// Places a symbol's name, of which all eight bytes are stored.
 #[inline(always)]
 pub(crate) fn place_name(room: &mut [u8], at: usize, symbol: SymbolName) -> usize
     requires { at + 8 ≤ length room.old }
@@ -244,7 +244,7 @@ pub(crate) fn place_name(room: &mut [u8], at: usize, symbol: SymbolName) -> usiz
     place_word(room, at, symbol.field(), len)
 }
 
-/// A number of three to five digits, or any below 100,000.
+/// Places a number of three to five digits, or any below 100,000.
 #[inline(never)]
 fn place_five(room: &mut [u8], at: usize, number: u16) -> usize
     requires { at + 8 ≤ length room.old }
@@ -254,7 +254,7 @@ fn place_five(room: &mut [u8], at: usize, number: u16) -> usize
     place_eight(room, at, u32::from(number))
 }
 
-/// A number of one to five digits after a space. Most have one or two.
+/// Places a number of one to five digits after a space. Most have one or two.
 #[inline(always)]
 #[tactic(auto, using(std::proofs::lemmas::Fmt::decimal_digit))]
 pub(crate) fn place_short_field(room: &mut [u8], at: usize, number: u16) -> usize

@@ -6,7 +6,7 @@ use crate::devices::CaptureIn;
 use crate::fault::ReplayFault;
 use crate::unread::{ReadBuffer, ReadStep};
 
-/// Calls the reader until so many bytes are there, or it shows the end.
+/// Calls the reader until `wanted` bytes are there, or it shows the end. Returns whether they are.
 pub fn fill<R: CaptureIn>(
     unread: &mut ReadBuffer,
     reader: &mut R,

@@ -1,4 +1,4 @@
-//! What the definitions mean together.
+//! Laws of the definitions.
 ghost use Rattle.std.specs.Prelude.{◌≡◌, ℕ, Bool, List, Some, All, slice_get};
 ghost use Rattle.line_arbiter.specs.Histories.{History, streams_of};
 ghost use Rattle.feed_text.specs.declared.replay.ReplayConfig.{ReplayConfig};
@@ -18,9 +18,9 @@ pub fn one_reading()
         → capture_of xs r ≡ capture_of ys s → (xs ≡ ys) × (r ≡ s) }
 {}
 
-/// Records tell one list of happenings, and have one text: what meets the definition is the same.
-/// So do the lines of records, and those up to a full journal; and records have either the one or
-/// the other.
+/// Records emit one list of events, and have one text: what meets the definition is the same. So do
+/// the lines of records, and those up to a full journal; and records have either the one or the
+/// other.
 pub fn one_text()
     ensures emitted { (window : ℕ) (gaps : Bool) (records : List CaptureRecord)
         (old new last : List History) (t u : List ReplayEvent)
@@ -39,8 +39,8 @@ pub fn one_text()
     line_arbiter::one_outcome();
 }
 
-/// Records tell something, whatever they are: with [`one_text`], exactly one list of happenings. So no
-/// clause over what is told is empty.
+/// Records emit events, whatever they are: with [`one_text`], exactly one list of events. So no
+/// clause over emitted events is empty.
 pub fn every_capture_tells()
     ensures { (config : ReplayConfig) (records : List CaptureRecord)
         → All (IsRecord (venues_in config)) records → All HoldsBytes records
@@ -48,7 +48,7 @@ pub fn every_capture_tells()
         × EmitsAll config records emitted histories }
 {}
 
-/// The items that are told of a venue are its streams: session after session, what its lines
+/// The items that are emitted of a venue are its streams: session after session, what its lines
 /// brought up to the first gap, each once and in sequence, whether or not the journal has room.
 pub fn items_are_the_streams()
     ensures { (config : ReplayConfig) (records : List CaptureRecord) (emitted : List ReplayEvent)

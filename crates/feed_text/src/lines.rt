@@ -1,8 +1,8 @@
 //! The printed lines of `specs/Lines.antt`.
 //!
-//! Room for a whole line is made behind the text, its parts are placed there, and then the text
-//! ends behind them. So a line takes memory at most once, and where that is refused the text is as
-//! it was.
+//! Room for a whole line is made after the text, its parts are placed there, and then the text ends
+//! after them. So a line takes memory at most once, and where that is refused the text is
+//! unchanged.
 ghost use Rattle.std.specs.Prelude.{◌≡◌, ◌+◌, ◌<◌, ◌≤◌, ◌++◌, codes, length, IsTrue, Ok, OnOk, OnErr};
 ghost use Rattle.feed_text.specs.Lines.{field, line_end, packet_head, packet_line, fault_line, refused_tail, outcome_tail, item_word, item_line, side_field, state_tail, best_line, gap_line, renew_line, on_word, declare_line, venue_line, wins_by};
 ghost use Rattle.feed_types.specs.Text.{best_text};
@@ -29,7 +29,7 @@ const BEST_LINE: usize = 192;
 /// Room for a venue's last line.
 const VENUE_LINE: usize = 128;
 
-/// The head of a datagram's line: its venue and its line.
+/// Places the head of a datagram's line: its venue and its line.
 #[inline(always)]
 fn place_packet_head(room: &mut [u8], at: usize, venue: VenueId, line: LineId) -> usize
     requires { at + 17 ≤ length room.old }
@@ -41,7 +41,7 @@ fn place_packet_head(room: &mut [u8], at: usize, venue: VenueId, line: LineId) -
     place(room, at, [b' ', line.letter()])
 }
 
-/// The tail of a line that tells of a refusal.
+/// Places the tail of a line with a refusal's code.
 #[inline(always)]
 fn place_refused(room: &mut [u8], at: usize, code: u8) -> usize
     requires { at + 18 ≤ length room.old }
@@ -62,8 +62,8 @@ fn are_digits(new: u16, repeated: u16) -> bool
     new | repeated < 10
 }
 
-/// The tail of a taken packet's line whose counts have one digit, as most have: its parts have their
-/// places.
+/// Places the tail of a taken packet's line whose counts have one digit, as most have: its parts
+/// have fixed places.
 #[inline(always)]
 fn place_digits(room: &mut [u8], at: usize, new: u16, repeated: u16) -> usize
     requires room { at + 14 ≤ length room.old }
@@ -77,7 +77,7 @@ fn place_digits(room: &mut [u8], at: usize, new: u16, repeated: u16) -> usize
     place_word(room, at, [b' ', new, b' ', repeated, b'\n', 0, 0, 0], 5)
 }
 
-/// The tail of a taken packet's line: how many messages are new, and how many came before.
+/// Places the tail of a taken packet's line: how many messages are new, and how many came before.
 #[inline(always)]
 fn place_taken(room: &mut [u8], at: usize, new: u16, repeated: u16) -> usize
     requires { at + 25 ≤ length room.old }
@@ -94,7 +94,7 @@ fn place_taken(room: &mut [u8], at: usize, new: u16, repeated: u16) -> usize
     place(room, at, *b"\n")
 }
 
-/// The tail of a datagram's line: what became of its packet.
+/// Places the tail of a datagram's line: the outcome of its packet.
 #[inline(always)]
 fn place_outcome(room: &mut [u8], at: usize, outcome: &Result<Outcome, LineFault>) -> usize
     requires { at + 25 ≤ length room.old }
@@ -110,7 +110,7 @@ fn place_outcome(room: &mut [u8], at: usize, outcome: &Result<Outcome, LineFault
     }
 }
 
-/// The line of any datagram whose packet was answered.
+/// Places the line of any datagram whose packet was answered.
 #[inline(always)]
 fn place_packet(
     room: &mut [u8],
@@ -126,7 +126,7 @@ fn place_packet(
     place_outcome(room, at, outcome)
 }
 
-/// The line of a datagram whose packet was answered.
+/// Puts the line of a datagram whose packet was answered.
 #[inline(always)]
 pub(crate) fn put_packet(
     text: &mut LineBuffer,
@@ -145,7 +145,7 @@ pub(crate) fn put_packet(
     Ok(())
 }
 
-/// The line of a datagram that is no packet. It is rare, and so a call of its own.
+/// Puts the line of a datagram that is no packet. It is rare, and so a call of its own.
 #[inline(never)]
 pub(crate) fn put_fault(
     text: &mut LineBuffer,
@@ -165,7 +165,7 @@ pub(crate) fn put_fault(
     Ok(())
 }
 
-/// The tail of an item's line: what the item is.
+/// Places the tail of an item's line: what the item is.
 #[inline(always)]
 fn place_item_word(room: &mut [u8], at: usize, item: &Item) -> usize
     requires { at + 9 ≤ length room.old }
@@ -180,7 +180,7 @@ fn place_item_word(room: &mut [u8], at: usize, item: &Item) -> usize
     }
 }
 
-/// The head of an item's line: its venue.
+/// Places the head of an item's line: its venue.
 #[inline(always)]
 fn place_item_head(room: &mut [u8], at: usize, venue: VenueId) -> usize
     requires { at + 14 ≤ length room.old }
@@ -192,7 +192,7 @@ fn place_item_head(room: &mut [u8], at: usize, venue: VenueId) -> usize
     place(room, at, [b' '])
 }
 
-/// The line of an item that was ready.
+/// Puts the line of an item that was ready.
 #[inline(always)]
 pub(crate) fn put_item(
     text: &mut LineBuffer,
@@ -212,7 +212,7 @@ pub(crate) fn put_item(
     Ok(())
 }
 
-/// The head of a side of a national best: its venue.
+/// Places the head of a side of a national best: its venue.
 #[inline(always)]
 fn place_best_head(room: &mut [u8], at: usize, venue: VenueId) -> usize
     requires { at + 10 ≤ length room.old }
@@ -223,7 +223,7 @@ fn place_best_head(room: &mut [u8], at: usize, venue: VenueId) -> usize
     place(room, at, *b":")
 }
 
-/// A side of a national best: the venue, the price and the size.
+/// Places a side of a national best: the venue, the price and the size.
 #[inline(always)]
 fn place_best(room: &mut [u8], at: usize, best: &Best) -> usize
     requires { at + 44 ≤ length room.old }
@@ -236,7 +236,7 @@ fn place_best(room: &mut [u8], at: usize, best: &Best) -> usize
     place_number(room, at, best.size)
 }
 
-/// A side of a national best, if there is one, after a space.
+/// Places a side of a national best, if there is one, after a space.
 #[inline(always)]
 fn place_side(room: &mut [u8], at: usize, side: &Option<Best>) -> usize
     requires { at + 44 ≤ length room.old }
@@ -249,7 +249,7 @@ fn place_side(room: &mut [u8], at: usize, side: &Option<Best>) -> usize
     }
 }
 
-/// The tail of a best line: how the two sides stand to each other.
+/// Places the tail of a best line: the state of the two sides.
 #[inline(always)]
 fn place_state(room: &mut [u8], at: usize, state: NationalState) -> usize
     requires { at + 11 ≤ length room.old }
@@ -264,7 +264,7 @@ fn place_state(room: &mut [u8], at: usize, state: NationalState) -> usize
     }
 }
 
-/// The line of a change of the national best, under this number.
+/// Puts the line of a change of the national best, under this number.
 #[inline(never)]
 pub(crate) fn put_change(
     text: &mut LineBuffer,
@@ -290,7 +290,7 @@ pub(crate) fn put_change(
     Ok(())
 }
 
-/// The line of a notice.
+/// Puts the line of a notice.
 pub fn put_best(text: &mut LineBuffer, notice: &Notice) -> Result<(), AllocError>
     ensures line { OnOk result (text.new.items ≡ text.old.items ++ best_line notice.now) }
     ensures part { OnErr result (text.new.items ≡ text.old.items) }
@@ -303,7 +303,7 @@ pub fn put_best(text: &mut LineBuffer, notice: &Notice) -> Result<(), AllocError
     put_change(text, notice.number, &change)
 }
 
-/// The line of the run of messages to ask for.
+/// Puts the line of the run of messages to ask for.
 pub(crate) fn put_gap(
     text: &mut LineBuffer,
     venue: VenueId,
@@ -324,7 +324,7 @@ pub(crate) fn put_gap(
     Ok(())
 }
 
-/// Whether self-help is declared or withdrawn.
+/// Places whether self-help is declared or withdrawn.
 #[inline(always)]
 fn place_on(room: &mut [u8], at: usize, on: bool) -> usize
     requires { at + 8 ≤ length room.old }
@@ -338,7 +338,7 @@ fn place_on(room: &mut [u8], at: usize, on: bool) -> usize
     }
 }
 
-/// The line of a declaration: the position of its entry, or that it is so already.
+/// Puts the line of a declaration: the position of its entry, or that it is declared already.
 pub(crate) fn put_declared(
     text: &mut LineBuffer,
     venue: VenueId,
@@ -365,7 +365,7 @@ pub(crate) fn put_declared(
     Ok(())
 }
 
-/// The line of a renewal: the ordinal of the session that begins, or why none does.
+/// Puts the line of a renewal: the ordinal of the session that begins, or why none does.
 pub(crate) fn put_renewal(
     text: &mut LineBuffer,
     venue: VenueId,
@@ -390,8 +390,8 @@ pub(crate) fn put_renewal(
     Ok(())
 }
 
-/// The last line of a venue: how many items were sent, and how many numbers came first on A, on B
-/// and by recovery.
+/// Puts the last line of a venue: how many items were sent, and how many numbers came first on A,
+/// on B and by recovery.
 pub fn put_venue(
     text: &mut LineBuffer,
     venue: VenueId,

@@ -8,8 +8,8 @@ use crate::devices::{CaptureIn, ReadStop, TextOut, WriteStop};
 use std::marker::Model;
 use std::sync::ledger::Ledger;
 
-/// Bytes in memory. Each call gives at most as many as a piece has, so that it stands for a reader that
-/// gives little at a time. It neither fails nor is interrupted.
+/// Bytes in memory, as a reader that reads at most a piece by each call. It neither fails nor is
+/// interrupted.
 #[derive(Drop)]
 pub struct MemoryIn<'a> {
     left: &'a [u8],
@@ -28,7 +28,7 @@ impl<'a> Model for MemoryIn<'a> {
 }
 
 impl<'a> MemoryIn<'a> {
-    /// Of a piece of 0 a call gives one byte, as of a piece of 1.
+    /// Reads `bytes`, at most `piece` of them by a call; with a piece of 0 one byte, as with 1.
     pub fn new(bytes: &'a [u8], piece: usize) -> MemoryIn<'a>
         ensures bytes { result.bytes ≡ bytes.now }
         ensures piece { result.piece ≡ max piece 1 }
@@ -76,7 +76,7 @@ impl<L: Ledger> Model for MemoryOut<L> {
 }
 
 impl<L: Ledger> MemoryOut<L> {
-    /// Writes go behind the text that is there.
+    /// Writes after `text`.
     pub fn new(text: Vec<u8>, failures: Count<L>) -> MemoryOut<L>
         ensures text { result.text ≡ text.items }
         ensures failures { result.failures ≡ failures }
@@ -84,7 +84,7 @@ impl<L: Ledger> MemoryOut<L> {
         MemoryOut { text, failures }
     }
 
-    /// The text, and nothing of the failures.
+    /// Returns the text, without the count of failures.
     pub fn into_text(self) -> Vec<u8>
         ensures { result.items ≡ self.text }
     {

@@ -6,10 +6,10 @@ use crate::devices::{TextOut, WriteStop};
 use crate::fault::ReplayFault;
 use crate::page::LineBuffer;
 
-/// Text goes out once it has so many bytes.
+/// The length in bytes from which text is written.
 const PAGE: usize = 65_536;
 
-/// Writes all of a text, by as many calls as that takes, up to one that fails.
+/// Writes all of `text`, by as many calls as that takes, up to one that fails.
 pub fn write_all<W: TextOut>(text: &[u8], writer: &mut W) -> Result<(), WriteStop>
     ensures ok { OnOk result (W.adds writer.old text.now writer.new) }
     ensures failed { OnErr result (W.failures writer.new ≡ W.failures writer.old + 1) }
@@ -45,7 +45,7 @@ pub(crate) fn flush<W: TextOut>(text: &mut LineBuffer, writer: &mut W) -> Result
     }
 }
 
-/// Writes all of the text once it fills a page.
+/// Writes all of the text and empties it, once it has 65,536 bytes.
 pub(crate) fn flush_full<W: TextOut>(
     text: &mut LineBuffer,
     writer: &mut W,

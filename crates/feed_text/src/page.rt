@@ -1,17 +1,17 @@
-//! Text that waits to be written, and room for a line behind it.
+//! The text that waits to be written, and room for a line after it.
 ghost use Rattle.std.specs.Prelude.{◌≡◌, ◌≤◌, [], length, take, OnOk};
 
 use std::alloc::{AllocError, Global};
 use std::marker::Model;
 
-/// The bytes by which a page grows.
+/// The bytes by which a line buffer grows.
 static MORE: [u8; 2048] = [0; 2048];
 
 /// A text that grows by lines. A line's room is made before it is placed, so that its parts need no
 /// test.
 #[derive(Drop)]
 pub struct LineBuffer {
-    /// The text, and then room whose bytes say nothing.
+    /// The text, and then room whose bytes have no meaning.
     pub(crate) bytes: Vec<u8>,
     /// Where the text ends.
     pub(crate) end: usize,
@@ -34,7 +34,7 @@ impl Model for LineBuffer {
 }
 
 impl LineBuffer {
-    /// No text. It takes no memory before there is some.
+    /// An empty text. It takes no memory before there is some text.
     pub fn new(alloc: Global) -> LineBuffer
         ensures items { result.items ≡ [] }
     {
@@ -44,7 +44,7 @@ impl LineBuffer {
         }
     }
 
-    /// How many bytes the text has.
+    /// The length of the text in bytes.
     pub fn len(&self) -> usize
         ensures value { result ≡ length self.now.items }
     {
@@ -58,7 +58,7 @@ impl LineBuffer {
         &self.bytes[..self.end]
     }
 
-    /// Cuts the text to its first bytes, so many.
+    /// Keeps the first `len` bytes.
     pub fn truncate(&mut self, len: usize)
         ensures items { self.new.items ≡ take len self.old.items }
     {
@@ -67,14 +67,14 @@ impl LineBuffer {
         }
     }
 
-    /// Takes the text away. Its memory stays.
+    /// Empties the text. Its memory stays.
     pub fn clear(&mut self)
         ensures items { self.new.items ≡ [] }
     {
         self.end = 0;
     }
 
-    /// Sees to it that a line of so many bytes has room.
+    /// Makes room for a line of `bytes` bytes. Fails where memory was refused.
     #[inline(always)]
     pub(crate) fn make_room(&mut self, bytes: usize) -> Result<(), AllocError>
         requires { bytes ≤ 1024 }

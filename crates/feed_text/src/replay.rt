@@ -19,28 +19,29 @@ use feed_types::SymbolName;
 use journal_book::RunningJournal;
 use std::alloc::{AllocError, Global};
 
-/// What a replay is asked for.
+/// The settings of a replay.
 #[derive(Clone, Copy, Debug)]
 pub struct ReplayConfig<'a> {
     /// The names of the venues' first sessions, ten bytes each, filled on the right with spaces: 1
     /// to 16, any names.
     pub sessions: &'a [[u8; 10]],
     /// The symbols whose national best is printed where it changes, in the order in which changes
-    /// are told: at most 4,096, each once.
+    /// are printed: at most 4,096, each once.
     pub symbols: &'a [SymbolName],
-    /// How many messages past the last item sent are held, in each venue: 1 to 65,535.
+    /// The width of each venue's window in messages past the last item sent: 1 to 65,535.
     pub window: u32,
-    /// How many entries may be journaled. An item is one, and so is a declaration that changes
+    /// The most entries that may be journaled. An item is one, and so is a declaration that changes
     /// something.
     pub journal: u32,
     /// Whether a gap line is printed where a datagram leaves a gap.
     pub gaps: bool,
-    /// How many calls of the reader may be made.
+    /// The most calls of the reader that may be made.
     pub turns: u64,
 }
 
-/// What is still to be written where the telling stopped: all of the text where the journal is
-/// full, and where memory was refused that of the records before, so many bytes.
+/// Keeps the text that is still to be written after a stop: all of it where the journal is full,
+/// and the first `whole` bytes, which are the text of the records before, where memory was refused.
+/// Returns the fault of the stop.
 fn keep_told(stop: PublishStop, text: &mut LineBuffer, whole: usize) -> ReplayFault
     ensures fault { result ≡ fault_by stop }
     ensures left { text.new.items ≡ left_by stop whole text.old.items }
@@ -54,7 +55,8 @@ fn keep_told(stop: PublishStop, text: &mut LineBuffer, whole: usize) -> ReplayFa
     }
 }
 
-/// Writes what was told before the telling stopped, and says how that ended.
+/// Writes what was emitted before the stop. Returns the fault of the stop, or that the writer
+/// failed.
 fn stopped<W: TextOut>(
     stop: PublishStop,
     text: &mut LineBuffer,
@@ -70,8 +72,8 @@ fn stopped<W: TextOut>(
     }
 }
 
-/// A journal of no entries, and no text. The symbols are few enough and distinct, so that want of
-/// memory alone is refused.
+/// An empty journal, and no text. The symbols are few enough and distinct, so that only want of
+/// memory fails.
 fn new_report(alloc: Global, config: &ReplayConfig<'_>) -> Result<ReplaySink, AllocError>
     requires some { 1 ≤ length config.now.sessions.now }
     requires few { length config.now.sessions.now ≤ 16 }
@@ -108,8 +110,8 @@ fn close<W: TextOut>(
 /// What is ready is written before the reader is called again, so that a pipe shows lines as they
 /// come, and before a fault of the input, of the journal or of memory is answered. Every call of
 /// the reader is a turn, also one that was interrupted. Memory is taken for the venues' windows,
-/// the symbols, the bytes of a read and a text of about a page. What was journaled is counted and
-/// printed and not kept, so that a capture of a whole day takes no more than a short one.
+/// the symbols, the bytes of a read and a text of about 65,536 bytes. What was journaled is counted
+/// and printed and not kept, so that a capture of a whole day takes no more than a short one.
 #[inline(never)]
 pub fn replay<R: CaptureIn, W: TextOut>(
     alloc: Global,

@@ -1,4 +1,4 @@
-//! What happens, journaled and printed.
+//! The sink of a replay's events: they are journaled and printed.
 ghost use Rattle.std.specs.Prelude.{◌≡◌, ◌<◌, ◌≤◌, ◌∷◌, [], ◌+◌, ◌++◌, length, flat_map, OnOk};
 ghost use Rattle.journal_book.specs.Changes.{notices_from};
 ghost use Rattle.feed_text.specs.ReplayEvents.{item_taken, self_help_declared};
@@ -12,10 +12,10 @@ use feed_types::{Numbered, VenueId};
 use journal_book::{JournalFault, Latest, RunningJournal};
 use std::alloc::AllocError;
 
-/// Why what happens was not told to its end.
+/// Why a record's events were not published to their end.
 #[derive(Clone, Copy, Debug, PartialEq, Eq)]
 pub enum PublishStop {
-    /// The journal has as many entries as it holds, and the next happening needs one more.
+    /// The journal is full, and the next event needs one more entry.
     JournalFull,
     /// Memory was refused.
     NoMemory,
@@ -63,15 +63,16 @@ impl ReplaySink {
         if !self.journal.has_room() {
             return Err(PublishStop::JournalFull);
         }
-        // Journaled before its line is placed: what the book keeps of the symbol comes meanwhile.
+        // Journaled before its line is placed: what the book keeps of the symbol is fetched
+        // meanwhile.
         self.journal.record(venue, *numbered);
         put_item(&mut self.text, venue, numbered)?;
         put_bests(&mut self.text, self.journal.latest())?;
         Ok(())
     }
 
-    /// Journals a declaration, unless it is so already, and prints its line and those of the
-    /// changes that it makes.
+    /// Journals a declaration, unless that is declared already, and prints its line and those of
+    /// the changes that it makes.
     #[inline(never)]
     pub fn declare(&mut self, venue: VenueId, on: bool) -> Result<(), PublishStop>
         requires { venue < self.old.journal.venues }

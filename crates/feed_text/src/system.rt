@@ -11,7 +11,8 @@ use std::io::{ErrorKind, Read, Write};
 use std::marker::Model;
 use std::sync::ledger::Ledger;
 
-/// A reader of std, as standard input. Its calls are counted. What they gave is told where std tells what the
+/// A reader of std, as standard input. Its calls are counted. The bytes that they read are known
+/// where std says what the reader has left; of a file, a pipe or a terminal it doesn't.
 /// reader has left; of a file, a pipe or a terminal it doesn't.
 #[derive(Drop)]
 pub struct StreamIn<R, C: Ledger, L: Ledger> {
@@ -29,7 +30,7 @@ impl<R, C: Ledger, L: Ledger> Model for StreamIn<R, C, L> {
 }
 
 impl<R: Read, C: Ledger, L: Ledger> StreamIn<R, C, L> {
-    /// Reads what the reader gives from here on.
+    /// Reads from where `reader` is.
     pub fn new(reader: R, calls: Count<C>, failures: Count<L>) -> StreamIn<R, C, L>
         ensures reader { result.inner ≡ reader }
         ensures calls { result.calls ≡ calls }
@@ -75,8 +76,8 @@ impl<R: Read, C: Ledger, L: Ledger> CaptureIn for StreamIn<R, C, L> {
     }
 }
 
-/// A writer of std, as standard output. What its calls took is told where std tells what the writer
-/// holds; of a file, a pipe or a terminal it doesn't.
+/// A writer of std, as standard output. The text that its calls took is known where std says what
+/// the writer holds; of a file, a pipe or a terminal it doesn't.
 #[derive(Drop)]
 pub struct StreamOut<W, L: Ledger> {
     writer: W,
@@ -92,7 +93,7 @@ impl<W, L: Ledger> Model for StreamOut<W, L> {
 }
 
 impl<W: Write, L: Ledger> StreamOut<W, L> {
-    /// Writes behind what the writer has taken.
+    /// Writes after what `writer` has taken.
     pub fn new(writer: W, failures: Count<L>) -> StreamOut<W, L>
         ensures writer { result.inner ≡ writer }
         ensures failures { result.failures ≡ failures }

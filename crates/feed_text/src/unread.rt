@@ -6,13 +6,13 @@ use crate::devices::{CaptureIn, ReadStop};
 use std::alloc::{AllocError, Global};
 use std::marker::Model;
 
-/// How many bytes are held at most: a longest record, which has 65,539, and about as much again.
+/// The most bytes that are held: a longest record, which has 65,539, and about as many again.
 pub const ROOM: usize = 131_072;
 
-/// The bytes are moved to the front once there is less room than this behind them.
+/// The room after the bytes below which they are moved to the front.
 const LEAST_ROOM: usize = 65_536;
 
-/// What one call of the reader came to.
+/// The result of one call of the reader.
 #[derive(Clone, Copy, Debug, PartialEq, Eq)]
 pub enum ReadStep {
     /// Bytes came, or the call was interrupted and none did.
@@ -42,8 +42,8 @@ impl Model for ReadBuffer {
         (w.start ≤ w.end) × (w.end ≤ length w.bytes.items) × (length w.bytes.items ≡ 131072) };
 }
 
-/// Moves the bytes from `start` to `end` to the front where that costs nothing or where there is little
-/// room behind them, and says where they lie.
+/// Moves the bytes from `start` to `end` to the front where that costs nothing or where there is
+/// little room after them. Returns their new start and end.
 fn make_room(bytes: &mut Vec<u8>, start: usize, end: usize) -> (usize, usize)
     requires order { start ≤ end }
     requires within { end ≤ length bytes.old.items }
@@ -61,7 +61,7 @@ fn make_room(bytes: &mut Vec<u8>, start: usize, end: usize) -> (usize, usize)
     (0, end - start)
 }
 
-/// One call of the reader, into the bytes from `end` on.
+/// Makes one call of the reader, into the bytes from `end` on.
 fn read_behind<R: CaptureIn>(
     reader: &mut R,
     bytes: &mut Vec<u8>,
@@ -84,7 +84,7 @@ fn read_behind<R: CaptureIn>(
 }
 
 impl ReadBuffer {
-    /// No byte yet. Its memory is asked for here and never again.
+    /// An empty buffer. Its memory is asked for here and never again.
     pub fn new(alloc: Global) -> Result<ReadBuffer, AllocError>
         ensures { IfOk result (λ w. w ≡ []) }
     {
@@ -103,7 +103,7 @@ impl ReadBuffer {
         &self.bytes[self.start..self.end]
     }
 
-    /// How many there are.
+    /// The number of bytes.
     pub fn len(&self) -> usize
         ensures value { result ≡ length self.now }
         ensures bound { result ≤ 131072 }
@@ -118,7 +118,7 @@ impl ReadBuffer {
         self.start == self.end
     }
 
-    /// Uses so many bytes at the front.
+    /// Drops the first `count` bytes.
     pub fn advance(&mut self, count: usize)
         requires { count ≤ length self.old }
         ensures { self.new ≡ drop count self.old }
@@ -126,7 +126,7 @@ impl ReadBuffer {
         self.start += count;
     }
 
-    /// One call of the reader, which adds what it gives at the end.
+    /// Makes one call of the reader, and adds what it reads at the end.
     pub fn read_from<R: CaptureIn>(&mut self, reader: &mut R) -> ReadStep
         requires room { length self.old < 131072 }
         ensures went { result ≡ ReadStep.Went → HasGiven R.gives reader.old reader.new self.old self.new 1 }

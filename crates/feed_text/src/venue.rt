@@ -1,4 +1,4 @@
-//! One venue of a replay: its lines, and what they give.
+//! One venue of a replay: its lines, and what they bring.
 ghost use Rattle.std.specs.Prelude.{◌≡◌, ℕ, Bool, false, List, ◌∷◌, ◌++◌, ◌<◌, ◌≤◌, length, drop, map, Ok, IfOk, OnOk};
 ghost use Rattle.feed_types.specs.Sessions.{numbered_from};
 ghost use Rattle.quote_payload.specs.Payload.{item_of};
@@ -26,7 +26,8 @@ use quote_payload::{read_item, symbol_field};
 use std::alloc::{AllocError, Global};
 use std::marker::Model;
 
-/// How many of a packet's messages are looked ahead at most: their rows lie near the processor then.
+/// The most messages of a packet for which the book is prefetched: their rows are in the cache
+/// then.
 const MOST_AHEAD: usize = 64;
 
 /// A venue's arbiter, and how many items of the sessions that are over were sent. That count stays
@@ -45,7 +46,7 @@ impl Model for VenueReplay {
     ghost view = { λ v. record { arbiter = v.arbiter; sent_before = v.sent_before } };
 }
 
-/// Takes each item that is ready.
+/// Publishes each item that is ready.
 #[inline(never)]
 fn publish_each(
     arbiter: &mut Arbiter<Anything>,
@@ -63,7 +64,7 @@ fn publish_each(
     Ok(())
 }
 
-/// Takes each item that is ready. Most often there is none, which a glance tells.
+/// Publishes each item that is ready. Most often there is none, which one look shows.
 #[inline(always)]
 fn publish_ready(
     arbiter: &mut Arbiter<Anything>,
@@ -80,7 +81,7 @@ fn publish_ready(
     }
 }
 
-/// Takes the items that a packet's messages are, one by one.
+/// Publishes the items that a packet's messages are, one by one.
 #[inline(always)]
 fn publish_messages(
     venue: VenueId,
@@ -107,7 +108,7 @@ fn publish_messages(
     Ok(())
 }
 
-/// Has the book prefetch at once what the quotations among the first of these messages will read of it,
+/// Has the book prefetch what the quotations among the first of these messages will read of it,
 /// where that pays.
 #[inline(never)]
 fn prefetch(venue: VenueId, mut messages: Messages<'_>, report: &mut ReplaySink)
@@ -125,7 +126,7 @@ fn prefetch(venue: VenueId, mut messages: Messages<'_>, report: &mut ReplaySink)
     }
 }
 
-/// Looks ahead at a packet of several messages.
+/// Has the book prefetch for a packet of several messages.
 #[inline(always)]
 fn look_ahead(venue: VenueId, packet: &Packet<'_>, report: &mut ReplaySink)
     ensures { report.new ≡ report.old }
@@ -135,7 +136,7 @@ fn look_ahead(venue: VenueId, packet: &Packet<'_>, report: &mut ReplaySink)
     }
 }
 
-/// Tells of a packet that was the next one, takes its items, and what is ready after them.
+/// Publishes the answer of a packet that was the next one, its items, and what is ready after them.
 #[inline(always)]
 fn take_next(
     arbiter: &mut Arbiter<Anything>,
@@ -161,7 +162,7 @@ fn take_next(
     publish_ready(arbiter, venue, report)
 }
 
-/// Tells of a packet that was answered, and takes what is ready then.
+/// Publishes the answer of a packet, and what is ready then.
 #[inline(always)]
 fn publish_answer(
     arbiter: &mut Arbiter<Anything>,
@@ -205,7 +206,7 @@ impl VenueReplay {
         }
     }
 
-    /// How many items of all sessions were sent.
+    /// The number of items of all sessions that were sent.
     fn sent(&self) -> u64
         ensures { (width place : ℕ) (h : History) → Follows width place self.now h
             → result ≡ shown (length (streams_of h)) }
@@ -213,7 +214,7 @@ impl VenueReplay {
         self.sent_before.saturating_add(self.arbiter.status().sent)
     }
 
-    /// Takes any packet, and tells what became of it and each item that is ready then.
+    /// Takes any packet, and publishes its outcome and each item that is ready then.
     #[inline(never)]
     fn take_any(
         &mut self,
@@ -233,7 +234,7 @@ impl VenueReplay {
         }
     }
 
-    /// The same from a copy, which is made here, so that no other packet has to lie in memory.
+    /// Does the same from a copy, which is made here, so that no other packet has to lie in memory.
     #[inline(always)]
     fn take_copied(
         &mut self,
@@ -250,8 +251,8 @@ impl VenueReplay {
         self.take_any(venue, line, &packet.copied(), report)
     }
 
-    /// Takes a packet, and tells what became of it and each item that is ready then. Most go past
-    /// the window, and most of the others bring nothing that wasn't sent.
+    /// Takes a packet, and publishes its outcome and each item that is ready then. Most go past the
+    /// window, and most of the others bring nothing that wasn't sent.
     #[inline(always)]
     fn take_packet(
         &mut self,
@@ -280,7 +281,7 @@ impl VenueReplay {
         }
     }
 
-    /// Takes a datagram of a line, and tells what became of it and each item that is ready then.
+    /// Takes a datagram of a line, and publishes its outcome and each item that is ready then.
     fn take_datagram(
         &mut self,
         venue: VenueId,
@@ -302,8 +303,8 @@ impl VenueReplay {
         }
     }
 
-    /// Tells the gap, if one is left. It is a call of its own, so that the loop over records has the
-    /// registers.
+    /// Publishes the gap, if one is left. It is a call of its own, so that the loop over records
+    /// has the registers.
     #[inline(never)]
     fn publish_gap(&self, venue: VenueId, report: &mut ReplaySink) -> Result<(), PublishStop>
         ensures { (P : List Arrival) → Fits self.now.arbiter P
@@ -321,8 +322,8 @@ impl VenueReplay {
         }
     }
 
-    /// Takes a datagram of a line and tells of it: what became of it, each item that is ready then,
-    /// and where gaps are asked for the one that is left.
+    /// Takes a datagram of a line, and publishes its outcome, each item that is ready then, and
+    /// where gaps are asked for the one that is left.
     #[inline(always)]
     pub fn take(
         &mut self,
@@ -345,7 +346,7 @@ impl VenueReplay {
         self.publish_gap(venue, report)
     }
 
-    /// Begins the next session, where it may begin.
+    /// Begins the next session, where it may begin. Returns its ordinal.
     fn next_session(&mut self, session: [u8; 10]) -> Result<u64, RenewFault>
         ensures { (width place : ℕ) (h : History) → Follows width place self.old h
             → Renews width place session h self.new result }
@@ -356,7 +357,7 @@ impl VenueReplay {
         Ok(ordinal)
     }
 
-    /// Begins the next session under this name, where it may begin, and tells of that.
+    /// Begins the next session under this name, where it may begin, and publishes the answer.
     #[inline(never)]
     pub fn renew(
         &mut self,

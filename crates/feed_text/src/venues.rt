@@ -40,8 +40,8 @@ fn venue_at(place: usize) -> VenueId
 }
 
 impl Venues {
-    /// As many venues as there are session names, 16 at most, to which nothing came. They take the
-    /// memory of their windows here, and none later.
+    /// A venue for each session name, 16 at most, to which nothing came. They take the memory of
+    /// their windows here, and none later.
     pub fn new(
         alloc: Global,
         sessions: &[[u8; 10]],
@@ -63,8 +63,9 @@ impl Venues {
         Ok(Venues { venues, gaps })
     }
 
-    /// Takes a record, and tells of it. Where it stops, no other record can be taken: for a full
-    /// journal all that had room was told, and where memory was refused some of it may be.
+    /// Takes a record, and publishes its events. After a stop no other record can be taken: for a
+    /// full journal all events that had room were published, and where memory was refused some may
+    /// be.
     pub fn take(&mut self, next: Record<'_>, report: &mut ReplaySink) -> Result<(), PublishStop>
         requires kind { IsRecord (length self.old.items) (record_of next) }
         requires venues { report.old.journal.venues ≡ length self.old.items }
@@ -84,7 +85,7 @@ impl Venues {
         }
     }
 
-    /// Prints the last lines behind the text.
+    /// Prints the last lines after the text.
     pub fn put_last(&self, text: &mut LineBuffer) -> Result<(), AllocError>
         ensures { OnOk result (PrintsLast self.now text.old.items text.new.items) }
     {
