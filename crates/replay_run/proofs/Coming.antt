@@ -103,7 +103,7 @@ all_push : {X : Type 0} (Q : X → Type 0) (xs : List X) (x : X) → AllByRecurs
 all_push Q [] x all one = (one, tt)
 all_push Q (y ∷ xs) x all one = (all.0, all_push Q xs x all.1 one)
 
--- so many are in the stream
+-- the stream has `k` items
 stream_len : (s : Session) (window k : ℕ) (P : List Arrival) → IsUpTo s window k P → length (stream_of P) ≡ k
 stream_len s window k P u =
     let f : ℕ → Numbered = item_numbered P in
@@ -229,7 +229,7 @@ abbrev records_from : ℕ → List ℕ → ℕ → List (List ℕ) → List Capt
 records_from place name k [] = end_record place name k ∷ []
 records_from place name k (m ∷ ms) = message_record place name k m ∷ records_from place name (k + 1) ms
 
--- these are the session's items from this place on
+-- the session's items from this place on
 record AreFrom (s : Session) (k : ℕ) (ms : List (List ℕ)) : Type 0 where
   at : (j : ℕ) (m : List ℕ) → slice_get ms j ≡ Some m → slice_get s.items (k + j) ≡ Some (item_of m)
   all : k + length ms ≡ length s.items
@@ -250,7 +250,7 @@ first_at : (s : Session) (k : ℕ) (m : List ℕ) (ms : List (List ℕ)) → Are
 first_at s k m ms f =
     subst (λ (n : ℕ). slice_get s.items n ≡ Some (item_of m)) (let e : k + 0 ≡ k = omega arith in e) (f.at 0 m refl)
 
--- a venue to which these packets came, all of its first session
+-- the history of a venue to which these packets came, all of its first session
 abbrev came : Session → List Arrival → History
 came s P = record { earlier = []; present = record { name = s.name; packets = P } }
 

@@ -39,9 +39,9 @@ use Rattle.replay_run.specs.Events.{slice_of, event_of, drains, AreEvents, outco
 use Rattle.replay_run.specs.Full.{StopsAt, IsRunToFull}
 use Rattle.replay_run.proofs.Runs.{at, venue_at, venue_more, at_venue, get_map, get_set_here, get_seam, push_step, drain, items_len, same_so, packet_begins, ready_behind, outcomes_more, run_more, RanAll, all_ran, begins, with_venues, all_more, drains_only, event_only, events_only}
 
--- ---- the happening that finds no room
+-- ---- the event that finds no room
 
--- it adds an entry
+-- the event adds an entry
 abbrev Adds : List Entry → ReplayEvent → Type 0
 Adds E next = length E < length (entries_after E next)
 
@@ -55,7 +55,7 @@ none_is : {X : Type 0} (xs : List X) (y : X) (ys : List X) → [] ≡ xs ++ y �
 none_is [] y ys e = cc
 none_is (x ∷ xs) y ys e = cc
 
--- one that adds none had room
+-- an event that adds no entry had room
 record IsPast (x : ReplayEvent) (xs first others : List ReplayEvent) (next : ReplayEvent) : Type 0 where
   rest : List ReplayEvent
   first_is : first ≡ x ∷ rest
@@ -85,7 +85,7 @@ in_gap window true venue h E first others next e adds =
         (let p = past E (gap_left venue request) [] first others next e refl adds in none_is p.rest next others
         p.rest_are)
 
--- it is one of the items
+-- the event is one of the items
 record IsInItems (venue : ℕ) (ready : List Numbered) (first : List ReplayEvent) (next : ReplayEvent) : Type 0 where
   had : List Numbered
   item : Numbered
@@ -133,7 +133,7 @@ get_map_back f [] i y e = absurd cc
 get_map_back f (x ∷ xs) zero y e = (x, refl, (let same : f x ≡ y = cc in sym same))
 get_map_back f (x ∷ xs) (suc i) y e = get_map_back f xs i y e
 
--- the items that were told before are the streams of these histories
+-- the items that were emitted before are the streams of these histories
 abbrev AreTold : List ReplayEvent → List History → Type 0
 AreTold emitted hs = (place : ℕ) (h : History) → slice_get hs place ≡ Some h → items_taken place emitted ≡ streams_of h
 
@@ -274,7 +274,7 @@ module _ (s : Setting) (gaps : Bool) (lane : 1 ≤ s.lane) (hs : List History) (
       (sym t.emitted_is) refl (omega arith) in
       in_gap s.window gaps venue new F p.rest others next p.rest_are (omega arith)
 
-  -- the declaration isn't so already, and there is no room for it
+  -- the declaration changes something, and there is no room for it
   declared_full : (on b : Bool) → is_so E venue on ≡ b → length E ≤ s.journal
       → s.journal < length (if b then E else E ++ entry.SelfHelp venue on ∷ [])
       → Applies (λ (x : List Entry). world_of hs x)

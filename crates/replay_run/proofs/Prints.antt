@@ -1,4 +1,4 @@
--- What is printed is what a run comes to.
+-- What is printed is what a run leads to.
 use Rattle.std.proofs.Common.{ℕ, List, Result, Ok, Err, inl, inr}
 use Rattle.feed_text.specs.declared.fault.ReplayFault.{ReplayFault}
 use Rattle.feed_text.specs.declared.fault.ReplayFault.TheVariants.{ReadFailed, WriteFailed, BadRecord, ShortRecord, TooManyTurns, JournalFull, NoMemory}
@@ -32,7 +32,7 @@ lines_to_full config records lines x =
 
 -- ---- where more is said of the texts
 
--- each text of which the one is said has the other said of it
+-- each text of which one definition holds meets the other, too
 record Implies (one other : TextFacts) : Type 0 where
   text : (records : List CaptureRecord) (text : List ℕ) → one.IsText records text → other.IsText records text
   lines : (records : List CaptureRecord) (text : List ℕ) → one.AreLines records text → other.AreLines records text

@@ -1,4 +1,4 @@
--- What is told of records is a run of the machine.
+-- The events of records are a run of the machine.
 use Rattle.std.proofs.Common.{◌≡◌, ℕ, zero, suc, ◌+◌, ◌-◌, ◌<◌, ◌≤◌, Bool, true, false, List, [], ◌∷◌, ◌++◌, length, map, drop, Some, None, Option, Result, Ok, Err, refl, sym, ap, subst, ◌∙◌, arith, append_assoc, append-nil, length-append, inl, inr}
 use Rattle.std.specs.Prelude.{◌⊎◌, MatchOption, slice_get, slice_set, nat_le, not, if◌then◌else◌}
 use Rattle.std.specs.List.{AllByRecursion}
@@ -93,7 +93,7 @@ pub at_venue : (old : World) (place : ℕ) (v : Venue) (d : Done) (new : World) 
 at_venue old place v d new Known e k =
     subst (λ (o : Option Venue). MatchOption o (Stays unknown_venue old d new) Known) (sym e) k
 
--- ---- what was told
+-- ---- emitted events
 
 pub outcomes_more : (old : List Entry) (xs ys : List ReplayEvent)
     → outcomes_of old (xs ++ ys) ≡ outcomes_of old xs ++ outcomes_of (entries_of old xs) ys
@@ -118,15 +118,15 @@ gap_silent window true venue h = at (gap_of h.present.name window (telling.sent_
 
 -- ---- items are pushed, and each is consumed at once
 
--- a world with one venue as it is said
+-- a world with this venue in its place
 abbrev pub at : List Venue → ℕ → Venue → List Entry → World
 at vs place v entries = record { venues = slice_set vs place v; entries = entries; subscribers = []; used = 0 }
 
--- a venue of which so much was consumed
+-- a venue with this history and these items, all consumed
 abbrev pub venue_at : History → List Numbered → Venue
 venue_at h items = record { history = h; lane = record { sent = items; received = items } }
 
--- and one item more was pushed
+-- the same venue, where one more item was pushed
 abbrev pub venue_more : History → List Numbered → Numbered → Venue
 venue_more h items x = record { history = h; lane = record { sent = items ++ x ∷ []; received = items } }
 
@@ -242,7 +242,7 @@ run_as : (s : Setting) (a : World) (es : List Event) (ds gs : List Done) (b c : 
 run_as s a es ds gs b c e f x =
     subst (λ (w : World). IsRun s a es gs w) f (subst (λ (l : List Done). IsRun s a es l b) e x)
 
--- the record's event and so many drains of its venue come to what is told of it
+-- the record's event and `n` drains of its venue lead to what the record emits
 abbrev Ran : Setting → CaptureRecord → List History → List Entry → List ReplayEvent → List History → Type 0
 Ran s r hs entries emitted new =
     (n : ℕ) × IsRun s (world_of hs entries) (event_of r ∷ drains (record_venue r) n) (outcomes_of entries emitted)
@@ -311,7 +311,7 @@ module _ (s : Setting) (gaps : Bool) (lane : 1 ≤ s.lane) (hs : List History) (
         new_is = refl;
       }))
 
-  -- what it made ready comes behind the streams
+  -- the items that it made ready follow the streams
   pub ready_behind : (line : LineId) (bytes : List ℕ) (emitted : List ReplayEvent) (new : History)
       → EmitsPacket s.window gaps venue line bytes h emitted new
       → streams_of new ≡ streams_of h ++ drop (telling.sent_of h) (stream_of new.present.packets)
@@ -525,7 +525,7 @@ events_only place session (r ∷ rs) events (ready, others, more, is) may =
     (event_only place session r may.0, drains_only place (record_venue r) session ready)
     (events_only place session rs others more may.1))
 
--- ---- the items that were told
+-- ---- the items that were emitted
 
 brought : (place : ℕ) (records : List CaptureRecord) (events : List Event)
     → ((session : Session) → HoldOnly place records session → BringOnly place events session)

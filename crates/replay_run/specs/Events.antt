@@ -1,5 +1,5 @@
 -- A replay as a run of the machine over events: each record is an event, and each item that is
--- ready behind it is pushed and consumed at once.
+-- ready after it is pushed and consumed at once.
 use Rattle.std.specs.Prelude.{◌≡◌, ℕ, zero, suc, ◌+◌, List, [], ◌∷◌, ◌++◌, length, map, Some, slice_get, if◌then◌else◌}
 use Rattle.std.specs.Borrow.{Bor}
 use Rattle.feed_types.specs.declared.journal.Entry.{Entry}
@@ -21,11 +21,11 @@ use Rattle.feed_text.specs.Capture.{CaptureRecord, datagram_record, renewal_reco
 use Rattle.feed_text.specs.ReplayEvents.{ReplayEvent, packet_answered, packet_refused, item_taken, gap_left, renewal_answered, self_help_declared, is_so, entries_after, entries_of}
 use Rattle.replay_run.specs.VenueItems.{HoldOnly, TellsSessions}
 
--- a slice of these bytes, wherever they lie
+-- a slice of these bytes, wherever they are
 abbrev pub slice_of : List ℕ → Bor (List ℕ)
 slice_of bytes = record { ref_ptr = (0, 0); now = bytes }
 
--- the event that a record is
+-- the event of a record
 abbrev pub event_of : CaptureRecord → Event
 event_of (datagram_record venue line bytes) = Packet venue line (slice_of bytes)
 event_of (renewal_record venue name) = Renew venue name
@@ -36,14 +36,14 @@ abbrev pub drains : ℕ → ℕ → List Event
 drains venue zero = []
 drains venue (suc n) = Push venue ∷ Consume venue ∷ drains venue n
 
--- the events are these records, one after another, each with some drains of its venue behind it
+-- the events of these records, one after another, each with some drains of its venue after it
 abbrev pub AreEvents : List CaptureRecord → List Event → Type 0
 AreEvents [] events = events ≡ []
 AreEvents (r ∷ rs) events =
     (ready : ℕ) × (others : List Event) × AreEvents rs others
     × (events ≡ (event_of r ∷ drains (record_venue r) ready) ++ others)
 
--- the outcomes that a happening tells, where these are the entries before it
+-- the outcomes of a replay's event, after these entries
 abbrev pub outcomes_by : List Entry → ReplayEvent → List Done
 outcomes_by entries (packet_answered venue line answer) = packet_done answer ∷ []
 outcomes_by entries (packet_refused venue line fault) = done.Refused (code_of fault) ∷ []
@@ -59,8 +59,8 @@ outcomes_of entries [] = []
 outcomes_of entries (h ∷ hs) =
     outcomes_by entries h ++ outcomes_of (entries_after entries h) hs
 
--- what a machine is set up with that does what a replay does: a lane of some length, and some
--- filters, that no event uses
+-- the setting of a machine that does what a replay does: a lane of some length, and some filters,
+-- that no event uses
 abbrev pub replay_setting : ReplayConfig → ℕ → List Terms → Setting
 replay_setting config lane filters = record {
   sessions = config.sessions.now;
@@ -71,14 +71,14 @@ replay_setting config lane filters = record {
   filters = filters;
 }
 
--- a venue to which this came, all of it consumed
+-- a venue with this history, all of it consumed
 abbrev pub consumed_all : History → Venue
 consumed_all h = record {
   history = h;
   lane = record { sent = streams_of h; received = streams_of h };
 }
 
--- the world that a replay comes to
+-- the world that a replay leads to
 abbrev pub world_of : List History → List Entry → World
 world_of histories entries = record {
   venues = map consumed_all histories;
@@ -87,10 +87,10 @@ world_of histories entries = record {
   used = 0;
 }
 
--- What was told of these records is a run of the machine: over the records as events, with the
--- outcomes that were told, to the world of these histories and of what was journaled; and the
--- headline holds of it. The premise of its sessions is one of the records, and what it says of a
--- venue's items is so of those that were told.
+-- What these records emit is a run of the machine: over the records as events, with the outcomes
+-- that were emitted, to the world of these histories and of what was journaled; and the headline
+-- holds of it. Its premise on sessions is one on the records, and what it says of a venue's items
+-- holds of those that were emitted.
 pub record IsReplayRun (s : Setting) (records : List CaptureRecord) (emitted : List ReplayEvent)
     (histories : List History) : Type 0 where
   pub events : List Event

@@ -1,4 +1,4 @@
--- Where a replay stops since its journal is full, a run of the machine is refused so, too.
+-- A replay that stops since its journal is full, as a run whose next event the machine refuses.
 use Rattle.std.specs.Prelude.{◌≡◌, ℕ, List, [], ◌∷◌, ◌++◌, Some, slice_get}
 use Rattle.feed_types.specs.Sessions.{Session}
 use Rattle.feed_core.specs.declared.event.Event.{Event}
@@ -25,10 +25,10 @@ StopsAt (datagram_record venue line bytes) done refused =
 StopsAt (self_help_record venue on) done refused = (done ≡ []) × (refused ≡ Declare venue on)
 StopsAt (renewal_record venue name) done refused = ⊥
 
--- What was told of these records, of the last one up to a full journal, is a run of the machine:
--- over the records as events, with the outcomes that were told and that of the item that was
--- pushed, to a world with the entries that were told; the headline holds of it. The next event is
--- refused since the journal is full.
+-- What these records emit, the last one up to a full journal, is a run of the machine: over the
+-- records as events, with the outcomes that were emitted and that of the item that was pushed, to a
+-- world with the journaled entries; the headline holds of it. The next event is refused since the
+-- journal is full.
 pub record IsRunToFull (s : Setting) (earlier : List CaptureRecord) (last : CaptureRecord)
     (emitted : List ReplayEvent) : Type 0 where
   pub before : List Event

@@ -12,8 +12,8 @@ use Rattle.feed_core.specs.VenueHalf.{BringOnly}
 abbrev pub session_of : List ℕ → List (List ℕ) → Session
 session_of name messages = record { name = name; items = map item_of messages }
 
--- There are events that bring the venue at a place packets of the session alone under its name, and
--- they lead to a world where all of its items were consumed, and End.
+-- Some events bring the venue at a place packets of the session alone under its name, and lead to a
+-- world where all of the session's items and End were consumed.
 pub record ComesThrough (s : Setting) (place : ℕ) (session : Session) : Type 0 where
   pub events : List Event
   pub outcomes : List Done

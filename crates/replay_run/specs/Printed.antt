@@ -1,4 +1,4 @@
--- What a replay prints is what a run of the machine comes to.
+-- What a replay prints is what a run of the machine leads to.
 use Rattle.std.specs.Prelude.{ℕ, ◌≤◌, List, ◌++◌}
 use Rattle.line_arbiter.specs.Histories.{History}
 use Rattle.filter_terms.specs.declared.terms.Terms.{Terms}
@@ -10,30 +10,30 @@ use Rattle.feed_text.specs.Replays.{TextFacts}
 use Rattle.replay_run.specs.Events.{replay_setting, IsReplayRun}
 use Rattle.replay_run.specs.Full.{IsRunToFull}
 
--- it is so whatever the lanes hold, and whatever filters are handed in, of which a replay uses none
+-- it holds whatever the lanes hold, and whatever filters are handed in, of which a replay uses none
 abbrev pub InAnySetting : ReplayConfig → (Setting → Type 0) → Type 0
 InAnySetting config Is =
     (lane : ℕ) (filters : List Terms) → 1 ≤ lane → Is (replay_setting config lane filters)
 
--- the lines of records, and what they tell is a run
+-- the lines of records whose events are a run
 pub record AreLinesOfRun (config : ReplayConfig) (records : List CaptureRecord) (lines : List ℕ)
     : Type 0 where
   pub are : IsLinesOf config records lines
   pub run : InAnySetting config (λ s. IsReplayRun s records are.emitted are.histories)
 
--- the text of a capture, and what its records tell is a run
+-- the text of a capture whose records' events are a run
 pub record IsTextOfRun (config : ReplayConfig) (records : List CaptureRecord) (text : List ℕ)
     : Type 0 where
   pub is : IsTextOf config records text
   pub run : InAnySetting config (λ s. IsReplayRun s records is.emitted is.histories)
 
--- the lines of records up to a full journal, and what they tell is a run up to it
+-- the lines of records up to a full journal, whose events are a run up to it
 pub record AreLinesOfRunToFull (config : ReplayConfig) (records : List CaptureRecord)
     (lines : List ℕ) : Type 0 where
   pub are : IsLinesToFull config records lines
   pub run : InAnySetting config (λ s. IsRunToFull s are.earlier are.last (are.emitted ++ are.first))
 
--- what a replay writes is that of a run
+-- the texts that a replay writes are those of a run
 abbrev pub texts_of_run : ReplayConfig → TextFacts
 texts_of_run config = record {
   IsText = IsTextOfRun config;

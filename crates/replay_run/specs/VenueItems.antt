@@ -1,4 +1,4 @@
--- Whose sessions' messages the items are that were told of a venue.
+-- The sessions whose messages are the items that are emitted of a venue.
 use Rattle.std.specs.Prelude.{◌≡◌, ℕ, List, [], ◌∷◌, ◌++◌, map}
 use Rattle.std.specs.List.{AllByRecursion}
 use Rattle.feed_types.specs.Sessions.{Session, whole_sessions}
@@ -24,10 +24,10 @@ HoldsOnly place s (self_help_record venue on) = Unit {0}
 abbrev pub HoldOnly : ℕ → List CaptureRecord → Session → Type 0
 HoldOnly place records s = AllByRecursion (HoldsOnly place s) records
 
--- What was told of the venue at a place, to which this came: its items are its streams; each
--- session of which the records hold the packets alone is the one that came under its name; and
--- where that is so of all that the venue began, the items are these sessions, each whole but the
--- last, which comes up to its first gap.
+-- What was emitted of the venue at a place, which has this history: its items are its streams. Each
+-- session of which the records hold the packets alone is the one that came under its name. Where
+-- that holds of all sessions that the venue began, the items are these sessions, each whole but the
+-- last, which goes up to its first gap.
 pub record TellsSessions (records : List CaptureRecord) (place : ℕ) (emitted : List ReplayEvent)
     (h : History) : Type 0 where
   pub items : items_taken place emitted ≡ streams_of h

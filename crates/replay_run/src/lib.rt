@@ -1,10 +1,11 @@
 //! A replay is a run of the machine over events, so that the headline holds of what it prints.
 //!
-//! A replay takes a record at a time, and keeps no list of events and no machine. All the same, what
-//! it tells of a capture is what the machine comes to over the capture's records as events, with
+//! A replay takes a record at a time, and keeps no list of events and no machine. All the same,
+//! what it emits of a capture is what the machine does over the capture's records as events, with
 //! each item that is ready pushed and consumed at once (`specs/Events.antt`); and where it stops
-//! since its journal is full, the machine refuses the next event for that (`specs/Full.antt`). So
-//! what is printed is that of a run (`specs/Printed.antt`), and [`replay`] says it of what it wrote.
+//! since its journal is full, the machine refuses the next event for that reason
+//! (`specs/Full.antt`). So what is printed is that of a run (`specs/Printed.antt`), and [`replay`]
+//! says so of what it wrote.
 #![tactic(auto)]
 
 ghost use Rattle.std.specs.Prelude.{◌≡◌, ◌<◌, ◌≤◌, ◌+◌, ◌^◌, ℕ, List, Some, length, slice_get};
@@ -28,8 +29,8 @@ use feed_text::fault::ReplayFault;
 use feed_text::replay::ReplayConfig;
 use std::alloc::Global;
 
-/// What is told of records is a run of the machine over them as events, and the headline holds of
-/// it, whatever the lanes hold.
+/// The events that records emit are a run of the machine over the records as events, and the
+/// headline holds of it, whatever the lanes hold.
 pub fn a_replay_is_a_run()
     ensures { (config : ReplayConfig) (lane : ℕ) (filters : List Terms)
         (records : List CaptureRecord) (emitted : List ReplayEvent) (histories : List History)
