@@ -1,4 +1,4 @@
--- What one item, or one notice, more leaves of a section, said of plain states.
+-- What one more item, or one more notice, leaves of a section, in terms of plain states.
 use Rattle.std.proofs.Common.{◌≡◌, ℕ, zero, suc, ◌+◌, ◌≤◌, ◌<◌, Bool, true, false, List, [], ◌∷◌, ◌++◌, length, map, Option, Some, None, Result, Ok, Err, refl, sym, ap, subst, ◌∙◌, arith, append_assoc, append-nil, length-append}
 use Rattle.std.specs.Prelude.{slice_get, slice_set, nat_le, sum_by, if◌then◌else◌}
 use Rattle.std.proofs.lemmas.Bool.Decides.{nat_tests}
@@ -26,7 +26,7 @@ use Rattle.live_feed.proofs.CellMoves.{shown_sum}
 -- ---- Consume
 
 module _ (journal venue : ℕ) (old after : Intake) where
-  -- what was journaled is an item
+  -- an item was journaled
   item_journaled : (b : Bool) (next : Option Numbered) (position : ℕ) → AppliesTo (if b then Refused journal_full else journal_item venue next old) old (done.Consumed position) after
       → (x : Numbered) × (after ≡ record { received = old.received ++ x ∷ []; entries = old.entries ++ entry.Consumed venue x ∷ [] })
   item_journaled true next position e = absurd (let h = e.0 in cc)
@@ -72,7 +72,7 @@ module _ (venue : ℕ) (old : HubState) where
     kept = refl;
   }
 
-  -- none was
+  -- none was journaled
   pub start_count : (after : HubState) → after ≡ old → venue < length old.receivers → ConsumesCount venue 0 old after
   start_count after same below =
       let there = get_within old.receivers venue below in
@@ -86,7 +86,7 @@ module _ (may_send : ℕ → List Numbered → Type 0) (venue : ℕ) (old : HubS
       receivers = new.receivers;
     }) before
 
-    -- one item more was
+    -- one more item was journaled
     pub one_item : (items : List Numbered) (position : ℕ) → ConsumesItems venue items old between → ConsumesOne may_send venue (Ok (Some position)) between new
         → (x : Numbered) × ConsumesItems venue (items ++ x ∷ []) old new
     one_item items position r one =
@@ -116,7 +116,7 @@ module _ (may_send : ℕ → List Numbered → Type 0) (venue : ℕ) (old : HubS
           },
         )
 
-    -- and there is none more
+    -- and there is no further one
     pub no_item_more : (items : List Numbered) → ConsumesItems venue items old between → ConsumesOne may_send venue (Ok None) between new → ConsumesItems venue items old new
     no_item_more items r one =
         let found = none_journaled between.journal.journal venue (hub_intake one.lane between.journal) one.after (nat_le between.journal.journal (length between.journal.entries)) one.next one.comes in
@@ -132,17 +132,17 @@ module _ (may_send : ℕ → List Numbered → Type 0) (venue : ℕ) (old : HubS
           kept = kept_on r.kept;
         }
 
-  -- one more was
+  -- one more was journaled
   pub one_more_item : (count position : ℕ) (between new : HubState) → ConsumesCount venue count old between → ConsumesOne may_send venue (Ok (Some position)) between new → KeepsButIntake between new → ConsumesCount venue (count + 1) old new
   one_more_item count position between new r one kept =
       let more = one_item between new kept r.items position r.consumes one in
       record { items = r.items ++ more.0 ∷ []; count_is = length-append r.items (more.0 ∷ []) ∙ ap (λ (n : ℕ). n + 1) r.count_is; consumes = more.1 }
 
-  -- there is none more
+  -- there is no further one
   pub none_more_item : (count : ℕ) (between new : HubState) → ConsumesCount venue count old between → ConsumesOne may_send venue (Ok None) between new → KeepsButIntake between new → ConsumesCount venue count old new
   none_more_item count between new r one kept = record { items = r.items; count_is = r.count_is; consumes = no_item_more between new kept r.items r.consumes one }
 
-  -- nothing was inside, and the journal had room
+  -- the lane was empty, and the journal had room
   pub had_no_item : (between new : HubState) → between ≡ old → ConsumesOne may_send venue (Ok None) between new → HadNoItem may_send venue old
   had_no_item between new same later =
       let one = subst (λ (s : HubState). ConsumesOne may_send venue (Ok None) s new) same later in
@@ -208,7 +208,7 @@ module _ (may_send : ℕ → List Notice → Type 0) (id : ℕ) (old new : HubSt
       ap (λ (l : List (LaneEnd Notice)). sum_by (λ (e : LaneEnd Notice). length e.items) l)
       (one.sent_is ∙ ap (λ (l : List Notice). slice_set old.senders id (with_items one.lane l)) (full_sent one.lane.items one.sent one.full (slice_get (wanted_of old.journal.symbols one.terms old.journal.entries) (length one.lane.items)) one.comes) ∙ put_same old.senders id one.lane one.at)
 
--- one notice more was sent
+-- one more notice was sent
 pub one_counted : (may_send : ℕ → List Notice → Type 0) (id number pushed more : ℕ) (old between new : HubState) → OffersCount pushed old between → HubOffersOne may_send id (Ok number) between new → more ≡ shown (pushed + 1)
     → OffersCount more old new
 one_counted may_send id number pushed more old between new r one is =
@@ -220,7 +220,7 @@ one_counted may_send id number pushed more old between new r one is =
       counted = is ∙ ap (λ (n : ℕ). shown (n + 1)) r.counted ∙ shown_sum r.more 1;
     }
 
--- none was
+-- none was sent
 pub none_counted : (may_send : ℕ → List Notice → Type 0) (id pushed : ℕ) (why : Unsent) (old between new : HubState) → OffersCount pushed old between → HubOffersOne may_send id (Err why) between new → OffersCount pushed old new
 none_counted may_send id pushed why old between new r one = record { more = r.more; total = no_more_sent may_send id between new why one ∙ r.total; counted = r.counted }
 

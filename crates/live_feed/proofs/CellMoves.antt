@@ -1,4 +1,4 @@
--- What a packet, a push and a renewal leave of a venue's cell, said of plain states.
+-- What a packet, a push and a renewal leave of a venue's cell, in terms of plain states.
 use Rattle.std.proofs.Common.{◌≡◌, ℕ, zero, suc, ◌+◌, ◌-◌, ◌≤◌, true, false, List, [], ◌∷◌, ◌++◌, length, map, take, drop, Some, None, Result, Ok, Err, refl, sym, ap, subst, ◌∙◌, arith, append_assoc, append-nil, length-append}
 use Rattle.std.specs.Prelude.{slice_get, if◌then◌else◌}
 use Rattle.std.proofs.lemmas.List.{take-append-drop}
@@ -41,7 +41,7 @@ use Rattle.live_feed.proofs.Histories.{take_same, take_next, get_sent, arrivals_
 
 -- ---- sums
 
--- of this line the sums go on by the packet, of others they stay
+-- the sums of this line go on by the packet, those of others stay
 adds_on : (line l : LineId) (s : LineSums) (p : Content) (answer : Result Outcome LineFault)
     → sums_on l (line_sums_after line p answer s) ≡ (if is_same_line line l then sums_after (sums_on l s) p answer else sums_on l s)
 adds_on A A s p answer = refl
@@ -59,7 +59,7 @@ no_more A s p fault = refl
 no_more B s p fault = refl
 no_more Recovery s p fault = refl
 
--- with one packet more they are those of all packets
+-- with one more packet they are those of all packets
 sums_more : (old : CellState) (sums : LineSums) (h : History) (line : LineId) (p : Content) (answer : Result Outcome LineFault) → FitsCell old h → sums ≡ line_sums_after line p answer old.accepted
     → (l : LineId) → sums_on l sums ≡ accepted_on l (arrivals_of (all_begun (after_arrival h (arrival_of line p answer))))
 sums_more old sums h line p answer f is l =
@@ -97,7 +97,7 @@ pub answered : (sessions : SessionNames) (carries : Carries) (ends : Ends) (lane
     → old.arbiter.venue ≡ venue → TakesPacket line p answer k.history old new → IsAnsweredBy sessions carries ends lanes venue line p answer
 answered sessions carries ends lanes old new venue line p answer k venue_is takes = record { old = old; kept = k; venue_is = venue_is; new = new; takes = takes }
 
--- what was given, with one packet more
+-- what was given, with one more packet
 pub given_after : (sessions : SessionNames) (carries : Carries) (ends : Ends) (lanes : FeedLanes) (old : CellState) (line : LineId) (p : Content) (answer : Result Outcome LineFault) (k : VenueLockInvariant sessions carries ends lanes old) → IsContent p
     → IsOutcome old.arbiter.session old.arbiter.window old.arbiter.sent k.history.present.packets p answer → IsGenuine sessions carries ends old.arbiter.venue p
     → AreGivenFrom carries ends old.arbiter.venue old.arbiter.window 1 k.history.earlier (after_arrival k.history (arrival_of line p answer)).present
@@ -113,7 +113,7 @@ given_after sessions carries ends lanes old line p answer k content o genuine =
     (given_more carries ends venue window (1 + length h.earlier) h.present (arrival_of line p answer) (λ same. genuine (1 + length h.earlier) (subst (λ (n : List ℕ). sessions venue (1 + length h.earlier) n) (sym same) named)) (record { content = content; sent = old.arbiter.sent; outcome = right }))
     k.given
 
--- a cell of the same session, which was given one packet more
+-- a cell of the same session, which was given one more packet
 module _ (sessions : SessionNames) (carries : Carries) (ends : Ends) (lanes : FeedLanes) (old new : CellState) (line : LineId) (p : Content) (answer : Result Outcome LineFault) (k : VenueLockInvariant sessions carries ends lanes old)
     (kept : KeepsItsSession old.arbiter new.arbiter) (tag : new.lane.tag ≡ old.lane.tag) (lane : new.lane.lane ≡ old.lane.lane) (capacity : new.lane.capacity ≡ old.lane.capacity) (fits : FitsCell new (after_arrival k.history (arrival_of line p answer))) (content : IsContent p)
     (o : IsOutcome old.arbiter.session old.arbiter.window old.arbiter.sent k.history.present.packets p answer) (genuine : IsGenuine sessions carries ends old.arbiter.venue p) where
@@ -138,7 +138,7 @@ packet_kept sessions carries ends lanes old new line p answer k lane kept fits c
 
 -- ---- a push
 
--- the items that were sent are the first so many of the streams
+-- the items that were sent are a prefix of the streams
 module _ (items : List Numbered) (sent : ℕ) (h : History) (is : items ≡ items_of h.earlier ++ take sent (stream_of h.present.packets)) where
   -- the next item of all streams is that of the present one
   pub next_is : sent ≤ length (stream_of h.present.packets) → slice_get (streams_of h) (length items) ≡ slice_get (stream_of h.present.packets) sent
@@ -215,8 +215,8 @@ push_kept sessions carries ends lanes old new x k lane advanced fits = record {
 
 -- ---- a packet whose message is the next item, and its push
 
--- What such a packet brings: it is answered as new, the stream stays as it is up to there, and there
--- stands its item.
+-- What such a packet brings: it is answered as new, the stream stays as it is up to there, and its
+-- item is there.
 pub record BringsNext (session : List ℕ) (window sent : ℕ) (packets : List Arrival) (line : LineId) (p : Content) (x : Numbered) : Type 0 where
   pub answer : IsOutcome session window sent packets p (Ok (Taken 1 0))
   pub grows : IsPrefix (stream_of packets) (stream_of (packets ++ arrival_of line p (Ok (Taken 1 0)) ∷ []))
@@ -273,7 +273,7 @@ module _ (old : CellState) (h : History) (line : LineId) (p : Content) (x : Numb
   abbrev more : List Numbered
   more = stream_of (h.present.packets ++ passed ∷ [])
 
-  -- what was sent are the first so many with the packet, too
+  -- the items that were sent are a prefix with the packet, too
   sent_before : old.lane.items ≡ items_of h.earlier ++ take old.arbiter.sent more
   sent_before = f.sent ∙ ap (λ (xs : List Numbered). items_of h.earlier ++ xs) (sym (take_same (stream_of h.present.packets) more old.arbiter.sent brings.grows f.history.present.sent))
 

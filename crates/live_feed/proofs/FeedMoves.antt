@@ -1,4 +1,4 @@
--- How a feed is made and opened, said of plain states.
+-- The making and opening of a feed, in terms of plain states.
 use Rattle.std.proofs.Common.{◌≡◌, ℕ, zero, suc, ◌+◌, List, [], ◌∷◌, ◌++◌, length, map, Some, refl, sym, ap, subst, ◌∙◌, arith, length-append, get_or, All, inl, inr}
 use Rattle.std.specs.Prelude.{slice_get}
 use Rattle.std.proofs.lemmas.Option.{slice_get-get_or}
@@ -28,21 +28,21 @@ get_map f [] k x e = absurd cc
 get_map f (z ∷ xs) zero x e = let same : z ≡ x = cc in ap (λ (y : _). Some (f y)) same
 get_map f (z ∷ xs) (suc k) x e = get_map f xs k x e
 
--- one lane more
+-- one more lane
 pub unused_more : (capacity : ℕ) (xs : List SpareLane) (x : SpareLane) → AreUnused capacity xs → IsUnused capacity (length xs) x → AreUnused capacity (xs ++ x ∷ [])
 unused_more capacity xs x all new = λ id y at. elim (get_push xs id x y at) [
   | inl here ↦ subst (λ (p : ℕ × SpareLane). IsUnused capacity p.0 p.1) (λ i. (sym here.0 i, sym here.1 i)) new
   | inr there ↦ all id y there.1
 ]
 
--- one lane for a subscriber more
+-- one more lane for a subscriber
 pub spares_more : (capacity : ℕ) (spare : List SpareLane) (s : SpareLane) → AreUnused capacity spare → IsUnused capacity (length spare) s → AreUnused capacity (spare ++ s ∷ [])
 spares_more capacity spare s before unused id x at = elim (get_push spare id s x at) [
   | inl here ↦ subst (λ (p : ℕ × SpareLane). IsUnused capacity p.0 p.1) (λ i. (sym here.0 i, sym here.1 i)) unused
   | inr there ↦ before id x there.1
 ]
 
--- one venue more
+-- one more venue
 pub starts_more : (window lane : ℕ) (starts : List StartState) (receivers : List (LaneEnd Numbered)) (s : StartState) (e : LaneEnd Numbered) → AreStarts window lane starts receivers → e ≡ s.lane → e.tag ≡ length receivers → e.items ≡ []
     → (s.arbiter.window ≡ window) × (s.lane.capacity ≡ lane) → AreStarts window lane (starts ++ s ∷ []) (receivers ++ e ∷ [])
 starts_more window lane starts receivers s e h same tag empty sized = record {

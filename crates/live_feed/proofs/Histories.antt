@@ -1,4 +1,4 @@
--- One packet more, and one session more, in a venue's history.
+-- One more packet, and one more session, in a venue's history.
 use Rattle.std.proofs.Common.{◌≡◌, ℕ, zero, suc, ◌+◌, ◌≤◌, List, [], ◌∷◌, ◌++◌, length, take, Some, refl, sym, ap, subst, ◌∙◌, arith, append_assoc, append-nil, length-append}
 use Rattle.std.specs.Prelude.{slice_get}
 use Rattle.std.specs.List.{AllByRecursion}
@@ -43,12 +43,12 @@ length_take [] (suc n) le = absurd (omega arith)
 length_take (x ∷ xs) zero le = refl
 length_take (x ∷ xs) (suc n) le = ap suc (length_take xs n (omega arith))
 
--- the item behind the first so many of the second list
+-- the item after this prefix of the second list
 pub get_sent : {X : Type 0} (xs ys sent : List X) (n : ℕ) → sent ≡ xs ++ take n ys → n ≤ length ys → slice_get (xs ++ ys) (length sent) ≡ slice_get ys n
 get_sent xs ys sent n is le =
     get_after xs ys n (length sent) (ap length is ∙ length-append xs (take n ys) ∙ ap (λ (k : ℕ). length xs + k) (length_take ys n le))
 
--- ---- one packet more
+-- ---- one more packet
 
 pub arrivals_push : (bs : List Begun) (b : Begun) → arrivals_of (bs ++ b ∷ []) ≡ arrivals_of bs ++ b.packets
 arrivals_push bs b =

@@ -1,4 +1,5 @@
--- What a consumed item and an offered notice leave of the consolidator's cell, said of plain states.
+-- What a consumed item and an offered notice leave of the consolidator's cell, in terms of plain
+-- states.
 use Rattle.std.proofs.Common.{◌≡◌, ◌≢◌, ℕ, zero, suc, ◌+◌, ◌≤◌, ◌<◌, Bool, true, false, cond, List, [], ◌∷◌, ◌++◌, length, filter, take, drop, Option, Some, None, Result, Ok, Err, refl, sym, ap, subst, ◌∙◌, arith, append-nil, length-append, inl, inr}
 use Rattle.std.specs.Prelude.{slice_get, slice_set, nat_le, ◌⊎◌, ◌==◌, MatchOption, AllPairs, if◌then◌else◌}
 use Rattle.std.specs.Option.{option_map}
@@ -47,7 +48,7 @@ get_put (z ∷ xs) zero (suc j) x y e = inr ((λ h. omega arith), e)
 get_put (z ∷ xs) (suc i) zero x y e = inr ((λ h. omega arith), e)
 get_put (z ∷ xs) (suc i) (suc j) x y e = elim (get_put xs i j x y e) [ inl here ↦ inl (ap suc here.0, here.1) | inr there ↦ inr ((λ h. there.0 (omega arith)), there.1) ]
 
--- an item put where it stands
+-- an item written over itself
 pub put_same : {X : Type 0} (xs : List X) (i : ℕ) (x : X) → slice_get xs i ≡ Some x → slice_set xs i x ≡ xs
 put_same [] i x e = refl
 put_same (y ∷ ys) zero x e = let same : y ≡ x = cc in ap (λ (z : _). z ∷ ys) (sym same)
@@ -71,7 +72,7 @@ items_there v k es x e =
     let t : (k == v) ≡ false = grind (arith, nat_tests) in
     items_put v es (entry.Consumed k x) ∙ ap (λ (b : Bool). items_in es v ++ (if b then x ∷ [] else [])) t ∙ append-nil (items_in es v)
 
--- ---- one entry more
+-- ---- one more entry
 
 -- what was sent to a subscriber stays what it was offered
 offered_still : (lanes : FeedLanes) (j : JournalState) (e : Entry) (ready : Bool) (id : ℕ) (l : LaneEnd Notice) → IsOffered lanes j id l
@@ -139,9 +140,9 @@ consumes carries ends lanes s k r x ready h at may = record {
         let same : items_in entries v ≡ items_in s.journal.entries v = items_there v k s.journal.entries x apart in
         record { tag = o.tag; lane = o.lane; items = o.items ∙ sym same; sequence = subst (λ (l : List Numbered). IsInSequence carries ends v l) (sym same) o.sequence }
 
--- ---- one notice more, or none
+-- ---- one more notice, or none
 
--- the cursor has come to a place, and what was sent is what was wanted up to there
+-- the cursor is at a place, and what was sent is what was wanted up to there
 pub moves : (carries : Carries) (ends : Ends) (lanes : FeedLanes) (s : HubState) (id : ℕ) (c : Cursor) (l : LaneEnd Notice) (place : ℕ) (sent : List Notice) → HubLockInvariant carries ends lanes s
     → slice_get s.journal.cursors id ≡ Some c → slice_get s.senders id ≡ Some l → place ≤ length (changes s.journal) → sent ≡ filter (meets c.terms) (take place (changes s.journal))
     → HubLockInvariant carries ends lanes (record s { journal = record s.journal { cursors = slice_set s.journal.cursors id (record c { seen = place }) }; senders = slice_set s.senders id (with_items l sent) })
@@ -179,7 +180,7 @@ moves carries ends lanes s id c l place sent h at from within is = record {
           items = λ cursor here. elim (get_put s.journal.cursors id j (record c { seen = place }) cursor here) [ inl same ↦ absurd (apart same.0) | inr there ↦ o.items cursor there.1 ];
         }
 
--- the next wanted notice, behind what was wanted before it
+-- the next wanted notice, after what was wanted before it
 pub filter_next : (p : Notice → Bool) (xs : List Notice) (from place : ℕ) (n : Notice) → IsNextPlace p xs from place → Some n ≡ slice_get xs place → place < length xs
     → filter p (take (place + 1) xs) ≡ filter p (take from xs) ++ n ∷ []
 filter_next p xs from place n h at below =

@@ -1,4 +1,4 @@
--- How lines and subscribers go on in a run.
+-- The steps of lines and subscribers in a run.
 use Rattle.std.proofs.Common.{◌≡◌, ℕ, ◌+◌, length, length-append, MatchResult, map, List, [], ◌∷◌, ◌++◌, Option, None, Some, Result, Ok, Err, refl, sym, ◌∙◌, ap, subst, append-nil, append_assoc}
 use Rattle.std.proofs.lemmas.List.{map-append}
 use Rattle.feed_types.specs.declared.journal.Notice.{Notice}
@@ -46,7 +46,7 @@ taking_more sessions carries ends lanes [] first old t same one =
 taking_more sessions carries ends lanes (u ∷ more) first old t all one =
     (all.0, taking_more sessions carries ends lanes more u.seat old t all.1 one)
 
--- one datagram more
+-- one more datagram
 pub taken_more : (sessions : SessionNames) (carries : Carries) (ends : Ends) (lanes : FeedLanes)
     (brought : List (List ℕ)) (bytes : List ℕ) (answer : Result Outcome TakeFault)
     (first old new : SeatState)
@@ -88,7 +88,7 @@ polled_same : (t u v : SubscriberLogState) → HasPolled t u → v ≡ u → Has
 polled_same t u v so_far same = let P : SubscriberLogState → Type 0 = λ x. HasPolled t x in
     rw same so_far
 
--- one poll more
+-- one more poll
 pub polled_more : (may_send : ℕ → List Notice → Type 0)
     (answer : Result (Option Advice) PollFault) (t u v : SubscriberLogState)
     → HasPolled t u → Polls may_send answer u v → HasPolled t v
@@ -107,7 +107,7 @@ polled_more may_send (Ok (Some advice)) t u v so_far polled =
       };
     }
 
--- one pair more
+-- one more pair
 pub pairwise_more : {A B : Type 0} (R : A → B → Type 0) (xs : List A) (ys : List B) (x : A) (y : B)
     → Pairwise R xs ys → R x y → Pairwise R (xs ++ x ∷ []) (ys ++ y ∷ [])
 pairwise_more R [] [] x y all one = (one, tt)
@@ -116,12 +116,12 @@ pairwise_more R (a ∷ xs) [] x y all one = absurd all
 pairwise_more R (a ∷ xs) (b ∷ ys) x y all one =
     (all.0, pairwise_more R xs ys x y all.1 one)
 
--- the relation of a list's items so far is that of the list, once these are all
+-- the relation of a list's items so far is that of the list, once these items are all
 pub pairwise_all : {A B : Type 0} (R : A → B → Type 0) (xs all : List A) (ys : List B)
     → Pairwise R xs ys → xs ≡ all → Pairwise R all ys
 pairwise_all R xs all ys pairs same = subst (λ zs. Pairwise R zs ys) same pairs
 
--- one datagram more was counted
+-- one more datagram was counted
 pub read_more : (brought : List (List ℕ)) (bytes : List ℕ) (count more : ℕ)
     → count ≡ shown (length brought) → more ≡ shown (count + 1)
     → more ≡ shown (length (brought ++ bytes ∷ []))
@@ -169,7 +169,7 @@ pairwise_seen R f g [] (y ∷ ys) pairs = absurd pairs
 pairwise_seen R f g (x ∷ xs) [] pairs = absurd pairs
 pairwise_seen R f g (x ∷ xs) (y ∷ ys) pairs = (pairs.0, pairwise_seen R f g xs ys pairs.1)
 
--- what is seen of those handed back is what came of those given
+-- what is seen of those handed back is what those given became
 pub handed_back : {A X : Type 0} (R : X → X → Type 0) (f : A → X) (given back : List A)
     (logs ends : List X) → logs ≡ map f given → map f back ≡ ends → Pairwise R logs ends
     → Pairwise (λ x y. R (f x) (f y)) given back

@@ -1,4 +1,4 @@
--- What a feed has come to, said of plain states.
+-- The settlement of a feed, in terms of plain states.
 use Rattle.std.proofs.Common.{◌≡◌, ℕ, List, length, Some, sym, ap, ◌∙◌, arith}
 use Rattle.std.specs.Prelude.{slice_get}
 use Rattle.feed_types.specs.Sequence.{Carries, Ends}

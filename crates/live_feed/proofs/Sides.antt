@@ -1,4 +1,4 @@
--- Lists side by side, and what is said of each place of a list.
+-- Lists side by side, and relations at each place of a list.
 use Rattle.std.proofs.Common.{◌≡◌, Bool, true, false, ℕ, zero, suc, ◌+◌, ◌≤◌, ◌<◌, List, [], ◌∷◌, ◌++◌, length, map, drop, fold, Some, refl, sym, ap, subst, ◌∙◌, arith, append_assoc, append-nil, length-append, inl, inr}
 use Rattle.std.specs.Prelude.{slice_get, ◌⊎◌, ◌||◌}
 use Rattle.std.specs.List.{list_any}
@@ -9,7 +9,7 @@ use Rattle.live_feed.specs.settle.Zips.{Zip2, Zip3}
 use Rattle.live_feed.proofs.HubMoves.{below_of, one_there}
 use Rattle.live_feed.proofs.ClosedLanes.{next_drop, drop_past}
 
--- what stands at a place of a list, of which something else is looked at
+-- the element at a place of a list, of which something else is looked at
 pub at_map : {X Y : Type 0} (f : X → Y) (xs : List X) (place : ℕ) (x : X) → slice_get xs place ≡ Some x → slice_get (map f xs) place ≡ Some (f x)
 at_map f xs place x at = slice_get-map f xs place ∙ ap (option_map f) at
 
@@ -26,13 +26,13 @@ fold_more f xs place x y more all at is same =
     ∙ ap (fold f y) (sym (next_drop xs place (place + 1) x (sym at) refl))
     ∙ same
 
--- all were
+-- all were folded in
 pub fold_all : {X Y : Type 0} (f : Y → X → Y) (xs : List X) (place : ℕ) (y all : Y) → length xs ≤ place → fold f y (drop place xs) ≡ all → y ≡ all
 fold_all f xs place y all past same = ap (fold f y) (sym (drop_past xs place past)) ∙ same
 
 -- ---- a search
 
--- one more was looked at, and isn't it
+-- one more was looked at, and isn't the one
 pub any_more : {X : Type 0} (p : X → Bool) (xs : List X) (place : ℕ) (x : X) (all : Bool) → slice_get xs place ≡ Some x → p x ≡ false → list_any p (drop place xs) ≡ all → list_any p (drop (place + 1) xs) ≡ all
 any_more p xs place x all at other same =
     let rest = drop (place + 1) xs in
@@ -53,7 +53,7 @@ any_none p xs place all past same = ap (list_any p) (sym (drop_past xs place pas
 -- ---- each place
 
 module _ {X : Type 0} (Q : ℕ → X → Type 0) where
-  -- so it is up to here
+  -- the relation holds up to here
   abbrev pub UpTo : ℕ → List X → Type 0
   UpTo n xs = (place : ℕ) (x : X) → place < n → slice_get xs place ≡ Some x → Q place x
 
@@ -123,7 +123,8 @@ module _ {A B C : Type 0} (R : ℕ → A → B → C → Type 0) where
 -- ---- two lists
 
 module _ {A D : Type 0} (S : ℕ → A → D → Type 0) where
-  -- of all items of the first list these are left, and the second list holds what came of the others
+  -- of all items of the first list these items are left, and the second list holds the results of
+  -- the others
   abbrev pub Until : List A → List D → List A → Type 0
   Until all done left = (rest : List D) → Zip2 S (length done) left rest → Zip2 S 0 all (done ++ rest)
 

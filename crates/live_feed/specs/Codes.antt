@@ -1,4 +1,4 @@
--- The numbers that stand for faults in logs (this project's fault numbers).
+-- The codes of faults in logs (this project's fault numbers).
 use Rattle.std.specs.Prelude.{ℕ}
 use Rattle.mold_packet.specs.Faults.{code_of}
 use Rattle.line_arbiter.specs.Codes.{line_fault_code, renew_fault_code}
@@ -18,7 +18,7 @@ feed_fault_code UnknownVenue = 18
 feed_fault_code UnknownSubscriber = 21
 feed_fault_code SeatTaken = 29
 
--- a packet's fault and a line's have their own numbers
+-- a packet's fault and a line's have their own codes
 abbrev pub take_fault_code : TakeFault → ℕ
 take_fault_code (Packet fault) = code_of fault
 take_fault_code (Line fault) = line_fault_code fault

@@ -1,10 +1,10 @@
--- The lanes of a feed, and what it is set up with.
+-- The lanes of a feed, and its setting.
 use Rattle.std.specs.Prelude.{ℕ, List}
 use Rattle.atomic_table.specs.Seated.{TableId}
 
--- What a feed is set up with: the symbols whose national best is kept, how many messages past the
--- last item sent a venue holds, how many items a lane has room for, how many entries the journal
--- holds, and how many lines a subscriber's log holds.
+-- The setting of a feed: the symbols whose national best is kept, the width of a venue's window in
+-- messages past the last item sent, and the capacities of a lane in items, of the journal in
+-- entries and of a subscriber's log in lines.
 pub record FeedSetting : Type 0 where
   pub symbols : List (List ℕ)
   pub window : ℕ
@@ -12,8 +12,8 @@ pub record FeedSetting : Type 0 where
   pub journal : ℕ
   pub log : ℕ
 
--- The lanes of the venues, in order, those of the subscribers, in the order of their ids, and what
--- the feed is set up with.
+-- The lanes of the venues, in order, those of the subscribers, in the order of their ids, and the
+-- feed's setting.
 pub record FeedLanes : Type 0 where
   pub venues : List TableId
   pub subscribers : List TableId

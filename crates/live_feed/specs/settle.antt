@@ -1,4 +1,4 @@
--- How a feed is settled.
+-- The settlement of a feed.
 pub mod Rooms
 pub mod Zips
 pub mod Settlements

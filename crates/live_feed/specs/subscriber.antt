@@ -1,3 +1,3 @@
--- What a subscriber keeps.
+-- The state of a subscriber.
 pub mod Logs
 pub mod Asking

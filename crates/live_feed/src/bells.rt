@@ -1,17 +1,17 @@
-//! Where the threads of a feed sleep, and how they are woken.
+//! The places where the threads of a feed sleep, and how they are woken.
 
 use crossbeam_utils::sync::EventCount;
 use feed_types::SubscriberId;
 use std::array;
 use std::sync::atomic::{AtomicBool, Ordering};
 
-/// Where the threads of a feed sleep that have nothing to do, and who waits for room. The feed and
-/// its subscribers share it: whoever has made work for another thread wakes it then.
+/// The places where threads of a feed with nothing to do sleep, and who waits for room. The feed
+/// and its subscribers share it: a thread that has made work for another one wakes it then.
 #[derive(Drop)]
 pub(crate) struct Bells {
-    /// Where the consolidators of runs sleep.
+    /// The place where the consolidators of runs sleep.
     work: EventCount,
-    /// By id, where the subscriber's thread sleeps.
+    /// By id, the place where the subscriber's thread sleeps.
     notices: [EventCount; 32],
     /// By id, whether a notice waits for room in the subscriber's lane. It changes under the
     /// consolidator's lock alone, and is stored only where it differs.
@@ -28,18 +28,18 @@ impl Bells {
         }
     }
 
-    /// Where consolidators sleep while there is nothing to journal, push or offer.
+    /// The place where consolidators sleep while there is nothing to journal, push or offer.
     pub(crate) fn work(&self) -> &EventCount {
         &self.work
     }
 
     /// Wakes the consolidators: there is something to journal, push or offer, or a run has ended
-    /// sooner. Two runs of one feed have two of them, and each has to look.
+    /// sooner. Two runs of one feed have two consolidators, and each has to look.
     pub(crate) fn ring_work(&self) {
         self.work.notify_all();
     }
 
-    /// Where the subscriber's thread sleeps while there are no notices.
+    /// The place where the subscriber's thread sleeps while there are no notices.
     pub(crate) fn notices(&self, id: SubscriberId) -> &EventCount {
         &self.notices[id.index()]
     }
@@ -56,14 +56,14 @@ impl Bells {
         self.full[id.index()].load(Ordering::SeqCst)
     }
 
-    /// Says that a notice waits for room in the subscriber's lane. Whoever says so looks once more
-    /// whether there is room: a poll before that has rung nobody.
+    /// Notes that a notice waits for room in the subscriber's lane. The caller then looks once more
+    /// whether there is room: a poll before the note has rung nobody.
     pub(crate) fn want_room(&self, id: SubscriberId) {
         self.full[id.index()].store(true, Ordering::SeqCst);
     }
 
-    /// Says that no notice waits for room in the subscriber's lane. Where one did, the consolidators
-    /// are woken: one that hasn't offered it itself may wait for that alone.
+    /// Notes that no notice waits for room in the subscriber's lane. Where one did, the
+    /// consolidators are woken: one that hasn't offered it itself may wait for that alone.
     pub(crate) fn end_want_of_room(&self, id: SubscriberId) {
         if self.is_room_wanted(id) {
             self.full[id.index()].store(false, Ordering::SeqCst);

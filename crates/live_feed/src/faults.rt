@@ -1,4 +1,4 @@
-//! Why a call on a feed is refused.
+//! The refusals of calls on a feed.
 
 ghost use Rattle.std.specs.Prelude.{◌≡◌};
 ghost use Rattle.live_feed.specs.Codes.{feed_fault_code, take_fault_code, renewal_fault_code, settle_fault_code};
@@ -7,7 +7,7 @@ use line_arbiter::{LineFault, RenewFault};
 use mold_packet::PacketFault;
 use thiserror::Error;
 
-/// Why a call names nothing that the feed can give. It has changed nothing.
+/// Why a call names nothing that the feed can give. The refused call has changed nothing.
 #[derive(Clone, Copy, Debug, PartialEq, Eq, Error)]
 pub enum FeedFault {
     /// The venue isn't below the number of venues.
@@ -16,13 +16,13 @@ pub enum FeedFault {
     /// There is no subscriber of this id.
     #[error("the feed has no such subscriber")]
     UnknownSubscriber,
-    /// The line has its seat already.
+    /// The line's seat was handed out already.
     #[error("the line has its seat")]
     SeatTaken,
 }
 
 impl FeedFault {
-    /// The number that stands for the fault, 18, 21 or 29.
+    /// The code of the fault: 18, 21 or 29.
     pub fn code(self) -> u8
         ensures { result ≡ feed_fault_code self }
     {
@@ -37,7 +37,7 @@ impl FeedFault {
 /// Why a datagram was refused.
 #[derive(Clone, Copy, Debug, PartialEq, Eq, Error)]
 pub enum TakeFault {
-    /// It is no packet.
+    /// The datagram is no packet.
     #[error("the datagram is no packet: {0}")]
     Packet(PacketFault),
     /// The venue's lines refuse the packet.
@@ -46,7 +46,7 @@ pub enum TakeFault {
 }
 
 impl TakeFault {
-    /// The number that stands for the fault, 1 to 4 or 7 to 11.
+    /// The code of the fault: 1 to 4 or 7 to 11.
     pub fn code(self) -> u8
         ensures { result ≡ take_fault_code self }
     {
@@ -72,7 +72,7 @@ pub enum RenewalFault {
 }
 
 impl RenewalFault {
-    /// The number that stands for the fault, 18 or 35 to 38.
+    /// The code of the fault: 18 or 35 to 38.
     pub fn code(self) -> u8
         ensures { result ≡ renewal_fault_code self }
     {
@@ -93,7 +93,7 @@ pub enum SettleFault {
     /// The subscribers handed in aren't all subscribers, in the order of their ids.
     #[error("a subscriber is missing or out of order")]
     SubscribersMissing,
-    /// A venue counts otherwise than its seats show. No feed comes to this.
+    /// A venue's counts differ from those of its seats. No feed meets this.
     #[error("a venue's counts differ from those of its seats")]
     CountsDiffer,
     /// Memory was refused.
@@ -102,7 +102,7 @@ pub enum SettleFault {
 }
 
 impl SettleFault {
-    /// The number that stands for the fault, 12, 31, 32 or 39.
+    /// The code of the fault: 12, 31, 32 or 39.
     pub fn code(self) -> u8
         ensures { result ≡ settle_fault_code self }
     {

@@ -30,11 +30,11 @@ use std::collections::VecDeque;
 use std::marker::Model;
 use std::sync::{Arc, Mutex};
 
-/// How many subscribers there are at most.
+/// The most subscribers of a feed.
 const MAX_SUBSCRIBERS: usize = 32;
 
-/// A feed that isn't open yet, to which nothing came. Contracts see it as its lanes and what it is
-/// set up with.
+/// A feed that isn't open yet, to which nothing came. Contracts see it as its lanes and its
+/// setting.
 #[derive(Drop)]
 pub struct LiveFeed<G: Genuine> {
     starts: Vec<VenueStart<G>>,
@@ -61,7 +61,7 @@ impl<G: Genuine> Model for LiveFeed<G> {
         f.starts.items f.from_venues.items f.kept f.spare_lanes.items };
 }
 
-/// Puts each venue behind a lock of its own. There is room for all.
+/// Puts each venue into a lock of its own. There is room for all.
 fn locked<G: Genuine, N: FeedName>(
     starts: Vec<VenueStart<G>>,
     mut venues: Vec<VenueLock<G, N>>,
@@ -120,8 +120,8 @@ impl<G: Genuine> LiveFeed<G> {
         })
     }
 
-    /// Puts the venues and the journal behind their locks. N names this feed's lanes. Where memory
-    /// was refused, the feed comes back as it was.
+    /// Puts the venues and the journal into their locks. N names this feed's lanes. Where memory
+    /// was refused, the feed is handed back unchanged.
     pub fn open<N: FeedName>(self, alloc: Global) -> Result<OpenFeed<G, N>, LiveFeed<G>>
         requires { self ≡ N.lanes }
         ensures { IfErr result (λ feed. feed ≡ self) }

@@ -1,14 +1,14 @@
-//! Which feed it is.
+//! The name of a feed.
 
 use std::marker::Brand;
 
-/// Which feed it is, in statements alone: it has no calls and costs nothing. Each feed that is
-/// opened has a name of its own; a function that opens one is generic in it.
+/// A feed's name, in statements alone: it has no calls and costs nothing. Each feed that is opened
+/// has a name of its own; a function that opens one is generic in it.
 pub trait FeedName {
     ghost use Rattle.live_feed.specs.Lanes.{FeedLanes};
 
-    /// The feed's lanes, those of its venues, in order, and those of its subscribers, and what it is
-    /// set up with.
+    /// The feed's lanes, those of its venues, in order, and those of its subscribers, and its
+    /// setting.
     ghost lanes: { FeedLanes };
 }
 

@@ -1,4 +1,4 @@
-//! The consolidator: what stands behind its lock, and the sections under that lock.
+//! The consolidator: what its lock guards, and the sections under that lock.
 
 pub(crate) mod calls;
 pub(crate) mod cell;

@@ -1,4 +1,4 @@
-//! What follows from what the locks keep and from a settlement.
+//! Laws of what the locks keep and of a settlement.
 
 ghost use Rattle.std.specs.Prelude.{◌≡◌, ◌<◌, ◌++◌, ℕ, List, length, Some, slice_get};
 ghost use Rattle.feed_types.specs.Prefix.{IsPrefix};
@@ -24,7 +24,8 @@ pub fn sent_items_are_the_sessions<G: Genuine, N: FeedName>()
     sequence_is_of_the_sessions::<G>();
 }
 
-/// So are, whenever the consolidator's lock is free, a venue's items in the journal's entries.
+/// The same holds, whenever the consolidator's lock is free, of a venue's items in the journal's
+/// entries.
 pub fn journaled_items_are_the_sessions<G: Genuine, N: FeedName>()
     ensures { (s : HubState) (venue : ℕ) (all : List Session)
         → HubLockInvariant G.carries G.ends N.lanes s → venue < length N.lanes.venues
@@ -34,8 +35,8 @@ pub fn journaled_items_are_the_sessions<G: Genuine, N: FeedName>()
     sequence_is_of_the_sessions::<G>();
 }
 
-/// So are, of a settled feed, a venue's items that were consumed, then those in its lane, then those
-/// that are ready.
+/// The same holds, in a settled feed, of a venue's items that were consumed, then those in its
+/// lane, then those that are ready.
 pub fn settled_items_are_the_sessions<G: Genuine, N: FeedName>()
     ensures { (seats : List SeatState) (logs : List SubscriberLogState) (s : SettlementState) (venue : ℕ)
         (v : VenueEndState) (all : List Session)

@@ -50,7 +50,7 @@ struct LogLists<N: FeedName> {
     back: Vec<SubscriberLog<N>>,
 }
 
-/// What the threads of a run hand back.
+/// What the threads of a run return.
 #[derive(Drop)]
 struct Joined<G: Genuine, N: FeedName, S: LineSource<G>> {
     ends: Vec<LineEnd<G, N, S>>,
@@ -182,9 +182,10 @@ fn reassembled<N: FeedName>(
 impl<G: Genuine + Send + Sync, N: FeedName + Send + Sync> OpenFeed<G, N> {
     /// Runs each line and each subscriber in a thread of its own, and the consolidator in this one,
     /// until all lines have ended; what is ready is then pushed, journaled and offered. Each line's
-    /// seat and source and each subscriber come back in the order given.
+    /// seat and source and each subscriber are returned in the order given.
     ///
-    /// Where memory for the lists of this is refused, nothing is started, and all come back.
+    /// Where memory for the lists of threads and logs is refused, nothing is started, and all are
+    /// handed back.
     pub fn run<S: LineSource<G> + Send, R: Threads + Wait + Sync>(
         &self,
         rt: &R,

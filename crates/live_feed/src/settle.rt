@@ -1,4 +1,4 @@
-//! How a feed is settled.
+//! The settlement of a feed.
 
 ghost use Rattle.std.specs.Prelude.{◌≡◌, ◌≤◌, length, map, vec_len, vec_capacity, IfOk, IfErr, OnOk};
 ghost use Rattle.live_feed.specs.settle.Settlements.{AllAgree, AreInOrder, AreVenues, IsSettlement};
@@ -58,7 +58,7 @@ fn out_of_locks<G: Genuine, N: FeedName>(
     venues
 }
 
-/// Puts each venue behind a lock. There is room for all.
+/// Puts each venue into a lock. There is room for all.
 fn behind_locks<G: Genuine, N: FeedName>(
     venues: Vec<Guarded<G, N>>,
     mut locks: Vec<VenueLock<G, N>>,
@@ -72,7 +72,7 @@ fn behind_locks<G: Genuine, N: FeedName>(
     locks
 }
 
-/// Takes the feed out of its locks. Where memory was refused, it comes back.
+/// Takes the feed out of its locks. Where memory was refused, it is handed back.
 fn unlock<G: Genuine, N: FeedName>(
     alloc: Global,
     feed: OpenFeed<G, N>,
@@ -103,7 +103,7 @@ fn unlock<G: Genuine, N: FeedName>(
     })
 }
 
-/// Puts the feed behind locks again.
+/// Puts the feed into locks again.
 fn locked<G: Genuine, N: FeedName>(unlocked: Unlocked<G, N>) -> OpenFeed<G, N>
     requires room { (length unlocked.locks.items ≡ 0)
         × (vec_len unlocked.venues ≤ vec_capacity unlocked.locks) }
@@ -123,7 +123,7 @@ fn locked<G: Genuine, N: FeedName>(unlocked: Unlocked<G, N>) -> OpenFeed<G, N>
     }
 }
 
-/// What is missing of the seats that were handed out and of the subscribers, if anything.
+/// Returns what is missing of the seats that were handed out and of the subscribers, if anything.
 fn missing<G: Genuine, N: FeedName, W: Wait>(
     rt: &W,
     feed: &OpenFeed<G, N>,
@@ -143,8 +143,9 @@ fn missing<G: Genuine, N: FeedName, W: Wait>(
     None
 }
 
-/// Room for all that is left of the feed, where the venues count what their seats show. (What was
-/// looked at under the locks is looked at again: nothing is known of it once they are let go.)
+/// Makes room for everything that is left of the feed, where the venues count what their seats
+/// show. (What was looked at under the locks is looked at again: nothing is known of it once they
+/// are let go.)
 fn room_for<G: Genuine, N: FeedName>(
     alloc: Global,
     unlocked: &Unlocked<G, N>,
@@ -216,14 +217,13 @@ fn closed<G: Genuine, N: FeedName, W: Wait>(
 }
 
 impl<G: Genuine, N: FeedName> OpenFeed<G, N> {
-    /// Closes all lanes, once all threads have returned, and gives what the feed has come to. All
-    /// seats that were handed out come back, in any order, and all subscribers, in the order of
-    /// their ids.
+    /// Closes all lanes, once all threads have returned, and returns the settlement. All seats that
+    /// were handed out are handed in, in any order, and all subscribers, in the order of their ids.
     ///
     /// SeatsMissing where a seat is missing; SubscribersMissing where a subscriber is, or is out of
-    /// order; CountsDiffer where a venue counts otherwise than its seats show, to which no feed
-    /// comes; NoMemory where memory for the lists was refused: all is made before a lane is closed.
-    /// Each hands everything back.
+    /// order; CountsDiffer where a venue's counts differ from those of its seats, which no feed
+    /// meets; NoMemory where memory for the lists was refused: all of it is taken before a lane is
+    /// closed. Each hands everything back.
     pub fn settle<W: Wait>(
         self,
         rt: &W,

@@ -16,8 +16,8 @@ use fifo_lane::{LaneRule, RisingNotices};
 use filter_terms::{Advice, Strategy};
 use std::sync::Wait;
 
-/// A subscriber's end of its lane, with its strategy and the log of what that advised. Whoever has
-/// it polls it, under no lock.
+/// A subscriber's end of its lane, with its strategy and the log of its advice. Its owner polls it,
+/// under no lock.
 #[derive(Drop)]
 pub struct Subscriber<N: FeedName> {
     /// The lane's end and the log.
@@ -40,10 +40,11 @@ impl<N: FeedName> Subscriber<N> {
         self.log.log()
     }
 
-    /// Takes the next notice out of the lane, and logs and gives what the strategy advises on it;
-    /// None where nothing was inside. LogFull exactly where the log has as many lines as
+    /// Takes the next notice out of the lane, logs what the strategy advises on it, and returns
+    /// that; None where the lane was empty. LogFull exactly where the log has as many lines as
     /// configured, else NoMemory where the room for one more was refused: both before a notice is
-    /// taken. A refused call changes nothing. The strategy is asked once for each notice that is taken,
+    /// taken. A refused call changes nothing. The strategy is asked once for each notice that is
+    /// taken, and never else.
     /// and else not.
     pub fn poll<W: Wait>(&mut self, rt: &W) -> Result<Option<Advice>, PollFault>
         ensures polls { Polls ⟦<RisingNotices as LaneRule<Notice>>⟧.may_send result self.old.log

@@ -1,4 +1,4 @@
-//! A venue: what stands behind its lock, the sections under that lock, and what its lines show.
+//! A venue: what its lock guards, the sections under that lock, and what its lines show.
 
 mod calls;
 pub(crate) mod cell;

@@ -29,7 +29,7 @@ pub record IsStart (sessions : SessionNames) (s : StartState) : Type 0 where
   pub empty : s.lane.items ≡ []
 
 -- The receiving ends of the venues' lanes, in the order of the venues, each with nothing received.
--- Each window and each lane holds so many.
+-- Each window is `window` messages wide, and each lane has room for `lane` items.
 pub record AreStarts (window lane : ℕ) (starts : List StartState)
     (receivers : List (LaneEnd Numbered)) : Type 0 where
   pub count : length starts ≡ length receivers
@@ -40,7 +40,7 @@ pub record AreStarts (window lane : ℕ) (starts : List StartState)
   pub sized : (venue : ℕ) (s : StartState) → slice_get starts venue ≡ Some s
       → (s.arbiter.window ≡ window) × (s.lane.capacity ≡ lane)
 
--- a lane for the subscriber of this id, to which nothing was sent, with room for so many notices
+-- a lane for the subscriber of this id, to which nothing was sent, with room for `capacity` notices
 pub record IsUnused (capacity id : ℕ) (s : SpareLane) : Type 0 where
   pub tag : s.sender.tag ≡ id
   pub capacity_is : s.sender.capacity ≡ capacity
@@ -52,8 +52,7 @@ abbrev pub AreUnused : ℕ → List SpareLane → Type 0
 AreUnused capacity spare =
     (id : ℕ) (s : SpareLane) → slice_get spare id ≡ Some s → IsUnused capacity id s
 
--- what a feed is set up with, whose journal is this one, and whose windows, lanes and logs hold so
--- many
+-- the setting of a feed with this journal and these capacities of a window, a lane and a log
 abbrev pub feed_setting_of : JournalState → ℕ → ℕ → ℕ → FeedSetting
 feed_setting_of journal window lane log = record {
   symbols = journal.symbols;
@@ -63,7 +62,7 @@ feed_setting_of journal window lane log = record {
   log = log;
 }
 
--- the lanes of these ends, in a feed that is set up so
+-- the lanes of these ends, in a feed of this setting
 abbrev pub lanes_of : List (LaneEnd Numbered) → List SpareLane → FeedSetting → FeedLanes
 lanes_of receivers spare setting = record {
   venues = map (λ e. e.lane) receivers;
@@ -87,7 +86,7 @@ setting_code =
     })
     (λ _. refl)
 
--- so are a feed's lanes
+-- a feed's lanes are stored likewise
 abbrev pub feed_lanes_code : Coded FeedLanes
 feed_lanes_code =
     code_by (List TableId × (List TableId × FeedSetting))
@@ -95,8 +94,8 @@ feed_lanes_code =
     (λ f. (f.venues, (f.subscribers, f.setting)))
     (λ p. record { venues = p.0; subscribers = p.1.0; setting = p.1.1 }) (λ _. refl)
 
--- The feed has a lane for each venue of its journal and for 32 subscribers, and nothing came yet. It
--- is set up so.
+-- The feed has a lane for each venue of its journal and for 32 subscribers, nothing came yet, and
+-- this is its setting.
 pub record IsClosed (setting : FeedSetting) (starts : List StartState)
     (receivers : List (LaneEnd Numbered)) (journal : JournalState) (spare : List SpareLane)
     : Type 0 where
@@ -109,8 +108,8 @@ pub record IsClosed (setting : FeedSetting) (starts : List StartState)
   pub symbols : journal.symbols ≡ setting.symbols
   pub size : journal.journal ≡ setting.journal
 
--- the sending end's lane is the one that the feed has for its venue, and window and lane hold as
--- many as the feed is set up with
+-- the sending end's lane is the one that the feed has for its venue, and window and lane have the
+-- sizes of the feed's setting
 pub record HasItsLane (lanes : FeedLanes) (s : StartState) : Type 0 where
   pub lane : slice_get lanes.venues s.lane.tag ≡ Some s.lane.lane
   pub window : s.arbiter.window ≡ lanes.setting.window

@@ -1,4 +1,5 @@
--- What is journaled and offered in one section under the consolidator's lock.
+-- The items that are journaled, and the notices that are offered, in one section under the
+-- consolidator's lock.
 use Rattle.std.specs.Prelude.{◌≡◌, ◌⊎◌, ℕ, ◌+◌, ◌<◌, ◌≤◌, List, ◌++◌, length, map, sum_by, slice_get, slice_set, Some, Result, Ok, Err}
 use Rattle.feed_types.specs.declared.item.Numbered.{Numbered}
 use Rattle.feed_types.specs.declared.journal.Entry.TheVariants as entry
@@ -11,7 +12,7 @@ use Rattle.live_feed.specs.Lanes.{FeedLanes}
 use Rattle.live_feed.specs.hub.Hubs.{HubState}
 use Rattle.live_feed.specs.hub.Sections.{KeepsButIntake}
 
--- Consume, again and again: these items of the venue's lane were journaled, in order.
+-- Consume, repeatedly: these items of the venue's lane were journaled, in order.
 pub record ConsumesItems (venue : ℕ) (items : List Numbered) (old new : HubState) : Type 0 where
   pub lane : LaneEnd Numbered
   pub at : slice_get old.receivers venue ≡ Some lane
@@ -20,13 +21,13 @@ pub record ConsumesItems (venue : ℕ) (items : List Numbered) (old new : HubSta
   pub entries : new.journal.entries ≡ old.journal.entries ++ map (entry.Consumed venue) items
   pub kept : KeepsButIntake old new
 
--- so many items of the venue's lane were journaled, in order
+-- `count` items of the venue's lane were journaled, in order
 pub record ConsumesCount (venue count : ℕ) (old new : HubState) : Type 0 where
   pub items : List Numbered
   pub count_is : length items ≡ count
   pub consumes : ConsumesItems venue items old new
 
--- There is room in the journal, and nothing was inside the venue's lane at a moment of the call.
+-- There is room in the journal, and the venue's lane was empty at a moment of the call.
 pub record HadNoItem (may_send : ℕ → List Numbered → Type 0) (venue : ℕ) (old : HubState)
     : Type 0 where
   pub room : length old.journal.entries < old.journal.journal
@@ -34,7 +35,7 @@ pub record HadNoItem (may_send : ℕ → List Numbered → Type 0) (venue : ℕ)
   pub at : slice_get old.receivers venue ≡ Some lane
   pub was_empty : WasEmpty may_send lane
 
--- The answer to who asks for at most so many items, by cases. It is how many were journaled: none
+-- The answer to a request for at most `most` items, by cases. It is how many were journaled: none
 -- only where none was asked for, or where there was room for one and no item. A full journal is
 -- answered as such where no item was journaled, whether or not there is one; a refused call changes
 -- nothing.
@@ -56,8 +57,8 @@ ConsumesBatch may_send lanes venue most (Err TooManySubscribers) old new = ⊥
 abbrev pub sent_to_all : HubState → ℕ
 sent_to_all s = sum_by (λ e. length e.items) s.senders
 
--- Offer, again and again: so many notices more were sent, to all subscribers, and the answer is that
--- number, as a u64 shows it.
+-- Offer, repeatedly: notices were sent to all subscribers together, and the answer is their number,
+-- as far as a u64 shows it.
 pub record OffersCount (answer : ℕ) (old new : HubState) : Type 0 where
   pub more : ℕ
   pub total : sent_to_all new ≡ sent_to_all old + more

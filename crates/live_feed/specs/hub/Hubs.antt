@@ -1,4 +1,4 @@
--- What stands behind the consolidator's lock.
+-- The part that the consolidator's lock guards.
 use Rattle.std.specs.Prelude.{◌≡◌, ℕ, ◌+◌, ◌≤◌, ◌==◌, List, [], ◌∷◌, flat_map, length, Some, slice_get, if◌then◌else◌}
 use Rattle.feed_types.specs.declared.item.Numbered.{Numbered}
 use Rattle.feed_types.specs.declared.journal.Entry.{Entry}
@@ -27,8 +27,8 @@ item_by venue (entry.SelfHelp v on) = []
 abbrev pub items_in : List Entry → ℕ → List Numbered
 items_in entries venue = flat_map (item_by venue) entries
 
--- The venue's lane: what was received is the venue's items in the entries, and they obey the rule of
--- a venue's items.
+-- The venue's lane: what was received is the venue's items in the entries, and they obey the rule
+-- of a venue's items.
 pub record IsConsumed (carries : Carries) (ends : Ends) (lanes : FeedLanes) (entries : List Entry)
     (venue : ℕ) (e : LaneEnd Numbered) : Type 0 where
   pub tag : e.tag ≡ venue
@@ -36,8 +36,8 @@ pub record IsConsumed (carries : Carries) (ends : Ends) (lanes : FeedLanes) (ent
   pub items : e.items ≡ items_in entries venue
   pub sequence : IsInSequence carries ends venue (items_in entries venue)
 
--- The subscriber's lane: what was sent is what the journal counts as offered to it, those that meet
--- its terms of the changes that were looked at.
+-- The subscriber's lane: what was sent is what the journal counts as offered to it, the changes
+-- that were looked at and meet its terms.
 pub record IsOffered (lanes : FeedLanes) (state : JournalState) (id : ℕ)
     (e : LaneEnd Notice) : Type 0 where
   pub tag : e.tag ≡ id
@@ -54,8 +54,8 @@ pub record IsSpare (lanes : FeedLanes) (id : ℕ) (s : SpareLane) : Type 0 where
   pub items : s.sender.items ≡ []
   pub same : s.receiver ≡ s.sender
 
--- What is so whenever the consolidator's lock is free. The journal has the symbols and holds as many
--- entries as the feed is set up with. (Its changes are those of its entries, by its own contract.)
+-- What holds whenever the consolidator's lock is free. The journal has the symbols and the capacity
+-- of the feed's setting. (Its changes are those of its entries, by its own contract.)
 pub record HubLockInvariant (carries : Carries) (ends : Ends) (lanes : FeedLanes) (s : HubState)
     : Type 0 where
   pub venues : length s.receivers ≡ s.journal.venues

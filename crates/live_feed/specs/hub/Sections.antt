@@ -23,13 +23,13 @@ use Rattle.live_feed.specs.hub.Hubs.{HubState}
 abbrev pub hub_intake : LaneEnd Numbered → JournalState → Intake
 hub_intake lane journal = record { received = lane.items; entries = journal.entries }
 
--- the outcome of Consume that an answer is
+-- the outcome of Consume for an answer
 abbrev pub consume_done : Result (Option ℕ) JournalFault → Done
 consume_done (Ok (Some position)) = done.Consumed position
 consume_done (Ok None) = done.LaneEmpty
 consume_done (Err fault) = done.Refused (journal_fault_code fault)
 
--- Consume: the next item of the venue's lane was journaled; or nothing was inside it at a moment of
+-- Consume: the next item of the venue's lane was journaled; or the lane was empty at a moment of
 -- the call, or the journal is full.
 pub record ConsumesOne (may_send : ℕ → List Numbered → Type 0) (venue : ℕ)
     (answer : Result (Option ℕ) JournalFault) (old new : HubState) : Type 0 where
@@ -55,21 +55,21 @@ Consumes may_send venue (Err UnknownVenue) old new = ⊥
 Consumes may_send venue (Err AlreadySo) old new = ⊥
 Consumes may_send venue (Err TooManySubscribers) old new = ⊥
 
--- and nothing else has changed, but for the room
+-- nothing else has changed, but for the room
 abbrev pub KeepsButIntake : HubState → HubState → Type 0
 KeepsButIntake old new = new ≡ record old {
   journal = record old.journal { entries = new.journal.entries; ready = new.journal.ready };
   receivers = new.receivers;
 }
 
--- the outcome of Offer that an answer is
+-- the outcome of Offer for an answer
 abbrev pub offer_done : Result ℕ Unsent → Done
 offer_done (Ok number) = done.Offered number
 offer_done (Err unsent.Nothing) = done.NothingWanted
 offer_done (Err unsent.LaneFull) = done.LaneFull
 
--- Offer: the next notice that the subscriber wants was sent to it, or was refused by a lane that was
--- full at a moment of the call.
+-- Offer: the next notice that the subscriber wants was sent to it, or was refused by a lane that
+-- was full at a moment of the call.
 pub record HubOffersOne (may_send : ℕ → List Notice → Type 0) (id : ℕ) (answer : Result ℕ Unsent)
     (old new : HubState) : Type 0 where
   pub lane : LaneEnd Notice
@@ -86,13 +86,13 @@ pub record HubOffersOne (may_send : ℕ → List Notice → Type 0) (id : ℕ) (
       lane.items (offer_done answer) sent
   pub sent_is : new.senders ≡ slice_set old.senders id (with_items lane sent)
 
--- and nothing else has changed, but how far the changes were looked at
+-- nothing else has changed, but how many changes were looked at
 pub record KeepsButOffers (old new : HubState) : Type 0 where
   pub journal : StaysButCursors old.journal new.journal
   pub others : new ≡ record old { journal = new.journal; senders = new.senders }
 
--- Subscribe: one more subscriber with these terms, to whom nothing was offered, and with the lane
--- that the feed has for it, which has room for as many as the feed is set up with.
+-- Subscribe: there is one more subscriber with these terms, to whom nothing was offered, and with
+-- the lane that the feed has for it, which has the capacity of the feed's setting.
 pub record AddsSubscriber (lanes : FeedLanes) (terms : Terms) (id : ℕ) (e : LaneEnd Notice)
     (old new : HubState) : Type 0 where
   pub few : length old.journal.cursors < 32

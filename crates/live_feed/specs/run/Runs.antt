@@ -1,4 +1,4 @@
--- What a run of a feed hands back.
+-- The report of a run of a feed.
 use Rattle.std.specs.Prelude.{◌≡◌, ℕ, ◌+◌, List, [], ◌∷◌, length, map, Option, MatchOption, Result}
 use Rattle.feed_types.specs.Prefix.{IsPrefix}
 use Rattle.feed_types.specs.Sequence.{Carries, Ends}
@@ -25,13 +25,13 @@ stop_code stops.NoMemory = 12
 stop_code stops.JournalFull = 17
 stop_code stops.NoThread = 34
 
--- The count of a source's failures after a call that was refused so: want of memory is none.
+-- The count of a source's failures after a call with this fault: want of memory is no failure.
 abbrev pub failures_after : ℕ → SourceFault → ℕ
 failures_after failures faults.Device = failures + 1
 failures_after failures faults.TooManyTurns = failures + 1
 failures_after failures faults.NoMemory = failures
 
--- The lists are as long as one another, and the relation holds at each place.
+-- The lists have the same length, and the relation holds at each place.
 abbrev pub Pairwise : {A B : Type 0} → (A → B → Type 0) → List A → List B → Type 0
 Pairwise R [] [] = Unit {0}
 Pairwise R [] (y ∷ ys) = ⊥
@@ -44,7 +44,7 @@ pub record Taking : Type 0 where
   pub answer : Result Outcome TakeFault
   pub seat : SeatState
 
--- The seat took these datagrams, one after the other, and is the last one then.
+-- The seat took these datagrams, one after the other, and the last seat is the one then.
 abbrev pub AreTakenBy : SessionNames → Carries → Ends → FeedLanes → SeatState → List Taking
     → SeatState → Type 0
 AreTakenBy sessions carries ends lanes old [] last = last ≡ old
@@ -60,9 +60,9 @@ pub record HasTaken (sessions : SessionNames) (carries : Carries) (ends : Ends)
   pub bytes : map (λ t. t.bytes) takings ≡ brought
   pub taken : AreTakenBy sessions carries ends lanes old takings last
 
--- A line that has ended: its seat took each datagram that its source brought, in order and once; the
--- count of datagrams is how many these are, empty ones too, as a u64 shows it; and of the source's
--- calls none failed but the last, where the line has a fault.
+-- A line that has ended: its seat took each datagram that its source brought, in order and once;
+-- the count is the number of these datagrams, empty ones too, as far as a u64 shows it; and of the
+-- source's calls none failed but the last, where the line has a fault.
 pub record LineHasEnded {S : Type 0} (takes : SeatState → List (List ℕ) → SeatState → Type 0)
     (brings : S → List (List ℕ) → S → Type 0) (failures : S → ℕ)
     (seat : SeatState) (source : S) (last_seat : SeatState) (last_source : S) (datagrams : ℕ)
@@ -76,7 +76,7 @@ pub record LineHasEnded {S : Type 0} (takes : SeatState → List (List ℕ) → 
   pub counted : MatchOption fault (failures last_source ≡ failures source)
       (λ fault. failures last_source ≡ failures_after (failures source) fault)
 
--- A subscriber that took notices: it is the one that it was, and its log has grown at its end.
+-- A subscriber that took notices: it is the same one, and its log has grown at its end.
 pub record HasPolled (old new : SubscriberLogState) : Type 0 where
   pub id : new.id ≡ old.id
   pub limits : new.limits ≡ old.limits

@@ -32,7 +32,7 @@ pub record IsToServe (lanes : FeedLanes) (journal : JournalState) (id : ℕ) (t 
   pub offered : IsOffered lanes journal id e
   pub room : HasSubscriberRoom journal id e r
 
--- there is room for all that is left of the feed
+-- there is room for everything that is left of the feed
 pub record HasRoom (cells : List CellState) (hub : HubState) (r : FeedRoom) : Type 0 where
   pub venue_count : length r.venues.items ≡ length cells
   pub venues : HaveVenueRooms hub.journal.entries cells r.venues.items
@@ -42,7 +42,7 @@ pub record HasRoom (cells : List CellState) (hub : HubState) (r : FeedRoom) : Ty
   pub subscriber_ends : (length r.subscriber_ends.items ≡ 0)
       × (length hub.senders ≤ vec_capacity r.subscriber_ends)
 
--- what these cells and this consolidator's part have come to, with these subscribers
+-- the closed feed of these cells, this consolidator's part and these subscribers
 pub record IsClosedFeed (sessions : SessionNames) (carries : Carries) (ends : Ends)
     (lanes : FeedLanes) (cells : List CellState) (hub : HubState) (logs : List SubscriberLogState)
     (s : SettlementState) : Type 0 where

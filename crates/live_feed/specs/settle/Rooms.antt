@@ -27,13 +27,13 @@ pub record HasSubscriberRoom (journal : JournalState) (id : ℕ) (e : LaneEnd No
       × ((seen : ℕ) → seen_at journal id ≡ Some seen
       → length (changes journal) ≤ seen + vec_capacity r.unoffered)
 
--- each venue's
+-- the room of each venue
 abbrev pub HaveVenueRooms : List Entry → List CellState → List VenueRoom → Type 0
 HaveVenueRooms entries cells rooms =
     (venue : ℕ) (c : CellState) (r : VenueRoom)
     → slice_get cells venue ≡ Some c → slice_get rooms venue ≡ Some r → HasVenueRoom entries c r
 
--- each subscriber's
+-- the room of each subscriber
 abbrev pub HaveSubscriberRooms : JournalState → List (LaneEnd Notice) → List SubscriberRoom → Type 0
 HaveSubscriberRooms journal senders rooms =
     (id : ℕ) (e : LaneEnd Notice) (r : SubscriberRoom)

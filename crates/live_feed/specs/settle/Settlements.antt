@@ -1,4 +1,4 @@
--- What a feed shows once its threads have returned.
+-- The settlement of a feed: what it shows once its threads have returned.
 use Rattle.std.specs.Prelude.{◌≡◌, ℕ, ◌+◌, List, ◌++◌, fold, length, map, Some, slice_get, if◌then◌else◌}
 use Rattle.feed_types.specs.declared.item.Numbered.{Numbered}
 use Rattle.feed_types.specs.declared.journal.Entry.{Entry}
@@ -19,10 +19,10 @@ use Rattle.live_feed.specs.venue.Seats.{SeatState, is_seat_of}
 use Rattle.live_feed.specs.venue.Sums.{LineSums, Sums, accepted_on, no_sums, sums_on, sums_together}
 use Rattle.live_feed.specs.subscriber.Logs.{SubscriberLogState}
 
--- A venue whose lane is closed, through which these items were sent: what was consumed, then what is
--- in the lane, is what was sent. There are packets that the venue was given, session by session,
--- each answered as it should be and genuine; what was sent, then what is ready, are the sessions'
--- streams; and what is counted per line is that of these packets.
+-- A venue whose lane is closed, through which these items were sent: what was consumed, then what
+-- is in the lane, is what was sent. There are packets that the venue was given, session by session,
+-- each answered by the definitions and genuine; what was sent, then what is ready, are the
+-- sessions' streams; and what is counted per line is that of these packets.
 pub record IsSettled (carries : Carries) (ends : Ends) (venue window : ℕ)
     (sent consumed in_lane ready : List Numbered) (won : Counts) (sums : LineSums) : Type 0 where
   pub sent_is : consumed ++ in_lane ≡ sent
@@ -63,8 +63,8 @@ pub record SettlementState : Type 0 where
   pub venues : List VenueEndState
   pub subscribers : List SubscriberEndState
 
--- What a line's seats show, added up: how many numbers they brought first, as a u64 shows it, and
--- the sums of accepted packets.
+-- The sums of what a line's seats show: how many numbers they brought first, as far as a u64 shows
+-- it, and the sums of accepted packets.
 pub record Tally : Type 0 where
   pub wins : ℕ
   pub accepted : Sums
@@ -72,7 +72,7 @@ pub record Tally : Type 0 where
 abbrev pub no_tally : Tally
 no_tally = record { wins = 0; accepted = no_sums }
 
--- with one seat more
+-- the same with one more seat
 abbrev pub tally_after : ℕ → LineId → Tally → SeatState → Tally
 tally_after venue line t s =
     if is_seat_of venue line s
@@ -90,12 +90,12 @@ pub record AgreesOn (seats : List SeatState) (c : CellState) (line : LineId) : T
   pub wins : count_on line c.arbiter.wins ≡ (tally_of c.arbiter.venue line seats).wins
   pub accepted : sums_on line c.accepted ≡ (tally_of c.arbiter.venue line seats).accepted
 
--- it is the cell of the venue, and agrees with the seats
+-- the cell is that of the venue, and agrees with the seats
 pub record AgreesWithSeats (seats : List SeatState) (venue : ℕ) (c : CellState) : Type 0 where
   pub venue_is : c.arbiter.venue ≡ venue
   pub on : (line : LineId) → AgreesOn seats c line
 
--- so do the cells of all venues, which are in order
+-- the cells of all venues do, and are in order
 abbrev pub AllAgree : List SeatState → List CellState → Type 0
 AllAgree seats cells =
     (venue : ℕ) (c : CellState) → slice_get cells venue ≡ Some c → AgreesWithSeats seats venue c
@@ -120,9 +120,9 @@ pub record IsClosedVenue (sessions : SessionNames) (carries : Carries) (ends : E
   pub wins : v.wins ≡ c.arbiter.wins
   pub accepted : v.accepted ≡ c.accepted
 
--- A venue of a closed feed, whose lock kept this cell last: its lane, through which the cell's items
--- were sent, is closed; what was consumed is its items in the entries; and what is counted per line
--- is what the line's seats show, added up.
+-- A venue of a closed feed, whose lock kept this cell last: its lane, through which the cell's
+-- items were sent, is closed; what was consumed is its items in the entries; and what is counted
+-- per line is the sum of what the line's seats show.
 pub record ShowsVenue (sessions : SessionNames) (carries : Carries) (ends : Ends)
     (lanes : FeedLanes) (entries : List Entry) (seats : List SeatState) (venue : ℕ)
     (v : VenueEndState) : Type 0 where
@@ -141,9 +141,9 @@ pub record ShowsSubscriber (journal : JournalState) (id : ℕ) (t : SubscriberLo
   pub served : IsServed journal id x.log x.queued x.unoffered
   pub own : (t.id ≡ id) × (x.log ≡ t.lines)
 
--- What a feed has come to, once these seats and these subscribers were handed in: each of its
--- venues and each of its subscribers is closed. The journal has the symbols and holds as many
--- entries as the feed is set up with.
+-- The settlement of a feed, once these seats and these subscribers were handed in: each of its
+-- venues and each of its subscribers is closed. The journal has the symbols and the capacity of the
+-- feed's setting.
 pub record IsSettlement (sessions : SessionNames) (carries : Carries) (ends : Ends)
     (lanes : FeedLanes) (seats : List SeatState) (logs : List SubscriberLogState) (s : SettlementState)
     : Type 0 where

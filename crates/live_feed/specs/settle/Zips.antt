@@ -1,5 +1,5 @@
 -- Lists side by side: a relation holds of their items place by place, from this place on, and the
--- lists are as long as one another.
+-- lists have the same length.
 use Rattle.std.specs.Prelude.{ℕ, ◌+◌, List, [], ◌∷◌, ⊤}
 
 abbrev pub Zip2 : {A B : Type 0} → (ℕ → A → B → Type 0) → ℕ → List A → List B → Type 0

@@ -1,4 +1,4 @@
--- What a subscriber keeps.
+-- The state of a subscriber.
 use Rattle.std.specs.Prelude.{◌≡◌, ℕ, ◌≤◌, ◌<◌, List, [], ◌∷◌, ◌++◌, map, length, Option, Some, None, Result, Ok, Err, slice_get}
 use Rattle.std.specs.List.{AllByRecursion}
 use Rattle.feed_types.specs.declared.journal.Notice.{Notice}
@@ -23,9 +23,9 @@ pub record SubscriberLogState : Type 0 where
 abbrev pub logged : Notice → Advice → Logged
 logged notice advice = record { notice = notice; advice = advice }
 
--- What is so after every poll: the log has one advice for each notice that was taken, in order, each
--- allowed by the limits; the lane is the one that the feed has for the subscriber; and log and lane
--- hold as many as the feed is set up with.
+-- What holds after every poll: the log has one advice for each notice that was taken, in order,
+-- each allowed by the limits; the lane is the one that the feed has for the subscriber; and log and
+-- lane have the capacities of the feed's setting.
 pub record SubscriberLogInvariant (lanes : FeedLanes) (t : SubscriberLogState) : Type 0 where
   pub notices : map (λ line. line.notice) t.lines ≡ t.lane.items
   pub allowed : AllByRecursion (λ line. IsAllowed t.limits line.notice line.advice) t.lines
@@ -35,8 +35,8 @@ pub record SubscriberLogInvariant (lanes : FeedLanes) (t : SubscriberLogState) :
   pub capacity : t.lane.capacity ≡ lanes.setting.lane
 
 -- The answer to `poll`, by cases: LogFull exactly where the log is full; nothing is taken by a
--- refused poll, nor where nothing was inside the lane at a moment of the call; else the next notice
--- was taken (Dequeue of the machine) and logged with its advice.
+-- refused poll, nor where the lane was empty at a moment of the call; else the next notice was
+-- taken (Dequeue of the machine) and logged with its advice.
 abbrev pub Polls : (ℕ → List Notice → Type 0) → Result (Option Advice) PollFault
     → SubscriberLogState → SubscriberLogState → Type 0
 Polls may_send (Err LogFull) old new = (old.most ≤ length old.lines) × (new ≡ old)

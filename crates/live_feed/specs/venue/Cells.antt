@@ -1,4 +1,4 @@
--- What stands behind a venue's lock.
+-- The part of a venue that its lock guards.
 use Rattle.std.specs.Prelude.{◌≡◌, ℕ, ◌+◌, List, [], ◌∷◌, ◌++◌, take, flat_map, Some, None, slice_get}
 use Rattle.std.specs.List.{AllByRecursion}
 use Rattle.feed_types.specs.declared.item.Numbered.{Numbered}
@@ -38,9 +38,9 @@ new_cell arbiter lane =
 abbrev pub arrivals_of : List Begun → List Arrival
 arrivals_of sessions = flat_map (λ session. session.packets) sessions
 
--- The cell stands for what came to the venue, session by session: its arbiter fits the history, the
--- lane was sent the streams of the earlier sessions and then the first items of the present one's,
--- and what is counted per line is that of all packets.
+-- The cell represents this history: its arbiter fits the history, the lane was sent the streams of
+-- the earlier sessions and then the first items of the present one's, and what is counted per line
+-- is that of all packets.
 pub record FitsCell (c : CellState) (h : History) : Type 0 where
   pub history : FitsHistory c.arbiter h
   pub sent : c.lane.items
@@ -49,23 +49,23 @@ pub record FitsCell (c : CellState) (h : History) : Type 0 where
       → sums_on line c.accepted ≡ accepted_on line (arrivals_of (all_begun h))
 
 module _ (carries : Carries) (ends : Ends) (venue window : ℕ) where
-  -- The packets of a session: each was answered as it should be (so one with an outcome is of the
-  -- session), and each that is of the session is genuine.
+  -- The packets of a session: each was answered by the definitions (so one with an outcome is of
+  -- the session), and each that is of the session is genuine.
   pub record AreGiven (ordinal : ℕ) (b : Begun) : Type 0 where
     pub answered : AreAnswered b.name window b.packets
     pub genuine : AllByRecursion
         (λ a. a.packet.session ≡ b.name → IsGenuineAt carries ends venue ordinal a.packet) b.packets
 
-  -- so were those of the sessions from this ordinal on, and all but the present one are over
+  -- the same of the sessions from this ordinal on, and all but the present one are over
   abbrev pub AreGivenFrom : ℕ → List Begun → Begun → Type 0
   AreGivenFrom ordinal [] present = AreGiven ordinal present
   AreGivenFrom ordinal (b ∷ bs) present =
       AreGiven ordinal b × IsComplete b.packets × AreGivenFrom (ordinal + 1) bs present
 
--- What is so whenever a venue's lock is free: there are packets that the venue was given, session
--- by session, and the cell stands for them; each was answered as it should be and is genuine; the
--- present session has a name that the lines may use; the lane is the one that the feed has for the
--- venue; and window and lane hold as many as the feed is set up with.
+-- What holds whenever a venue's lock is free: there are packets that the venue was given, session
+-- by session, and the cell represents them; each was answered by the definitions and is genuine;
+-- the present session has a name that the lines may use; the lane is the one that the feed has for
+-- the venue; and window and lane have the sizes of the feed's setting.
 pub record VenueLockInvariant (sessions : SessionNames) (carries : Carries) (ends : Ends)
     (lanes : FeedLanes) (c : CellState) : Type 0 where
   pub history : History

@@ -1,4 +1,4 @@
--- What a datagram is, and the answer to it.
+-- A datagram, and the answer to it.
 use Rattle.std.specs.Prelude.{◌≡◌, ◌⊎◌, ℕ, List, [], ◌∷◌, Option, Some, None, Result, Ok, Err, IsOk}
 use Rattle.feed_types.specs.Sequence.{Carries, Ends}
 use Rattle.feed_types.specs.Sessions.{Session, SessionNames, IsSessionAt, Names}
@@ -20,7 +20,7 @@ use Rattle.live_feed.specs.venue.Sections.{IsAnsweredBy}
 abbrev pub bytes_of : Datagram → List ℕ
 bytes_of datagram = datagram.all.items
 
--- the datagram that a source gave, if it gave one, as a list of such bytes
+-- the bytes of the datagram that a source returned, as a list of one, or none
 abbrev pub brought_by : Result (Option Datagram) SourceFault → List (List ℕ)
 brought_by (Ok (Some datagram)) = bytes_of datagram ∷ []
 brought_by (Ok None) = []
@@ -39,7 +39,8 @@ IsAnsweredAt sessions carries ends lanes seat p answer =
     IsAnsweredBy sessions carries ends lanes seat.venue seat.line p answer
     ⊎ (answer ≡ Err OtherSession)
 
--- The bytes are a packet, which the venue answers so; the seat counts it where it was accepted.
+-- The bytes are a packet, to which this is the venue's answer; the seat counts it where it was
+-- accepted.
 pub record IsPacketTaken (sessions : SessionNames) (carries : Carries) (ends : Ends)
     (lanes : FeedLanes) (bytes : List ℕ) (old : SeatState) (answer : Result Outcome LineFault)
     (new : SeatState) : Type 0 where

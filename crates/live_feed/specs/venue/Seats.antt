@@ -1,4 +1,4 @@
--- What a line's seat shows, and which lines have theirs.
+-- A line's seat and what it shows, and the lines that have theirs.
 use Rattle.std.specs.Prelude.{◌≡◌, ℕ, ◌+◌, ◌==◌, ◌&&◌, Bool, true, false, List, Result, Ok, Err}
 use Rattle.std.specs.List.{list_any}
 use Rattle.feed_types.specs.declared.line.LineId.{LineId}
@@ -13,7 +13,8 @@ use Rattle.live_feed.specs.declared.faults.FeedFault.{FeedFault}
 use Rattle.live_feed.specs.declared.faults.FeedFault.TheVariants.{UnknownVenue, UnknownSubscriber, SeatTaken}
 use Rattle.live_feed.specs.venue.Sums.{Sums, no_sums, sums_after}
 
--- whose seat it is, how many numbers it brought first, and the sums of its accepted packets
+-- the venue and line of a seat, how many numbers it brought first, and the sums of its accepted
+-- packets
 pub record SeatState : Type 0 where
   pub venue : ℕ
   pub line : LineId
@@ -31,7 +32,7 @@ wins_after wins (Ok Ended) = wins
 wins_after wins (Ok Ahead) = wins
 wins_after wins (Err fault) = wins
 
--- the seat after a packet that was answered so: a refused one changes nothing
+-- the seat after a packet with this answer: a refused one changes nothing
 abbrev pub seat_after : SeatState → Content → Result Outcome LineFault → SeatState
 seat_after s p answer =
     record s { wins = wins_after s.wins answer; accepted = sums_after s.accepted p answer }
@@ -39,7 +40,7 @@ seat_after s p answer =
 abbrev pub is_seat_of : ℕ → LineId → SeatState → Bool
 is_seat_of venue line s = (s.venue == venue) && is_same_line s.line line
 
--- of a venue, by line, whether its seat was handed out
+-- whether each line's seat at a venue was handed out
 pub record SeatsGiven : Type 0 where
   pub a : Bool
   pub b : Bool
@@ -58,8 +59,8 @@ with_seat A s = record s { a = true }
 with_seat B s = record s { b = true }
 with_seat Recovery s = record s { recovery = true }
 
--- The answer to who asks for a line's seat, by cases: SeatTaken exactly where it was handed out, and
--- nothing changes then; else that line alone is marked.
+-- The answer to a request for a line's seat, by cases: SeatTaken exactly where it was handed out,
+-- and nothing changes then; else that line alone is marked.
 abbrev pub GivesSeat : {X : Type 0} → LineId → Result X FeedFault → SeatsGiven → SeatsGiven
     → Type 0
 GivesSeat line (Ok given) old new = (has_seat line old ≡ false) × (new ≡ with_seat line old)
@@ -67,7 +68,7 @@ GivesSeat line (Err SeatTaken) old new = (has_seat line old ≡ true) × (new �
 GivesSeat line (Err UnknownVenue) old new = ⊥
 GivesSeat line (Err UnknownSubscriber) old new = ⊥
 
--- each line of the venue whose seat was handed out has one among these
+-- each line of the venue whose seat was handed out has one in this list
 abbrev pub HasItsSeats : List SeatState → ℕ → SeatsGiven → Type 0
 HasItsSeats seats venue given =
     (line : LineId) → has_seat line given ≡ true → list_any (is_seat_of venue line) seats ≡ true

@@ -23,7 +23,7 @@ use Rattle.live_feed.specs.declared.unsent.Unsent.TheVariants as unsent
 use Rattle.live_feed.specs.Lanes.{FeedLanes}
 use Rattle.live_feed.specs.venue.Cells.{CellState, FitsCell, VenueLockInvariant, new_pace}
 
--- Packet: what came to the venue has grown by the packet, and the cell stands for it.
+-- Packet: the venue's history has grown by the packet, and the cell represents it.
 pub record TakesPacket (line : LineId) (p : Content) (answer : Result Outcome LineFault)
     (h : History) (old new : CellState) : Type 0 where
   pub after : History
@@ -40,7 +40,7 @@ AcceptsTheirPacket sessions carries ends venue p answer =
     → IsOfSession session p → IsOk answer ⊎ (answer ≡ Err OtherSession)
 
 -- Packet, where the cell is known by what its lock keeps alone: there is such a cell of this venue,
--- which answers so.
+-- with this answer.
 pub record IsAnsweredBy (sessions : SessionNames) (carries : Carries) (ends : Ends)
     (lanes : FeedLanes) (venue : ℕ) (line : LineId) (p : Content)
     (answer : Result Outcome LineFault) : Type 0 where
@@ -50,12 +50,12 @@ pub record IsAnsweredBy (sessions : SessionNames) (carries : Carries) (ends : En
   pub new : CellState
   pub takes : TakesPacket line p answer kept.history old new
 
--- and nothing else has changed
+-- nothing else has changed
 pub record KeepsButPackets (old new : CellState) : Type 0 where
   pub arbiter : KeepsItsPlace old.arbiter new.arbiter
   pub others : new ≡ record old { arbiter = new.arbiter; accepted = new.accepted }
 
--- the outcome of Push that an answer is
+-- the outcome of Push for an answer
 abbrev pub push_done : Result ℕ Unsent → Done
 push_done (Ok number) = done.Pushed number
 push_done (Err unsent.Nothing) = done.NothingReady
@@ -72,14 +72,14 @@ pub record PushesOne (may_send : ℕ → List Numbered → Type 0) (answer : Res
       old.lane.items (push_done answer) new.lane.items
   pub fits : FitsCell new h
 
--- and nothing else has changed
+-- nothing else has changed
 pub record KeepsButSent (old new : CellState) : Type 0 where
   pub arbiter : KeepsAllButSent old.arbiter new.arbiter
   pub lane : new.lane ≡ with_items old.lane new.lane.items
   pub others : new ≡ record old { arbiter = new.arbiter; lane = new.lane }
 
--- Packet and then Push, in one section: what came to the venue has grown by the packet, the next item
--- of its streams was sent, and the cell stands for both.
+-- Packet and then Push, in one section: the venue's history has grown by the packet, the next item
+-- of its streams was sent, and the cell represents both.
 pub record TakesAndPushes (line : LineId) (p : Content) (outcome : Outcome) (h : History)
     (old new : CellState) : Type 0 where
   pub takes : TakesPacket line p (Ok outcome) h old new
@@ -87,7 +87,7 @@ pub record TakesAndPushes (line : LineId) (p : Content) (outcome : Outcome) (h :
       (push_next false (slice_get (streams_of takes.after) (length old.lane.items)) old.lane.items)
       old.lane.items (done.Pushed p.number) new.lane.items
 
--- and nothing else has changed
+-- nothing else has changed
 pub record KeepsButPushed (old new : CellState) : Type 0 where
   pub arbiter : KeepsItsSession old.arbiter new.arbiter
   pub lane : new.lane ≡ with_items old.lane new.lane.items
@@ -97,8 +97,8 @@ pub record KeepsButPushed (old new : CellState) : Type 0 where
     accepted = new.accepted;
   }
 
--- A packet that isn't taken so: the lane was full at a moment of the call, or the packet doesn't go
--- on where nothing is held, or hasn't one message.
+-- A packet that isn't taken and pushed at once: the lane was full at a moment of the call, or the
+-- packet doesn't go on where nothing is held, or hasn't one message.
 abbrev pub IsLeft : (ℕ → List Numbered → Type 0) → Content → CellState → Type 0
 IsLeft may_send p c =
     WasFull may_send c.lane
@@ -113,7 +113,7 @@ pub record RenewsSession (name : List ℕ) (answer : Result ℕ RenewFault) (h :
   pub renewed : AddsRenewal old.arbiter.sent name h answer after
   pub fits : FitsCell new after
 
--- the next session of the cell's venue, with no request to be repeated
+-- the next session of the cell's venue, with no request to repeat
 pub record BeginsNext (old new : CellState) : Type 0 where
   pub venue : new.arbiter.venue ≡ old.arbiter.venue
   pub window : new.arbiter.window ≡ old.arbiter.window

@@ -19,15 +19,15 @@ pub record Sums : Type 0 where
 abbrev pub no_sums : Sums
 no_sums = record { taken = 0; heartbeat = 0; ended = 0; ahead = 0 }
 
--- as they are shown
+-- the sums as they are shown
 abbrev pub sums_list : Sums → List ℕ
 sums_list s = s.taken ∷ s.heartbeat ∷ s.ended ∷ s.ahead ∷ []
 
--- a sum and one number more
+-- a sum and one more number
 abbrev pub wrapping : ℕ → ℕ → ℕ
 wrapping total n = (total + n) % 2 ^ 64
 
--- after one packet more that was answered so; a refused one adds nothing
+-- the sums after one more packet with this answer; a refused one adds nothing
 abbrev pub sums_after : Sums → Content → Result Outcome LineFault → Sums
 sums_after s p (Ok (Taken new repeated)) = record s { taken = wrapping s.taken (last_number p) }
 sums_after s p (Ok Heartbeat) = record s { heartbeat = wrapping s.heartbeat p.number }
@@ -35,7 +35,7 @@ sums_after s p (Ok Ended) = record s { ended = wrapping s.ended p.number }
 sums_after s p (Ok Ahead) = record s { ahead = wrapping s.ahead (last_number p) }
 sums_after s p (Err fault) = s
 
--- two lots of sums, added up
+-- two sets of sums, added up
 abbrev pub sums_together : Sums → Sums → Sums
 sums_together s t = record {
   taken = wrapping s.taken t.taken;
@@ -44,7 +44,7 @@ sums_together s t = record {
   ahead = wrapping s.ahead t.ahead;
 }
 
--- those of the packets that came on the line
+-- the sums of the packets that came on the line
 abbrev pub accepted_on : LineId → List Arrival → Sums
 accepted_on line packets =
     fold (λ s a. if is_same_line a.line line then sums_after s a.packet a.answer else s) no_sums
@@ -64,7 +64,7 @@ sums_on A s = s.a
 sums_on B s = s.b
 sums_on Recovery s = s.recovery
 
--- after one packet more on the line
+-- the sums after one more packet on the line
 abbrev pub line_sums_after : LineId → Content → Result Outcome LineFault → LineSums → LineSums
 line_sums_after A p answer s = record s { a = sums_after s.a p answer }
 line_sums_after B p answer s = record s { b = sums_after s.b p answer }

@@ -1,11 +1,11 @@
-//! How long a subscriber's log may become.
+//! The size of a subscriber's log.
 
 ghost use Rattle.std.specs.Prelude.{◌≡◌};
 
 use crate::feed_name::FeedName;
 use std::marker::{Model, PhantomData};
 
-/// How many lines the log of a subscriber of the feed `N` holds: as many as the feed is set up with.
+/// The number of lines that a subscriber's log holds in the feed `N`, which is that of its setting.
 #[derive(Drop)]
 pub(crate) struct LogSize<N: FeedName> {
     lines: u32,
@@ -23,7 +23,7 @@ impl<N: FeedName> Model for LogSize<N> {
 }
 
 impl<N: FeedName> LogSize<N> {
-    /// As many lines as the feed is set up with.
+    /// The number of lines in the feed's setting.
     pub(crate) fn new(lines: u32) -> LogSize<N>
         requires { lines ≡ N.lanes.setting.log }
     {
@@ -33,7 +33,7 @@ impl<N: FeedName> LogSize<N> {
         }
     }
 
-    /// How many lines a log of the feed holds.
+    /// The number of lines that a log of the feed holds.
     pub(crate) fn lines(&self) -> u32
         ensures { result ≡ N.lanes.setting.log }
     {

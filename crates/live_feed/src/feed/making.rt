@@ -22,7 +22,7 @@ fn venue_at(place: usize) -> VenueId
     }
 }
 
-/// A venue to which nothing came, and the receiving end of its lane.
+/// Makes a venue to which nothing came, and the receiving end of its lane.
 fn new_start<G: Genuine>(
     alloc: Global,
     venue: VenueId,
@@ -44,7 +44,7 @@ fn new_start<G: Genuine>(
     Ok((VenueStart::new(arbiter, sender), receiver))
 }
 
-/// The venues to which nothing came, and the receiving ends of their lanes.
+/// Makes the venues to which nothing came, and the receiving ends of their lanes.
 pub(crate) fn new_starts<G: Genuine>(
     alloc: Global,
     config: &FeedConfig<'_>,
@@ -65,7 +65,7 @@ pub(crate) fn new_starts<G: Genuine>(
     Ok((starts, receivers))
 }
 
-/// The lanes of 32 subscribers, in the order of their ids.
+/// Makes the lanes of 32 subscribers, in the order of their ids.
 pub(crate) fn new_spares(alloc: Global, capacity: u32) -> Result<VecDeque<SpareLane>, AllocError>
     ensures unused { IfOk result (λ spare. AreUnused capacity spare.items) }
     ensures count { IfOk result (λ spare. length spare.items ≡ 32) }

@@ -1,4 +1,4 @@
-//! A feed behind its locks.
+//! A feed whose parts are guarded by locks.
 
 ghost use Rattle.std.specs.Prelude.{◌≡◌, ◌≤◌, ◌↔◌, [], length, IfOk, IfErr, IsErrOf};
 ghost use Rattle.live_feed.specs.venue.Seats.{GivesSeat, new_seat};
@@ -26,7 +26,7 @@ use mold_packet::Request;
 use std::alloc::Global;
 use std::sync::{Mutex, Wait};
 
-/// What a venue's lock guards: the cell, and which lines have their seats.
+/// The part that a venue's lock guards: the cell, and which lines have their seats.
 #[derive(Drop)]
 pub(crate) struct Guarded<G: Genuine, N: FeedName> {
     pub(crate) cell: VenueCell<G, N>,
@@ -34,7 +34,8 @@ pub(crate) struct Guarded<G: Genuine, N: FeedName> {
 }
 
 impl<G: Genuine, N: FeedName> Guarded<G, N> {
-    /// The seat of the line, which has brought nothing: SeatTaken where the line has its seat.
+    /// Hands out the seat of the line, which has brought nothing: SeatTaken where it was handed out
+    /// already.
     fn give_seat(&mut self, line: LineId) -> Result<LineSeat<G, N>, FeedFault>
         ensures seat { IfOk result (λ seat. seat ≡ new_seat self.old.cell.arbiter.venue line) }
         ensures given { GivesSeat line result self.old.seated self.new.seated }
@@ -47,7 +48,8 @@ impl<G: Genuine, N: FeedName> Guarded<G, N> {
     }
 }
 
-/// A feed behind its locks: one for each venue, and the consolidator's. No call holds two of them.
+/// A feed whose parts are guarded by locks: one for each venue, and the consolidator's. No call
+/// holds two of them.
 #[derive(Drop)]
 pub struct OpenFeed<G: Genuine, N: FeedName> {
     pub(crate) venues: VenueLocks<G, N>,
@@ -56,8 +58,8 @@ pub struct OpenFeed<G: Genuine, N: FeedName> {
 }
 
 impl<G: Genuine, N: FeedName> OpenFeed<G, N> {
-    /// The seat of the venue's line, which has brought nothing. UnknownVenue, else SeatTaken where
-    /// the line has its seat.
+    /// Hands out the seat of the venue's line, which has brought nothing. UnknownVenue, else
+    /// SeatTaken where it was handed out already.
     pub fn line_seat<W: Wait>(
         &self,
         rt: &W,
@@ -77,10 +79,10 @@ impl<G: Genuine, N: FeedName> OpenFeed<G, N> {
         guarded.give_seat(line)
     }
 
-    /// Takes a datagram that came on the seat's line, which is genuine at its venue, and answers
-    /// what became of it: the packet's fault, else the line's, else the outcome. What is ready then,
-    /// after a fault too, is pushed, until nothing is or the lane is full. The datagram is read
-    /// before the venue's lock is taken.
+    /// Takes a datagram that came on the seat's line, which is genuine at its venue, and returns
+    /// the packet's fault, else the line's, else the outcome. What is ready then, after a fault
+    /// too, is pushed, until nothing is or the lane is full. The datagram is read before the
+    /// venue's lock is taken.
     pub fn take<W: Wait>(
         &self,
         rt: &W,
@@ -101,15 +103,16 @@ impl<G: Genuine, N: FeedName> OpenFeed<G, N> {
         self.venues.take_and_look(rt, seat, datagram, &mut gap)
     }
 
-    /// Pushes what is ready of the venue, until nothing is or the lane is full, and gives how many
-    /// items were pushed.
+    /// Pushes what is ready of the venue, until nothing is or the lane is full, and returns how
+    /// many items were pushed. UnknownVenue where there is no such venue.
     pub fn flush<W: Wait>(&self, rt: &W, venue: VenueId) -> Result<u64, FeedFault>
         ensures unknown { IsErrOf result FeedFault.UnknownVenue ↔ (length N.lanes.venues ≤ venue) }
     {
         self.venues.flush_some(rt, venue, u64::MAX)
     }
 
-    /// The request for the venue's gap to send now, if any.
+    /// Returns the request for the venue's gap to send now, if any. UnknownVenue where there is no
+    /// such venue.
     pub fn due<W: Wait>(
         &self,
         rt: &W,
@@ -122,7 +125,7 @@ impl<G: Genuine, N: FeedName> OpenFeed<G, N> {
     }
 
     /// Begins the venue's session of this ordinal and name, once End of the one before it was sent,
-    /// and gives the ordinal.
+    /// and returns the ordinal.
     pub fn renew<W: Wait>(
         &self,
         rt: &W,
@@ -148,8 +151,9 @@ impl<G: Genuine, N: FeedName> OpenFeed<G, N> {
         }
     }
 
-    /// Journals the next item of the venue's lane, and gives its position; None where nothing was
-    /// inside. UnknownVenue, JournalFull or NoMemory come before an item is taken out of the lane.
+    /// Journals the next item of the venue's lane, and returns its position; None where the lane
+    /// was empty. UnknownVenue, JournalFull or NoMemory come before an item is taken out of the
+    /// lane.
     pub fn consume<W: Wait>(&self, rt: &W, venue: VenueId) -> Result<Option<u64>, JournalFault>
         ensures unknown { IsErrOf result JournalFault.UnknownVenue
             ↔ (length N.lanes.venues ≤ venue) }
@@ -161,9 +165,9 @@ impl<G: Genuine, N: FeedName> OpenFeed<G, N> {
         consumed
     }
 
-    /// Journals the next items of the venue's lane as `consume` does, at most so many, under the
-    /// consolidator's lock taken once, and gives how many there were. A refusal is answered where it
-    /// comes before any of them; else the next call answers it.
+    /// Journals the next items of the venue's lane as `consume` does, at most `most`, under the
+    /// consolidator's lock taken once, and returns how many there were. A refusal is answered where
+    /// it comes before the first item; else the next call answers it.
     pub fn consume_batch<W: Wait>(
         &self,
         rt: &W,
@@ -182,10 +186,10 @@ impl<G: Genuine, N: FeedName> OpenFeed<G, N> {
     }
 
     /// Journals what is in the venues' lanes, and then offers each subscriber what it wants, as
-    /// `offer` does, under the consolidator's lock taken once, and returns what that came to. At most
-    /// 64 items are journaled, up to the first refusal. A call begins with the venue after the last
-    /// one that the call before came to, so that none of them waits for ever. This is what the
-    /// consolidator of `run` calls.
+    /// `offer` does, under the consolidator's lock taken once. Returns how much it journaled and
+    /// offered. At most 64 items are journaled, up to the first refusal. A call begins with the
+    /// venue after the last one of the call before, so that no venue waits for ever. The
+    /// consolidator of `run` makes this call.
     pub fn consolidate<W: Wait>(&self, rt: &W) -> Consolidated
         ensures most { result.consumed ≤ 64 }
     {
@@ -197,9 +201,9 @@ impl<G: Genuine, N: FeedName> OpenFeed<G, N> {
         done
     }
 
-    /// Declares self-help on the venue, or withdraws it, and gives the entry's position. It is
+    /// Declares self-help on the venue, or withdraws it, and returns the entry's position. It is
     /// refused as UnknownVenue, AlreadySo (the venue's self-help is in that state), JournalFull or
-    /// NoMemory: the first of these that fits. A refused call changes nothing.
+    /// NoMemory: the first that fits. A refused call changes nothing.
     pub fn declare<W: Wait>(&self, rt: &W, venue: VenueId, on: bool) -> Result<u64, JournalFault>
         ensures unknown { IsErrOf result JournalFault.UnknownVenue
             ↔ (length N.lanes.venues ≤ venue) }
@@ -211,9 +215,9 @@ impl<G: Genuine, N: FeedName> OpenFeed<G, N> {
         declared
     }
 
-    /// Adds a subscriber with this filter and strategy, whose log is empty and holds as many lines as
-    /// configured. Its notices begin with the first change of the journal. It is refused, with both, as TooManySubscribers where there
-    /// are 32, else as NoMemory.
+    /// Adds a subscriber with this filter and strategy, whose log is empty and holds as many lines
+    /// as configured. Its notices begin with the first change of the journal. It is refused, with
+    /// both, as TooManySubscribers where there are 32, else as NoMemory.
     pub fn subscribe<W: Wait>(
         &self,
         rt: &W,
@@ -251,7 +255,7 @@ impl<G: Genuine, N: FeedName> OpenFeed<G, N> {
     }
 
     /// Pushes the notices that the subscriber wants, until there is none or its lane is full, and
-    /// gives how many were pushed.
+    /// returns how many were pushed. UnknownSubscriber where there is no such subscriber.
     pub fn offer<W: Wait>(&self, rt: &W, id: SubscriberId) -> Result<u64, FeedFault> {
         match offer_some(rt, &mut self.hub.lock(rt), self.venues.bells(), id) {
             Some(pushed) => Ok(pushed),

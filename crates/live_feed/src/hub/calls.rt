@@ -1,4 +1,4 @@
-//! What the calls of a feed do under the consolidator's lock.
+//! The sections that calls of a feed have under the consolidator's lock.
 
 ghost use Rattle.std.specs.Prelude.{◌≡◌, ◌≤◌, ◌↔◌, length, IfOk, IfSome, IfNone, IsErrOf};
 ghost use Rattle.live_feed.specs.hub.Batches.{ConsumesBatch, OffersCount};
@@ -12,8 +12,8 @@ use fifo_lane::{LaneRule, VenueItems};
 use journal_book::JournalFault;
 use std::sync::Wait;
 
-/// Journals the next item of the venue's lane, and gives its position; None where nothing was inside.
-/// A refused call changes nothing.
+/// Journals the next item of the venue's lane, and returns its position; None where the lane was
+/// empty. A refused call changes nothing.
 pub(crate) fn consume_next<G: Genuine, N: FeedName, W: Wait>(
     rt: &W,
     hub: &mut HubCell<G, N>,
@@ -27,9 +27,9 @@ pub(crate) fn consume_next<G: Genuine, N: FeedName, W: Wait>(
     hub.consume(rt, venue)
 }
 
-/// Journals the items that are in the venue's lane, at most `most`, and returns how many there were.
-/// UnknownVenue, else a refusal where it comes before any of them, whether or not there is one; then
-/// nothing has changed.
+/// Journals the items that are in the venue's lane, at most `most`, and returns how many there
+/// were. UnknownVenue, else a refusal where it comes before the first item, whether or not there is
+/// one; then nothing has changed.
 pub(crate) fn consume_some<G: Genuine, N: FeedName, W: Wait>(
     rt: &W,
     hub: &mut HubCell<G, N>,
@@ -57,8 +57,8 @@ pub(crate) fn consume_some<G: Genuine, N: FeedName, W: Wait>(
 }
 
 /// Offers the subscriber what it wants, until there is nothing more or its lane is full, and wakes
-/// its thread where notices were pushed. Gives how many were; None where there is no such
-/// subscriber. A lane that is full is looked at once more, after it was said that room is wanted.
+/// its thread where notices were pushed. Returns how many were; None where there is no such
+/// subscriber. A full lane is looked at once more, after it was noted that room is wanted.
 #[inline(always)]
 pub(crate) fn offer_some<G: Genuine, N: FeedName, W: Wait>(
     rt: &W,
@@ -91,7 +91,7 @@ pub(crate) fn offer_some<G: Genuine, N: FeedName, W: Wait>(
     Some(pushed)
 }
 
-/// Offers each subscriber what it wants, and returns how many notices were pushed, to all of them.
+/// Offers each subscriber what it wants, and returns how many notices were pushed in all.
 pub(crate) fn offer_each<G: Genuine, N: FeedName, W: Wait>(
     rt: &W,
     hub: &mut HubCell<G, N>,

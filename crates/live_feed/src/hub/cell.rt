@@ -1,4 +1,4 @@
-//! What stands behind the consolidator's lock.
+//! The part of a feed that the consolidator's lock guards.
 
 ghost use Rattle.std.specs.Prelude.{◌≡◌, ◌<◌, length, IfOk, IfErr, OnErr};
 ghost use Rattle.journal_book.specs.Journals.{Declares};
@@ -27,8 +27,8 @@ pub struct HubCell<G: Genuine, N: FeedName> {
 }
 
 impl<G: Genuine, N: FeedName> HubCell<G, N> {
-    /// Returns the venue whose turn it is; then it is the next one's turn, and after the last one's
-    /// the first one's.
+    /// Returns the venue whose turn it is, and passes the turn to the next one, after the last to
+    /// the first.
     pub(crate) fn next_venue(&mut self) -> VenueId
         ensures kept { self.new.core ≡ self.old.core }
     {
@@ -42,9 +42,9 @@ impl<G: Genuine, N: FeedName> HubCell<G, N> {
         VenueId::new(place).unwrap_or_default()
     }
 
-    /// Journals the next item of the venue's lane, and gives its position; None where nothing was
-    /// inside. The venue is below the count. JournalFull and NoMemory come before an item is taken
-    /// out of the lane, and change nothing.
+    /// Journals the next item of the venue's lane, and returns its position; None where the lane
+    /// was empty. The venue is below the count. JournalFull and NoMemory come before an item is
+    /// taken out of the lane, and change nothing.
     pub fn consume<W: Wait>(&mut self, rt: &W, venue: VenueId) -> Result<Option<u64>, JournalFault>
         requires { venue < self.old.core.journal.venues }
         ensures consume { Consumes ⟦<VenueItems<G> as LaneRule<Numbered>>⟧.may_send venue result
@@ -55,8 +55,8 @@ impl<G: Genuine, N: FeedName> HubCell<G, N> {
         self.core.consume(rt, venue)
     }
 
-    /// Declares self-help on the venue, or withdraws it, and gives the entry's position. It is
-    /// refused as UnknownVenue, AlreadySo, JournalFull or NoMemory: the first of these that fits.
+    /// Declares self-help on the venue, or withdraws it, and returns the entry's position. It is
+    /// refused as UnknownVenue, AlreadySo, JournalFull or NoMemory: the first that fits.
     pub fn declare(&mut self, venue: VenueId, on: bool) -> Result<u64, JournalFault>
         ensures declares { Declares self.old.core.journal venue on result self.new.core.journal }
         ensures venues { self.old.core.journal.venues ≡ length N.lanes.venues }
@@ -66,8 +66,8 @@ impl<G: Genuine, N: FeedName> HubCell<G, N> {
         self.core.declare(venue, on)
     }
 
-    /// Adds a subscriber, to whom nothing was offered, and gives its id and the receiving end of its
-    /// lane. It is refused, with the filter, as TooManySubscribers where there are 32, else as
+    /// Adds a subscriber, to whom nothing was offered, and returns its id and the receiving end of
+    /// its lane. It is refused, with the filter, as TooManySubscribers where there are 32, else as
     /// NoMemory.
     pub(crate) fn subscribe(
         &mut self,
@@ -97,7 +97,7 @@ impl<G: Genuine, N: FeedName> HubCell<G, N> {
         }
     }
 
-    /// Pushes the next notice that the subscriber wants, and gives its number. The id is of this
+    /// Pushes the next notice that the subscriber wants, and returns its number. The id is of this
     /// feed.
     #[inline(always)]
     pub fn offer_one<W: Wait>(&mut self, rt: &W, id: SubscriberId) -> Result<u64, Unsent>

@@ -27,8 +27,8 @@ type HubParts<G> = (
 
 /// The journal, the receiving ends of the venues' lanes, and the sending ends of the subscribers'.
 ///
-/// Whenever it is let go, each venue's items in the entries are what its receiver popped, and what
-/// was sent to each subscriber is what it wants of the changes that were looked at for it
+/// Whenever the lock is free, each venue's items in the entries are what its receiver popped, and
+/// what was sent to each subscriber is what it wants of the changes that were looked at for it
 /// (`HubLockInvariant` in `specs/hub/Hubs.antt`). It holds no closure.
 #[derive(Drop)]
 pub struct JournalAndLanes<G: Genuine, N: FeedName> {
@@ -70,8 +70,8 @@ fn notice_at(notices: &[Notice], place: usize) -> Option<Notice>
 }
 
 impl<G: Genuine, N: FeedName> JournalAndLanes<G, N> {
-    /// A journal with the lanes of its venues, those of its subscribers, and those that are left for
-    /// further ones.
+    /// A journal with the lanes of its venues, those of its subscribers, and those that are left
+    /// for further ones.
     pub(crate) fn new(
         journal: Journal,
         receivers: Vec<Receiver<Numbered, VenueItems<G>>>,
@@ -100,7 +100,7 @@ impl<G: Genuine, N: FeedName> JournalAndLanes<G, N> {
         }
     }
 
-    /// What the lock kept, once it is gone.
+    /// Returns the parts that the lock guarded, once it is gone.
     pub(crate) fn into_parts(self) -> HubParts<G>
         ensures parts { (result.0 ≡ self.journal) × (result.1.items ≡ self.receivers)
             × (result.2.items ≡ self.senders) }
@@ -131,7 +131,7 @@ impl<G: Genuine, N: FeedName> JournalAndLanes<G, N> {
         self.to_subscribers.as_slice()
     }
 
-    /// How many venues there are.
+    /// The number of venues.
     pub(crate) fn venue_count(&self) -> usize
         ensures value { result ≡ self.now.journal.venues }
         ensures lanes { result ≡ length N.lanes.venues }
@@ -140,7 +140,7 @@ impl<G: Genuine, N: FeedName> JournalAndLanes<G, N> {
         self.from_venues.len()
     }
 
-    /// How many subscribers there are.
+    /// The number of subscribers.
     pub(crate) fn subscriber_count(&self) -> usize
         ensures { result ≡ length self.now.journal.cursors }
     {
@@ -154,7 +154,7 @@ impl<G: Genuine, N: FeedName> JournalAndLanes<G, N> {
         self.kept.has(id)
     }
 
-    /// How many items were in the venue's lane at a moment of the call.
+    /// Returns how many items were in the venue's lane at a moment of the call.
     pub(crate) fn waiting<W: Wait>(&mut self, rt: &W, venue: VenueId) -> usize
         requires { venue < self.old.journal.venues }
         ensures { self.new ≡ self.old }
@@ -185,7 +185,7 @@ impl<G: Genuine, N: FeedName> JournalAndLanes<G, N> {
         Ok(Some(self.kept.record(venue, numbered)))
     }
 
-    /// Declares self-help on the venue, or withdraws it, and gives the entry's position.
+    /// Declares self-help on the venue, or withdraws it, and returns the entry's position.
     pub(crate) fn declare(&mut self, venue: VenueId, on: bool) -> Result<u64, JournalFault>
         ensures declares { Declares self.old.journal venue on result self.new.journal }
         ensures venues { self.old.journal.venues ≡ length N.lanes.venues }
@@ -194,7 +194,7 @@ impl<G: Genuine, N: FeedName> JournalAndLanes<G, N> {
         self.kept.declare(venue, on)
     }
 
-    /// Adds a subscriber of these terms, and gives its id and the receiving end of its lane.
+    /// Adds a subscriber of these terms, and returns its id and the receiving end of its lane.
     pub(crate) fn subscribe(
         &mut self,
         terms: Terms,
@@ -219,7 +219,7 @@ impl<G: Genuine, N: FeedName> JournalAndLanes<G, N> {
         Ok((id, receiver))
     }
 
-    /// The place of the next notice that the subscriber wants, or the end.
+    /// The place of the next notice that the subscriber wants, or their number where there is none.
     pub(crate) fn next_place(&self, filter: Option<&Filter>, id: SubscriberId) -> usize
         requires { id < length self.now.journal.cursors }
         ensures next { IsNextOf self.now.journal id result }
@@ -229,7 +229,7 @@ impl<G: Genuine, N: FeedName> JournalAndLanes<G, N> {
         next_wanted(filter, self.kept.terms(id), self.kept.changes(), from)
     }
 
-    /// Pushes the next notice that the subscriber wants, which stands at the place.
+    /// Pushes the next notice that the subscriber wants, which is the one at the place.
     pub(crate) fn offer_at<W: Wait>(
         &mut self,
         rt: &W,

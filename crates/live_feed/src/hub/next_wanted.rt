@@ -7,8 +7,8 @@ ghost use Rattle.journal_book.specs.Places.{IsNextPlace};
 use feed_types::Notice;
 use filter_terms::{Filter, Terms};
 
-/// Whether the notice is wanted. The filter is asked; it answers as its terms do, of which these
-/// are a copy, and another answer, which no run meets, doesn't count.
+/// Whether the notice is wanted. The filter is asked; it answers as its terms do, of which `terms`
+/// is a copy, and another answer, which no run meets, doesn't count.
 fn is_wanted(filter: Option<&Filter>, terms: &Terms, notice: &Notice) -> bool
     ensures { result ≡ meets terms.now notice.now }
 {
@@ -22,7 +22,7 @@ fn is_wanted(filter: Option<&Filter>, terms: &Terms, notice: &Notice) -> bool
     }
 }
 
-/// The place of the first wanted notice from here on, or the end.
+/// The place of the first wanted notice from `from` on, or their number where there is none.
 pub(crate) fn next_wanted(
     filter: Option<&Filter>,
     terms: &Terms,

@@ -1,4 +1,4 @@
-//! A turn of the consolidator: what is done under its lock taken once.
+//! A turn of the consolidator: its work under its lock taken once.
 
 ghost use Rattle.std.specs.Prelude.{◌≡◌, ◌≤◌};
 
@@ -10,25 +10,25 @@ use feed_types::Genuine;
 use journal_book::JournalFault;
 use std::sync::Wait;
 
-/// How many items are journaled in one section at most, so that nobody waits long for the lock, nor
+/// The most items that are journaled in one section, so that nobody waits long for the lock, nor
 /// the notices of one item for many other items.
 const ITEMS_A_SECTION: u32 = 64;
 
-/// What `OpenFeed::consolidate` did.
+/// The work of one `OpenFeed::consolidate`.
 #[derive(Clone, Copy, Debug, PartialEq, Eq)]
 pub struct Consolidated {
-    /// How many items were journaled, of all venues.
+    /// The number of items that were journaled, of all venues.
     pub consumed: u32,
     /// By the venue's number, whether an item of it was journaled.
     pub venues: [bool; 16],
-    /// How many notices were offered, to all subscribers.
+    /// The number of notices that were offered, to all subscribers.
     pub offered: u64,
-    /// Why journaling was refused, if it was: JournalFull or NoMemory.
+    /// The refusal of journaling, if there was one: JournalFull or NoMemory.
     pub refused: Option<JournalFault>,
 }
 
 impl Consolidated {
-    /// Returns what a turn did that has done nothing yet.
+    /// Returns the work of a turn that has done nothing yet.
     pub(crate) fn nothing() -> Consolidated
         ensures { result.consumed ≡ 0 }
     {
@@ -42,7 +42,7 @@ impl Consolidated {
 }
 
 /// Journals what is in the venues' lanes, at most 64 items, up to the first refusal. It begins with
-/// the venue after the last one that the turn before came to, so that none of them waits for ever.
+/// the venue after the last one of the turn before, so that no venue waits for ever.
 fn consume_round<G: Genuine, N: FeedName, W: Wait>(rt: &W, hub: &mut HubCell<G, N>) -> Consolidated
     ensures most { result.consumed ≤ 64 }
 {

@@ -11,11 +11,11 @@ use feed_types::{Genuine, SubscriberId, VenueId};
 use journal_book::JournalFault;
 use std::sync::Wait;
 
-/// How many items of a venue the consolidator pushes in one section: a line that brings something
-/// waits no longer.
+/// The most items of a venue that the consolidator pushes in one section: a line that brings
+/// something waits no longer.
 const ITEMS_A_SECTION: u64 = 64;
 
-/// Returns the feed's venue of this number, if it has it.
+/// Returns the feed's venue of this number, if there is one.
 fn feed_venue<G: Genuine, N: FeedName>(feed: &OpenFeed<G, N>, place: u8) -> Option<VenueId> {
     if usize::from(place) >= feed.venues.len() {
         return None;
@@ -23,8 +23,8 @@ fn feed_venue<G: Genuine, N: FeedName>(feed: &OpenFeed<G, N>, place: u8) -> Opti
     VenueId::new(place)
 }
 
-/// Pushes what is ready of the venues, and returns whether anything was pushed: of each
-/// where `all` says so, else where something was left before and the lane has run empty.
+/// Pushes what is ready of the venues, and returns whether anything was pushed: of each venue where
+/// `all` is true, else of those where something was left before and the lane has run empty.
 fn flush_each<G: Genuine, N: FeedName, W: Wait>(
     rt: &W,
     feed: &OpenFeed<G, N>,
@@ -45,7 +45,7 @@ fn flush_each<G: Genuine, N: FeedName, W: Wait>(
     moved
 }
 
-/// Returns why the run stops where journaling was refused so.
+/// Returns why the run stops after this refusal of journaling.
 fn reason_of(fault: JournalFault) -> Stop {
     match fault {
         JournalFault::NoMemory => Stop::NoMemory,
@@ -68,8 +68,8 @@ fn offer_all<G: Genuine, N: FeedName, W: Wait>(rt: &W, feed: &OpenFeed<G, N>) ->
     offered
 }
 
-/// Takes a turn: journals and offers, or, where the run stops early, offers alone. Returns what that
-/// came to.
+/// Takes a turn: journals and offers, or, where the run stops early, only offers. Returns what the
+/// turn did.
 fn take_turn<G: Genuine, N: FeedName, W: Wait>(
     rt: &W,
     feed: &OpenFeed<G, N>,
@@ -100,7 +100,8 @@ fn is_room_wanted(signals: &Signals, bells: &Bells) -> bool {
 /// and nothing is left to do, and returns why the run stopped early, if journaling was the reason.
 /// Once the lines have ended, what is ready is pushed in any case.
 ///
-/// It sleeps after it has looked in vain for a while. The wait is announced before the last of these
+/// It sleeps after it has looked in vain for a while. The wait is announced before the last look,
+/// so whatever comes after that look ends the sleep.
 /// looks, so whatever comes after that look ends the sleep.
 pub(crate) fn consolidate<G: Genuine, N: FeedName, W: Wait>(
     rt: &W,

@@ -1,16 +1,16 @@
-//! How a thread waits that has nothing to do.
+//! The waits of a thread that has nothing to do.
 
 use crossbeam_utils::sync::Key;
 use std::sync::Wait;
 use std::{hint, thread};
 
-/// How often a thread looks for work, one look after the other, before it lets others run between.
+/// The number of looks for work, one after the other, before a thread lets others run between them.
 const LOOKS: u32 = 60;
 
-/// How many pauses lie between two looks at most.
+/// The most pauses between two looks.
 const MOST_PAUSES: u32 = 16;
 
-/// How often it looks before it sleeps.
+/// The number of looks before a thread sleeps.
 const LOOKS_AWAKE: u32 = 64;
 
 /// Returns whether a thread that has looked for work `looks` times sleeps next.

@@ -15,8 +15,8 @@ pub struct Line<G: Genuine, N, S: LineSource<G>> {
 }
 
 impl<G: Genuine, N, S: LineSource<G>> Line<G, N, S> {
-    /// A line of this seat and source. Both come back exactly where their venues differ, for which
-    /// the number 30 stands (WrongVenue).
+    /// Makes a line of this seat and source. Both are handed back exactly where their venues
+    /// differ, the fault WrongVenue of code 30.
     pub fn new(seat: LineSeat<G, N>, source: S) -> Result<Line<G, N, S>, (LineSeat<G, N>, S)>
         ensures line { IfOk result (λ line. (line.seat ≡ seat) × (line.source ≡ source)) }
         ensures back { IfErr result (λ back. (back.0 ≡ seat) × (back.1 ≡ source)) }
@@ -30,14 +30,14 @@ impl<G: Genuine, N, S: LineSource<G>> Line<G, N, S> {
     }
 }
 
-/// What became of a line in a run.
+/// A line that has ended in a run.
 #[derive(Drop)]
 pub struct LineEnd<G, N, S> {
     /// The line's seat, with what it brought.
     pub seat: LineSeat<G, N>,
     /// The line's source, after all calls.
     pub source: S,
-    /// How many datagrams were read. The count stays at 2^64 - 1 once it is there.
+    /// The number of datagrams that were read. The count stays at 2^64 - 1 once it is there.
     pub datagrams: u64,
     /// The fault of the source that ended the line, if one did.
     pub fault: Option<SourceFault>,

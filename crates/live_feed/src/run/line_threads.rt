@@ -18,7 +18,7 @@ use std::thread::{Scope, Threads};
 /// A line's thread, or the line where none could be started: it has read nothing.
 pub(crate) type LineThread<G, N, S> = ThreadOf<LineEnd<G, N, S>, LineOf<G, N, S>>;
 
-/// Starts a thread for a line. Where that can't be, the run stops early.
+/// Starts a thread for a line. Where none can be started, the run stops early.
 fn start_line<'s, E, G, N, S, R>(
     rt: &'s R,
     scope: &Scope<'s, E>,

@@ -28,7 +28,7 @@ impl<G: Genuine, N: FeedName, S: LineSource<G>> Promise<LineEnd<G, N, S>> for Li
         S.failures p.seat.value p.source.value r.seat r.source r.datagrams r.fault };
 }
 
-/// Has the source send the request for the venue's gap that is due, if any. Where no gap stands,
+/// Has the source send the request for the venue's gap that is due, if any. Where there is no gap,
 /// nothing is due, and the clock isn't read.
 fn request_due<G: Genuine, N: FeedName, S: LineSource<G>, W: Wait>(
     rt: &W,
@@ -53,8 +53,8 @@ fn request_due<G: Genuine, N: FeedName, S: LineSource<G>, W: Wait>(
     }
 }
 
-/// Reads the line's datagrams, and takes each and asks for what is lacking then, until the source
-/// ends or fails or the run stops early.
+/// Reads the line's datagrams, takes each and asks then for what is missing, until the source ends
+/// or fails or the run stops early.
 pub(crate) fn work_line<G: Genuine, N: FeedName, S: LineSource<G>, W: Wait>(
     rt: &W,
     venues: &VenueLocks<G, N>,

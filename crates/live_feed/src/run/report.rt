@@ -1,4 +1,4 @@
-//! What a run of a feed comes to.
+//! The report of a run of a feed.
 
 ghost use Rattle.std.specs.Prelude.{◌≡◌};
 ghost use Rattle.live_feed.specs.run.Runs.{stop_code};
@@ -12,8 +12,8 @@ use thiserror::Error;
 /// consumed.
 #[derive(Clone, Copy, Debug, PartialEq, Eq, Hash, Error)]
 pub enum Stop {
-    /// The journal has as many entries as configured. The run stops then, whether or not a next item
-    /// has come.
+    /// The journal has as many entries as configured. The run stops then, whether or not a next
+    /// item has come.
     #[error("the journal is full")]
     JournalFull,
     /// Memory for an entry and its notices was refused.
@@ -25,7 +25,7 @@ pub enum Stop {
 }
 
 impl Stop {
-    /// The number that stands for the reason: 12, 17 or 34.
+    /// The code of the reason: 12, 17 or 34.
     pub fn code(self) -> u8
         ensures { result ≡ stop_code self }
     {
@@ -37,8 +37,8 @@ impl Stop {
     }
 }
 
-/// What a run hands back: each line's seat and source and each subscriber, in the order given, and
-/// why it stopped early, if it did.
+/// The report of a run: each line's seat and source and each subscriber, in the order given, and
+/// why the run stopped early, if it did.
 #[derive(Drop)]
 pub struct RunReport<G, N: FeedName, S> {
     pub lines: Vec<LineEnd<G, N, S>>,

@@ -1,19 +1,19 @@
-//! What the threads of a run tell each other.
+//! The signals between the threads of a run.
 
 use feed_types::SubscriberId;
 use std::array;
 use std::sync::atomic::{AtomicBool, AtomicU64, Ordering};
 
-/// What the threads of a run tell each other.
+/// The signals between the threads of a run.
 #[derive(Drop)]
 pub(crate) struct Signals {
-    /// The run stops early.
+    /// Whether the run stops early.
     stop: AtomicBool,
-    /// A thread couldn't be started.
+    /// Whether a thread couldn't be started.
     no_thread: AtomicBool,
-    /// How many lines haven't ended.
+    /// The number of lines that haven't ended.
     lines_left: AtomicU64,
-    /// All that can be offered was offered.
+    /// Whether everything that can be offered was offered.
     offered: AtomicBool,
     /// By id, whether the subscriber's thread takes notices.
     polling: [AtomicBool; 32],
@@ -31,7 +31,7 @@ impl Signals {
         }
     }
 
-    /// The run stops early.
+    /// Stops the run early.
     pub(crate) fn stop(&self) {
         self.stop.store(true, Ordering::SeqCst);
     }
@@ -41,7 +41,7 @@ impl Signals {
         self.stop.load(Ordering::SeqCst)
     }
 
-    /// The run stops early, since a thread couldn't be started.
+    /// Stops the run early, since a thread couldn't be started.
     pub(crate) fn lack_thread(&self) {
         self.no_thread.store(true, Ordering::SeqCst);
         self.stop();
@@ -52,7 +52,7 @@ impl Signals {
         self.no_thread.load(Ordering::SeqCst)
     }
 
-    /// One line more has ended.
+    /// Counts one more line that has ended.
     pub(crate) fn end_line(&self) {
         self.lines_left.fetch_sub(1, Ordering::SeqCst);
     }
@@ -62,17 +62,17 @@ impl Signals {
         self.lines_left.load(Ordering::SeqCst) == 0
     }
 
-    /// All that can be offered was offered.
+    /// Notes that everything that can be offered was offered.
     pub(crate) fn end_offers(&self) {
         self.offered.store(true, Ordering::SeqCst);
     }
 
-    /// Whether all that can be offered was offered.
+    /// Whether everything that can be offered was offered.
     pub(crate) fn have_offers_ended(&self) -> bool {
         self.offered.load(Ordering::SeqCst)
     }
 
-    /// Whether the subscriber's thread takes notices, from now on.
+    /// Notes whether the subscriber's thread takes notices from now on.
     pub(crate) fn set_polling(&self, id: SubscriberId, polls: bool) {
         self.polling[id.index()].store(polls, Ordering::SeqCst);
     }

@@ -1,4 +1,4 @@
-//! Where a line's datagrams come from.
+//! The sources of lines' datagrams.
 //!
 //! A feed can't know what a device brings, so the trait speaks of a source by relations between its
 //! states, with laws.
@@ -12,7 +12,7 @@ use feed_types::{Genuine, VenueId};
 use mold_packet::Request;
 use thiserror::Error;
 
-/// Why a source gave no datagram, or sent no request.
+/// Why a source returned no datagram, or sent no request.
 #[derive(Clone, Copy, Debug, PartialEq, Eq, Hash, Error)]
 pub enum SourceFault {
     /// The device failed.
@@ -21,13 +21,13 @@ pub enum SourceFault {
     /// Memory for a datagram was refused.
     #[error("memory was refused")]
     NoMemory,
-    /// The device was asked as often as one call may, and each time it was broken off.
+    /// The device was asked as often as one call may ask it, and each time it was interrupted.
     #[error("the line's device was asked too many times")]
     TooManyTurns,
 }
 
 impl SourceFault {
-    /// The number that stands for the fault: 12, 28 or 33.
+    /// The code of the fault: 12, 28 or 33.
     pub fn code(self) -> u8
         ensures { result ≡ source_fault_code self }
     {
@@ -39,7 +39,7 @@ impl SourceFault {
     }
 }
 
-/// What brings a line's datagrams, and takes requests for those that were lost. A line's thread
+/// A source of a line's datagrams, which takes requests for those that were lost. A line's thread
 /// calls it under no lock, so each call may wait.
 pub trait LineSource<G: Genuine>: Drop {
     ghost use Rattle.std.specs.Prelude.{ℕ, List, [], ◌++◌};
@@ -47,22 +47,22 @@ pub trait LineSource<G: Genuine>: Drop {
     /// The number of the venue whose datagrams it brings.
     ghost venue_of: { Self → ℕ };
 
-    /// How many calls failed.
+    /// The number of calls that failed.
     ghost failures: { Self → ℕ };
 
-    /// Calls that bring the datagrams of these bytes, in order, make the one state of the other: it is
-    /// the same source, later on.
+    /// Calls that bring the datagrams of these bytes, in order, lead from the one state to the
+    /// other.
     ghost brings: { Self → List (List ℕ) → Self → Type 0 };
 
     /// The venue whose datagrams it brings.
     fn venue(&self) -> VenueId
         ensures { result ≡ venue_of self.now };
 
-    /// The next datagram, which is genuine at the source's venue; None at the end of the line.
+    /// Returns the next datagram, which is genuine at the source's venue; None at the end of the
+    /// line.
     ///
-    /// Device where the device failed, TooManyTurns where it was broken off as often as one call
-    /// may ask it: each is a failure. NoMemory where memory for the datagram was refused, which is
-    /// none.
+    /// Device where the device failed, TooManyTurns where it was interrupted as often as one call
+    /// may ask it: each is a failure. NoMemory, where memory for the datagram was refused, is none.
     fn next(&mut self) -> Result<Option<Datagram>, SourceFault>
         ensures venue { venue_of self.new ≡ venue_of self.old }
         ensures brings { brings self.old (brought_by result) self.new }
@@ -72,7 +72,8 @@ pub trait LineSource<G: Genuine>: Drop {
         ensures failed { IfErr result (λ fault. failures self.new
             ≡ failures_after (failures self.old) fault) };
 
-    /// The milliseconds of a clock that the source has, from any moment on. It needn't go on.
+    /// Returns the milliseconds of a clock that the source has, from any moment on. It needn't go
+    /// on.
     fn now_ms(&mut self) -> u64
         ensures venue { venue_of self.new ≡ venue_of self.old }
         ensures brings { brings self.old [] self.new }
@@ -87,10 +88,10 @@ pub trait LineSource<G: Genuine>: Drop {
         ensures failed { IfErr result (λ fault. failures self.new
             ≡ failures_after (failures self.old) fault) };
 
-    /// By no call it is what it was, and nothing is brought.
+    /// No calls leave the source as it was, and bring nothing.
     ghost brings_nothing: { (s : Self) → brings s [] s };
 
-    /// Calls after calls are calls, and bring what those bring and then what these do.
+    /// Calls after calls bring datagrams after datagrams.
     ghost brings_more: { (s t u : Self) (xs ys : List (List ℕ))
         → brings s xs t → brings t ys u → brings s (xs ++ ys) u };
 }

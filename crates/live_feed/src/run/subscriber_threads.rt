@@ -17,7 +17,7 @@ use std::thread::{Scope, Threads};
 /// A subscriber's thread, or its log where none could be started: it has taken nothing.
 pub(crate) type LogThread<N> = ThreadOf<SubscriberLog<N>, LogOf<N>>;
 
-/// Starts a thread for a subscriber. Where that can't be, the run stops early.
+/// Starts a thread for a subscriber. Where none can be started, the run stops early.
 fn start_subscriber<'s, E, N, R>(
     rt: &'s R,
     scope: &Scope<'s, E>,

@@ -12,7 +12,7 @@ use std::snapshot::Snapshot;
 use std::sync::{Mutex, Wait};
 use std::thread::Promise;
 
-/// The log that a subscriber's thread has. What the thread returns is that log, later on.
+/// The log that a subscriber's thread has. The thread returns the same log, later on.
 #[derive(Drop)]
 pub(crate) struct LogOf<N: FeedName> {
     pub(crate) log: Snapshot<SubscriberLog<N>>,
@@ -24,8 +24,8 @@ impl<N: FeedName> Promise<SubscriberLog<N>> for LogOf<N> {
     ghost kept_by = { λ p r. HasPolled p.log.value r };
 }
 
-/// Takes what comes to the subscriber, until all was offered and its lane is empty, or a poll is
-/// refused. Where no thread was started for it, nothing is taken. The strategy lies in a cell that
+/// Takes what is offered to the subscriber, until all was offered and its lane is empty, or a poll
+/// is refused. Where no thread was started for it, nothing is taken. The strategy is in a cell that
 /// no other thread opens.
 pub(crate) fn work_subscriber<N: FeedName, W: Wait>(
     rt: &W,

@@ -1,15 +1,15 @@
-//! The threads of a run, be they of lines or of subscribers.
+//! The threads of a run, both of lines and of subscribers.
 
 ghost use Rattle.std.specs.Prelude.{◌≡◌, ◌≤◌, [], MatchResult, vec_len, vec_capacity};
 ghost use Rattle.live_feed.specs.run.Runs.{Pairwise};
 
 use std::thread::{Promise, PromisedHandle, Threads};
 
-/// A thread that returns what `P` promises, or what it would have begun with where none could be
-/// started.
+/// A thread that returns what `P` promises, or where none could be started the value that it would
+/// have begun with.
 pub(crate) type ThreadOf<T, P> = Result<PromisedHandle<T, P>, T>;
 
-/// Waits for the thread, and returns what it returned.
+/// Waits for the thread, and returns its result.
 fn join_one<T: Drop, P: Promise<T>, R: Threads>(rt: &R, thread: ThreadOf<T, P>) -> T
     ensures { MatchResult thread
         (λ handle. P.kept_by handle.promise result)
@@ -21,8 +21,8 @@ fn join_one<T: Drop, P: Promise<T>, R: Threads>(rt: &R, thread: ThreadOf<T, P>) 
     }
 }
 
-/// Waits for each thread, in order, and returns what they returned, in the list `ends`, which is
-/// empty and has room for all.
+/// Waits for each thread, in order, and returns their results, in the list `ends`, which is empty
+/// and has room for all.
 #[tactic(auto, using(crate::proofs::RunMoves::pairwise_all))]
 pub(crate) fn join_each<T: Drop, P: Promise<T>, R: Threads>(
     rt: &R,

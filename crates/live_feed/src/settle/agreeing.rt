@@ -1,4 +1,4 @@
-//! Whether all is there that a feed is to be settled with.
+//! Whether everything is there with which a feed is to be settled.
 
 ghost use Rattle.std.specs.Prelude.{◌≡◌, ◌↔◌, true, IsTrue, map};
 ghost use Rattle.std.specs.List.{list_any};
@@ -64,7 +64,7 @@ fn agrees_on<G: Genuine, N: FeedName>(
     cell.wins(line) == tally.wins() && cell.accepted(line).are(tally.accepted())
 }
 
-/// Whether it is the cell of the venue of this number, and counts what the venue's seats show.
+/// Whether the cell is that of the venue of this number, and counts what the venue's seats show.
 fn agrees<G: Genuine, N: FeedName>(
     cell: &VenueCell<G, N>,
     place: usize,

@@ -1,4 +1,4 @@
-//! How all lanes of a feed are closed, one after the other.
+//! The closing of all lanes of a feed, one after the other.
 
 ghost use Rattle.std.specs.Prelude.{◌≡◌, ◌≤◌, length, map, vec_capacity};
 ghost use Rattle.live_feed.specs.settle.Zips.{Zip2, Zip3};

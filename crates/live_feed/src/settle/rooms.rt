@@ -122,7 +122,7 @@ fn subscriber_rooms(
     Ok(rooms)
 }
 
-/// Room for what is left of the venues and of the subscribers.
+/// Makes room for what is left of the venues and of the subscribers.
 pub(crate) fn feed_room<G: Genuine, N: FeedName>(
     alloc: Global,
     venues: &[Guarded<G, N>],

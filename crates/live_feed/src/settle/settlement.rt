@@ -1,4 +1,4 @@
-//! What a feed has come to.
+//! The settlement of a feed.
 
 ghost use Rattle.std.specs.Prelude.{◌≡◌, ◌<◌, length, IfSome, Some, slice_get};
 ghost use Rattle.line_arbiter.specs.Counts.{count_on};
@@ -13,8 +13,8 @@ use filter_terms::Terms;
 use journal_book::Journal;
 use std::marker::Model;
 
-/// What a feed has come to once its threads have returned: its journal, and what is left of each
-/// venue and each subscriber.
+/// A feed once its threads have returned: its journal, and what is left of each venue and each
+/// subscriber.
 ///
 /// A venue's items that were consumed, then those in its lane, then those that are ready are the
 /// streams of its sessions. The notices of a subscriber's log, then those in its lane, then those
@@ -62,14 +62,14 @@ impl Settlement {
         }
     }
 
-    /// How many venues there are.
+    /// The number of venues.
     pub fn venue_count(&self) -> usize
         ensures { result ≡ length self.now.venues }
     {
         self.venue_ends.len()
     }
 
-    /// How many subscribers there are.
+    /// The number of subscribers.
     pub fn subscriber_count(&self) -> usize
         ensures { result ≡ length self.now.subscribers }
     {
@@ -98,7 +98,7 @@ impl Settlement {
         self.venue_ends[venue.index()].consumed()
     }
 
-    /// The venue's items that still lay in its lane. The venue is below the number of venues.
+    /// The venue's items that were still in its lane. The venue is below the number of venues.
     pub fn in_lane(&self, venue: VenueId) -> &[Numbered]
         requires { venue < length self.now.venues }
         ensures { IfSome (slice_get self.now.venues venue) (λ v. result.now ≡ v.in_lane) }
@@ -115,7 +115,7 @@ impl Settlement {
         self.venue_ends[venue.index()].ready()
     }
 
-    /// How many numbers the venue's line brought first, over all sessions. The count stays at
+    /// The count of numbers that the venue's line brought first, over all sessions. It stays at
     /// 2^64 - 1 once it is there. The venue is below the number of venues.
     pub fn wins(&self, venue: VenueId, line: LineId) -> u64
         requires { venue < length self.now.venues }
@@ -125,8 +125,8 @@ impl Settlement {
     }
 
     /// Four sums modulo 2^64, of the line's packets answered Taken, Heartbeat, Ended and Ahead:
-    /// each adds up the numbers of these packets, of a packet of messages the last message's. The
-    /// venue is below the number of venues.
+    /// each adds up the numbers of the packets so answered, of a packet of messages the last
+    /// message's. The venue is below the number of venues.
     pub fn accepted(&self, venue: VenueId, line: LineId) -> [u64; 4]
         requires { venue < length self.now.venues }
         ensures { IfSome (slice_get self.now.venues venue)
@@ -143,7 +143,7 @@ impl Settlement {
         self.subscriber_ends[id.index()].log()
     }
 
-    /// The notices that still lay in the subscriber's lane. The id is below the number of
+    /// The notices that were still in the subscriber's lane. The id is below the number of
     /// subscribers.
     pub fn queued(&self, id: SubscriberId) -> &[Notice]
         requires { id < length self.now.subscribers }

@@ -6,7 +6,7 @@ use crate::subscriber::logged::Logged;
 use feed_types::Notice;
 use std::marker::Model;
 
-/// A subscriber's log, what still lay in its lane, and what it wants and wasn't offered.
+/// A subscriber's log, what was still in its lane, and what it wants and wasn't offered.
 #[derive(Drop)]
 pub(crate) struct SubscriberEnd {
     lines: Vec<Logged>,

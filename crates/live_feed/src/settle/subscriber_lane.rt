@@ -1,4 +1,4 @@
-//! How a subscriber's lane is closed.
+//! The closing of a subscriber's lane.
 
 ghost use Rattle.std.specs.Prelude.{◌≡◌, ◌≤◌, ◌<◌, ◌+◌, ◌++◌, ◌∷◌, [], drop, filter, length, vec_len, vec_capacity};
 ghost use Rattle.filter_terms.specs.Terms.{meets};
@@ -41,7 +41,7 @@ fn push_wanted(room: &mut Vec<Notice>, terms: &Terms, notice: &Notice)
     }
 }
 
-/// The notices from this place on that meet the terms, in order. There is room for all from there.
+/// The notices from `from` on that meet the terms, in order. There is room for all of them.
 fn wanted_past(terms: &Terms, notices: &[Notice], from: usize, mut room: Vec<Notice>) -> Vec<Notice>
     requires from { from ≤ length notices.now }
     requires room { (length room.items ≡ 0) × (length notices.now ≤ from + vec_capacity room) }
@@ -53,7 +53,7 @@ fn wanted_past(terms: &Terms, notices: &[Notice], from: usize, mut room: Vec<Not
     room
 }
 
-/// Closes a subscriber's lane, whose two ends these are. There is room for its lists.
+/// Closes the subscriber's lane, of which it takes both ends. There is room for its lists.
 pub(crate) fn settle_subscriber<N: FeedName, W: Wait>(
     rt: &W,
     journal: &Journal,

@@ -1,4 +1,4 @@
-//! What the seats of a line show, added up.
+//! The sums of what the seats of a line show.
 
 ghost use Rattle.std.specs.Prelude.{◌≡◌};
 ghost use Rattle.line_arbiter.specs.Streams.{is_same_line};
@@ -37,7 +37,7 @@ fn is_on(line: LineId, other: LineId) -> bool
     }
 }
 
-/// Whether it is a seat of the venue's line.
+/// Whether the seat is of the venue's line.
 pub(crate) fn is_of<G, N>(seat: &LineSeat<G, N>, venue: VenueId, line: LineId) -> bool
     ensures { result ≡ is_seat_of venue line seat.now }
 {
@@ -54,7 +54,7 @@ impl SeatTally {
         }
     }
 
-    /// One seat more, where it is of the venue's line.
+    /// Adds one more seat, where it is of the venue's line.
     fn add<G, N>(&mut self, seat: &LineSeat<G, N>, venue: VenueId, line: LineId)
         ensures { self.new ≡ tally_after venue line self.old seat.now }
     {
@@ -77,7 +77,7 @@ impl SeatTally {
     }
 }
 
-/// What the seats of the venue's line show, added up.
+/// Adds up what the seats of the venue's line show.
 pub(crate) fn seats_together<G, N>(
     seats: &[LineSeat<G, N>],
     venue: VenueId,

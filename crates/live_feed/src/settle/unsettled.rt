@@ -1,4 +1,4 @@
-//! What comes back where a feed isn't settled.
+//! Everything that is handed back where a feed isn't settled.
 
 use crate::faults::SettleFault;
 use crate::feed::open_feed::OpenFeed;

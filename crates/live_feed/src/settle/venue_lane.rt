@@ -1,4 +1,4 @@
-//! How a venue's lane is closed.
+//! The closing of a venue's lane.
 
 ghost use Rattle.std.specs.Prelude.{◌≡◌, ◌≤◌, ◌<◌, ◌+◌, ◌++◌, List, drop, length, vec_len, vec_capacity};
 ghost use Rattle.line_arbiter.specs.Packets.{Arrival};
@@ -37,7 +37,7 @@ pub(crate) fn drained<T: Drop, R: LaneRule<T>, W: Wait>(
     room
 }
 
-/// How many items of the venue the entry is, one or none.
+/// The number of the venue's items that the entry is, 1 or 0.
 fn count_item(venue: VenueId, entry: &Entry) -> usize
     ensures value { result ≡ length (item_by venue entry.now) }
     ensures few { result ≤ 1 }
@@ -48,7 +48,7 @@ fn count_item(venue: VenueId, entry: &Entry) -> usize
     }
 }
 
-/// How many of the entries are items of the venue.
+/// The number of entries that are items of the venue.
 pub(crate) fn count_items(entries: &[Entry], venue: VenueId) -> usize
     ensures { result ≡ length (items_in entries.now venue) }
 {
@@ -111,7 +111,7 @@ fn take_ready<G: Genuine>(lines: &mut Arbiter<G>, mut room: Vec<Numbered>) -> Ve
     room
 }
 
-/// Closes a venue's lane, whose two ends these are. There is room for its lists.
+/// Closes the venue's lane, of which it takes both ends. There is room for its lists.
 pub(crate) fn settle_venue<G: Genuine, N: FeedName, W: Wait>(
     rt: &W,
     entries: &[Entry],

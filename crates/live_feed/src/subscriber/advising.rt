@@ -1,4 +1,4 @@
-//! A strategy that is asked.
+//! The call of a strategy.
 
 ghost use Rattle.filter_terms.specs.Allowed.{IsAllowed};
 ghost use Rattle.filter_terms.specs.Advisers.{MayAdvise};
@@ -13,8 +13,8 @@ fn ask(adviser: &mut Adviser, notice: &Notice) -> Advice
     (adviser.advise)(notice)
 }
 
-/// What the strategy advises on the notice. It is what [`Strategy::advise`] gives, and stands here
-/// since a strategy that is lent can't be asked through another crate's call.
+/// Returns what the strategy advises on the notice, as [`Strategy::advise`] does. It is here since
+/// a strategy that is lent can't be asked through another crate's call.
 pub(crate) fn advise(strategy: &mut Strategy, notice: &Notice) -> Advice
     ensures allowed { IsAllowed strategy.old.limits notice.now result }
     ensures asked { Advises strategy.old notice.entry result strategy.new }

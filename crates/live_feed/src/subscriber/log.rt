@@ -1,4 +1,4 @@
-//! What a subscriber keeps beside its strategy.
+//! The part of a subscriber beside its strategy.
 
 ghost use Rattle.std.specs.Prelude.{◌≡◌, ◌<◌, [], ◌∷◌, ◌++◌, Some, slice_get, vec_len, vec_capacity};
 ghost use Rattle.filter_terms.specs.Allowed.{IsAllowed};
@@ -50,9 +50,9 @@ impl<N: FeedName> Model for SubscriberLog<N> {
     }) };
 }
 
-/// What the strategy advises, which is asked once, where its limits are these; for another one, which
-/// no subscriber has, it is to hold. It is shown a copy, so that the notice itself goes into the log
-/// as it was read.
+/// Returns what the strategy, which is asked once, advises where its limits are `bounds`; with
+/// other limits, which no subscriber has, it returns Hold. The strategy is shown a copy, so that
+/// the notice itself goes into the log as it was read.
 fn advised(strategy: &mut Strategy, bounds: Limits, notice: &Notice) -> Advice
     ensures allowed { IsAllowed bounds notice.now result }
     ensures asks { AsksOnce bounds notice.now result strategy.old strategy.new }
@@ -60,7 +60,7 @@ fn advised(strategy: &mut Strategy, bounds: Limits, notice: &Notice) -> Advice
     let same = strategy.limits == bounds;
     let shown = *notice;
     let advice = advise(strategy, &shown);
-    // No subscriber comes here with other limits than its strategy's: they are taken from it in
+    // No subscriber has other limits here than its strategy's: they are taken from it in
     // `subscribe`. That can't be said of a type that holds a closure beside a feed's name, so it is
     // looked at, and what isn't known to be allowed doesn't count.
     if same { advice } else { Advice::Hold }
@@ -77,7 +77,7 @@ fn push_line(lines: &mut Vec<Logged>, notice: &Notice, advice: &Advice)
     lines.push_reserved(Logged { notice, advice });
 }
 
-/// Asks for advice on the notice and logs it. There is room for a line.
+/// Asks for advice on the notice, and logs it. There is room for a line.
 fn log_line(
     lines: &mut Vec<Logged>,
     strategy: &mut Strategy,
@@ -122,7 +122,7 @@ impl<N: FeedName> SubscriberLog<N> {
         }
     }
 
-    /// The log, and the receiving end of the lane.
+    /// Returns the log, and the receiving end of the lane.
     pub(crate) fn into_parts(self) -> (Vec<Logged>, Receiver<Notice, RisingNotices>)
         ensures parts { (result.0.items ≡ self.lines) × (result.1 ≡ self.lane) }
         ensures log { SubscriberLogInvariant N.lanes self }

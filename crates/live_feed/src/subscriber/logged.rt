@@ -1,4 +1,4 @@
-//! What a subscriber's log holds.
+//! The lines of a subscriber's log.
 
 ghost use Rattle.std.specs.Prelude.{◌≡◌};
 ghost use Rattle.live_feed.specs.Codes.{poll_fault_code};
@@ -14,7 +14,7 @@ pub struct Logged {
     pub advice: Advice,
 }
 
-/// Why a subscriber took no notice. Its log and its lane are as they were.
+/// Why a subscriber took no notice. Its log and its lane are unchanged.
 #[derive(Clone, Copy, Debug, PartialEq, Eq, Hash, Error)]
 pub enum PollFault {
     /// The log has as many lines as configured.
@@ -26,7 +26,7 @@ pub enum PollFault {
 }
 
 impl PollFault {
-    /// The number that stands for the fault, 12 or 23.
+    /// The code of the fault: 12 or 23.
     pub fn code(self) -> u8
         ensures { result ≡ poll_fault_code self }
     {

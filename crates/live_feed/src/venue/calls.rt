@@ -1,4 +1,4 @@
-//! The calls of a feed that take a venue's lock alone.
+//! The calls of a feed that take only a venue's lock.
 
 ghost use Rattle.std.specs.Prelude.{◌≡◌, ◌≤◌, ◌+◌, ◌↔◌, length, IsErrOf};
 ghost use Rattle.line_arbiter.specs.Genuine.{IsGenuine};
@@ -65,8 +65,8 @@ fn take_in<G: Genuine, N: FeedName, W: Wait>(
 }
 
 impl<G: Genuine, N: FeedName> VenueLocks<G, N> {
-    /// Takes a datagram as `OpenFeed::take` does, and says in `gap` whether a gap stands then, all
-    /// under the venue's lock taken once. After a datagram that is no packet it says that one does.
+    /// Takes a datagram as `OpenFeed::take` does, and stores in `gap` whether there is a gap then,
+    /// all under the venue's lock taken once. After a datagram that is no packet it stores true.
     pub(crate) fn take_and_look<W: Wait>(
         &self,
         rt: &W,
@@ -95,7 +95,7 @@ impl<G: Genuine, N: FeedName> VenueLocks<G, N> {
     }
 
     /// Takes a packet that was read, under the lock of the seat's venue, pushes what is ready, and
-    /// says whether a gap stands then.
+    /// stores in `gap` whether there is a gap then.
     fn take_packet<W: Wait>(
         &self,
         rt: &W,
@@ -125,9 +125,9 @@ impl<G: Genuine, N: FeedName> VenueLocks<G, N> {
         answer
     }
 
-    /// Pushes what is ready of the venue, at most `most` items, until nothing is or the lane is full,
-    /// and returns how many items were pushed. Where something may be ready still, the venue is held
-    /// back.
+    /// Pushes what is ready of the venue, at most `most` items, until nothing is or the lane is
+    /// full, and returns how many items were pushed. Where something may be ready still, the venue
+    /// is held back.
     pub(crate) fn flush_some<W: Wait>(
         &self,
         rt: &W,
@@ -152,7 +152,7 @@ impl<G: Genuine, N: FeedName> VenueLocks<G, N> {
         Ok(pushed)
     }
 
-    /// The request for the venue's gap to send now, if any.
+    /// Returns the request for the venue's gap to send now, if any.
     pub(crate) fn due<W: Wait>(
         &self,
         rt: &W,

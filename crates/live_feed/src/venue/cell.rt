@@ -1,4 +1,4 @@
-//! What stands behind a venue's lock.
+//! The part of a venue that its lock guards.
 
 ghost use Rattle.std.specs.Prelude.{◌≡◌, ◌≤◌, ◌+◌, [], ◌∷◌, Some, Ok, OnOk, OnErr, IfOk, IfSome, IfNone, length, map, slice_get};
 ghost use Rattle.feed_types.specs.declared.item.Numbered.{Numbered};
@@ -28,13 +28,13 @@ use quote_payload::read_item;
 use std::marker::{Model, PhantomData};
 use std::sync::Wait;
 
-/// How long it takes until the same gap is asked for again, in milliseconds.
+/// The time in milliseconds until the same gap is asked for again.
 const REQUEST_INTERVAL_MS: u64 = 250;
 
 /// A venue's arbiter with the sending end of its lane.
 ///
-/// Whenever it is let go there are packets that the venue was given, session by session, for which
-/// it stands (`VenueLockInvariant` in `specs/venue/Cells.antt`).
+/// Whenever the lock is free there are packets that the venue was given, session by session, which
+/// the cell represents (`VenueLockInvariant` in `specs/venue/Cells.antt`).
 #[derive(Drop)]
 pub struct VenueCell<G: Genuine, N: FeedName> {
     items: Sender<Numbered, VenueItems<G>>,
@@ -64,7 +64,7 @@ impl<G: Genuine, N: FeedName> Model for VenueCell<G, N> {
     }) };
 }
 
-/// The item of the packet's message, where it has one and no more.
+/// The item of the packet's message, where it has exactly one.
 fn only_item(packet: &Packet<'_>) -> Option<Numbered>
     ensures item { IfSome result (λ next.
         next ∷ [] ≡ numbered_from packet.now.number (map item_of packet.now.messages)) }
@@ -107,7 +107,7 @@ impl<G: Genuine, N: FeedName> VenueCell<G, N> {
         self.lines.venue()
     }
 
-    /// Which of the venue's sessions the present one is, counted from 1 to 64.
+    /// The number of the venue's present session, counted from 1 to 64.
     pub fn ordinal(&self) -> u64
         ensures value { result ≡ ordinal_of self.now.arbiter }
         ensures range { (1 ≤ result) × (result ≤ 64) }
@@ -115,14 +115,14 @@ impl<G: Genuine, N: FeedName> VenueCell<G, N> {
         self.lines.ordinal()
     }
 
-    /// How many items the lane has room for.
+    /// The number of items for which the lane has room.
     pub(crate) fn capacity(&self) -> usize
         ensures { result ≡ self.now.lane.capacity }
     {
         self.items.capacity()
     }
 
-    /// How many numbers the line brought first.
+    /// The count of numbers that the line brought first.
     pub(crate) fn wins(&self, line: LineId) -> u64
         ensures { result ≡ count_on line self.now.arbiter.wins }
     {
@@ -136,7 +136,8 @@ impl<G: Genuine, N: FeedName> VenueCell<G, N> {
         self.sums.on(line)
     }
 
-    /// Room enough for what is ready, the items up to the front and End; None past a `usize`.
+    /// The room that is enough for what is ready, the items up to the front and End; None past a
+    /// `usize`.
     pub(crate) fn most_ready(&self) -> Option<usize>
         ensures { IfSome result (λ most.
             self.now.arbiter.front + 1 ≤ self.now.arbiter.sent + most) }
@@ -146,7 +147,7 @@ impl<G: Genuine, N: FeedName> VenueCell<G, N> {
         messages.checked_add(1)
     }
 
-    /// What the lock kept, once it is gone.
+    /// Returns the parts that the lock guarded, once it is gone.
     pub(crate) fn into_parts(self) -> (Arbiter<G>, Sender<Numbered, VenueItems<G>>, VenueSums)
         ensures parts { (result.0 ≡ self.arbiter) × (result.1 ≡ self.lane)
             × (result.2 ≡ self.accepted) }
@@ -162,8 +163,8 @@ impl<G: Genuine, N: FeedName> VenueCell<G, N> {
         (lines, items, sums)
     }
 
-    /// Takes a packet that came on a line of this venue, and answers what became of it. A packet of
-    /// the present session has to be genuine. A refused packet changes nothing.
+    /// Takes a packet that came on a line of this venue, and returns its outcome. A packet of the
+    /// present session has to be genuine. A refused packet changes nothing.
     pub fn take(
         &mut self,
         seat: &mut LineSeat<G, N>,
@@ -198,8 +199,8 @@ impl<G: Genuine, N: FeedName> VenueCell<G, N> {
     }
 
     /// Takes a packet of one message, which is the next one where nothing is held, and pushes its
-    /// item, which needn't be held first: what `take` and then `push_one` do. `None` for any other
-    /// packet, and where the lane is full; then nothing has changed, and `take` takes it.
+    /// item, which needn't be held first: it does what `take` and then `push_one` do. `None` for
+    /// any other packet, and where the lane is full; then nothing has changed, and `take` takes it.
     pub fn take_and_push<W: Wait>(
         &mut self,
         rt: &W,
@@ -277,13 +278,13 @@ impl<G: Genuine, N: FeedName> VenueCell<G, N> {
         }
     }
 
-    /// Whether messages are missing: it is known that the session goes past the front.
+    /// Whether messages are missing: the session is known to go past the front.
     pub(crate) fn has_gap(&self) -> bool {
         let status = self.lines.status();
         status.front < status.known
     }
 
-    /// The request for the gap to send now, if any: see [`Pacer::due`].
+    /// Returns the request for the gap to send now, if any: see [`Pacer::due`].
     pub fn due(&mut self, now_ms: u64) -> Option<Request>
         ensures due { (h : History) → FitsCell self.old h
             → IsPaced self.old.pace (gap_of self.old.arbiter.session self.old.arbiter.window

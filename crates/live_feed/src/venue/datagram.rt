@@ -18,7 +18,7 @@ impl Datagram {
         Datagram { all: bytes }
     }
 
-    /// Its bytes.
+    /// The datagram's bytes.
     pub fn bytes(&self) -> &[u8]
         ensures { result.now ≡ bytes_of self.now }
     {

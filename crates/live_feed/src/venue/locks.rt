@@ -1,4 +1,4 @@
-//! The venues of a feed behind their locks.
+//! The venues of a feed, guarded by their locks.
 
 ghost use Rattle.std.specs.Prelude.{◌≡◌, ◌<◌, ◌↔◌, length, IsSome};
 
@@ -13,15 +13,16 @@ use std::sync::atomic::{AtomicBool, Ordering};
 use std::sync::{Arc, Mutex, MutexGuard, Wait};
 use std::{array, hint};
 
-/// How often a lock that another thread holds is tried before its thread sleeps for it.
+/// The number of tries at a lock that another thread holds, before the thread sleeps for it.
 const TRIES: u32 = 40;
 
-/// How many pauses lie between two tries at most: longer than a section takes.
+/// The most pauses between two tries: longer than a section takes.
 const MOST_PAUSES: u32 = 64;
 
-/// Locks it. A thread that finds it held tries again for a while, each time after twice as long a
-/// pause: a section is short, and one that sleeps has to be woken by a system call. Meanwhile the
-/// other thread, whose caches have what the lock guards, takes what else came on its line.
+/// Takes the lock. A thread that finds it held tries again for a while, each time after twice as
+/// long a pause: a section is short, and one that sleeps has to be woken by a system call.
+/// Meanwhile the other thread, whose caches have what the lock guards, takes what else came on its
+/// line.
 pub(crate) fn enter<'l, T, W: Wait>(rt: &W, lock: &'l Mutex<T>) -> MutexGuard<'l, T> {
     let mut pauses: u32 = 16;
     for _ in 0..TRIES {
@@ -36,11 +37,11 @@ pub(crate) fn enter<'l, T, W: Wait>(rt: &W, lock: &'l Mutex<T>) -> MutexGuard<'l
     lock.lock(rt)
 }
 
-/// A venue behind its lock, on cache lines of its own.
+/// A venue guarded by its lock, on cache lines of its own.
 pub(crate) type VenueLock<G, N> = CachePadded<Mutex<Guarded<G, N>>>;
 
-/// The venues behind their locks, in order. There are as many as the feed has lanes for. Contracts
-/// see how many.
+/// The venues guarded by their locks, in order. There are as many as the feed has lanes for.
+/// Contracts see how many.
 #[derive(Drop)]
 pub struct VenueLocks<G: Genuine, N: FeedName> {
     locks: Vec<VenueLock<G, N>>,
@@ -71,7 +72,7 @@ impl<G: Genuine, N: FeedName> VenueLocks<G, N> {
         }
     }
 
-    /// Where the threads of the feed sleep.
+    /// The places where the threads of the feed sleep.
     pub(crate) fn bells(&self) -> &Bells {
         &self.bells
     }
@@ -86,21 +87,21 @@ impl<G: Genuine, N: FeedName> VenueLocks<G, N> {
         self.held_back[venue.index()].load(Ordering::SeqCst)
     }
 
-    /// Says whether something may be ready at the venue that wasn't pushed.
+    /// Notes whether something may be ready at the venue that wasn't pushed.
     pub(crate) fn set_held_back(&self, venue: VenueId, is_held_back: bool) {
         if self.is_held_back(venue) != is_held_back {
             self.held_back[venue.index()].store(is_held_back, Ordering::SeqCst);
         }
     }
 
-    /// How many venues there are.
+    /// The number of venues.
     pub(crate) fn len(&self) -> usize
         ensures { result ≡ length N.lanes.venues }
     {
         self.locks.len()
     }
 
-    /// The venue's lock, where there is such a venue.
+    /// The venue's lock, if there is such a venue.
     pub(crate) fn get(&self, venue: VenueId) -> Option<&Mutex<Guarded<G, N>>>
         ensures { IsSome result ↔ (venue < length N.lanes.venues) }
     {

@@ -62,7 +62,7 @@ impl<G, N> LineSeat<G, N> {
         self.seat_line
     }
 
-    /// How many numbers came first by this seat. The count stays at 2^64 - 1 once it is there.
+    /// The count of numbers that came first by this seat. It stays at 2^64 - 1 once it is there.
     pub fn wins(&self) -> u64
         ensures { result ≡ self.now.wins }
     {
@@ -70,21 +70,21 @@ impl<G, N> LineSeat<G, N> {
     }
 
     /// Four sums modulo 2^64, of the packets answered Taken, Heartbeat, Ended and Ahead: each adds
-    /// up the numbers of these packets, of a packet of messages the last message's.
+    /// up the numbers of the packets so answered, of a packet of messages the last message's.
     pub fn accepted(&self) -> [u64; 4]
         ensures { result ≡ sums_list self.now.accepted }
     {
         self.sums.all()
     }
 
-    /// The sums of its accepted packets.
+    /// The sums of the seat's accepted packets.
     pub(crate) fn sums(&self) -> PacketSums
         ensures { result ≡ self.now.accepted }
     {
         self.sums
     }
 
-    /// One packet more, with its outcome.
+    /// Counts one more packet, with its outcome.
     pub(crate) fn count(&mut self, packet: &Packet<'_>, outcome: Outcome)
         ensures { self.new ≡ seat_after self.old packet.now (Ok outcome) }
     {

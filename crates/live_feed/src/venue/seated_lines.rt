@@ -1,4 +1,4 @@
-//! Which lines of a venue have their seats.
+//! The lines of a venue that have their seats.
 
 ghost use Rattle.std.specs.Prelude.{◌≡◌};
 ghost use Rattle.live_feed.specs.venue.Seats.{GivesSeat, has_seat, no_seats};
@@ -24,7 +24,7 @@ impl Model for SeatedLines {
 }
 
 impl SeatedLines {
-    /// No line has its seat.
+    /// No line has its seat yet.
     pub(crate) fn none() -> SeatedLines
         ensures { result ≡ no_seats }
     {
@@ -46,7 +46,8 @@ impl SeatedLines {
         }
     }
 
-    /// Marks that the line has its seat: SeatTaken where it has it already. No other line is marked.
+    /// Marks that the line has its seat: SeatTaken where it has it already. No other line is
+    /// marked.
     pub(crate) fn give(&mut self, line: LineId) -> Result<(), FeedFault>
         ensures { GivesSeat line result self.old self.new }
     {

@@ -8,8 +8,8 @@ use line_arbiter::Outcome;
 use mold_packet::Packet;
 use std::marker::Model;
 
-/// For each outcome the numbers of the packets so answered, of messages the last, added up modulo
-/// 2^64.
+/// For each outcome the numbers of the packets so answered, of a packet of messages the last, added
+/// up modulo 2^64.
 #[derive(Clone, Copy, Debug)]
 pub(crate) struct PacketSums {
     of_taken: u64,
@@ -50,7 +50,7 @@ impl PacketSums {
         }
     }
 
-    /// One packet more, with its outcome.
+    /// Adds one more packet, with its outcome.
     #[inline(always)]
     pub(crate) fn add(&mut self, packet: &Packet<'_>, outcome: Outcome)
         ensures { self.new ≡ sums_after self.old packet.now (Ok outcome) }
@@ -65,7 +65,7 @@ impl PacketSums {
         }
     }
 
-    /// These sums and the others, added up.
+    /// Returns these sums and the others, added up.
     pub(crate) fn together(self, others: PacketSums) -> PacketSums
         ensures { result ≡ sums_together self others }
     {
@@ -77,7 +77,7 @@ impl PacketSums {
         }
     }
 
-    /// Whether these sums are the others.
+    /// Whether these sums equal the others.
     pub(crate) fn are(self, others: PacketSums) -> bool
         ensures { IsTrue result → self ≡ others }
     {
@@ -129,7 +129,7 @@ impl VenueSums {
         }
     }
 
-    /// One packet more on the line, with its outcome.
+    /// Adds one more packet on the line, with its outcome.
     #[inline(always)]
     pub(crate) fn add(&mut self, line: LineId, packet: &Packet<'_>, outcome: Outcome)
         ensures { self.new ≡ line_sums_after line packet.now (Ok outcome) self.old }
