@@ -1,4 +1,4 @@
--- A genuine packet that was answered as it should be is a genuine arrival.
+-- A genuine packet that was answered by the definitions is a genuine arrival.
 use Rattle.std.proofs.Common.{◌≡◌, ℕ, true, List, [], ◌∷◌, ◌++◌, Result, Ok, Err, refl, inl, inr}
 use Rattle.std.specs.Prelude.{IsOk}
 use Rattle.std.specs.List.{AllByRecursion}

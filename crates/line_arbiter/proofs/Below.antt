@@ -1,4 +1,4 @@
--- What was taken lies below the announced end, whatever came: a law of the answers alone.
+-- What was taken is below the announced end, whatever came: a law of the answers alone.
 use Rattle.std.proofs.Common.{◌≡◌, ℕ, ◌+◌, ◌<◌, ◌≤◌, Bool, true, false, List, [], ◌∷◌, ◌++◌, length, Option, Some, None, Result, Ok, Err, refl, sym, ap, subst, ◌∙◌, arith, inl, inr, append_assoc, append-nil}
 use Rattle.std.specs.Prelude.{IsSome, ◌⊎◌, if◌then◌else◌}
 use Rattle.std.specs.Option.{option_or}
@@ -98,7 +98,7 @@ below_past packets b e is = elim (cases_lt 0 (front_of packets)) [
   | inr none ↦ let least = b.least e is in omega arith
 ]
 
--- one more packet that was answered as it should be
+-- one more packet that was answered by the definitions
 pub answered_more : (session : List ℕ) (window : ℕ) (packets : List Arrival) (a : Arrival) → AreAnswered session window packets → IsAnswered session window packets a → AreAnswered session window (packets ++ a ∷ [])
 answered_more session window packets a all one = after [] packets all one
   where
@@ -106,7 +106,7 @@ answered_more session window packets a all one = after [] packets all one
     after before [] all one = (subst (λ (xs : List Arrival). IsAnswered session window xs a) (append-nil before) one, tt)
     after before (b ∷ rest) all one = (all.0, after (before ++ b ∷ []) rest all.1 (subst (λ (xs : List Arrival). IsAnswered session window xs a) (sym (append_assoc before (b ∷ []) rest)) one))
 
--- what was taken of packets that were answered as they should be lies below the announced end
+-- what was taken of packets that were answered by the definitions is below the announced end
 pub below_of : (session : List ℕ) (window : ℕ) (packets : List Arrival) → AreAnswered session window packets → IsBelow packets
 below_of session window packets all = after [] packets below_none all
   where

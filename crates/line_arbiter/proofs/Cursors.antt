@@ -1,4 +1,4 @@
--- Where the last item sent stands, and what is held past it.
+-- The place of the last item sent, and what is held past it.
 use Rattle.std.proofs.Common.{◌≡◌, ℕ, ◌+◌, ◌<◌, ◌≤◌, Bool, true, false, List, [], ◌∷◌, length, map, Option, Some, None, refl, sym, ap, ◌∙◌, arith, inl, inr, ◌-◌}
 use Rattle.std.specs.Prelude.{nat_le, ◌==◌, if◌then◌else◌, fold, max, ◌⊎◌}
 use Rattle.std.specs.List.{range_with_len}
@@ -27,7 +27,7 @@ most_if : {X : Type 0} (b : Bool) (x : X) → length (if b then x ∷ [] else []
 most_if true x = omega arith
 most_if false x = omega arith
 
--- End takes one place at most, and then stands at its number
+-- End takes one place at most, and then is at its number
 pub end_len : (o : Option ℕ) (m : ℕ) → 0 < length (end_at o m) → o ≡ Some m
 end_len None m h = absurd (omega arith)
 end_len (Some e) m h = ap (λ (k : ℕ). Some k) (eqb-true e m (some_if (e == m) (record { number = m; item = items.End }) h))

@@ -40,7 +40,7 @@ fits_new new fits = record {
   earlier = λ line. ap (count_on line) new.earlier ∙ no_wins line;
 }
 
--- ---- one packet more
+-- ---- one more packet
 
 pub fits_packet : {old new : State} (h : History) (a : Arrival) → FitsHistory old h → KeepsItsSession old new → Fits new (h.present.packets ++ a ∷ []) → FitsHistory new (after_arrival h a)
 fits_packet h a f kept fits = record {

@@ -1,4 +1,4 @@
--- How far the session is whole.
+-- The front: how far the session is whole.
 use Rattle.std.proofs.Common.{◌≡◌, ℕ, ◌+◌, ◌-◌, ◌<◌, ◌≤◌, Bool, true, false, cond, List, [], ◌∷◌, get_or, Option, Some, None, refl, sym, ap, subst, ◌∙◌, arith, inl, inr}
 use Rattle.std.specs.Prelude.{IsSome, is_some, fold, max, ◌&&◌, if◌then◌else◌}
 use Rattle.std.specs.List.{find, range_with_len}

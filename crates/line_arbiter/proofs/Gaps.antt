@@ -1,4 +1,4 @@
--- How many messages are missing at the front.
+-- The number of messages that are missing at the front.
 use Rattle.std.proofs.Common.{◌≡◌, ℕ, ◌+◌, ◌-◌, ◌<◌, ◌≤◌, Bool, true, false, List, Option, Some, None, sym, ap, ◌∙◌, arith, inl, inr}
 use Rattle.std.specs.Prelude.{◌⊎◌, IsSome, is_none, max, min, ◌==◌, if◌then◌else◌}
 use Rattle.std.specs.List.{range_with_len, prefix_len}
@@ -50,8 +50,8 @@ missing_count-held s packets n fits none within stop =
           ap (λ (m : ℕ). is_none (carried packets m)) (sym next) ∙ ap (λ (o : Option Item). is_none o) (sym (held_is s packets (stands_of fits) (s.front + n + 1) (omega arith))) ∙ some_not_none (held_at (held_of s) (s.front + n + 1)) found
     ])
 
--- so many numbers past the front hold nothing, up to the end of the window, the last that is known, or the first that
--- holds an item
+-- the numbers past the front hold nothing, up to the end of the window, the last that is known, or
+-- the first that holds an item
 pub record IsMissing (s : State) (n : ℕ) : Type 0 where
   pub free : (m : ℕ) → s.front < m → m ≤ s.front + n → held_at (held_of s) m ≡ None
   pub within : s.front + n ≤ max s.front s.known

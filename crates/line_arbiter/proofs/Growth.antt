@@ -40,7 +40,7 @@ unheard : (k : ℕ) (o : Option ℕ) → raised k o 0 ≡ k
 unheard k None = omega arith
 unheard k (Some e) = refl
 
--- a refused packet leaves the state, and stands in the list
+-- a refused packet leaves the state, and is added to the list
 pub fits_refused : (s new : State) (packets : List Arrival) (line : LineId) (p : Content) (e : LineFault) → new ≡ s → Stands s packets → Stands new (packets ++ record { line = line; packet = p; answer = Err e } ∷ [])
 fits_refused s new packets line p e same fits =
     let F : State → Type 0 = λ x. Stands x (packets ++ record { line = line; packet = p; answer = Err e } ∷ []) in

@@ -1,4 +1,4 @@
--- A venue's history with one packet more, and with one session more.
+-- A venue's history with one more packet, and with one more session.
 use Rattle.std.proofs.Common.{◌≡◌, ℕ, ◌+◌, List, [], ◌∷◌, ◌++◌, length, map, refl, ap, ◌∙◌, arith, append-nil}
 use Rattle.std.proofs.lemmas.List.{map-append}
 use Rattle.std.proofs.lemmas.Grind.{flat_map-append}
@@ -9,7 +9,7 @@ use Rattle.line_arbiter.specs.Packets.{Arrival}
 use Rattle.line_arbiter.specs.Streams.{stream_of, wins_of}
 use Rattle.line_arbiter.specs.Histories.{Begun, History, all_begun, after_arrival, after_renewal, items_of, names_of, new_session, wins_in}
 
--- the names of sessions, whatever came of the last one
+-- the names of sessions, whatever is added to the last one
 names_push : (bs : List Begun) (b c : Begun) → b.name ≡ c.name → map (λ (x : Begun). x.name) (bs ++ b ∷ []) ≡ map (λ (x : Begun). x.name) (bs ++ c ∷ [])
 names_push [] b c e = ap (λ (n : List ℕ). n ∷ []) e
 names_push (a ∷ bs) b c e = ap (λ (l : List (List ℕ)). a.name ∷ l) (names_push bs b c e)

@@ -34,7 +34,7 @@ numbered_take item (x ∷ all) a (suc n) h =
     push : (m : ℕ) (x y : Item) (xs ys : List Numbered) → x ≡ y → xs ≡ ys → record { number = m; item = x } ∷ xs ≡ record { number = m; item = y } ∷ ys
     push m x y xs ys h k = cc
 
--- End stands where the whole session is in front of it
+-- End is there where the whole session is in front of it
 end_is_last : (end : Option ℕ) (front len : ℕ) → ((e : ℕ) → end ≡ Some e → e ≡ len + 1) → end_at end (front + 1) ≡ (if is_some end && (front == len) then record { number = front + 1; item = items.End } ∷ [] else [])
 end_is_last None front len h = refl
 end_is_last (Some e) front len h =

@@ -54,7 +54,7 @@ range_split a (suc n) k =
     let f : a + 1 + n ≡ a + suc n = omega arith in
     rw e (ap (λ (xs : List ℕ). a ∷ xs) (range_split (a + 1) n k ∙ ap (λ (b : ℕ). range_with_len (a + 1) n ++ range_with_len b k) f))
 
--- numbers that stand for a packet's messages, one after the other
+-- numbers for a packet's messages, one after the other
 numbered_is : (f : ℕ → Numbered) (a : ℕ) (ms : List (List ℕ)) → ((k : ℕ) → k < length ms → f (a + k) ≡ record { number = a + k; item = item_of (slice_index_or ms k []) }) → map f (range_with_len a (length ms)) ≡ numbered_from a (map item_of ms)
 numbered_is f a [] h = refl
 numbered_is f a (x ∷ xs) h =
@@ -128,7 +128,7 @@ module _ (line : LineId) (old : State) (p : Content) (packets : List Arrival) (c
       ap (λ (x : Option Item). record { number = p.number + k; item = unwrap_or x items.Other }) (carried_in (p.number + k) (omega arith) (omega arith))
       ∙ ap (λ (j : ℕ). record { number = p.number + k; item = message_item p j }) e
 
-  -- what is sent with it, and what is ready behind it
+  -- what is sent with it, and what is ready after it
   pub passing_items : drop old.sent (stream_of (packets ++ a ∷ [])) ≡ numbered_from p.number (map item_of p.messages) ++ drop (last_number p) (stream_of (packets ++ a ∷ []))
   passing_items =
       let Q = packets ++ a ∷ [] in
@@ -152,7 +152,7 @@ module _ (line : LineId) (old : State) (p : Content) (packets : List Arrival) (c
       ∙ ap (λ (xs : List Numbered). xs ++ E) (numbered_is (item_numbered Q) p.number p.messages numbered_in)
       ∙ ap (λ (xs : List Numbered). numbered_from p.number (map item_of p.messages) ++ xs) (sym rest)
 
-  -- what the arbiter is behind it
+  -- the arbiter's state after it
   module _ (new : State) (past : GoesPast line old new p) where
     gone : (m : ℕ) → (if nat_le m (last_number p) then None else carried (packets ++ a ∷ []) m) ≡ None
     gone m = elim (cases_lt (last_number p) m) [

@@ -42,7 +42,7 @@ within xs k n item h = one_place k n item (in_place xs n) (in_place (slice_set x
     (λ e. ap (λ (j : ℕ). in_place (slice_set xs k (Some item)) j) e ∙ ap (option_and_then (λ (place : Option Item). place)) (slice_get-set_same xs k (Some item) h))
     (λ e. ap (option_and_then (λ (place : Option Item). place)) (slice_get-set_other xs k n (Some item) e))
 
--- one place is filled, and the others are as they were
+-- one place is filled, and the others are unchanged
 pub in_place-put_at : (xs : List (Option Item)) (k n : ℕ) (item : Item) → in_place (put_at xs k item) n ≡ filled_at k item n (in_place xs n)
 in_place-put_at xs k n item = elim (cases_lt k (length xs)) [
   | inl lt ↦ ap (λ (t : Bool). in_place (if t then slice_set xs k (Some item) else xs ++ replicate (k - length xs) None ++ Some item ∷ []) n) (lt-ltb k (length xs) lt) ∙ within xs k n item lt
@@ -89,7 +89,7 @@ count-put_at xs k item free = elim (cases_lt k (length xs)) [
 pub in_place-drop : (places : List (Option Item)) (n : ℕ) → in_place (drop 1 places) n ≡ in_place places (n + 1)
 in_place-drop places n = ap (option_and_then (λ (place : Option Item). place)) (slice_get-drop 1 places n (n + 1) (omega arith))
 
--- what stands first counts no more
+-- the first place counts no more
 pub count-drop : (places : List (Option Item)) → count_by is_some places ≡ count_by is_some (drop 1 places) + one_if (is_some (in_place places 0))
 count-drop [] = refl
 count-drop (place ∷ places) = count_first is_some place places ∙ omega arith

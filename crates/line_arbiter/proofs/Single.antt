@@ -1,4 +1,4 @@
--- A packet of one message, beside a window and in it.
+-- A packet of one message, compared with a window and put into it.
 use Rattle.std.proofs.Common.{◌≡◌, ℕ, ◌+◌, ◌<◌, ◌∙◌, Bool, true, false, cond, inl, inr, Option, Some, None, refl, sym, subst, arith, length}
 use Rattle.std.specs.Prelude.{IsTrue, MatchBool, ◌↔◌}
 use Rattle.std.proofs.lemmas.Bool.{cases_lt, false≢true}

@@ -12,7 +12,7 @@ use Rattle.line_arbiter.specs.States.{State, held_of}
 use Rattle.line_arbiter.specs.Outcomes.{IsBefore}
 use Rattle.line_arbiter.specs.Steps.{IsSound, TakesIn}
 
--- what stands where: found there before, or put in from the packet
+-- what is at each place: found there before, or put in from the packet
 pub record ComesFrom (p : Content) (m : ℕ) (item : Item) : Type 0 where
   pub in_packet : has_number p m ≡ true
   pub reads : item_at p m ≡ item

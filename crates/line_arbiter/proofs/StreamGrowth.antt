@@ -14,7 +14,7 @@ use Rattle.line_arbiter.proofs.Bringing.{carried-push, end_of-push}
 use Rattle.line_arbiter.proofs.Fronts.{front_is, not_none}
 use Rattle.line_arbiter.proofs.Genuine.{some_is}
 
--- the announced end lies past the front
+-- the announced end is past the front
 abbrev pub EndsPast : List Arrival → Type 0
 EndsPast packets = (e : ℕ) → end_of packets ≡ Some e → front_of packets < e
 
@@ -55,7 +55,7 @@ range_split f from (suc n) k =
     ap (λ (x : ℕ). map f (range_with_len from x)) one
     ∙ ap (λ (xs : List Numbered). f from ∷ xs) (range_split f (from + 1) n k ∙ ap (λ (x : ℕ). map f (range_with_len (from + 1) n) ++ map f (range_with_len x k)) here)
 
--- without End behind it, the front's messages are where the longer stream begins
+-- without End after it, the front's messages are where the longer stream begins
 messages_grow : (packets : List Arrival) (a : Arrival) → IsPrefix (map (item_numbered packets) (range_with_len 1 (front_of packets)) ++ []) (stream_of (packets ++ a ∷ []))
 messages_grow packets a =
     let Q = packets ++ a ∷ [] in

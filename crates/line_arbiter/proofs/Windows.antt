@@ -1,5 +1,5 @@
--- What a window holds at its numbers, when an item is put in and when the first place is passed, and what its bitmap
--- says of it.
+-- The items that a window holds at its numbers, when an item is put in and when the first place is
+-- passed, and its bitmap then.
 use Rattle.std.proofs.Common.{◌≡◌, ◌≢◌, ℕ, ◌+◌, ◌-◌, ◌%◌, ◌^◌, ◌<◌, ◌≤◌, Bool, true, false, List, [], length, drop, replicate, Option, Some, None, refl, sym, ap, ◌∙◌, subst, arith, inl, inr}
 use Rattle.std.specs.Prelude.{◌⊎◌, IsSome, MatchBool, is_some, min, nat_eq, nat_lt, ◌&&◌, ◌==◌, if◌then◌else◌}
 use Rattle.std.specs.Option.{option_and_then}
@@ -187,7 +187,7 @@ next_fits count held h otherwise = by_item (held_at held (held.base + 1)) refl
         let small = h.small in
         omega arith
 
--- a window in which nothing is held may stand anywhere
+-- a window in which nothing is held may be anywhere
 pub empty_moved : (held : Held) (base : ℕ) → IsEmpty held → IsEmpty (record held { base = base })
 empty_moved held base none m = elim (cases_lt base m) [
   | inl lt ↦
@@ -232,7 +232,7 @@ IsHeld-new width most = record {
   last = λ some. absurd (omega arith);
 }
 
--- the places tell whether anything is held, and how high
+-- the places show whether anything is held, and how high
 pub empty_or_not : (count : ℕ) (held : Held) → IsHeld count held
     → MatchBool (length held.places == 0) (IsEmpty held) ((m : ℕ) × IsSome (held_at held m))
 empty_or_not count held h = by_test (length held.places == 0) refl

@@ -1,4 +1,4 @@
--- The numbers that stand for faults in printed lines (this project's format).
+-- The codes of faults in printed lines (this project's format).
 use Rattle.std.specs.Prelude.{ℕ}
 use Rattle.line_arbiter.specs.declared.outcome.LineFault.{LineFault}
 use Rattle.line_arbiter.specs.declared.outcome.LineFault.TheVariants.{OtherSession, PastEnd, EndMoved, EndTooEarly, Conflict}

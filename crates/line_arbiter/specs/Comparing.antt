@@ -1,4 +1,4 @@
--- Cited by private clauses alone. What a packet's messages are beside those that are held.
+-- The comparison of a packet's messages with those that are held. Cited by private clauses alone.
 use Rattle.std.specs.Prelude.{◌≡◌, ℕ, ◌+◌, ◌<◌, ◌≤◌, ◌⊎◌, IsSome, length}
 use Rattle.feed_types.specs.declared.item.Item.{Item}
 use Rattle.mold_packet.specs.Content.{Content}
@@ -17,13 +17,13 @@ IsThere held m = (m ≤ held.base) ⊎ IsSome (held_at held m)
 abbrev pub AreThere : Held → Content → Type 0
 AreThere held p = (k : ℕ) → k < length p.messages → IsThere held (p.number + k)
 
--- what the comparison says of one message
+-- the meaning of the comparison of one message
 abbrev pub ComparesOne : Held → ℕ → Item → Comparison → Type 0
 ComparesOne held m item Differs = HoldsOther held m item
 ComparesOne held m item Repeats = IsThere held m × HoldsNoOther held m item
 ComparesOne held m item Agrees = HoldsNoOther held m item
 
--- what it says of the packet's
+-- the meaning of the comparison of all messages of the packet
 abbrev pub Compares : Held → Content → Comparison → Type 0
 Compares held p Differs = HeldDisagrees held p
 Compares held p Repeats = AreThere held p × HeldAgrees held p
@@ -37,7 +37,7 @@ pub record HoldsAll (old new : Held) (p : Content) (count : ℕ) : Type 0 where
   pub base : new.base ≡ old.base
   pub width : new.width ≡ old.width
 
--- what taking a packet's messages does, by its answer: nothing, or those past the base are held
+-- the effect of taking a packet's messages, by its answer: nothing, or those past the base are held
 abbrev pub TakesAll : Held → Held → Content → Intake → Type 0
 TakesAll old new p intakes.Differs = (new ≡ old) × HeldDisagrees old p
 TakesAll old new p intakes.Repeats = (new ≡ old) × AreThere old p × HeldAgrees old p

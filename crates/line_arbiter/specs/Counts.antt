@@ -16,6 +16,6 @@ count_on A counts = counts.a
 count_on B counts = counts.b
 count_on Recovery counts = counts.recovery
 
--- a count that a u64 shows stays at its greatest value once it is there
+-- a count as a u64 shows it: it stays at its greatest value once it is there
 abbrev pub shown : ℕ → ℕ
 shown n = min n 18446744073709551615

@@ -1,4 +1,4 @@
--- Cited by private clauses alone. What a window keeps, and what a packet's messages change in it.
+-- What a window keeps, and what a packet's messages change in it. Cited by private clauses alone.
 use Rattle.std.specs.Prelude.{◌≡◌, ◌≢◌, ℕ, ◌+◌, ◌-◌, ◌^◌, ◌<◌, ◌≤◌, nat_eq, nat_le, nat_lt, ◌&&◌, List, [], ◌∷◌, ◌++◌, Option, Some, None, IsSome, count_by, is_none, is_some, length, replicate, slice_set, if◌then◌else◌}
 use Rattle.std.specs.List.{range_with_len}
 use Rattle.feed_types.specs.declared.item.Item.{Item}

@@ -1,4 +1,4 @@
--- What a gap is, and how far a session is known to go. Laws alone cite this file.
+-- Gaps, and how far a session is known to go. Cited by laws alone.
 use Rattle.std.specs.Prelude.{◌≡◌, ℕ, ◌+◌, ◌-◌, ◌<◌, ◌≤◌, ◌⊎◌, List, Option, Some, None, IsSome, Contains}
 use Rattle.std.specs.List.{AllByRecursion}
 use Rattle.mold_packet.specs.declared.request.Request.{Request}

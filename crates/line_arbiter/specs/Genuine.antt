@@ -17,7 +17,7 @@ pub record IsGenuineAt (carries : Carries) (ends : Ends) (venue ordinal : ℕ)
   pub messages : (m : ℕ) → has_number p m ≡ true → carries venue ordinal m (item_at p m)
   pub end : p.kind ≡ kinds.End → ends venue ordinal p.number
 
--- so it is in each session that has the packet's session name
+-- the same in each session that has the packet's session name
 abbrev pub IsGenuine : SessionNames → Carries → Ends → ℕ → Content → Type 0
 IsGenuine sessions carries ends venue p =
     (ordinal : ℕ) → sessions venue ordinal p.session → IsGenuineAt carries ends venue ordinal p

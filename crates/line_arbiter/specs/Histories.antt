@@ -1,4 +1,4 @@
--- What came to one venue: its sessions, those that are over and the present one.
+-- The history of one venue: its sessions, those that are over and the present one.
 use Rattle.std.specs.Prelude.{ℕ, List, [], ◌∷◌, ◌++◌, Result, Ok, Err, map, flat_map, sum_by}
 use Rattle.feed_types.specs.declared.item.Numbered.{Numbered}
 use Rattle.feed_types.specs.declared.line.LineId.{LineId}
@@ -54,7 +54,7 @@ after_arrival h a =
 abbrev pub after_renewal : History → List ℕ → History
 after_renewal h name = record { earlier = all_begun h; present = new_session name }
 
--- what a renewal with this answer leaves
+-- the history after a renewal with this answer
 abbrev pub history_after : History → List ℕ → Result ℕ RenewFault → History
 history_after old name (Ok ordinal) = after_renewal old name
 history_after old name (Err fault) = old

@@ -1,4 +1,4 @@
--- What a window holds: messages past the last item sent.
+-- The contents of a window: messages past the last item sent.
 use Rattle.std.specs.Prelude.{◌≡◌, ℕ, ◌-◌, nat_le, List, Option, None, slice_get, if◌then◌else◌}
 use Rattle.std.specs.Option.{option_and_then}
 use Rattle.feed_types.specs.declared.item.Item.{Item}
@@ -9,7 +9,7 @@ pub record Held : Type 0 where
   pub width : ℕ
   pub places : List (Option Item)
 
--- what a place holds: nothing where there is no such place
+-- the content of a place: nothing where there is no such place
 abbrev pub in_place : List (Option Item) → ℕ → Option Item
 in_place places k = option_and_then (λ place. place) (slice_get places k)
 

@@ -1,5 +1,5 @@
 -- Packets that need no place in the window: those that go on where nothing is held, and those whose
--- messages were all sent. Which these are, how they are answered, and what they send.
+-- messages were all sent. Which packets they are, how they are answered, and what they send.
 use Rattle.std.specs.Prelude.{◌≡◌, ℕ, ◌+◌, ◌<◌, ◌≤◌, List, [], ◌∷◌, ◌++◌, Ok, Option, Some, None, drop, length, map}
 use Rattle.feed_types.specs.declared.line.LineId.{LineId}
 use Rattle.feed_types.specs.Prefix.{IsPrefix}
@@ -36,7 +36,7 @@ pub record WasSent (session : List ℕ) (sent : ℕ) (packets : List Arrival) (p
   pub all : last_number p ≤ sent
   pub before : IsBefore (end_of packets) (last_number p)
 
--- which of the two the packet is, with its last number; None is neither
+-- the order of the packet, with its last number; None is neither
 abbrev pub IsPeeked : List ℕ → ℕ → ℕ → List Arrival → Content → Option InOrder → Type 0
 IsPeeked session window sent packets p (Some (Next last)) =
     IsNextPacket session window sent packets p × (last ≡ last_number p)
@@ -45,29 +45,29 @@ IsPeeked session window sent packets p (Some (Repeat last)) =
 IsPeeked session window sent packets p None =
     (IsNextPacket session window sent packets p → ⊥) × (WasSent session sent packets p → ⊥)
 
--- how it is answered: all of it is new, or all of it is repeated
+-- the answer to it: all of it is new, or all of it is repeated
 abbrev pub outcome_in_order : InOrder → Content → Outcome
 outcome_in_order (Next last) p = Taken (length p.messages) 0
 outcome_in_order (Repeat last) p = Taken 0 (length p.messages)
 
--- the number of the last item sent, once it was taken
+-- the number of the last item sent, once the packet was taken
 abbrev pub sent_in_order : InOrder → ℕ → ℕ
 sent_in_order (Next last) sent = last
 sent_in_order (Repeat last) sent = sent
 
--- from the one place of the stream to the other lie the packet's messages, read as items
+-- the stream has the packet's messages, read as items, from the one place to the other
 abbrev pub SendsPacket : ℕ → ℕ → Content → List Arrival → Type 0
 SendsPacket from to p packets =
     drop from (stream_of packets)
     ≡ numbered_from p.number (map item_of p.messages) ++ drop to (stream_of packets)
 
--- what it sends: its messages, or nothing
+-- the items that the packet sends: its messages, or nothing
 abbrev pub SendsInOrder : InOrder → ℕ → Content → List Arrival → Type 0
 SendsInOrder (Next last) sent p packets = SendsPacket sent last p packets
 SendsInOrder (Repeat last) sent p packets = Unit {0}
 
--- What taking it brings, on whichever line it comes: the answer, a stream that goes on, and in it,
--- from the last item sent on, the packet's messages.
+-- The effect of taking the packet, on whichever line it comes: the answer, a stream that goes on,
+-- and in it, from the last item sent on, the packet's messages.
 pub record BringsInOrder (session : List ℕ) (window sent : ℕ) (packets : List Arrival)
     (line : LineId) (p : Content) (order : InOrder) : Type 0 where
   pub answer : IsOutcome session window sent packets p (Ok (outcome_in_order order p))
@@ -76,7 +76,7 @@ pub record BringsInOrder (session : List ℕ) (window sent : ℕ) (packets : Lis
   pub items : SendsInOrder order sent p
       (packets ++ arrival_of line p (Ok (outcome_in_order order p)) ∷ [])
 
--- The same two, seen in an arbiter's state.
+-- The same two orders, in terms of an arbiter's state.
 pub record IsNext (s : State) (p : Content) : Type 0 where
   pub first : p.number ≡ s.sent + 1
   pub whole : s.front ≡ s.sent
@@ -92,7 +92,7 @@ abbrev pub IsOrder : State → Content → InOrder → Type 0
 IsOrder s p (Next last) = IsNext s p × (last ≡ last_number p)
 IsOrder s p (Repeat last) = IsSent s p × (last ≡ last_number p)
 
--- it is a packet of messages of the session, and one of the two
+-- the packet has messages of the session, and one of the two orders
 pub record IsInOrder (s : State) (p : Content) (order : InOrder) : Type 0 where
   pub name : p.session ≡ s.session
   pub kind : p.kind ≡ kinds.Messages

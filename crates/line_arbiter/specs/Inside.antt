@@ -1,4 +1,4 @@
--- How a window and an arbiter are seen. Only private clauses cite this file.
+-- The inside of a window and of an arbiter. Cited by private clauses alone.
 use Rattle.line_arbiter.specs.declared.window.Window.TheInside.{Inside as WindowInside}
 use Rattle.line_arbiter.specs.declared.arbiter.Arbiter.TheInside.{Inside as ArbiterInside}
 use Rattle.line_arbiter.specs.Holding.{Held}

@@ -1,5 +1,5 @@
--- A bitmap of numbers: 1,024 words of 64 bits, where number m has bit m % 65,536. Only private
--- clauses cite this file.
+-- A bitmap of numbers: 1,024 words of 64 bits, where number m has bit m % 65,536. Cited by private
+-- clauses alone.
 use Rattle.std.specs.Prelude.{◌≡◌, ℕ, ◌+◌, ◌/◌, ◌%◌, ◌<◌, ◌≤◌, Bool, nat_eq, List, is_some, length, slice_index}
 use Rattle.std.specs.Int.{bit_at}
 use Rattle.line_arbiter.specs.Holding.{Held, held_at}

@@ -1,4 +1,4 @@
--- Packets of a session, and what they give.
+-- Packets of a session, and the items that they bring.
 use Rattle.std.specs.Prelude.{◌≡◌, ℕ, ◌+◌, ◌-◌, ◌<◌, ◌≤◌, ◌&&◌, ◌==◌, List, [], ◌∷◌, ◌++◌, length, map, take, slice_get, Option, Some, is_some, IsOk, if◌then◌else◌}
 use Rattle.std.specs.List.{AllByRecursion}
 use Rattle.feed_types.specs.declared.item.Numbered.{Numbered}
@@ -47,8 +47,8 @@ session_stream session front end =
     ++ (if is_some end && (front == length session.items) then end_item (front + 1) ∷ [] else [])
 
 -- The packets give the session: its items from the first up to the first gap, each once, and then
--- End exactly where it was announced and nothing is missing. None of those that have its name was
--- refused, and where the session is over, all of it came.
+-- End exactly where it was announced and nothing is missing. No packet of its name was refused, and
+-- where the session is over, all of it came.
 pub record GivesSession (session : Session) (packets : List Arrival) : Type 0 where
   pub front : front_of packets ≤ length session.items
   pub stream : stream_of packets ≡ session_stream session (front_of packets) (end_of packets)

@@ -1,5 +1,5 @@
--- Which answer a packet gets, by cases on the answer: with the session, the window and the number
--- of the last item sent, after the packets that came before. No two answers fit one packet.
+-- The answer to a packet, by cases: with the session, the window and the number of the last item
+-- sent, after the packets that came before. No two answers fit one packet.
 use Rattle.std.specs.Prelude.{◌≡◌, ◌≢◌, ℕ, ◌+◌, ◌<◌, ◌≤◌, List, length, Option, Some, None, IsSome, is_none, Result, Ok, Err, count_by, ◌⊎◌}
 use Rattle.std.specs.List.{range_with_len}
 use Rattle.feed_types.specs.declared.item.Item.{Item}
@@ -31,7 +31,7 @@ pub record Disagrees (packets : List Arrival) (sent : ℕ) (p : Content) : Type 
   pub taken : carried packets (p.number + place) ≡ Some item
   pub differs : item ≢ message_item p place
 
--- none did
+-- no message did
 abbrev pub Agrees : List Arrival → ℕ → Content → Type 0
 Agrees packets sent p =
     (k : ℕ) (item : Item) → k < length p.messages → sent < p.number + k

@@ -16,7 +16,7 @@ pub record Arrival : Type 0 where
   pub packet : Content
   pub answer : Result Outcome LineFault
 
--- the packet came on the line, and was answered so
+-- the arrival of a packet on the line, with its answer
 abbrev pub arrival_of : LineId → Content → Result Outcome LineFault → Arrival
 arrival_of line packet answer = record { line = line; packet = packet; answer = answer }
 
@@ -24,11 +24,11 @@ arrival_of line packet answer = record { line = line; packet = packet; answer = 
 abbrev pub has_number : Content → ℕ → Bool
 has_number p m = nat_le p.number m && nat_lt m (p.number + length p.messages)
 
--- what its message at this place reads as, counted from 0
+-- the item that its message at this place reads as, counted from 0
 abbrev pub message_item : Content → ℕ → Item
 message_item p k = item_of (slice_index_or p.messages k [])
 
--- what its message of this number reads as
+-- the item that its message of this number reads as
 abbrev pub item_at : Content → ℕ → Item
 item_at p m = message_item p (m - p.number)
 

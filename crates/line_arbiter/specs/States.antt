@@ -1,4 +1,4 @@
--- What an arbiter is: its venue and sessions, its cursors, and its wins. What it holds is seen
+-- The state of an arbiter: its venue and sessions, its cursors, and its wins. What it holds is seen
 -- through `held_at` alone.
 use Rattle.std.specs.Prelude.{◌≡◌, ℕ, ◌+◌, ◌==◌, List, [], ◌∷◌, ◌++◌, length, Option, Some, None, if◌then◌else◌}
 use Rattle.feed_types.specs.declared.item.Item.{Item}
@@ -8,8 +8,8 @@ use Rattle.line_arbiter.specs.declared.arbiter.ArbiterStatus.{ArbiterStatus}
 use Rattle.line_arbiter.specs.Counts.{Counts, no_counts}
 use Rattle.line_arbiter.specs.Holding.{Held, held_at}
 
--- sessions are the names of the venue's sessions so far, the present one last; earlier has the wins
--- as they stood when the present session began
+-- `sessions` are the names of the venue's sessions so far, the present one last; `earlier` has the
+-- wins at the beginning of the present session
 pub record State : Type 0 where
   pub venue : ℕ
   pub sessions : List (List ℕ)
@@ -23,7 +23,7 @@ pub record State : Type 0 where
   pub wins : Counts
   pub earlier : Counts
 
--- which session it is: the first has ordinal 1
+-- the number of the present session: the first has ordinal 1
 abbrev pub ordinal_of : State → ℕ
 ordinal_of s = length s.sessions
 
@@ -73,7 +73,7 @@ pub record KeepsItsPlace (old new : State) : Type 0 where
   pub sent : new.sent ≡ old.sent
   pub earlier : new.earlier ≡ old.earlier
 
--- what a packet that passes through leaves: all but how far the session has come
+-- what a packet that needs no place leaves: everything but how far the session has come
 pub record KeepsItsSession (old new : State) : Type 0 where
   pub venue : new.venue ≡ old.venue
   pub sessions : new.sessions ≡ old.sessions
@@ -81,7 +81,7 @@ pub record KeepsItsSession (old new : State) : Type 0 where
   pub window : new.window ≡ old.window
   pub earlier : new.earlier ≡ old.earlier
 
--- what an advance leaves: all but the last item sent
+-- what an advance leaves: everything but the last item sent
 pub record KeepsAllButSent (old new : State) : Type 0 where
   pub venue : new.venue ≡ old.venue
   pub sessions : new.sessions ≡ old.sessions

@@ -1,5 +1,5 @@
--- What one packet changes in an arbiter, said of its state alone. Only private clauses cite this
--- file.
+-- The effect of one packet on an arbiter, in terms of its state alone. Cited by private clauses
+-- alone.
 use Rattle.std.specs.Prelude.{◌≡◌, ◌≢◌, ℕ, ◌+◌, ◌-◌, ◌^◌, ◌<◌, nat_eq, ◌⊎◌, Option, Some, None, IsSome, length, max, slice_get, Result, Ok, Err, ◌≤◌, if◌then◌else◌}
 use Rattle.feed_types.specs.declared.item.Item.{Item}
 use Rattle.feed_types.specs.declared.line.LineId.{LineId}
@@ -19,7 +19,7 @@ use Rattle.line_arbiter.specs.States.{State, held_of}
 use Rattle.line_arbiter.specs.declared.in_order.InOrder.{InOrder}
 use Rattle.line_arbiter.specs.InOrder.{IsNext, IsOrder, IsSent}
 
--- What every arbiter keeps: what is held, and the front, lie below the announced end; nothing is
+-- What every arbiter keeps: what is held, and the front, are below the announced end; nothing is
 -- held right after the front; and the present session is the last of its sessions, at most 64.
 pub record IsSound (s : State) : Type 0 where
   pub end_small : (e : ℕ) → s.end ≡ Some e → e < 2 ^ 64
@@ -139,7 +139,7 @@ pub record GoesPast (line : LineId) (old new : State) (p : Content) : Type 0 whe
     wins = counted line (length p.messages) old.wins;
   }
 
--- what a packet of messages of the session is, if it needs no place in the window
+-- the order of a packet of messages of the session, if it needs no place in the window
 abbrev pub OrdersPacket : State → Content → Option InOrder → Type 0
 OrdersPacket s p (Some order) = IsOrder s p order
 OrdersPacket s p None = (IsNext s p → ⊥) × (IsSent s p → ⊥)

@@ -1,4 +1,5 @@
--- What comes out: the items in sequence up to the first gap, the gap, and who brought what.
+-- The stream: the items in sequence up to the first gap, the gap, and the lines that brought them
+-- first.
 use Rattle.std.specs.Prelude.{◌≡◌, ℕ, ◌+◌, ◌-◌, ◌≤◌, Bool, false, ◌==◌, List, [], ◌∷◌, ◌++◌, map, count_by, min, Option, Some, None, IsSome, is_some, is_none, unwrap_or, if◌then◌else◌}
 use Rattle.std.specs.List.{range_with_len, prefix_len}
 use Rattle.std.specs.Option.{option_map_or}
@@ -19,7 +20,7 @@ AreTaken packets n = (m : ℕ) → 1 ≤ m → m ≤ n → IsSome (carried packe
 abbrev pub front_of : List Arrival → ℕ
 front_of packets = prefix_len (λ m. is_some (carried packets m)) (range_with_len 1 (top_of packets))
 
--- what was taken at a number, with it
+-- the item that was taken at a number, with it
 abbrev pub item_numbered : List Arrival → ℕ → Numbered
 item_numbered packets m = record { number = m; item = unwrap_or (carried packets m) items.Other }
 

@@ -25,10 +25,10 @@ use std::marker::{Model, PhantomData};
 /// The greatest window, in messages.
 const MAX_WINDOW: u32 = 65_535;
 
-/// How many sessions a venue has at most.
+/// The most sessions that a venue has.
 const MAX_SESSIONS: usize = 64;
 
-/// How far a venue's present session has come. Numbers count from 1.
+/// The cursors of a venue's present session. Numbers count from 1.
 #[derive(Clone, Copy, Debug, PartialEq, Eq)]
 pub struct ArbiterStatus {
     /// The number of the last item advanced past, 0 at first. End has a number of its own.
@@ -39,11 +39,11 @@ pub struct ArbiterStatus {
     pub known: u64,
     /// The announced end, one more than the last message's number.
     pub end: Option<u64>,
-    /// How many messages were taken and not yet advanced past, at most the window.
+    /// The number of messages that were taken and not yet advanced past, at most the window.
     pub held: u32,
 }
 
-/// What was taken from a venue's lines and not yet sent on.
+/// An arbiter of one venue's lines: it keeps what was taken from them and not yet sent on.
 ///
 /// `G` names what the lines may carry ([`Genuine`]); [`feed_types::Anything`] where nothing is
 /// known.
@@ -75,10 +75,10 @@ impl<G> Model for Arbiter<G> {
 }
 
 impl<G: Genuine> Arbiter<G> {
-    /// Returns an arbiter of the venue's first session, whose name is ten bytes, filled on the right with
-    /// spaces. The window is how many messages past the last item sent are held, 1 to 65,535;
-    /// any other is refused as BadWindow. It takes its memory here and none later; where there is
-    /// none, the answer is NoMemory.
+    /// Returns an arbiter of the venue's first session, whose name is ten bytes, filled on the
+    /// right with spaces. `window` is the number of messages past the last item sent that are held,
+    /// 1 to 65,535; any other is refused as BadWindow. All memory is taken here and none later;
+    /// where it was refused, the answer is NoMemory.
     pub fn new(
         alloc: Global,
         venue: VenueId,
@@ -112,7 +112,7 @@ impl<G: Genuine> Arbiter<G> {
         })
     }
 
-    /// Returns the venue whose lines these are.
+    /// Returns the venue whose lines the arbiter takes.
     pub fn venue(&self) -> VenueId
         ensures { result ≡ self.now.venue }
     {
@@ -126,7 +126,7 @@ impl<G: Genuine> Arbiter<G> {
         self.session_name
     }
 
-    /// Returns which of the venue's sessions the present one is, counted from 1 to 64.
+    /// Returns the number of the venue's present session, counted from 1 to 64.
     pub fn ordinal(&self) -> u64
         ensures value { result ≡ ordinal_of self.now }
         ensures range { (1 ≤ result) × (result ≤ 64) }
@@ -164,9 +164,10 @@ impl<G: Genuine> Arbiter<G> {
         self.held.pass();
     }
 
-    /// Takes a packet that came on a line, and returns what became of it. A refused packet changes
+    /// Takes a packet that came on `line`, and returns its outcome. A refused packet changes
     /// nothing. The refusals, in this order: another session's packet; messages at the announced
     /// end or past it; a held message that reads otherwise; a heartbeat past the end; an end that
+    /// differs from the announced one, or is at a message that was taken or before it.
     /// differs from the announced one, or lies at a message that was taken or before it.
     #[inline(always)]
     pub fn take(&mut self, line: LineId, packet: &Packet<'_>) -> Result<Outcome, LineFault>
@@ -226,8 +227,8 @@ impl<G: Genuine> Arbiter<G> {
         })
     }
 
-    /// Returns how many numbers the line brought first, over all sessions. The count stays at
-    /// 2^64 - 1.
+    /// Returns the count of numbers that the line brought first, over all sessions. The count stays
+    /// at 2^64 - 1.
     pub fn wins(&self, line: LineId) -> u64
         ensures value { result ≡ count_on line self.now.wins }
         ensures session { (packets : List Arrival) → Fits self.now packets
@@ -236,7 +237,7 @@ impl<G: Genuine> Arbiter<G> {
         self.won.on(line)
     }
 
-    /// Returns how far the present session has come.
+    /// Returns the cursors of the present session.
     pub fn status(&self) -> ArbiterStatus
         ensures cursors { ShowsCursors self.now result }
         ensures packets { (packets : List Arrival) → Fits self.now packets

@@ -1,4 +1,4 @@
-//! Why an arbiter isn't made, or doesn't begin its next session.
+//! The faults of making an arbiter and of beginning its next session.
 
 ghost use Rattle.std.specs.Prelude.{◌≡◌};
 ghost use Rattle.line_arbiter.specs.Codes.{arbiter_fault_code, renew_fault_code};
@@ -17,7 +17,7 @@ pub enum ArbiterFault {
 }
 
 impl ArbiterFault {
-    /// The number that stands for the fault, 12 or 13.
+    /// The code of the fault: 12 or 13.
     pub fn code(self) -> u8
         ensures { result ≡ arbiter_fault_code self }
     {
@@ -28,7 +28,7 @@ impl ArbiterFault {
     }
 }
 
-/// Why the next session doesn't begin. The arbiter is as it was.
+/// Why the next session doesn't begin. The arbiter is unchanged.
 #[derive(Clone, Copy, Debug, PartialEq, Eq, Hash, Error)]
 pub enum RenewFault {
     /// The present session's End wasn't sent.
@@ -43,7 +43,7 @@ pub enum RenewFault {
 }
 
 impl RenewFault {
-    /// The number that stands for the fault in printed lines, 35 to 37.
+    /// The code of the fault in printed lines: 35 to 37.
     pub fn code(self) -> u8
         ensures { result ≡ renew_fault_code self }
     {

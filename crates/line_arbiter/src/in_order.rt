@@ -2,7 +2,7 @@
 //! whose messages were all sent, as on the line that comes second.
 //!
 //! A caller peeks, does what it has to do with the packet's messages first, and takes the packet
-//! then. That asks once what the packet is, and moves no message through the window.
+//! then. So the order is found once, and no message moves through the window.
 
 ghost use Rattle.std.specs.Prelude.{◌≡◌, ◌∷◌, ◌++◌, List, [], IfSome, Ok, MatchBool, length};
 ghost use Rattle.mold_packet.specs.Content.{IsContent, last_number};
@@ -22,7 +22,7 @@ use crate::taking::{is_past, raised};
 use feed_types::{Genuine, LineId};
 use mold_packet::{Kind, Packet};
 
-/// What a packet of messages is that needs no place in the window, with its last number.
+/// The order of a packet of messages that needs no place in the window, with its last number.
 #[derive(Clone, Copy, Debug, PartialEq, Eq)]
 pub enum InOrder {
     /// Its first message is the next one, and nothing is held.
@@ -33,7 +33,7 @@ pub enum InOrder {
 
 impl<G: Genuine> Arbiter<G> {
     /// Returns whether the packet, whose last number is `last`, goes on where nothing is held: its
-    /// first message is the next one, its last lies before the end, and it is no longer than the
+    /// first message is the next one, its last is before the end, and it is no longer than the
     /// window.
     fn is_next(&self, packet: &Packet<'_>, last: u64) -> bool
         requires { last ≡ last_number packet.now }
@@ -47,7 +47,7 @@ impl<G: Genuine> Arbiter<G> {
             && !is_past(self.end_number, last)
     }
 
-    /// Returns which of the two a packet of messages of the session is, or `None`.
+    /// Returns the order of a packet of messages of the session, or `None` where it has neither.
     fn order_of(&self, packet: &Packet<'_>) -> Option<InOrder>
         requires { packet.now.kind ≡ Kind.Messages }
         ensures { OrdersPacket self.now packet.now result }
@@ -78,10 +78,10 @@ impl<G: Genuine> Arbiter<G> {
         Outcome::Taken { new, repeated: 0 }
     }
 
-    /// Returns what the packet is, if it needs no place in the window: a packet of messages that
-    /// goes on where nothing is held, or whose messages were all sent. `take_in_order` takes it
-    /// then. `None` for any other packet: then `take` it. `brings` says beforehand what taking it
-    /// will bring, so that its messages may be sent on first.
+    /// Returns the order of the packet, if it needs no place in the window: a packet of messages
+    /// that goes on where nothing is held, or whose messages were all sent. `take_in_order` takes
+    /// it then. `None` for any other packet: then `take` it. `brings` says beforehand what taking
+    /// it will bring, so that its messages may be sent on first.
     #[inline(always)]
     pub fn peek_in_order(&self, packet: &Packet<'_>) -> Option<InOrder>
         ensures peeked { (packets : List Arrival) → Fits self.now packets

@@ -14,7 +14,8 @@ use feed_types::Item;
 use mold_packet::Packet;
 use quote_payload::read_item;
 
-/// Returns whether the items differ. Apart, so that both stand in memory and symbols compare as words.
+/// Returns whether the items differ. It is a call of its own, so that both are in memory and
+/// symbols compare as words.
 #[inline(never)]
 fn differ(a: &Item, b: &Item) -> bool
     ensures { MatchBool result (a.now ≢ b.now) (a.now ≡ b.now) }
@@ -22,19 +23,18 @@ fn differ(a: &Item, b: &Item) -> bool
     a != b
 }
 
-/// What a packet's messages are beside those that are held.
+/// The result of comparing a packet's messages with those that are held.
 #[derive(Clone, Copy, Debug, PartialEq, Eq)]
 pub(crate) enum Comparison {
-    /// A held one reads otherwise.
+    /// A held message reads otherwise.
     Differs,
-    /// Each was sent, or is held and reads the same.
+    /// Each message was sent, or is held and reads the same.
     Repeats,
-    /// Those that are held read the same.
+    /// The messages that are held read the same.
     Agrees,
 }
 
-/// Returns what the message is beside the one that is held at the number. It is read only where
-/// one is.
+/// Compares the message with the one that is held at the number. It is read only where one is.
 fn compare_one(window: &Window, number: u64, message: &[u8]) -> Comparison
     ensures { ComparesOne window.now number (item_of message.now) result }
 {
@@ -46,7 +46,7 @@ fn compare_one(window: &Window, number: u64, message: &[u8]) -> Comparison
     }
 }
 
-/// Returns what the packet's messages are beside those that are held, each read against its own.
+/// Compares the packet's messages with those that are held, each with its own.
 #[inline(never)]
 fn compare_many(window: &Window, packet: &Packet<'_>) -> Comparison
     ensures { Compares window.now packet.now result }
@@ -67,7 +67,7 @@ fn compare_many(window: &Window, packet: &Packet<'_>) -> Comparison
     }
 }
 
-/// Returns what the packet's single message is beside the one that is held at its number.
+/// Compares the packet's single message with the one that is held at its number.
 #[inline(never)]
 fn compare_single(window: &Window, packet: &Packet<'_>) -> Comparison
     requires { length packet.now.messages ≡ 1 }
@@ -79,7 +79,7 @@ fn compare_single(window: &Window, packet: &Packet<'_>) -> Comparison
     }
 }
 
-/// Returns what the packet's messages are beside those that are held. Where these all lie below the
+/// Compares the packet's messages with those that are held. Where all held ones are below the
 /// packet, as most often, its messages aren't walked.
 #[inline(always)]
 fn compare(window: &Window, packet: &Packet<'_>) -> Comparison
@@ -149,14 +149,14 @@ fn fill_many(window: &mut Window, packet: &Packet<'_>) -> u16
     count
 }
 
-/// What became of a packet's messages in a window.
+/// The result of taking a packet's messages into a window.
 #[derive(Clone, Copy, Debug, PartialEq, Eq)]
 pub(crate) enum Intake {
-    /// A held one reads otherwise; nothing is held anew.
+    /// A held message reads otherwise; no further one is held.
     Differs,
-    /// Each was sent, or is held and reads the same.
+    /// Each message was sent, or is held and reads the same.
     Repeats,
-    /// This many are held now that weren't before.
+    /// This many messages are held that weren't before.
     Holds(u16),
 }
 
@@ -204,8 +204,8 @@ pub(crate) fn take_all(window: &mut Window, packet: &Packet<'_>) -> Intake
     }
 }
 
-/// Returns the last number of the run of held numbers that goes on past `front`, where those that
-/// came last are `number` and greater ones.
+/// Returns the last number of the run of held numbers that goes on past `front`, where the newest
+/// ones are `number` and greater ones.
 #[inline(always)]
 pub(crate) fn run_after(window: &Window, front: u64, number: u64) -> u64
     requires one { 1 ≤ number }

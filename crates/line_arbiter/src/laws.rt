@@ -1,4 +1,4 @@
-//! What the definitions mean for a venue's stream and for a session's messages.
+//! Laws of the definitions, for a venue's stream and for a session's messages.
 
 ghost use Rattle.std.specs.Prelude.{◌≡◌, ℕ, ◌+◌, ◌≤◌, ◌++◌, ◌∷◌, [], List, length, IsOk, Ok, None, Option, Result};
 ghost use Rattle.std.specs.List.{AllByRecursion};
@@ -37,14 +37,14 @@ pub fn one_renewal()
         → IsRenewal names end sent name a → IsRenewal names end sent name b → a ≡ b }
 {}
 
-/// And it has one: with [`one_outcome`], exactly one.
+/// A packet has an answer: with [`one_outcome`], exactly one.
 pub fn every_packet_has_an_answer()
     ensures { (session : List ℕ) (window sent : ℕ) (packets : List Arrival) (p : Content)
         → (answer : Result Outcome LineFault)
         × IsOutcome session window sent packets p answer }
 {}
 
-/// So has each renewal, with [`one_renewal`].
+/// A renewal has an answer: with [`one_renewal`], exactly one.
 pub fn every_renewal_has_an_answer()
     ensures { (names : List (List ℕ)) (end : Option ℕ) (sent : ℕ) (name : List ℕ)
         → (answer : Result ℕ RenewFault) × IsRenewal names end sent name answer }
@@ -76,14 +76,14 @@ pub fn known_is_the_greatest_heard_of()
 {}
 
 /// A stream only grows: with one more packet it begins with the stream of before, where each packet
-/// was answered as it should be.
+/// was answered by the definitions.
 pub fn a_stream_only_grows()
     ensures { (session : List ℕ) (window : ℕ) (packets : List Arrival) (a : Arrival)
         → AreAnswered session window packets → IsAnswered session window packets a
         → IsPrefix (stream_of packets) (stream_of (packets ++ a ∷ [])) }
 {}
 
-/// Packets that were answered as they should be are so with one more that is.
+/// Packets that were answered by the definitions are so with one more that is.
 pub fn answers_go_on()
     ensures { (session : List ℕ) (window : ℕ) (packets : List Arrival) (a : Arrival)
         → AreAnswered session window packets → IsAnswered session window packets a
@@ -100,9 +100,9 @@ pub fn a_renewal_comes_when_all_is_sent()
         → IsComplete packets × (sent ≡ length (stream_of packets)) }
 {}
 
-/// The session law: where each packet of the session's name is of the session, and was answered as
-/// it should be, the stream is the session's items up to the first gap, each once, and then End
-/// exactly where it was announced and nothing is missing; and none of those packets was refused.
+/// The session law: where each packet of the session's name is of the session, and was answered by
+/// the definitions, the stream is the session's items up to the first gap, each once, and then End
+/// exactly where it was announced and nothing is missing; and no packet of that name was refused.
 pub fn the_stream_is_the_session()
     ensures { (session : Session) (window : ℕ) (packets : List Arrival)
         → AreAnswered session.name window packets → AreOfSession session packets
@@ -144,7 +144,7 @@ pub fn a_genuine_stream_is_the_session<G: Genuine>()
         → stream_of packets ≡ session_stream session (front_of packets) (end_of packets) }
 {}
 
-/// And then no packet of the session is refused.
+/// In that case no packet of the session is refused.
 pub fn no_genuine_packet_is_refused<G: Genuine>()
     ensures { (venue ordinal window sent : ℕ) (all : List Session) (session : Session)
         (packets : List Arrival) (p : Content) (answer : Result Outcome LineFault)
@@ -154,7 +154,7 @@ pub fn no_genuine_packet_is_refused<G: Genuine>()
 {}
 
 /// What was taken stays genuine when one more packet is answered that is genuine where it is of the
-/// session. So who keeps an arbiter needs to know of each packet that alone.
+/// session. So the owner of an arbiter needs to know that alone of each packet.
 pub fn what_is_taken_stays_genuine<G: Genuine>()
     ensures { (venue ordinal window : ℕ) (session : List ℕ) (packets : List Arrival) (a : Arrival)
         → AreGenuine G.carries G.ends venue ordinal packets

@@ -1,24 +1,24 @@
 //! Puts the messages of one venue's redundant lines in sequence, each once.
 //!
 //! An [`Arbiter`] is given the packets of lines A, B and Recovery in the order in which they came.
-//! It holds what lies past the last item sent in a window of fixed size, and gives the items out in
+//! It holds what is past the last item sent in a window of fixed size, and returns the items in
 //! sequence: messages up to the first gap, and End where it follows. A [`Pacer`] says when to ask
 //! for what is missing.
 //!
 //! The calls of an arbiter, in groups:
 //!
-//! - a packet is taken: `take`;
-//! - one that needs no place in the window is looked at first, and taken then: `peek_in_order` and
-//!   `take_in_order`;
-//! - items come out: `next_ready` and `advance`;
-//! - how far the session has come, and what to ask for: `status`, `gap` and `wins`;
-//! - which session it is, and the next one: `venue`, `session`, `ordinal` and `renew`.
+//! - take a packet: `take`;
+//! - look first at a packet that needs no place in the window, and take it then: `peek_in_order`
+//! and `take_in_order`;
+//! - take items out: `next_ready` and `advance`;
+//! - read the cursors, and what to ask for: `status`, `gap` and `wins`;
+//! - read the session, and begin the next one: `venue`, `session`, `ordinal` and `renew`.
 //!
 //! Contract: for every list of packets that the arbiter was given in the present session, its
 //! answers, cursors and items are those that `specs/Outcomes.antt` and `specs/Streams.antt` define
 //! over that list. Begin at `arbiter.rt`, then `in_order.rt`; `laws.rt` says what follows for a
-//! session's messages. `specs/Lib.antt` parts what a reader of the contracts has to know from what
-//! private clauses alone cite.
+//! session's messages. `specs/Lib.antt` separates what a reader of the contracts has to know from
+//! what private clauses alone cite.
 #![tactic(auto)]
 
 mod arbiter;

@@ -1,15 +1,15 @@
 //! A bitmap of numbers: 65,536 bits in 1,024 words, where number `m` has bit `m % 65,536`. Numbers
-//! that lie less than 65,536 apart have bits of their own. 64 of them are looked through at once.
+//! less than 65,536 apart have bits of their own. 64 numbers are looked through at once.
 
 ghost use Rattle.std.specs.Prelude.{◌≡◌, ◌≢◌, ℕ, ◌%◌, ◌/◌, ◌<◌, ◌≤◌, IfOk, true, false, not, length, replicate};
 ghost use Rattle.line_arbiter.specs.Marks.{is_set, is_marked};
 
 use std::alloc::{AllocError, Global};
 
-/// How many bits a word has.
+/// The number of bits in a word.
 const WORD_BITS: u64 = 64;
 
-/// How many words a bitmap has.
+/// The number of words in a bitmap.
 const WORDS: usize = 1_024;
 
 /// Returns a bitmap without a mark.

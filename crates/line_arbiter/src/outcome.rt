@@ -1,18 +1,18 @@
-//! What becomes of a packet.
+//! The outcomes of packets.
 
 use thiserror::Error;
 
-/// What became of a packet that was accepted.
+/// The outcome of a packet that was accepted.
 #[derive(Clone, Copy, Debug, PartialEq, Eq, Hash)]
 pub enum Outcome {
-    /// Its messages are held, or were already: `new` numbers came first with this packet, and
-    /// `repeated` had come before.
+    /// The packet's messages are held, or were already: `new` numbers came first with this packet,
+    /// and `repeated` had come before.
     Taken { new: u16, repeated: u16 },
-    /// It is a heartbeat: the session goes at least to before its number.
+    /// A heartbeat: the session goes at least to before its number.
     Heartbeat,
     /// The end of the session is announced, now or before.
     Ended,
-    /// Its last number lies beyond the window. It is known of, and nothing of it is held.
+    /// The packet's last number is beyond the window. It is known of, and nothing of it is held.
     Ahead,
 }
 
@@ -22,7 +22,7 @@ pub enum LineFault {
     /// The packet is of another session.
     #[error("the packet is of another session")]
     OtherSession,
-    /// It has a message at the announced end or past it, or is a heartbeat past it.
+    /// The packet has a message at the announced end or past it, or is a heartbeat past it.
     #[error("the packet goes past the announced end of the session")]
     PastEnd,
     /// Another end was announced before.
@@ -40,7 +40,7 @@ impl LineFault {
     ghost use Rattle.std.specs.Prelude.{◌≡◌};
     ghost use Rattle.line_arbiter.specs.Codes.{line_fault_code};
 
-    /// The number that stands for the fault in printed lines, 7 to 11.
+    /// The code of the fault in printed lines: 7 to 11.
     pub fn code(self) -> u8
         ensures { result ≡ line_fault_code self }
     {

@@ -1,4 +1,4 @@
-//! When to ask for what is missing.
+//! The pace of requests for what is missing.
 
 ghost use Rattle.std.specs.Prelude.{◌≡◌, ◌<◌, ◌+◌, ◌↔◌, None, IsTrue};
 ghost use Rattle.line_arbiter.specs.Pacing.{IsPaced, IsTooSoon};

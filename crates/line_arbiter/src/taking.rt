@@ -1,5 +1,5 @@
-//! How a packet is taken, on whichever line: which refusal fits first, what is held of it, and how
-//! far the cursors go then.
+//! The taking of a packet, on whichever line: which refusal fits first, what is held of it, and
+//! where the cursors are then.
 
 ghost use Rattle.std.specs.Prelude.{◌≡◌, ◌+◌, ◌<◌, ◌≤◌, Ok, MatchBool, Some, None};
 ghost use Rattle.mold_packet.specs.Content.{IsContent, last_number};

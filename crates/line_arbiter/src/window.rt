@@ -1,5 +1,5 @@
-//! The messages that were taken and not yet sent on, in a circular buffer of places by number,
-//! with a bitmap of the numbers that are held beside it.
+//! A window: the messages that were taken and not yet sent on, in a circular buffer of places by
+//! number, with a bitmap of the numbers that are held beside it.
 
 ghost use Rattle.std.specs.Prelude.{◌≡◌, ℕ, ◌+◌, ◌-◌, ◌^◌, ◌<◌, ◌≤◌, ◌++◌, ◌∷◌, [], ◌⊎◌, None, Some, length, replicate, slice_set, nat_eq, if◌then◌else◌, IfOk, IsSome, MatchBool, is_some};
 ghost use Rattle.std.specs.Option.{option_and_then};
@@ -13,8 +13,8 @@ use std::alloc::{AllocError, Global};
 use std::marker::Model;
 
 /// Places for the numbers from `base_number + 1` on, at most as many as the window is wide. A place
-/// holds the item of its number, or nothing; the last place that there is holds one. The bitmap
-/// says of each of the 65,536 numbers past the base whether it is held.
+/// holds the item of its number, or nothing; the last place holds one. The bitmap says of each of
+/// the 65,536 numbers past the base whether it is held.
 #[derive(Drop)]
 pub(crate) struct Window {
     base_number: u64,
@@ -82,7 +82,7 @@ fn pad_to(places: &mut HeapCircularBuffer<Option<Item>>, count: usize)
     }
 }
 
-/// Puts the item into a place that there is.
+/// Puts the item into an existing place.
 #[inline]
 fn fill(places: &mut HeapCircularBuffer<Option<Item>>, place: usize, item: Item)
     requires { place < length places.old.items }
@@ -143,7 +143,7 @@ impl Window {
         self.base_number
     }
 
-    /// Returns how many places there may be.
+    /// Returns the greatest number of places.
     pub(crate) fn width(&self) -> u32
         ensures value { result ≡ self.now.width }
         ensures most { result ≤ 65535 }
@@ -151,7 +151,7 @@ impl Window {
         self.places.capacity() as u32
     }
 
-    /// Returns how many places hold an item.
+    /// Returns the number of places that hold an item.
     pub(crate) fn count(&self) -> u32
         ensures { result ≡ count_held self.now }
     {

@@ -1,4 +1,4 @@
-//! Which line was first, in counts.
+//! The counts of which line was first.
 
 ghost use Rattle.std.specs.Prelude.{◌≡◌};
 ghost use Rattle.line_arbiter.specs.Counts.{count_on};
@@ -7,7 +7,7 @@ ghost use Rattle.line_arbiter.specs.Steps.{counted};
 use feed_types::LineId;
 use std::marker::Model;
 
-/// How many numbers each line brought first. A count stays at 2^64 - 1 once it is there.
+/// The count of numbers that each line brought first. A count stays at 2^64 - 1 once it is there.
 #[derive(Clone, Copy, Debug)]
 pub(crate) struct Wins {
     of_a: u64,
