@@ -1,4 +1,4 @@
--- What the values of the options come to, and what an error of clap comes to.
+-- The results of the options' values, and of an error of clap.
 use Rattle.std.proofs.Common.{rules, ◌≡◌, ◌^◌, ◌<◌, ◌⊎◌, inl, inr, ℕ, ◌∙◌, sym, ap, subst, List, Option, Some, None, Ok, Err, [], true, false, refl, arith}
 use Rattle.std.specs.Prelude.{◌≢◌, is_some, unwrap_or}
 use Rattle.std.specs.Str.Parse.{IsNumeral, digits_value, without_leading_plus}

@@ -1,4 +1,4 @@
--- What is printed and said of the venues, one after the other.
+-- The texts of the venues, one after the other.
 use Rattle.std.proofs.Common.{◌≡◌, ◌∙◌, ℕ, zero, suc, ◌+◌, ◌<◌, ◌≤◌, List, [], ◌∷◌, ◌++◌, length, take, drop, flat_map, refl, sym, ap, subst, arith, Some, add-one, append_assoc}
 use Rattle.std.specs.Prelude.{slice_get, IfSome, Option}
 use Rattle.feed_text.specs.Devices.{Writing}
@@ -6,7 +6,7 @@ use Rattle.live_feed.specs.settle.Settlements.{VenueEndState}
 use Rattle.nbbo_main.specs.Listening.{SaysEach, end_line, end_lines}
 use Rattle.nbbo_main.proofs.Reporting.{says_each}
 
--- what stands at a place of a list that is long enough
+-- the element at a place of a list that is long enough
 pub there : {X : Type 0} (xs : List X) (n : ℕ) → n < length xs → (x : X) × (slice_get xs n ≡ Some x)
 there [] n few = absurd (omega (arith, few))
 there (x ∷ xs) zero few = (x, refl)
@@ -55,7 +55,7 @@ none_past xs n many = let e = few_taken xs 16 in no_rest (take 16 xs) n (omega a
 pub none_left : {X : Type 0} (xs : List X) (n : ℕ) → length xs ≤ n → drop n (take 16 xs) ≡ []
 none_left xs n many = let e = fewer_taken xs 16 in no_rest (take 16 xs) n (omega arith)
 
--- one venue more's last line
+-- one more venue's last line
 pub end_more : (vs : List VenueEndState) (n : ℕ) (v : VenueEndState) (old new all : List ℕ) → n < 16 → slice_get vs n ≡ Some v → new ≡ old ++ end_line n v → old ++ end_lines n (drop n (take 16 vs)) ≡ all → new ++ end_lines (n + 1) (drop (n + 1) (take 16 vs)) ≡ all
 end_more vs n v old new all few here step is =
     let D = end_lines (n + 1) (drop (n + 1) (take 16 vs)) in
@@ -71,7 +71,7 @@ end_past vs n old all many is =
     ∙ sym (ap (λ (rest : List VenueEndState). old ++ end_lines n rest) (none_past vs n many))
     ∙ is
 
--- the texts of one thing more
+-- the texts of one more thing
 pub texts_more : {S X : Type 0} (w : Writing S) (f : X → List (List ℕ)) (xs : List X) (n : ℕ) (x : X) (s t u : S) → slice_get xs n ≡ Some x → SaysEach w (f x) s t → SaysEach w (flat_map f (drop (n + 1) xs)) t u → SaysEach w (flat_map f (drop n xs)) s u
 texts_more {S} {X} w f xs n x s t u here says rest =
     subst (λ (left : List X). SaysEach w (flat_map f left) s u) (sym (rest_at xs n x here))
@@ -80,6 +80,6 @@ texts_more {S} {X} w f xs n x s t u here says rest =
 pub texts_done : {S X : Type 0} (w : Writing S) (f : X → List (List ℕ)) (xs : List X) (n : ℕ) (s : S) → length xs ≤ n → SaysEach w (flat_map f (drop n xs)) s s
 texts_done {S} {X} w f xs n s many = subst (λ (left : List X). SaysEach w (flat_map f left) s s) (sym (no_rest xs n many)) refl
 
--- Once the texts of the things from a place on are said, those of all are.
+-- Once the texts of the things from a place on are written, those of all are.
 abbrev pub SaysRest : {S X : Type 0} (w : Writing S) (f : X → List (List ℕ)) (xs : List X) (n : ℕ) (first s : S) → Type 0
 SaysRest {S} w f xs n first s = (t : S) → SaysEach w (flat_map f (drop n xs)) s t → SaysEach w (flat_map f xs) first t

@@ -1,4 +1,4 @@
--- What words for symbols come to.
+-- The symbols that words name.
 use Rattle.std.proofs.Common.{◌≡◌, ◌<◌, ◌≤◌, ℕ, ◌∙◌, sym, subst, List, length, map, true, false, arith}
 use Rattle.std.specs.Borrow.{Bor}
 use Rattle.std.specs.List.{IsDistinct, list_all}
@@ -10,7 +10,7 @@ use Rattle.feed_types.specs.Symbols.{filled, is_symbol_name}
 use Rattle.nbbo_main.specs.Symbols.{HasSymbolsFault, NameSymbols, named_symbols}
 use Rattle.nbbo_main.specs.declared.symbols.SymbolsFault.TheVariants.{BadSymbol, TooManySymbols, DuplicateSymbol}
 
--- the texts behind references
+-- the texts of references
 abbrev pub texts : List (Bor (List ℕ)) → List (List ℕ)
 texts words = map (λ word. word.now) words
 

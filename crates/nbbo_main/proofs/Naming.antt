@@ -1,4 +1,4 @@
--- What a list of sessions comes to, by the names that it is cut into.
+-- The sessions of a list, by the names that it is cut into.
 use Rattle.std.proofs.Common.{◌≡◌, ◌<◌, ◌≤◌, ℕ, ◌∙◌, sym, ap, List, length, map, true, false, refl, arith, Ok, Err}
 use Rattle.std.specs.Prelude.{nat_le}
 use Rattle.std.specs.Borrow.{Bor}
@@ -10,7 +10,7 @@ use Rattle.std.proofs.lemmas.Simd.{map-map}
 use Rattle.nbbo_main.specs.Sessions.{names_in, is_session_name, filled_name, sessions_in}
 use Rattle.nbbo_main.specs.declared.sessions.SessionsFault.TheVariants.{BadSession, TooManySessions}
 
--- the texts behind these references are the names of the list
+-- the texts of these references are the names of the list
 abbrev pub AreNamesOf : List (Bor (List ℕ)) → List ℕ → Type 0
 AreNamesOf names list = map (λ name. name.now) names ≡ names_in list
 

@@ -1,4 +1,4 @@
--- What is said, one text after the other.
+-- Texts on standard error, one after the other.
 use Rattle.std.proofs.Common.{List, [], ◌∷◌, ◌++◌, refl, subst, ℕ}
 use Rattle.feed_text.specs.Devices.{Writing}
 use Rattle.nbbo_main.specs.Runs.{Says}

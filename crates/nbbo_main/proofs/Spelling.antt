@@ -1,4 +1,4 @@
--- What a list of lines comes to, by the texts that it is cut into.
+-- The lines of a list, by the texts that it is cut into.
 use Rattle.std.proofs.Common.{◌≡◌, ◌<◌, ℕ, ◌+◌, ◌*◌, ◌∙◌, sym, ap, subst, List, [], ◌∷◌, ◌++◌, length, map, take, zero, suc, refl, arith}
 use Rattle.std.specs.Prelude.{◌≢◌}
 use Rattle.std.specs.Borrow.{Bor}
@@ -12,7 +12,7 @@ use Rattle.nbbo_main.specs.declared.addresses.LinesFault.{LinesFault}
 use Rattle.nbbo_main.specs.declared.addresses.LinesFault.TheVariants.{BadLines, NoMemory}
 use Rattle.nbbo_main.proofs.Naming.{AreNamesOf}
 
--- the texts behind these references
+-- the texts of these references
 abbrev texts_at : List (Bor (List ℕ)) → List (List ℕ)
 texts_at texts = map (λ text. text.now) texts
 

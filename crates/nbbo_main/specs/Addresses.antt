@@ -1,6 +1,6 @@
 -- The addresses on the command line, this project's own format: an address is an IP address and a
--- port, as std reads it (1.2.3.4:5, or [::1]:5). The list of lines has two for each venue, parted by
--- commas: line A's and then line B's.
+-- port, as std reads it (1.2.3.4:5, or [::1]:5). The list of lines has two for each venue,
+-- separated by commas: line A's and then line B's.
 use Rattle.std.specs.Prelude.{◌≡◌, ℕ, ◌*◌, List, [], ◌∷◌, Option, Some, None, length}
 use Rattle.std.specs.Net.Grammar.{IsSocketText}
 use Rattle.std.specs.declared.net.socket_addr.SocketAddr.{SocketAddr}
@@ -16,7 +16,7 @@ AreAddresses (text ∷ texts) [] = ⊥
 AreAddresses (text ∷ texts) (address ∷ addresses) =
     IsSocketText text address × AreAddresses texts addresses
 
--- The list names these lines, of so many venues.
+-- The list names these lines of `venues` venues.
 pub record NameLines (list : List ℕ) (venues : ℕ) (lines : List SocketAddr) : Type 0 where
   pub spelled : AreAddresses (names_in list) lines
   pub two_each : length lines ≡ 2 * venues
@@ -33,6 +33,6 @@ NamesRequest None (Some address) = ⊥
 NamesRequest (Some text) None = ⊥
 NamesRequest (Some text) (Some address) = IsSocketText text address
 
--- what was given for one isn't one
+-- the text that is given for the address isn't one
 abbrev pub NamesNoRequest : Option (List ℕ) → Type 0
 NamesNoRequest text = (request : Option SocketAddr) → NamesRequest text request → ⊥

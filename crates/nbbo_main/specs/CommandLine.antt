@@ -1,8 +1,8 @@
--- What a command line asks for, and why it is refused.
+-- The requests of command lines, and why they are refused.
 --
--- How words become the values of options is told by the crate clap: of the command nbbo_app and some
--- words, subcommand_of gives the subcommand with the values of its options, and fault_of what is
--- wrong with the words.
+-- The crate clap says how words become the values of options: of the command nbbo_app and some
+-- words, subcommand_of is the subcommand with the values of its options, and fault_of what is wrong
+-- with the words.
 use Rattle.std.specs.Prelude.{◌≡◌, ◌≢◌, ◌≤◌, ◌⊎◌, [], ℕ, List, Bool, true, false, Option, Some, None, Ok, Err, codes, if◌then◌else◌, length, option_map, unwrap_or, string_bytes}
 use Rattle.std.specs.Str.{bytes_eq}
 use Rattle.std.specs.Str.Parse.{IsNumeral, digits_value, without_leading_plus}
@@ -37,7 +37,7 @@ abbrev pub replay_rows : Option (Text × List Row) → List Row
 replay_rows None = []
 replay_rows (Some (name, rows)) = if bytes_eq name (codes "replay") then rows else []
 
--- and those of listen
+-- the values of the options of listen, where that is the subcommand
 abbrev pub listen_rows : Option (Text × List Row) → List Row
 listen_rows None = []
 listen_rows (Some (name, rows)) = if bytes_eq name (codes "listen") then rows else []
@@ -54,15 +54,15 @@ lines_in rows = unwrap_or (first_of (codes "lines") rows) []
 abbrev pub symbol_words_in : List Row → List Text
 symbol_words_in rows = unwrap_or (all_of (codes "symbols") rows) []
 
--- the window that a text gives: the number that it is, where that is one from 1 to 65535
+-- the window that a text gives: its number, where that is one from 1 to 65535
 abbrev pub IsWindowOf : Option Text → ℕ → Type 0
 IsWindowOf None window = window ≡ 4096
 IsWindowOf (Some text) window =
     let number = digits_value 10 (without_leading_plus text) in
     IsNumeral 10 (without_leading_plus text) → 1 ≤ number → number ≤ 65535 → window ≡ number
 
--- the journal, or the number of datagrams, that a text gives: the number that it is, where that is
--- one up to 4294967295
+-- the journal, or the number of datagrams, that a text gives: its number, where that is one up to
+-- 4294967295
 abbrev pub IsCount : Option Text → ℕ → Type 0
 IsCount None count = count ≡ 1000000
 IsCount (Some text) count =
@@ -114,7 +114,7 @@ GivesNone rows NotText = ⊥
 GivesNone rows BadLines = ⊥
 GivesNone rows BadRequest = ⊥
 
--- The list of sessions is right, and what is told of its length holds.
+-- The list of sessions is right, and this holds of its length.
 abbrev pub GivesVenues : List Row → (ℕ → Type 0) → Type 0
 GivesVenues rows P =
     (sessions : List Text) × (sessions_in (list_in rows) ≡ Ok sessions) × P (length sessions)
@@ -167,7 +167,7 @@ symbols_refusal_by symbols.NoMemory = NoMemory
 abbrev pub IsAsked : ErrorKind → Type 0
 IsAsked kind = (kind ≡ DisplayHelp) ⊎ (kind ≡ DisplayVersion)
 
--- clap answers no values, by an error of this kind
+-- clap returns no values, by an error of this kind
 abbrev pub RefusesBy : ErrorKind → Refusal → Type 0
 RefusesBy kind (Shown text) = IsAsked kind
 RefusesBy kind (Usage text) = (IsAsked kind → ⊥) × (kind ≢ OutOfMemory)
@@ -208,7 +208,8 @@ pub record AsksListening (words : List Text) (settings : ListenSettings) : Type 
   pub taken : IsAccepted words
   pub given : GivesListening (listen_values_of words) settings
 
--- The words ask for this. Each of the two needs values that the other's subcommand doesn't give.
+-- The words ask for this task. Each of the two needs values that the other's subcommand doesn't
+-- have.
 abbrev pub Asks : List Text → Task → Type 0
 Asks words (Replay settings) = AsksReplay words settings
 Asks words (Listen settings) = AsksListening words settings
@@ -219,8 +220,8 @@ pub record GivesNoTask (words : List Text) (refusal : Refusal) : Type 0 where
   pub listening : IsListening words → GivesNoListening (listen_values_of words) refusal
   pub replaying : (IsListening words → ⊥) → GivesNone (values_of words) refusal
 
--- Why the words give no settings. To ask for help or for the version
--- is one of the faults that clap finds; memory may be refused at any time.
+-- Why the words give no settings. Help and the version are among the faults that clap finds; memory
+-- may be refused at any time.
 abbrev pub IsRefused : List Text → Refusal → Type 0
 IsRefused words (Shown text) =
     (kind : ErrorKind) × IsAsked kind × IsAmong kind (fault_of nbbo_app words)
@@ -236,7 +237,7 @@ IsRefused words TooManySymbols = GivesNoTask words TooManySymbols
 IsRefused words DuplicateSymbol = GivesNoTask words DuplicateSymbol
 IsRefused words NoMemory = Unit {0}
 
--- ---- how a refusal ends the program
+-- ---- the end of the program after a refusal
 
 -- 0 after help or the version, 1 where memory was refused, else 2
 abbrev pub refusal_status : Refusal → ℕ
@@ -252,7 +253,7 @@ refusal_status TooManySymbols = 2
 refusal_status DuplicateSymbol = 2
 refusal_status NoMemory = 1
 
--- what is printed: clap's text, or a line of the program's own
+-- the text that is printed: clap's, or a line of the program's own
 abbrev pub refusal_text : Refusal → List ℕ
 refusal_text (Shown text) = string_bytes text
 refusal_text (Usage text) = string_bytes text

@@ -82,7 +82,7 @@ lines_app =
     with_rule (with_rule (with_rule (new_app (codes "listen")) sessions_rule) lines_rule)
     request_rule
 
--- and with those that say how much
+-- listen with its options that say how much, too
 abbrev pub counts_app : App
 counts_app = with_rule (with_rule (with_rule lines_app window_rule) journal_rule) datagrams_rule
 

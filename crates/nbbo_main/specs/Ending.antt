@@ -1,9 +1,10 @@
--- How the program ends after a replay: its status, and what standard error has then. This project's own texts.
+-- The end of the program after a replay: its status, and the text on standard error. This project's
+-- own texts.
 use Rattle.std.specs.Prelude.{ℕ, List, [], codes, Result, Ok, Err}
 use Rattle.feed_text.specs.declared.fault.ReplayFault.{ReplayFault}
 use Rattle.feed_text.specs.declared.fault.ReplayFault.TheVariants.{ReadFailed, WriteFailed, BadRecord, ShortRecord, TooManyTurns, JournalFull, NoMemory}
 
--- 0 after a replay that came to its end, 1 after one that didn't
+-- 0 after a replay without a fault, else 1
 abbrev pub ending_status : Result (Unit {0}) ReplayFault → ℕ
 ending_status (Ok done) = 0
 ending_status (Err fault) = 1
@@ -17,7 +18,7 @@ fault_text TooManyTurns = codes "nbbo: too many turns\n"
 fault_text JournalFull = codes "nbbo: journal full; --journal gives it more room\n"
 fault_text NoMemory = codes "nbbo: no memory\n"
 
--- one line; none after a replay that came to its end
+-- one line; none after a replay without a fault
 abbrev pub ending_text : Result (Unit {0}) ReplayFault → List ℕ
 ending_text (Ok done) = []
 ending_text (Err fault) = fault_text fault

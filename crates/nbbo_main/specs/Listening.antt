@@ -1,4 +1,4 @@
--- What `nbbo listen` is set up with, what it prints of what came, and how it ends. The texts are this
+-- `nbbo listen`: its settings, what it prints of what came, and how it ends. The texts are this
 -- project's own.
 use Rattle.std.specs.Prelude.{◌≡◌, ◌⊎◌, ℕ, ◌+◌, ◌%◌, ◌==◌, false, List, [], ◌∷◌, ◌++◌, length, flat_map, take, Option, Some, None, if◌then◌else◌, codes, decimal}
 use Rattle.feed_types.specs.declared.config.FeedConfig.{FeedConfig}
@@ -17,7 +17,7 @@ use Rattle.nbbo_main.specs.declared.listening.ListenFault.{ListenFault}
 use Rattle.nbbo_main.specs.declared.listening.ListenFault.TheVariants.{NoMemory, Unsettled}
 use Rattle.nbbo_main.specs.declared.listening.ListenReport.{ListenReport}
 
--- ---- what a feed is set up with
+-- ---- the setting of a feed
 
 -- the settings as a feed takes them: a lane holds 1,024 items, and a log as many notices as the
 -- journal entries
@@ -35,13 +35,13 @@ pub record IsSourceOf (settings : ListenSettings) (venue : ℕ) (line : UdpLineS
   pub left : line.left ≡ settings.datagrams
   pub whole : line.failed ≡ false
 
--- whose lines the addresses are: line A's and then line B's, those of venue 0 first
+-- the line of an address: line A's and then line B's, those of venue 0 first
 abbrev pub line_at : ℕ → LineId
 line_at place = if place % 2 == 0 then A else B
 
 -- ---- what is printed on the output
 
--- of a subscriber: the best lines of the notices that it took, then of those that still lay in its
+-- of a subscriber: the best lines of the notices that it took, then of those that were still in its
 -- lane, and then of those that were not offered
 abbrev pub subscriber_lines : SubscriberEndState → List ℕ
 subscriber_lines x =
@@ -53,7 +53,7 @@ subscriber_lines x =
 abbrev pub end_line : ℕ → VenueEndState → List ℕ
 end_line venue v = venue_line venue (length v.consumed) (λ line. count_on line v.wins)
 
--- those of the venues from this one on
+-- the last lines of the venues from this one on
 abbrev pub end_lines : ℕ → List VenueEndState → List ℕ
 end_lines venue [] = []
 end_lines venue (v ∷ vs) = end_line venue v ++ end_lines (venue + 1) vs
@@ -64,9 +64,9 @@ abbrev pub summary_text : SettlementState → List ℕ
 summary_text s =
     flat_map subscriber_lines (take 1 s.subscribers) ++ end_lines 0 (take 16 s.venues)
 
--- ---- what is said on standard error
+-- ---- texts on standard error
 
--- these texts were said, one after the other
+-- these texts were written, one after the other
 abbrev pub SaysEach : {S : Type 0} (writing : Writing S) → List (List ℕ) → S → S → Type 0
 SaysEach writing [] before after = after ≡ before
 SaysEach {S} writing (text ∷ texts) before after =
@@ -77,7 +77,7 @@ failed_tail A = codes " A failed\n"
 failed_tail B = codes " B failed\n"
 failed_tail Recovery = codes " R failed\n"
 
--- a line failed: the venue's number, and the line's letter
+-- the texts of a line that failed: the venue's number, and the line's letter
 abbrev pub failed_texts : ℕ × LineId → List (List ℕ)
 failed_texts line = codes "nbbo: line " ∷ decimal line.0 ∷ failed_tail line.1 ∷ []
 
@@ -86,14 +86,14 @@ stop_text stops.JournalFull = codes "nbbo: journal full; --journal gives it more
 stop_text stops.NoMemory = codes "nbbo: no memory\n"
 stop_text stops.NoThread = codes "nbbo: no thread\n"
 
--- why a run stopped early, if it did
+-- the text of an early stop of the run, if there was one
 abbrev pub stop_texts : Option Stop → List (List ℕ)
 stop_texts None = []
 stop_texts (Some stop) = stop_text stop ∷ []
 
--- ---- how it ends
+-- ---- the end
 
--- what is said of a report: the lines that failed, and why it stopped early
+-- the texts of a report: the lines that failed, and why it stopped early
 abbrev pub report_texts : ListenReport → List (List ℕ)
 report_texts report =
     flat_map failed_texts report.failed.items ++ stop_texts report.stopped
@@ -103,8 +103,8 @@ abbrev pub report_status : List (ℕ × LineId) → Option Stop → ℕ
 report_status [] None = 0
 report_status failed stopped = 1
 
--- A report is printed: what is said of it is on standard error, and its text on the output. Where
--- that couldn't be, standard error says so at the end.
+-- A report is printed: its texts are on standard error, and the summary on the output. Where that
+-- couldn't be written, standard error says so at the end.
 pub record PrintsReport {W E : Type 0} (writing : Writing W) (telling : Writing E)
     (report : ListenReport) (before after : W) (silent told : E) (status : ℕ) : Type 0 where
   pub said : E
@@ -121,7 +121,7 @@ abbrev pub listen_fault_text : ListenFault → List ℕ
 listen_fault_text NoMemory = codes "nbbo: no memory\n"
 listen_fault_text Unsettled = codes "nbbo: not settled\n"
 
--- Listening comes to a report, which is printed; or to nothing, which standard error says.
+-- Listening ends with a report, which is printed; or with none, which standard error says.
 abbrev pub Listens : {W E : Type 0} (writing : Writing W) (telling : Writing E)
     (before after : W) (silent told : E) → ℕ → Type 0
 Listens writing telling before after silent told status =

@@ -20,14 +20,15 @@ use Rattle.nbbo_main.specs.declared.run.Next.{Next}
 use Rattle.nbbo_main.specs.declared.run.Next.TheVariants.{Ended, Listens}
 use Rattle.nbbo_main.specs.declared.task.Task.TheVariants.{Listen}
 
--- The text was written, or a front of it, up to a call that failed. Of no text nothing is written.
+-- The text was written, or a prefix of it, up to a call that failed. Of an empty text nothing is
+-- written.
 pub record Says {S : Type 0} (writing : Writing S) (text : List ℕ) (before after : S) : Type 0 where
   pub wrote : writing.adds before text after
       ⊎ (Wrote writing.adds before text after
       × (writing.failures after ≡ writing.failures before + 1))
   pub quiet : text ≡ [] → after ≡ before
 
--- what a terminal is told before it is read
+-- the hint on standard error before a terminal is read
 abbrev pub hint_text : Bool → List ℕ
 hint_text at_terminal =
     if at_terminal
@@ -45,7 +46,7 @@ pub record IsConfigOf (settings : ReplaySettings) (config : ReplayConfig) : Type
 
 -- Input was replayed onto output, as the settings say, and what was written is that of a run of the
 -- machine over the records that were read, of which the headline holds. Standard error has the
--- hint, and then the line of how the replay ended; the status is that of how it ended.
+-- hint, and then the line of the replay's outcome; the status is that of the outcome.
 pub record RunsReplay {R W E : Type 0}
     (reading : Reading R) (writing : Writing W) (telling : Writing E)
     (settings : ReplaySettings) (at_terminal : Bool)
@@ -69,14 +70,14 @@ Shows writing telling text before after silent told status =
     ⊎ (Wrote writing.adds before text after × (writing.failures after ≡ writing.failures before + 1)
     × Says telling (ending_text (Err WriteFailed)) silent told × (status ≡ 1))
 
--- Nothing is on output, and why on standard error.
+-- Nothing is on output, and the reason on standard error.
 pub record Complains {W E : Type 0} (telling : Writing E) (text : List ℕ) (due : ℕ)
     (before after : W) (silent told : E) (status : ℕ) : Type 0 where
   pub same : after ≡ before
   pub says : Says telling text silent told
   pub ends : status ≡ due
 
--- A refusal is told: help and the version on output, all else on standard error.
+-- A refusal is printed: help and the version on output, all else on standard error.
 pub record TellsRefusal {W E : Type 0} (writing : Writing W) (telling : Writing E)
     (refusal : Refusal) (before after : W) (silent told : E) (status : ℕ) : Type 0 where
   pub asked : refusal_status refusal ≡ 0
@@ -103,7 +104,7 @@ pub record Refused {R W E : Type 0} (writing : Writing W) (telling : Writing E) 
   pub unread : to ≡ from
   pub tells : TellsRefusal writing telling refusal before after silent told status
 
--- What a run came to: its last argument is the status of the program.
+-- The result of a run: the last argument is the status of the program.
 abbrev pub Runs : {R W E : Type 0} (reading : Reading R) (writing : Writing W) (telling : Writing E)
     (words : List Text) (at_terminal : Bool)
     (from to : R) (before after : W) (silent told : E) (status : ℕ) → Type 0
@@ -119,7 +120,7 @@ pub record LeavesToListen {R W E : Type 0} (words : List Text) (settings : Liste
   pub unwritten : after ≡ before
   pub untold : told ≡ silent
 
--- What a run leads to: its end, or that it is left to listen.
+-- The result of a run: its end, or that it is left to listen.
 abbrev pub Leads : {R W E : Type 0}
     (reading : Reading R) (writing : Writing W) (telling : Writing E)
     (words : List Text) (at_terminal : Bool)

@@ -1,11 +1,11 @@
--- The list of sessions on the command line, this project's own format: the names of the venues' first sessions in
--- order, parted by commas.
+-- The list of sessions on the command line, this project's own format: the names of the venues'
+-- first sessions in order, separated by commas.
 use Rattle.std.specs.Prelude.{ℕ, ◌-◌, Bool, ◌&&◌, nat_le, ◌==◌, if◌then◌else◌, List, ◌++◌, length, map, replicate, Result, Ok, Err}
 use Rattle.std.specs.List.{list_all, slice_split}
 use Rattle.nbbo_main.specs.declared.sessions.SessionsFault.{SessionsFault}
 use Rattle.nbbo_main.specs.declared.sessions.SessionsFault.TheVariants.{BadSession, TooManySessions}
 
--- what stands before, between and behind the commas
+-- the texts before, between and after the commas
 abbrev pub names_in : List ℕ → List (List ℕ)
 names_in list = slice_split (λ byte. byte == 44) list
 
@@ -21,7 +21,7 @@ is_session_name name =
 abbrev pub filled_name : List ℕ → List ℕ
 filled_name name = name ++ replicate (10 - length name) 32
 
--- the sessions of a list; a name that is none is told before that there are more than 16
+-- the sessions of a list; a wrong name is reported before that there are more than 16
 abbrev pub sessions_in : List ℕ → Result (List (List ℕ)) SessionsFault
 sessions_in list =
     if list_all is_session_name (names_in list)

@@ -21,8 +21,8 @@ pub record NameSymbols (words symbols : List (List ℕ)) : Type 0 where
   pub symbols_are : symbols ≡ named_symbols words
   pub distinct : IsDistinct bytes_eq symbols
 
--- Why words name no symbols: a word that is no name is told before that there are more than 4,096,
--- and that before one that is there twice. Memory may be refused at any time.
+-- Why words name no symbols: a word that is no name is reported before that there are more than
+-- 4,096, and that before one that is there twice. Memory may be refused at any time.
 abbrev pub HasSymbolsFault : List (List ℕ) → SymbolsFault → Type 0
 HasSymbolsFault words BadSymbol = list_all is_symbol_name words ≡ false
 HasSymbolsFault words TooManySymbols = AreNames words × (4096 < length words)

@@ -10,7 +10,7 @@ use std::net::{AddrParseError, SocketAddr};
 /// Why a list of lines is refused.
 #[derive(Clone, Copy, Debug, PartialEq, Eq)]
 pub enum LinesFault {
-    /// It isn't two addresses for each venue, parted by commas.
+    /// The list isn't two addresses for each venue, separated by commas.
     BadLines,
     /// Memory was refused.
     NoMemory,
@@ -24,7 +24,7 @@ impl From<AllocError> for LinesFault {
     }
 }
 
-/// The addresses that these are the texts of, in order.
+/// The addresses that the texts spell, in order.
 fn spelled(alloc: Global, texts: &[&str]) -> Result<Vec<SocketAddr>, LinesFault>
     ensures ok { IfOk result (λ lines.
         AreAddresses (map (λ text. text.now) texts.now) lines.items) }
@@ -44,7 +44,7 @@ fn spelled(alloc: Global, texts: &[&str]) -> Result<Vec<SocketAddr>, LinesFault>
     Ok(lines)
 }
 
-/// The lines that a list names, two for each of so many venues.
+/// The lines that a list names, two for each of `venues` venues.
 pub fn read_lines(alloc: Global, list: &str, venues: usize) -> Result<Vec<SocketAddr>, LinesFault>
     requires { venues ≤ 16 }
     ensures ok { IfOk result (λ lines. NameLines list.now venues lines.items) }
@@ -61,7 +61,7 @@ pub fn read_lines(alloc: Global, list: &str, venues: usize) -> Result<Vec<Socket
     }
 }
 
-/// What requests are sent to, if a text is given for it.
+/// The address that requests are sent to, if a text is given for it.
 pub fn read_request(text: Option<&str>) -> Result<Option<SocketAddr>, AddrParseError>
     ensures ok { IfOk result (NamesRequest (option_map (λ text. text.now) text.entry)) }
     ensures err { IfErr result (λ _. NamesNoRequest (option_map (λ text. text.now) text.entry)) }

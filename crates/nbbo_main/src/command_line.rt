@@ -1,4 +1,4 @@
-//! What the words of the command line ask for.
+//! The requests of the words of the command line.
 ghost use Rattle.std.specs.Prelude.{◌≡◌, ◌*◌, ◌≤◌, [], IfOk, IfErr, OnOk, codes, map, string_bytes, unwrap_or, vec_len};
 ghost use Rattle.clap.specs.Matches.{found_of};
 ghost use Rattle.clap.specs.Simple.{subcommand_of, subcommand_rows_of};
@@ -29,11 +29,11 @@ const MAX_WINDOW: u32 = 65_535;
 /// The window where the words give none.
 const DEFAULT_WINDOW: u32 = 4_096;
 
-/// How many entries the journal has room for, and how many datagrams a line reads, where the words
-/// don't say.
+/// The number of entries for which the journal has room, and of datagrams that a line reads, where
+/// the words don't say.
 const DEFAULT_COUNT: u32 = 1_000_000;
 
-/// What an error of the parser comes to.
+/// The refusal for an error of the parser.
 fn refusal_of(alloc: Global, error: &Error) -> Refusal
     ensures { RefusesBy (kind_of error.now) result }
 {
@@ -50,7 +50,7 @@ fn refusal_of(alloc: Global, error: &Error) -> Refusal
     }
 }
 
-/// What the words give to the commands and their options.
+/// The values that the words give to the commands and their options.
 fn parsed<'a>(alloc: Global, words: &'a [String]) -> Result<ArgMatches<'a>, Refusal>
     ensures taken { OnOk result (IsAccepted (map (λ word. string_bytes word) words.entry.now)) }
     ensures values { IfOk result (λ m.
@@ -116,7 +116,7 @@ fn gaps_of(replay: &ArgMatches<'_>) -> bool
     replay.get_flag("gaps")
 }
 
-/// The lines that the option gives, two for each of so many venues.
+/// The lines that the option gives, two for each of `venues` venues.
 fn lines_of(
     alloc: Global,
     listen: &ArgMatches<'_>,
@@ -173,7 +173,8 @@ fn listening_of(alloc: Global, listen: &ArgMatches<'_>) -> Result<ListenSettings
     })
 }
 
-/// What the words ask for, of which the first is the program's name, or why they are refused.
+/// The task that the words ask for, of which the first is the program's name, or why they are
+/// refused.
 pub fn settings(alloc: Global, words: &[String]) -> Result<Task, Refusal>
     ensures ok { IfOk result (Asks (map (λ word. string_bytes word) words.now)) }
     ensures err { IfErr result (IsRefused (map (λ word. string_bytes word) words.now)) }

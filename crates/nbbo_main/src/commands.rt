@@ -1,4 +1,4 @@
-//! The commands of the program and their options, as `clap` is told them.
+//! The commands of the program and their options, as `clap` takes them.
 ghost use Rattle.std.specs.Prelude.{◌≡◌, IfOk, false, codes};
 ghost use Rattle.clap.specs.Simple.{app_of, new_app};
 ghost use Rattle.clap.specs.Walk.{rule_of};
@@ -167,7 +167,7 @@ fn lines_command<'a>(alloc: Global) -> Result<Command<'a>, AllocError>
         .arg(request_option(alloc))
 }
 
-/// And with those that say how much.
+/// `listen` with its options that say how much, too.
 fn counts_command<'a>(alloc: Global) -> Result<Command<'a>, AllocError>
     ensures app { IfOk result (λ c. app_of c ≡ counts_app) }
     ensures local { IfOk result (λ c. (fields_of c).has_globals ≡ false) }

@@ -1,11 +1,11 @@
-//! How the program ends after a replay.
+//! The end of the program after a replay.
 ghost use Rattle.std.specs.Prelude.{◌≡◌};
 ghost use Rattle.nbbo_main.specs.Ending.{ending_status, ending_text};
 
 use feed_text::fault::ReplayFault;
 
-/// The status of the program, and the line for standard error, with its end: none after a replay that came to its
-/// end.
+/// The status of the program, and the line for standard error, with its end: none after a replay
+/// without a fault.
 pub fn ending(outcome: &Result<(), ReplayFault>) -> (u8, &'static str)
     ensures status { result.0 ≡ ending_status outcome.now }
     ensures text { result.1.now ≡ ending_text outcome.now }

@@ -1,6 +1,6 @@
-//! What `--help` tells.
+//! The texts of `--help`.
 
-/// The program, in a line.
+/// The program, in one line.
 pub const ABOUT: &str = "\
 Brings the redundant lines of each venue's MoldUDP64 feed into one sequence, and keeps the
 national best bid and offer of each symbol";
@@ -8,7 +8,7 @@ national best bid and offer of each symbol";
 /// The program's version, and the kit that it is proved with.
 pub const VERSION: &str = "0.1.0\nproved with rattle-kit-13f logic dac8208d650f15bf";
 
-/// How `replay` is called.
+/// The usage of `replay`.
 pub const REPLAY_USAGE: &str = "nbbo replay [OPTIONS] --sessions <LIST> [SYMBOL]... < CAPTURE";
 
 pub const EXAMPLE: &str = "\
@@ -18,7 +18,7 @@ Example:
 
 'nbbo replay --help' and 'nbbo listen --help' tell what is read and what is printed.";
 
-/// `replay`, in a line.
+/// `replay`, in one line.
 pub const REPLAY_ABOUT: &str = "Replays a capture from standard input and prints what became of it";
 
 pub const REPLAY_LONG_ABOUT: &str = "\
@@ -59,7 +59,7 @@ Examples:
 
 '--help' also tells what a capture is and what is printed.";
 
-/// What the long help tells behind the options.
+/// The part of the long help after the options.
 pub const REPLAY_LINES: &str = "\
 Printed lines, V a venue from 0, L a line (A, B or R for recovery):
   packet V L taken NEW REPEATED  a datagram's messages: so many came first, so many came again
@@ -143,7 +143,7 @@ pub const DATAGRAMS_HELP: &str = "\
 How many datagrams a line reads at most: 0 to 4294967295. A line also ends after a
 datagram that is an end of session, of whichever session";
 
-/// `listen`, in a line.
+/// `listen`, in one line.
 pub const LISTEN_ABOUT: &str = "Listens on the lines of live venues and prints what they came to";
 
 pub const LISTEN_LONG_ABOUT: &str = "\
@@ -155,7 +155,7 @@ bid and offer of each symbol is kept. A line ends after an end of session, or af
 datagrams as --datagrams says. Once all lines have ended, what changed is printed, and not
 before.";
 
-/// How `listen` is called.
+/// The usage of `listen`.
 pub const LISTEN_USAGE: &str = "nbbo listen [OPTIONS] --sessions <LIST> --lines <LIST> [SYMBOL]...";
 
 /// An example, for the short help.
@@ -165,7 +165,7 @@ Example, one venue whose lines are received on two ports:
 
 '--help' also has an example to try at once, and tells what is printed.";
 
-/// What the long help tells behind the options.
+/// The part of the long help after the options.
 pub const LISTEN_LINES: &str = "\
 Printed lines, once all lines have ended:
   best NOTICE POSITION SYMBOL BID OFFER STATE

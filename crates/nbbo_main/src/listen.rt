@@ -21,17 +21,18 @@ use std::rt::Clock;
 use std::sync::Wait;
 use std::thread::Threads;
 
-/// What is said where memory was refused.
+/// The line on standard error where memory was refused.
 pub const NO_MEMORY: &str = "nbbo: no memory\n";
 
-/// The status of the program after such a report: 0 where no line failed and nothing stopped the run early.
+/// The status of the program after such a report: 0 where no line failed and nothing stopped the
+/// run early, else 1.
 fn status_of(failed: &[(VenueId, LineId)], stopped: Option<Stop>) -> u8
     ensures { result ≡ report_status failed.now stopped }
 {
     u8::from(stopped.is_some() || !failed.is_empty())
 }
 
-/// Writes a text on standard error, and gives the status 1.
+/// Writes a text on standard error, and returns the status 1.
 fn fail<E: TextOut>(text: &str, errors: &mut E) -> u8
     ensures says { Says (record { adds = E.adds; failures = E.failures })
         text.now errors.old errors.new }
@@ -41,7 +42,7 @@ fn fail<E: TextOut>(text: &str, errors: &mut E) -> u8
     1
 }
 
-/// Prints what listening came to, and gives the status of the program.
+/// Prints the report of listening, and returns the status of the program.
 fn print_report<W: TextOut, E: TextOut>(
     alloc: Global,
     report: &ListenReport,
@@ -74,7 +75,7 @@ fn fault_line(fault: ListenFault) -> &'static str
 }
 
 /// Listens on these sockets, in the order of the settings' lines, until all have ended; then prints
-/// what they came to for a subscriber with these terms, and gives the status of the program: 0, or 1
+/// the report for a subscriber with these terms, and returns the status of the program: 0, or 1
 /// where a line failed, the run stopped early, or nothing was printed.
 pub fn listen_with<R, C, W, E>(
     rt: &R,

@@ -1,4 +1,4 @@
-//! What `nbbo listen` says on standard error.
+//! The lines of `nbbo listen` on standard error.
 ghost use Rattle.std.specs.Prelude.{◌≡◌, flat_map, decimal};
 ghost use Rattle.feed_text.specs.Devices.{Writing};
 ghost use Rattle.nbbo_main.specs.Listening.{SaysEach, failed_tail, failed_texts, report_texts, stop_text, stop_texts};
@@ -20,7 +20,7 @@ fn write_number<E: TextOut>(number: u64, errors: &mut E)
     write_stderr(digits.format(number), errors);
 }
 
-/// The end of the line of a line that failed.
+/// The end of the line about a line that failed.
 fn failed_end(line: LineId) -> &'static str
     ensures { result.now ≡ failed_tail line }
 {

@@ -1,4 +1,4 @@
-//! What `nbbo listen` is to do.
+//! The settings of `nbbo listen`.
 ghost use Rattle.std.specs.Prelude.{◌≡◌, ◌*◌, ◌≤◌, vec_len};
 ghost use Rattle.std.specs.List.{IsDistinct, IsDistinct-prop};
 ghost use Rattle.std.specs.Str.{bytes_eq};
@@ -6,22 +6,22 @@ ghost use Rattle.std.specs.Str.{bytes_eq};
 use feed_types::SymbolName;
 use std::net::SocketAddr;
 
-/// What `nbbo listen` is to do.
+/// The settings of `nbbo listen`.
 #[derive(Debug, Drop)]
 pub struct ListenSettings {
     /// The first session of each venue, ten bytes, filled on the right with spaces.
     pub sessions: Vec<[u8; 10]>,
-    /// Where each line is received: line A's and then line B's address, those of venue 0 first.
+    /// The address where each line is received: line A's and then line B's, those of venue 0 first.
     pub lines: Vec<SocketAddr>,
-    /// Where requests for messages that are missing go to, if anywhere.
+    /// The address that requests for missing messages go to, if there is one.
     pub request: Option<SocketAddr>,
     /// The symbols whose national best is printed, each once, in the order of the command line.
     pub symbols: Vec<SymbolName>,
-    /// How many messages past the last item sent a venue holds.
+    /// The number of messages past the last item sent that a venue holds.
     pub window: u32,
-    /// How many entries the journal has room for.
+    /// The number of entries for which the journal has room.
     pub journal: u32,
-    /// How many datagrams a line reads at most.
+    /// The most datagrams that a line reads.
     pub datagrams: u32,
     ghost some_venues: { 1 ≤ vec_len sessions },
     ghost few_venues: { vec_len sessions ≤ 16 },

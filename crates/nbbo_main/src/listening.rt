@@ -13,15 +13,15 @@ use std::rt::Clock;
 use std::sync::Wait;
 use std::thread::Threads;
 
-/// How many items a venue's lane, and a subscriber's, holds.
+/// The number of items that a venue's lane, and a subscriber's, holds.
 const LANE: u32 = 1_024;
 
-/// Why listening came to nothing.
+/// Why listening ended without a report.
 #[derive(Clone, Copy, Debug, PartialEq, Eq)]
 pub enum ListenFault {
     /// Memory was refused.
     NoMemory,
-    /// What the lines brought couldn't be settled. No run meets it.
+    /// The feed couldn't be settled. No run meets this.
     Unsettled,
 }
 
@@ -31,14 +31,14 @@ impl From<AllocError> for ListenFault {
     }
 }
 
-/// What listening came to.
+/// The report of listening.
 #[derive(Drop)]
 pub struct ListenReport {
     /// The lines whose sockets failed, in the order of the settings.
     pub failed: Vec<(VenueId, LineId)>,
     /// Why the run stopped early, if it did.
     pub stopped: Option<Stop>,
-    /// What was taken, and what became of it.
+    /// The settlement of the feed.
     pub settlement: Settlement,
 }
 
@@ -68,7 +68,7 @@ fn place_of(place: usize) -> Result<(VenueId, LineId), ListenFault>
     Ok((venue, line))
 }
 
-/// The line of this seat, which the socket receives.
+/// Makes the line of this seat, which the socket receives.
 fn line_over<N: FeedName, C: Clock + Drop>(
     alloc: Global,
     settings: &ListenSettings,
@@ -94,7 +94,7 @@ fn line_over<N: FeedName, C: Clock + Drop>(
     }
 }
 
-/// The seats of lines that have ended, and which of them failed.
+/// Splits lines that have ended in their seats and the list of those that failed.
 fn part_lines<N: FeedName, S: Drop>(
     alloc: Global,
     ends: Vec<LineEnd<Anything, N, S>>,
@@ -125,8 +125,8 @@ fn fault_of(fault: SettleFault) -> ListenFault {
 /// Runs the feed over these sockets until all lines have ended, with one subscriber, which wants
 /// what meets the terms and whose strategy always holds.
 ///
-/// The feed is opened here and goes nowhere else: what has its locks could be handed a stored
-/// closure.
+/// The feed is opened here and goes nowhere else: a stored closure could be handed to what has its
+/// locks.
 pub fn run_feed<N, R, C>(
     rt: &R,
     alloc: Global,

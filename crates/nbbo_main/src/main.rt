@@ -1,17 +1,17 @@
 //! The program `nbbo`.
 //!
-//! `nbbo replay --sessions LIST [--window N] [--journal N] [--gaps] [SYMBOL]...` reads a capture from standard
-//! input and writes its lines to standard output. What a capture is and what its lines are is told, and proved,
-//! in `feed_text`.
+//! `nbbo replay --sessions LIST [--window N] [--journal N] [--gaps] [SYMBOL]...` reads a capture
+//! from standard input and writes its lines to standard output. `feed_text` says, and proves, what
+//! a capture is and what its lines are.
 //!
 //! `nbbo listen --sessions LIST --lines LIST [--request ADDR] [--window N] [--journal N]
 //! [--datagrams N] [SYMBOL]...` receives the lines of live venues by UDP, runs them as a live feed
-//! (`live_feed`), and prints what they came to once all have ended.
+//! (`live_feed`), and prints its report once all have ended.
 //!
-//! The contract here is that of `run::run`: of any words, over any input, output and standard error,
-//! it says what is read, what is written where, and the status, or that the words ask to listen
-//! (`specs/Runs.antt`). Outside of it stand, in this file, the opening of the three streams and of
-//! the sockets, the words as the system gives them, and the exit; and listening itself
+//! The contract here is that of `run::run`: of any words, over any input, output and standard
+//! error, it says what is read, what is written where, and the status, or that the words ask to
+//! listen (`specs/Runs.antt`). Not part of it are, in this file, the opening of the three streams
+//! and of the sockets, the words as the system gives them, and the exit; and listening itself
 //! (`listen.rt`), which tests show.
 //!
 //! Begin with `run.rt`, then `specs/CommandLine.antt` and `command_line.rt`; `listen.rt` and
@@ -62,7 +62,7 @@ fn words_of(rt: &HostRuntime) -> io::Result<Vec<String>> {
     Ok(env::args(rt)?.collect(rt.alloc())?)
 }
 
-/// Why there are no words.
+/// The refusal where there are no words.
 fn unread(kind: ErrorKind) -> Refusal
     ensures memory { kind ≡ ErrorKind.OutOfMemory → result ≡ NoMemory }
     ensures text { kind ≢ ErrorKind.OutOfMemory → result ≡ NotText }
@@ -74,8 +74,8 @@ fn unread(kind: ErrorKind) -> Refusal
     }
 }
 
-/// Runs over the standard streams, and gives the status of the program. The blank pages count the calls of the
-/// input, and the failures of each.
+/// Runs over the standard streams, and returns the status of the program. The blank pages count the
+/// calls of the input, and the failures of each.
 fn run_streams<H: Threads + Wait + Sync, C: Ledger, R: Ledger, W: Ledger, E: Ledger>(
     rt: &HostRuntime,
     threads: &H,

@@ -1,4 +1,4 @@
-//! Why the program has no settings.
+//! The reasons why the program has no settings.
 ghost use Rattle.std.specs.Prelude.{◌≡◌};
 ghost use Rattle.nbbo_main.specs.CommandLine.{lines_refusal_by, refusal_by, refusal_status, refusal_text, symbols_refusal_by};
 ghost use Rattle.nbbo_main.specs.declared.refusal.Refusal.TheVariants.{BadRequest, NoMemory};
@@ -12,7 +12,7 @@ use std::net::AddrParseError;
 /// Why there are no settings.
 #[derive(Debug, Drop)]
 pub enum Refusal {
-    /// Help or the version was asked for, and this is its text.
+    /// Help or the version was asked for; its text.
     Shown(String),
     /// The words are no command line of the program. The text says what is wrong with them.
     Usage(String),
@@ -24,7 +24,7 @@ pub enum Refusal {
     TooManySessions,
     /// The lines aren't two addresses for each session.
     BadLines,
-    /// What requests are to be sent to is no address.
+    /// The text for the address of requests is no address.
     BadRequest,
     /// A symbol is empty, has more than eight bytes, or has a byte outside of `21` to `7e`.
     BadSymbol,
@@ -51,7 +51,8 @@ impl Refusal {
         }
     }
 
-    /// What is printed, with its line ends: on standard output where the status is 0, else on standard error.
+    /// The text that is printed, with its line ends: on standard output where the status is 0, else
+    /// on standard error.
     pub fn text(&self) -> &str
         ensures { result.now ≡ refusal_text self.now }
     {

@@ -1,20 +1,20 @@
-//! What `nbbo replay` is to do.
+//! The settings of `nbbo replay`.
 ghost use Rattle.std.specs.Prelude.{◌≤◌, vec_len};
 ghost use Rattle.std.specs.List.{IsDistinct, IsDistinct-prop};
 ghost use Rattle.std.specs.Str.{bytes_eq};
 
 use feed_types::SymbolName;
 
-/// What `nbbo replay` is to do.
+/// The settings of `nbbo replay`.
 #[derive(Debug, Drop)]
 pub struct ReplaySettings {
     /// The first session of each venue, ten bytes, filled on the right with spaces.
     pub sessions: Vec<[u8; 10]>,
     /// The symbols whose national best is printed, each once, in the order of the command line.
     pub symbols: Vec<SymbolName>,
-    /// How many messages past the last item sent a venue holds.
+    /// The number of messages past the last item sent that a venue holds.
     pub window: u32,
-    /// How many entries the journal has room for.
+    /// The number of entries for which the journal has room.
     pub journal: u32,
     /// Whether gaps are printed.
     pub gaps: bool,

@@ -15,22 +15,22 @@ use feed_text::replay::ReplayConfig;
 use replay_run::replay;
 use std::alloc::Global;
 
-/// How many calls of the reader a replay makes at most.
+/// The most calls of the reader that a replay makes.
 const MAX_TURNS: u64 = 1_000_000_000;
 
-/// What a terminal is told before it is read.
+/// The hint on standard error before a terminal is read.
 const HINT: &str = "nbbo: reading a capture from the terminal ('nbbo replay --help' tells more)\n";
 
-/// What a run came to.
+/// The result of a run.
 #[derive(Debug, Drop)]
 pub enum Next {
-    /// It is over, and this is the status of the program.
+    /// The run is over; the status of the program.
     Ended(u8),
     /// The words ask to listen, and nothing else was done.
     Listens(ListenSettings),
 }
 
-/// What is asked of the replay.
+/// The settings as the replay takes them.
 fn config_of(settings: &ReplaySettings) -> ReplayConfig<'_>
     ensures { IsConfigOf settings.now result }
 {
@@ -44,7 +44,7 @@ fn config_of(settings: &ReplaySettings) -> ReplayConfig<'_>
     }
 }
 
-/// Writes a text on standard error. Where it can't be written nothing can be told.
+/// Writes a text on standard error. Where that fails nothing can be said.
 pub fn write_stderr<E: TextOut>(text: &str, errors: &mut E)
     ensures { Says (record { adds = E.adds; failures = E.failures })
         text.now errors.old errors.new }
@@ -60,7 +60,7 @@ fn hint(at_terminal: bool) -> &'static str
     if at_terminal { HINT } else { "" }
 }
 
-/// Replays the input onto the output, and gives the status of the program.
+/// Replays the input onto the output, and returns the status of the program.
 fn run_replay<R: CaptureIn, W: TextOut, E: TextOut>(
     alloc: Global,
     settings: &ReplaySettings,
@@ -83,8 +83,9 @@ fn run_replay<R: CaptureIn, W: TextOut, E: TextOut>(
     status
 }
 
-/// Prints why nothing is replayed: help and the version on the output, all else on standard error. A text that was
-/// asked for and can't be written is a fault of writing. Gives the status of the program.
+/// Prints why nothing is replayed: help and the version on the output, all else on standard error.
+/// A text that was asked for and can't be written is a fault of writing. Returns the status of the
+/// program.
 pub fn refuse<W: TextOut, E: TextOut>(refusal: &Refusal, output: &mut W, errors: &mut E) -> u8
     ensures { TellsRefusal
         (record { adds = W.adds; failures = W.failures })
@@ -106,11 +107,11 @@ pub fn refuse<W: TextOut, E: TextOut>(refusal: &Refusal, output: &mut W, errors:
     }
 }
 
-/// Does what the words ask for, of which the first is the program's name, but for listening, which
-/// takes sockets and threads: then the settings for it are given.
+/// Does what the words ask for, of which the first is the program's name, except listening, which
+/// takes sockets and threads: then the settings for it are returned.
 ///
-/// The input is read only for a replay, and its lines are all that a replay writes on the output. A terminal is told
-/// on standard error that it is read.
+/// The input is read only for a replay, and its lines are all that a replay writes on the output.
+/// Before a terminal is read, standard error says so.
 pub fn run<R: CaptureIn, W: TextOut, E: TextOut>(
     alloc: Global,
     words: &[String],

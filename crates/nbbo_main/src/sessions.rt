@@ -6,10 +6,10 @@ ghost use Rattle.nbbo_main.specs.declared.sessions.SessionsFault.TheVariants.{No
 
 use std::alloc::{AllocError, Global};
 
-/// How many bytes the name of a session has in a packet.
+/// The number of bytes of a session's name in a packet.
 const NAME_LEN: usize = 10;
 
-/// How many venues there can be.
+/// The most venues.
 const MAX_VENUES: usize = 16;
 
 /// Why a list of sessions is refused.
@@ -37,7 +37,7 @@ fn is_printable(bytes: &[u8]) -> bool
     bytes.iter().all(|&byte| 0x20 <= byte && byte <= 0x7e)
 }
 
-/// Whether it is a name: 1 to 10 bytes of `20` to `7e`.
+/// Whether `name` is 1 to 10 bytes of `20` to `7e`.
 fn is_name(name: &[u8]) -> bool
     ensures { result ≡ is_session_name name.now }
 {
@@ -74,7 +74,7 @@ fn filled_all(alloc: Global, names: &[&str]) -> Result<Vec<[u8; 10]>, AllocError
 
 /// The sessions that a list names, each with the ten bytes that packets carry.
 ///
-/// Names may be equal, all spaces, or differ in the spaces at their ends alone.
+/// Names may be equal, all spaces, or differ only in the spaces at their ends.
 pub fn read_sessions(alloc: Global, list: &str) -> Result<Vec<[u8; 10]>, SessionsFault>
     ensures ok { IfOk result (λ sessions. sessions_in list.now ≡ Ok sessions.items) }
     ensures err { IfErr result (λ fault. fault ≢ NoMemory → sessions_in list.now ≡ Err fault) }

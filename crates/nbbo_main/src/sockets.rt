@@ -5,7 +5,8 @@ use crate::listen::NO_MEMORY;
 use std::alloc::{AllocError, Global};
 use std::net::{Net, SocketAddr, UdpSocket};
 
-/// Opens a socket for each address, in order. The text says what there is to tell where that fails.
+/// Opens a socket for each address, in order. Where that fails, returns the text for standard
+/// error.
 pub fn bind_sockets<R: Net>(
     net: &R,
     alloc: Global,
@@ -27,8 +28,9 @@ pub fn bind_sockets<R: Net>(
     Ok(sockets)
 }
 
-/// The line that tells where the program listens: the addresses of the sockets as `--lines` has them, so with the
-/// ports that the system picked. Where it can't tell a socket's address, the one that was asked for stands there.
+/// The line that says where the program listens: the addresses of the sockets as `--lines` has
+/// them, so with the ports that the system picked. Where a socket's address can't be read, the line
+/// has the one that was asked for.
 pub fn listening_line(
     alloc: Global,
     sockets: &[UdpSocket],

@@ -1,4 +1,4 @@
-//! The text of what listening came to.
+//! The text of a settled feed.
 ghost use Rattle.std.specs.Prelude.{◌≡◌, ◌++◌, ◌<◌, flat_map, length, IfOk, IfSome, OnOk, slice_get, take};
 ghost use Rattle.feed_text.specs.Lines.{best_line};
 ghost use Rattle.nbbo_main.specs.Listening.{end_line, end_lines, subscriber_lines, summary_text};
@@ -43,8 +43,8 @@ fn put_end(text: &mut LineBuffer, settlement: &Settlement, venue: VenueId) -> Re
     put_venue(text, venue, sent, a, b, recovery)
 }
 
-/// Appends the best lines of all that the subscriber wanted: what it took, what still lay in its
-/// lane, and what was not offered. The id is below the number of subscribers.
+/// Appends the best lines of everything that the subscriber wanted: what it took, what was still in
+/// its lane, and what was not offered. The id is below the number of subscribers.
 fn put_bests(
     text: &mut LineBuffer,
     settlement: &Settlement,
@@ -86,8 +86,8 @@ fn put_ends(text: &mut LineBuffer, settlement: &Settlement) -> Result<(), AllocE
     Ok(())
 }
 
-/// What is printed once all lines have ended: the best lines of the first subscriber, and then a line
-/// for each venue.
+/// The text that is printed once all lines have ended: the best lines of the first subscriber, and
+/// then a line for each venue.
 pub fn summary_of(alloc: Global, settlement: &Settlement) -> Result<LineBuffer, AllocError>
     ensures { IfOk result (λ text. text.items ≡ summary_text settlement.now) }
 {

@@ -10,7 +10,7 @@ use feed_types::SymbolName;
 use indexmap::IndexSet;
 use std::alloc::{AllocError, Global};
 
-/// How many symbols there can be.
+/// The most symbols.
 const MAX_SYMBOLS: usize = 4096;
 
 /// Why words name no symbols.

@@ -1,9 +1,9 @@
-//! What the program is to do.
+//! The tasks of the program.
 
 use crate::listen_settings::ListenSettings;
 use crate::replay_settings::ReplaySettings;
 
-/// What the program is to do.
+/// The task of the program.
 #[derive(Debug, Drop)]
 pub enum Task {
     /// `nbbo replay`.

@@ -18,14 +18,14 @@ use std::time::{Clock, Duration};
 /// The most bytes that a datagram can have.
 const MAX_DATAGRAM: usize = 65_535;
 
-/// How many bytes a request has.
+/// The number of bytes of a request.
 const REQUEST_LEN: usize = 20;
 
-/// How many times one call asks the socket at most.
+/// The most times that one call asks the socket.
 const MAX_TURNS: u32 = 1_000_000;
 
-/// A line of a venue that is received by UDP. It ends after as many datagrams as it was made for,
-/// and after one that is an end of session, of whichever session.
+/// A line of a venue that is received by UDP. It ends after the number of datagrams that it was
+/// made for, and after one that is an end of session, of whichever session.
 ///
 /// Once its socket has failed the line has ended: it asks the socket for nothing more.
 #[derive(Drop)]
@@ -49,8 +49,8 @@ impl<C> Model for UdpLine<C> {
     ghost view = { λ l. record { venue = l.line_venue; left = l.to_read; failed = l.broken } };
 }
 
-/// Waits for a datagram, puts it at the front of the buffer, and says how many bytes it has. A call
-/// that was interrupted is made again.
+/// Waits for a datagram, puts it at the front of the buffer, and returns its length in bytes. A
+/// call that was interrupted is made again.
 fn receive(socket: &UdpSocket, buffer: &mut [u8]) -> Result<usize, SourceFault>
     ensures count { IfOk result (λ count. count ≤ length buffer.new) }
     ensures fault { IfErr result (λ fault. fault ≢ NoMemory) }
@@ -108,8 +108,8 @@ fn millis(time: Duration) -> u64
 }
 
 impl<C: Drop> UdpLine<C> {
-    /// The line of a venue that this socket receives, for so many datagrams at most. Requests go to
-    /// the address that is given for them, from the line's socket; else they are dropped.
+    /// The line of a venue that this socket receives, for at most `datagrams` datagrams. Requests
+    /// go to the address that is given for them, from the line's socket; else they are dropped.
     pub fn new(
         alloc: Global,
         venue: VenueId,
@@ -135,11 +135,11 @@ impl<C: Drop> UdpLine<C> {
         })
     }
 
-    /// Receives the next datagram; None once the line has ended, and only then. An end of session ends it, and
-    /// so does the last datagram that it may read.
+    /// Receives the next datagram; None once the line has ended, and only then. An end of session
+    /// ends it, and so does the last datagram that it may read.
     ///
-    /// Device where the socket failed, TooManyTurns where it was interrupted a million times: the line has
-    /// ended then. NoMemory where memory for the datagram was refused, which is lost then.
+    /// Device where the socket failed, TooManyTurns where it was interrupted a million times: the
+    /// line has ended then. NoMemory where memory for the datagram was refused, which is lost then.
     fn receive_next(&mut self) -> Result<Option<Datagram>, SourceFault>
         ensures over { result ≡ Ok None → IsOver self.old }
         ensures ended { IsOver self.old → (result ≡ Ok None) × (self.new ≡ self.old) }
