@@ -1,4 +1,4 @@
--- Cursors, and what they have been past.
+-- Cursors, and what they are past.
 use Rattle.std.proofs.Common.{ℕ, zero, suc, ◌≡◌, ◌≤◌, List, [], ◌∷◌, ◌++◌, ap, refl, subst, length, arith, map, filter}
 use Rattle.filter_terms.specs.Terms.{meets}
 use Rattle.std.specs.Prelude.{slice_get, slice_set, Some}

@@ -12,7 +12,7 @@ use Rattle.nbbo_book.specs.Changes.{change_of, changes_by}
 use Rattle.nbbo_book.specs.Nationals.{national_of}
 use Rattle.journal_book.specs.Changes.{changes_at, all_changes, notice_of, notices_from, changes_of}
 
--- one number more, at the end
+-- one more number, at the end
 range_more : (a n : ℕ) → range_with_len a (suc n) ≡ range_with_len a n ++ (a + n) ∷ []
 range_more a zero = let e : a ≡ a + 0 = omega arith in ap (λ k. k ∷ []) e
 range_more a (suc n) =
@@ -27,14 +27,14 @@ flat_map_same f g a (suc n) h =
     ∙ ap (λ l. g a ++ l) (flat_map_same f g (a + 1) n (λ p low high. h p (omega arith) (omega arith)))
 
 module _ (symbols : List (List ℕ)) (es : List Entry) (e : Entry) where
-  -- what stood before stays
+  -- the earlier changes stay
   changes_at-before : (p : ℕ) → p ≤ length es → changes_at symbols (es ++ e ∷ []) p ≡ changes_at symbols es p
   changes_at-before p low =
       let earlier : take (p - 1) (es ++ e ∷ []) ≡ take (p - 1) es = take-append-le (p - 1) es (e ∷ []) (omega arith) in
       let now : take p (es ++ e ∷ []) ≡ take p es = take-append-le p es (e ∷ []) low in
       λ i. filter_map (λ symbol. change_of p symbol (national_of (earlier i) symbol) (national_of (now i) symbol)) symbols
 
-  -- and at the new position stand the entry's changes
+  -- and at the new position are the entry's changes
   changes_at-now : (p : ℕ) → p ≡ length es + 1 → changes_at symbols (es ++ e ∷ []) p ≡ changes_by symbols es p e
   changes_at-now p is =
       let below : p - 1 ≤ length es = omega arith in
@@ -68,7 +68,7 @@ pub length-numbered : (n : ℕ) (xs : List Change) → length (notices_from n xs
 length-numbered n [] = refl
 length-numbered n (x ∷ xs) = ap suc (length-numbered (n + 1) xs)
 
--- the changes of one more entry, behind those that stood
+-- the changes of one more entry, after the earlier ones
 pub changes-put : (symbols : List (List ℕ)) (es : List Entry) (e : Entry)
     → changes_of symbols (es ++ e ∷ []) ≡ changes_of symbols es ++ notices_from (length (changes_of symbols es) + 1) (changes_by symbols es (length es + 1) e)
 changes-put symbols es e =

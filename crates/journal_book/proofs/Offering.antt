@@ -1,4 +1,4 @@
--- What moving a subscriber's cursor does to what was offered.
+-- The effect of moving a subscriber's cursor on what was offered.
 use Rattle.std.proofs.Common.{ℕ, zero, suc, ◌≡◌, ◌+◌, ◌<◌, ◌≤◌, List, [], ◌∷◌, ◌++◌, Bool, ap, ◌∙◌, sym, refl, subst, length, map, get_or, None, Some, Option, arith}
 use Rattle.std.specs.Prelude.{slice_get, slice_set, IsSome, MatchOption, option_and_then}
 use Rattle.std.specs.Option.{option_map}
@@ -28,7 +28,7 @@ map_set f [] i x = refl
 map_set f (y ∷ ys) zero x = refl
 map_set f (y ∷ ys) (suc i) x = ap (λ l. f y ∷ l) (map_set f ys i x)
 
--- an item put where it stands
+-- an item written over itself
 set_same : {X : Type 0} (xs : List X) (i : ℕ) (x : X) → slice_get xs i ≡ Some x → slice_set xs i x ≡ xs
 set_same [] i x e = refl
 set_same (y ∷ ys) zero x e = let same : y ≡ x = some_is y x e in ap (λ z. z ∷ ys) (sym same)
@@ -66,7 +66,7 @@ next_of state filters id from place f tied at seen found = by (slice_get state.c
         let place_same : from ≡ c.seen = sym (some_is c.seen from h) in
         subst (λ (x : (Notice → Bool) × ℕ). IsNextPlace x.0 (changes state) x.1 place) (λ i. (wants i, place_same i)) found
 
--- one filter more, with a cursor of a copy of its terms
+-- one more filter, with a cursor of a copy of its terms
 pub tied_put : {g F m : _} (filters : List (Filter g F m)) (cursors : List Cursor) (f : Filter g F m) (copy : Terms)
     → length filters ≡ length cursors → IsCopy (terms_of f) copy → SameAnswers filters cursors
     → SameAnswers (filters ++ f ∷ []) (cursors ++ record { terms = copy; seen = 0 } ∷ [])
@@ -166,7 +166,7 @@ stays_looking state new id place looks = by (slice_get state.cursors id) looks
     by None l = absurd l
     by (Some c) l = l ∙ ap (λ (s : JournalState). record state { cursors = s.cursors }) (sym l)
 
--- and what is next is so still
+-- and the next notice stays the next one
 pub next_stays : (old new : JournalState) (id : ℕ) → StaysButCursors old new → subscriptions_of new ≡ subscriptions_of old → next_at new id ≡ next_at old id
 next_stays old new id stays same =
     λ i. option_and_then (λ (s : Subscription). slice_get (wanted_of (stays i).symbols s.terms (stays i).entries) s.offered) (slice_get (same i) id)

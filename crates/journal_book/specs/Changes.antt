@@ -8,7 +8,7 @@ use Rattle.nbbo_book.specs.Changes.{change_of}
 use Rattle.nbbo_book.specs.Nationals.{national_of}
 
 -- The changes at a position, which counts from 1: one for each symbol, in order, whose national
--- best after so many entries is another one than before the last of them.
+-- best differs between the entries up to that position and those before it.
 abbrev pub changes_at : List (List ℕ) → List Entry → ℕ → List Change
 changes_at symbols entries position =
     filter_map
@@ -17,7 +17,7 @@ changes_at symbols entries position =
     (national_of (take position entries) symbol))
     symbols
 
--- those of each position in turn
+-- the changes of each position in turn
 abbrev pub all_changes : List (List ℕ) → List Entry → List Change
 all_changes symbols entries =
     flat_map (changes_at symbols entries) (range_with_len 1 (length entries))
@@ -42,7 +42,7 @@ notices_from number (change ∷ changes) =
 abbrev pub changes_of : List (List ℕ) → List Entry → List Notice
 changes_of symbols entries = notices_from 1 (all_changes symbols entries)
 
--- the notices that came with the entries behind the old ones
+-- the notices that came with the entries after the old ones
 abbrev pub notices_since : List (List ℕ) → List Entry → List Entry → List Notice
 notices_since symbols old new = drop (length (changes_of symbols old)) (changes_of symbols new)
 

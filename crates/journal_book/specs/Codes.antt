@@ -1,4 +1,4 @@
--- The numbers that stand for faults in logs (this project's format).
+-- The codes of faults in logs (this project's format).
 use Rattle.std.specs.Prelude.{ℕ}
 use Rattle.journal_book.specs.declared.fault.JournalFault.{JournalFault}
 use Rattle.journal_book.specs.declared.fault.JournalFault.TheVariants.{NoMemory, JournalFull, UnknownVenue, AlreadySo, TooManySubscribers}

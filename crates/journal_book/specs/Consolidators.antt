@@ -1,4 +1,4 @@
--- What contracts see of a consolidator: its journal, and whom it offers what.
+-- A consolidator as contracts see it: its journal, and which subscriber it offers what.
 use Rattle.std.specs.Prelude.{◌≡◌, ℕ, ◌+◌, ◌<◌, ◌≤◌, List, Option, MatchOption, option_and_then, Result, Ok, Err, length, slice_get, slice_set}
 use Rattle.feed_types.specs.declared.journal.Notice.{Notice}
 use Rattle.filter_terms.specs.declared.filter.Filter.{Filter}
@@ -23,7 +23,7 @@ next_for state subscription =
 abbrev pub next_at : JournalState → ℕ → Option Notice
 next_at state id = option_and_then (next_for state) (slice_get (subscriptions_of state) id)
 
--- nothing but how far the cursors have come is another than before
+-- nothing but the cursors differs from before
 abbrev pub StaysButCursors : JournalState → JournalState → Type 0
 StaysButCursors old new = new ≡ record old { cursors = new.cursors }
 
@@ -34,7 +34,7 @@ OffersOne old id new = MatchOption (slice_get old id) ⊥
     new ≡ slice_set old id (record subscription { offered = subscription.offered + 1 }))
 
 -- The answer to `subscribe`, by cases: what is kept is a copy of the filter's terms, and a refused
--- filter comes back.
+-- filter is handed back.
 abbrev pub SubscribesFilter : {g F m : _} → JournalState → Filter g F m
     → Result ℕ (JournalFault × Filter g F m) → JournalState → Type 0
 SubscribesFilter old filter (Ok id) new =

@@ -1,4 +1,4 @@
--- What contracts see of a journal.
+-- A journal as contracts see it.
 use Rattle.std.specs.Prelude.{◌≡◌, ℕ, ◌<◌, ◌≤◌, List, [], ◌∷◌, ◌++◌, Bool, true, false, length, map, filter, take, slice_get, slice_set, Option, MatchOption, option_and_then, Result, Ok, Err}
 use Rattle.std.specs.Option.{option_map}
 use Rattle.feed_types.specs.declared.journal.Entry.{Entry}
@@ -12,8 +12,9 @@ use Rattle.journal_book.specs.declared.fault.JournalFault.{JournalFault}
 use Rattle.journal_book.specs.declared.fault.JournalFault.TheVariants.{NoMemory, JournalFull, UnknownVenue, AlreadySo, TooManySubscribers}
 use Rattle.journal_book.specs.Changes.{changes_of}
 
--- The configured symbols, the number of venues, how many entries the journal holds, the entries, a
--- cursor for each subscriber, and whether there is room for one more entry and all its changes.
+-- The configured symbols, the number of venues, the most entries that the journal holds, the
+-- entries, a cursor for each subscriber, and whether there is room for one more entry and all its
+-- changes.
 pub record JournalState : Type 0 where
   pub symbols : List (List ℕ)
   pub venues : ℕ
@@ -66,7 +67,7 @@ seen_at state id = option_map (λ cursor. cursor.seen) (slice_get state.cursors 
 abbrev pub unseen_at : JournalState → ℕ → Option Notice
 unseen_at state id = option_and_then (slice_get (changes state)) (seen_at state id)
 
--- so many changes were looked at for the subscriber, and nothing else is another than before
+-- `place` changes were looked at for the subscriber, and nothing else differs from before
 abbrev pub LooksTo : JournalState → ℕ → ℕ → JournalState → Type 0
 LooksTo old id place new = MatchOption (slice_get old.cursors id) ⊥
     (λ cursor.
@@ -86,7 +87,7 @@ Subscribes old terms (Err (JournalFull, back)) new = ⊥
 Subscribes old terms (Err (UnknownVenue, back)) new = ⊥
 Subscribes old terms (Err (AlreadySo, back)) new = ⊥
 
--- one entry more, and nothing else, but for the room
+-- there is one more entry, and nothing else differs, but for the room
 abbrev pub Journals : JournalState → Entry → JournalState → Type 0
 Journals old entry new =
     new ≡ record old { entries = old.entries ++ entry ∷ []; ready = new.ready }

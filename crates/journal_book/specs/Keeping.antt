@@ -1,4 +1,4 @@
--- Cited by private clauses alone: what a journal keeps of its parts.
+-- What a journal keeps of its parts. Cited by private clauses alone.
 use Rattle.std.specs.Prelude.{◌≡◌, ℕ, ◌+◌, ◌≤◌, nat_lt, nat_le, Bool, ◌&&◌, List, length, slice_get, slice_set, MatchOption}
 use Rattle.std.specs.List.{AllByRecursion}
 use Rattle.feed_types.specs.declared.journal.Entry.{Entry}
@@ -24,7 +24,7 @@ abbrev pub has_room : ℕ → ℕ → ℕ → ℕ → ℕ → ℕ → Bool
 has_room limit symbols entries entry_room notices notice_room =
     nat_lt entries limit && (nat_lt entries entry_room && nat_le (notices + symbols) notice_room)
 
--- the cursor at the index is at this place, and the others are where they were
+-- the cursor at the index is at this place, and the others are unchanged
 abbrev pub CursorMoves : List Cursor → ℕ → ℕ → List Cursor → Type 0
 CursorMoves old index place new = MatchOption (slice_get old index) ⊥
     (λ cursor. new ≡ slice_set old index (record cursor { seen = place }))

@@ -1,5 +1,5 @@
--- Cited by private clauses alone: where the next wanted notice stands, and that filters and
--- cursors agree.
+-- The place of the next wanted notice, and that filters and cursors agree. Cited by private clauses
+-- alone.
 use Rattle.std.specs.Prelude.{◌≡◌, ℕ, ◌+◌, ◌<◌, ◌≤◌, Bool, List, MatchOption, filter, length, take, slice_get}
 use Rattle.std.specs.Option.{option_map}
 use Rattle.std.specs.Coded.{Coded-set, coded_option, coded_bool, Π_prop}
@@ -10,7 +10,7 @@ use Rattle.filter_terms.specs.Filters.{terms_of}
 use Rattle.journal_book.specs.declared.cursor.Cursor.{Cursor}
 use Rattle.journal_book.specs.Journals.{JournalState, changes}
 
--- the place of the first wanted notice from this place on, or the end
+-- the place of the first wanted notice from `from` on, or their number where there is none
 pub record IsNextPlace (wants : Notice → Bool) (notices : List Notice) (from place : ℕ)
     : Type 0 where
   pub within : place ≤ length notices
@@ -21,7 +21,7 @@ pub record IsNextPlace (wants : Notice → Bool) (notices : List Notice) (from p
       → length (filter wants (take (place + 1) notices))
       ≡ length (filter wants (take from notices)) + 1
 
--- so it is of the subscriber's cursor
+-- the same, from the subscriber's cursor on
 abbrev pub IsNextOf : JournalState → ℕ → ℕ → Type 0
 IsNextOf state id place = MatchOption (slice_get state.cursors id) ⊥
     (λ cursor. IsNextPlace (meets cursor.terms) (changes state) cursor.seen place)

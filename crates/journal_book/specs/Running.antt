@@ -1,4 +1,4 @@
--- What contracts see of a journal that is told while it runs, and not kept.
+-- A running journal, which keeps no entries, as contracts see it.
 use Rattle.std.specs.Prelude.{◌≡◌, ℕ, ◌+◌, ◌*◌, ◌-◌, ◌<◌, ◌≤◌, List, [], ◌∷◌, ◌++◌, Bool, length, take, Result, Ok, Err}
 use Rattle.feed_types.specs.declared.journal.Entry.{Entry}
 use Rattle.feed_types.specs.declared.journal.Entry.TheVariants.{SelfHelp}
@@ -10,8 +10,8 @@ use Rattle.journal_book.specs.declared.fault.JournalFault.{JournalFault}
 use Rattle.journal_book.specs.declared.fault.JournalFault.TheVariants.{NoMemory, JournalFull, UnknownVenue, AlreadySo, TooManySubscribers}
 use Rattle.journal_book.specs.Changes.{changes_of, notices_from, notices_since}
 
--- The configured symbols, the number of venues, how many entries may be journaled, and the entries
--- that were: they are known to proofs alone.
+-- The configured symbols, the number of venues, the most entries that may be journaled, and the
+-- entries so far: they are known to proofs alone.
 pub record RunningState : Type 0 where
   pub symbols : List (List ℕ)
   pub venues : ℕ
@@ -35,7 +35,7 @@ before_last entries = take (length entries - 1) entries
 abbrev pub latest_of : List (List ℕ) → List Entry → List Notice
 latest_of symbols entries = notices_since symbols (before_last entries) entries
 
--- one entry more, and nothing else
+-- there is one more entry, and nothing else differs
 abbrev pub GoesOnBy : RunningState → Entry → RunningState → Type 0
 GoesOnBy old entry new = new ≡ record old { entries = old.entries ++ entry ∷ [] }
 
@@ -54,8 +54,8 @@ DeclaresNext old venue on (Ok position) new =
     × (length old.entries < old.journal)
     × GoesOnBy old (SelfHelp venue on) new × (position ≡ length new.entries)
 
--- Cited by private clauses alone: the book, the counts and the last entry's changes are those of the
--- entries.
+-- The book, the counts and the last entry's changes are those of the entries. Cited by private
+-- clauses alone.
 pub record KeepsLatest (book : BookState) (limit scratch earlier : ℕ) (latest : List Change)
     (entries : List Entry) : Type 0 where
   pub fits : FitsBook book entries

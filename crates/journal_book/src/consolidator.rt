@@ -72,7 +72,7 @@ impl Consolidator {
         self.journal.has_room()
     }
 
-    /// Journals the venue's item and its changes, and gives its position, which counts from 1. It
+    /// Journals the venue's item and its changes, and returns its position, which counts from 1. It
     /// takes no memory: there is room, and the venue is below the count.
     pub fn record(&mut self, venue: VenueId, numbered: Numbered) -> u64
         requires ready { IsTrue (journal_of self.old).ready }
@@ -86,9 +86,9 @@ impl Consolidator {
         self.journal.record(venue, numbered)
     }
 
-    /// Declares self-help on the venue, or withdraws it, and gives the entry's position. It is
+    /// Declares self-help on the venue, or withdraws it, and returns the entry's position. It is
     /// refused as UnknownVenue, AlreadySo where the venue's self-help is in that state (off at
-    /// first), JournalFull or NoMemory: the first of these that fits.
+    /// first), JournalFull or NoMemory: the first that fits.
     pub fn declare(&mut self, venue: VenueId, on: bool) -> Result<u64, JournalFault>
         ensures declares { Declares (journal_of self.old) venue on result (journal_of self.new) }
         ensures offered { subscriptions_of (journal_of self.new)
@@ -97,14 +97,14 @@ impl Consolidator {
         self.journal.declare(venue, on)
     }
 
-    /// Whether self-help stands on the venue.
+    /// Whether self-help is declared on the venue.
     pub fn is_self_helped(&self, venue: VenueId) -> bool
         ensures { result ≡ is_self_helped (journal_of self.now).entries venue }
     {
         self.journal.is_self_helped(venue)
     }
 
-    /// Adds a subscriber, to which nothing was offered, and gives its id, the next one from 0 on.
+    /// Adds a subscriber, to which nothing was offered, and returns its id, the next one from 0 on.
     /// Its notices begin with the first change of the journal, whenever it subscribes. It is
     /// refused, with the filter, as TooManySubscribers where there are 32, else as NoMemory.
     pub fn subscribe(&mut self, filter: Filter) -> Result<SubscriberId, (JournalFault, Filter)>
@@ -143,7 +143,7 @@ impl Consolidator {
         self.journal.terms(id)
     }
 
-    /// Where the next notice stands that the subscriber wants, or the end.
+    /// The place of the next notice that the subscriber wants, or their number where there is none.
     fn next_place(&self, id: SubscriberId) -> usize
         requires { id < length (journal_of self.now).cursors }
         ensures next { IsNextOf (journal_of self.now) id result }
@@ -161,7 +161,7 @@ impl Consolidator {
             ≡ subscriptions_of (journal_of self.old) }
         ensures stays { StaysButCursors (journal_of self.old) (journal_of self.new) }
 
-        // It is the next one still, until it is counted, and the subscribers are as many.
+        // It stays the next one until it is counted, and the number of subscribers stays.
         ensures still { result ≡ next_at (journal_of self.new) id }
         ensures known { length (journal_of self.new).cursors
             ≡ length (journal_of self.old).cursors }
@@ -186,7 +186,7 @@ impl Consolidator {
         self.journal.look_to(id, place + 1);
     }
 
-    /// How many venues there are: items and declarations are of those below.
+    /// The number of venues: items and declarations are of venues below it.
     pub fn venue_count(&self) -> usize
         ensures { result ≡ (journal_of self.now).venues }
     {

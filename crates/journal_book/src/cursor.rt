@@ -1,4 +1,4 @@
-//! How far a subscriber has come.
+//! The cursor of a subscriber.
 
 use filter_terms::Terms;
 

@@ -1,4 +1,4 @@
-//! Why a journal refuses a call.
+//! The refusals of a journal.
 
 ghost use Rattle.std.specs.Prelude.{◌≡◌};
 ghost use Rattle.journal_book.specs.Codes.{journal_fault_code};
@@ -26,7 +26,7 @@ pub enum JournalFault {
 }
 
 impl JournalFault {
-    /// The number that stands for the fault, 12 or 17 to 20.
+    /// The code of the fault: 12 or 17 to 20.
     pub fn code(self) -> u8
         ensures { result ≡ journal_fault_code self }
     {

@@ -18,13 +18,13 @@ use nbbo_book::{Book, BookFault, Change};
 use std::alloc::Global;
 use std::marker::Model;
 
-/// How many subscribers there are at most.
+/// The most subscribers.
 const MAX_SUBSCRIBERS: usize = 32;
 
 /// The entries, in the order in which they were taken, the changes of the national best that they
-/// made, numbered from 1, and how far each subscriber has come in them. It holds no closure.
+/// made, numbered from 1, and a cursor for each subscriber. It holds no closure.
 ///
-/// Take a [`Journal`] where the filters are kept beside it, as behind a lock whose contract names
+/// Take a [`Journal`] where the filters are kept beside it, as under a lock whose contract names
 /// more than this crate does; take a [`Consolidator`](crate::Consolidator) where one value is to
 /// keep both, and a [`RunningJournal`](crate::RunningJournal) where nothing of it is read later.
 #[derive(Drop)]
@@ -89,8 +89,8 @@ impl Journal {
     ghost use Rattle.nbbo_book.specs.Eligible.{is_self_helped};
     ghost use Rattle.journal_book.specs.Journals.{JournalState, new_journal, changes, subscriptions_of, Journals, Reserves, Declares, Subscribes, LooksTo, terms_at, seen_at, unseen_at};
 
-    /// A journal of no entries and no subscribers, over so many venues, 1 to 16, and these
-    /// symbols, at most 4,096 and each once. It holds as many entries as `journal` says.
+    /// A journal of no entries and no subscribers, over `venue_count` venues, 1 to 16, and these
+    /// symbols, at most 4,096 and each once. It holds at most `journal` entries.
     ///
     /// The refusals are those of [`Book::new`], in its order.
     pub fn new(
@@ -138,7 +138,7 @@ impl Journal {
         self.grow()
     }
 
-    /// The same, where the journal may hold one more entry and there is no room for it.
+    /// Does the same, where the journal may hold one more entry and there is no room for it.
     #[inline(never)]
     fn grow(&mut self) -> Result<(), JournalFault>
         requires more { length self.old.entries < self.old.journal }
@@ -164,7 +164,7 @@ impl Journal {
             && self.notices.len() + self.book.symbol_count() <= self.notices.capacity()
     }
 
-    /// Journals the entry and its changes, and gives its position. The entry is written where it
+    /// Journals the entry and its changes, and returns its position. The entry is written where it
     /// stays, and read there.
     #[inline(always)]
     fn add(&mut self, entry: Entry) -> u64
@@ -184,7 +184,7 @@ impl Journal {
         position
     }
 
-    /// Journals the venue's item and its changes, and gives its position, which counts from 1. It
+    /// Journals the venue's item and its changes, and returns its position, which counts from 1. It
     /// takes no memory: there is room, and the venue is below the count.
     #[inline(always)]
     pub fn record(&mut self, venue: VenueId, numbered: Numbered) -> u64
@@ -197,9 +197,9 @@ impl Journal {
         self.add(Entry::Consumed { venue, numbered })
     }
 
-    /// Declares self-help on the venue, or withdraws it, and gives the entry's position. It is
+    /// Declares self-help on the venue, or withdraws it, and returns the entry's position. It is
     /// refused as UnknownVenue, AlreadySo where the venue's self-help is in that state (off at
-    /// first), JournalFull or NoMemory: the first of these that fits.
+    /// first), JournalFull or NoMemory: the first that fits.
     pub fn declare(&mut self, venue: VenueId, on: bool) -> Result<u64, JournalFault>
         ensures declares { Declares self.old venue on result self.new }
         ensures offered { subscriptions_of self.new ≡ subscriptions_of self.old }
@@ -214,14 +214,14 @@ impl Journal {
         Ok(self.add(Entry::SelfHelp { venue, on }))
     }
 
-    /// Whether self-help stands on the venue.
+    /// Whether self-help is declared on the venue.
     pub fn is_self_helped(&self, venue: VenueId) -> bool
         ensures { result ≡ is_self_helped self.now.entries venue }
     {
         self.book.is_self_helped(venue)
     }
 
-    /// How many venues there are: items and declarations are of those below.
+    /// The number of venues: items and declarations are of venues below it.
     pub fn venue_count(&self) -> usize
         ensures { result ≡ self.now.venues }
     {
@@ -252,9 +252,9 @@ impl Journal {
         self.book.national(symbol)
     }
 
-    /// Adds a subscriber of these terms, to which nothing was offered, and gives its id, the next
-    /// one from 0 on. It is refused, with the terms, as TooManySubscribers where there are 32,
-    /// else as NoMemory.
+    /// Adds a subscriber of these terms, to which nothing was offered, and returns its id, the next
+    /// one from 0 on. It is refused, with the terms, as TooManySubscribers where there are 32, else
+    /// as NoMemory.
     pub fn subscribe(&mut self, terms: Terms) -> Result<SubscriberId, (JournalFault, Terms)>
         ensures { Subscribes self.old terms result self.new }
     {
@@ -269,7 +269,7 @@ impl Journal {
         Ok(id)
     }
 
-    /// How many subscribers there are.
+    /// The number of subscribers.
     pub fn subscriber_count(&self) -> usize
         ensures value { result ≡ length self.now.cursors }
         ensures few { result ≤ 32 }
@@ -292,7 +292,7 @@ impl Journal {
         &self.cursors[id.index()].terms
     }
 
-    /// How many of the changes were looked at for the subscriber.
+    /// The number of changes that were looked at for the subscriber.
     pub fn seen(&self, id: SubscriberId) -> usize
         requires { id < length self.now.cursors }
         ensures value { seen_at self.now id ≡ Some result }
@@ -310,7 +310,7 @@ impl Journal {
         self.changes().get(seen).copied()
     }
 
-    /// From now on so many of the changes were looked at for the subscriber. Whoever keeps the
+    /// Notes that the first `place` changes were looked at for the subscriber. The keeper of the
     /// filters calls it once the filter was asked about each change before `place`.
     pub fn look_to(&mut self, id: SubscriberId, place: usize)
         requires known { id < length self.old.cursors }

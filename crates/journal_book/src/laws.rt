@@ -1,4 +1,4 @@
-//! What follows from the definitions of changes and of what is wanted.
+//! Laws of the definitions of changes and of what is wanted.
 
 ghost use Rattle.std.specs.Prelude.{ℕ, ◌<◌, List, ◌++◌, AllPairs};
 ghost use Rattle.feed_types.specs.declared.journal.Entry.{Entry};
@@ -8,13 +8,14 @@ ghost use Rattle.filter_terms.specs.declared.terms.Terms.{Terms};
 ghost use Rattle.journal_book.specs.Changes.{changes_of, RisesPast};
 ghost use Rattle.journal_book.specs.Wanted.{wanted_of};
 
-/// More entries add changes at the end: those that stood keep their numbers and places.
+/// More entries add changes at the end: the earlier ones keep their numbers and places.
 pub fn changes_grow_at_their_end()
     ensures { (symbols : List (List ℕ)) (entries more : List Entry)
         → IsPrefix (changes_of symbols entries) (changes_of symbols (entries ++ more)) }
 {}
 
-/// So do those that a subscriber asked for: what was offered of them stays a prefix.
+/// The same holds of the changes that a subscriber asked for: what was offered of them stays a
+/// prefix.
 pub fn wanted_grow_at_their_end()
     ensures { (symbols : List (List ℕ)) (terms : Terms) (entries more : List Entry)
         (offered : List Notice)

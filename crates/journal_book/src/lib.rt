@@ -1,9 +1,10 @@
-//! The journal: its entries, the numbered changes of the national best that they make, and how far
-//! each subscriber has come in them.
+//! The journal: its entries, the numbered changes of the national best that they make, and a cursor
+//! for each subscriber.
 //!
 //! A [`Consolidator`] keeps a [`Journal`] and the subscribers' filters. The journal alone holds no
-//! closure: whoever keeps the filters elsewhere holds the two side by side. A [`RunningJournal`]
-//! has no subscribers and keeps no entry, for whoever writes what happens elsewhere.
+//! closure: a caller that keeps the filters elsewhere holds the two side by side. A
+//! [`RunningJournal`] has no subscribers and keeps no entry, for a caller that writes events
+//! elsewhere.
 //!
 //! Contract: the entries are what was recorded and declared, the changes are `changes_of` the
 //! entries (`specs/Changes.antt`), a definition over the whole list, and a subscriber is offered

@@ -1,4 +1,4 @@
-//! Numbering of changes.
+//! The numbering of changes.
 
 ghost use Rattle.std.specs.Prelude.{◌≡◌, ◌<◌, ◌≤◌, ◌+◌, ◌++◌, ◌∷◌, [], length};
 ghost use Rattle.std.specs.Vec.{vec_len, vec_capacity};

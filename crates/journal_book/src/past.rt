@@ -6,7 +6,7 @@ ghost use Rattle.feed_types.specs.declared.journal.Entry.{Entry};
 use feed_types::Entry;
 use std::marker::Model;
 
-/// What was journaled so far. It takes no memory, and its calls do nothing when they run.
+/// The entries so far. It takes no memory, and its calls do nothing when they run.
 #[derive(Drop)]
 pub(crate) struct Past {
     pub ghost entries: { List Entry },
@@ -17,14 +17,14 @@ impl Model for Past {
 }
 
 impl Past {
-    /// Nothing was journaled.
+    /// Nothing was journaled yet.
     pub(crate) fn new() -> Past
         ensures { result.entries ≡ [] }
     {
         Past {}
     }
 
-    /// One entry more.
+    /// Adds one more entry.
     #[inline(always)]
     pub(crate) fn with(&self, _entry: &Entry) -> Past
         ensures { result.entries ≡ self.now.entries ++ _entry.now ∷ [] }

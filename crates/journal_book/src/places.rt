@@ -8,7 +8,8 @@ ghost use Rattle.journal_book.specs.Places.{IsNextPlace};
 use feed_types::Notice;
 use filter_terms::Filter;
 
-/// The place of the first notice from here on that the filter wants, or the end.
+/// The place of the first notice from `from` on that the filter wants, or their number where there
+/// is none.
 pub(crate) fn next_place(filter: &Filter, notices: &[Notice], from: usize) -> usize
     requires { from ≤ length notices.now }
     ensures next { IsNextPlace (meets (terms_of filter.now)) notices.now from result }
@@ -22,7 +23,7 @@ pub(crate) fn next_place(filter: &Filter, notices: &[Notice], from: usize) -> us
     notices.len()
 }
 
-/// The notice at the place, if the place isn't the end.
+/// The notice at the place, if there is one.
 pub(crate) fn notice_at(notices: &[Notice], place: usize) -> Option<Notice>
     ensures { result ≡ slice_get notices.now place }
 {

@@ -1,16 +1,16 @@
-//! Room for what a journal grows by.
+//! The room that a journal grows into.
 
 ghost use Rattle.std.specs.Prelude.{◌≡◌, ◌<◌, ◌≤◌, ◌+◌, OnOk, OnErr};
 ghost use Rattle.std.specs.Vec.{vec_len, vec_capacity};
 
 use std::alloc::AllocError;
 
-/// For how many elements a list gets room at first. The system gives memory only where it is
-/// written, and a list that has room isn't moved, nor mapped again, while it grows.
+/// The number of elements for which a list gets room at first. The system gives memory only where
+/// it is written, and a list that has room isn't moved, nor mapped again, while it grows.
 const FIRST_ROOM: usize = 1 << 20;
 
-/// Makes room for so many more elements. An empty list gets room for `FIRST_ROOM` of them, or for
-/// `enough` where that is less, if so much can be had.
+/// Makes room for `wanted` more elements. An empty list gets room for `FIRST_ROOM` of them, or for
+/// `enough` where that is less, if that much memory can be had.
 #[inline(never)]
 pub(crate) fn make_room<T>(
     list: &mut Vec<T>,

@@ -1,4 +1,4 @@
-//! A journal that is told while it runs, and not kept.
+//! A journal that is shown while it runs, and not kept.
 
 ghost use Rattle.std.specs.Prelude.{◌≡◌, ◌+◌, ◌<◌, ◌≤◌, ◌↔◌, ◌⊎◌, length, IsTrue, IsSome, IfSome, IfOk, OnOk, IsErrOf};
 ghost use Rattle.std.specs.List.{IsDistinct};
@@ -17,8 +17,8 @@ use nbbo_book::{Book, BookFault, Change};
 use std::alloc::Global;
 use std::marker::Model;
 
-/// The changes that one entry made, in the order of the symbols, and the number of the first of
-/// them: the others count on from it.
+/// The changes that one entry made, in the order of the symbols, and the number of the first one:
+/// the others count on from it.
 #[derive(Clone, Copy, Debug)]
 pub struct Latest<'a> {
     pub first: u64,
@@ -59,8 +59,8 @@ impl Model for RunningJournal {
 impl RunningJournal {
     ghost use Rattle.journal_book.specs.Running.{RunningState, new_running, before_last, latest_of, GoesOnBy, DeclaresNext};
 
-    /// A journal of no entries over so many venues, 1 to 16, and these symbols, at most 4,096 and
-    /// each once. It takes as many entries as `journal` says.
+    /// A journal of no entries over `venue_count` venues, 1 to 16, and these symbols, at most 4,096
+    /// and each once. It takes at most `journal` entries.
     ///
     /// The refusals are those of [`Book::new`], in its order.
     pub fn new(
@@ -92,7 +92,7 @@ impl RunningJournal {
         })
     }
 
-    /// Whether one entry more may be journaled.
+    /// Whether one more entry may be journaled.
     #[inline(always)]
     pub fn has_room(&self) -> bool
         ensures { IsTrue result ↔ (length self.now.entries < self.now.journal) }
@@ -100,7 +100,7 @@ impl RunningJournal {
         self.book.last_position() < u64::from(self.limit)
     }
 
-    /// Journals the entry, and gives its position.
+    /// Journals the entry, and returns its position.
     #[inline(always)]
     fn add(&mut self, entry: &Entry) -> u64
         requires room { length self.old.entries < self.old.journal }
@@ -116,7 +116,7 @@ impl RunningJournal {
         position
     }
 
-    /// Journals the venue's item, and gives its position, which counts from 1. There is room, and
+    /// Journals the venue's item, and returns its position, which counts from 1. There is room, and
     /// the venue is below the count.
     #[inline(always)]
     pub fn record(&mut self, venue: VenueId, numbered: Numbered) -> u64
@@ -128,8 +128,8 @@ impl RunningJournal {
         self.add(&Entry::Consumed { venue, numbered })
     }
 
-    /// Reads what the venue's quotation of a symbol will read of the book, where a message to come has
-    /// this field, as [`Book::prefetch`] does. It changes no answer. Returns whether that pays.
+    /// Reads what the venue's quotation of a symbol will read of the book, where a later message
+    /// has this field, as [`Book::prefetch`] does. It changes no answer. Returns whether that pays.
     #[inline(always)]
     pub fn prefetch(&mut self, venue: VenueId, field: [u8; 8]) -> bool
         ensures { self.new ≡ self.old }
@@ -137,9 +137,9 @@ impl RunningJournal {
         self.book.prefetch(venue, field)
     }
 
-    /// Declares self-help on the venue, or withdraws it, and gives the entry's position. It is
+    /// Declares self-help on the venue, or withdraws it, and returns the entry's position. It is
     /// refused as UnknownVenue, AlreadySo where the venue's self-help is in that state (off at
-    /// first), or JournalFull: the first of these that fits.
+    /// first), or JournalFull: the first that fits.
     pub fn declare(&mut self, venue: VenueId, on: bool) -> Result<u64, JournalFault>
         ensures { DeclaresNext self.old venue on result self.new }
     {
@@ -170,21 +170,21 @@ impl RunningJournal {
         }
     }
 
-    /// How many entries were journaled.
+    /// The number of entries that were journaled.
     pub fn entry_count(&self) -> u64
         ensures { result ≡ length self.now.entries }
     {
         self.book.last_position()
     }
 
-    /// How many venues there are: items and declarations are of those below.
+    /// The number of venues: items and declarations are of venues below it.
     pub fn venue_count(&self) -> usize
         ensures { result ≡ self.now.venues }
     {
         self.book.venue_count()
     }
 
-    /// Whether self-help stands on the venue.
+    /// Whether self-help is declared on the venue.
     pub fn is_self_helped(&self, venue: VenueId) -> bool
         ensures { result ≡ is_self_helped self.now.entries venue }
     {
