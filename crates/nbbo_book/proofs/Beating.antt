@@ -1,4 +1,4 @@
--- How two sides rank: the order is one way, goes on, and parts any two of different ages.
+-- The ranking of two sides: the order is one way, goes on, and separates any two of different ages.
 use Rattle.std.proofs.Common.{ℕ, ◌<◌, ◌≡◌, Bool, true, false, refl, ap, ◌∙◌, arith, nat_eq, nat_lt, ◌⊎◌, inl, inr}
 use Rattle.std.specs.Prelude.{◌&&◌, ◌||◌}
 use Rattle.feed_types.specs.declared.line.Side.{Side}

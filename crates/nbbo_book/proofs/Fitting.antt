@@ -51,7 +51,7 @@ pub fits_stay : (es : List Entry) (e : Entry) (s : List ℕ) (b : Side) (ss : Li
     → SideFits (es ++ e ∷ []) s b ss
 fits_stay es e s b ss same h = λ w l. h w l ∙ sym (stands_same es e w s b (same w l))
 
--- where one venue's side is told
+-- where one venue's side is said
 fits_quoted : (es : List Entry) (e : Entry) (v : ℕ) (o : Option SideQuote) (s : List ℕ) (b : Side) (k : BookSide)
     (n : ℕ) (may : Bool) → v < 16 → length k.venue_sides ≡ 16 → n ≡ suc (length es)
     → ((w : ℕ) → side_said w s b e ≡ cond (nat_eq v w) (Some o) None) → SideFits es s b k.venue_sides

@@ -1,4 +1,4 @@
--- Whether the first of the ranks is another one, told by the places.
+-- Whether the first of the ranks differs, by the places.
 use Rattle.std.proofs.Common.{ℕ, zero, suc, ◌<◌, ◌≤◌, ◌≡◌, List, [], ◌∷◌, Bool, true, false, not, refl, ap, sym, ◌∙◌, arith, length, get_or, nat_eq, Option, Some, None, inl}
 use Rattle.std.specs.Prelude.{◌&&◌, ◌||◌}
 use Rattle.std.specs.List.{insert, remove}

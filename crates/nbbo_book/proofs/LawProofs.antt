@@ -1,4 +1,4 @@
--- What the definitions mean: ages, and the one best side.
+-- Laws of the definitions: ages, and the one best side.
 use Rattle.std.proofs.Common.{ℕ, zero, suc, ◌<◌, ◌≤◌, ◌≡◌, List, [], ◌∷◌, ◌++◌, true, false, refl, ap, sym, ◌∙◌, subst, arith, length, take, cond, nat_eq, Option, Some, None, unwrap_or, ◌⊎◌, inl, inr, append_assoc}
 use Rattle.std.specs.Prelude.{IsSome, is_some}
 use Rattle.feed_types.specs.declared.journal.Entry.{Entry}
@@ -107,7 +107,7 @@ best_found es s b x h = top_found b (λ v. age_of es v s b) (eligible_of es s b)
       (λ q. (let no : true ≡ false = sym (ap (λ t. nat_eq t x.venue) (sym own ∙ q) ∙ nat_refl x.venue) ∙ d in cc)),
 )
 
--- what the walk over the venues comes to
+-- the result of the walk over the venues
 cases_of : (es : List Entry) (s : List ℕ) (b : Side) (o : Option Best)
     → IsTop (IsBelow 16) b (λ v. age_of es v s b) (eligible_of es s b) o
     → ((o ≡ None) × ((x : Best) → IsEligible es s b x → ⊥)) ⊎ ((x : Best) × (o ≡ Some x) × IsBest es s b x)

@@ -19,7 +19,7 @@ up_one [] k x d h = absurd (omega (arith, h))
 up_one (y ∷ ys) zero x d h = refl
 up_one (y ∷ ys) (suc k) x d h = ap (λ t. y ∷ t) (up_one ys k x d (omega (arith, h)))
 
--- past the neighbour behind it
+-- past the neighbour after it
 down_one : (ys : List Best) (k : ℕ) (x d : Best) → k < length ys
     → set (set (insert ys k x) k (get_or ys k d)) (suc k) x ≡ insert ys (suc k) x
 down_one [] k x d h = absurd (omega (arith, h))
@@ -58,7 +58,7 @@ ahead_of_all b f x y [] k d h a = absurd (omega (arith, h))
 ahead_of_all b f x y (z ∷ ys) zero d h a = a.0
 ahead_of_all b f x y (z ∷ ys) (suc k) d h a = ahead_of_all b f x y ys k d (omega (arith, h)) a.1
 
--- x stands at its rank where it doesn't beat the side before it, and beats the one behind it
+-- x is at its rank where it doesn't beat the side before it, and beats the one after it
 pub ranked_here : (b : Side) (f : ℕ → ℕ) (x : Best) (ys : List Best) (k : ℕ) → k ≤ length ys → InRank b f ys
     → ((j : ℕ) → k ≡ suc j → beats b f x (get_or ys j x) ≡ false)
     → (k < length ys → beats b f x (get_or ys k x) ≡ true) → insert ys k x ≡ with_rank b f x ys
@@ -129,7 +129,7 @@ remove_insert ys zero x h = refl
 remove_insert [] (suc k) x h = absurd (omega (arith, h))
 remove_insert (y ∷ ys) (suc k) x h = ap (λ t. y ∷ t) (remove_insert ys k x (omega (arith, h)))
 
--- where x has risen past none, the others are as they were
+-- where x has risen past none, the others are unchanged
 pub left_over : (xs ranks : List Best) (i at : ℕ) (x : Best) → i < length xs → at ≡ i
     → set ranks at x ≡ insert (remove xs i) at x → remove ranks i ≡ remove xs i
 left_over xs ranks i at x h same now =
@@ -165,7 +165,7 @@ in_at [] i d h = absurd (omega (arith, h))
 in_at (x ∷ xs) zero d h = inl refl
 in_at (x ∷ xs) (suc i) d h = inr (in_at xs i d (omega (arith, h)))
 
--- a side stands at its rank where the walk of its cause has come to an end
+-- a side is at its rank where the walk of its cause has ended
 pub walked_here : (c : Cause) (b : Side) (f : ℕ → ℕ) (x : Best) (ys : List Best) (k : ℕ) → k ≤ length ys
     → ((j : ℕ) → k ≡ j + 1 → is_ahead_by c b f x (get_or ys j x) ≡ false)
     → (k < length ys → is_ahead_by c b f x (get_or ys k x) ≡ true) → InRank b f ys → (c ≡ Quoted → IsNewest f x ys)
@@ -191,7 +191,7 @@ one_way : (b : Side) (f : ℕ → ℕ) (x y : Best) → beats b f y x ≡ true �
 one_way b f x y h = (elim (beats b f x y) as (λ t. beats b f x y ≡ t → t ≡ false)
     [ true ↦ λ e. absurd (beats_one_way b f y x h e) | false ↦ λ e. refl ]) refl
 
--- a side that is ranked already stays where it stands
+-- a side that is ranked already stays where it is
 pub ranked_stays : (b : Side) (f : ℕ → ℕ) (x : Best) (xs : List Best) → InRank b f xs → IsIn xs x
     → ((y : Best) → IsIn xs y → y.venue ≡ x.venue → y ≡ x) → with_rank b f x (without x.venue xs) ≡ xs
 ranked_stays b f x [] order i same = absurd i

@@ -1,4 +1,4 @@
--- Where each venue's side stands among the ranks, after one has moved.
+-- The place of each venue's side among the ranks, after one has moved.
 use Rattle.std.proofs.Common.{ℕ, zero, suc, ◌+◌, ◌<◌, ◌≤◌, ◌≡◌, List, [], ◌∷◌, ◌++◌, true, false, refl, ap, sym, ◌∙◌, subst, arith, length, set, get_or, cond, nat_eq, length-append}
 use Rattle.std.specs.List.{remove}
 use Rattle.std.proofs.lemmas.List.Edits.{length-remove, get_or-remove_below, get_or-remove_above}
@@ -8,7 +8,7 @@ use Rattle.nbbo_book.proofs.Ranking.{nat_split, in_all}
 use Rattle.nbbo_book.proofs.Moving.{in_at}
 use Rattle.nbbo_book.proofs.SideInvariant.{set_at, set_off, apart_from, long_set}
 
--- x moves to b, and the neighbour that stood there to the place that x leaves
+-- x moves to b, and the neighbour that was there to the place that x leaves
 pub noted_past : (P : List ℕ) (L : List Best) (a b : ℕ) (x n : Best) → a < length L → b < length L → (a ≡ b → ⊥)
     → x.venue < length P → n.venue < length P → AreNoted (set P x.venue a) (set L a x) → n ≡ get_or L b n
     → AreNoted (set (set P n.venue a) x.venue b) (set (set L a n) b x)
@@ -114,7 +114,7 @@ noted_pushed P xs x px none h = λ k d l.
     (in_all (λ y. nat_eq y.venue x.venue ≡ false) xs none (get_or xs k d) (in_at xs k d lk)))
     ∙ h k d lk)
 
--- the sides after one that was taken out stand one place further on than they are noted
+-- the sides after one that was taken out are one place further on than they are noted
 pub noted_before : (P : List ℕ) (L : List Best) (i k : ℕ) (d : Best) → i < length L → k < i → AreNoted P L
     → get_or P (get_or (remove L i) k d).venue 16 ≡ k
 noted_before P L i k d li lk h = ap (λ (y : Best). get_or P y.venue 16) (get_or-remove_below L i d k lk li)
@@ -125,7 +125,7 @@ pub noted_after : (P : List ℕ) (L : List Best) (i k : ℕ) (d : Best) → i < 
 noted_after P L i k d li lk l h = ap (λ (y : Best). get_or P y.venue 16) (get_or-remove_above L i d k lk li)
     ∙ h (k + 1) d (omega (arith, li, l, length-remove L i li))
 
--- a venue's side stands where its place is noted, if there
+-- a venue's side is where its place is noted, if there
 pub stands_there : (v : ℕ) (P : List ℕ) (xs : List Best) (at : ℕ) (d : Best) → AreNoted P xs → get_or P v 16 ≡ at
     → at < length xs → nat_eq (get_or xs at d).venue v ≡ true → without v xs ≡ remove xs at
 stands_there v P xs at d h is l own =

@@ -1,4 +1,4 @@
--- What a book keeps of a side, after a venue's side was set or its leave to be ranked changed.
+-- What a book keeps of a side, after a venue's side was set or its right to be ranked changed.
 use Rattle.std.proofs.Common.{ℕ, zero, suc, ◌<◌, ◌≤◌, ◌≡◌, ◌+◌, List, [], ◌∷◌, Bool, true, false, refl, ap, sym, ◌∙◌, subst, arith, length, cond, nat_eq, nat_lt, Option, Some, None, set, get_or}
 use Rattle.std.proofs.lemmas.List.{get_or_past}
 use Rattle.std.specs.Prelude.{◌&&◌, IsSome, is_some, ◌≢◌}
@@ -107,7 +107,7 @@ pub absent_stays : (b : Side) (k : BookSide) (v : ℕ) → IsRanked b k → (ven
     → without v k.ranks ≡ k.ranks
 absent_stays b k v h none = without_nobody v k.ranks (not_ranked b k v h none)
 
--- the others are in order, also by ages of which the venue's is another one
+-- the others are in order, also by ages of which the venue's differs
 pub others_in_order : (b : Side) (k : BookSide) (v : ℕ) → IsRanked b k
     → InRank b (age_at k.venue_sides) (without v k.ranks)
 others_in_order b k v h = InRank-without b (age_at k.venue_sides) v k.ranks h.order
@@ -143,7 +143,7 @@ others_older b k v x st below at past h =
     (age_at_most st.age k.venue_sides y.venue past h.count) in
     grind (arith, own, its))
 
--- leave to rank changes nothing where the venue shows nothing
+-- the right to be ranked changes nothing where the venue shows nothing
 pub rechecked_absent : (b : Side) (k : BookSide) (v : ℕ) (may : Bool) → IsRanked b k
     → (venue_side_at k.venue_sides v).quote ≡ None → (side_rechecked b v may k).ranks ≡ k.ranks
 rechecked_absent b k v may h none =
@@ -162,7 +162,7 @@ side_waits b may more n m k l same h = record {
       (age_at k.venue_sides) k.ranks same (λ w u. refl) h.ranked;
 }
 
--- a venue's side is another one, of an age of its own
+-- a venue's side differs, with an age of its own
 pub side_set-is : (b : Side) (may more : ℕ → Bool) (n m : ℕ) (k : BookSide) (v : ℕ) (st : VenueSide) (here : Bool)
     → v < 16 → n ≤ m → st.age < m →
     (IsSome st.quote → (w : ℕ) → w < 16 → nat_eq w v ≡ false → IsSome (venue_side_at k.venue_sides w).quote

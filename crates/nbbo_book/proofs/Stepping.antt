@@ -46,7 +46,7 @@ row_waits helped n r h = record {
   count = h.count;
 }
 
--- one venue's halt, or its self-help, is another one
+-- one venue's halt, or its self-help, differs
 row_rechecked-is : (helped flags : List Bool) (n v : ℕ) (halted : List Bool) (r : Row) → v < 16 → length halted ≡ 16
     → ((w : ℕ) → nat_eq w v ≡ false → may_at flags halted w ≡ may_at helped r.halted w) → IsRow helped n r
     → IsRow flags (n + 1) (row_rechecked flags v halted r)
@@ -222,7 +222,7 @@ unchanged : (p : ℕ) (s : List ℕ) (x : National) → change_of p s x x ≡ No
 unchanged p s x = ap (λ t. cond t None (Some (record { position = p; symbol = s; national = x })))
     (same_national_refl x)
 
--- a national best is another one where one of its sides is
+-- a national best differs where one of its sides does
 pub first_moved : (r p q : Bool) → r ≡ true → r ≡ not p → r ≡ not (p && q)
 first_moved r true q t m = (let no : true ≡ false = sym t ∙ m in cc)
 first_moved r false q t m = t
@@ -239,7 +239,7 @@ not_isnt : (b : Bool) → not b ≡ false → b ≡ true
 not_isnt true h = refl
 not_isnt false h = sym h
 
--- what is appended where the national best is another one, and where it is not
+-- what is appended where the national best differs, and where it doesn't
 pub change_told : (helped : List Bool) (n p : ℕ) (e : Entry) (r next : Row) (moved : Bool) (x : National)
     → next ≡ row_after helped n e r → moved ≡ not (is_same_national (national_at r) (national_at next))
     → moved ≡ true → x ≡ national_at next
@@ -274,7 +274,7 @@ quiet helped n p e r h = ap (λ (t : Row). change_of p r.symbol (national_at r) 
 one_same : {s t : List ℕ} → Some s ≡ Some t → s ≡ t
 one_same e = cc
 
--- an entry that concerns one symbol leaves the others as they are
+-- an entry that concerns one symbol leaves the others unchanged
 other_item : (helped : List Bool) (n v : ℕ) (i : Item) (s : List ℕ) (r : Row) → symbol_in_item i ≡ Some s
     → bytes_eq s r.symbol ≡ false → row_after_item helped n v i r ≡ r
 other_item helped n v (item.Quote q) s r c e =

@@ -121,7 +121,7 @@ first_is s (t ∷ ts) (suc i) d h l e =
     ∙ ap (λ n. 1 + n) (first_is s ts i d h.1 (omega (arith, l)) e)
     ∙ one_more
 
--- a symbol's place is where it stands, where each stands once
+-- a symbol's place is where it is, where each is there once
 pub place_is : (s : List ℕ) (ss : List (List ℕ)) (i : ℕ) (d : List ℕ) → IsDistinct bytes_eq ss → i < length ss
     → bytes_eq s (get_or ss i d) ≡ true → position (bytes_eq s) ss ≡ Some i
 place_is s ss i d h l e =

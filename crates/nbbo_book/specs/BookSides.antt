@@ -1,4 +1,4 @@
--- Cited by private clauses alone: one side of a symbol, and what an entry makes of it.
+-- One side of a symbol, and the effect of an entry on it. Cited by private clauses alone.
 use Rattle.std.specs.Prelude.{ℕ, ◌<◌, List, [], Bool, true, ◌≡◌, length, Option, Some, None, slice_set, replicate, if◌then◌else◌}
 use Rattle.feed_types.specs.declared.line.Side.{Side}
 use Rattle.feed_types.specs.declared.national.Best.{Best}
@@ -59,8 +59,8 @@ pub record IsRanked (side : Side) (kept : BookSide) : Type 0 where
 abbrev pub ArePast : ℕ → List VenueSide → Type 0
 ArePast next venue_sides = (venue : ℕ) → venue < 16 → age_at venue_sides venue < next
 
--- What a venue shows by now has this cause: where it was quoted, it is the newest of all, and isn't
--- what was ranked; where it was rechecked, the ranks are as they are for what it shows.
+-- The cause fits what a venue shows by now: where it was quoted, it is the newest of all, and isn't
+-- what was ranked; where it was rechecked, the ranks are in order for what it shows.
 abbrev pub IsCausedBy : Cause → Side → ℕ → BookSide → Type 0
 IsCausedBy Quoted side venue kept =
     (x : Best) → ranked_by true venue (venue_side_at kept.venue_sides venue).quote ≡ Some x

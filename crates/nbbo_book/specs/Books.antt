@@ -12,7 +12,7 @@ use Rattle.nbbo_book.specs.VenueSides.{venue_side_at}
 use Rattle.nbbo_book.specs.Sides.{side_of, age_of}
 use Rattle.nbbo_book.specs.Eligible.{is_self_helped, is_halted}
 
--- what contracts see of a book; callers cite `FitsBook` and read no other field than the first three
+-- a book as contracts see it; callers cite `FitsBook` and read no other field than the first three
 pub record BookState : Type 0 where
   pub symbols : List (List ℕ)
   pub venues : ℕ
@@ -50,6 +50,6 @@ abbrev pub venue_of : Entry → ℕ
 venue_of (Consumed venue numbered) = venue
 venue_of (SelfHelp venue on) = venue
 
--- the symbol is one of these
+-- the symbol is configured
 abbrev pub is_configured : List (List ℕ) → List ℕ → Bool
 is_configured symbols symbol = list_any (bytes_eq symbol) symbols

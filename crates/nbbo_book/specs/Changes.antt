@@ -1,4 +1,4 @@
--- What one more entry changes in the national best of the symbols.
+-- The changes that one more entry makes in the national best of the symbols.
 use Rattle.std.specs.Prelude.{ℕ, Bool, true, false, ◌&&◌, ◌==◌, List, [], ◌∷◌, ◌++◌, Option, Some, None, if◌then◌else◌}
 use Rattle.std.specs.List.{filter_map}
 use Rattle.feed_types.specs.declared.journal.Entry.{Entry}
@@ -7,7 +7,7 @@ use Rattle.feed_types.specs.declared.national.National.{National}
 use Rattle.nbbo_book.specs.declared.change.Change.{Change}
 use Rattle.nbbo_book.specs.Nationals.{national_of}
 
--- the same venue, price and size, or twice none
+-- the same venue, price and size, or both none
 abbrev pub is_same_best : Option Best → Option Best → Bool
 is_same_best None None = true
 is_same_best None (Some y) = false
@@ -18,14 +18,14 @@ is_same_best (Some x) (Some y) =
 abbrev pub is_same_national : National → National → Bool
 is_same_national x y = is_same_best x.bid y.bid && is_same_best x.offer y.offer
 
--- a symbol's change, where its national best is another one than before
+-- a symbol's change, where its national best differs from before
 abbrev pub change_of : ℕ → List ℕ → National → National → Option Change
 change_of position symbol before after =
     if is_same_national before after
     then None else Some (record { position = position; symbol = symbol; national = after })
 
 -- The changes that one more entry makes, each with its position: one for each symbol whose national
--- best is another one after it, in the order of the symbols.
+-- best differs after it, in the order of the symbols.
 abbrev pub changes_by : List (List ℕ) → List Entry → ℕ → Entry → List Change
 changes_by symbols entries position entry =
     filter_map

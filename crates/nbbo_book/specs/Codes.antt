@@ -1,4 +1,4 @@
--- The numbers that stand for faults in logs (this project's format).
+-- The codes of faults in logs (this project's format).
 use Rattle.std.specs.Prelude.{ℕ}
 use Rattle.nbbo_book.specs.declared.fault.BookFault.{BookFault}
 use Rattle.nbbo_book.specs.declared.fault.BookFault.TheVariants.{BadVenueCount, TooManySymbols, DuplicateSymbol, NoMemory}

@@ -59,7 +59,7 @@ pub record IsEligible
 abbrev pub is_protected : SideQuote → Bool
 is_protected quote = quote.automated && (nat_lt 0 quote.price && nat_lt 0 quote.size)
 
--- what a venue may be ranked with, where it may be ranked at all
+-- what a venue is ranked with, where it may be ranked at all
 abbrev pub ranked_by : Bool → ℕ → Option SideQuote → Option Best
 ranked_by false venue quote = None
 ranked_by true venue None = None
@@ -67,7 +67,7 @@ ranked_by true venue (Some quote) =
     if is_protected quote
     then Some (record { venue = venue; price = quote.price; size = quote.size }) else None
 
--- neither self-help nor a halt stands in the way
+-- neither self-help nor a halt prevents it
 abbrev pub may_rank : List Entry → ℕ → List ℕ → Bool
 may_rank entries venue symbol =
     not (is_self_helped entries venue) && not (is_halted entries venue symbol)

@@ -1,5 +1,5 @@
--- Who shows the best bid and the best offer (17 CFR 242.600(b): identical bids or offers rank first
--- by size, the largest highest, and then by time, the first received highest).
+-- The venues with the best bid and the best offer (17 CFR 242.600(b): identical bids or offers rank
+-- first by size, the largest highest, and then by time, the first received highest).
 use Rattle.std.specs.Prelude.{◌≢◌, ◌↔◌, ℕ, nat_lt, ◌==◌, Bool, ◌&&◌, ◌||◌, IsTrue, List, Option, find}
 use Rattle.std.specs.List.{filter_map, list_all, range_with_len, AllPairs, Contains}
 use Rattle.feed_types.specs.declared.journal.Entry.{Entry}
@@ -37,7 +37,7 @@ pub record IsBest (entries : List Entry) (symbol : List ℕ) (side : Side) (x : 
   pub first : (y : Best) → IsEligible entries symbol side y → y.venue ≢ x.venue
       → Beats entries symbol side x y
 
--- these are the eligible sides, each before those that it beats
+-- the eligible sides, each before those that it beats
 pub record IsRanking
     (entries : List Entry) (symbol : List ℕ) (side : Side) (ranks : List Best) : Type 0 where
   pub members : (x : Best) → Contains ranks x ↔ IsEligible entries symbol side x
@@ -49,7 +49,7 @@ all_venues = range_with_len 0 16
 abbrev pub eligible_sides : List Entry → List ℕ → Side → List Best
 eligible_sides entries symbol side = filter_map (eligible_of entries symbol side) all_venues
 
--- it beats every one of these of another venue
+-- it beats every side in the list that is of another venue
 abbrev pub beats_others : Side → (ℕ → ℕ) → List Best → Best → Bool
 beats_others side age all x = list_all (λ y. (y.venue == x.venue) || beats side age x y) all
 

@@ -1,4 +1,4 @@
--- Cited by private clauses alone: the ranks of one side of a symbol, best first.
+-- The ranks of one side of a symbol, best first. Cited by private clauses alone.
 use Rattle.std.specs.Prelude.{◌≡◌, ℕ, ◌<◌, ◌≤◌, ◌+◌, ◌⊎◌, ◌↔◌, nat_lt, ◌==◌, Bool, false, true, List, [], ◌∷◌, length, slice_index_or, Option, Some, None, ⊤, if◌then◌else◌}
 use Rattle.std.specs.List.{AllByRecursion}
 use Rattle.feed_types.specs.declared.line.Side.{Side}
@@ -14,7 +14,7 @@ abbrev pub InRank : Side → (ℕ → ℕ) → List Best → Type 0
 InRank side age [] = ⊤
 InRank side age (x ∷ xs) = AllByRecursion (λ y. beats side age x y ≡ true) xs × InRank side age xs
 
--- x is one of them
+-- x is one of the ranks
 abbrev pub IsIn : List Best → Best → Type 0
 IsIn [] x = ⊥
 IsIn (y ∷ ys) x = (y ≡ x) ⊎ IsIn ys x
@@ -66,8 +66,8 @@ pub record IsPlace (order : Order) (x : Best) (others : List Best) (place : ℕ)
   pub before : (k : ℕ) → place ≡ k + 1 → is_ahead order x (slice_index_or others k x) ≡ false
   pub at : place < length others → is_ahead order x (slice_index_or others place x) ≡ true
 
--- By its cause the venue's side that is to be ranked is the newest of all and another one than was
--- ranked, or the one that was ranked, if any.
+-- By its cause the venue's side that is to be ranked is the newest of all and differs from what was
+-- ranked, or is the one that was ranked, if any.
 abbrev pub IsCause : Cause → Side → (ℕ → ℕ) → Best → List Best → Type 0
 IsCause Quoted side age x ranks = IsNewest age x (without x.venue ranks) × (¬ IsIn ranks x)
 IsCause Rechecked side age x ranks =
@@ -84,13 +84,13 @@ pub record CanUpdate
   pub caused : (x : Best) → best ≡ Some x
       → IsCause order.cause order.side (ages_in order) x ranks
 
--- the place of each of these is noted under its venue's number
+-- the place of each rank is noted under its venue's number
 abbrev pub AreNoted : List ℕ → List Best → Type 0
 AreNoted places ranks =
     (k : ℕ) (x : Best) → k < length ranks
     → slice_index_or places (slice_index_or ranks k x).venue 16 ≡ k
 
--- these are what the venues are ranked with, best first
+-- the ranks are what the venues are ranked with, best first
 pub record IsRankingOf
     (side : Side) (rank : ℕ → Option Best) (age : ℕ → ℕ) (xs : List Best) : Type 0 where
   pub members : (x : Best) → IsIn xs x ↔ ((x.venue < 16) × (rank x.venue ≡ Some x))

@@ -1,6 +1,6 @@
--- Which symbols and how many venues a book is made for, and why it is refused: the first reason
--- that fits, in this order. Refused memory is the last one, but that for the table of symbols, which
--- is asked for before it is seen that one comes twice.
+-- The symbols and numbers of venues that a book is made for, and why others are refused: the first
+-- reason that fits, in this order. Refused memory comes last, but that of the table of symbols
+-- comes before a symbol that is there twice.
 use Rattle.std.specs.Prelude.{◌≡◌, ◌⊎◌, ℕ, ◌<◌, ◌≤◌, List, length, Result, Ok, Err}
 use Rattle.std.specs.List.{IsDistinct}
 use Rattle.std.specs.Str.{bytes_eq}
@@ -23,9 +23,9 @@ HasBookFault symbols venues DuplicateSymbol =
     IsSizedBook symbols venues × (¬ IsDistinct bytes_eq symbols)
 HasBookFault symbols venues NoMemory = IsSizedBook symbols venues
 
--- A call that makes a book, or what has one in it, over these symbols and this many venues answers
--- so: what is made has sizes that are allowed and each symbol once, and a fault is the first that
--- fits.
+-- The answer of a call that makes a book, or what has one in it, over these symbols and this many
+-- venues: what is made has sizes that are allowed and each symbol once, and a fault is the first
+-- that fits.
 abbrev pub ConfiguresBook : {T : Type 0} → List (List ℕ) → ℕ → Result T BookFault → Type 0
 ConfiguresBook symbols venues (Ok made) =
     IsSizedBook symbols venues × IsDistinct bytes_eq symbols

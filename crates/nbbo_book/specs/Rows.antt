@@ -1,4 +1,4 @@
--- Cited by private clauses alone: what a book keeps of a symbol, and how an entry changes it.
+-- What a book keeps of a symbol, and how an entry changes it. Cited by private clauses alone.
 use Rattle.std.specs.Prelude.{ℕ, List, Bool, false, not, ◌≡◌, ◌&&◌, ◌++◌, map, Option, Some, None, slice_index_or, slice_set, replicate, if◌then◌else◌}
 use Rattle.std.specs.List.{filter_map}
 use Rattle.std.specs.Str.{bytes_eq}
@@ -51,7 +51,7 @@ row_ended venue age row =
       offers = side_quoted Offer venue None age false row.offers;
     }
 
--- with these halts and flags of self-help, of which one venue's are others than before
+-- with these halts and flags of self-help, of which one venue's differ from before
 abbrev pub row_rechecked : List Bool → ℕ → List Bool → Row → Row
 row_rechecked helped venue halted row =
     let may = may_at helped halted venue in
@@ -96,7 +96,7 @@ row_change helped age position entry row =
     change_of position row.symbol
     (national_at row) (national_at (row_after helped age entry row))
 
--- every symbol is as after one more entry, and its changes are told behind those before
+-- every symbol is as after one more entry, and its changes follow the earlier ones
 pub record Applies
     (helped : List Bool) (age position : ℕ) (entry : Entry)
     (old new : List Row) (told telling : List Change) : Type 0 where

@@ -1,5 +1,5 @@
--- A venue's side in a symbol after a list of entries, and since when it is what it is. Each is
--- worked out from the whole list. Entries count from 1; a venue is its number.
+-- A venue's side in a symbol after a list of entries, and its age. Each is computed from the whole
+-- list. Entries count from 1; a venue is its number.
 use Rattle.std.specs.Prelude.{ℕ, zero, suc, Bool, true, false, ◌&&◌, ◌==◌, List, [], ◌∷◌, length, take, Option, Some, None, unwrap_or, if◌then◌else◌}
 use Rattle.std.specs.Str.{bytes_eq}
 use Rattle.feed_types.specs.declared.journal.Entry.{Entry}
@@ -16,7 +16,7 @@ abbrev pub later : {T : Type 0} → Option T → Option T → Option T
 later first None = first
 later first (Some x) = Some x
 
--- what the last entry that says something says
+-- what is said by the last entry that says something
 abbrev pub last_said : {T : Type 0} → (Entry → Option T) → List Entry → Option T
 last_said says [] = None
 last_said says (entry ∷ entries) = later (says entry) (last_said says entries)
@@ -28,8 +28,8 @@ quoted_by quote Bid =
 quoted_by quote Offer =
     record { price = quote.offer_price; size = quote.offer_size; automated = quote.offer_auto }
 
--- What a venue's item says of its side in a symbol: a quotation in that symbol what the side is, an
--- end of session that there is none, and every other item nothing.
+-- What a venue's item says of its side in a symbol: a quotation in that symbol says what the side
+-- is, an end of session that there is none, and every other item nothing.
 abbrev pub side_said_by : List ℕ → Side → Item → Option (Option SideQuote)
 side_said_by symbol side (item.Quote quote) =
     if bytes_eq quote.symbol symbol then Some (Some (quoted_by quote side)) else None
@@ -54,7 +54,7 @@ is_same_flag true flag = flag
 is_same_flag false true = false
 is_same_flag false false = true
 
--- the same price, size and flag, or twice none
+-- the same price, size and flag, or both none
 abbrev pub is_same_side : Option SideQuote → Option SideQuote → Bool
 is_same_side None None = true
 is_same_side None (Some y) = false

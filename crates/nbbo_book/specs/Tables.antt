@@ -1,4 +1,4 @@
--- Cited by private clauses alone: the table of the symbols, and what every book keeps.
+-- The table of the symbols, and what every book keeps. Cited by private clauses alone.
 use Rattle.std.specs.Prelude.{◌≡◌, ◌≢◌, ℕ, ◌<◌, ◌≤◌, ◌+◌, nat_eq, List, Bool, IsSome, length, map}
 use Rattle.std.specs.Int.{w64, to_be_bytes}
 use Rattle.std.specs.List.{AllByRecursion, IsDistinct}
@@ -16,7 +16,7 @@ use Rattle.nbbo_book.specs.BookSides.{rank_at, ArePast}
 abbrev pub symbols_in_rows : List Row → List (List ℕ)
 symbols_in_rows rows = map (λ (row : Row). row.symbol) rows
 
--- the eight bytes can be told from their word
+-- the eight bytes can be read from their word
 pub record HasWord (symbol : List ℕ) : Type 0 where
   pub told : to_be_bytes w64 (word_of symbol) ≡ symbol
 
@@ -51,7 +51,7 @@ pub record IsBook (keys : List ℕ) (book : BookState) : Type 0 where
   pub count : length book.helped ≡ 16
   pub rows : AllByRecursion (IsRow book.helped (book.applied + 1)) book.rows
 
--- what contracts see of a book of these parts
+-- a book of these parts as contracts see it
 abbrev pub book_state_of : List Row → ℕ → ℕ → ℕ → List Bool → BookState
 book_state_of rows venues last applied helped =
     record {

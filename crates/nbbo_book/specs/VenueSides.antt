@@ -1,4 +1,4 @@
--- What contracts see of a venue's side and of one side of a symbol; and, cited by private clauses
+-- A venue's side and one side of a symbol as contracts see them; and, cited by private clauses
 -- alone, how a venue's side is kept, in 24 bytes.
 use Rattle.std.specs.Prelude.{◌≡◌, ℕ, List, Bool, true, false, Option, Some, None, slice_index_or}
 use Rattle.feed_types.specs.declared.national.Best.{Best}
@@ -15,7 +15,7 @@ pub record BookSideState : Type 0 where
   pub venue_sides : List VenueSideState
   pub ranks : List Best
 
--- what stands at a venue's place
+-- the side at a venue's place
 abbrev pub venue_side_at : List VenueSideState → ℕ → VenueSideState
 venue_side_at venue_sides venue =
     slice_index_or venue_sides venue (record { quote = None; age = 0 })

@@ -21,10 +21,10 @@ use feed_types::{Best, Entry, National, Side, SymbolName, VenueId};
 use std::alloc::{AllocError, Global};
 use std::marker::Model;
 
-/// How many venues there are at most.
+/// The most venues.
 const MAX_VENUES: usize = 16;
 
-/// The rows of this many symbols lie near the processor anyway.
+/// The rows of this many symbols are in the cache anyway.
 const FEW_SYMBOLS: usize = 512;
 
 /// The protected sides of the configured symbols, and the best of them.
@@ -73,7 +73,7 @@ impl Book {
     ///
     /// Refuses as BadVenueCount, TooManySymbols, NoMemory where there is none for the table,
     /// DuplicateSymbol, or NoMemory where there is none for what is kept of the symbols: the first
-    /// of these that fits.
+    /// that fits.
     pub fn new(alloc: Global, symbols: &[SymbolName], venue_count: usize) -> Result<Book, BookFault>
         ensures fits { IfOk result (λ book. FitsBook book []) }
         ensures symbols { IfOk result (λ book. book.symbols ≡ symbols.now) }
@@ -135,9 +135,9 @@ impl Book {
         self.last = position;
     }
 
-    /// Reads what the venue's quotation of a symbol will read, where a message to come has this
-    /// field, so that it lies near the processor then. It changes no answer. Returns whether that
-    /// pays: a book of few symbols lies near the processor anyway, and reads nothing.
+    /// Reads what the venue's quotation of a symbol will read, where a later message has this
+    /// field, so that it is in the cache then. It changes no answer. Returns whether that pays: a
+    /// book of few symbols is in the cache anyway, and reads nothing.
     #[inline(always)]
     pub fn prefetch(&mut self, venue: VenueId, field: [u8; 8]) -> bool
         ensures { self.new ≡ self.old }
@@ -162,7 +162,7 @@ impl Book {
         Some(self.rows[place].national())
     }
 
-    /// Lends the eligible sides of the symbol, best first: each stands before those that it beats.
+    /// Lends the eligible sides of the symbol, best first: each is before those that it beats.
     /// `None` exactly where the symbol isn't configured.
     pub fn ranked(&self, symbol: &SymbolName, side: Side) -> Option<&[Best]>
         ensures configured { IsSome result ↔ IsTrue (is_configured self.now.symbols symbol.now) }
@@ -173,7 +173,7 @@ impl Book {
         Some(self.rows[place].ranks(side))
     }
 
-    /// Returns whether self-help stands on the venue.
+    /// Returns whether self-help is declared on the venue.
     pub fn is_self_helped(&self, venue: VenueId) -> bool
         ensures { (entries : List Entry) → FitsBook self.now entries
             → result ≡ self_helped entries venue }
@@ -181,7 +181,7 @@ impl Book {
         self.venues.helped[venue.index()]
     }
 
-    /// Returns how many venues there are: `apply` takes entries of those whose number is below.
+    /// Returns the number of venues: `apply` takes entries of venues below it.
     pub fn venue_count(&self) -> usize
         ensures { result ≡ self.now.venues }
     {
@@ -195,7 +195,7 @@ impl Book {
         self.last
     }
 
-    /// Returns how many symbols are configured: one entry makes at most that many changes.
+    /// Returns the number of configured symbols: one entry makes at most that many changes.
     pub fn symbol_count(&self) -> usize
         ensures { result ≡ length self.now.symbols }
     {

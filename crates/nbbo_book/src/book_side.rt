@@ -11,7 +11,7 @@ use crate::venue_side::{VenueSide, venue_side_at};
 use feed_types::{Best, Side, VenueId};
 use std::marker::Model;
 
-/// Who quotes, and whether that venue may be ranked in the symbol.
+/// The venue that quotes, and whether it may be ranked in the symbol.
 #[derive(Clone, Copy)]
 pub struct Quoter {
     pub venue: VenueId,
@@ -100,8 +100,8 @@ impl BookSide {
     }
 
     /// Notes that the venue, which has shown something, shows nothing since this age. Returns
-    /// whether the best side differs then. It stands apart from `clear_quote`, which most often
-    /// finds nothing shown.
+    /// whether the best side differs then. It is apart from `clear_quote`, which most often finds
+    /// nothing shown.
     #[inline(never)]
     fn clear_shown(&mut self, side: Side, venue: VenueId, age: u64) -> bool
         requires ranked { IsRanked side self.old }

@@ -1,4 +1,4 @@
-//! What an entry changes.
+//! The changes that an entry makes.
 
 use feed_types::{National, SymbolName};
 

@@ -1,4 +1,4 @@
-//! Why there is no book.
+//! The faults of making a book.
 
 ghost use Rattle.std.specs.Prelude.{◌≡◌};
 ghost use Rattle.nbbo_book.specs.Codes.{book_fault_code};
@@ -23,7 +23,7 @@ pub enum BookFault {
 }
 
 impl BookFault {
-    /// The number that stands for the fault, 12 or 14 to 16.
+    /// The code of the fault: 12 or 14 to 16.
     pub fn code(self) -> u8
         ensures { result ≡ book_fault_code self }
     {

@@ -1,4 +1,4 @@
-//! What the definitions mean, beside the regulation.
+//! Laws of the definitions, to compare with the regulation.
 
 ghost use Rattle.std.specs.Prelude.{◌≡◌, ◌≢◌, ◌↔◌, ◌⊎◌, ℕ, ◌≤◌, List, length, take, Some, None, IsTrue};
 ghost use Rattle.feed_types.specs.declared.journal.Entry.{Entry};

@@ -5,8 +5,8 @@
 //! entry changed.
 //!
 //! Contract: for every list of entries that the book fits, the changes that `apply` appends, the
-//! national best and the ranks are those that `specs/Changes.antt` and `specs/Nationals.antt` work
-//! out from the whole list. Begin at `book.rt`; `laws.rt` says what the definitions mean.
+//! national best and the ranks are those that `specs/Changes.antt` and `specs/Nationals.antt`
+//! compute from the whole list. Begin at `book.rt`; `laws.rt` says what the definitions mean.
 #![tactic(auto)]
 
 mod book;

@@ -14,13 +14,13 @@ use std::marker::Model;
 /// Why a venue's side is ranked anew.
 #[derive(Clone, Copy)]
 pub enum Cause {
-    /// It is another quotation, or none: it is the newest of all sides.
+    /// The venue's quotation is a new one, or none: it is the newest of all sides.
     Quoted,
     /// The venue may be ranked again, or may not: the side has kept its age.
     Rechecked,
 }
 
-/// How the sides of one side of a symbol are ranked.
+/// The order of the sides of one side of a symbol.
 #[derive(Clone, Copy)]
 pub struct Order<'a> {
     pub side: Side,
@@ -32,7 +32,7 @@ pub struct Order<'a> {
 /// The eligible sides of one side of a symbol, best first; at most one of each venue.
 #[derive(Drop)]
 pub struct Ranks {
-    /// Where each venue's side stands, under the venue's number. It counts where the side there is
+    /// The place of each venue's side, under the venue's number. It counts where the side there is
     /// the venue's.
     places: [u8; 16],
     best_first: ArrayVec<Best, 16>,
@@ -51,8 +51,8 @@ impl Model for Ranks {
     ghost invariant = { λ r. AreNoted r.places r.best_first.items };
 }
 
-/// Whether `x` is ahead of `y` by its price or its size. Which of two sides is a coin's toss: price
-/// and size are compared at once, so that few branches hang on it.
+/// Whether `x` is ahead of `y` by its price or its size. Which of the two is hard to predict: price
+/// and size are compared at once, so that few branches depend on it.
 #[inline(always)]
 fn is_better(side: Side, x: &Best, y: &Best) -> bool
     ensures { result ≡ is_better_side side x.now y.now }
@@ -188,7 +188,7 @@ fn settle(
     down
 }
 
-/// Returns where the venue's side stands.
+/// Returns the place of the venue's side.
 #[inline(always)]
 fn place_of(ranks: &[Best], places: &[u8; 16], venue: VenueId) -> Option<usize>
     requires { AreNoted places.now ranks.now }
@@ -204,7 +204,7 @@ fn place_of(ranks: &[Best], places: &[u8; 16], venue: VenueId) -> Option<usize>
     None
 }
 
-/// Notes the place of each side from this one on, which stands one place further on than is noted.
+/// Notes the place of each side from `from` on, which is one place further on than is noted.
 fn note_anew(ranks: &[Best], places: &mut [u8; 16], from: usize)
     requires few { length ranks.now ≤ 16 }
     requires before { (k : ℕ) (x : Best) → k < from → k < length ranks.now
@@ -248,7 +248,7 @@ impl Ranks {
         }
     }
 
-    /// Returns how many sides there are.
+    /// Returns the number of sides.
     #[inline(always)]
     pub fn len(&self) -> usize
         ensures { result ≡ length self.now }
@@ -297,9 +297,9 @@ impl Ranks {
         }
     }
 
-    /// Gives the venue's side its rank, or takes it out where it has none. A side that is ranked
-    /// already moves past its neighbours from where it stands. Returns whether the best side
-    /// differs then, which the places tell: a side comes from the first one or goes to it.
+    /// Moves the venue's side to its rank, or takes it out where it has none. A side that is ranked
+    /// already moves past its neighbours from where it is. Returns whether the best side differs
+    /// then, which the places show: a side comes from the first one or goes to it.
     #[inline(always)]
     pub fn update(&mut self, order: &Order<'_>, venue: VenueId, best: Option<Best>) -> bool
         requires { CanUpdate order.now venue best self.old }

@@ -13,7 +13,7 @@ use crate::venue_side::VenueSide;
 use crate::venues::Venues;
 use feed_types::{Best, Entry, Item, National, Quote, Side, SymbolName, VenueId};
 
-/// What a book keeps of one symbol. What each entry reads of it stands first.
+/// The part of a book for one symbol. What each entry reads of it comes first.
 #[derive(Drop)]
 pub struct Row {
     /// The venues that halt the symbol.
@@ -129,7 +129,7 @@ impl Row {
         }
     }
 
-    /// Takes the venue's item as `take_item` does, and stands apart.
+    /// Takes the venue's item as `take_item` does, in a call of its own.
     #[inline(never)]
     fn take_item_apart(&mut self, venues: &Venues, venue: VenueId, item: &Item, age: u64) -> bool
         requires { IsRowRanked age self.old }
@@ -141,7 +141,7 @@ impl Row {
     }
 
     /// Takes one more entry as `take_entry` does. It costs less than that for an end and self-help,
-    /// which concern each symbol: what a quotation does stands apart.
+    /// which concern each symbol: what a quotation does is a call of its own.
     #[inline(always)]
     pub fn take_entry_of_all(&mut self, venues: &Venues, entry: &Entry, age: u64) -> bool
         requires { IsRowRanked age self.old }

@@ -44,7 +44,7 @@ pub(crate) fn is_same(x: Option<SideQuote>, y: Option<SideQuote>) -> bool
 {
     match (x, y) {
         (None, None) => true,
-        // A new price most often comes with a new size: so the first comparison tells most.
+        // A new price most often comes with a new size: so the first comparison decides most.
         (Some(x), Some(y)) => {
             x.size == y.size && x.price == y.price && x.automated == y.automated
         }

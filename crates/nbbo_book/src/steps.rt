@@ -13,7 +13,7 @@ use crate::table::{Table, find};
 use crate::venues::Venues;
 use feed_types::{Best, Entry, Item, National, SymbolName};
 
-/// One more entry: what it is, and where it stands.
+/// One more entry, with its position.
 #[derive(Clone, Copy)]
 pub struct Step<'a> {
     pub entry: &'a Entry,

@@ -1,8 +1,8 @@
-//! Where a symbol most likely stands, by one look at a slot of a direct-mapped cache.
+//! The place where a symbol most likely is, by one look at a slot of a direct-mapped cache.
 //!
-//! A slot may name another symbol's place: two symbols with one hash share a slot, and who looks
-//! there checks whether the symbol stands at that place. Nothing here changes an answer, so no
-//! contract says anything of it.
+//! A slot may name another symbol's place: two symbols with one hash share a slot, and the caller
+//! checks whether the symbol is at that place. Nothing here changes an answer, so no contract says
+//! anything of it.
 
 use feed_types::SymbolName;
 use std::alloc::{AllocError, Global};
@@ -11,7 +11,7 @@ use std::alloc::{AllocError, Global};
 #[derive(Drop)]
 pub struct SymbolCache {
     slots: Vec<u16>,
-    /// How far a hash is shifted to the right to give a slot.
+    /// How far a hash is shifted to the right to make a slot.
     shift: u32,
 }
 
@@ -19,8 +19,8 @@ pub struct SymbolCache {
 /// (S17, SYM0017, AAB, X01A, ..): at most 177, of several thousand numbers that were tried.
 const MULTIPLIER: u64 = 0x5572_c90a_83e3_0409;
 
-/// Returns how many slots there are for this many symbols, and the shift that goes with it. There
-/// are at least eight slots a symbol, so that few symbols share one.
+/// Returns the number of slots for this many symbols, and the shift that goes with it. There are at
+/// least eight slots a symbol, so that few symbols share one.
 fn slots_for(symbol_count: usize) -> (usize, u32) {
     if symbol_count <= 16 {
         (128, 57)
@@ -56,7 +56,7 @@ impl SymbolCache {
         key.wrapping_mul(MULTIPLIER).wrapping_shr(self.shift) as usize
     }
 
-    /// Returns where the symbol of the key may stand.
+    /// Returns the place where the symbol of the key may be.
     #[inline(always)]
     pub fn place_of(&self, key: u64) -> usize {
         match self.slots.get(self.slot_of(key)) {

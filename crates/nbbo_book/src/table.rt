@@ -12,13 +12,13 @@ use feed_types::SymbolName;
 use indexmap::IndexSet;
 use std::alloc::Global;
 
-/// How many symbols there are at most.
+/// The most symbols.
 const MAX_SYMBOLS: usize = 4096;
 
 /// The symbols' words: one number hashes faster than eight bytes.
 pub type Words = IndexSet<u64>;
 
-/// Where each symbol stands, and a guess at it.
+/// The place of each symbol, and a guess at it.
 #[derive(Drop)]
 pub struct Table {
     pub words: Words,
@@ -68,7 +68,7 @@ pub fn symbol_table(alloc: Global, symbols: &[SymbolName]) -> Result<Table, Book
     }
 }
 
-/// Returns where the symbol stands. Most often that is where it is guessed to be.
+/// Returns the place of the symbol. Most often that is the guess.
 #[inline(always)]
 pub fn find(table: &Table, rows: &[Row], symbol: SymbolName) -> Option<usize>
     requires { IsTable (symbols_in_rows rows.now) table.now.words.keys }

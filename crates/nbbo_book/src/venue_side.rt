@@ -1,4 +1,4 @@
-//! What a venue shows on one side of a symbol.
+//! The side that a venue shows of a symbol.
 
 ghost use Rattle.std.specs.Prelude.{◌≡◌, ◌<◌};
 ghost use Rattle.nbbo_book.specs.VenueSides.{venue_side_at as side_at_place};
@@ -97,7 +97,7 @@ impl VenueSide {
     }
 }
 
-/// Returns what stands at the venue's place.
+/// Returns the side at the venue's place.
 #[inline(always)]
 pub fn venue_side_at(venue_sides: &[VenueSide; 16], venue: VenueId) -> VenueSide
     ensures value { result ≡ side_at_place venue_sides.now venue }

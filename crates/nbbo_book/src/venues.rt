@@ -6,7 +6,7 @@ ghost use Rattle.nbbo_book.specs.Rows.{may_at, helped_after as flags_after};
 use crate::book_side::Quoter;
 use feed_types::{Entry, VenueId};
 
-/// The venues of a book: how many there are, and on which of them self-help stands.
+/// The venues of a book: how many there are, and on which self-help is declared.
 #[derive(Clone, Copy)]
 pub struct Venues {
     pub count: usize,
@@ -26,7 +26,7 @@ impl Venues {
         }
     }
 
-    /// Notes which venues self-help stands on after one more entry.
+    /// Notes the venues on which self-help is declared after one more entry.
     #[inline(always)]
     pub fn take_self_help(&mut self, entry: &Entry)
         ensures helped { self.new.helped ≡ flags_after entry.now self.old.helped }
