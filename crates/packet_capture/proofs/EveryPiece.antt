@@ -119,7 +119,7 @@ options_or_cut order (suc n) bytes few = elim (cases_lt (length bytes) 4) [
   ]
 ]
 
--- what a block says, or why it says nothing
+-- the meaning of a block, or why it has none
 EventOrFault : List Interface → ByteOrder → List ℕ → Type 0
 EventOrFault is order block = ((s : BlockEvent) × BlockSays is order block s) ⊎ ((f : CaptureFault) × HasBlockFault is order block f)
 

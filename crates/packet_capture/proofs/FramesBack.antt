@@ -169,7 +169,7 @@ six_back p d filling h =
     ∙ take-append_seam (udp_bytes d) filling)
     (ap (λ (x : List ℕ). addresses.V6 x) (six_destination p d filling h))
 
--- Ethernet: a number behind the addresses
+-- Ethernet: a number after the addresses
 number_after : (xs ys : List ℕ) (n k : ℕ) → length xs ≡ n → u16_in Big (xs ++ ys) (n + k) ≡ u16_in Big ys k
 unfolding u16_in
 number_after xs ys n k len =

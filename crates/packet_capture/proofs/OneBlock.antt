@@ -135,7 +135,7 @@ same_event interfaces order block passed_over (interface_added j) h k = let e : 
 same_event interfaces order block passed_over (frame_came g) h k = absurd (not_packet k.kind Unread (k.kind_is ∙ h) (λ x. x) k.is_packet)
 same_event interfaces order block passed_over passed_over h k = refl
 
--- each reason why a block says nothing, against every other
+-- each reason why a block has no meaning, against every other
 short_or : (is : List Interface) (order : ByteOrder) (block : List ℕ) (g : CaptureFault) → length block < fixed_len (block_kind order block) → HasBlockFault is order block g → g ≡ ShortBlock
 short_or is order block g short (inl k) = k.1
 short_or is order block g short (inr (inl k)) = let e = ap fixed_len k.0 in let a = k.1 in absurd (omega arith)
@@ -189,7 +189,7 @@ same_block_fault is order block f g (inr (inr (inl h))) k = h.2 ∙ sym (option_
 same_block_fault is order block f g (inr (inr (inr (inl h)))) k = h.1 ∙ sym (unknown_or is order block g h.0 k)
 same_block_fault is order block f g (inr (inr (inr (inr h)))) k = h.1 ∙ sym (cut_or is order block g h.0 k)
 
--- a block that says something has no fault
+-- a block that has a meaning has no fault
 section_says : (is : List Interface) (order : ByteOrder) (block : List ℕ) (g : CaptureFault) → block_kind order block ≡ SectionHeader → 28 ≤ length block → IsSectionVersion order block → HasBlockFault is order block g → ⊥
 section_says is order block g header there version (inl k) = let e = ap fixed_len header in let a = k.0 in absurd (omega arith)
 section_says is order block g header there version (inr (inl k)) = k.2 version

@@ -79,7 +79,7 @@ same_content_fault is order block f g there (inl h) (inr k) = absurd (no_fault_w
 same_content_fault is order block f g there (inr h) (inl k) = absurd (no_fault_with_event is order block h.0 g there h.1 k)
 same_content_fault is order block f g there (inr h) (inr k) = h.2.fault_is ∙ sym k.2.fault_is
 
--- one interface more than there may be
+-- one more interface than there may be
 too_many : (is : List Interface) (s : BlockEvent) (i : Interface) → s ≡ interface_added i → length (interfaces_after is s) ≤ 256 → 256 ≤ length is → ⊥
 too_many is s i e few many =
     let n : length (interfaces_after is s) ≡ length (is ++ i ∷ []) = ap (λ (x : BlockEvent). length (interfaces_after is x)) e in

@@ -6,7 +6,7 @@ use Rattle.packet_capture.specs.Frames.{FrameContent}
 use Rattle.packet_capture.specs.Captures.{Context, new_context, PieceContent, IsPieceIn, IsPiece, ArePieces, frames_of, IsCapture}
 use Rattle.packet_capture.proofs.OnePiece.{same_piece}
 
--- no piece stands where nothing does
+-- no piece begins where nothing does
 none_in : (format : Format) (before after : Context) (p : PieceContent) → IsPieceIn format before [] p after → ⊥
 none_in Start before after p (inl h) = let a = h.there in omega arith
 none_in Start before after p (inr h) = let a = h.there in omega arith

@@ -20,7 +20,7 @@ use Rattle.packet_capture.specs.Written.{u16_bytes, u32_bytes}
 use Rattle.packet_capture.specs.WrittenSections.{block_bytes, section_header, interface_bytes, WrittenPacket, IsWrittenPacket, packet_bytes, section_bytes, written_interface, packet_frame}
 use Rattle.packet_capture.proofs.WrittenBack.{two_back, number_back}
 
--- a number of four bytes behind a part of a known length
+-- a number of four bytes after a part of a known length
 index_after : (xs ys : List ℕ) (n j : ℕ) → length xs ≡ n → slice_index (xs ++ ys) (n + j) ≡ slice_index ys j
 index_after xs ys n j len = ap (λ (m : ℕ). slice_index (xs ++ ys) (m + j)) (sym len) ∙ get_or-append-add xs ys j 0
 

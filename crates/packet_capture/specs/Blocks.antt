@@ -4,7 +4,7 @@ use Rattle.packet_capture.specs.declared.fields.ByteOrder.{ByteOrder}
 use Rattle.packet_capture.specs.declared.fields.ByteOrder.TheVariants.{Big, Little}
 use Rattle.packet_capture.specs.Fields.{u32_in}
 
--- a block's first four bytes say what it is; those of a section's header are the same in both orders
+-- a block's first four bytes are its type; those of a section's header are the same in both orders
 abbrev pub BeginsSection : List ℕ → Type 0
 BeginsSection bytes = u32_in Big bytes 0 ≡ 168627466
 

@@ -1,5 +1,5 @@
--- A packet capture: a savefile, or the sections of a pcapng file, piece by piece. A piece is a header, a
--- packet record or a block.
+-- A packet capture: a savefile, or the sections of a pcapng file, piece by piece. A piece is a
+-- header, a packet record or a block.
 use Rattle.std.specs.Prelude.{◌≡◌, ℕ, ◌+◌, ◌≤◌, ◌<◌, ◌⊎◌, List, [], ◌∷◌, ◌++◌, length, drop, flat_map, Option, Some, None}
 use Rattle.packet_capture.specs.declared.fields.ByteOrder.{ByteOrder}
 use Rattle.packet_capture.specs.declared.fields.ByteOrder.TheVariants.{Big}
@@ -20,7 +20,8 @@ use Rattle.packet_capture.specs.Blocks.{BeginsSection, IsBlock}
 use Rattle.packet_capture.specs.Contents.{BlockEvent, section_begins, interface_added, frame_came, passed_over, BlockSays, HasBlockFault}
 use Rattle.packet_capture.specs.Stops.{StopsInHeader, StopsInRecord, StopsInBlock}
 
--- what the pieces before say of the next one: what the capture is, and in a section its interfaces
+-- what the pieces before say of the next one: the format of the capture, and in a section its
+-- interfaces
 pub record Context : Type 0 where
   pub format : Format
   pub interfaces : List Interface
@@ -63,7 +64,7 @@ pub record IsRecordPiece (s : Savefile) (before : Context) (bytes : List ℕ) (p
   pub frame_is : piece.frame ≡ Some frame
   pub after_is : after ≡ before
 
--- the frame that a block says, if it says one
+-- the frame of a block, if it has one
 abbrev pub frame_in_event : BlockEvent → Option FrameContent
 frame_in_event section_begins = None
 frame_in_event (interface_added i) = None
@@ -93,7 +94,7 @@ pub record IsBlockPiece (section : ByteOrder) (before : Context) (bytes : List �
     interfaces = interfaces_after before.interfaces event;
   }
 
--- a section's header at the start of a capture: which order is asked of it plays no part
+-- a section's header at the start of a capture: the order that is asked of it plays no part
 pub record IsFirstBlock (before : Context) (bytes : List ℕ) (piece : PieceContent)
     (after : Context) : Type 0 where
   pub there : 4 ≤ length bytes
@@ -135,7 +136,7 @@ abbrev pub StopsInSection : ByteOrder → Context → List ℕ → Stop → Type
 StopsInSection section before bytes stop =
     StopsInBlock section bytes stop ⊎ StopsInContent section before bytes stop
 
--- at the start: too little to tell what it is, no capture, or what stops in the first piece
+-- at the start: too little to see the format, no capture, or what stops in the first piece
 abbrev pub StopsAtStart : Context → List ℕ → Stop → Type 0
 StopsAtStart before bytes stop =
     ((length bytes < 4) × (stop ≡ Wants 4))
@@ -146,7 +147,7 @@ StopsAtStart before bytes stop =
     ⊎ ((4 ≤ length bytes) × (magic_at bytes ≡ None) × BeginsSection bytes
     × StopsInSection Big before bytes stop)
 
--- no piece is read from the bytes in this context: why
+-- why no piece is read from the bytes in this context
 abbrev pub StopsIn : Format → Context → List ℕ → Stop → Type 0
 StopsIn Start before bytes stop = StopsAtStart before bytes stop
 StopsIn (InSavefile s) before bytes stop = StopsInRecord s bytes stop

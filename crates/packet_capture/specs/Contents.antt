@@ -1,4 +1,4 @@
--- What blocks hold: draft-ietf-opsawg-pcapng, sections 4.1 to 4.4 and appendix A.
+-- The contents of blocks: draft-ietf-opsawg-pcapng, sections 4.1 to 4.4 and appendix A.
 use Rattle.std.specs.Prelude.{◌≡◌, ℕ, ◌+◌, ◌*◌, ◌<◌, ◌≤◌, ◌==◌, ◌⊎◌, List, length, min, Option, Some, None, slice_get, if◌then◌else◌}
 use Rattle.packet_capture.specs.declared.fields.ByteOrder.{ByteOrder}
 use Rattle.packet_capture.specs.declared.fault.CaptureFault.{CaptureFault}
@@ -22,7 +22,7 @@ kind_of type =
     else (if type == 3 then Simple
     else (if type == 6 then Enhanced else Unread))))
 
--- how many bytes a block has at least, with its type and its lengths
+-- the least number of bytes of a block, with its type and its lengths
 abbrev pub fixed_len : BlockKind → ℕ
 fixed_len SectionHeader = 28
 fixed_len Description = 20
@@ -74,7 +74,7 @@ captured_in SectionHeader order i block = 0
 captured_in Description order i block = 0
 captured_in Unread order i block = 0
 
--- where the frame begins
+-- the offset of the frame
 abbrev pub frame_start : BlockKind → ℕ
 frame_start Simple = 12
 frame_start Enhanced = 28
@@ -118,7 +118,7 @@ pub record HasFrame (interfaces : List Interface) (order : ByteOrder) (block : L
   pub whole : fixed_len kind + captured_in kind order interface block ≤ length block
   pub is : frame ≡ frame_in kind order interface block
 
--- what a block says
+-- the meaning of a block
 pub data BlockEvent : Type 0 where
   section_begins : BlockEvent
   interface_added : Interface → BlockEvent
@@ -131,7 +131,7 @@ block_event_of (contents.Interface i) = interface_added i
 block_event_of (contents.Frame f) = frame_came (frame_of f)
 block_event_of contents.Other = passed_over
 
--- a block of a section with these interfaces says this
+-- a block of a section with these interfaces has this meaning
 abbrev pub BlockSays : List Interface → ByteOrder → List ℕ → BlockEvent → Type 0
 BlockSays interfaces order block section_begins =
     (block_kind order block ≡ SectionHeader) × (28 ≤ length block)
@@ -161,7 +161,7 @@ pub record HasCutFrame (interfaces : List Interface) (order : ByteOrder) (block 
   pub interface_is : slice_get interfaces (interface_in kind order block) ≡ Some interface
   pub cut : length block < fixed_len kind + captured_in kind order interface block
 
--- why a block says nothing: it is cut, or one of these, which exclude each other
+-- why a block has no meaning: it is cut, or one of these faults, which exclude each other
 abbrev pub HasBlockFault : List Interface → ByteOrder → List ℕ → CaptureFault → Type 0
 HasBlockFault interfaces order block fault =
     ((length block < fixed_len (block_kind order block)) × (fault ≡ ShortBlock))

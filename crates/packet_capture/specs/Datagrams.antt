@@ -9,7 +9,7 @@ use Rattle.packet_capture.specs.Fields.{u16_in, bytes_at}
 use Rattle.packet_capture.specs.Links.{number_of, link_len, version_in, packet_in}
 use Rattle.packet_capture.specs.Packets.{IsIp, IsUdp, packet_len, obstacle_in, destination_in, segment_in}
 
--- where a datagram goes, and what it holds
+-- a datagram: its destination, and its bytes
 pub record DatagramContent : Type 0 where
   pub address : Address
   pub port : ℕ

@@ -1,9 +1,9 @@
--- The numbers of the faults of captures: this project's own.
+-- The codes of the faults of captures: this project's own.
 use Rattle.std.specs.Prelude.{ℕ}
 use Rattle.packet_capture.specs.declared.fault.CaptureFault.{CaptureFault}
 use Rattle.packet_capture.specs.declared.fault.CaptureFault.TheVariants.{NotCapture, UnknownVersion, TooLong, BadByteOrder, BadBlockLength, LengthsDiffer, ShortBlock, UnknownInterface, FramePastBlock, OptionPastBlock, TooManyInterfaces}
 
--- the number by which logs name a fault
+-- the code by which logs name a fault
 abbrev pub capture_code : CaptureFault → ℕ
 capture_code NotCapture = 40
 capture_code UnknownVersion = 41

@@ -1,4 +1,4 @@
--- Why a frame carries no datagram, and the numbers of these faults, which are this project's own.
+-- Why a frame carries no datagram, and the codes of these faults, which are this project's own.
 use Rattle.std.specs.Prelude.{◌≡◌, ℕ, ◌<◌, ◌≤◌, ◌⊎◌, List, length, Some, None}
 use Rattle.packet_capture.specs.declared.link.IpVersion.{IpVersion}
 use Rattle.packet_capture.specs.declared.link.LinkType.{LinkType}
@@ -39,7 +39,7 @@ HasFrameFault number frame fault =
     ⊎ ((version : IpVersion) × HasPacket link frame version
     × HasPacketFault version (packet_in link frame) fault)))
 
--- the number by which logs name a fault
+-- the code by which logs name a fault
 abbrev pub frame_code : FrameFault → ℕ
 frame_code UnknownLink = 52
 frame_code NotIp = 53

@@ -2,8 +2,8 @@
 use Rattle.std.specs.Prelude.{ℕ, List, Option}
 use Rattle.packet_capture.specs.declared.frame.Frame.{Frame}
 
--- the number of its link type, its time in nanoseconds from 1970 on, if any, how many bytes it had on
--- the wire, and those that were captured
+-- the number of its link type, its time in nanoseconds from 1970 on, if any, its length in bytes on
+-- the wire, and the bytes that were captured
 pub record FrameContent : Type 0 where
   pub link : ℕ
   pub time : Option ℕ

@@ -59,18 +59,18 @@ bare_interface order block = record {
   offset = 0;
 }
 
--- these bytes are options, which make this interface of a bare one
+-- the bytes are options, which make this interface of a bare one
 pub record HaveOptions (order : ByteOrder) (bytes : List ℕ) (bare i : Interface) : Type 0 where
   pub options : List OptionField
   pub are : AreOptions order bytes options
   pub is : i ≡ with_options order bare options
 
--- of these bytes an option runs past the end
+-- an option in the bytes runs past their end
 pub record HaveCutOption (order : ByteOrder) (bytes : List ℕ) : Type 0 where
   pub options : List OptionField
   pub cut : CutAfter order bytes options
 
--- the options stand after the fixed fields of an interface's block, up to its second length
+-- the options follow the fixed fields of an interface's block, up to its second length
 abbrev pub options_in : List ℕ → List ℕ
 options_in block = slice_range block 16 (length block - 4)
 
@@ -83,7 +83,7 @@ Describes order block i =
 abbrev pub HasCutOption : ByteOrder → List ℕ → Type 0
 HasCutOption order block = (20 ≤ length block) × HaveCutOption order (options_in block)
 
--- how many units of time a second has: a power of 10, or from 128 on one of 2
+-- the number of units of time in a second: a power of 10, or from 128 on one of 2
 abbrev pub units_of : ℕ → ℕ
 units_of resolution =
     if nat_lt resolution 128 then 10 ^ resolution else 2 ^ (resolution - 128)

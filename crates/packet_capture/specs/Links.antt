@@ -1,4 +1,4 @@
--- What a frame begins with, by its link type: the registry of link-layer header types of
+-- The link-layer header of a frame, by its link type: the registry of link-layer header types of
 -- tcpdump.org, IEEE 802.3 and 802.1Q.
 use Rattle.std.specs.Prelude.{ℕ, ◌+◌, ◌*◌, ◌/◌, ◌==◌, ◌||◌, Bool, List, drop, Option, Some, None, slice_index, if◌then◌else◌}
 use Rattle.packet_capture.specs.declared.fields.ByteOrder.TheVariants.{Big, Little}
@@ -23,12 +23,12 @@ number_of LinuxCooked2 = 276
 abbrev pub is_tag : ℕ → Bool
 is_tag type = (type == 33024) || (type == 34984)
 
--- how many VLAN tags of four bytes follow the addresses of an Ethernet frame: two at most
+-- the number of VLAN tags of four bytes after the addresses of an Ethernet frame: two at most
 abbrev pub tags_of : List ℕ → ℕ
 tags_of frame =
     if is_tag (u16_in Big frame 12) then (if is_tag (u16_in Big frame 16) then 2 else 1) else 0
 
--- how many bytes stand before the IP packet
+-- the number of bytes before the IP packet
 abbrev pub link_len : LinkType → List ℕ → ℕ
 link_len Null frame = 4
 link_len Ethernet frame = 14 + 4 * tags_of frame
@@ -59,8 +59,8 @@ abbrev pub either_of : Option IpVersion → Option IpVersion → Option IpVersio
 either_of (Some version) other = Some version
 either_of None other = other
 
--- which IP packet the frame carries, if any. A family of type Null is in the byte order of the
--- machine that made the capture, which the frame doesn't say: it is read both ways
+-- the version of the IP packet that the frame carries, if any. A family of type Null is in the byte
+-- order of the machine that made the capture, which the frame doesn't say: it is read both ways
 abbrev pub version_in : LinkType → List ℕ → Option IpVersion
 version_in Null frame =
     either_of (by_family (u32_in Little frame 0)) (by_family (u32_in Big frame 0))

@@ -1,4 +1,4 @@
--- What reading an option came to. Private clauses alone cite this file.
+-- The results of reading an option. Cited by private clauses alone.
 use Rattle.std.specs.Prelude.{◌≡◌, ℕ, ◌+◌, ◌<◌, ◌≤◌, List, length}
 use Rattle.packet_capture.specs.declared.fields.ByteOrder.{ByteOrder}
 use Rattle.packet_capture.specs.declared.interface.FrontOption.{FrontOption}

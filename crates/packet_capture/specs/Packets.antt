@@ -13,17 +13,17 @@ abbrev pub version_number : IpVersion → ℕ
 version_number V4 = 4
 version_number V6 = 6
 
--- how many bytes a header has at least
+-- the least number of bytes of a header
 abbrev pub least_len : IpVersion → ℕ
 least_len V4 = 20
 least_len V6 = 40
 
--- how many bytes the header has: IPv4 counts words of four, with the options
+-- the number of bytes of the header: IPv4 counts words of four, with the options
 abbrev pub header_len : IpVersion → List ℕ → ℕ
 header_len V4 packet = slice_index packet 0 % 16 * 4
 header_len V6 packet = 40
 
--- how many bytes the packet has: IPv4 counts the header, and IPv6 what follows it
+-- the number of bytes of the packet: IPv4 counts the header, and IPv6 what follows it
 abbrev pub packet_len : IpVersion → List ℕ → ℕ
 packet_len V4 packet = u16_in Big packet 2
 packet_len V6 packet = 40 + u16_in Big packet 4
@@ -35,7 +35,7 @@ pub record IsIp (version : IpVersion) (packet : List ℕ) : Type 0 where
   pub least : least_len version ≤ header_len version packet
   pub within : header_len version packet ≤ packet_len version packet
 
--- the headers that may stand between that of IPv6 and the datagram, but for that of a fragment: for
+-- the headers that may be between that of IPv6 and the datagram, but for that of a fragment: for
 -- each hop (0), of routes (43), encrypted (50), authenticated (51), for the destination (60), and
 -- 135, 139 and 140
 abbrev pub is_extension : ℕ → Bool
@@ -55,7 +55,7 @@ obstacle_in V6 packet =
     else (if slice_index packet 6 == 44 then Some Fragment
     else (if is_extension (slice_index packet 6) then Some ExtensionHeader else Some NotUdp))
 
--- where the packet goes
+-- the destination of the packet
 abbrev pub destination_in : IpVersion → List ℕ → Address
 destination_in V4 packet = addresses.V4 (bytes_at packet 16 4)
 destination_in V6 packet = addresses.V6 (bytes_at packet 24 16)

@@ -11,7 +11,7 @@ abbrev pub magic_of : Bool → Bool → Magic
 magic_of big nanoseconds =
     record { order = if big then Big else Little; nanoseconds = nanoseconds }
 
--- a1b2c3d4 stands for microseconds and a1b23c4d for nanoseconds, in the byte order of all numbers
+-- a1b2c3d4 means microseconds and a1b23c4d nanoseconds, in the byte order of all numbers
 abbrev pub magic_at : List ℕ → Option Magic
 magic_at bytes =
     if u32_in Big bytes 0 == 2712847316 then Some (magic_of true false)
@@ -23,8 +23,8 @@ magic_at bytes =
 abbrev pub IsVersion : Magic → List ℕ → Type 0
 IsVersion magic bytes = (u16_in magic.order bytes 4 ≡ 2) × (u16_in magic.order bytes 6 ≡ 4)
 
--- the savefile that the header begins. The link type is the lower half of its last field, whose upper
--- half says how many bytes of a check stand at the end of frames
+-- the savefile that the header begins. The link type is the lower half of its last field, whose
+-- upper half says how many bytes of a check are at the end of frames
 abbrev pub savefile_at : Magic → List ℕ → Savefile
 savefile_at magic bytes =
     record { magic = magic; link = u32_in magic.order bytes 20 % 65536 }
@@ -37,14 +37,14 @@ pub record BeginsSavefile (bytes : List ℕ) (savefile : Savefile) : Type 0 wher
   pub version : IsVersion magic bytes
   pub is : savefile ≡ savefile_at magic bytes
 
--- of another version
+-- the header of another version
 pub record HasOtherVersion (bytes : List ℕ) : Type 0 where
   pub there : 24 ≤ length bytes
   pub magic : Magic
   pub magic_is : magic_at bytes ≡ Some magic
   pub other : IsVersion magic bytes → ⊥
 
--- how many bytes of the frame of a packet record were captured
+-- the number of bytes of a packet record's frame that were captured
 abbrev pub captured_at : Savefile → List ℕ → ℕ
 captured_at s bytes = u32_in s.magic.order bytes 8
 

@@ -34,7 +34,7 @@ StopsInLen order bytes stop =
     ⊎ (IsBlockLen len × (len ≤ 1048576) × (len ≤ length bytes)
     × (u32_in order bytes (len - 4) ≡ len → ⊥) × (stop ≡ Bad LengthsDiffer))
 
--- of a block: its first fields are cut, its byte order isn't told, or its length stops
+-- of a block: its first fields are cut, its byte order isn't given, or its length stops
 abbrev pub StopsInBlock : ByteOrder → List ℕ → Stop → Type 0
 StopsInBlock section bytes stop =
     ((length bytes < 12) × (stop ≡ Wants 12))

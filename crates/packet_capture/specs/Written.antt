@@ -1,4 +1,4 @@
--- Savefiles and frames as they are written: stated apart from their reading, which gives them back.
+-- Savefiles and frames as they are written, which read back: stated apart from their reading.
 use Rattle.std.specs.Prelude.{ℕ, ◌+◌, ◌*◌, ◌/◌, ◌%◌, ◌^◌, ◌<◌, ◌≤◌, Bool, true, false, List, [], ◌∷◌, ◌++◌, length, flat_map, Some, if◌then◌else◌}
 use Rattle.packet_capture.specs.declared.fields.ByteOrder.{ByteOrder}
 use Rattle.packet_capture.specs.declared.fields.ByteOrder.TheVariants.{Big, Little}

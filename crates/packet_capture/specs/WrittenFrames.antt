@@ -1,19 +1,19 @@
--- UDP datagrams in Ethernet frames as they are written: stated apart from their reading, which gives
--- them back.
+-- UDP datagrams in Ethernet frames as they are written, which read back: stated apart from their
+-- reading.
 use Rattle.std.specs.Prelude.{◌≡◌, ℕ, ◌+◌, ◌*◌, ◌<◌, ◌≤◌, Bool, List, [], ◌∷◌, ◌++◌, length, flat_map, if◌then◌else◌}
 use Rattle.packet_capture.specs.declared.fields.ByteOrder.TheVariants.{Big}
 use Rattle.packet_capture.specs.declared.datagram.Address.{Address}
 use Rattle.packet_capture.specs.Datagrams.{DatagramContent}
 use Rattle.packet_capture.specs.Written.{u16_bytes}
 
--- a datagram: its ports, its checksum and what it holds
+-- a datagram: its ports, its checksum and its content
 pub record WrittenDatagram : Type 0 where
   pub source_port : ℕ
   pub port : ℕ
   pub checksum : ℕ
   pub bytes : List ℕ
 
--- its header of 8 bytes, whose length counts itself, and what it holds
+-- its header of 8 bytes, whose length counts itself, and its content
 abbrev pub udp_bytes : WrittenDatagram → List ℕ
 udp_bytes d =
     u16_bytes Big d.source_port

@@ -1,4 +1,4 @@
--- Sections of pcapng files as they are written: stated apart from their reading, which gives them back.
+-- Sections of pcapng files as they are written, which read back: stated apart from their reading.
 use Rattle.std.specs.Prelude.{◌≡◌, ℕ, ◌+◌, ◌/◌, ◌%◌, ◌^◌, ◌<◌, ◌≤◌, List, ◌++◌, length, flat_map}
 use Rattle.packet_capture.specs.declared.fields.ByteOrder.{ByteOrder}
 use Rattle.packet_capture.specs.declared.interface.Interface.{Interface}
@@ -13,7 +13,7 @@ block_bytes order type body =
     ++ (u32_bytes order (12 + length body)
     ++ (body ++ u32_bytes order (12 + length body)))
 
--- the header of a section of version 1.0, whose length isn't told
+-- the header of a section of version 1.0, whose length isn't given
 abbrev pub section_header : ByteOrder → List ℕ
 section_header order = block_bytes order 168627466
     (u32_bytes order 439041101

@@ -1,4 +1,4 @@
-//! The blocks of a pcapng file, whatever they hold.
+//! The blocks of a pcapng file, whatever their content.
 ghost use Rattle.std.specs.Prelude.{◌≡◌, ◌≤◌, IfOk, IfErr, ◌-◌, length, take};
 ghost use Rattle.packet_capture.specs.Fields.{u32_in};
 ghost use Rattle.packet_capture.specs.Blocks.{order_at, IsBlockLen, IsBlock};
@@ -9,13 +9,13 @@ use crate::fields::{ByteOrder, read_u32};
 use crate::savefile::LONGEST;
 use crate::stop::Stop;
 
-/// How many bytes have to be there before a block's order and length are known.
+/// The number of bytes that show a block's order and length.
 const BLOCK_FRONT: usize = 12;
 
 /// The type of a section's header.
 pub(crate) const SECTION_HEADER: u32 = 0x0a0d_0d0a;
 
-/// By which a section's header says the order of numbers.
+/// The number by which a section's header shows the order of numbers.
 const BYTE_ORDER_MAGIC: u32 = 0x1a2b_3c4d;
 
 /// A whole block.
@@ -27,8 +27,8 @@ pub(crate) struct Block<'a> {
     pub(crate) bytes: &'a [u8],
 }
 
-/// The order of the numbers of the block at the front, or `None` where it is a section's header that
-/// doesn't say it.
+/// The order of the numbers of the block at the front, or `None` where it is a section's header
+/// that doesn't show it.
 fn order_at(section: ByteOrder, bytes: &[u8]) -> Option<ByteOrder>
     requires { 12 ≤ length bytes.now }
     ensures { result ≡ order_at section bytes.now }
@@ -45,7 +45,7 @@ fn order_at(section: ByteOrder, bytes: &[u8]) -> Option<ByteOrder>
     None
 }
 
-/// The bytes of the block at the front, of which the numbers are in this order.
+/// The bytes of the block at the front, whose numbers are in this order.
 fn read_len(order: ByteOrder, bytes: &[u8]) -> Result<&[u8], Stop>
     requires { 12 ≤ length bytes.now }
     ensures counted { IfOk result (λ _. IsBlockLen (u32_in order bytes.now 4)) }

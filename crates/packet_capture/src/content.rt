@@ -1,4 +1,4 @@
-//! What the blocks of a pcapng file hold.
+//! The contents of the blocks of a pcapng file.
 ghost use Rattle.std.specs.Prelude.{◌≡◌, ◌≤◌, ◌+◌, ◌⊎◌, Some, IfOk, IfErr, IsTrue, ◌↔◌, length, slice_get};
 ghost use Rattle.packet_capture.specs.Fields.{u32_in};
 ghost use Rattle.packet_capture.specs.Frames.{frame_of};
@@ -10,7 +10,7 @@ use crate::fields::{ByteOrder, read_u16, read_u32};
 use crate::frame::Frame;
 use crate::interface::{Interface, read_interface, time_of};
 
-/// What a block is of, by its type.
+/// The kind of a block, by its type.
 #[derive(Clone, Copy, Debug, PartialEq, Eq)]
 pub(crate) enum BlockKind {
     /// The header of a section.
@@ -23,11 +23,11 @@ pub(crate) enum BlockKind {
     Old,
     /// A packet of the first interface, with no time.
     Simple,
-    /// Another, which is passed over.
+    /// Any other block, which is passed over.
     Unread,
 }
 
-/// What a block says.
+/// The meaning of a block.
 #[derive(Clone, Copy, Debug, PartialEq, Eq)]
 pub(crate) enum BlockContent<'a> {
     /// A section begins, which has no interfaces yet.
@@ -36,7 +36,7 @@ pub(crate) enum BlockContent<'a> {
     Interface(Interface),
     /// A frame came.
     Frame(Frame<'a>),
-    /// Nothing that is read.
+    /// No content that is read.
     Other,
 }
 
@@ -53,7 +53,7 @@ fn kind_of(block_type: u32) -> BlockKind
     }
 }
 
-/// How many bytes a block has at least.
+/// The least number of bytes of a block.
 fn fixed_len(kind: BlockKind) -> usize
     ensures value { result ≡ fixed_len kind }
     ensures least { 12 ≤ result }
@@ -97,7 +97,7 @@ fn up_to_limit(snap_len: u32, len: u32) -> u32
     }
 }
 
-/// How many bytes of a packet's frame were captured.
+/// The number of bytes of a packet's frame that were captured.
 fn captured_in(kind: BlockKind, order: ByteOrder, interface: &Interface, block: &[u8]) -> u32
     requires { fixed_len kind ≤ length block.now }
     ensures { result ≡ captured_in kind order interface.now block.now }
@@ -145,7 +145,7 @@ fn time_in(kind: BlockKind, order: ByteOrder, interface: &Interface, block: &[u8
     }
 }
 
-/// The frame of a packet's block, of which the fixed fields are there.
+/// The frame of a packet's block, whose fixed fields are there.
 fn read_frame<'a>(
     kind: BlockKind,
     interfaces: &[Interface],
@@ -174,9 +174,9 @@ fn read_frame<'a>(
     })
 }
 
-/// Returns what a block says in a section of these interfaces, or the first fault that fits:
-/// `ShortBlock`, and then `UnknownVersion` of a section's header, `OptionPastBlock` of an interface,
-/// `UnknownInterface` or `FramePastBlock` of a packet.
+/// Returns the meaning of a block in a section of these interfaces, or the first fault that fits:
+/// `ShortBlock`, and then `UnknownVersion` of a section's header, `OptionPastBlock` of an
+/// interface, `UnknownInterface` or `FramePastBlock` of a packet.
 pub(crate) fn read_content<'a>(
     interfaces: &[Interface],
     block: Block<'a>,

@@ -7,7 +7,7 @@ use crate::fault::FrameFault;
 use crate::link::{LinkType, read_link};
 use crate::packet::read_packet;
 
-/// An IP address, with its bytes as they stand in a packet.
+/// An IP address, with its bytes in the order of a packet.
 #[derive(Clone, Copy, Debug, PartialEq, Eq, Hash)]
 pub enum Address {
     V4([u8; 4]),
@@ -17,11 +17,11 @@ pub enum Address {
 /// A UDP datagram, which borrows its bytes from the frame.
 #[derive(Clone, Copy, Debug, PartialEq, Eq)]
 pub struct Datagram<'a> {
-    /// Where it goes: one machine, or a group.
+    /// The address that it is sent to: one machine, or a group.
     pub address: Address,
-    /// The port that it goes to.
+    /// The port that it is sent to.
     pub port: u16,
-    /// What it holds, up to 65,507 bytes in IPv4 and 65,527 in IPv6, without the UDP header.
+    /// Its content, up to 65,507 bytes in IPv4 and 65,527 in IPv6, without the UDP header.
     pub bytes: &'a [u8],
 }
 

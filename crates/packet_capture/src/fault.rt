@@ -1,4 +1,4 @@
-//! Why bytes are no packet capture, and why a frame carries no datagram.
+//! The faults of captures, and of frames.
 ghost use Rattle.std.specs.Prelude.{◌≡◌};
 ghost use Rattle.packet_capture.specs.Faults.{capture_code};
 ghost use Rattle.packet_capture.specs.FrameFaults.{frame_code};
@@ -17,7 +17,7 @@ pub enum CaptureFault {
     /// A frame or a block of more than 1,048,576 bytes.
     #[error("a frame or a block is longer than 1048576 bytes")]
     TooLong = 42,
-    /// A section whose byte order can't be told.
+    /// A section whose header doesn't show its byte order.
     #[error("a section has no byte-order magic")]
     BadByteOrder = 43,
     /// A block's length is below 12 or not a multiple of 4.
@@ -44,7 +44,7 @@ pub enum CaptureFault {
 }
 
 impl CaptureFault {
-    /// The fault's number, from 40 to 50.
+    /// The code of the fault: 40 to 50.
     pub fn code(self) -> u8
         ensures { result ≡ capture_code self }
     {
@@ -82,7 +82,7 @@ pub enum FrameFault {
 }
 
 impl FrameFault {
-    /// The fault's number, from 52 to 59.
+    /// The code of the fault: 52 to 59.
     pub fn code(self) -> u8
         ensures { result ≡ frame_code self }
     {

@@ -2,12 +2,12 @@
 ghost use Rattle.std.specs.Prelude.{◌≡◌, ◌+◌, ◌≤◌, length};
 ghost use Rattle.packet_capture.specs.Fields.{u16_in, u32_in, u64_in};
 
-/// Which byte of a number comes first.
+/// The order of the bytes of a number.
 #[derive(Clone, Copy, Debug, PartialEq, Eq, Hash)]
 pub enum ByteOrder {
-    /// The highest, as in all network headers.
+    /// The highest byte first, as in all network headers.
     Big,
-    /// The lowest.
+    /// The lowest byte first.
     Little,
 }
 

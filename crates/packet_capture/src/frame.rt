@@ -5,10 +5,10 @@
 pub struct Frame<'a> {
     /// The number of its link type.
     pub link: u16,
-    /// The nanoseconds from 1970 on to when it came, or `None` where the capture doesn't say, or that
-    /// isn't 0 to 2^64 - 1.
+    /// The time at which it came, in nanoseconds from 1970 on, or `None` where the capture doesn't
+    /// say, or that isn't 0 to 2^64 - 1.
     pub time: Option<u64>,
-    /// How many bytes it had on the wire.
+    /// Its length in bytes on the wire.
     pub wire_len: u32,
     /// The bytes that were captured, from the first on.
     pub bytes: &'a [u8],

@@ -5,21 +5,21 @@ ghost use Rattle.packet_capture.specs.Options.{option_field_of, StandsThere};
 
 use crate::fields::{ByteOrder, read_u16, read_u32, read_u64};
 
-/// What is known of an interface of a section.
+/// A section's interface, as far as it is described.
 #[derive(Clone, Copy, Debug, Default, PartialEq, Eq, Hash)]
 pub(crate) struct Interface {
     /// The number of the link type of its frames.
     pub(crate) link: u16,
-    /// How many bytes of a frame it captures, where 0 is all.
+    /// The most bytes of a frame that it captures, where 0 is all.
     pub(crate) snap_len: u32,
-    /// The units of its times: a second has 10 to this power of them, or from 128 on 2 to the power of
-    /// what is above 128.
+    /// The units of its times: a second has 10 to this power of them, or from 128 on 2 to the power
+    /// of what is above 128.
     pub(crate) resolution: u8,
     /// The seconds to be added to its times, which are a signed number of 64 bits.
     pub(crate) offset: u64,
 }
 
-/// What stands at the front of a list of options.
+/// The front of a list of options.
 #[derive(Clone, Copy, Debug, PartialEq, Eq)]
 enum FrontOption<'a> {
     /// Nothing, or the end of the list.
@@ -100,7 +100,7 @@ pub(crate) fn read_interface(order: ByteOrder, block: &[u8]) -> Option<Interface
     with_options(order, bare, &block[16..block.len() - 4])
 }
 
-/// How many units a second has where that is a power of ten.
+/// The number of units in a second where that is a power of ten.
 #[tactic(auto, using(crate::proofs::Powers::tens_small, crate::proofs::Powers::tens_positive))]
 fn tens(exponent: u8) -> u128
     requires { exponent ≤ 38 }
@@ -125,14 +125,14 @@ fn nanoseconds_of(ticks: u64, resolution: u8) -> u128
     }
 }
 
-/// How many seconds an offset adds.
+/// The number of seconds that an offset adds.
 fn seconds_ahead(offset: u64) -> u64
     ensures { result ≡ seconds_ahead offset }
 {
     if offset < 1 << 63 { offset } else { 0 }
 }
 
-/// How many seconds an offset takes away.
+/// The number of seconds that an offset takes away.
 fn seconds_behind(offset: u64) -> u64
     ensures { result ≡ seconds_behind offset }
 {
@@ -143,7 +143,7 @@ fn seconds_behind(offset: u64) -> u64
     }
 }
 
-/// A difference where it is 0 to 2^64 - 1.
+/// The difference, where it is 0 to 2^64 - 1.
 fn difference(a: u128, b: u128) -> Option<u64>
     ensures { result ≡ difference a b }
 {

@@ -1,4 +1,4 @@
-//! What the definitions mean together.
+//! Laws of the definitions.
 ghost use Rattle.std.specs.Prelude.{◌≡◌, ◌⊎◌, ◌<◌, ◌≤◌, ◌++◌, ◌^◌, ℕ, Bool, List, length, map};
 ghost use Rattle.std.specs.List.{AllByRecursion};
 ghost use Rattle.packet_capture.specs.declared.fault.CaptureFault.{CaptureFault};

@@ -1,12 +1,12 @@
-//! Packet captures, as tcpdump, dumpcap and capture cards write them: savefiles (pcap) and pcapng files, and the UDP
-//! datagrams in their frames. No call takes memory: a frame borrows its bytes from the capture's, and a
-//! datagram from its frame's.
+//! Packet captures, as tcpdump, dumpcap and capture cards write them: savefiles (pcap) and pcapng
+//! files, and the UDP datagrams in their frames. No call takes memory: a frame borrows its bytes
+//! from the capture's, and a datagram from its frame's.
 //!
-//! [`CaptureReader::next_piece`] reads a capture piece by piece, whatever bytes come: exactly the header,
-//! packet record or block at the front, and the frame in it, or exactly why none is read
-//! (`specs/Captures.antt`). [`read_datagram`] returns exactly the datagram that a frame carries, or its
-//! first fault (`specs/Datagrams.antt`, `specs/FrameFaults.antt`). Both definitions go by the offsets that
-//! the formats' documents give.
+//! [`CaptureReader::next_piece`] reads a capture piece by piece, whatever bytes come: exactly the
+//! header, packet record or block at the front, and the frame in it, or exactly why none is read
+//! (`specs/Captures.antt`). [`read_datagram`] returns exactly the datagram that a frame carries, or
+//! its first fault (`specs/Datagrams.antt`, `specs/FrameFaults.antt`). Both definitions follow the
+//! offsets that the formats' documents give.
 //!
 //! The laws [`told_once`] and [`one_datagram`] say that either call has one right answer, and
 //! [`one_reading`] that a capture has one list of frames. [`read_as_bytes_come`] says that more bytes

@@ -7,7 +7,7 @@ ghost use Rattle.packet_capture.specs.Links.{number_of, is_tag, by_ether_type, b
 use crate::fault::FrameFault;
 use crate::fields::{ByteOrder, read_u16, read_u32};
 
-/// What stands before the IP packet of a frame.
+/// The link type of a frame: what is before its IP packet.
 #[derive(Clone, Copy, Debug, PartialEq, Eq, Hash)]
 pub enum LinkType {
     /// Number 0, of a loopback interface: the address family in four bytes, in the byte order of the
@@ -29,7 +29,7 @@ pub enum LinkType {
     LinuxCooked2,
 }
 
-/// Which IP a packet is of.
+/// The version of an IP packet.
 #[derive(Clone, Copy, Debug, PartialEq, Eq, Hash)]
 pub enum IpVersion {
     V4,
@@ -92,7 +92,8 @@ fn by_first_byte(byte: u8) -> Option<IpVersion>
     }
 }
 
-/// How many VLAN tags follow the addresses, or `None` where the frame ends before its EtherType.
+/// The number of VLAN tags after the addresses, or `None` where the frame ends before its
+/// EtherType.
 fn tags_of(frame: &[u8]) -> Option<usize>
     ensures found { IfSome result (λ tags. tags ≡ tags_of frame.now) }
     ensures whole { IfSome result (λ tags. link_len LinkType.Ethernet frame.now ≤ length frame.now) }
@@ -118,7 +119,7 @@ fn tags_of(frame: &[u8]) -> Option<usize>
     Some(tags)
 }
 
-/// The version that a family says which is read in either byte order.
+/// The version by a family that is read in either byte order.
 fn by_null_family(frame: &[u8]) -> Option<IpVersion>
     requires { 4 ≤ length frame.now }
     ensures { result ≡ version_in LinkType.Null frame.now }
@@ -129,7 +130,7 @@ fn by_null_family(frame: &[u8]) -> Option<IpVersion>
     }
 }
 
-/// How many bytes stand before the packet, or `None` where the frame ends before that.
+/// The number of bytes before the packet, or `None` where the frame ends before that.
 fn link_len(link: LinkType, frame: &[u8]) -> Option<usize>
     ensures found { IfSome result (λ len. len ≡ link_len link frame.now) }
     ensures whole { IfSome result (λ len. len ≤ length frame.now) }
@@ -148,7 +149,8 @@ fn link_len(link: LinkType, frame: &[u8]) -> Option<usize>
     if frame.len() < len { None } else { Some(len) }
 }
 
-/// Which IP packet the frame carries, if any. `len` is how many bytes stand before it.
+/// The version of the IP packet that the frame carries, if any. `len` is the number of bytes before
+/// it.
 fn version_in(link: LinkType, frame: &[u8], len: usize) -> Option<IpVersion>
     requires len { len ≡ link_len link frame.now }
     requires there { len ≤ length frame.now }

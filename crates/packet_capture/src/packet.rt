@@ -112,7 +112,7 @@ fn destination_in(version: IpVersion, packet: &[u8]) -> Address
     }
 }
 
-/// How many bytes the UDP datagram has with its header, or `None` where that is bad.
+/// The number of bytes of the UDP datagram with its header, or `None` where that is bad.
 fn udp_len(segment: &[u8]) -> Option<usize>
     ensures found { IfSome result (λ len. len ≡ u16_in Big segment.now 4) }
     ensures whole { IfSome result (λ _. IsUdp segment.now) }

@@ -18,10 +18,10 @@ use crate::stop::Stop;
 use arrayvec::ArrayVec;
 use std::marker::Model;
 
-/// How many interfaces a section may have.
+/// The most interfaces of a section.
 const MAX_INTERFACES: usize = 256;
 
-/// What a capture is, as far as it was read.
+/// The format of a capture, as far as it was read.
 #[derive(Clone, Copy, Debug, PartialEq, Eq)]
 pub(crate) enum Format {
     /// Nothing was read yet.
@@ -35,14 +35,14 @@ pub(crate) enum Format {
 /// A piece of a capture: a header, a packet record or a block.
 #[derive(Clone, Copy, Debug, PartialEq, Eq)]
 pub struct Piece<'a> {
-    /// How many bytes it has: 12 to 1,048,592, a packet record's 16 and its frame's.
+    /// Its length in bytes: 12 to 1,048,592, a packet record's 16 and its frame's.
     pub len: usize,
     /// Its frame, if it has one.
     pub frame: Option<Frame<'a>>,
 }
 
-/// Makes the interfaces what they are after a block, and returns its frame, if it has one. Where there
-/// would be one too many, nothing changes.
+/// Updates the interfaces after a block, and returns its frame, if it has one. Where there would be
+/// one too many, nothing changes.
 fn after_block<'a>(
     interfaces: &mut ArrayVec<Interface, MAX_INTERFACES>,
     content: BlockContent<'a>,
@@ -72,8 +72,8 @@ fn after_block<'a>(
     }
 }
 
-/// Reads a packet capture, piece by piece. It keeps what a piece needs to know of those before it, and
-/// none of their bytes.
+/// Reads a packet capture, piece by piece. It keeps what a piece needs to know of the earlier ones,
+/// and none of their bytes.
 #[derive(Debug, Drop)]
 pub struct CaptureReader {
     format: Format,
@@ -99,7 +99,7 @@ impl CaptureReader {
         }
     }
 
-    /// The header of a savefile of this magic.
+    /// Reads the header of a savefile of this magic.
     fn read_header<'a>(&mut self, magic: Magic, bytes: &'a [u8]) -> Result<Piece<'a>, Stop>
         requires there { 4 ≤ length bytes.now }
         requires magic { magic_at bytes.now ≡ Some magic }
@@ -120,7 +120,7 @@ impl CaptureReader {
         }
     }
 
-    /// The next packet record of the savefile.
+    /// Reads the next packet record of the savefile.
     fn read_frame<'a>(&self, savefile: Savefile, bytes: &'a [u8]) -> Result<Piece<'a>, Stop>
         ensures piece { IfOk result (λ p.
             IsRecordPiece savefile self.now bytes.now (piece_of p) self.now) }
@@ -135,7 +135,7 @@ impl CaptureReader {
         }
     }
 
-    /// The first piece of a capture.
+    /// Reads the first piece of a capture.
     fn read_first<'a>(&mut self, bytes: &'a [u8]) -> Result<Piece<'a>, Stop>
         requires { self.old.format ≡ Format.Start }
         ensures piece { IfOk result (λ p. IsPiece self.old bytes.now (piece_of p) self.new) }
@@ -154,16 +154,16 @@ impl CaptureReader {
         Err(Stop::Bad(CaptureFault::NotCapture))
     }
 
-    /// Returns the piece at the front of the bytes, which stand where the last piece ended, and goes
+    /// Returns the piece at the front of `bytes`, which begin where the last piece ended, and goes
     /// past it; or why none is read, and then nothing changes.
     ///
-    /// A capture is a savefile or a pcapng file. A savefile has a header of 24 bytes and then packet
-    /// records, a pcapng file blocks, of which those of other types are passed over. `Stop::Wants`
-    /// says how many bytes have to be there before more can be said, at most 1,048,592; `Stop::Bad` the
-    /// first fault that fits: `NotCapture`, `UnknownVersion` or `TooLong` of a savefile,
-    /// `BadByteOrder`, `BadBlockLength`, `TooLong` and `LengthsDiffer` of any block, and then
-    /// `ShortBlock`, `UnknownVersion`, `OptionPastBlock`, `TooManyInterfaces`, `UnknownInterface` and
-    /// `FramePastBlock` of those that are read.
+    /// A capture is a savefile or a pcapng file. A savefile has a header of 24 bytes and then
+    /// packet records, a pcapng file blocks, of which those of other types are passed over.
+    /// `Stop::Wants` is the number of bytes that have to be there to go on, at most 1,048,592;
+    /// `Stop::Bad` the first fault that fits: `NotCapture`, `UnknownVersion` or `TooLong` of a
+    /// savefile, `BadByteOrder`, `BadBlockLength`, `TooLong` and `LengthsDiffer` of any block, and
+    /// then `ShortBlock`, `UnknownVersion`, `OptionPastBlock`, `TooManyInterfaces`,
+    /// `UnknownInterface` and `FramePastBlock` of those that are read.
     ///
     /// The sources are draft-ietf-opsawg-pcap and draft-ietf-opsawg-pcapng. The limits of 1,048,576
     /// bytes and 256 interfaces are this project's.
@@ -179,7 +179,7 @@ impl CaptureReader {
         }
     }
 
-    /// The next block, in a section of this order.
+    /// Reads the next block, in a section of this order.
     fn read_section<'a>(&mut self, section: ByteOrder, bytes: &'a [u8]) -> Result<Piece<'a>, Stop>
         ensures piece { IfOk result (λ p.
             IsBlockPiece section self.old bytes.now (piece_of p) self.new) }

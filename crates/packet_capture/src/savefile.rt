@@ -9,16 +9,16 @@ use crate::fields::{ByteOrder, read_u16, read_u32};
 use crate::frame::Frame;
 use crate::stop::Stop;
 
-/// How many bytes a savefile's header has.
+/// The number of bytes of a savefile's header.
 pub(crate) const SAVEFILE_HEADER: usize = 24;
 
-/// How many bytes stand before the frame of a packet record.
+/// The number of bytes before the frame of a packet record.
 pub(crate) const RECORD_HEADER: usize = 16;
 
-/// How many bytes a frame and a block may have.
+/// The most bytes of a frame or a block.
 pub(crate) const LONGEST: u32 = 1_048_576;
 
-/// What a savefile's first four bytes say.
+/// The first four bytes of a savefile.
 #[derive(Clone, Copy, Debug, PartialEq, Eq, Hash)]
 pub(crate) struct Magic {
     pub(crate) order: ByteOrder,
@@ -26,7 +26,7 @@ pub(crate) struct Magic {
     pub(crate) nanoseconds: bool,
 }
 
-/// What is known of a savefile from its header.
+/// A savefile, as far as its header describes it.
 #[derive(Clone, Copy, Debug, PartialEq, Eq, Hash)]
 pub(crate) struct Savefile {
     pub(crate) magic: Magic,
@@ -70,7 +70,7 @@ fn is_version(magic: Magic, bytes: &[u8]) -> bool
     read_u16(magic.order, bytes, 4) == 2 && read_u16(magic.order, bytes, 6) == 4
 }
 
-/// The savefile whose header, of this magic, is at the front.
+/// Reads the savefile whose header, of this magic, is at the front.
 pub(crate) fn read_savefile(magic: Magic, bytes: &[u8]) -> Result<Savefile, Stop>
     requires { Some magic ≡ magic_at bytes.now }
     ensures begins { IfOk result (BeginsSavefile bytes.now) }
@@ -100,7 +100,7 @@ fn record_time(savefile: Savefile, bytes: &[u8]) -> u64
     seconds * 1_000_000_000 + parts * unit
 }
 
-/// The frame of the packet record at the front.
+/// Reads the frame of the packet record at the front.
 pub(crate) fn read_record(savefile: Savefile, bytes: &[u8]) -> Result<Frame<'_>, Stop>
     ensures frame { IfOk result (λ f. IsPacketRecord savefile bytes.now (frame_of f)) }
     ensures stop { IfErr result (StopsInRecord savefile bytes.now) }

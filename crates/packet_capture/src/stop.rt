@@ -6,7 +6,7 @@ use crate::fault::CaptureFault;
 pub enum Stop {
     /// No piece begins with these bytes, however they go on.
     Bad(CaptureFault),
-    /// The bytes end before the piece does: at least this many, from its first one on, have to be there
-    /// before more can be said.
+    /// The bytes end before the piece does: at least this many, from its first one on, have to be
+    /// there to go on.
     Wants(usize),
 }
