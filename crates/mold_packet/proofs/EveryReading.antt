@@ -57,7 +57,7 @@ first_or_cut (high ∷ low ∷ body) h = elim (cases_lt (length body) (from_be_b
       })
 ]
 
--- so many blocks are there, or one of them is cut
+-- `n` blocks are there, or one of them is cut
 record AreThere (n : ℕ) (bytes : List ℕ) : Type 0 where
   messages : List (List ℕ)
   rest : List ℕ

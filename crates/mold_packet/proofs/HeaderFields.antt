@@ -44,7 +44,7 @@ header_of bytes session number count body long h s n c b =
     ∙ ap (λ (x : ℕ). header session number x ++ drop 20 bytes) (sym c)
     ∙ ap (λ (x : List ℕ). header session number count ++ x) b
 
--- what stands at the fields' offsets
+-- what is at the fields' offsets
 pub record Parts (bytes session : List ℕ) (number count : ℕ) (body : List ℕ) : Type 0 where
   pub session_is : session_at bytes ≡ session
   pub number_is : number_at bytes ≡ number

@@ -4,7 +4,7 @@ use Rattle.std.proofs.lemmas.List.{take_at, drop_at, drop_all, drop-drop, append
 use Rattle.mold_packet.specs.Writing.{WritesFirst}
 use borrow.Rule.Slice.PartMut.{put_mid}
 
--- what stood behind the front is written over
+-- what followed the front is written over
 put_mid-append : (front tail part : List ℕ) (a k : ℕ) → length front ≡ a → put_mid a k (front ++ tail) part ≡ front ++ (part ++ drop k tail)
 put_mid-append front tail part a k h =
     ap (λ (x : List ℕ). x ++ (part ++ drop k (drop a (front ++ tail)))) (take_at front tail a h)
@@ -24,14 +24,14 @@ three_parts first second third old f s =
     ∙ put_mid_next (first ++ second) old third 18 2 (omega (arith, length-append first second))
     ∙ ap (λ (x : List ℕ). x ++ drop 20 old) (append_assoc first second third)
 
--- a front of n bytes, and what stood behind it
+-- a front of n bytes, and what followed it
 pub writes_first : (n : ℕ) (front old new : List ℕ) → length front ≡ n → n ≤ length old → new ≡ front ++ drop n old → WritesFirst n old new
 writes_first n front old new h room e = record { room = room; others = ap (drop n) e ∙ drop_at front (drop n old) n h }
 
 pub take_front : (n : ℕ) (front old new : List ℕ) → length front ≡ n → new ≡ front ++ drop n old → take n new ≡ front
 take_front n front old new h e = ap (take n) e ∙ take_at front (drop n old) n h
 
--- a piece written to the front of all that stands behind the first `end` bytes
+-- a piece written to the front of everything after the first `end` bytes
 pub tail_written : (out front old part piece : List ℕ) (end n : ℕ) → out ≡ front ++ drop end old → length front ≡ end → part ≡ piece ++ drop n (take (length out - end) (drop end out)) → put_mid end (length out - end) out part ≡ (front ++ piece) ++ drop (end + n) old
 tail_written out front old part piece end n e h p =
     let behind : drop end out ≡ drop end old = ap (drop end) e ∙ drop_at front (drop end old) end h in

@@ -33,7 +33,7 @@ pub record CutShort (n : ℕ) (bytes : List ℕ) : Type 0 where
   pub spelled : bytes ≡ flat_map block whole ++ part
   pub cut : IsCut part
 
--- what the length field at the front says
+-- the length that the field at the front gives
 abbrev pub block_len : List ℕ → ℕ
 block_len bytes = from_be_bytes w16 (take 2 bytes)
 

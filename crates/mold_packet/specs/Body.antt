@@ -1,4 +1,4 @@
--- What is to be written behind a header, and the packet that it makes.
+-- What is written after a header, and the packet that it makes.
 use Rattle.std.specs.Prelude.{ℕ, ◌+◌, ◌^◌, ◌≤◌, List, [], length, map}
 use Rattle.std.specs.Borrow.{Bor}
 use Rattle.std.specs.List.{AllByRecursion}
@@ -30,7 +30,7 @@ BodyFits number (Blocks blocks) = (1 ≤ length blocks.now) × (length blocks.no
 BodyFits number Heartbeat = Unit {0}
 BodyFits number End = Unit {0}
 
--- the packet that is written, with nothing behind it
+-- the packet that is written, with nothing after it
 abbrev pub packet_of : List ℕ → ℕ → Body → Content
 packet_of session number body = record {
   session = session;

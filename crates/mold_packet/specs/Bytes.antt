@@ -1,4 +1,5 @@
--- Numbers that are bytes. Code knows it of a `u8`; a law, which speaks of all lists, asks for it.
+-- Numbers that are bytes. The type `u8` says so of code; a law, which speaks of all lists, asks for
+-- it.
 use Rattle.std.specs.Prelude.{ℕ, ◌<◌, List, get_or}
 
 abbrev pub AreBytes : List ℕ → Type 0

@@ -6,7 +6,7 @@ use Rattle.mold_packet.specs.declared.packet.Kind.TheVariants.{Messages, Heartbe
 use Rattle.mold_packet.specs.Block.{block, IsMessage}
 use Rattle.mold_packet.specs.Header.{header}
 
--- the messages have the numbers from `number` on; `ignored` counts the bytes behind the packet
+-- the messages have the numbers from `number` on; `ignored` counts the bytes after the packet
 pub record Content : Type 0 where
   pub session : List ℕ
   pub number : ℕ

@@ -1,11 +1,11 @@
--- Why bytes are no packet, and the numbers of the faults: this project's own.
+-- Why bytes are no packet, and the codes of the faults: this project's own.
 use Rattle.std.specs.Prelude.{◌≡◌, ℕ, ◌+◌, ◌^◌, ◌<◌, ◌≤◌, ◌==◌, if◌then◌else◌, List, length, drop}
 use Rattle.mold_packet.specs.declared.fault.PacketFault.{PacketFault}
 use Rattle.mold_packet.specs.declared.fault.PacketFault.TheVariants.{ShortHeader, TruncatedBlock, ZeroSequence, SequenceOverflow, BufferTooSmall, BadRequestLength}
 use Rattle.mold_packet.specs.Block.{HasBlocks, CutShort}
 use Rattle.mold_packet.specs.Header.{number_at, count_at}
 
--- how many blocks follow the header: none behind a heartbeat or an end of session
+-- how many blocks follow the header: none in a heartbeat or an end of session
 abbrev pub blocks_wanted : ℕ → ℕ
 blocks_wanted count = if count == 65535 then 0 else count
 
@@ -29,7 +29,7 @@ HasFault bytes SequenceOverflow =
 HasFault bytes BufferTooSmall = ⊥
 HasFault bytes BadRequestLength = ⊥
 
--- the number by which logs name a fault
+-- the code by which logs name a fault
 abbrev pub code_of : PacketFault → ℕ
 code_of ShortHeader = 1
 code_of TruncatedBlock = 2

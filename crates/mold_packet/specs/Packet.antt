@@ -1,4 +1,4 @@
--- What a packet's fields say.
+-- The meaning of a packet's fields.
 use Rattle.mold_packet.specs.declared.packet.Packet.TheInside.{Inside}
 use Rattle.mold_packet.specs.Block.{blocks_at, AreBlocks}
 use Rattle.mold_packet.specs.Content.{Content, IsContent}

@@ -40,7 +40,7 @@ pub(crate) fn split_blocks(count: u16, body: &[u8]) -> Option<(&[u8], &[u8])>
 
 /// The messages of a packet, in order. Nothing is copied: each is a part of the datagram.
 ///
-/// In the datagram a message stands in a message block:
+/// In the datagram a message is in a message block:
 ///
 /// | Offset | Length | Field |
 /// |---|---|---|

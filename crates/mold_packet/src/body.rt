@@ -4,7 +4,7 @@ ghost use Rattle.mold_packet.specs.Content.{count_field};
 
 use crate::header::{END, HEARTBEAT};
 
-/// What stands behind the header of a packet that is written.
+/// What follows the header of a packet that is written.
 #[derive(Clone, Copy, Debug)]
 pub enum Body<'a> {
     /// These messages, 1 to 65,534 of them, each of at most 65,535 bytes.

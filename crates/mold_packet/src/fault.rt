@@ -5,7 +5,7 @@ use thiserror::Error;
 
 /// Why bytes were not read, or nothing was written.
 ///
-/// Reading a packet gives one of the first four, the first that fits. Each fault has a number, by
+/// Reading a packet returns one of the first four, the first that fits. Each fault has a code, by
 /// which logs name it.
 #[derive(Clone, Copy, Debug, PartialEq, Eq, Hash, Error)]
 pub enum PacketFault {
@@ -30,7 +30,7 @@ pub enum PacketFault {
 }
 
 impl PacketFault {
-    /// The fault's number, from 1 to 6.
+    /// The code of the fault: 1 to 6.
     pub fn code(self) -> u8
         ensures { result ≡ code_of self }
     {

@@ -1,7 +1,7 @@
 ghost use Rattle.std.specs.Prelude.{◌≡◌, ◌≤◌, ◌++◌, length, drop};
 ghost use Rattle.mold_packet.specs.Header.{header, session_at, number_at, count_at};
 
-/// How many bytes a downstream packet's header has, and a whole request.
+/// The number of bytes of a downstream packet's header, and of a whole request.
 pub(crate) const HEADER: usize = 20;
 
 /// The count of a heartbeat.

@@ -34,7 +34,7 @@ pub fn one_request()
         → HasRequestFault bytes f → HasRequestFault bytes g → f ≡ g }
 {}
 
-/// Bytes spell a packet or have a fault, and so it is with a request.
+/// Bytes spell a packet or have a fault, and the same holds of a request.
 ///
 /// With [`one_reading`] and [`one_request`] they have exactly one of the two, so that no clause of
 /// reading is empty. The function does nothing: its contract is a law.
@@ -48,7 +48,7 @@ pub fn bytes_read_or_have_a_fault()
 {}
 
 /// What was written reads back. An answer that keeps the clauses of
-/// [`read_packet`](crate::read_packet) on a packet's spelling is that packet, and so it is with
+/// [`read_packet`](crate::read_packet) on a packet's spelling is that packet, and the same holds of
 /// [`read_request`](crate::read_request) and a request whose number is at least 1.
 ///
 /// The function does nothing: its contract is a law.

@@ -2,7 +2,7 @@
 //! memory: a packet that was read borrows its messages from the datagram.
 //!
 //! One relation says what bytes a packet is spelled by, `Spells` of `specs/Content.antt`, and both
-//! directions keep it. [`read_packet`] gives exactly the packet that the bytes spell, or exactly
+//! directions keep it. [`read_packet`] returns exactly the packet that the bytes spell, or exactly
 //! the first fault that fits, for any bytes. [`write_packet`] leaves a spelling in the first bytes
 //! of a buffer, and nothing where it doesn't fit. The law [`one_reading`] says that there is no
 //! other answer, and [`reads_back`] that what was written reads back. Requests are spelled by

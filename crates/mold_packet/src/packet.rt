@@ -4,7 +4,7 @@ ghost use Rattle.mold_packet.specs.Content.{IsContent, last_number};
 use crate::blocks::Messages;
 use std::marker::Model;
 
-/// What a downstream packet is, by its count field.
+/// The kind of a downstream packet, by its count field.
 #[derive(Clone, Copy, Debug, PartialEq, Eq, Hash)]
 pub enum Kind {
     /// Count 1 to 65,534: that many messages, with the numbers from the packet's number on.
@@ -69,7 +69,7 @@ impl<'a> Packet<'a> {
         self.kind
     }
 
-    /// How many messages there are: 1 to 65,534, or 0 in a heartbeat and an end of session.
+    /// The number of messages: 1 to 65,534, or 0 in a heartbeat and an end of session.
     #[inline]
     pub fn count(&self) -> u16
         ensures value { result ≡ length self.now.messages }
@@ -88,8 +88,8 @@ impl<'a> Packet<'a> {
         self.number - 1 + u64::from(self.count)
     }
 
-    /// The same packet, copied part by part: what a call that isn't inlined takes by reference has to
-    /// lie in memory, and so this one needn't.
+    /// The same packet, copied part by part: what a call that isn't inlined takes by reference has
+    /// to be in memory, and so this one needn't.
     #[inline(always)]
     pub fn copied(&self) -> Packet<'a>
         ensures { result ≡ self.now }
@@ -104,7 +104,7 @@ impl<'a> Packet<'a> {
         }
     }
 
-    /// How many bytes of the datagram stand behind the packet. They were not read.
+    /// The number of bytes of the datagram after the packet. They were not read.
     #[inline]
     pub fn ignored(&self) -> usize
         ensures value { result ≡ self.now.ignored }

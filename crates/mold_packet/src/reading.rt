@@ -7,7 +7,7 @@ use crate::fault::PacketFault;
 use crate::header::{END, HEADER, HEARTBEAT, read_count, read_number, read_session};
 use crate::packet::{Kind, Packet};
 
-/// Reads a downstream packet from a datagram, or tells the first fault that fits: `ShortHeader`,
+/// Reads a downstream packet from a datagram, or returns the first fault that fits: `ShortHeader`,
 /// `TruncatedBlock`, `ZeroSequence`, `SequenceOverflow`. No other fault comes.
 ///
 /// | Offset | Length | Field |
@@ -19,7 +19,7 @@ use crate::packet::{Kind, Packet};
 ///
 /// Numbers are unsigned, with the high byte first. A count of 1 to 65,534 says how many message
 /// blocks follow ([`Messages`](crate::Messages) has their layout). A count of 0 is a heartbeat and
-/// a count of `ffff` the end of the session, and no block is read behind either. Bytes behind the
+/// a count of `ffff` the end of the session, and no block is read after either. Bytes after the
 /// last block are not read: [`Packet::ignored`] counts them. MoldUDP64 1.00, "Downstream Packet",
 /// "Message Block", "Heartbeats" and "End of Session", has all but the faults and the ignored
 /// bytes, which are this project's.

@@ -25,8 +25,8 @@ pub struct Request {
     pub count: u16,
 }
 
-/// Writes a request into the first 20 bytes of `out` and gives 20, or `BufferTooSmall` where there
-/// are fewer, and then nothing is written.
+/// Writes a request into the first 20 bytes of `out` and returns 20, or `BufferTooSmall` where
+/// there are fewer, and then nothing is written.
 ///
 /// A request of any number and count is written, though [`read_request`] refuses the number 0.
 pub fn write_request(request: &Request, out: &mut [u8]) -> Result<usize, PacketFault>
@@ -42,7 +42,7 @@ pub fn write_request(request: &Request, out: &mut [u8]) -> Result<usize, PacketF
     Ok(HEADER)
 }
 
-/// Reads a request, or tells the first fault that fits: `BadRequestLength` where there are not
+/// Reads a request, or returns the first fault that fits: `BadRequestLength` where there are not
 /// exactly 20 bytes, and `ZeroSequence` where the number is 0.
 pub fn read_request(bytes: &[u8]) -> Result<Request, PacketFault>
     ensures spelled { IfOk result (SpellsRequest bytes.now) }

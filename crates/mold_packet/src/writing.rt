@@ -9,7 +9,7 @@ use crate::body::Body;
 use crate::fault::PacketFault;
 use crate::header::{HEADER, write_header};
 
-/// How many bytes the blocks of these messages take.
+/// The number of bytes that the blocks of these messages take.
 fn blocks_len(messages: &[&[u8]]) -> usize
     requires few { length messages.now ≤ 65534 }
     requires each { AllByRecursion IsMessage (lent_bytes messages.now) }
@@ -48,7 +48,7 @@ fn write_blocks(messages: &[&[u8]], out: &mut [u8])
     }
 }
 
-/// Writes a downstream packet to the front of `out` and gives its length in bytes, or
+/// Writes a downstream packet to the front of `out` and returns its length in bytes, or
 /// `BufferTooSmall` where `out` is shorter, and then nothing is written. No other fault comes.
 ///
 /// [`read_packet`](crate::read_packet) has the layout. The number is at least 1. It is that of the
