@@ -1,4 +1,4 @@
--- A message whose fields were written one behind the other.
+-- A message whose fields were written one after the other.
 use Rattle.std.proofs.Common.{◌≡◌, ℕ, List, ◌++◌, length, take, sym, ◌∙◌, arith}
 use Rattle.std.proofs.lemmas.List.{take_all}
 

@@ -11,7 +11,7 @@ not_end false true c q r s h e = cc
 not_end false false true q r s h e = cc
 not_end false false false q r s h e = cc
 
--- no message stands for the end of a session
+-- no message is the end of a session
 pub item_of-never_end : (message : List ℕ) → item_of message ≡ item.End → ⊥
 unfolding item_of
 item_of-never_end message e = not_end (is_version1 message) (is_version2 message) (is_halt message) (version1_of message) (version2_of message) (symbol_at message) (state_at message == 1) e

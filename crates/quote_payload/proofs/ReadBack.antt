@@ -1,4 +1,5 @@
--- What was written reads back: the fields behind the symbol stand at their offsets, and the tests of the form hold.
+-- What was written reads back: the fields after the symbol are at their offsets, and the tests of
+-- the form hold.
 use Rattle.std.proofs.Common.{◌≡◌, ℕ, ◌+◌, ◌<◌, ◌^◌, Bool, true, false, ◌&&◌, not, List, [], ◌∷◌, ◌++◌, length, take, drop, get_or, refl, sym, ap, ◌∙◌, arith, length-append, append_assoc, eq-eqb, eqb-true}
 use Rattle.std.specs.Prelude.{if◌then◌else◌, ◌==◌, nat_le, bit_or, bit_and}
 use Rattle.std.specs.Int.{w32, w64, to_be_bytes, from_be_bytes}
@@ -12,7 +13,7 @@ use Rattle.feed_types.specs.declared.item.Item.TheVariants as item
 use Rattle.quote_payload.specs.Payload.{symbol_at, has_form, version1_of, is_version2, version2_of, is_halt, state_at, item_of}
 use Rattle.quote_payload.specs.Written.{flags_of, version1_bytes, version2_bytes, halt_bytes}
 
--- what stands behind the symbol
+-- what follows the symbol
 past_symbol : (symbol rest : List ℕ) (k : ℕ) → length symbol ≡ 8 → drop (8 + k) (symbol ++ rest) ≡ drop k rest
 past_symbol symbol rest k eight = sym (drop-drop k 8 (symbol ++ rest)) ∙ ap (drop k) (drop_at symbol rest 8 eight)
 

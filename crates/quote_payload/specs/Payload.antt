@@ -1,5 +1,5 @@
--- What a venue's message says (this project's quotation payload): a table of three forms, each of
--- one type byte and one length, with its fields at fixed offsets. All numbers are unsigned, high
+-- The meaning of a venue's message (this project's quotation payload): a table of three forms, each
+-- of one type byte and one length, with its fields at fixed offsets. All numbers are unsigned, high
 -- byte first.
 use Rattle.std.specs.Prelude.{ℕ, Bool, not, ◌&&◌, ◌==◌, nat_le, if◌then◌else◌, List, length, take, drop, slice_index, bit_and}
 use Rattle.std.specs.Int.{w32, w64, from_be_bytes}

@@ -1,4 +1,4 @@
-//! What tells the three forms apart, and the values of their flags and states.
+//! The types of the three forms, and the values of their flags and states.
 
 /// The type of a quotation in version 1, with sizes of 32 bits.
 pub(crate) const VERSION_1: u8 = 0x51;

@@ -1,5 +1,5 @@
-//! Reading a message. Its fields are read where they stand, and only the eight bytes of the symbol
-//! are copied.
+//! The reading of a message. Its fields are read where they are, and only the eight bytes of the
+//! symbol are copied.
 
 ghost use Rattle.std.specs.Prelude.{◌≡◌, ◌≢◌, ◌+◌, ◌≤◌, IsTrue, SomeIff, length, if◌then◌else◌, ◌&&◌, ◌==◌, nat_le};
 ghost use Rattle.feed_types.specs.Symbols.{is_symbol_field};

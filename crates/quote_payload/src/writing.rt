@@ -1,4 +1,4 @@
-//! Writing a message.
+//! The writing of a message.
 
 ghost use Rattle.std.specs.Prelude.{◌≡◌, ◌+◌, ◌≤◌, ◌↔◌, IsTrue, ◌++◌, if◌then◌else◌, length, take};
 ghost use Rattle.quote_payload.specs.Payload.{item_of};
@@ -10,7 +10,7 @@ use crate::form::{
 };
 use feed_types::{Item, Quote, SymbolName};
 
-/// Puts a field behind the fields that were written before it.
+/// Puts a field after the fields that were written before it.
 fn put<const N: usize>(message: &mut [u8], offset: usize, field: [u8; N])
     requires { offset + N ≤ length message.old }
     ensures { take (offset + N) message.new ≡ take offset message.old ++ field.entry }
@@ -33,8 +33,8 @@ pub fn fits_v1(quote: &Quote) -> bool
     quote.bid_size <= u32::MAX.into() && quote.offer_size <= u32::MAX.into()
 }
 
-/// A quotation as a message of version 1, whose sizes have 32 bits: [`fits_v1`] tells whether it
-/// can be one.
+/// A quotation as a message of version 1, whose sizes have 32 bits: [`fits_v1`] says whether it can
+/// be one.
 ///
 /// The form is that of [`read_item`](crate::read_item), with all other bits of the flags 0.
 pub fn write_quote(quote: &Quote) -> [u8; 26]
