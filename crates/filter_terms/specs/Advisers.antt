@@ -15,12 +15,12 @@ abbrev pub AlwaysAllowed : {F : Type 0} → Mut F (Bor Notice × Unit {0}) Advic
 AlwaysAllowed members limits closure =
     AlwaysReturns members (λ asked advice. IsAllowed limits asked.0.now advice) closure
 
--- so it is of the closure, if there is one
+-- the same of the closure, if there is one
 abbrev pub KeepsLimits : {g F m : _} → Limits → Option (Adviser g F m) → Type 0
 KeepsLimits limits None = Unit {0}
 KeepsLimits {g} {F} {m} limits (Some adviser) = AlwaysAllowed (in_box_mut m) limits adviser.advise
 
--- the closure may answer the notice so, and is this one then
+-- the closure may give the notice this advice, and is the new one then
 abbrev pub MayAdvise : {g F m : _} → Adviser g F m → Bor Notice → Advice → Adviser g F m → Type 0
 MayAdvise {g} {F} {m} old notice advice new =
     Called (in_box_mut m) old.advise (notice, tt) advice new.advise

@@ -7,7 +7,7 @@ use Rattle.filter_terms.specs.declared.answerer.Answerer.{Answerer}
 use Rattle.filter_terms.specs.Boxes.{in_box}
 use Rattle.filter_terms.specs.Terms.{meets}
 
--- the closure may answer so
+-- the closure may give this answer
 abbrev pub MayAnswer : {g F m : _} → Answerer g F m → Bor Notice → Bool → Type 0
 MayAnswer {g} {F} {m} answerer notice answer =
     (in_box m).post answerer.answers (notice, tt) answer

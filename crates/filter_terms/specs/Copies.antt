@@ -1,4 +1,4 @@
--- When one value of terms is a copy of another.
+-- Terms that are a copy of others.
 use Rattle.std.specs.Prelude.{◌≡◌}
 use Rattle.filter_terms.specs.declared.terms.Terms.{Terms, All, Symbol, AnyOf, MinSize, StateIs, Both'}
 use Rattle.filter_terms.specs.Terms.{meets}

@@ -1,4 +1,4 @@
--- What contracts see of a filter.
+-- A filter as contracts see it.
 use Rattle.filter_terms.specs.declared.terms.Terms.{Terms}
 use Rattle.filter_terms.specs.declared.filter.Filter.{Filter}
 

@@ -1,4 +1,4 @@
--- Which notices meet which terms (this project's subscriptions).
+-- The notices that meet given terms (this project's subscriptions).
 use Rattle.std.specs.Prelude.{ℕ, Bool, true, false, Option, Some, None, nat_le, ◌&&◌}
 use Rattle.std.specs.List.{list_any}
 use Rattle.std.specs.Str.{bytes_eq}

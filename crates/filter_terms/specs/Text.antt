@@ -1,4 +1,4 @@
--- What is printed for terms and for advice.
+-- The texts of terms and of advice.
 use Rattle.std.specs.Prelude.{ℕ, List, ◌++◌, codes, decimal}
 use Rattle.std.specs.List.{flat_map, join_by}
 use Rattle.feed_types.specs.Symbols.{name_of}
@@ -11,7 +11,7 @@ use Rattle.filter_terms.specs.declared.advice.Advice.TheVariants.{Hold, Buy, Sel
 abbrev pub others_text : List (List ℕ) → List ℕ
 others_text symbols = flat_map (λ symbol. codes ", " ++ name_of symbol) symbols
 
--- the symbols, parted by a comma and a space
+-- the symbols, separated by a comma and a space
 abbrev pub symbols_text : List (List ℕ) → List ℕ
 symbols_text symbols = join_by name_of (codes ", ") symbols
 

@@ -11,7 +11,7 @@ use crate::answerer::{Answerer, Answers};
 use crate::terms::Terms;
 use feed_types::Notice;
 
-/// Terms, and who answers them: the caller's closure, or the terms themselves.
+/// Terms, and what answers them: the caller's closure, or the terms themselves.
 #[derive(Drop)]
 pub struct Filter {
     terms: Terms,

@@ -1,4 +1,4 @@
-//! What a subscriber asks for, and what its strategy may answer.
+//! The notices that a subscriber asks for, and the answers of its strategy.
 //!
 //! [`Terms`] say which notices are wanted. A [`Filter`] is terms with a closure that answers them,
 //! a [`Strategy`] is limits with a closure that gives advice within them: callers box the

@@ -9,7 +9,7 @@ use crate::advice::{Advice, Limits};
 use crate::adviser::{Advise, Adviser};
 use feed_types::Notice;
 
-/// Limits, and who gives advice within them: the caller's closure, or nobody, and then the advice
+/// Limits, and what gives advice within them: the caller's closure, or nothing, and then the advice
 /// is to hold.
 #[derive(Drop)]
 pub struct Strategy {
@@ -43,7 +43,7 @@ impl Strategy {
         Strategy { limits, adviser }
     }
 
-    /// What the strategy advises on the notice: what its closure gave, which is allowed.
+    /// Returns what the strategy advises on the notice: its closure's advice, which is allowed.
     pub fn advise(&mut self, notice: &Notice) -> Advice
         ensures allowed { IsAllowed self.old.limits notice.now result }
         ensures asked { Advises self.old notice.entry result self.new }

@@ -1,4 +1,4 @@
-//! Which notices a subscriber wants.
+//! The terms of a subscriber: which notices it wants.
 
 ghost use Rattle.std.specs.Prelude.{◌≡◌, ◌==◌};
 ghost use Rattle.std.specs.List.{list_any};
@@ -8,7 +8,7 @@ ghost use Rattle.filter_terms.specs.Terms.{has_size};
 use feed_types::{Best, NationalState, Notice, SymbolName};
 use std::alloc::AllocError;
 
-/// Which notices a subscriber wants.
+/// The terms of a subscriber: which notices it wants.
 #[derive(Drop)]
 pub enum Terms {
     /// Every notice.
@@ -19,7 +19,7 @@ pub enum Terms {
     AnyOf(Vec<SymbolName>),
     /// Notices whose bid and offer are both there, each of at least this size, in shares.
     MinSize(u64),
-    /// Notices after which the national best stands so.
+    /// Notices after which the national best is in this state.
     StateIs(NationalState),
     /// Notices that meet the first terms and the second.
     Both(Box<Terms>, Box<Terms>),

@@ -1,4 +1,4 @@
-//! How terms and advice are printed.
+//! The printing of terms and advice.
 
 ghost use Rattle.std.specs.Prelude.{Some};
 ghost use Rattle.filter_terms.specs.Text.{others_text, symbols_text};
@@ -23,7 +23,7 @@ impl fmt::Display for Others<'_> {
     }
 }
 
-/// Symbols, parted by a comma and a space.
+/// Symbols, separated by a comma and a space.
 #[derive(Drop)]
 struct Symbols<'a>(&'a [SymbolName]);
 
