@@ -1,4 +1,4 @@
--- Each step of a lane keeps the rule of its queue, and tells what it is to tell.
+-- Each step of a lane keeps the rule of its queue, and shows what it has to show.
 use Rattle.std.proofs.Common.{◌≡◌, ◌≢◌, ℕ, zero, suc, ◌≤◌, arith, true, true≢false, List, [], ◌∷◌, ◌++◌, length, length-append, set, sym, refl, ap, ◌∙◌, subst, ⊎_elim, append_assoc}
 use mathlib.Core.Option.{some, some-ne-none}
 use lib.ListN.{get_elem?}
@@ -9,7 +9,7 @@ use Rattle.fifo_lane.specs.Lane.{Keeps}
 use Rattle.fifo_lane.specs.Passes.{first, sending, receiving, joined, spent, with_sent, with_received, FitsPass, IsLane}
 
 module _ {T : Type 0} where
-  -- a view that stands in a longer list and not in the shorter one stands at its end
+  -- a view that is in a longer list and not in the shorter one is at its end
   at_end : (l : List (Known T)) (a b : Known T) (j : ℕ) → get_elem? l j ≢ some b → get_elem? (l ++ a ∷ []) j ≡ some b → j ≡ length l
   at_end [] a b zero n e = refl
   at_end [] a b (suc j) n e = absurd (some-ne-none b (sym e))

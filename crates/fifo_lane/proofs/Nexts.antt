@@ -1,4 +1,4 @@
--- What a pop leaves: of a lane with nothing inside, and of a settled one.
+-- What a pop leaves: of an empty lane, and of a settled one.
 use Rattle.std.proofs.Common.{◌≡◌, ℕ, true, List, [], ◌∷◌, ◌++◌, length, drop, Option, Some, None, MatchOption, sym, refl, ap, ◌∙◌, append_assoc, append-nil}
 use Rattle.std.proofs.Math.Seq.{drop-append_seam, drop-length}
 use Rattle.crossbeam_queue.specs.Fifo.{Held}
@@ -15,7 +15,7 @@ module _ {T : Type 0} (may : ℕ → List T → Type 0) where
   pub all_received : (tag capacity : ℕ) (sent received inside : List T) → length inside ≡ 0 → Keeps may tag capacity sent received inside → sent ≡ received
   all_received tag capacity sent received inside none k = k.whole ∙ ap (λ l. received ++ l) (none_in inside none) ∙ append-nil received
 
-  -- what a pop of a settled lane tells
+  -- what a pop of a settled lane shows
   abbrev pub Taken : Option T → Known T → Known T → Type 0
   Taken r v w =
       MatchOption r ((w ≡ v) × Held 0 (λ inside. Keeps may v.tag v.capacity v.sent v.received inside))
@@ -32,7 +32,7 @@ module _ {T : Type 0} (may : ℕ → List T → Type 0) where
   stays_settled None v w p s = rw p.0 s
   stays_settled (Some x) v w p s = rw p.0 (s.0, s.1, (p.1.0, p.1.1 ∙ sym (append_assoc v.received (x ∷ []) p.1.0)))
 
-  -- and gives the first of what is left in it
+  -- and returns the first of what is left in it
   pub nexts : (r : Option T) (v w : Known T) → Taken r v w → MatchOption r ((left_in v ≡ []) × (left_in w ≡ [])) (λ x. left_in v ≡ x ∷ left_in w)
   nexts None v w p =
       let same = all_received v.tag v.capacity v.sent v.received p.1.0 p.1.1 p.1.2 in

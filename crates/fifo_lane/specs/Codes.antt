@@ -1,4 +1,4 @@
--- The numbers that stand for a lane's faults (this project's fault numbers).
+-- The codes of a lane's faults (this project's fault numbers).
 use Rattle.std.specs.Prelude.{ℕ}
 use Rattle.fifo_lane.specs.declared.fault.LaneFault.{LaneFault}
 use Rattle.fifo_lane.specs.declared.fault.LaneFault.TheVariants.{BadCapacity, NoMemory}

@@ -1,10 +1,10 @@
--- What a contract sees of a lane (this project's rule of lanes).
+-- A lane as contracts see it (this project's rule of lanes).
 use Rattle.std.specs.Prelude.{◌≡◌, ℕ, ◌≤◌, List, ◌++◌, length, refl}
 use Rattle.std.specs.Coded.{Coded, code_by, coded×, coded_ℕ, coded_list}
 use Rattle.atomic_table.specs.Seated.{TableId, table_id_coded}
 
--- An end of a lane: which lane it is of, the lane's tag and capacity, and the items that went
--- through this end, the first one first.
+-- An end of a lane: its lane, the lane's tag and capacity, and the items that went through this
+-- end, the first one first.
 pub record LaneEnd (T : Type 0) : Type 0 where
   pub lane : TableId
   pub tag : ℕ
@@ -42,12 +42,12 @@ module _ {T : Type 0} where
       (inside : List T) × (length inside ≡ e.capacity)
       × ((received : List T) × Keeps may_send e.tag e.capacity e.items received inside)
 
-  -- at a moment, so many items were inside the lane of this receiving end
+  -- at a moment, this number of items was inside the lane of this receiving end
   abbrev pub HadInside : (ℕ → List T → Type 0) → LaneEnd T → ℕ → Type 0
   HadInside may_send e count =
       (inside : List T) × (length inside ≡ count)
       × ((sent : List T) × Keeps may_send e.tag e.capacity sent e.items inside)
 
-  -- at a moment, nothing was
+  -- at a moment, the lane of this receiving end was empty
   abbrev pub WasEmpty : (ℕ → List T → Type 0) → LaneEnd T → Type 0
   WasEmpty may_send e = HadInside may_send e 0

@@ -1,5 +1,5 @@
--- Private clauses alone cite this file. What the passes of a lane's queue know: one pass at most
--- may push, and it knows what was sent; one at most may pop, and it knows what was received.
+-- What the passes of a lane's queue know: one pass at most may push, and it knows what was sent;
+-- one at most may pop, and it knows what was received. Cited by private clauses alone.
 use Rattle.std.specs.Prelude.{◌≡◌, ℕ, Bool, true, false, List, [], ◌∷◌, ◌++◌}
 use mathlib.Core.Option.{some}
 use lib.ListN.{get_elem?}

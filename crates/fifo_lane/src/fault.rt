@@ -1,4 +1,4 @@
-//! Why no lane is made.
+//! The faults of making a lane.
 
 ghost use Rattle.std.specs.Prelude.{◌≡◌};
 ghost use Rattle.fifo_lane.specs.Codes.{lane_fault_code};
@@ -17,7 +17,7 @@ pub enum LaneFault {
 }
 
 impl LaneFault {
-    /// The number that stands for the fault, 12 or 22.
+    /// The code of the fault: 12 or 22.
     pub fn code(self) -> u8
         ensures { result ≡ lane_fault_code self }
     {

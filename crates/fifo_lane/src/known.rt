@@ -1,4 +1,4 @@
-//! What the ends of a lane know of it, and the rule of the queue under them.
+//! The knowledge that the ends of a lane have of it, and the rule of the queue under them.
 
 use crate::rule::LaneRule;
 use crossbeam_queue::protocol::Protocol;
@@ -32,7 +32,7 @@ pub type Queue<T, R> = RuledArrayQueue<T, Known<T>, LaneProtocol<R>>;
 
 pub type LanePass<T> = Pass<T, Known<T>>;
 
-// A tag and a capacity, which the call that parts the first pass picks.
+// A tag and a capacity, which the call that splits the first pass picks.
 pub trait Label {
     ghost use Rattle.std.specs.Prelude.{ℕ};
 

@@ -1,4 +1,4 @@
-//! What the feed's two rules say of a list.
+//! Laws of the feed's two rules.
 
 ghost use Rattle.std.specs.Prelude.{◌≡◌, ◌≢◌, ◌↔◌, ◌<◌, ◌+◌, ℕ, List, ◌∷◌, ◌++◌};
 ghost use Rattle.feed_types.specs.declared.item.Item.TheVariants.{End};

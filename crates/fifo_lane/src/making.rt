@@ -1,4 +1,4 @@
-//! How a lane is made.
+//! The making of a lane.
 
 ghost use Rattle.std.specs.Prelude.{◌≡◌, ◌<◌, ◌≤◌, ◌↔◌, ◌⊎◌, [], Err, IfOk, OnOk};
 ghost use Rattle.crossbeam_queue.specs.Passes.{view, IsPassOf, IsSamePass, ruled_capacity};
@@ -55,7 +55,7 @@ pub fn lane<T: Drop, R: LaneRule<T>>(
     ))
 }
 
-// Parts the first pass into those of the two ends.
+// Splits the first pass into those of the two ends.
 fn part<T, R: LaneRule<T>, K: Label>(
     queue: &Queue<T, R>,
     pass: &mut LanePass<T>,

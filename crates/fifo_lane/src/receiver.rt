@@ -74,7 +74,7 @@ impl<T, R: LaneRule<T>> Receiver<T, R> {
         self.tag
     }
 
-    /// How many items were inside at a moment of the call. There are no fewer until `pop`.
+    /// Returns how many items were inside at a moment of the call. There are no fewer until `pop`.
     pub fn len<W: Wait>(&mut self, rt: &W) -> usize
         ensures value { HadInside R.may_send self.old result }
         ensures kept { self.new ≡ self.old }
@@ -82,7 +82,7 @@ impl<T, R: LaneRule<T>> Receiver<T, R> {
         self.queue.len_as::<Popped<R>, W>(rt, &mut self.pass)
     }
 
-    /// Receives the front item, or `None` where nothing is inside. What was received so far always
+    /// Receives the front item, or `None` where the lane is empty. What was received so far always
     /// obeys the lane's rule.
     pub fn pop<W: Wait>(&mut self, rt: &W) -> Option<T>
         ensures popped { MatchOption result

@@ -1,9 +1,9 @@
-//! Which lists may be sent.
+//! The rules of lanes: which lists may be sent.
 
 /// Which lists may be sent under a tag, in statements alone: it has no calls and costs nothing.
 ///
-/// Where a list may be sent, so may each prefix of it. So what a lane's receiver has got at any
-/// moment obeys the rule, too.
+/// Where a list may be sent, so may each prefix of it. So what a lane's receiver has received at
+/// any moment obeys the rule, too.
 pub trait LaneRule<T> {
     ghost use Rattle.std.specs.Prelude.{ℕ, List, [], ◌++◌};
 

@@ -74,7 +74,7 @@ impl<T, R: LaneRule<T>> Sender<T, R> {
         self.tag
     }
 
-    /// How many items the lane has room for, 1 to 65,536.
+    /// The number of items for which the lane has room, 1 to 65,536.
     pub fn capacity(&self) -> usize
         ensures value { result ≡ self.now.capacity }
         ensures in_range { (1 ≤ result) × (result ≤ 65536) }
@@ -82,8 +82,8 @@ impl<T, R: LaneRule<T>> Sender<T, R> {
         self.queue.capacity()
     }
 
-    /// Sends an item, which the lane's rule has to allow after all that was sent. Where the lane is
-    /// full it is handed back, and nothing was sent.
+    /// Sends an item, which the lane's rule has to allow after everything that was sent. Where the
+    /// lane is full it is handed back, and nothing was sent.
     #[inline(always)]
     pub fn push<W: Wait>(&mut self, rt: &W, item: T) -> Result<(), T>
         requires { R.may_send self.old.tag (self.old.items ++ item ∷ []) }

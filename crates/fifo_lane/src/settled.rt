@@ -39,7 +39,7 @@ impl<T, R: LaneRule<T>> Model for Settled<T, R> {
 
 /// Joins the two ends of one lane. What is inside can then be taken out, and nothing more comes in.
 ///
-/// There are at most as many items as [`Sender::capacity`] told.
+/// There are at most as many items as [`Sender::capacity`] returned.
 pub fn settle<T: Drop, R: LaneRule<T>>(
     sender: Sender<T, R>,
     receiver: Receiver<T, R>,

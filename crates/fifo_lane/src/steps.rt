@@ -16,7 +16,7 @@ use crate::rule::LaneRule;
 use crossbeam_queue::protocol::{Join, Lesson, Outcome, Split};
 use std::marker::PhantomData;
 
-// The first pass is parted into the ends of a lane with this label.
+// The first pass is split into the ends of a lane with this label.
 pub struct Parted<K>(PhantomData<K>);
 
 impl<T, K: Label> Split<Known<T>> for Parted<K> {
@@ -45,7 +45,7 @@ impl<T, R: LaneRule<T>> Lesson<T, Known<T>> for Pushed<R> {
         × Keeps R.may_send v.tag v.capacity v.sent received inside };
 }
 
-// The receiver pops the front item, or learns that nothing was inside.
+// The receiver pops the front item, or learns that the lane was empty.
 pub struct Popped<R>(PhantomData<R>);
 
 impl<T, R: LaneRule<T>> Outcome<T, Known<T>> for Popped<R> {
@@ -63,7 +63,7 @@ impl<T, R: LaneRule<T>> Lesson<T, Known<T>> for Popped<R> {
         × Keeps R.may_send v.tag v.capacity sent v.received inside };
 }
 
-// The two ends of one lane are joined: the sender's pass takes in what the receiver's has got.
+// The two ends of one lane are joined: the sender's pass takes over what the receiver's knows.
 pub struct Joined;
 
 impl<T> Join<Known<T>> for Joined {
