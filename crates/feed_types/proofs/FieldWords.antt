@@ -79,7 +79,7 @@ module _ (xs : List ℕ) (long : length xs ≡ 8) (small : Small xs) (above : �
       same_bytes xs (lift ys) (omega (arith, longer)) small lifts
       (omega (arith, spelt, added 32 ys, eight_of 32 ys (length-digits 8 above), below_word (lift ys) longer lifts, below_word xs long small))
 
-  -- where each byte may stand, none reaches 80
+  -- where each byte may be, none reaches 80
   lowered : list_all may_stand xs ≡ true → list_all is_low ys ≡ true
   lowered h =
       let zs = lower xs in

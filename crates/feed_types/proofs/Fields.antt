@@ -29,7 +29,7 @@ and_false : (b : Bool) → (b && false) ≡ false
 and_false true = refl
 and_false false = refl
 
--- behind a space
+-- after a space
 behind_by : (s : Bool) (x : ℕ) (xs : List ℕ) → is_space x ≡ s → (list_all may_stand xs && list_all not (map is_no_space xs)) ≡ list_all is_space xs → (list_all may_stand (x ∷ xs) && list_all not (map is_no_space (x ∷ xs))) ≡ list_all is_space (x ∷ xs)
 behind_by true x xs e i = rw (e, space_is x e) i
 behind_by false x xs e i = rw e (and_false (list_all may_stand (x ∷ xs)))
@@ -109,7 +109,7 @@ same_symbol a b ha hb e = sym (bytes_of_word a ha) ∙ ap (λ (w : ℕ). to_be_b
 spaced : (field : List ℕ) → is_symbol_field field ≡ true → list_all is_space (filling_of field) ≡ true
 spaced field h = grind (arith, nat_tests)
 
--- a byte that is no space stands in the name
+-- a byte that is no space is in the name
 pub goes_on : (field : List ℕ) → is_symbol_field field ≡ true → (i : ℕ) → i < 8 → is_space (get_or field i 0) ≡ false → i < length (name_of field)
 goes_on field h i below other =
     let n = length (name_of field) in

@@ -73,7 +73,7 @@ reaching c limit e bs are =
 
 -- ---- what is marked
 
--- each list of so many marks
+-- the test holds of each list of this many marks
 abbrev every : ℕ → (List Bool → Bool) → Bool
 every zero t = t []
 every (suc k) t = every k (λ ms. t (true ∷ ms)) && every k (λ ms. t (false ∷ ms))

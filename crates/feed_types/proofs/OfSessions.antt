@@ -34,7 +34,7 @@ pub all_to_come : (all : List Session) → to_come all first_place ≡ whole_ses
 unfolding to_come
 all_to_come all = from_first all
 
--- one item more, at the front of both
+-- one more item, at the front of both
 front_same : (x y : Numbered) (xs zs all : List Numbered) → x ≡ y → all ≡ y ∷ zs → IsPrefix xs zs → IsPrefix (x ∷ xs) all
 front_same x y xs zs all e a p = record { rest = p.rest; is = a ∙ rw (p.is, e) refl }
 

@@ -1,5 +1,5 @@
--- Cited by private clauses alone: a symbol's field as one word, tested in all its bytes at once,
--- and where the name in it ends.
+-- A symbol's field as one word, tested in all its bytes at once, and where the name in it ends.
+-- Cited by private clauses alone.
 use Rattle.std.specs.Prelude.{ℕ, ◌+◌, ◌*◌, ◌≡◌, ◌<◌, ◌≤◌, Bool, true, false, ◌&&◌, not, if◌then◌else◌, nat_le, ◌==◌, List, [], ◌∷◌, map, length, IsTrue}
 use Rattle.std.specs.List.{list_all}
 
@@ -43,7 +43,7 @@ IsZeroWhereFilled names wrong =
     (marks : List Bool) → length marks ≡ 8 → names ≡ flags marks
     → (wrong == 0) ≡ is_name_filled marks
 
--- the name ends in one of so many places of its field, from there on
+-- the name ends in one of `size` places of its field, from this one on
 pub record EndsWithin (place size : ℕ) (name : List ℕ) : Type 0 where
   pub past : place < length name
   pub most : length name ≤ place + size

@@ -1,5 +1,5 @@
 -- The state of a national best (this project's profile): no side, one side, or how the two prices
--- stand.
+-- compare.
 use Rattle.std.specs.Prelude.{ℕ, nat_lt, ◌==◌, if◌then◌else◌, Option, Some, None}
 use Rattle.feed_types.specs.declared.national.Best.{Best}
 use Rattle.feed_types.specs.declared.national.National.{National}

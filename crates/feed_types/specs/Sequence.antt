@@ -12,7 +12,8 @@ Carries = ℕ → ℕ → ℕ → Item → Type 0
 abbrev pub Ends : Type 1
 Ends = ℕ → ℕ → ℕ → Type 0
 
--- where a venue's items have come to: the session's ordinal, from 1, and the number that is next
+-- the place after a venue's items so far: the session's ordinal, from 1, and the number that is
+-- next
 pub record Place : Type 0 where
   pub ordinal : ℕ
   pub number : ℕ

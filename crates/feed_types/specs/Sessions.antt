@@ -1,4 +1,4 @@
--- What it means that the lines carry exactly these sessions.
+-- Lines that carry exactly given sessions.
 use Rattle.std.specs.Prelude.{◌≡◌, ◌↔◌, ℕ, ◌+◌, ◌-◌, ◌≤◌, List, [], ◌∷◌, ◌++◌, flat_map, length, slice_get, Some}
 use Rattle.feed_types.specs.declared.item.Item.{Item}
 use Rattle.feed_types.specs.declared.item.Item.TheVariants as items
@@ -25,8 +25,8 @@ abbrev pub SessionNames : Type 1
 SessionNames = ℕ → ℕ → List ℕ → Type 0
 
 -- The lines may carry at the venue exactly these sessions: under their names and no others, at each
--- number the item of that number, and as end number one more than the last message's. No name comes
--- twice.
+-- number the item of that number, and as end number one more than the last message's. No name is
+-- there twice.
 pub record Names (sessions : SessionNames) (carries : Carries) (ends : Ends) (venue : ℕ)
     (all : List Session) : Type 0 where
   pub named : (ordinal : ℕ) (name : List ℕ) →
@@ -49,11 +49,11 @@ numbered_from n (item ∷ rest) = record { number = n; item = item } ∷ numbere
 abbrev pub end_item : ℕ → Numbered
 end_item n = record { number = n; item = items.End }
 
--- the session's items with their numbers, and End behind the last
+-- the session's items with their numbers, and End after the last
 abbrev pub whole_session : Session → List Numbered
 whole_session session =
     numbered_from 1 session.items ++ end_item (length session.items + 1) ∷ []
 
--- those of all sessions, one session after another
+-- the whole of all sessions, one session after another
 abbrev pub whole_sessions : List Session → List Numbered
 whole_sessions all = flat_map whole_session all

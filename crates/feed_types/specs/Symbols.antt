@@ -15,7 +15,7 @@ abbrev pub is_symbol_name : List ℕ → Bool
 is_symbol_name name =
     nat_le 1 (length name) && (nat_le (length name) 8 && list_all is_name_byte name)
 
--- the name in a field: what stands before the first space
+-- the name in a field: the bytes before the first space
 abbrev pub name_of : List ℕ → List ℕ
 name_of field = take_while (λ byte. not (is_space byte)) field
 

@@ -1,4 +1,4 @@
--- What is printed for a line, a price, a side and a state (this project's printed lines).
+-- The texts of a line, a price, a side and a state (this project's printed lines).
 use Rattle.std.specs.Prelude.{ℕ, ◌/◌, ◌%◌, List, ◌++◌, codes, decimal, Option, Some, None}
 use Rattle.feed_types.specs.declared.line.LineId.{LineId}
 use Rattle.feed_types.specs.declared.line.LineId.TheVariants.{A, B, Recovery}

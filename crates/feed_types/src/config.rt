@@ -1,4 +1,4 @@
-//! What a feed is set up with.
+//! The configuration of a feed.
 
 use crate::symbol::SymbolName;
 
@@ -7,15 +7,15 @@ use crate::symbol::SymbolName;
 pub struct FeedConfig<'a> {
     /// The first session of each venue, ten bytes, filled on the right with spaces. 1 to 16 venues.
     pub sessions: &'a [[u8; 10]],
-    /// The symbols whose national best is kept, in the order in which changes are told. At most
+    /// The symbols whose national best is kept, in the order in which changes are emitted. At most
     /// 4,096, each once.
     pub symbols: &'a [SymbolName],
-    /// How many messages past the last item sent a venue holds, 1 to 65,535.
+    /// The number of messages past the last item sent that a venue holds, 1 to 65,535.
     pub window: u32,
-    /// How many items a lane holds, 1 to 65,536, of venues and subscribers alike.
+    /// The number of items that a lane holds, 1 to 65,536, of venues and subscribers alike.
     pub lane: u32,
-    /// How many entries the journal holds.
+    /// The number of entries that the journal holds.
     pub journal: u32,
-    /// How many lines a subscriber's log holds.
+    /// The number of lines that a subscriber's log holds.
     pub log: u32,
 }

@@ -6,7 +6,7 @@ ghost use Rattle.feed_types.specs.declared.item.Item.{Item};
 /// What the lines of the venues may carry, in statements alone: it has no calls and costs nothing.
 ///
 /// A venue is its number, and its sessions are counted from 1, the ordinal. A program picks
-/// [`Anything`]; who wants to speak of what was really sent picks a type whose members name it.
+/// [`Anything`]; a caller that speaks of what was really sent picks a type whose members name it.
 pub trait Genuine {
     /// The venue's session of this ordinal has this name of ten bytes.
     ghost sessions: { ℕ → ℕ → List ℕ → Type 0 };

@@ -1,4 +1,4 @@
-//! Small numbers that name a venue or a subscriber.
+//! The ids of venues and of subscribers: small numbers.
 
 ghost use Rattle.std.specs.Prelude.{◌≡◌, ◌<◌, Some, decimal};
 ghost use Rattle.std.specs.Option.{SomeIff};

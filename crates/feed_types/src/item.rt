@@ -1,11 +1,11 @@
-//! What the numbers of a venue's session stand for.
+//! The items of a venue's session, by their numbers.
 
 use crate::symbol::SymbolName;
 
 /// A venue's quotation of one symbol, both sides at once. Prices are in ten-thousandths of a
 /// dollar, sizes in shares. A side whose price or size is 0 isn't there.
 ///
-/// The fields stand in an order that needs 40 bytes, since a journal keeps many, and has the symbol
+/// The fields are in an order that needs 40 bytes, since a journal keeps many, and has the symbol
 /// and a flag where a halt has them.
 #[derive(Clone, Copy, Debug, PartialEq, Eq, Hash)]
 pub struct Quote {
@@ -20,13 +20,13 @@ pub struct Quote {
     pub offer_price: u32,
 }
 
-/// What one sequence number of a session stands for.
+/// The content of one sequence number of a session.
 #[derive(Clone, Copy, Debug, PartialEq, Eq, Hash)]
 pub enum Item {
     Quote(Quote),
     /// The venue halts trading in the symbol, or trades it again.
     Halt { symbol: SymbolName, halted: bool },
-    /// A message that is none of these. It takes its number and changes no quotation.
+    /// Any other message. It takes its number and changes no quotation.
     Other,
     /// The end of the session, which has the number after the last message's.
     End,

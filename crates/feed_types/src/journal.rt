@@ -1,4 +1,4 @@
-//! What a journal consists of, and what it is read for.
+//! The entries and notices of a journal.
 
 use crate::ids::VenueId;
 use crate::item::Numbered;
@@ -17,7 +17,7 @@ pub enum Entry {
 /// A change of the national best of one symbol.
 #[derive(Clone, Copy, Debug, PartialEq, Eq, Hash)]
 pub struct Notice {
-    /// Counts the journal's notices from 1.
+    /// The notice's number in the journal, from 1.
     pub number: u64,
     /// The position, from 1, of the entry that made the change.
     pub position: u64,

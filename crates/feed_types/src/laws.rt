@@ -1,4 +1,4 @@
-//! What follows from the definitions.
+//! Laws of the definitions.
 
 ghost use Rattle.std.specs.Prelude.{◌≡◌, ℕ, List, [], ◌∷◌, ◌++◌, IsTrue};
 ghost use Rattle.feed_types.specs.declared.item.Numbered.{Numbered};
@@ -29,7 +29,7 @@ pub fn one_more_in_sequence<G: Genuine>()
 {}
 
 /// Where the lines carry exactly these sessions, items in sequence are the first of the sessions'
-/// items, session by session, each session's End behind it.
+/// items, session by session, each session's End after its items.
 pub fn sequence_is_of_the_sessions<G: Genuine>()
     ensures { (venue : ℕ) (all : List Session) (xs : List Numbered) →
         Names G.sessions G.carries G.ends venue all →

@@ -1,4 +1,4 @@
-//! The vocabulary of the feed: what every other crate names in the same words.
+//! The vocabulary of the feed, which every other crate uses in the same words.
 //!
 //! Plain `Copy` values without memory: venues, lines and subscribers, symbols, quotations and the
 //! items of a session, the national best and its notices, and the trait [`Genuine`], which says
@@ -6,7 +6,7 @@
 //! it again.
 //!
 //! Contract: what `new`, `from_index`, `from_field` and `from_text` accept is exactly what `specs/`
-//! allows, and each reader gives it back. Begin at `item.rt` for what flows, and at `genuine.rt` with
+//! allows, and each reader returns it. Begin at `item.rt` for what flows, and at `genuine.rt` with
 //! `specs/Sequence.antt` for the order in which it flows.
 #![tactic(auto)]
 

@@ -15,7 +15,7 @@ impl LineId {
     ghost use Rattle.std.specs.Prelude.{◌≡◌};
     ghost use Rattle.feed_types.specs.Text.{line_letter};
 
-    /// The letter that stands for the line in captures and printed lines: A, B or R.
+    /// The letter of the line in captures and printed lines: A, B or R.
     pub const fn letter(self) -> u8
         ensures { result ≡ line_letter self }
     {

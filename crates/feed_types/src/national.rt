@@ -6,7 +6,7 @@ use crate::ids::VenueId;
 use crate::price::Price;
 use std::fmt;
 
-/// The best quotation of one side: who shows it, the price in ten-thousandths of a dollar, and the
+/// The best quotation of one side: its venue, the price in ten-thousandths of a dollar, and the
 /// size in shares.
 #[derive(Clone, Copy, Debug, Default, PartialEq, Eq, Hash)]
 pub struct Best {
@@ -69,7 +69,7 @@ impl National {
         }
     }
 
-    /// How the two sides stand to each other.
+    /// The state of the two sides.
     pub fn state(&self) -> NationalState
         ensures { result ≡ state_of self.now }
     {
@@ -89,7 +89,7 @@ impl National {
     }
 }
 
-/// How the national best bid and offer stand to each other.
+/// The state of a national best bid and offer.
 #[derive(Clone, Copy, Debug, PartialEq, Eq, PartialOrd, Ord, Hash)]
 pub enum NationalState {
     /// Neither side is there.

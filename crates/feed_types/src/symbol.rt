@@ -10,7 +10,7 @@ ghost use Rattle.feed_types.specs.FieldTests.{EndsWithin, IsZeroWhereFilled, Mar
 use std::fmt;
 use std::marker::Model;
 
-/// How many bytes a symbol's field has.
+/// The number of bytes of a symbol's field.
 const FIELD: usize = 8;
 
 /// A field of spaces, as a word.
@@ -55,8 +55,9 @@ fn is_name(bytes: &[u8]) -> bool
     !bytes.is_empty() && bytes.len() <= FIELD && is_all_name_bytes(bytes)
 }
 
-/// Where a name that ends within twice so many bytes from there ends within so many: a byte that is
-/// no space has the name up to it.
+/// Halves the search for a name's end: of a name that ends in one of `2 * size` places from `at`
+/// on, returns the place from which on it ends in one of `size`. A byte that is no space has the
+/// name up to it.
 #[inline(always)]
 fn half_of(field: &[u8; 8], at: usize, size: usize) -> usize
     requires symbol { IsTrue (is_symbol_field field.now) }
@@ -70,7 +71,7 @@ fn half_of(field: &[u8; 8], at: usize, size: usize) -> usize
     }
 }
 
-/// How many bytes stand before the first space. Each best line prints a name, so its end is looked
+/// The number of bytes before the first space. Each best line prints a name, so its end is looked
 /// for by halves of the field.
 fn name_len(field: &[u8; 8]) -> usize
     requires { IsTrue (is_symbol_field field.now) }
@@ -97,8 +98,8 @@ fn no_spaces(above: u64) -> u64
     above.wrapping_add(0x7f7f_7f7f_7f7f_7f7f) & TOPS
 }
 
-/// The top bits of the bytes that stand wrong, by those of the bytes that are no space: of each
-/// such byte behind a space, and of the first byte where it is a space.
+/// The top bits of the misplaced bytes, by those of the bytes that are no space: of each such byte
+/// after a space, and of the first byte where it is a space.
 #[inline(always)]
 fn misplaced(names: u64) -> u64
     ensures { IsZeroWhereFilled names result }
@@ -119,8 +120,8 @@ fn is_field(field: &[u8; 8]) -> bool
 }
 
 impl SymbolName {
-    /// The symbol of a field of eight bytes, or `None` where the field is none: where no name stands
-    /// at its front, or another byte than a space behind it.
+    /// The symbol of a field of eight bytes, or `None` where the field is none: where no name is at
+    /// its front, or a byte other than a space after it.
     #[inline(always)]
     pub fn from_field(field: &[u8; 8]) -> Option<SymbolName>
         ensures { SomeIff result (IsTrue (is_symbol_field field.now)) field.now }
