@@ -29,7 +29,7 @@ const DATAGRAMS: [(LineId, u64, u32, u32); 5] = [
     (LineId::B, 3, 101_500, 101_800),
 ];
 
-/// Writes a packet of one quotation of ACME, 300 shares on each side, over what stands in `bytes`.
+/// Writes a packet of one quotation of ACME, 300 shares on each side, over the contents of `bytes`.
 fn write_datagram(
     bytes: &mut Vec<u8>,
     number: u64,
@@ -48,7 +48,7 @@ fn write_datagram(
     bytes.extend_from_slice(&[3])
 }
 
-/// How far ahead of a gap the arbiter holds messages.
+/// The width of the arbiter's window in messages.
 const WINDOW: u32 = 64;
 
 /// Buys from a cheap offer what it shows, within the limit.
