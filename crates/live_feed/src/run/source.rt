@@ -50,8 +50,8 @@ pub trait LineSource<G: Genuine>: Drop {
     /// The number of calls that failed.
     ghost failures: { Self → ℕ };
 
-    /// Calls that bring the datagrams of these bytes, in order, lead from the one state to the
-    /// other.
+    /// Calls that bring the datagrams of these bytes, in order, lead from the one state of the
+    /// source to the other.
     ghost brings: { Self → List (List ℕ) → Self → Type 0 };
 
     /// The venue whose datagrams it brings.
@@ -62,7 +62,8 @@ pub trait LineSource<G: Genuine>: Drop {
     /// line.
     ///
     /// Device where the device failed, TooManyTurns where it was interrupted as often as one call
-    /// may ask it: each is a failure. NoMemory, where memory for the datagram was refused, is none.
+    /// may ask it: each is a failure. NoMemory where memory for the datagram was refused, which is
+    /// no failure.
     fn next(&mut self) -> Result<Option<Datagram>, SourceFault>
         ensures venue { venue_of self.new ≡ venue_of self.old }
         ensures brings { brings self.old (brought_by result) self.new }
@@ -72,8 +73,8 @@ pub trait LineSource<G: Genuine>: Drop {
         ensures failed { IfErr result (λ fault. failures self.new
             ≡ failures_after (failures self.old) fault) };
 
-    /// Returns the milliseconds of a clock that the source has, from any moment on. It needn't go
-    /// on.
+    /// Returns the milliseconds of a clock that the source has, from any moment on. The clock
+    /// needn't go on.
     fn now_ms(&mut self) -> u64
         ensures venue { venue_of self.new ≡ venue_of self.old }
         ensures brings { brings self.old [] self.new }
