@@ -126,7 +126,7 @@ fn place_packet(
     place_outcome(room, at, outcome)
 }
 
-/// Puts the line of a datagram whose packet was answered.
+/// Appends the line of a datagram whose packet was answered.
 #[inline(always)]
 pub(crate) fn put_packet(
     text: &mut LineBuffer,
@@ -145,7 +145,7 @@ pub(crate) fn put_packet(
     Ok(())
 }
 
-/// Puts the line of a datagram that is no packet. It is rare, and so a call of its own.
+/// Appends the line of a datagram that is no packet. It is rare, and so a call of its own.
 #[inline(never)]
 pub(crate) fn put_fault(
     text: &mut LineBuffer,
@@ -192,7 +192,7 @@ fn place_item_head(room: &mut [u8], at: usize, venue: VenueId) -> usize
     place(room, at, [b' '])
 }
 
-/// Puts the line of an item that was ready.
+/// Appends the line of an item that was ready.
 #[inline(always)]
 pub(crate) fn put_item(
     text: &mut LineBuffer,
@@ -264,7 +264,7 @@ fn place_state(room: &mut [u8], at: usize, state: NationalState) -> usize
     }
 }
 
-/// Puts the line of a change of the national best, under this number.
+/// Appends the line of a change of the national best, under this number.
 #[inline(never)]
 pub(crate) fn put_change(
     text: &mut LineBuffer,
@@ -290,7 +290,7 @@ pub(crate) fn put_change(
     Ok(())
 }
 
-/// Puts the line of a notice.
+/// Appends the line of a notice.
 pub fn put_best(text: &mut LineBuffer, notice: &Notice) -> Result<(), AllocError>
     ensures line { OnOk result (text.new.items ≡ text.old.items ++ best_line notice.now) }
     ensures part { OnErr result (text.new.items ≡ text.old.items) }
@@ -303,7 +303,7 @@ pub fn put_best(text: &mut LineBuffer, notice: &Notice) -> Result<(), AllocError
     put_change(text, notice.number, &change)
 }
 
-/// Puts the line of the run of messages to ask for.
+/// Appends the line of the run of messages to ask for.
 pub(crate) fn put_gap(
     text: &mut LineBuffer,
     venue: VenueId,
@@ -338,7 +338,7 @@ fn place_on(room: &mut [u8], at: usize, on: bool) -> usize
     }
 }
 
-/// Puts the line of a declaration: the position of its entry, or that it is declared already.
+/// Appends the line of a declaration: the position of its entry, or that it is declared already.
 pub(crate) fn put_declared(
     text: &mut LineBuffer,
     venue: VenueId,
@@ -365,7 +365,7 @@ pub(crate) fn put_declared(
     Ok(())
 }
 
-/// Puts the line of a renewal: the ordinal of the session that begins, or why none does.
+/// Appends the line of a renewal: the ordinal of the session that begins, or why none does.
 pub(crate) fn put_renewal(
     text: &mut LineBuffer,
     venue: VenueId,
@@ -390,8 +390,8 @@ pub(crate) fn put_renewal(
     Ok(())
 }
 
-/// Puts the last line of a venue: how many items were sent, and how many numbers came first on A,
-/// on B and by recovery.
+/// Appends the last line of a venue: how many items were sent, and how many numbers came first on
+/// A, on B and by recovery.
 pub fn put_venue(
     text: &mut LineBuffer,
     venue: VenueId,

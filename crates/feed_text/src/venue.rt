@@ -374,7 +374,7 @@ impl VenueReplay {
         Ok(())
     }
 
-    /// Prints the last line.
+    /// Appends the venue's last line.
     pub fn put_last(&self, text: &mut LineBuffer) -> Result<(), AllocError>
         ensures { OnOk result
             ((width place : ℕ) (h : History) → Follows width place self.now h

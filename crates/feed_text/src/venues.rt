@@ -85,7 +85,7 @@ impl Venues {
         }
     }
 
-    /// Prints the last lines after the text.
+    /// Appends the venues' last lines.
     pub fn put_last(&self, text: &mut LineBuffer) -> Result<(), AllocError>
         ensures { OnOk result (PrintsLast self.now text.old.items text.new.items) }
     {
