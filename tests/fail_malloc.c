@@ -1,5 +1,5 @@
 /* Refuses the request for memory whose number is in REFUSE, counted from 1, and where AFTER is set each
-   one behind it, too. All others are met. Where COUNT names a file, how many requests there were is
+   one after it, too. All others are met. Where COUNT names a file, how many requests there were is
    written to it at the end; where REFUSED names one, it is made at a refusal. Loaded by LD_PRELOAD in
    tests/refused-memory and tests/listen. */
 #define _GNU_SOURCE

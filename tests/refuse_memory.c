@@ -80,7 +80,7 @@ void refuse_larger_requests(uint64_t bytes)
     store(&largest, bytes);
 }
 
-/* No more than so many threads are started from now on. */
+/* No more than `most` threads are started from now on. */
 void refuse_more_threads(uint64_t most)
 {
     refuse_requests(0, 0);
