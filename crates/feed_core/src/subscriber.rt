@@ -16,7 +16,7 @@ use filter_terms::Filter;
 use std::alloc::{AllocError, Global};
 use std::marker::Model;
 
-/// How many changes of the journal were looked at for a subscriber, and the lane to it.
+/// The number of changes of the journal that were looked at for a subscriber, and the lane to it.
 #[derive(Drop)]
 pub(crate) struct SubscriberState {
     looked_at: usize,

@@ -13,7 +13,7 @@ static MORE: [u8; 2048] = [0; 2048];
 pub struct LineBuffer {
     /// The text, and then room whose bytes have no meaning.
     pub(crate) bytes: Vec<u8>,
-    /// Where the text ends.
+    /// The end of the text.
     pub(crate) end: usize,
 }
 

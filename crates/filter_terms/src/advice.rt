@@ -9,7 +9,8 @@ pub struct Limits {
     pub max_size: u64,
 }
 
-/// What a strategy answers to a notice. Prices are in ten-thousandths of a dollar, sizes in shares.
+/// The advice of a strategy on a notice. Prices are in ten-thousandths of a dollar, sizes in
+/// shares.
 #[derive(Clone, Copy, Debug, PartialEq, Eq, Hash)]
 pub enum Advice {
     /// Do nothing.

@@ -21,7 +21,7 @@ pub struct Request {
     pub session: [u8; 10],
     /// The first message wanted. A request that was read has at least 1.
     pub number: u64,
-    /// How many messages are wanted.
+    /// The number of messages wanted.
     pub count: u16,
 }
 

@@ -1,4 +1,4 @@
-//! What a book keeps of one symbol.
+//! The part of a book for one symbol.
 
 ghost use Rattle.std.specs.Prelude.{◌≡◌, not};
 ghost use Rattle.std.specs.Str.{bytes_eq};

@@ -10,7 +10,8 @@ use crate::venue::sums::PacketSums;
 use feed_types::{LineId, VenueId};
 use std::marker::Model;
 
-/// How many numbers seats brought first, and the sums of the packets that were accepted from them.
+/// The count of numbers that seats brought first, and the sums of the packets that were accepted
+/// from them.
 #[derive(Clone, Copy, Debug)]
 pub(crate) struct SeatTally {
     won: u64,

@@ -9,7 +9,7 @@ use feed_types::{Genuine, LineId, Numbered};
 use line_arbiter::Arbiter;
 use std::marker::Model;
 
-/// How many numbers each line of a venue brought first.
+/// The count of numbers that each line of a venue brought first.
 #[derive(Clone, Copy, Debug)]
 pub(crate) struct VenueWins {
     of_a: u64,
