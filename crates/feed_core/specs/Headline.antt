@@ -81,8 +81,7 @@ pub record ShownSubscriberHalf (s : Setting) (entries : List Entry) (id : ℕ) (
   pub filter : slice_get s.filters id ≡ Some terms
   pub notices : AreNotices s.symbols entries terms x.dequeued x.queued
 
--- The events are a run of which this is shown, and the headline holds of its world and of what is
--- shown.
+-- The events are a run that shows this; the headline holds of its world and of what is shown.
 pub record ShowsHeadline (s : Setting) (events : List Event) (shown : Shown) : Type 0 where
   pub of : IsRunOf s events shown
   pub headline : Headline s events of.world
