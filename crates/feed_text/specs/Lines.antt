@@ -1,5 +1,5 @@
--- The printed lines, this project's own format: fields parted by one space, numbers in decimal, and
--- a line feed at the end.
+-- The printed lines, this project's own format: fields separated by one space, numbers in decimal,
+-- and a line feed at the end.
 use Rattle.std.specs.Prelude.{ℕ, Bool, List, [], ◌∷◌, ◌++◌, codes, decimal, Option, Some, None, Result, Ok, Err, true, false}
 use Rattle.feed_types.specs.declared.item.Item.{Item}
 use Rattle.feed_types.specs.declared.item.Item.TheVariants as items

@@ -9,8 +9,8 @@ ghost use Rattle.feed_text.specs.Texts.{EmitsAll, IsLinesOf, IsTextOf, IsLinesTo
 ghost use Rattle.feed_text.specs.Replays.{venues_in};
 ghost use Rattle.feed_text.specs.VenueItems.{items_taken};
 
-/// A capture has one reading: where the same bytes are records and then a rest that begins with none,
-/// the records and the rest are the same.
+/// A capture has one reading: where the same bytes are records and then a rest that begins with
+/// none, the records and the rest are the same.
 pub fn one_reading()
     ensures { (venues : ℕ) (xs ys : List CaptureRecord) (r s : List ℕ)
         → All (IsRecord venues) xs → All (IsRecord venues) ys

@@ -1,4 +1,4 @@
--- Where the lines carry exactly some sessions, items in sequence are the first of those sessions' items.
+-- Where lines carry exactly some sessions, items in sequence are the first of the sessions' items.
 use Rattle.std.proofs.Common.{◌≡◌, ℕ, zero, suc, ◌+◌, ◌-◌, List, [], ◌∷◌, ◌++◌, length, drop, refl, sym, ◌∙◌, arith, append_assoc}
 use Rattle.std.specs.Prelude.{slice_get, Some}
 use Rattle.std.proofs.lemmas.Grind.{common_steps}

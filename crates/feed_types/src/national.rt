@@ -57,8 +57,8 @@ impl National {
     ghost use Rattle.std.specs.Prelude.{◌≡◌};
     ghost use Rattle.feed_types.specs.Nationals.{state_of};
 
-    /// These two sides, copied part by part, as they are written. Where that is a moment ago, a copy
-    /// of a side as a whole would wait until all that was written before it is in the cache.
+    /// These two sides, copied part by part, as they are written. Where that is a moment ago, a
+    /// copy of a side as a whole would wait until all that was written before it is in the cache.
     #[inline(always)]
     pub fn copied(bid: &Option<Best>, offer: &Option<Best>) -> National
         ensures { result ≡ record { bid = bid.now; offer = offer.now } }

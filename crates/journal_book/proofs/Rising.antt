@@ -1,4 +1,4 @@
--- The numbers of a journal's changes rise, and so do those of the changes that a subscriber asked for.
+-- The numbers of a journal's changes rise, and so do those of the changes that a subscriber wants.
 use Rattle.std.proofs.Common.{ℕ, zero, suc, ◌+◌, ◌<◌, ◌≤◌, Bool, true, false, cond, List, [], ◌∷◌, length, get_or, filter, arith}
 use Rattle.std.specs.Prelude.{AllPairs}
 use Rattle.feed_types.specs.declared.journal.Entry.{Entry}

@@ -12,7 +12,8 @@ one_if b = cond b 1 0
 pub count_first : {X : Type 0} (q : X → Bool) (x : X) (xs : List X) → count_by q (x ∷ xs) ≡ one_if (q x) + count_by q xs
 count_first q x xs = sum_by-cons (λ y. one_if (q y)) x xs
 
--- where what the first test counts at each number is what the other two count, so it is over the range
+-- where what the first test counts at each number is what the other two count, so it is over the
+-- range
 pub count_sum : (q r t : ℕ → Bool) (a n : ℕ) → ((m : ℕ) → a ≤ m → m < a + n → one_if (q m) ≡ one_if (r m) + one_if (t m))
     → count_by q (range_with_len a n) ≡ count_by r (range_with_len a n) + count_by t (range_with_len a n)
 count_sum q r t a zero h = refl

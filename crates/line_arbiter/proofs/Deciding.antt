@@ -1,4 +1,5 @@
--- Two values are the same or they aren't, and of the numbers below a bound one has a property or none has.
+-- Two values are the same or they aren't, and of the numbers below a bound one has a property or
+-- none has.
 use Rattle.std.proofs.Common.{◌≡◌, ℕ, zero, suc, ◌<◌, Bool, true, false, List, Option, Some, None, refl, sym, ap, subst, ◌∙◌, arith, inl, inr}
 use Rattle.std.specs.Prelude.{◌≢◌, ◌⊎◌}
 use Rattle.std.specs.Str.{bytes_eq}

@@ -1,4 +1,4 @@
--- The gap is the run that is missing after the front; what is known is the greatest number heard of.
+-- The gap is the run missing after the front; what is known is the greatest number heard of.
 use Rattle.std.proofs.Common.{◌≡◌, ℕ, suc, ◌+◌, ◌-◌, ◌<◌, ◌≤◌, Bool, true, false, List, [], ◌∷◌, get_or, Option, Some, None, refl, sym, subst, ◌∙◌, arith, inl, inr}
 use Rattle.std.specs.Prelude.{◌⊎◌, IsSome, is_none, fold, max, min, Contains, ◌==◌, if◌then◌else◌}
 use Rattle.std.specs.List.{range_with_len, AllByRecursion}

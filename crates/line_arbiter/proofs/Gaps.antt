@@ -29,8 +29,8 @@ past_sent s packets fits more = elim (cursor s packets (stands_of fits)) [
   | inr ended ↦ let to = fits.known in let known = known_at_end packets (s.front + 1) ended.1 in absurd (omega arith)
 ]
 
--- Where nothing is held at the n numbers after the front, up to the last one that is known and in the window or to one
--- where an item is held, n is how many are missing.
+-- Where nothing is held at the n numbers after the front, up to the last one that is known and in
+-- the window or to one where an item is held, n is how many are missing.
 missing_count-held : (s : State) (packets : List Arrival) (n : ℕ) → Fits s packets
     → ((m : ℕ) → s.front < m → m ≤ s.front + n → held_at (held_of s) m ≡ None)
     → s.front + n ≤ max s.front (min s.known (s.sent + s.window))

@@ -45,7 +45,7 @@ end_is_last (Some e) front len h =
     tests : (e front len : ℕ) → e ≡ len + 1 → (e == front + 1) ≡ (front == len)
     tests e front len h = grind (arith, nat_tests)
 
--- what was taken is the session's: each message the one of its number, and the end the one after the last
+-- what was taken is the session's: each message has its number, and the end the one after the last
 pub record IsPartOf (s : Session) (packets : List Arrival) : Type 0 where
   pub item : (m : ℕ) (item : Item) → carried packets m ≡ Some item → IsItemAt s m item
   pub end : (e : ℕ) → end_of packets ≡ Some e → e ≡ length s.items + 1

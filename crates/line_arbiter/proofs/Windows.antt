@@ -264,7 +264,8 @@ IsBitmap-put number item old new marks after was past within words here others b
   ];
 }
 
--- the bitmap when the first place is passed: its bit is then that of the last number past the new base
+-- the bitmap when the first place is passed: its bit is then that of the last number past the new
+-- base
 pub IsBitmap-pass : (held : Held) (marks after : List ℕ) → IsBitmap marks held → length held.places ≤ 65535
     → length after ≡ 1024 → is_marked after (held.base + 1) ≡ false
     → ((other : ℕ) → other % 65536 ≢ (held.base + 1) % 65536 → is_marked after other ≡ is_marked marks other)
@@ -303,8 +304,9 @@ IsBitmap-new width marks zeros =
           none_marked m ∙ sym (ap (λ (o : Option Item). is_some o) (empty_without held refl m));
     })
 
--- Why a run of numbers after a front, at which nothing is held, ends where it does: at the end of the window, at the
--- limit, or at a number that is held. The end of both is `end`, and the search ends there or at the last place.
+-- Why a run of numbers after a front, at which nothing is held, ends where it does: at the end of
+-- the window, at the limit, or at a number that is held. The end of both is `end`, and the search
+-- ends there or at the last place.
 pub gap_stop : (count : ℕ) (held : Held) (marks : List ℕ) (front limit far to next : ℕ) → IsHeld count held
     → IsBitmap marks held → held.base ≤ front → front ≤ limit → front - held.base < held.width
     → far ≡ min (limit - held.base) held.width → front < last_place held

@@ -1,4 +1,5 @@
--- Where it is known which sessions the lines bring, no packet of one of them is refused but for another session's.
+-- Where it is known which sessions the lines bring, no packet of one of them is refused but for
+-- another session's.
 use Rattle.std.proofs.Common.{◌≡◌, ℕ, ◌+◌, List, length, Result, sym, subst, ◌∙◌, inl, inr}
 use Rattle.std.specs.Prelude.{IsOk}
 use Rattle.feed_types.specs.Sequence.{Carries, Ends}

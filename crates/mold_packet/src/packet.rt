@@ -78,8 +78,8 @@ impl<'a> Packet<'a> {
         self.count
     }
 
-    /// The sequence number of the last message. Where there is none, it is the one before `number()`, and
-    /// may be 0.
+    /// The sequence number of the last message. Where there is none, it is the one before
+    /// `number()`, and may be 0.
     #[inline]
     pub fn last_number(&self) -> u64
         ensures value { result ≡ last_number self.now }

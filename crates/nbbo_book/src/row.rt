@@ -48,8 +48,8 @@ impl Row {
         bid || offer
     }
 
-    /// Takes the end of the venue's session: it shows nothing, and halts nothing. Returns whether the
-    /// national best differs then.
+    /// Takes the end of the venue's session: it shows nothing, and halts nothing. Returns whether
+    /// the national best differs then.
     #[inline(always)]
     fn take_end(&mut self, venue: VenueId, age: u64) -> bool
         requires { IsRowRanked age self.old }
@@ -79,8 +79,8 @@ impl Row {
         bid || offer
     }
 
-    /// Takes a halt of the symbol at the venue, or its end. Returns whether the national best differs
-    /// then.
+    /// Takes a halt of the symbol at the venue, or its end. Returns whether the national best
+    /// differs then.
     fn take_halt(&mut self, venues: &Venues, venue: VenueId, halted: bool) -> bool
         requires bids { IsRanked Bid (side_at Bid self.old) }
         requires offers { IsRanked Offer (side_at Offer self.old) }
@@ -112,8 +112,8 @@ impl Row {
         }
     }
 
-    /// Takes one more entry, of this age; the flags of self-help are those after it. Returns whether
-    /// the national best differs then.
+    /// Takes one more entry, of this age; the flags of self-help are those after it. Returns
+    /// whether the national best differs then.
     #[inline(always)]
     pub fn take_entry(&mut self, venues: &Venues, entry: &Entry, age: u64) -> bool
         requires { IsRowRanked age self.old }

@@ -8,8 +8,8 @@ use Rattle.packet_capture.specs.Fields.{u32_in}
 abbrev pub BeginsSection : List ℕ → Type 0
 BeginsSection bytes = u32_in Big bytes 0 ≡ 168627466
 
--- The order of a block's numbers: that of its section. A section's header says its own, by the number
--- 1a2b3c4d.
+-- The order of a block's numbers: that of its section. A section's header says its own, by the
+-- number 1a2b3c4d.
 abbrev pub order_at : ByteOrder → List ℕ → Option ByteOrder
 order_at section bytes =
     if u32_in Big bytes 0 == 168627466

@@ -102,7 +102,8 @@ pub record IsFirstBlock (before : Context) (bytes : List ℕ) (piece : PieceCont
   pub section : BeginsSection bytes
   pub block : IsBlockPiece Big before bytes piece after
 
--- the bytes begin with this piece, where the pieces before leave one context, and it leaves the next
+-- the bytes begin with this piece, where the pieces before leave one context, and it leaves the
+-- next
 abbrev pub IsPieceIn : Format → Context → List ℕ → PieceContent → Context → Type 0
 IsPieceIn Start before bytes piece after =
     IsHeaderPiece bytes piece after ⊎ IsFirstBlock before bytes piece after

@@ -62,7 +62,8 @@ wire_len_in SectionHeader order block = 0
 wire_len_in Description order block = 0
 wire_len_in Unread order block = 0
 
--- how many bytes of a simple packet were captured: all, up to the interface's limit, where 0 is none
+-- how many bytes of a simple packet were captured: all, up to the interface's limit, where 0 is
+-- none
 abbrev pub up_to_limit : ℕ → ℕ → ℕ
 up_to_limit snap_len len = if snap_len == 0 then len else min len snap_len
 

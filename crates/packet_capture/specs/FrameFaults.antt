@@ -18,8 +18,8 @@ HasLinkFault link frame fault =
 abbrev pub IsClear : IpVersion → List ℕ → Type 0
 IsClear version packet = IsIp version packet × (obstacle_in version packet ≡ None)
 
--- in the packet, in this order: the header is cut; it is bad; it says why no UDP datagram is here; the
--- frame ends before the packet; the datagram's length is bad
+-- in the packet, in this order: the header is cut; it is bad; it says why no UDP datagram is here;
+-- the frame ends before the packet; the datagram's length is bad
 abbrev pub HasPacketFault : IpVersion → List ℕ → FrameFault → Type 0
 HasPacketFault version packet fault =
     ((length packet < least_len version) × (fault ≡ ShortFrame))

@@ -18,8 +18,8 @@ abbrev pub magic_number : Bool → ℕ
 magic_number true = 2712812621
 magic_number false = 2712847316
 
--- a savefile's header: its magic, version 2.4, two numbers that are 0, the longest frame, and the link
--- type
+-- a savefile's header: its magic, version 2.4, two numbers that are 0, the longest frame, and the
+-- link type
 abbrev pub header_bytes : ByteOrder → Bool → ℕ → ℕ → List ℕ
 header_bytes order nanoseconds longest link =
     u32_bytes order (magic_number nanoseconds)
@@ -27,7 +27,8 @@ header_bytes order nanoseconds longest link =
     ++ (u32_bytes order 0 ++ (u32_bytes order 0
     ++ (u32_bytes order longest ++ u32_bytes order link)))))
 
--- a frame as it is written: its second, the parts of it, its length on the wire, and what was captured
+-- a frame as it is written: its second, the parts of it, its length on the wire, and what was
+-- captured
 pub record WrittenFrame : Type 0 where
   pub seconds : ℕ
   pub parts : ℕ

@@ -86,8 +86,8 @@ pub record Tag : Type 0 where
 abbrev pub tag_bytes : Tag → List ℕ
 tag_bytes tag = u16_bytes Big (if tag.service then 34984 else 33024) ++ u16_bytes Big tag.vlan
 
--- an Ethernet frame: two addresses of six bytes, VLAN tags, the EtherType, a packet and what fills the
--- frame
+-- an Ethernet frame: two addresses of six bytes, VLAN tags, the EtherType, a packet and what fills
+-- the frame
 abbrev pub ethernet_bytes : List ℕ → List Tag → ℕ → List ℕ → List ℕ → List ℕ
 ethernet_bytes addresses tags type packet filling =
     addresses ++ (flat_map tag_bytes tags ++ (u16_bytes Big type ++ (packet ++ filling)))

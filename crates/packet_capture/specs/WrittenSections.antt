@@ -25,8 +25,8 @@ abbrev pub interface_bytes : ByteOrder → ℕ → ℕ → List ℕ
 interface_bytes order link snap_len = block_bytes order 1
     (u16_bytes order link ++ (u16_bytes order 0 ++ u32_bytes order snap_len))
 
--- a packet as it is written: its microseconds, its length on the wire, what was captured, and what fills
--- that to a multiple of four bytes
+-- a packet as it is written: its microseconds, its length on the wire, what was captured, and what
+-- fills that to a multiple of four bytes
 pub record WrittenPacket : Type 0 where
   pub ticks : ℕ
   pub wire_len : ℕ

@@ -153,7 +153,7 @@ fn difference(a: u128, b: u128) -> Option<u64>
     Some((a - b) as u64)
 }
 
-/// Returns the nanoseconds from 1970 on of a time in the interface's units, if they are 0 to 2^64 - 1.
+/// Returns a time in the interface's units as nanoseconds from 1970 on, if they are 0 to 2^64 - 1.
 pub(crate) fn time_of(interface: &Interface, ticks: u64) -> Option<u64>
     ensures { result ≡ time_of interface.now ticks }
 {

@@ -16,8 +16,8 @@ ghost use Rattle.packet_capture.specs.WrittenSections.{WrittenPacket, IsWrittenP
 ghost use Rattle.packet_capture.specs.WrittenFrames.{WrittenDatagram, WrittenIpv4, IsWrittenIpv4, ipv4_bytes, WrittenIpv6, IsWrittenIpv6, ipv6_bytes, Tag, IsWrittenEthernet, ethernet_bytes, sent_to};
 
 /// A frame carries one datagram and has no fault, or it has one fault: with
-/// [`read_datagram`](crate::read_datagram), that one answer. The function does nothing: its contract
-/// is a law.
+/// [`read_datagram`](crate::read_datagram), that one answer. The function does nothing: its
+/// contract is a law.
 pub fn one_datagram()
     ensures datagram { (link : ℕ) (frame : List ℕ) (d e : DatagramContent)
         → CarriesDatagram link frame d → CarriesDatagram link frame e → d ≡ e }
@@ -51,8 +51,9 @@ pub fn one_reading()
         → IsCapture bytes xs → IsCapture bytes ys → xs ≡ ys }
 {}
 
-/// A savefile that was written reads back: in either byte order, with times in micro- or nanoseconds, it
-/// is a capture of the frames that were written. The function does nothing: its contract is a law.
+/// A savefile that was written reads back: in either byte order, with times in micro- or
+/// nanoseconds, it is a capture of the frames that were written. The function does nothing: its
+/// contract is a law.
 pub fn savefiles_read_back()
     ensures { (order : ByteOrder) (nanoseconds : Bool) (longest link : ℕ)
         (frames : List WrittenFrame)
@@ -61,8 +62,8 @@ pub fn savefiles_read_back()
         (map (written_frame nanoseconds link) frames) }
 {}
 
-/// A piece, or a fault, at the front of bytes stays what it is, whatever follows them. So a capture may
-/// be read as its bytes come. The function does nothing: its contract is a law.
+/// A piece, or a fault, at the front of bytes stays what it is, whatever follows them. So a capture
+/// may be read as its bytes come. The function does nothing: its contract is a law.
 pub fn read_as_bytes_come()
     ensures piece { (before after : Context) (bytes more : List ℕ) (p : PieceContent)
         → IsPiece before bytes p after → IsPiece before (bytes ++ more) p after }
@@ -70,9 +71,9 @@ pub fn read_as_bytes_come()
         → StopsReading before bytes (Bad f) → StopsReading before (bytes ++ more) (Bad f) }
 {}
 
-/// A datagram that was written into an Ethernet frame, with up to two VLAN tags, in a packet of IPv4 with
-/// or without options or of IPv6, reads back, whatever fills the frame. The function does nothing: its
-/// contract is a law.
+/// A datagram that was written into an Ethernet frame, with up to two VLAN tags, in a packet of
+/// IPv4 with or without options or of IPv6, reads back, whatever fills the frame. The function does
+/// nothing: its contract is a law.
 pub fn frames_read_back()
     ensures ipv4 { (heads : List ℕ) (tags : List Tag) (packet : WrittenIpv4)
         (d : WrittenDatagram) (filling : List ℕ)
@@ -86,8 +87,8 @@ pub fn frames_read_back()
         (sent_to (addresses.V6 packet.destination) d) }
 {}
 
-/// A section that was written reads back: in either byte order, with one interface, it is a capture of the
-/// frames that were written. The function does nothing: its contract is a law.
+/// A section that was written reads back: in either byte order, with one interface, it is a capture
+/// of the frames that were written. The function does nothing: its contract is a law.
 pub fn sections_read_back()
     ensures { (order : ByteOrder) (link snap_len : ℕ) (packets : List WrittenPacket)
         → snap_len < 2 ^ 32 → AllByRecursion IsWrittenPacket packets

@@ -9,8 +9,8 @@
 //! offsets that the formats' documents give.
 //!
 //! The laws [`told_once`] and [`one_datagram`] say that either call has one right answer, and
-//! [`one_reading`] that a capture has one list of frames. [`read_as_bytes_come`] says that more bytes
-//! change nothing of a piece or a fault. [`savefiles_read_back`], [`sections_read_back`] and
+//! [`one_reading`] that a capture has one list of frames. [`read_as_bytes_come`] says that more
+//! bytes change nothing of a piece or a fault. [`savefiles_read_back`], [`sections_read_back`] and
 //! [`frames_read_back`] tie the definitions to captures as they are written, which
 //! `specs/Written.antt`, `specs/WrittenSections.antt` and `specs/WrittenFrames.antt` state apart.
 //!

@@ -10,8 +10,8 @@ use crate::fields::{ByteOrder, read_u16, read_u32};
 /// The link type of a frame: what is before its IP packet.
 #[derive(Clone, Copy, Debug, PartialEq, Eq, Hash)]
 pub enum LinkType {
-    /// Number 0, of a loopback interface: the address family in four bytes, in the byte order of the
-    /// machine.
+    /// Number 0, of a loopback interface: the address family in four bytes, in the byte order of
+    /// the machine.
     Null,
     /// Number 1: two addresses, up to two VLAN tags, and the EtherType.
     Ethernet,
@@ -171,8 +171,8 @@ fn version_in(link: LinkType, frame: &[u8], len: usize) -> Option<IpVersion>
     }
 }
 
-/// Returns the IP packet that a frame carries, with its version, or `ShortFrame` where the frame ends
-/// before it, or `NotIp`.
+/// Returns the IP packet that a frame carries, with its version, or `ShortFrame` where the frame
+/// ends before it, or `NotIp`.
 pub(crate) fn read_link(link: LinkType, frame: &[u8]) -> Result<(IpVersion, &[u8]), FrameFault>
     ensures found { IfOk result (λ r. HasPacket link frame.now r.0) }
     ensures packet { IfOk result (λ r. r.1.now ≡ packet_in link frame.now) }

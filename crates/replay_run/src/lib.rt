@@ -62,9 +62,9 @@ pub fn a_session_comes_through()
         → ComesThrough s place (session_of name messages) }
 {}
 
-/// Reads a capture to its end, and writes its text ([`feed_text::replay::replay`]): that of a run of
-/// the machine over the capture's records, of which the headline holds. So are the lines that are
-/// written before a fault is answered.
+/// Reads a capture to its end, and writes its text ([`feed_text::replay::replay`]): that of a run
+/// of the machine over the capture's records, of which the headline holds. So are the lines that
+/// are written before a fault is answered.
 pub fn replay<R: CaptureIn, W: TextOut>(
     alloc: Global,
     config: &ReplayConfig<'_>,

@@ -8,8 +8,8 @@ past : {A : Type 0} → ⊥ ⊎ A → A
 past (inl z) = absurd z
 past (inr a) = a
 
--- The first code of a closure is that of this function; the crates below have kinds of stored values, too, and none of
--- them is made here.
+-- The first code of a closure is that of this function; the crates below have kinds of stored
+-- values, too, and none of them is made here.
 pub new-strategy-requires-clause-right : goal.new-strategy-requires-clause-right
 new-strategy-requires-clause-right g = boxed_allowed _ _ (elim [
   | inl u ↦ λ p q n r e. search (rules, e)

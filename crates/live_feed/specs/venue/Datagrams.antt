@@ -50,8 +50,8 @@ pub record IsPacketTaken (sessions : SessionNames) (carries : Carries) (ends : E
   pub answered : IsAnsweredAt sessions carries ends lanes old packet answer
   pub seat : new ≡ seat_after old packet answer
 
--- The answer to a datagram, and the seat then: the packet's fault exactly; or it is a packet, and the
--- answer is the venue's.
+-- The answer to a datagram, and the seat then: the packet's fault exactly; or it is a packet, and
+-- the answer is the venue's.
 abbrev pub IsTakenBy : SessionNames → Carries → Ends → FeedLanes → List ℕ → SeatState
     → Result Outcome TakeFault → SeatState → Type 0
 IsTakenBy sessions carries ends lanes bytes old (Err (faults.Packet fault)) new =

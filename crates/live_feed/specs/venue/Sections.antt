@@ -30,8 +30,8 @@ pub record TakesPacket (line : LineId) (p : Content) (answer : Result Outcome Li
   pub taken : AddsArrival old.arbiter.window old.arbiter.sent line p h answer after
   pub fits : FitsCell new after
 
--- Where the lines bring exactly these sessions, a packet of one of them is accepted, or is of another
--- session than the present one.
+-- Where the lines bring exactly these sessions, a packet of one of them is accepted, or is of
+-- another session than the present one.
 abbrev pub AcceptsTheirPacket : SessionNames → Carries → Ends → ℕ → Content
     → Result Outcome LineFault → Type 0
 AcceptsTheirPacket sessions carries ends venue p answer =

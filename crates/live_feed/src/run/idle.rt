@@ -18,8 +18,8 @@ pub(crate) fn is_tired(looks: u32) -> bool {
     looks >= LOOKS_AWAKE
 }
 
-/// Waits a moment, or until the notification that the key waits for, and returns how often the thread
-/// has looked since it last worked or slept.
+/// Waits a moment, or until the notification that the key waits for, and returns how often the
+/// thread has looked since it last worked or slept.
 pub(crate) fn rest<W: Wait>(rt: &W, looks: u32, key: Option<Key<'_>>) -> u32 {
     if let Some(key) = key {
         key.wait(rt);

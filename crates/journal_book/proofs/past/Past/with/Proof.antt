@@ -1,4 +1,4 @@
--- A walk through `with`: of the past that it makes, which has no bytes, the entries are chosen here.
+-- A walk through `with`: of the past that it makes, without bytes, the entries are chosen here.
 use mathlib.Core.Path.{refl}
 use mathlib.Core.List.{[], ◌∷◌, ◌++◌}
 use seplogic.Ra.Ura.{Ura}
