@@ -9,7 +9,7 @@
 //!
 //! - take a packet: `take`;
 //! - look first at a packet that needs no place in the window, and take it then: `peek_in_order`
-//! and `take_in_order`;
+//!   and `take_in_order`;
 //! - take items out: `next_ready` and `advance`;
 //! - read the cursors, and what to ask for: `status`, `gap` and `wins`;
 //! - read the session, and begin the next one: `venue`, `session`, `ordinal` and `renew`.
