@@ -1,8 +1,10 @@
 -- A book as a whole: new, and after one more entry.
-use Rattle.std.proofs.Common.{ℕ, zero, suc, ◌<◌, ◌≤◌, ◌≡◌, ◌+◌, List, [], ◌∷◌, ◌++◌, Bool, true, false, refl, ap, sym, ◌∙◌, subst, arith, length, map, take, replicate, Some, None, get_or, length-append}
+use Rattle.std.proofs.Common.{ℕ, zero, suc, ◌<◌, ◌≤◌, ◌≡◌, ◌+◌, List, [], ◌∷◌, ◌++◌, Bool, true, false, refl, ap, sym, ◌∙◌, subst, arith, length, map, take, replicate, Some, None, get_or, length-append, Vec}
 use Rattle.std.specs.Prelude.{position, is_some, slice_index_or}
 use Rattle.std.specs.List.{AllByRecursion, filter_map}
 use Rattle.std.specs.Str.{bytes_eq}
+use Rattle.std.specs.Vec.{with_items}
+use Rattle.std.proofs.lemmas.List.{with_items_is}
 use Rattle.feed_types.specs.declared.journal.Entry.{Entry}
 use Rattle.feed_types.specs.declared.journal.Entry.TheVariants.{Consumed, SelfHelp}
 use Rattle.feed_types.specs.declared.line.Side.{Side}
@@ -13,8 +15,8 @@ use Rattle.nbbo_book.specs.Eligible.{ranked_by, is_self_helped}
 use Rattle.nbbo_book.specs.Nationals.{national_of, IsRanking}
 use Rattle.nbbo_book.specs.Changes.{changes_by}
 use Rattle.nbbo_book.specs.Books.{BookState, RowFits, FitsBook, venue_of}
-use Rattle.nbbo_book.specs.Rows.{may_at, side_at, row_after, row_change, national_at, helped_after, empty_row}
-use Rattle.nbbo_book.specs.Tables.{IsSide, IsRow, IsBook, IsTable, symbols_in_rows}
+use Rattle.nbbo_book.specs.Rows.{may_at, side_at, row_after, row_change, national_at, helped_after, empty_row, ShowsSymbol}
+use Rattle.nbbo_book.specs.Tables.{IsSide, IsRow, IsBook, IsTable, symbols_in_rows, book_state_of}
 use Rattle.nbbo_book.specs.VenueSides.{venue_side_at}
 use Rattle.nbbo_book.specs.BookSides.{empty_side}
 use Rattle.nbbo_book.proofs.Eligibility.{ranking_is}
@@ -24,14 +26,8 @@ use Rattle.nbbo_book.proofs.Stepping.{rows_are, rows_fit, rows_keep_symbols, cha
 
 abbrev pub book_after : ℕ → Entry → BookState → BookState
 book_after last e b =
-    record {
-      symbols = symbols_in_rows (map (row_after (helped_after e b.helped) (b.applied + 1) e) b.rows);
-      venues = b.venues;
-      last = last;
-      applied = b.applied + 1;
-      helped = helped_after e b.helped;
-      rows = map (row_after (helped_after e b.helped) (b.applied + 1) e) b.rows;
-    }
+    let helped = helped_after e b.helped in
+    book_state_of (map (row_after helped (b.applied + 1) e) b.rows) b.venues last (b.applied + 1) helped
 
 helped_long : (e : Entry) (helped : List Bool) → length (helped_after e helped) ≡ length helped
 helped_long (Consumed v x) helped = refl
@@ -69,8 +65,23 @@ after_changes keys b e p es below h fits =
     (let a = fits.applied in omega (arith, a)) fits.helped h.rows fits.rows
     ∙ ap (λ ss. changes_by ss es p e) (sym h.symbols)
 
+pub after_symbols : (last : ℕ) (e : Entry) (b : BookState)
+    → (book_after last e b).symbols ≡ symbols_in_rows b.rows
+after_symbols last e b = rows_keep_symbols (helped_after e b.helped) (b.applied + 1) e b.rows
+
+-- the parts that a step leaves make the book after it
+pub next_book : {Z : Type 0} (b : BookState) (e : Entry) (last venues : ℕ) (v : Vec Row Z) (rows old : List Row)
+    (helped : List Bool) → length rows ≡ v.len → rows ≡ map (row_after helped (b.applied + 1) e) old → old ≡ b.rows
+    → helped ≡ helped_after e b.helped → venues ≡ b.venues
+    → book_state_of (with_items v rows).items venues last (b.applied + 1) helped ≡ book_after last e b
+next_book b e last venues v rows old helped long mapped was flags count =
+    ap (λ (t : List Row). book_state_of t venues last (b.applied + 1) helped)
+    (with_items_is v rows long ∙ mapped ∙ ap (map (row_after helped (b.applied + 1) e)) was)
+    ∙ ap (λ (t : List Bool). book_state_of (map (row_after t (b.applied + 1) e) b.rows) venues last (b.applied + 1) t) flags
+    ∙ ap (λ (n : ℕ). book_state_of (book_after last e b).rows n last (b.applied + 1) (helped_after e b.helped)) count
+
 -- the row at the place that a symbol was found
-pub national_found : (keys : List ℕ) (b : BookState) (es : List Entry) (s : List ℕ) (i : ℕ) (d : Row) → IsBook keys b
+national_found : (keys : List ℕ) (b : BookState) (es : List Entry) (s : List ℕ) (i : ℕ) (d : Row) → IsBook keys b
     → FitsBook b es → position (bytes_eq s) (symbols_in_rows b.rows) ≡ Some i
     → national_at (get_or b.rows i d) ≡ national_of es s
 national_found keys b es s i d h fits at =
@@ -92,7 +103,7 @@ row_ranking es Offer helped n r flags h fits =
     (side_ranking es r.symbol Offer (may_at helped r.halted) n (side_at Offer r) (may_is es helped r flags fits)
     fits.offers h.offers)
 
-pub ranking_found : (keys : List ℕ) (b : BookState) (es : List Entry) (s : List ℕ) (side : Side) (i : ℕ) (d : Row)
+ranking_found : (keys : List ℕ) (b : BookState) (es : List Entry) (s : List ℕ) (side : Side) (i : ℕ) (d : Row)
     → IsBook keys b → FitsBook b es → position (bytes_eq s) (symbols_in_rows b.rows) ≡ Some i
     → IsRanking es s side (side_at side (get_or b.rows i d)).ranks
 ranking_found keys b es s side i d h fits at =
@@ -102,6 +113,14 @@ ranking_found keys b es s side i d h fits at =
     (row_ranking es side b.helped (b.applied + 1) r fits.helped
     (all_rows_at (IsRow b.helped (b.applied + 1)) b.rows i d found.0 h.rows)
     (all_rows_at (RowFits es) b.rows i d found.0 fits.rows))
+
+-- what a book keeps of the symbol that was found there
+pub found_shows : (keys : List ℕ) (b : BookState) (es : List Entry) (s : List ℕ) (i : ℕ) (d : Row) → IsBook keys b
+    → FitsBook b es → position (bytes_eq s) (symbols_in_rows b.rows) ≡ Some i → ShowsSymbol es s (get_or b.rows i d)
+found_shows keys b es s i d h fits at = record {
+  national = national_found keys b es s i d h fits at;
+  ranking = λ side. ranking_found keys b es s side i d h fits at;
+}
 
 -- a new book
 all_alike : {X : Type 0} (n v : ℕ) (x : X) → get_or (replicate n x) v x ≡ x

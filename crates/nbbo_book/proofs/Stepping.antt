@@ -24,7 +24,7 @@ use Rattle.nbbo_book.specs.Nationals.{national_of, best_of}
 use Rattle.nbbo_book.specs.Changes.{is_same_best, is_same_national, change_of, changes_by}
 use Rattle.nbbo_book.specs.Books.{SideFits, RowFits, venue_of}
 use Rattle.nbbo_book.specs.Ranks.{best_of_ranks, IsRankingOf}
-use Rattle.nbbo_book.specs.Rows.{may_at, row_quoted, row_rechecked, row_halted, row_after, row_after_item, row_change, national_at, helped_after, symbol_in, symbol_in_item, IsRowRanked}
+use Rattle.nbbo_book.specs.Rows.{may_at, row_quoted, row_rechecked, row_halted, row_after, row_after_item, row_change, told_where, national_at, helped_after, symbol_in, symbol_in_item, IsRowRanked}
 use Rattle.nbbo_book.specs.Tables.{IsSide, IsRow, symbols_in_rows}
 use Rattle.nbbo_book.specs.declared.book_side.BookSide.{BookSide}
 use Rattle.nbbo_book.specs.VenueSides.{venue_side_at, age_at}
@@ -231,40 +231,22 @@ pub second_moved : (r s p q : Bool) → r ≡ false → r ≡ not p → s ≡ no
 second_moved r s true q f m n = n
 second_moved r s false q f m n = (let no : false ≡ true = sym f ∙ m in cc)
 
-not_is : (b : Bool) → not b ≡ true → b ≡ false
-not_is true h = sym h
-not_is false h = refl
-
-not_isnt : (b : Bool) → not b ≡ false → b ≡ true
-not_isnt true h = refl
-not_isnt false h = sym h
-
--- what is appended where the national best differs, and where it doesn't
-pub change_told : (helped : List Bool) (n p : ℕ) (e : Entry) (r next : Row) (moved : Bool) (x : National)
+-- what is appended for a symbol is its change
+pub told_is : (helped : List Bool) (n p : ℕ) (e : Entry) (r next : Row) (moved : Bool)
     → next ≡ row_after helped n e r → moved ≡ not (is_same_national (national_at r) (national_at next))
-    → moved ≡ true → x ≡ national_at next
-    → record { position = p; symbol = next.symbol; national = x } ∷ [] ≡ option_to_list (row_change helped n p e r)
-change_told helped n p e r next moved x is says true_now told =
-    let differs : is_same_national (national_at r) (national_at (row_after helped n e r)) ≡ false =
-    ap (λ (t : Row). is_same_national (national_at r) (national_at t)) (sym is)
-    ∙ not_is (is_same_national (national_at r) (national_at next)) (sym says ∙ true_now) in
-    ap (λ (s : List ℕ). record { position = p; symbol = s; national = x } ∷ [])
-    (ap (λ (t : Row). t.symbol) is ∙ row_keeps_symbol helped n e r)
-    ∙ ap (λ (y : National). record { position = p; symbol = r.symbol; national = y } ∷ []) (told ∙ ap national_at is)
-    ∙ ap (λ t. option_to_list (cond t None
-    (Some (record { position = p; symbol = r.symbol; national = national_at (row_after helped n e r) }))))
-    (sym differs)
-
-pub change_untold : (helped : List Bool) (n p : ℕ) (e : Entry) (r next : Row) (moved : Bool)
-    → next ≡ row_after helped n e r → moved ≡ not (is_same_national (national_at r) (national_at next))
-    → moved ≡ false → [] ≡ option_to_list (row_change helped n p e r)
-change_untold helped n p e r next moved is says false_now =
-    let same : is_same_national (national_at r) (national_at (row_after helped n e r)) ≡ true =
-    ap (λ (t : Row). is_same_national (national_at r) (national_at t)) (sym is)
-    ∙ not_isnt (is_same_national (national_at r) (national_at next)) (sym says ∙ false_now) in
-    ap (λ t. option_to_list (cond t None
-    (Some (record { position = p; symbol = r.symbol; national = national_at (row_after helped n e r) }))))
-    (sym same)
+    → told_where moved p next ≡ row_change helped n p e r
+told_is helped n p e r next moved is says =
+    let after : Row = row_after helped n e r in
+    let R : Bool → Type 0 = λ b. told_where (not b) p after ≡ cond b None
+    (Some (record { position = p; symbol = r.symbol; national = national_at after })) in
+    ap (λ (b : Bool). told_where b p next)
+    (says ∙ ap (λ (t : Row). not (is_same_national (national_at r) (national_at t))) is)
+    ∙ ap (λ (t : Row). told_where (not (is_same_national (national_at r) (national_at after))) p t) is
+    ∙ (elim (is_same_national (national_at r) (national_at after)) as R [
+      | true ↦ refl
+      | false ↦ ap (λ (s : List ℕ). Some (record { position = p; symbol = s; national = national_at after }))
+          (row_keeps_symbol helped n e r)
+    ])
 
 quiet : (helped : List Bool) (n p : ℕ) (e : Entry) (r : Row) → row_after helped n e r ≡ r
     → row_change helped n p e r ≡ None

@@ -1,5 +1,5 @@
--- What a book keeps of a symbol, and how an entry changes it. Cited by private clauses alone.
-use Rattle.std.specs.Prelude.{ℕ, List, Bool, false, not, ◌≡◌, ◌&&◌, ◌++◌, map, Option, Some, None, slice_index_or, slice_set, replicate, if◌then◌else◌}
+-- Cited by private clauses alone: what a book keeps of a symbol, and how an entry changes it.
+use Rattle.std.specs.Prelude.{ℕ, List, Bool, false, true, not, ◌≡◌, ◌&&◌, ◌++◌, map, Option, Some, None, slice_index_or, slice_set, replicate, if◌then◌else◌}
 use Rattle.std.specs.List.{filter_map}
 use Rattle.std.specs.Str.{bytes_eq}
 use Rattle.feed_types.specs.declared.journal.Entry.{Entry}
@@ -13,7 +13,9 @@ use Rattle.feed_types.specs.declared.national.National.{National}
 use Rattle.nbbo_book.specs.declared.book_side.BookSide.{BookSide}
 use Rattle.nbbo_book.specs.declared.row.Row.{Row}
 use Rattle.nbbo_book.specs.declared.change.Change.{Change}
+use Rattle.nbbo_book.specs.declared.steps.Step.{Step}
 use Rattle.nbbo_book.specs.Sides.{quoted_by}
+use Rattle.nbbo_book.specs.Nationals.{IsRanking, national_of}
 use Rattle.nbbo_book.specs.Changes.{change_of}
 use Rattle.nbbo_book.specs.Ranks.{best_of_ranks}
 use Rattle.nbbo_book.specs.BookSides.{ArePast, IsRanked, empty_side, side_quoted, side_rechecked}
@@ -96,12 +98,29 @@ row_change helped age position entry row =
     change_of position row.symbol
     (national_at row) (national_at (row_after helped age entry row))
 
--- every symbol is as after one more entry, and its changes follow the earlier ones
-pub record Applies
-    (helped : List Bool) (age position : ℕ) (entry : Entry)
-    (old new : List Row) (told telling : List Change) : Type 0 where
-  pub rows : new ≡ map (row_after helped age entry) old
-  pub items : telling ≡ told ++ filter_map (row_change helped age position entry) old
+-- a symbol after a step
+abbrev pub row_stepped : Step → Row → Row
+row_stepped step = row_after step.venues.now.helped step.age step.entry.now
+
+-- its change, if any
+abbrev pub row_told : Step → Row → Option Change
+row_told step = row_change step.venues.now.helped step.age step.position step.entry.now
+
+-- every symbol is as after the step, and their changes come after those that were there
+pub record Applies (step : Step) (old new : List Row) (before after : List Change) : Type 0 where
+  pub rows : new ≡ map (row_stepped step) old
+  pub items : after ≡ before ++ filter_map (row_told step) old
+
+-- the symbol's national best as a change, where it has changed
+abbrev pub told_where : Bool → ℕ → Row → Option Change
+told_where false position row = None
+told_where true position row =
+    Some (record { position = position; symbol = row.symbol; national = national_at row })
+
+-- what is kept of a symbol gives its national best and its ranks after these entries
+pub record ShowsSymbol (entries : List Entry) (symbol : List ℕ) (row : Row) : Type 0 where
+  pub national : national_at row ≡ national_of entries symbol
+  pub ranking : (side : Side) → IsRanking entries symbol side (side_at side row).ranks
 
 -- the symbol that a quotation or a halt is of
 abbrev pub symbol_in_item : Item → Option (List ℕ)

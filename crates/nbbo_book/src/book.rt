@@ -8,7 +8,7 @@ ghost use Rattle.nbbo_book.specs.Eligible.{is_self_helped as self_helped};
 ghost use Rattle.nbbo_book.specs.Nationals.{national_of, IsRanking};
 ghost use Rattle.nbbo_book.specs.Changes.{changes_by};
 ghost use Rattle.nbbo_book.specs.Refusals.{ConfiguresBook};
-ghost use Rattle.nbbo_book.specs.Rows.{empty_row};
+ghost use Rattle.nbbo_book.specs.Rows.{empty_row, ShowsSymbol};
 
 use crate::book_side::BookSide;
 use crate::change::Change;
@@ -152,14 +152,24 @@ impl Book {
         true
     }
 
+    /// Returns what is kept of the symbol, `None` exactly where it isn't configured.
+    #[inline(always)]
+    fn row_of(&self, symbol: &SymbolName) -> Option<&Row>
+        ensures configured { IsSome result ↔ IsTrue (is_configured self.now.symbols symbol.now) }
+        ensures shows { (entries : List Entry) → FitsBook self.now entries
+            → IfSome result (λ row. ShowsSymbol entries symbol.now row.now) }
+    {
+        let place = find(&self.table, self.rows.as_slice(), *symbol)?;
+        Some(&self.rows[place])
+    }
+
     /// Returns the national best of the symbol, `None` exactly where it isn't configured.
     pub fn national(&self, symbol: &SymbolName) -> Option<National>
         ensures configured { IsSome result ↔ IsTrue (is_configured self.now.symbols symbol.now) }
         ensures value { (entries : List Entry) → FitsBook self.now entries
             → IfSome result (λ national. national ≡ national_of entries symbol.now) }
     {
-        let place = find(&self.table, self.rows.as_slice(), *symbol)?;
-        Some(self.rows[place].national())
+        Some(self.row_of(symbol)?.national())
     }
 
     /// Lends the eligible sides of the symbol, best first: each is before those that it beats.
@@ -169,8 +179,7 @@ impl Book {
         ensures ranking { (entries : List Entry) → FitsBook self.now entries
             → IfSome result (λ ranks. IsRanking entries symbol.now side ranks.now) }
     {
-        let place = find(&self.table, self.rows.as_slice(), *symbol)?;
-        Some(self.rows[place].ranks(side))
+        Some(self.row_of(symbol)?.ranks(side))
     }
 
     /// Returns whether self-help is declared on the venue.

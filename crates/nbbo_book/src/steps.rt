@@ -1,10 +1,10 @@
 //! One more entry, applied to what is kept of the symbols.
 
-ghost use Rattle.std.specs.Prelude.{◌≡◌, ◌++◌, ◌∷◌, [], ◌+◌, ◌<◌, ◌≤◌, length, Some};
+ghost use Rattle.std.specs.Prelude.{◌≡◌, ◌++◌, ◌+◌, ◌<◌, ◌≤◌, length, Some};
 ghost use Rattle.std.specs.List.{AllByRecursion};
 ghost use Rattle.std.specs.Vec.{vec_len, vec_capacity};
 ghost use Rattle.std.specs.Option.{option_to_list};
-ghost use Rattle.nbbo_book.specs.Rows.{IsRowRanked, row_after, row_change, symbol_in, Applies};
+ghost use Rattle.nbbo_book.specs.Rows.{IsRowRanked, symbol_in, told_where, Applies};
 ghost use Rattle.nbbo_book.specs.Tables.{IsTable, symbols_in_rows};
 
 use crate::change::Change;
@@ -24,58 +24,24 @@ pub struct Step<'a> {
     pub position: u64,
 }
 
-/// Appends a change to `out`, which has room for it.
+/// Appends the symbol's change to `out`, which has room for it, where its national best has changed.
 #[inline(always)]
-fn append(out: &mut Vec<Change>, position: u64, symbol: SymbolName, national: National)
-    requires { vec_len out.old < vec_capacity out.old }
-    ensures items { out.new.items
-        ≡ out.old.items
-        ++ record { position = position; symbol = symbol; national = national } ∷ [] }
-    ensures len { vec_len out.new ≡ vec_len out.old + 1 }
-    ensures capacity { vec_capacity out.new ≡ vec_capacity out.old }
-{
-    let bid: Option<Best> = national.bid;
-    let offer: Option<Best> = national.offer;
-    out.push_reserved(Change {
-        position,
-        symbol,
-        national: National { bid, offer },
-    });
-}
-
-/// Applies the entry to the symbol, and appends its change, if any.
-#[inline(always)]
-fn step_row(row: &mut Row, step: &Step<'_>, out: &mut Vec<Change>)
-    requires ranked { IsRowRanked step.now.age row.old }
+fn append_change(has_changed: bool, position: u64, row: &Row, out: &mut Vec<Change>)
     requires room { vec_len out.old < vec_capacity out.old }
-    ensures row { row.new ≡ row_after step.now.venues.now.helped step.now.age
-        step.now.entry.now row.old }
     ensures items { out.new.items
-        ≡ out.old.items ++ option_to_list (row_change step.now.venues.now.helped step.now.age
-        step.now.position step.now.entry.now row.old) }
+        ≡ out.old.items ++ option_to_list (told_where has_changed position row.now) }
     ensures len { vec_len out.new ≤ vec_len out.old + 1 }
     ensures capacity { vec_capacity out.new ≡ vec_capacity out.old }
 {
-    if row.take_entry(step.venues, step.entry, step.age) {
-        append(out, step.position, row.symbol, row.national());
-    }
-}
-
-/// Applies the entry, which concerns each symbol, to this one, and appends its change, if any.
-#[inline(always)]
-fn step_each(row: &mut Row, step: &Step<'_>, out: &mut Vec<Change>)
-    requires ranked { IsRowRanked step.now.age row.old }
-    requires room { vec_len out.old < vec_capacity out.old }
-    ensures row { row.new ≡ row_after step.now.venues.now.helped step.now.age
-        step.now.entry.now row.old }
-    ensures items { out.new.items
-        ≡ out.old.items ++ option_to_list (row_change step.now.venues.now.helped step.now.age
-        step.now.position step.now.entry.now row.old) }
-    ensures len { vec_len out.new ≤ vec_len out.old + 1 }
-    ensures capacity { vec_capacity out.new ≡ vec_capacity out.old }
-{
-    if row.take_entry_of_all(step.venues, step.entry, step.age) {
-        append(out, step.position, row.symbol, row.national());
+    if has_changed {
+        let national = row.national();
+        let bid: Option<Best> = national.bid;
+        let offer: Option<Best> = national.offer;
+        out.push_reserved(Change {
+            position,
+            symbol: row.symbol,
+            national: National { bid, offer },
+        });
     }
 }
 
@@ -84,13 +50,14 @@ fn step_each(row: &mut Row, step: &Step<'_>, out: &mut Vec<Change>)
 fn step_rows(rows: &mut [Row], step: &Step<'_>, out: &mut Vec<Change>)
     requires ranked { AllByRecursion (IsRowRanked step.now.age) rows.old }
     requires room { vec_len out.old + length rows.old ≤ vec_capacity out.old }
-    ensures applies { Applies step.now.venues.now.helped step.now.age step.now.position
-        step.now.entry.now rows.old rows.new out.old.items out.new.items }
+    ensures applies { Applies step.now rows.old rows.new out.old.items out.new.items }
     ensures len { vec_len out.new ≤ vec_len out.old + length rows.old }
     ensures capacity { vec_capacity out.new ≡ vec_capacity out.old }
 {
     for i in 0..rows.len() {
-        step_each(&mut rows[i], step, out);
+        let row = &mut rows[i];
+        let has_changed = row.take_entry_of_all(step.venues, step.entry, step.age);
+        append_change(has_changed, step.position, row, out);
     }
 }
 
@@ -107,13 +74,14 @@ fn step_symbol(
     requires table { IsTable (symbols_in_rows rows.old) table.now.words.keys }
     requires ranked { AllByRecursion (IsRowRanked step.now.age) rows.old }
     requires room { vec_len out.old + length rows.old ≤ vec_capacity out.old }
-    ensures applies { Applies step.now.venues.now.helped step.now.age step.now.position
-        step.now.entry.now rows.old rows.new out.old.items out.new.items }
+    ensures applies { Applies step.now rows.old rows.new out.old.items out.new.items }
     ensures len { vec_len out.new ≤ vec_len out.old + length rows.old }
     ensures capacity { vec_capacity out.new ≡ vec_capacity out.old }
 {
     if let Some(i) = find(table, rows, symbol) {
-        step_row(&mut rows[i], step, out);
+        let row = &mut rows[i];
+        let has_changed = row.take_entry(step.venues, step.entry, step.age);
+        append_change(has_changed, step.position, row, out);
     }
 }
 
@@ -124,8 +92,7 @@ pub fn apply_step(table: &Table, rows: &mut [Row], step: &Step<'_>, out: &mut Ve
     requires table { IsTable (symbols_in_rows rows.old) table.now.words.keys }
     requires ranked { AllByRecursion (IsRowRanked step.now.age) rows.old }
     requires room { vec_len out.old + length rows.old ≤ vec_capacity out.old }
-    ensures applies { Applies step.now.venues.now.helped step.now.age step.now.position
-        step.now.entry.now rows.old rows.new out.old.items out.new.items }
+    ensures applies { Applies step.now rows.old rows.new out.old.items out.new.items }
     ensures len { vec_len out.new ≤ vec_len out.old + length rows.old }
     ensures capacity { vec_capacity out.new ≡ vec_capacity out.old }
 {

@@ -18,7 +18,7 @@ const MAX_SYMBOLS: usize = 4096;
 /// The symbols' words: one number hashes faster than eight bytes.
 pub type Words = IndexSet<u64>;
 
-/// The place of each symbol, and a guess at it.
+/// The symbols' words, in order, and a cache of where each symbol stands.
 #[derive(Drop)]
 pub struct Table {
     pub words: Words,
@@ -68,15 +68,15 @@ pub fn symbol_table(alloc: Global, symbols: &[SymbolName]) -> Result<Table, Book
     }
 }
 
-/// Returns the place of the symbol. Most often that is the guess.
+/// Returns where the symbol stands. Most often the cache has it.
 #[inline(always)]
 pub fn find(table: &Table, rows: &[Row], symbol: SymbolName) -> Option<usize>
     requires { IsTable (symbols_in_rows rows.now) table.now.words.keys }
     ensures { result ≡ position (bytes_eq symbol) (symbols_in_rows rows.now) }
 {
-    let guess = table.cache.place_of(symbol.word());
-    if guess < rows.len() && rows[guess].is_of(symbol) {
-        return Some(guess);
+    let cached = table.cache.place_of(symbol.word());
+    if cached < rows.len() && rows[cached].is_of(symbol) {
+        return Some(cached);
     }
     table.words.get_index_of(&symbol.word())
 }

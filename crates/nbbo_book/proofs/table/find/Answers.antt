@@ -13,9 +13,9 @@ pub returns-then-is_of : goal.returns-then-is_of
 returns-then-is_of c =
     let rows : List Row = c.args.rows.now in
     let distinct = symbols_apart (symbols_in_rows rows) c.args.table.now.words.keys c.requires in
-    sym (place_found rows c.args.symbol c.place_of-guess.result c.index-rows-guess.result distinct
-    (omega (arith, c.if-guess-rows.true))
-    (ap (λ (row : Row). bytes_eq c.args.symbol row.symbol) (sym c.index-rows-guess.is) ∙ sym c.is_of.ensures
+    sym (place_found rows c.args.symbol c.place_of-cached.result c.index-rows-cached.result distinct
+    (omega (arith, c.if-cached-rows.true))
+    (ap (λ (row : Row). bytes_eq c.args.symbol row.symbol) (sym c.index-rows-cached.is) ∙ sym c.is_of.ensures
     ∙ c.if-is_of.true))
 
 pub returns : goal.returns

@@ -1,13 +1,13 @@
-use Rattle.std.proofs.Common.{position, List, ◌≡◌, ◌∙◌, ap, sym, subst, refl, true, false, Some, None}
-use Rattle.std.specs.Prelude.{is_some}
+use Rattle.std.proofs.Common.{List, ◌≡◌, ◌∙◌, ap, sym, subst, refl, true, false, Some, None}
+use Rattle.std.specs.Prelude.{position, is_some}
 use Rattle.std.specs.Str.{bytes_eq}
 use Rattle.nbbo_book.specs.declared.row.Row.{Row}
 use Rattle.nbbo_book.specs.Books.{BookState, FitsBook, is_configured}
-use Rattle.nbbo_book.specs.Rows.{national_at}
-use Rattle.nbbo_book.specs.Tables.{symbols_in_rows}
+use Rattle.nbbo_book.specs.Rows.{ShowsSymbol}
+use Rattle.nbbo_book.specs.Tables.{symbols_in_rows, book_state_of}
 use Rattle.nbbo_book.proofs.Words.{found_configured, missed_configured}
-use Rattle.nbbo_book.proofs.BookFits.{national_found}
-use Rattle.nbbo_book.proofs.book.Book.national.Goals as goal
+use Rattle.nbbo_book.proofs.BookFits.{found_shows}
+use Rattle.nbbo_book.proofs.book.Book.row_of.Goals as goal
 
 pub returns-in_err-place-clause-configured : goal.returns-in_err-place-clause-configured
 returns-in_err-place-clause-configured c =
@@ -31,22 +31,12 @@ returns-clause-configured c =
     c.as_slice.ensures.value) ∙ was) in
     ((λ h. found), (λ h. refl))
 
-pub returns-clause-value : goal.returns-clause-value
-returns-clause-value c = λ entries fits.
-    let was : c.find.result ≡ Some c.in_ok-place.place = c.in_ok-place.was in
-    let b : BookState = record {
-      symbols = symbols_in_rows c.self.inside.rows.items;
-      venues =
-          c.self.inside.venues.count;
-      last = c.self.inside.last;
-      applied = c.self.inside.applied;
-      helped =
-          c.self.inside.venues.helped;
-      rows = c.self.inside.rows.items;
-    } in
-    let here : FitsBook b entries = subst (λ (t : BookState). FitsBook t entries) (sym c.self.view_is) fits in
-    c.national.ensures ∙ ap national_at c.index.ensures
-    ∙ national_found c.self.inside.table.words.keys b entries c.args.symbol.now c.in_ok-place.place
-    c.index.result.now c.self.invariant here
+pub returns-clause-shows : goal.returns-clause-shows
+returns-clause-shows c = λ entries fits.
+    let b = book_state_of c.self.inside.rows.items c.self.inside.venues.count c.self.inside.last c.self.inside.applied
+    c.self.inside.venues.helped in
+    subst (ShowsSymbol entries c.args.symbol.now) (sym c.index.ensures)
+    (found_shows c.self.inside.table.words.keys b entries c.args.symbol.now c.in_ok-place.place c.index.result.now
+    c.self.invariant (subst (λ (t : BookState). FitsBook t entries) (sym c.self.view_is) fits)
     (sym (c.find.ensures ∙ ap (λ (t : List Row). position (bytes_eq c.args.symbol.now) (symbols_in_rows t))
-    c.as_slice.ensures.value) ∙ was)
+    c.as_slice.ensures.value) ∙ c.in_ok-place.was))
