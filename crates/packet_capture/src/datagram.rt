@@ -1,5 +1,5 @@
 //! The datagram that a frame carries.
-ghost use Rattle.std.specs.Prelude.{IfOk, IfErr};
+ghost use Rattle.std.specs.Prelude.{◌≤◌, IfOk, IfErr, length};
 ghost use Rattle.packet_capture.specs.Datagrams.{CarriesDatagram, datagram_content};
 ghost use Rattle.packet_capture.specs.FrameFaults.{HasFrameFault};
 
@@ -39,6 +39,7 @@ pub struct Datagram<'a> {
 /// registry of link-layer header types of tcpdump.org, IEEE 802.1Q, RFC 791, RFC 8200 and RFC 768.
 pub fn read_datagram(link: u16, frame: &[u8]) -> Result<Datagram<'_>, FrameFault>
     ensures carried { IfOk result (λ d. CarriesDatagram link frame.now (datagram_content d)) }
+    ensures short { IfOk result (λ d. length d.bytes.now ≤ 65527) }
     ensures fault { IfErr result (HasFrameFault link frame.now) }
 {
     let Some(link) = LinkType::from_number(link) else {

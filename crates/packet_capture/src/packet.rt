@@ -116,6 +116,7 @@ fn destination_in(version: IpVersion, packet: &[u8]) -> Address
 fn udp_len(segment: &[u8]) -> Option<usize>
     ensures found { IfSome result (λ len. len ≡ u16_in Big segment.now 4) }
     ensures whole { IfSome result (λ _. IsUdp segment.now) }
+    ensures short { IfSome result (λ len. len ≤ 65535) }
     ensures bad { IfNone result (IsUdp segment.now → ⊥) }
 {
     if segment.len() < 8 {
@@ -132,6 +133,7 @@ fn udp_len(segment: &[u8]) -> Option<usize>
 pub(crate) fn read_packet(version: IpVersion, packet: &[u8]) -> Result<Datagram<'_>, FrameFault>
     ensures whole { IfOk result (λ _. HasUdp version packet.now) }
     ensures value { IfOk result (λ d. datagram_content d ≡ datagram_in version packet.now) }
+    ensures short { IfOk result (λ d. length d.bytes.now ≤ 65527) }
     ensures fault { IfErr result (HasPacketFault version packet.now) }
 {
     if packet.len() < least_len(version) {

@@ -1,5 +1,5 @@
 //! The pieces of a packet capture, one after the other.
-ghost use Rattle.std.specs.Prelude.{◌≡◌, ◌≤◌, Some, IfOk, IfErr, OnOk, OnErr, length};
+ghost use Rattle.std.specs.Prelude.{◌≡◌, ◌≤◌, ◌↔◌, Some, IfOk, IfErr, IsTrue, OnOk, OnErr, length};
 ghost use Rattle.packet_capture.specs.Contents.{block_event_of};
 ghost use Rattle.packet_capture.specs.Savefiles.{magic_at};
 ghost use Rattle.packet_capture.specs.Captures.{new_context, frame_in_piece, frame_in_event, interfaces_after, IsOneTooMany, piece_of, IsPiece, IsRecordPiece, IsHeaderPiece, IsBlockPiece, StopsReading, StopsInSection};
@@ -99,7 +99,14 @@ impl CaptureReader {
         }
     }
 
-    /// Reads the header of a savefile of this magic.
+    /// Returns whether no piece was read yet.
+    pub fn is_at_start(&self) -> bool
+        ensures { IsTrue result ↔ (self.now.format ≡ Format.Start) }
+    {
+        self.format == Format::Start
+    }
+
+    /// The header of a savefile of this magic.
     fn read_header<'a>(&mut self, magic: Magic, bytes: &'a [u8]) -> Result<Piece<'a>, Stop>
         requires there { 4 ≤ length bytes.now }
         requires magic { magic_at bytes.now ≡ Some magic }
