@@ -4,11 +4,11 @@ ghost use Rattle.feed_text.specs.Devices.{HasGiven, HasGivenAll, HasGivenSome};
 
 use crate::devices::CaptureIn;
 use crate::fault::ReplayFault;
-use crate::unread::{ReadBuffer, ReadStep};
+use crate::unread::{RECORDS_ROOM, ReadBuffer, ReadStep};
 
 /// Calls the reader until `wanted` bytes are there, or it shows the end. Returns whether they are.
 pub fn fill<R: CaptureIn>(
-    unread: &mut ReadBuffer,
+    unread: &mut ReadBuffer<RECORDS_ROOM>,
     reader: &mut R,
     wanted: usize,
     turns: &mut u64,

@@ -39,6 +39,6 @@ pub mod page;
 pub mod replay;
 mod report;
 pub mod system;
-mod unread;
+pub mod unread;
 mod venue;
 mod venues;

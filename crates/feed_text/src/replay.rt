@@ -13,7 +13,7 @@ use crate::input::fill;
 use crate::output::{flush, flush_full};
 use crate::page::LineBuffer;
 use crate::report::{PublishStop, ReplaySink};
-use crate::unread::ReadBuffer;
+use crate::unread::{RECORDS_ROOM, ReadBuffer};
 use crate::venues::Venues;
 use feed_types::SymbolName;
 use journal_book::RunningJournal;
@@ -132,7 +132,7 @@ pub fn replay<R: CaptureIn, W: TextOut>(
 {
     let mut venues = Venues::new(alloc, config.sessions, config.window, config.gaps)?;
     let mut report = new_report(alloc, config)?;
-    let mut unread = ReadBuffer::new(alloc)?;
+    let mut unread: ReadBuffer<RECORDS_ROOM> = ReadBuffer::new(alloc)?;
     let mut turns = config.turns;
     'records: loop {
         match parse_record(config.sessions.len(), unread.bytes()) {
