@@ -1,8 +1,9 @@
 /* Makes a call of the system fail, which a sound system seldom does: recv, sendto or clock_gettime, as
    FAIL_CALL names it. The calls are counted from 1, and where FAIL_PORT is set, those alone whose socket
    has this local port. All from FAIL_FROM to FAIL_TO fail, with the error number in FAIL_ERRNO; all
-   others are made. Where FAILED names a file, it is made at a failure. Loaded by LD_PRELOAD in
-   tests/listen. */
+   others are made. A call of recv that brings nothing in time, before any other has brought something,
+   isn't counted where the first one isn't to fail. Where FAILED names a file, it is made at a failure.
+   Loaded by LD_PRELOAD in tests/listen. */
 #define _GNU_SOURCE
 #include <arpa/inet.h>
 #include <dlfcn.h>
@@ -37,13 +38,19 @@ static unsigned long port_of(int file)
     return 0;
 }
 
-/* Whether this call fails, with errno set then. A call of no socket has the file -1. */
-static int fails(const char *call, int file)
+/* Whether calls of this name are counted, of this socket. A call of no socket has the file -1. */
+static int is_counted(const char *call, int file)
 {
     const char *named = getenv("FAIL_CALL");
     if (named == NULL || strcmp(named, call) != 0)
         return 0;
-    if (file >= 0 && getenv("FAIL_PORT") != NULL && port_of(file) != number_in("FAIL_PORT"))
+    return file < 0 || getenv("FAIL_PORT") == NULL || port_of(file) == number_in("FAIL_PORT");
+}
+
+/* Whether this call fails, with errno set then. */
+static int fails(const char *call, int file)
+{
+    if (!is_counted(call, file))
         return 0;
     unsigned long present = __atomic_add_fetch(&calls, 1, __ATOMIC_SEQ_CST);
     if (present < number_in("FAIL_FROM") || present > number_in("FAIL_TO"))
@@ -60,6 +67,12 @@ ssize_t recv(int file, void *buffer, size_t size, int flags)
     static ssize_t (*next)(int, void *, size_t, int);
     if (next == NULL)
         next = (ssize_t (*)(int, void *, size_t, int))dlsym(RTLD_NEXT, "recv");
+    if (is_counted("recv", file) && number_in("FAIL_FROM") > 1 && __atomic_load_n(&calls, __ATOMIC_SEQ_CST) == 0) {
+        ssize_t count = next(file, buffer, size, flags);
+        if (count >= 0)
+            __atomic_store_n(&calls, 1, __ATOMIC_SEQ_CST);
+        return count;
+    }
     return fails("recv", file) ? -1 : next(file, buffer, size, flags);
 }
 

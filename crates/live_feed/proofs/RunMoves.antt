@@ -1,5 +1,5 @@
--- The steps of lines and subscribers in a run.
-use Rattle.std.proofs.Common.{◌≡◌, ℕ, ◌+◌, length, length-append, MatchResult, map, List, [], ◌∷◌, ◌++◌, Option, None, Some, Result, Ok, Err, refl, sym, ◌∙◌, ap, subst, append-nil, append_assoc}
+-- How lines and subscribers go on in a run.
+use Rattle.std.proofs.Common.{◌≡◌, ℕ, ◌+◌, length, length-append, MatchOption, MatchResult, map, List, [], ◌∷◌, ◌++◌, Option, None, Some, Result, Ok, Err, refl, sym, ◌∙◌, ap, subst, append-nil, append_assoc}
 use Rattle.std.proofs.lemmas.List.{map-append}
 use Rattle.feed_types.specs.declared.journal.Notice.{Notice}
 use Rattle.feed_types.specs.Sequence.{Carries, Ends}
@@ -16,7 +16,7 @@ use Rattle.live_feed.specs.Lanes.{FeedLanes}
 use Rattle.live_feed.specs.venue.Seats.{SeatState}
 use Rattle.live_feed.specs.venue.Datagrams.{AreGenuineBytes, IsTakenBy}
 use Rattle.live_feed.specs.subscriber.Logs.{SubscriberLogState, Polls, logged}
-use Rattle.live_feed.specs.run.Runs.{Taking, AreTakenBy, HasTaken, LineHasEnded, HasPolled, Pairwise}
+use Rattle.live_feed.specs.run.Runs.{failures_after, Taking, AreTakenBy, HasTaken, LineHasEnded, HasPolled, Pairwise}
 use Rattle.live_feed.proofs.CellMoves.{shown_sum}
 
 -- a datagram leaves a seat where it is
@@ -67,6 +67,28 @@ pub brings_still : {S : Type 0} (brings : S → List (List ℕ) → S → Type 0
     → brings s brought u
 brings_still brings more s t u brought so_far still =
     subst (λ xs. brings s xs u) (append-nil brought) (more s t u brought [] so_far still)
+
+-- a line's end after these datagrams, and a last call that brings nothing
+pub line_ended : {S : Type 0} (takes : SeatState → List (List ℕ) → SeatState → Type 0)
+    (brings : S → List (List ℕ) → S → Type 0) (failures : S → ℕ)
+    → ((s t u : S) (xs ys : List (List ℕ)) → brings s xs t → brings t ys u → brings s (xs ++ ys) u)
+    → (seat last_seat : SeatState) (source between last_source : S) (brought : List (List ℕ))
+    (datagrams : ℕ) (fault : Option SourceFault)
+    → last_seat.venue ≡ seat.venue → last_seat.line ≡ seat.line → datagrams ≡ shown (length brought)
+    → takes seat brought last_seat → brings source brought between → brings between [] last_source
+    → MatchOption fault (failures last_source ≡ failures source)
+    (λ fault. failures last_source ≡ failures_after (failures source) fault)
+    → LineHasEnded takes brings failures seat source last_seat last_source datagrams fault
+line_ended takes brings failures more seat last_seat source between last_source brought datagrams fault
+    venue line read taken later nothing counted = record {
+      venue = venue;
+      line = line;
+      brought = brought;
+      read = read;
+      taken = taken;
+      later = brings_still brings more source between last_source brought later nothing;
+      counted = counted;
+    }
 
 -- what is genuine at a source's venue is so at its seat's
 pub genuine_at : (sessions : SessionNames) (carries : Carries) (ends : Ends) (v w : ℕ)

@@ -1,12 +1,13 @@
-//! The places where the threads of a feed sleep, and how they are woken.
+//! Where the threads of a feed sleep, how they are woken, and what ends its runs.
 
 use crossbeam_utils::sync::EventCount;
 use feed_types::SubscriberId;
 use std::array;
 use std::sync::atomic::{AtomicBool, Ordering};
 
-/// The places where threads of a feed with nothing to do sleep, and who waits for room. The feed
-/// and its subscribers share it: a thread that has made work for another one wakes it then.
+/// Where the threads of a feed sleep that have nothing to do, who waits for room, and whether runs
+/// are to end. The feed, its subscribers and its stop handles share it: whoever has made work for
+/// another thread wakes it then.
 #[derive(Drop)]
 pub(crate) struct Bells {
     /// The place where the consolidators of runs sleep.
@@ -16,6 +17,8 @@ pub(crate) struct Bells {
     /// By id, whether a notice waits for room in the subscriber's lane. It changes under the
     /// consolidator's lock alone, and is stored only where it differs.
     full: [AtomicBool; 32],
+    /// The lines of runs are to read no further datagram.
+    ended: AtomicBool,
 }
 
 impl Bells {
@@ -25,10 +28,21 @@ impl Bells {
             work: EventCount::new(),
             notices: array::from_fn(|_| EventCount::new()),
             full: array::from_fn(|_| AtomicBool::new(false)),
+            ended: AtomicBool::new(false),
         }
     }
 
-    /// The place where consolidators sleep while there is nothing to journal, push or offer.
+    /// Has the lines of the feed's runs read no further datagram.
+    pub(crate) fn end_runs(&self) {
+        self.ended.store(true, Ordering::SeqCst);
+    }
+
+    /// Whether the lines of the feed's runs are to read no further datagram.
+    pub(crate) fn are_runs_ended(&self) -> bool {
+        self.ended.load(Ordering::SeqCst)
+    }
+
+    /// Where consolidators sleep while there is nothing to journal, push or offer.
     pub(crate) fn work(&self) -> &EventCount {
         &self.work
     }

@@ -48,6 +48,7 @@ pub use laws::{
 pub use run::line::{Line, LineEnd};
 pub use run::report::{RunReport, Stop};
 pub use run::source::{LineSource, SourceFault};
+pub use run::stop_handle::StopHandle;
 pub use settle::settlement::Settlement;
 pub use settle::unsettled::Unsettled;
 pub use subscriber::Subscriber;

@@ -12,6 +12,7 @@ mod line_work;
 pub(crate) mod report;
 mod signals;
 pub(crate) mod source;
+pub(crate) mod stop_handle;
 mod subscriber_threads;
 mod subscriber_work;
 mod threads;
@@ -24,6 +25,7 @@ use crate::run::line_threads::{LineThread, start_lines};
 use crate::run::report::{RunReport, Stop};
 use crate::run::signals::Signals;
 use crate::run::source::LineSource;
+use crate::run::stop_handle::StopHandle;
 use crate::run::subscriber_threads::{LogThread, start_subscribers};
 use crate::run::threads::join_each;
 use crate::subscriber::Subscriber;
@@ -179,10 +181,20 @@ fn reassembled<N: FeedName>(
     subscribers
 }
 
+impl<G: Genuine, N: FeedName> OpenFeed<G, N> {
+    /// A handle that stops the runs of this feed, for another thread. AllocError where it can't be
+    /// shared any further.
+    pub fn stop_handle(&self) -> Result<StopHandle, AllocError> {
+        Ok(StopHandle::new(self.venues.share_bells()?))
+    }
+}
+
 impl<G: Genuine + Send + Sync, N: FeedName + Send + Sync> OpenFeed<G, N> {
     /// Runs each line and each subscriber in a thread of its own, and the consolidator in this one,
     /// until all lines have ended; what is ready is then pushed, journaled and offered. Each line's
-    /// seat and source and each subscriber are returned in the order given.
+    /// seat and source and each subscriber come back in the order given. Where the journal is full, or
+    /// memory or a thread is refused, the run stops early: then, and where a handle of `stop_handle`
+    /// stops it, no line reads a further datagram.
     ///
     /// Where memory for the lists of threads and logs is refused, nothing is started, and all are
     /// handed back.

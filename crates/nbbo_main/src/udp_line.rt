@@ -1,5 +1,5 @@
 //! A line that is received by UDP.
-ghost use Rattle.std.specs.Prelude.{◌≡◌, ◌≢◌, ◌+◌, ◌*◌, ◌/◌, ◌-◌, ◌^◌, ◌≤◌, ◌⊎◌, ◌↔◌, min, IfOk, IfErr, IsTrue, Ok, Some, None, false, length};
+ghost use Rattle.std.specs.Prelude.{◌≡◌, ◌≢◌, ◌+◌, ◌*◌, ◌/◌, ◌-◌, ◌^◌, ◌≤◌, ◌⊎◌, ◌↔◌, min, IfOk, IfErr, IfSome, IsTrue, Ok, Some, None, false, length};
 ghost use Rattle.std.specs.Duration.{as_nanos};
 ghost use Rattle.live_feed.specs.venue.Datagrams.{bytes_of};
 ghost use Rattle.live_feed.specs.run.Runs.{failures_after};
@@ -24,8 +24,11 @@ const REQUEST_LEN: usize = 20;
 /// The most times that one call asks the socket.
 const MAX_TURNS: u32 = 1_000_000;
 
-/// A line of a venue that is received by UDP. It ends after the number of datagrams that it was
-/// made for, and after one that is an end of session, of whichever session.
+/// How long a line waits for a datagram, in milliseconds, until a run may look whether it is to stop.
+const WAIT_MS: u64 = 100;
+
+/// A line of a venue that is received by UDP. It ends after as many datagrams as it was made for,
+/// and after one that is an end of session, of whichever session.
 ///
 /// Once its socket has failed the line has ended: it asks the socket for nothing more.
 #[derive(Drop)]
@@ -37,6 +40,8 @@ pub struct UdpLine<C> {
     moment_ms: u64,
     to_read: u32,
     broken: bool,
+    /// What the socket has brought for the next call: a datagram, or why there is none.
+    heard: Option<Result<Datagram, SourceFault>>,
     alloc: Global,
     buffer: Vec<u8>,
 }
@@ -49,17 +54,20 @@ impl<C> Model for UdpLine<C> {
     ghost view = { λ l. record { venue = l.line_venue; left = l.to_read; failed = l.broken } };
 }
 
-/// Waits for a datagram, puts it at the front of the buffer, and returns its length in bytes. A
-/// call that was interrupted is made again.
-fn receive(socket: &UdpSocket, buffer: &mut [u8]) -> Result<usize, SourceFault>
-    ensures count { IfOk result (λ count. count ≤ length buffer.new) }
+/// Waits a while for a datagram, puts it at the front of the buffer, and returns how many bytes it has; None where none
+/// has come. A call that was interrupted is made again.
+fn receive(socket: &UdpSocket, buffer: &mut [u8]) -> Result<Option<usize>, SourceFault>
+    ensures count { IfOk result (λ came. IfSome came (λ count. count ≤ length buffer.new)) }
     ensures fault { IfErr result (λ fault. fault ≢ NoMemory) }
 {
     for _ in 0..MAX_TURNS {
         match socket.recv(buffer) {
-            Ok(count) => return Ok(count),
-            Err(error) if error.kind() == ErrorKind::Interrupted => {}
-            Err(_) => return Err(SourceFault::Device),
+            Ok(count) => return Ok(Some(count)),
+            Err(error) => match error.kind() {
+                ErrorKind::Interrupted => {}
+                ErrorKind::WouldBlock => return Ok(None),
+                _ => return Err(SourceFault::Device),
+            },
         }
     }
     Err(SourceFault::TooManyTurns)
@@ -88,6 +96,23 @@ fn datagram_of(alloc: Global, bytes: &[u8]) -> Result<Datagram, AllocError>
     Ok(Datagram::new(held))
 }
 
+/// Waits a while for a datagram, and returns it, or why there is none; None where none has come. NoMemory where memory
+/// for it was refused: it is lost then.
+fn hear(
+    alloc: Global,
+    socket: &UdpSocket,
+    buffer: &mut [u8],
+) -> Option<Result<Datagram, SourceFault>> {
+    match receive(socket, buffer) {
+        Ok(None) => None,
+        Ok(Some(count)) => match datagram_of(alloc, &buffer[..count]) {
+            Ok(datagram) => Some(Ok(datagram)),
+            Err(_) => Some(Err(SourceFault::NoMemory)),
+        },
+        Err(fault) => Some(Err(fault)),
+    }
+}
+
 /// Whether the bytes are an end of session, of whichever session.
 fn is_end(bytes: &[u8]) -> bool
     ensures { IsTrue result ↔ SpellsEnd bytes.now }
@@ -108,8 +133,11 @@ fn millis(time: Duration) -> u64
 }
 
 impl<C: Drop> UdpLine<C> {
-    /// The line of a venue that this socket receives, for at most `datagrams` datagrams. Requests
-    /// go to the address that is given for them, from the line's socket; else they are dropped.
+    /// The line of a venue that this socket receives, for so many datagrams at most. Requests go to
+    /// the address that is given for them, from the line's socket; else they are dropped.
+    ///
+    /// The socket waits 100 ms for a datagram from now on. Where the system refuses that, it waits for ever, and so
+    /// does a run that is to stop.
     pub fn new(
         alloc: Global,
         venue: VenueId,
@@ -122,6 +150,7 @@ impl<C: Drop> UdpLine<C> {
         ensures left { IfOk result (λ line. line.left ≡ datagrams) }
         ensures whole { IfOk result (λ line. line.failed ≡ false) }
     {
+        let _ = socket.set_read_timeout(Some(Duration::from_millis(WAIT_MS)));
         Ok(UdpLine {
             line_venue: venue,
             socket,
@@ -130,13 +159,26 @@ impl<C: Drop> UdpLine<C> {
             moment_ms: 0,
             to_read: datagrams,
             broken: false,
+            heard: None,
             alloc,
             buffer: vec![in alloc; 0; MAX_DATAGRAM]?,
         })
     }
 
-    /// Receives the next datagram; None once the line has ended, and only then. An end of session
-    /// ends it, and so does the last datagram that it may read.
+    /// Waits a while for a datagram, and returns whether the next one needn't be waited for: it is there, or the socket
+    /// has failed, or the line has ended.
+    fn listen(&mut self) -> bool
+        ensures { self.new ≡ self.old }
+    {
+        if self.broken || self.to_read == 0 || self.heard.is_some() {
+            return true;
+        }
+        self.heard = hear(self.alloc, &self.socket, self.buffer.as_mut_slice());
+        self.heard.is_some()
+    }
+
+    /// Receives the next datagram; None once the line has ended, and only then. An end of session ends it, and
+    /// so does the last datagram that it may read.
     ///
     /// Device where the socket failed, TooManyTurns where it was interrupted a million times: the
     /// line has ended then. NoMemory where memory for the datagram was refused, which is lost then.
@@ -155,22 +197,30 @@ impl<C: Drop> UdpLine<C> {
         if self.broken || self.to_read == 0 {
             return Ok(None);
         }
-        let count = match receive(&self.socket, self.buffer.as_mut_slice()) {
-            Ok(count) => count,
-            Err(fault) => {
-                self.broken = true;
-                return Err(fault);
+        for _ in 0..u64::MAX {
+            if self.listen() {
+                break;
             }
-        };
-        let Ok(datagram) = datagram_of(self.alloc, &self.buffer[..count]) else {
-            return Err(SourceFault::NoMemory);
-        };
-        self.to_read = if is_end(datagram.bytes()) {
-            0
-        } else {
-            self.to_read - 1
-        };
-        Ok(Some(datagram))
+        }
+        match self.heard.take() {
+            Some(Ok(datagram)) => {
+                self.to_read = if is_end(datagram.bytes()) {
+                    0
+                } else {
+                    self.to_read - 1
+                };
+                Ok(Some(datagram))
+            }
+            Some(Err(SourceFault::NoMemory)) => Err(SourceFault::NoMemory),
+            Some(Err(fault)) => {
+                self.broken = true;
+                Err(fault)
+            }
+            None => {
+                self.broken = true;
+                Err(SourceFault::TooManyTurns)
+            }
+        }
     }
 }
 
@@ -191,6 +241,10 @@ impl<C: Clock + Drop> LineSource<Anything> for UdpLine<C> {
 
     fn venue(&self) -> VenueId {
         self.line_venue
+    }
+
+    fn await_next(&mut self) -> bool {
+        self.listen()
     }
 
     fn next(&mut self) -> Result<Option<Datagram>, SourceFault> {

@@ -53,8 +53,31 @@ fn request_due<G: Genuine, N: FeedName, S: LineSource<G>, W: Wait>(
     }
 }
 
-/// Reads the line's datagrams, takes each and asks then for what is missing, until the source ends
-/// or fails or the run stops early.
+/// Waits until the source has its next answer, and returns true; or false where the run is to stop
+/// before that. What has come to the source while it waited and the run was stopped isn't read.
+fn is_next_there<G: Genuine, N: FeedName, S: LineSource<G>, W: Wait>(
+    rt: &W,
+    venues: &VenueLocks<G, N>,
+    signals: &Signals,
+    source: &mut S,
+) -> bool
+    ensures venue { S.venue_of source.new ≡ S.venue_of source.old }
+    ensures brings { S.brings source.old [] source.new }
+    ensures sound { S.failures source.new ≡ S.failures source.old }
+{
+    for _ in rt.forever() {
+        if signals.is_stopped() || venues.bells().are_runs_ended() {
+            break;
+        }
+        if source.await_next() {
+            return !signals.is_stopped() && !venues.bells().are_runs_ended();
+        }
+    }
+    false
+}
+
+/// Reads the line's datagrams, and takes each and asks for what is lacking then, until the source
+/// ends or fails or the run is to stop.
 pub(crate) fn work_line<G: Genuine, N: FeedName, S: LineSource<G>, W: Wait>(
     rt: &W,
     venues: &VenueLocks<G, N>,
@@ -73,7 +96,7 @@ pub(crate) fn work_line<G: Genuine, N: FeedName, S: LineSource<G>, W: Wait>(
     let mut fault = None;
     let mut gap = false;
     for _ in rt.forever() {
-        if signals.is_stopped() {
+        if !is_next_there(rt, venues, signals, &mut source) {
             break;
         }
         match source.next() {

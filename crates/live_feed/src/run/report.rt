@@ -37,8 +37,8 @@ impl Stop {
     }
 }
 
-/// The report of a run: each line's seat and source and each subscriber, in the order given, and
-/// why the run stopped early, if it did.
+/// What a run hands back: each line's seat and source and each subscriber, in the order given, and
+/// why it stopped early, if it did. A stop from outside is none of these reasons.
 #[derive(Drop)]
 pub struct RunReport<G, N: FeedName, S> {
     pub lines: Vec<LineEnd<G, N, S>>,

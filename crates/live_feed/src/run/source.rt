@@ -58,8 +58,19 @@ pub trait LineSource<G: Genuine>: Drop {
     fn venue(&self) -> VenueId
         ensures { result ≡ venue_of self.now };
 
-    /// Returns the next datagram, which is genuine at the source's venue; None at the end of the
-    /// line.
+    /// Waits for what `next` answers, and returns true once it is there; or returns false after a
+    /// while. A run calls it before each `next`, and looks in between whether it is to stop: a source
+    /// that has no body of its own for it waits in `next`, and so long a run that is to stop waits,
+    /// too.
+    fn await_next(&mut self) -> bool
+        ensures venue { venue_of self.new ≡ venue_of self.old }
+        ensures brings { brings self.old [] self.new }
+        ensures sound { failures self.new ≡ failures self.old }
+    {
+        true
+    }
+
+    /// The next datagram, which is genuine at the source's venue; None at the end of the line.
     ///
     /// Device where the device failed, TooManyTurns where it was interrupted as often as one call
     /// may ask it: each is a failure. NoMemory where memory for the datagram was refused, which is

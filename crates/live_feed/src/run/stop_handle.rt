@@ -1,0 +1,31 @@
+//! How a run is stopped from outside.
+
+use crate::bells::Bells;
+use std::alloc::Global;
+use std::sync::Arc;
+
+/// Stops the runs of a feed, from whichever thread. It goes wherever its owner wants, and the feed
+/// gives as many as are asked for.
+#[derive(Drop)]
+pub struct StopHandle {
+    bells: Arc<Bells, Global>,
+}
+
+impl StopHandle {
+    pub(crate) fn new(bells: Arc<Bells, Global>) -> StopHandle {
+        StopHandle { bells }
+    }
+
+    /// Has the lines of the feed's runs, of those to come, too, read no further datagram. A run ends
+    /// then as where its lines end: what they brought is pushed, journaled, offered and polled, and
+    /// its report has no reason of an early stop. It waits for a line whose source waits in `next`
+    /// until that answers.
+    pub fn stop(&self) {
+        self.bells.end_runs();
+    }
+
+    /// Whether the runs of the feed were stopped by one of its handles.
+    pub fn is_stopped(&self) -> bool {
+        self.bells.are_runs_ended()
+    }
+}
