@@ -6,7 +6,7 @@ use Rattle.std.proofs.lemmas.List.Elements.{All-tail}
 use Rattle.feed_types.specs.declared.line.LineId.{LineId}
 use Rattle.feed_types.specs.declared.line.LineId.TheVariants.{A, B, Recovery}
 use Rattle.feed_types.specs.Text.{line_letter}
-use Rattle.feed_text.specs.Capture.{CaptureRecord, datagram_record, renewal_record, self_help_record, record_venue, kind_byte, payload_of, record_bytes, capture_of, IsKind, IsRecord, IsHeader, NoRecord, len_at}
+use Rattle.feed_text.specs.Capture.{CaptureRecord, datagram_record, renewal_record, self_help_record, record_venue, kind_byte, payload_of, bytes_of_record, capture_of, IsKind, IsRecord, IsHeader, NoRecord, len_at}
 
 letter_one : (k l : LineId) → line_letter k ≡ line_letter l → k ≡ l
 letter_one A A e = refl
@@ -64,7 +64,7 @@ same_parts p q a b n e =
     let front : p ≡ q = sym (take_at p a (length q) n) ∙ (ap (take (length q)) e ∙ take_at q b (length q) refl) in
     (front, append_cancel_left p a b (e ∙ ap (λ (xs : List ℕ). xs ++ b) (sym front)))
 
-same_front : (e f : CaptureRecord) (a b : List ℕ) → record_bytes e ++ a ≡ record_bytes f ++ b → (e ≡ f) × (a ≡ b)
+same_front : (e f : CaptureRecord) (a b : List ℕ) → bytes_of_record e ++ a ≡ bytes_of_record f ++ b → (e ≡ f) × (a ≡ b)
 same_front e f a b h =
     let venue : record_venue e ≡ record_venue f = cc in
     let kind : kind_byte e ≡ kind_byte f = cc in
@@ -76,26 +76,26 @@ same_front e f a b h =
     (record_one e f venue kind parts.0, parts.1)
 
 -- what begins with a record's spelling begins with its header
-pub header_of : (venues : ℕ) (e : CaptureRecord) (a : List ℕ) → IsRecord venues e → IsHeader venues (record_bytes e ++ a) × (len_at (record_bytes e ++ a) ≡ length (payload_of e))
+pub header_of : (venues : ℕ) (e : CaptureRecord) (a : List ℕ) → IsRecord venues e → IsHeader venues (bytes_of_record e ++ a) × (len_at (bytes_of_record e ++ a) ≡ length (payload_of e))
 header_of venues e a i =
     let len : length (payload_of e) / 256 * 256 + length (payload_of e) % 256 ≡ length (payload_of e) = omega arith in
     (record { whole = omega arith; venue = i.venue; kind = subst (IsKind (kind_byte e)) (sym len) i.kind }, len)
 
-no_front : (venues : ℕ) (e : CaptureRecord) (a : List ℕ) → IsRecord venues e → NoRecord venues (record_bytes e ++ a) → ⊥
+no_front : (venues : ℕ) (e : CaptureRecord) (a : List ℕ) → IsRecord venues e → NoRecord venues (bytes_of_record e ++ a) → ⊥
 no_front venues e a i n =
     let long : length (payload_of e ++ a) ≡ length (payload_of e) + length a = length-append (payload_of e) a in
-    let whole : length (record_bytes e ++ a) ≡ 4 + length (payload_of e ++ a) = omega arith in
+    let whole : length (bytes_of_record e ++ a) ≡ 4 + length (payload_of e ++ a) = omega arith in
     let head = header_of venues e a i in
     elim n [
-      | inl none ↦ let z : length (record_bytes e ++ a) ≡ 0 = ap length none in omega arith
+      | inl none ↦ let z : length (bytes_of_record e ++ a) ≡ 0 = ap length none in omega arith
       | inr other ↦ elim other [
         | inl bad ↦ bad.wrong head.0
         | inr short ↦ elim short.cut [ inl v ↦ omega arith | inr v ↦ let u = v.1 in let w = head.1 in omega arith ]
       ]
     ]
 
-front_of_stream : (e : CaptureRecord) (es : List CaptureRecord) (r : List ℕ) → capture_of (e ∷ es) r ≡ record_bytes e ++ capture_of es r
-front_of_stream e es r = append_assoc (record_bytes e) (flat_map record_bytes es) r
+front_of_stream : (e : CaptureRecord) (es : List CaptureRecord) (r : List ℕ) → capture_of (e ∷ es) r ≡ bytes_of_record e ++ capture_of es r
+front_of_stream e es r = append_assoc (bytes_of_record e) (flat_map bytes_of_record es) r
 
 pub readings : (venues : ℕ) (xs ys : List CaptureRecord) (r s : List ℕ) → All (IsRecord venues) xs → All (IsRecord venues) ys → NoRecord venues r → NoRecord venues s → capture_of xs r ≡ capture_of ys s → (xs ≡ ys) × (r ≡ s)
 readings venues [] [] r s i j n m e = (refl, e)

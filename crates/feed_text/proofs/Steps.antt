@@ -6,7 +6,7 @@ use Rattle.std.proofs.lemmas.List.{places, length-map}
 use Rattle.std.proofs.lemmas.List.Elements.{All-nil, All-push}
 use Rattle.std.proofs.Math.Seq.{take-append-add}
 use Rattle.feed_text.specs.declared.replay.ReplayConfig.{ReplayConfig}
-use Rattle.feed_text.specs.Capture.{CaptureRecord, IsRecord, IsShort, IsUnfinished, IsWanted, IsHeader, len_at, record_bytes, capture_of}
+use Rattle.feed_text.specs.Capture.{CaptureRecord, IsRecord, IsShort, IsUnfinished, IsWanted, IsHeader, len_at, bytes_of_record, capture_of}
 use Rattle.feed_text.specs.Devices.{Reading, Writing, HasGiven, Wrote, Moved}
 use Rattle.feed_types.specs.declared.journal.Entry.{Entry}
 use Rattle.line_arbiter.specs.Histories.{History, new_history}
@@ -81,11 +81,11 @@ so_far_none {reading = reading} {writing = writing} {config = config} laws from 
 })
 
 -- the next record's bytes go from the rest to the records
-capture_more : (records : List CaptureRecord) (e : CaptureRecord) (rest left : List ℕ) → rest ≡ record_bytes e ++ left → capture_of records rest ≡ capture_of (records ++ e ∷ []) left
+capture_more : (records : List CaptureRecord) (e : CaptureRecord) (rest left : List ℕ) → rest ≡ bytes_of_record e ++ left → capture_of records rest ≡ capture_of (records ++ e ∷ []) left
 capture_more records e rest left s =
-    let F : List ℕ = flat_map record_bytes records in
-    let spelled : flat_map record_bytes (records ++ e ∷ []) ≡ F ++ record_bytes e = flat_map-append record_bytes records (e ∷ []) ∙ ap (λ (xs : List ℕ). F ++ xs) (append-nil (record_bytes e)) in
-    ap (λ (xs : List ℕ). F ++ xs) s ∙ (sym (append_assoc F (record_bytes e) left) ∙ ap (λ (xs : List ℕ). xs ++ left) (sym spelled))
+    let F : List ℕ = flat_map bytes_of_record records in
+    let spelled : flat_map bytes_of_record (records ++ e ∷ []) ≡ F ++ bytes_of_record e = flat_map-append bytes_of_record records (e ∷ []) ∙ ap (λ (xs : List ℕ). F ++ xs) (append-nil (bytes_of_record e)) in
+    ap (λ (xs : List ℕ). F ++ xs) s ∙ (sym (append_assoc F (bytes_of_record e) left) ∙ ap (λ (xs : List ℕ). xs ++ left) (sym spelled))
 
 -- records after records
 tells_records : (window : ℕ) (gaps : Bool) (rs qs : List CaptureRecord) (old mid new : List History) (xs ys : List ReplayEvent) → Emits window gaps rs old xs mid → Emits window gaps qs mid ys new → Emits window gaps (rs ++ qs) old (xs ++ ys) new
@@ -133,11 +133,11 @@ told_room x = rw (← x.entries, ← x.journal) x.within
 
 -- the record that begins the unread bytes is taken, and they are what follows it
 pub so_far_step : {R W : Type 0} {reading : Reading R} {writing : Writing W} {config : ReplayConfig} {from to : R} {calls : ℕ} {before after : W} {venues next : VenueList} {unread : List ℕ} {t u : ReplayState}
-    (e : CaptureRecord) (len : ℕ) (seen left : List ℕ) → IsRecord (venues_in config) e → seen ≡ unread → seen ≡ record_bytes e ++ drop len seen → left ≡ drop len unread → TakesRecord venues e t u next (Ok tt)
+    (e : CaptureRecord) (len : ℕ) (seen left : List ℕ) → IsRecord (venues_in config) e → seen ≡ unread → seen ≡ bytes_of_record e ++ drop len seen → left ≡ drop len unread → TakesRecord venues e t u next (Ok tt)
     → SoFar reading writing config from calls to before after venues unread t → SoFar reading writing config from calls to before after next left u
 so_far_step {reading = reading} {config = config} {from = from} {to = to} {calls = calls} {unread = unread} e len seen left i same front gone takes x =
     let one = takes.emitted config.window x.histories x.follow in
-    let cut : unread ≡ record_bytes e ++ left = sym same ∙ (front ∙ ap (λ (xs : List ℕ). record_bytes e ++ xs) (ap (drop len) same ∙ sym gone)) in
+    let cut : unread ≡ bytes_of_record e ++ left = sym same ∙ (front ∙ ap (λ (xs : List ℕ). bytes_of_record e ++ xs) (ap (drop len) same ∙ sym gone)) in
     record {
       records = x.records ++ e ∷ [];
       read = record {
@@ -179,7 +179,7 @@ so_far_flushed laws x m e = rw (← e) (so_far_moved laws x m)
 pub so_far_read : {R W : Type 0} {reading : Reading R} {writing : Writing W} {config : ReplayConfig} {from mid to : R} {calls n : ℕ} {before after : W} {venues : VenueList} {rest longer : List ℕ} {t : ReplayState}
     (all : ℕ) → calls + n ≡ all → Laws reading writing → SoFar reading writing config from calls mid before after venues rest t → HasGiven reading.gives mid to rest longer n → SoFar reading writing config from all to before after venues longer t
 so_far_read {reading = reading} {from = from} {to = to} {calls = calls} {n = n} {rest = rest} {longer = longer} all e laws x m =
-    let joined : capture_of x.records rest ++ m.bytes ≡ capture_of x.records longer = append_assoc (flat_map record_bytes x.records) rest m.bytes ∙ ap (λ (xs : List ℕ). flat_map record_bytes x.records ++ xs) (sym m.behind) in
+    let joined : capture_of x.records rest ++ m.bytes ≡ capture_of x.records longer = append_assoc (flat_map bytes_of_record x.records) rest m.bytes ∙ ap (λ (xs : List ℕ). flat_map bytes_of_record x.records ++ xs) (sym m.behind) in
     record {
       records = x.records;
       read = record {
@@ -260,13 +260,13 @@ pub record FullHere {R W : Type 0} (reading : Reading R) (writing : Writing W) (
 
 -- the record that begins the unread bytes had no room in the journal
 pub full_here : {R W : Type 0} {reading : Reading R} {writing : Writing W} {config : ReplayConfig} {from to : R} {calls : ℕ} {before after : W} {venues next : VenueList} {unread : List ℕ} {t u : ReplayState}
-    (e : CaptureRecord) (len : ℕ) (seen : List ℕ) → IsRecord (venues_in config) e → seen ≡ unread → seen ≡ record_bytes e ++ drop len seen → TakesRecord venues e t u next (Err stops.JournalFull)
+    (e : CaptureRecord) (len : ℕ) (seen : List ℕ) → IsRecord (venues_in config) e → seen ≡ unread → seen ≡ bytes_of_record e ++ drop len seen → TakesRecord venues e t u next (Err stops.JournalFull)
     → SoFar reading writing config from calls to before after venues unread t → FullHere reading writing config from calls to before after u.text
 full_here {reading = reading} {config = config} {from = from} {to = to} {calls = calls} {unread = unread} {u = u} e len seen i same front takes x =
     let one = takes.emitted config.window x.histories x.follow in
     let full = one.emits in
     let all = told_more x.emitted full.first x.tale_is full.goes in
-    let cut : unread ≡ record_bytes e ++ drop len unread = sym same ∙ (front ∙ ap (λ (xs : List ℕ). record_bytes e ++ xs) (ap (drop len) same)) in
+    let cut : unread ≡ bytes_of_record e ++ drop len unread = sym same ∙ (front ∙ ap (λ (xs : List ℕ). bytes_of_record e ++ xs) (ap (drop len) same)) in
     let last : entries_of [] (x.emitted ++ full.first ++ full.next ∷ []) ≡ entries_after u.entries full.next =
     entries_more [] (x.emitted ++ full.first) (full.next ∷ [])
     ∙ ap (λ (es : List Entry). entries_after es full.next) (sym all.entries) in

@@ -5,7 +5,7 @@ use Rattle.std.proofs.Math.Seq.{take-append_seam}
 use Rattle.feed_text.specs.declared.fault.ReplayFault.{ReplayFault}
 use Rattle.feed_text.specs.declared.fault.ReplayFault.TheVariants.{ReadFailed, WriteFailed, BadRecord, ShortRecord, TooManyTurns, JournalFull, NoMemory}
 use Rattle.feed_text.specs.declared.replay.ReplayConfig.{ReplayConfig}
-use Rattle.feed_text.specs.Capture.{CaptureRecord, IsRecord, IsUnfinished, record_bytes}
+use Rattle.feed_text.specs.Capture.{CaptureRecord, IsRecord, IsUnfinished, bytes_of_record}
 use Rattle.feed_text.specs.Devices.{Reading, Writing, HasGiven, HasGivenSome, Wrote, Moved}
 use Rattle.feed_text.specs.declared.report.PublishStop.{PublishStop}
 use Rattle.feed_text.specs.declared.report.PublishStop.TheVariants as stops
@@ -58,7 +58,7 @@ stops_failed adds failures stop whole text here before after fault e only failed
 -- within a record memory was refused, or the journal was full
 pub stopped_by : {R W : Type 0} {reading : Reading R} {writing : Writing W} {config : ReplayConfig} {from to : R} {calls : ℕ} {before written : W} {venues next : VenueList} {rest : List ℕ} {t u : ReplayState}
     (stop : PublishStop) (fault : ReplayFault) (after : W) (e : CaptureRecord) (len whole : ℕ) (seen : List ℕ) → Laws reading writing → SoFar reading writing config from calls to before written venues rest t → writing.failures written ≡ writing.failures before
-    → IsRecord (venues_in config) e → seen ≡ rest → seen ≡ record_bytes e ++ drop len seen → TakesRecord venues e t u next (Err stop) → whole ≡ length t.text
+    → IsRecord (venues_in config) e → seen ≡ rest → seen ≡ bytes_of_record e ++ drop len seen → TakesRecord venues e t u next (Err stop) → whole ≡ length t.text
     → Stops writing.adds writing.failures stop whole u.text written after fault → Replays reading writing config from to before after (Err fault)
 stopped_by {reading = reading} {writing = writing} {config = config} {from = from} {to = to} {before = before} {t = t} {u = u} stops.NoMemory fault after e len whole seen laws x kept i same front takes cut s =
     let one = takes.emitted config.window x.histories x.follow in

@@ -44,14 +44,14 @@ abbrev pub HoldsBytes : CaptureRecord → Type 0
 HoldsBytes r = AreBytes (payload_of r)
 
 -- the bytes of a record
-abbrev pub record_bytes : CaptureRecord → List ℕ
-record_bytes r =
+abbrev pub bytes_of_record : CaptureRecord → List ℕ
+bytes_of_record r =
     let len = length (payload_of r) in
     record_venue r ∷ kind_byte r ∷ len / 256 ∷ len % 256 ∷ payload_of r
 
 -- the bytes of these records, and then this rest
 abbrev pub capture_of : List CaptureRecord → List ℕ → List ℕ
-capture_of records rest = flat_map record_bytes records ++ rest
+capture_of records rest = flat_map bytes_of_record records ++ rest
 
 -- a kind with a length that it may have: any for A, B and R, that of a session name for N, 0 for H
 -- and W
@@ -112,7 +112,7 @@ record_of (SelfHelp venue on) = self_help_record venue on
 abbrev pub StandsAtFront : ℕ → List ℕ → Parse → Type 0
 StandsAtFront venues bytes (Whole r len) =
     IsRecord venues (record_of r)
-    × (len ≡ length (record_bytes (record_of r)))
-    × (bytes ≡ record_bytes (record_of r) ++ drop len bytes)
+    × (len ≡ length (bytes_of_record (record_of r)))
+    × (bytes ≡ bytes_of_record (record_of r) ++ drop len bytes)
 StandsAtFront venues bytes Bad = IsBadRecord venues bytes
 StandsAtFront venues bytes (Wants n) = IsWanted venues bytes n × (n < 65540)

@@ -107,7 +107,7 @@ abbrev pub row_told : Step → Row → Option Change
 row_told step = row_change step.venues.now.helped step.age step.position step.entry.now
 
 -- every symbol is as after the step, and their changes come after those that were there
-pub record Applies (step : Step) (old new : List Row) (before after : List Change) : Type 0 where
+pub record AppliesStep (step : Step) (old new : List Row) (before after : List Change) : Type 0 where
   pub rows : new ≡ map (row_stepped step) old
   pub items : after ≡ before ++ filter_map (row_told step) old
 

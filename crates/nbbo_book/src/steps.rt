@@ -4,7 +4,7 @@ ghost use Rattle.std.specs.Prelude.{◌≡◌, ◌++◌, ◌+◌, ◌<◌, ◌�
 ghost use Rattle.std.specs.List.{AllByRecursion};
 ghost use Rattle.std.specs.Vec.{vec_len, vec_capacity};
 ghost use Rattle.std.specs.Option.{option_to_list};
-ghost use Rattle.nbbo_book.specs.Rows.{IsRowRanked, symbol_in, told_where, Applies};
+ghost use Rattle.nbbo_book.specs.Rows.{IsRowRanked, symbol_in, told_where, AppliesStep};
 ghost use Rattle.nbbo_book.specs.Tables.{IsTable, symbols_in_rows};
 
 use crate::change::Change;
@@ -50,7 +50,7 @@ fn append_change(has_changed: bool, position: u64, row: &Row, out: &mut Vec<Chan
 fn step_rows(rows: &mut [Row], step: &Step<'_>, out: &mut Vec<Change>)
     requires ranked { AllByRecursion (IsRowRanked step.now.age) rows.old }
     requires room { vec_len out.old + length rows.old ≤ vec_capacity out.old }
-    ensures applies { Applies step.now rows.old rows.new out.old.items out.new.items }
+    ensures applies { AppliesStep step.now rows.old rows.new out.old.items out.new.items }
     ensures len { vec_len out.new ≤ vec_len out.old + length rows.old }
     ensures capacity { vec_capacity out.new ≡ vec_capacity out.old }
 {
@@ -74,7 +74,7 @@ fn step_symbol(
     requires table { IsTable (symbols_in_rows rows.old) table.now.words.keys }
     requires ranked { AllByRecursion (IsRowRanked step.now.age) rows.old }
     requires room { vec_len out.old + length rows.old ≤ vec_capacity out.old }
-    ensures applies { Applies step.now rows.old rows.new out.old.items out.new.items }
+    ensures applies { AppliesStep step.now rows.old rows.new out.old.items out.new.items }
     ensures len { vec_len out.new ≤ vec_len out.old + length rows.old }
     ensures capacity { vec_capacity out.new ≡ vec_capacity out.old }
 {
@@ -92,7 +92,7 @@ pub fn apply_step(table: &Table, rows: &mut [Row], step: &Step<'_>, out: &mut Ve
     requires table { IsTable (symbols_in_rows rows.old) table.now.words.keys }
     requires ranked { AllByRecursion (IsRowRanked step.now.age) rows.old }
     requires room { vec_len out.old + length rows.old ≤ vec_capacity out.old }
-    ensures applies { Applies step.now rows.old rows.new out.old.items out.new.items }
+    ensures applies { AppliesStep step.now rows.old rows.new out.old.items out.new.items }
     ensures len { vec_len out.new ≤ vec_len out.old + length rows.old }
     ensures capacity { vec_capacity out.new ≡ vec_capacity out.old }
 {
