@@ -1,8 +1,7 @@
 //! One subscriber of the machine: how far its filter has looked, and the lane after it.
 
-ghost use Rattle.std.specs.Prelude.{◌≡◌, ℕ, ◌≤◌, List, None, IfOk, IfSome, IsTrue, filter, take, length, slice_get};
+ghost use Rattle.std.specs.Prelude.{◌≡◌, ℕ, List, IfOk};
 ghost use Rattle.feed_types.specs.declared.journal.Entry.{Entry};
-ghost use Rattle.filter_terms.specs.Terms.{meets};
 ghost use Rattle.filter_terms.specs.Filters.{terms_of};
 ghost use Rattle.journal_book.specs.Changes.{changes_of};
 ghost use Rattle.feed_core.specs.Worlds.{inside, empty_lane, Subscriber};
@@ -13,6 +12,7 @@ use crate::event::Done;
 use crate::lane::Lane;
 use feed_types::Notice;
 use filter_terms::Filter;
+use journal_book::{next_wanted, notice_at};
 use std::alloc::{AllocError, Global};
 use std::marker::Model;
 
@@ -29,31 +29,6 @@ impl Model for SubscriberState {
     ghost Value = { SubscriberView };
 
     ghost view = { λ s. record { seen = s.looked_at; lane = s.notices } };
-}
-
-/// The place of the first notice, from place `from` on, that the filter wants; else their number.
-fn next_wanted(asked: &Filter, notices: &[Notice], from: usize) -> usize
-    ensures within { result ≤ length notices.now }
-    ensures passed { filter (meets (terms_of asked.now)) (take result notices.now)
-        ≡ filter (meets (terms_of asked.now)) (take from notices.now) }
-    ensures next { slice_get notices.now result
-        ≡ slice_get (filter (meets (terms_of asked.now)) notices.now)
-        (length (filter (meets (terms_of asked.now)) (take from notices.now))) }
-    ensures wanted { IfSome (slice_get notices.now result)
-        (λ n. IsTrue (meets (terms_of asked.now) n)) }
-{
-    for i in from..notices.len() {
-        if asked.answer(&notices[i]) {
-            return i;
-        }
-    }
-    notices.len()
-}
-
-fn notice_at(notices: &[Notice], place: usize) -> Option<Notice>
-    ensures { result ≡ slice_get notices.now place }
-{
-    notices.get(place).copied()
 }
 
 impl SubscriberState {
@@ -80,7 +55,7 @@ impl SubscriberState {
             → FitsSubscriber symbols entries self.old x
             → LeftOffered symbols entries capacity x d self.new) }
     {
-        self.looked_at = next_wanted(asked, notices, self.looked_at);
+        self.looked_at = next_wanted(Some(asked), asked.terms(), notices, self.looked_at);
         let Some(notice) = notice_at(notices, self.looked_at) else {
             return Ok(Done::NothingWanted);
         };

@@ -17,7 +17,7 @@ use Rattle.feed_text.specs.Texts.{text_of, new_histories, EmitsAll, HasJournalRo
 use Rattle.feed_text.specs.ReplayStates.{ReplayState, IsWithinJournal, GoesOn}
 use Rattle.feed_text.specs.Following.{VenueList, FollowAll, TakesRecord, PrintsLast}
 use Rattle.feed_text.specs.Replays.{venues_in, HasRead, WroteAll, WroteLines, WroteLinesUntil, WrotePrefix, texts_of}
-use Rattle.journal_book.specs.Running.{RunningState, new_running}
+use Rattle.journal_book.specs.Streaming.{StreamingState, new_streaming}
 use Rattle.feed_text.proofs.Tales.{entries_more, text_more, tale_with, tale_from}
 
 -- the laws of a reader and a writer
@@ -40,7 +40,7 @@ pub record Told (config : ReplayConfig) (emitted : List ReplayEvent) (shown : Li
   pub all : shown ++ state.text ≡ lines_emitted config emitted
 
 -- a journal without entries and no text
-pub told_none : {config : ReplayConfig} (j : RunningState) (text : List ℕ) → j ≡ new_running config.symbols.now (venues_in config) config.journal → text ≡ [] → Told config [] [] (tale_from j text)
+pub told_none : {config : ReplayConfig} (j : StreamingState) (text : List ℕ) → j ≡ new_streaming config.symbols.now (venues_in config) config.journal → text ≡ [] → Told config [] [] (tale_from j text)
 told_none j text e none = rw (e, none) (record { symbols = refl; venues = refl; journal = refl; entries = refl; within = omega arith; all = refl })
 
 -- `calls` calls read these records and then this rest, the venues follow the histories that the

@@ -7,8 +7,8 @@ use Rattle.feed_types.specs.declared.journal.Entry.{Entry}
 use Rattle.feed_types.specs.declared.journal.Entry.TheVariants.{Consumed, SelfHelp}
 use Rattle.nbbo_book.specs.Eligible.{is_self_helped}
 use Rattle.journal_book.specs.Changes.{changes_of, notices_since}
-use Rattle.journal_book.specs.Running.{RunningState, latest_of, GoesOnBy}
-use Rattle.journal_book.proofs.LastEntry.{before-put}
+use Rattle.journal_book.specs.Streaming.{StreamingState, latest_of, GoesOnBy}
+use Rattle.journal_book.specs.LastEntry.{before-put}
 use Rattle.feed_types.specs.declared.journal.Notice.{Notice}
 use Rattle.feed_text.specs.declared.report.PublishStop.{PublishStop}
 use Rattle.feed_text.specs.declared.report.PublishStop.TheVariants.{JournalFull, NoMemory}
@@ -20,7 +20,7 @@ use Rattle.feed_text.specs.Texts.{line_of, lines_of, text_of}
 use Rattle.feed_text.specs.ReplayStates.{ReplayState, state_after, IsWithinJournal, Grows, GoesOn, GoesToFull, EmitsInto}
 
 -- a running journal and a text
-abbrev pub tale_from : RunningState → List ℕ → ReplayState
+abbrev pub tale_from : StreamingState → List ℕ → ReplayState
 tale_from j text = record {
   symbols = j.symbols;
   venues = j.venues;
@@ -161,17 +161,17 @@ one_longer entries e limit h = let n = length-append entries (e ∷ []) in omega
 since-last : (symbols : List (List ℕ)) (old : List Entry) (e : Entry) → latest_of symbols (old ++ e ∷ []) ≡ notices_since symbols old (old ++ e ∷ [])
 since-last symbols old e = ap (λ (es : List Entry). drop (length (changes_of symbols es)) (changes_of symbols (old ++ e ∷ []))) (before-put old e)
 
--- the best lines of the last entry, after a text
-bests_since : (o j : RunningState) (e : Entry) (t1 t2 : List ℕ) (latest : List Notice)
+-- the best lines of the last entry, behind a text
+bests_since : (o j : StreamingState) (e : Entry) (t1 t2 : List ℕ) (latest : List Notice)
     → GoesOnBy o e j → latest ≡ latest_of j.symbols j.entries → t2 ≡ t1 ++ flat_map best_line latest
     → t2 ≡ t1 ++ flat_map best_line (notices_since o.symbols o.entries (o.entries ++ e ∷ []))
 bests_since o j e t1 t2 latest made last bests =
     bests
     ∙ ap (λ (notices : List Notice). t1 ++ flat_map best_line notices)
-    (last ∙ ap (λ (s : RunningState). latest_of s.symbols s.entries) made ∙ since-last o.symbols o.entries e)
+    (last ∙ ap (λ (s : StreamingState). latest_of s.symbols s.entries) made ∙ since-last o.symbols o.entries e)
 
 -- an item for which there was room
-pub item_goes : (o j : RunningState) (venue : ℕ) (n : Numbered) (latest : List Notice) (t0 t1 t2 : List ℕ)
+pub item_goes : (o j : StreamingState) (venue : ℕ) (n : Numbered) (latest : List Notice) (t0 t1 t2 : List ℕ)
     → length o.entries < o.journal → GoesOnBy o (Consumed venue n) j
     → t1 ≡ t0 ++ item_line venue n → latest ≡ latest_of j.symbols j.entries → t2 ≡ t1 ++ flat_map best_line latest
     → GoesOn (tale_from o t0) (item_taken venue n ∷ []) (tale_from j t2)
@@ -181,11 +181,11 @@ item_goes o j venue n latest t0 t1 t2 room made head last bests =
     bests_since o j (Consumed venue n) t1 t2 latest made last bests
     ∙ ap (λ (t : List ℕ). t ++ flat_map best_line (notices_since o.symbols o.entries N)) head in
     subst (λ (x : ReplayState). GoesOn (tale_from o t0) (item_taken venue n ∷ []) x)
-    (sym (ap (λ (s : RunningState). tale_from s t2) made))
+    (sym (ap (λ (s : StreamingState). tale_from s t2) made))
     (step_goes (tale_from o t0) (item_taken venue n) N t2 refl text (λ w. one_longer o.entries (Consumed venue n) o.journal room))
 
 -- an item for which there was none
-pub item_full : (o : RunningState) (venue : ℕ) (n : Numbered) (text : List ℕ) → o.journal ≤ length o.entries → GoesToFull (tale_from o text) (item_taken venue n ∷ []) (tale_from o text)
+pub item_full : (o : StreamingState) (venue : ℕ) (n : Numbered) (text : List ℕ) → o.journal ≤ length o.entries → GoesToFull (tale_from o text) (item_taken venue n ∷ []) (tale_from o text)
 item_full o venue n text full = record {
   first = [];
   next = item_taken venue n;
@@ -212,7 +212,7 @@ so_yes entries venue true h = h
 so_yes entries venue false h = ap not h
 
 -- a declaration that was journaled
-pub declared_goes : (o j : RunningState) (venue : ℕ) (on : Bool) (position : ℕ) (latest : List Notice) (t0 t1 t2 : List ℕ)
+pub declared_goes : (o j : StreamingState) (venue : ℕ) (on : Bool) (position : ℕ) (latest : List Notice) (t0 t1 t2 : List ℕ)
     → (¬ (is_self_helped o.entries venue ≡ on)) → length o.entries < o.journal → GoesOnBy o (SelfHelp venue on) j → position ≡ length j.entries
     → t1 ≡ t0 ++ declare_line venue on (Some position) → latest ≡ latest_of j.symbols j.entries → t2 ≡ t1 ++ flat_map best_line latest
     → GoesOn (tale_from o t0) (self_help_declared venue on ∷ []) (tale_from j t2)
@@ -221,17 +221,17 @@ declared_goes o j venue on position latest t0 t1 t2 other room made placed head 
     let so : is_so o.entries venue on ≡ false = so_not o.entries venue on other in
     let after : entries_after o.entries (self_help_declared venue on) ≡ N = rw so refl in
     let longer : length N ≡ length o.entries + 1 = length-append o.entries (SelfHelp venue on ∷ []) in
-    let count : position ≡ length o.entries + 1 = placed ∙ ap (λ (s : RunningState). length s.entries) made ∙ longer in
+    let count : position ≡ length o.entries + 1 = placed ∙ ap (λ (s : StreamingState). length s.entries) made ∙ longer in
     let line : line_of o.entries (self_help_declared venue on) ≡ declare_line venue on (Some position) = rw (so, count) refl in
     let text : t2 ≡ (t0 ++ line_of o.entries (self_help_declared venue on)) ++ flat_map best_line (notices_since o.symbols o.entries N) =
     bests_since o j (SelfHelp venue on) t1 t2 latest made last bests
     ∙ ap (λ (t : List ℕ). t ++ flat_map best_line (notices_since o.symbols o.entries N)) (head ∙ ap (λ (l : List ℕ). t0 ++ l) (sym line)) in
     subst (λ (x : ReplayState). GoesOn (tale_from o t0) (self_help_declared venue on ∷ []) x)
-    (sym (ap (λ (s : RunningState). tale_from s t2) made))
+    (sym (ap (λ (s : StreamingState). tale_from s t2) made))
     (step_goes (tale_from o t0) (self_help_declared venue on) N t2 (sym after) text (λ w. one_longer o.entries (SelfHelp venue on) o.journal room))
 
--- one that is declared already
-pub already_goes : (o j : RunningState) (venue : ℕ) (on : Bool) (t0 t1 : List ℕ)
+-- one that is so already
+pub already_goes : (o j : StreamingState) (venue : ℕ) (on : Bool) (t0 t1 : List ℕ)
     → is_self_helped o.entries venue ≡ on → j ≡ o → t1 ≡ t0 ++ declare_line venue on None
     → GoesOn (tale_from o t0) (self_help_declared venue on ∷ []) (tale_from j t1)
 already_goes o j venue on t0 t1 so same head =
@@ -239,11 +239,11 @@ already_goes o j venue on t0 t1 so same head =
     let after : entries_after o.entries (self_help_declared venue on) ≡ o.entries = rw yes_so refl in
     let line : line_of o.entries (self_help_declared venue on) ≡ declare_line venue on None = rw yes_so refl in
     subst (λ (x : ReplayState). GoesOn (tale_from o t0) (self_help_declared venue on ∷ []) x)
-    (sym (ap (λ (s : RunningState). tale_from s t1) same))
+    (sym (ap (λ (s : StreamingState). tale_from s t1) same))
     (line_goes (tale_from o t0) (self_help_declared venue on) t1 after (head ∙ ap (λ (l : List ℕ). t0 ++ l) (sym line)))
 
 -- one for which there was no room
-pub declared_full : (o : RunningState) (venue : ℕ) (on : Bool) (text : List ℕ) → (¬ (is_self_helped o.entries venue ≡ on)) → o.journal ≤ length o.entries → GoesToFull (tale_from o text) (self_help_declared venue on ∷ []) (tale_from o text)
+pub declared_full : (o : StreamingState) (venue : ℕ) (on : Bool) (text : List ℕ) → (¬ (is_self_helped o.entries venue ≡ on)) → o.journal ≤ length o.entries → GoesToFull (tale_from o text) (self_help_declared venue on ∷ []) (tale_from o text)
 declared_full o venue on text other full = record {
   first = [];
   next = self_help_declared venue on;

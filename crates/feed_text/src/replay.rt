@@ -2,7 +2,7 @@
 ghost use Rattle.std.specs.Prelude.{◌≡◌, ◌≤◌, [], length, IfOk};
 ghost use Rattle.std.specs.List.{IsDistinct};
 ghost use Rattle.std.specs.Str.{bytes_eq};
-ghost use Rattle.journal_book.specs.Running.{new_running};
+ghost use Rattle.journal_book.specs.Streaming.{new_streaming};
 ghost use Rattle.feed_text.specs.Following.{Closes, Stops, fault_by, left_by};
 ghost use Rattle.feed_text.specs.Replays.{Replays};
 
@@ -16,7 +16,7 @@ use crate::report::{PublishStop, ReplaySink};
 use crate::unread::{RECORDS_ROOM, ReadBuffer};
 use crate::venues::Venues;
 use feed_types::SymbolName;
-use journal_book::RunningJournal;
+use journal_book::StreamingJournal;
 use std::alloc::{AllocError, Global};
 
 /// The settings of a replay.
@@ -80,10 +80,10 @@ fn new_report(alloc: Global, config: &ReplayConfig<'_>) -> Result<ReplaySink, Al
     requires symbols { length config.now.symbols.now ≤ 4096 }
     requires distinct { IsDistinct bytes_eq config.now.symbols.now }
     ensures journal { IfOk result (λ report. report.journal
-        ≡ new_running config.now.symbols.now (length config.now.sessions.now) config.now.journal) }
+        ≡ new_streaming config.now.symbols.now (length config.now.sessions.now) config.now.journal) }
     ensures text { IfOk result (λ report. report.text.items ≡ []) }
 {
-    match RunningJournal::new(alloc, config.symbols, config.sessions.len(), config.journal) {
+    match StreamingJournal::new(alloc, config.symbols, config.sessions.len(), config.journal) {
         Ok(journal) => Ok(ReplaySink {
             journal,
             text: LineBuffer::new(alloc),

@@ -9,7 +9,7 @@ ghost use Rattle.feed_text.specs.declared.report.PublishStop.TheVariants.{NoMemo
 use crate::lines::{put_change, put_declared, put_item};
 use crate::page::LineBuffer;
 use feed_types::{Numbered, VenueId};
-use journal_book::{JournalFault, Latest, RunningJournal};
+use journal_book::{EntryChanges, JournalFault, StreamingJournal};
 use std::alloc::AllocError;
 
 /// Why a record's events were not published to their end.
@@ -32,13 +32,13 @@ impl From<AllocError> for PublishStop {
 /// The journal of a replay, and the text that waits to be written.
 #[derive(Drop)]
 pub struct ReplaySink {
-    pub journal: RunningJournal,
+    pub journal: StreamingJournal,
     pub text: LineBuffer,
 }
 
 /// Prints the changes that the last entry made.
 #[inline(always)]
-fn put_bests(text: &mut LineBuffer, latest: Latest<'_>) -> Result<(), AllocError>
+fn put_bests(text: &mut LineBuffer, latest: EntryChanges<'_>) -> Result<(), AllocError>
     requires { latest.first + length latest.changes.now ≤ 18446744073709551615 }
     ensures lines { OnOk result (text.new.items ≡ text.old.items
         ++ flat_map best_line (notices_from latest.entry.first latest.entry.changes.now)) }

@@ -1,3 +1,1 @@
-pub mod Advising
-pub mod Boxed
 pub mod Copying

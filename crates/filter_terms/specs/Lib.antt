@@ -1,9 +1,11 @@
 pub mod Terms
 pub mod Copies
 pub mod Boxes
-pub mod Answerers
+pub mod StoredFilters
 pub mod Filters
 pub mod Allowed
-pub mod Advisers
+pub mod StoredStrategies
 pub mod Strategies
 pub mod Text
+pub mod Advising
+pub mod Boxed

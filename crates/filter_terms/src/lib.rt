@@ -11,16 +11,16 @@
 #![tactic(auto)]
 
 mod advice;
-mod adviser;
-mod answerer;
 mod filter;
+mod stored_filter;
+mod stored_strategy;
 mod strategy;
 mod terms;
 mod text;
 
 pub use advice::{Advice, Limits};
-pub use adviser::{Advise, Adviser};
-pub use answerer::Answers;
 pub use filter::Filter;
+pub use stored_filter::FilterFn;
+pub use stored_strategy::{AdviceFn, StoredStrategy};
 pub use strategy::Strategy;
 pub use terms::Terms;

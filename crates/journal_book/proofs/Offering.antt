@@ -1,19 +1,18 @@
--- The effect of moving a subscriber's cursor on what was offered.
-use Rattle.std.proofs.Common.{ℕ, zero, suc, ◌≡◌, ◌+◌, ◌<◌, ◌≤◌, List, [], ◌∷◌, ◌++◌, Bool, ap, ◌∙◌, sym, refl, subst, length, map, get_or, None, Some, Option, arith}
-use Rattle.std.specs.Prelude.{slice_get, slice_set, IsSome, MatchOption, option_and_then}
+-- What moving a subscriber's cursor does to what was offered.
+use Rattle.std.proofs.Common.{ℕ, zero, suc, ◌≡◌, ◌+◌, ◌<◌, ◌≤◌, List, [], ◌∷◌, ◌++◌, ap, ◌∙◌, sym, refl, subst, length, map, None, Some, Option, arith, length-append}
+use Rattle.std.specs.Prelude.{slice_get, slice_set, IsSome, IfSome, MatchOption, option_and_then}
 use Rattle.std.specs.Option.{option_map}
-use Rattle.std.proofs.lemmas.Option.{slice_get_read}
 use Rattle.feed_types.specs.declared.journal.Notice.{Notice}
-use Rattle.filter_terms.specs.declared.filter.Filter.{Filter}
 use Rattle.filter_terms.specs.declared.terms.Terms.{Terms}
-use Rattle.filter_terms.specs.Copies.{IsCopy}
 use Rattle.filter_terms.specs.Terms.{meets}
-use Rattle.filter_terms.specs.Filters.{terms_of}
 use Rattle.journal_book.specs.declared.cursor.Cursor.{Cursor}
-use Rattle.journal_book.specs.Journals.{JournalState, Subscription, changes, seen_at, LooksTo, subscription_of, subscriptions_of}
-use Rattle.journal_book.specs.Consolidators.{next_for, next_at, OffersOne, StaysButCursors}
+use Rattle.journal_book.specs.Journals.{JournalState, Subscription, changes, cursor_at, terms_at, subscription_of, subscriptions_of}
+use Rattle.journal_book.specs.Consolidators.{next_for, next_at, CountsOffer}
 use Rattle.journal_book.specs.Wanted.{wanted_of}
-use Rattle.journal_book.specs.Places.{IsNextPlace, IsNextOf, SameAnswers}
+use Rattle.journal_book.specs.Places.{IsNextPlace}
+use Rattle.journal_book.specs.PlaceLaws.{is_wanted, next_of_wanted, one_more_wanted, some_there}
+use Rattle.journal_book.specs.Cursors.{MovesCursor, GoesToNext, StandsAtWanted, AdvancesCursor}
+use Rattle.journal_book.specs.CursorLaws.{get_set, goes_past, goes_stays}
 
 some_is : {X : Type 0} (x y : X) → Some x ≡ Some y → x ≡ y
 some_is x y e = cc
@@ -34,139 +33,119 @@ set_same [] i x e = refl
 set_same (y ∷ ys) zero x e = let same : y ≡ x = some_is y x e in ap (λ z. z ∷ ys) (sym same)
 set_same (y ∷ ys) (suc i) x e = ap (λ l. y ∷ l) (set_same ys i x e)
 
-below_some : {X : Type 0} (xs : List X) (i : ℕ) → IsSome (slice_get xs i) → i < length xs
-below_some [] i h = absurd cc
-below_some (x ∷ xs) zero h = omega arith
-below_some (x ∷ xs) (suc i) h = let k : i < length xs = below_some xs i h in omega arith
+-- ---- one subscriber's cursor
 
--- the item at an index is got there
-pub at_index : {X : Type 0} (xs : List X) (i k : ℕ) (x : X) → i ≡ k → i < length xs → x ≡ get_or xs i x → slice_get xs k ≡ Some x
-at_index xs i k x e lt h = ap (slice_get xs) (sym e) ∙ slice_get_read xs (length xs) i x refl lt h
-
--- a filter wants what its cursor's terms say
-same_wants : {g F m : _} (filters : List (Filter g F m)) (cursors : List Cursor) (id : ℕ) (f : Filter g F m) (c : Cursor)
-    → SameAnswers filters cursors → slice_get filters id ≡ Some f → slice_get cursors id ≡ Some c → meets (terms_of f) ≡ meets c.terms
-same_wants {g} {F} {m} filters cursors id f c tied at is = λ i notice. one notice i
+-- where the search ended, and what stands there
+pub goes_on : (old new : JournalState) (id from place : ℕ) (terms : Terms) (notices : List Notice) (found : Option Notice) → cursor_at old id ≡ Some from → terms_at old id ≡ Some terms → notices ≡ changes old
+    → IsNextPlace (meets terms) notices from place → MovesCursor old id place new → found ≡ slice_get (changes new) place → GoesToNext old id found new
+goes_on old new id from place terms notices found seen of are next moves there = by (slice_get old.cursors id) refl seen of moves
   where
-    one : (notice : Notice) → meets (terms_of f) notice ≡ meets c.terms notice
-    one notice = some_is (meets (terms_of f) notice) (meets c.terms notice)
-        (ap (option_map (λ (x : Filter g F m). meets (terms_of x) notice)) (sym at) ∙ tied id notice ∙ ap (option_map (λ (x : Cursor). meets x.terms notice)) is)
+    by : (o : Option Cursor) → slice_get old.cursors id ≡ o → option_map (λ c. c.seen) o ≡ Some from → option_map (λ c. c.terms) o ≡ Some terms
+        → MatchOption o ⊥ (λ c. new ≡ record old { cursors = slice_set old.cursors id (record c { seen = place }) }) → GoesToNext old id found new
+    by None e s t m = absurd m
+    by (Some c) e s t m =
+        let from_is : c.seen ≡ from = some_is c.seen from s in
+        let terms_is : c.terms ≡ terms = some_is c.terms terms t in
+        record {
+          cursor = c;
+          at = e;
+          place = place;
+          next = subst (λ (x : (Terms × List Notice) × ℕ). IsNextPlace (meets x.0.0) x.0.1 x.1 place) (λ i. ((sym terms_is i, are i), sym from_is i)) next;
+          found_is = there ∙ ap (λ (s : JournalState). slice_get (changes s) place) m;
+          moved = m;
+        }
 
--- the place that the subscriber's filter found is that of its cursor
-pub next_of : {g F m : _} (state : JournalState) (filters : List (Filter g F m)) (id from place : ℕ) (f : Filter g F m)
-    → SameAnswers filters state.cursors → slice_get filters id ≡ Some f → seen_at state id ≡ Some from
-    → IsNextPlace (meets (terms_of f)) (changes state) from place → IsNextOf state id place
-next_of state filters id from place f tied at seen found = by (slice_get state.cursors id) refl seen
+-- a cursor that found a change stands at one that is wanted
+pub stands_there : (old new : JournalState) (id : ℕ) (found : Option Notice) → GoesToNext old id found new → IfSome found (λ _. StandsAtWanted new id)
+stands_there old new id found goes = by found goes.found_is
   where
-    by : (o : Option Cursor) → slice_get state.cursors id ≡ o → option_map (λ c. c.seen) o ≡ Some from
-        → MatchOption o ⊥ (λ c. IsNextPlace (meets c.terms) (changes state) c.seen place)
-    by None e h = absurd cc
-    by (Some c) e h =
-        let wants : meets (terms_of f) ≡ meets c.terms = same_wants filters state.cursors id f c tied at e in
-        let place_same : from ≡ c.seen = sym (some_is c.seen from h) in
-        subst (λ (x : (Notice → Bool) × ℕ). IsNextPlace x.0 (changes state) x.1 place) (λ i. (wants i, place_same i)) found
+    by : (o : Option Notice) → o ≡ slice_get (changes old) goes.place → IfSome o (λ _. StandsAtWanted new id)
+    by None e = tt
+    by (Some n) e = record {
+      cursor = record goes.cursor { seen = goes.place };
+      at = ap (λ (s : JournalState). slice_get s.cursors id) goes.moved ∙ get_set old.cursors id (record goes.cursor { seen = goes.place }) goes.cursor goes.at;
+      notice = n;
+      here = ap (λ (s : JournalState). slice_get (changes s) goes.place) goes.moved ∙ sym e;
+      wanted = is_wanted (meets goes.cursor.terms) (changes old) goes.cursor.seen goes.place goes.next n (sym e);
+    }
 
--- one more filter, with a cursor of a copy of its terms
-pub tied_put : {g F m : _} (filters : List (Filter g F m)) (cursors : List Cursor) (f : Filter g F m) (copy : Terms)
-    → length filters ≡ length cursors → IsCopy (terms_of f) copy → SameAnswers filters cursors
-    → SameAnswers (filters ++ f ∷ []) (cursors ++ record { terms = copy; seen = 0 } ∷ [])
-tied_put [] [] f copy many is tied zero notice = ap (λ (w : Notice → Bool). Some (w notice)) (sym is.meets_same)
-tied_put [] [] f copy many is tied (suc id) notice = refl
-tied_put [] (c ∷ cs) f copy many is tied id notice = absurd (omega arith)
-tied_put (x ∷ xs) [] f copy many is tied id notice = absurd (omega arith)
-tied_put (x ∷ xs) (c ∷ cs) f copy many is tied zero notice = tied zero notice
-tied_put (x ∷ xs) (c ∷ cs) f copy many is tied (suc id) notice = tied_put xs cs f copy (omega arith) is (λ j n. tied (suc j) n) id notice
+-- it stands before the end
+pub stands_within : (state : JournalState) (id place : ℕ) → StandsAtWanted state id → cursor_at state id ≡ Some place → place < length (changes state)
+stands_within state id place stands seen =
+    let here : stands.cursor.seen ≡ place = some_is stands.cursor.seen place (sym (ap (option_map (λ (c : Cursor). c.seen)) stands.at) ∙ seen) in
+    let below : stands.cursor.seen < length (changes state) = some_there (changes state) stands.cursor.seen stands.notice stands.here in
+    omega arith
 
-module _ (state new : JournalState) (id place : ℕ) where
-  -- the next wanted notice is the one at its place
-  pub next_is : IsNextOf state id place → slice_get (changes state) place ≡ next_at state id
-  next_is found = by (slice_get state.cursors id) refl found
+pub stands_known : (state : JournalState) (id : ℕ) → StandsAtWanted state id → id < length state.cursors
+stands_known state id stands = some_there state.cursors id stands.cursor stands.at
+
+-- one place on
+pub advances : (old new : JournalState) (id place : ℕ) → cursor_at old id ≡ Some place → MovesCursor old id (place + 1) new → AdvancesCursor old id new
+advances old new id place seen moves = by (slice_get old.cursors id) seen moves
+  where
+    by : (o : Option Cursor) → option_map (λ c. c.seen) o ≡ Some place → MatchOption o ⊥ (λ c. new ≡ record old { cursors = slice_set old.cursors id (record c { seen = place + 1 }) })
+        → MatchOption o ⊥ (λ c. new ≡ record old { cursors = slice_set old.cursors id (record c { seen = c.seen + 1 }) })
+    by None s m = absurd m
+    by (Some c) s m =
+        let here : c.seen ≡ place = some_is c.seen place s in
+        m ∙ ap (λ (k : ℕ). record old { cursors = slice_set old.cursors id (record c { seen = k + 1 }) }) (sym here)
+
+-- ---- what was offered
+
+module _ (old between : JournalState) (id : ℕ) (found : Option Notice) (goes : GoesToNext old id found between) where
+  abbrev there : Cursor
+  there = record goes.cursor { seen = goes.place }
+
+  abbrev of_cursor : Cursor → Subscription
+  of_cursor = subscription_of (changes old)
+
+  subscription_here : slice_get (subscriptions_of old) id ≡ Some (of_cursor goes.cursor)
+  subscription_here = get_map of_cursor old.cursors id ∙ ap (option_map of_cursor) goes.at
+
+  -- what it found is the next wanted change
+  pub next_is : found ≡ next_at old id
+  next_is =
+      goes.found_is ∙ next_of_wanted (meets goes.cursor.terms) (changes old) goes.cursor.seen goes.place goes.next
+      ∙ sym (ap (option_and_then (next_for old)) subscription_here)
+
+  -- nothing was offered
+  pub none_offered : subscriptions_of between ≡ subscriptions_of old
+  none_offered =
+      let same : of_cursor there ≡ of_cursor goes.cursor = ap (λ (xs : List Notice). record { terms = goes.cursor.terms; offered = length xs }) goes.next.passed in
+      ap subscriptions_of goes.moved ∙ map_set of_cursor old.cursors id there
+      ∙ ap (slice_set (subscriptions_of old) id) same ∙ set_same (subscriptions_of old) id (of_cursor goes.cursor) subscription_here
+
+  -- and what is next is so still
+  pub next_stays : found ≡ next_at between id
+  next_stays = next_is ∙ sym (λ i. option_and_then (λ (s : Subscription). slice_get (wanted_of (goes_stays old between id found goes i).symbols s.terms (goes_stays old between id found goes i).entries) s.offered) (slice_get (none_offered i) id))
+
+  -- where there is a next one, the cursor stands at it
+  pub stands_still : IfSome found (λ _. StandsAtWanted between id) → IsSome (next_at old id) → StandsAtWanted between id
+  stands_still stands some = by found stands (subst (λ (o : Option Notice). IsSome o) (sym next_is) some)
     where
-      by : (o : Option Cursor) → slice_get state.cursors id ≡ o → MatchOption o ⊥ (λ c. IsNextPlace (meets c.terms) (changes state) c.seen place)
-          → slice_get (changes state) place ≡ next_at state id
-      by None e h = absurd h
-      by (Some c) e h = h.next ∙ sym (ap (option_and_then (next_for state)) (get_map (subscription_of (changes state)) state.cursors id ∙ ap (option_map (subscription_of (changes state))) e))
+      by : (o : Option Notice) → IfSome o (λ _. StandsAtWanted between id) → IsSome o → StandsAtWanted between id
+      by None h k = absurd cc
+      by (Some n) h k = h
 
-  pub next_within : IsNextOf state id place → place ≤ length (changes state)
-  next_within found = by (slice_get state.cursors id) found
-    where
-      by : (o : Option Cursor) → MatchOption o ⊥ (λ c. IsNextPlace (meets c.terms) (changes state) c.seen place) → place ≤ length (changes state)
-      by None h = absurd h
-      by (Some c) h = h.within
+  module _ (new : JournalState) (past : AdvancesCursor between id new) where
+    moved_past : new ≡ record old { cursors = slice_set old.cursors id (record goes.cursor { seen = goes.place + 1 }) }
+    moved_past = goes_past old between new id found goes past
 
-  pub next_below : IsNextOf state id place → IsSome (next_at state id) → place < length (changes state)
-  next_below found some = below_some (changes state) place (subst (λ (o : Option Notice). IsSome o) (sym (next_is found)) some)
-
-  -- looking on to it offers nothing
-  pub none_offered : IsNextOf state id place → LooksTo state id place new → subscriptions_of new ≡ subscriptions_of state
-  none_offered found looks = by (slice_get state.cursors id) refl found looks
-    where
-      by : (o : Option Cursor) → slice_get state.cursors id ≡ o → MatchOption o ⊥ (λ c. IsNextPlace (meets c.terms) (changes state) c.seen place)
-          → MatchOption o ⊥ (λ c. new ≡ record state { cursors = slice_set state.cursors id (record c { seen = place }) }) → subscriptions_of new ≡ subscriptions_of state
-      by None e h l = absurd h
-      by (Some c) e h l =
-          let here : subscription_of (changes state) (record c { seen = place }) ≡ subscription_of (changes state) c = ap (λ xs. record { terms = c.terms; offered = length xs }) h.passed in
-          let at : slice_get (map (subscription_of (changes state)) state.cursors) id ≡ Some (subscription_of (changes state) c) = get_map (subscription_of (changes state)) state.cursors id ∙ ap (option_map (subscription_of (changes state))) e in
-          ap subscriptions_of l
-          ∙ map_set (subscription_of (changes state)) state.cursors id (record c { seen = place })
-          ∙ ap (slice_set (map (subscription_of (changes state)) state.cursors) id) here
-          ∙ set_same (map (subscription_of (changes state)) state.cursors) id (subscription_of (changes state) c) at
-
-  -- looking past it offers it
-  pub one_offered : IsNextOf state id place → place < length (changes state) → LooksTo state id (place + 1) new → OffersOne (subscriptions_of state) id (subscriptions_of new)
-  one_offered found below looks = by (slice_get state.cursors id) refl found looks
-    where
-      by : (o : Option Cursor) → slice_get state.cursors id ≡ o → MatchOption o ⊥ (λ c. IsNextPlace (meets c.terms) (changes state) c.seen place)
-          → MatchOption o ⊥ (λ c. new ≡ record state { cursors = slice_set state.cursors id (record c { seen = place + 1 }) }) → OffersOne (subscriptions_of state) id (subscriptions_of new)
-      by None e h l = absurd h
-      by (Some c) e h l =
-          let here : subscription_of (changes state) (record c { seen = place + 1 }) ≡ record (subscription_of (changes state) c) { offered = (subscription_of (changes state) c).offered + 1 }
-          = ap (λ k. record { terms = c.terms; offered = k }) (h.counted below) in
-          let at : slice_get (map (subscription_of (changes state)) state.cursors) id ≡ Some (subscription_of (changes state) c) = get_map (subscription_of (changes state)) state.cursors id ∙ ap (option_map (subscription_of (changes state))) e in
-          rw at (ap subscriptions_of l
-          ∙ map_set (subscription_of (changes state)) state.cursors id (record c { seen = place + 1 })
-          ∙ ap (slice_set (map (subscription_of (changes state)) state.cursors) id) here)
-
-set_terms : (cursors : List Cursor) (i j place : ℕ) (c : Cursor) (notice : Notice) → slice_get cursors i ≡ Some c
-    → option_map (λ x. meets x.terms notice) (slice_get cursors j) ≡ option_map (λ x. meets x.terms notice) (slice_get (slice_set cursors i (record c { seen = place })) j)
-set_terms [] i j place c notice e = refl
-set_terms (x ∷ xs) zero zero place c notice e = ap (λ (y : Cursor). Some (meets y.terms notice)) (some_is x c e)
-set_terms (x ∷ xs) zero (suc j) place c notice e = refl
-set_terms (x ∷ xs) (suc i) zero place c notice e = refl
-set_terms (x ∷ xs) (suc i) (suc j) place c notice e = set_terms xs i j place c notice e
-
-length_set : {X : Type 0} (xs : List X) (i : ℕ) (x : X) → length (slice_set xs i x) ≡ length xs
-length_set [] i x = refl
-length_set (y ∷ ys) zero x = refl
-length_set (y ∷ ys) (suc i) x = ap suc (length_set ys i x)
-
--- a cursor that moved has the terms that it had
-pub tied_moved : {g F m : _} (filters : List (Filter g F m)) (state new : JournalState) (id place : ℕ)
-    → SameAnswers filters state.cursors → LooksTo state id place new → SameAnswers filters new.cursors
-tied_moved {g} {F} {m} filters state new id place tied looks = by (slice_get state.cursors id) refl looks
-  where
-    by : (o : Option Cursor) → slice_get state.cursors id ≡ o → MatchOption o ⊥ (λ c. new ≡ record state { cursors = slice_set state.cursors id (record c { seen = place }) })
-        → SameAnswers filters new.cursors
-    by None e l = absurd l
-    by (Some c) e l = λ j notice. tied j notice ∙ set_terms state.cursors id j place c notice e
-        ∙ ap (λ (s : JournalState). option_map (λ (x : Cursor). meets x.terms notice) (slice_get s.cursors j)) (sym l)
-
-pub many_moved : (state new : JournalState) (id place : ℕ) → LooksTo state id place new → length state.cursors ≡ length new.cursors
-many_moved state new id place looks = by (slice_get state.cursors id) looks
-  where
-    by : (o : Option Cursor) → MatchOption o ⊥ (λ c. new ≡ record state { cursors = slice_set state.cursors id (record c { seen = place }) }) → length state.cursors ≡ length new.cursors
-    by None l = absurd l
-    by (Some c) l = sym (length_set state.cursors id (record c { seen = place })) ∙ ap (λ (s : JournalState). length s.cursors) (sym l)
-
--- nothing but the cursors moved
-pub stays_looking : (state new : JournalState) (id place : ℕ) → LooksTo state id place new → StaysButCursors state new
-stays_looking state new id place looks = by (slice_get state.cursors id) looks
-  where
-    by : (o : Option Cursor) → MatchOption o ⊥ (λ c. new ≡ record state { cursors = slice_set state.cursors id (record c { seen = place }) }) → StaysButCursors state new
-    by None l = absurd l
-    by (Some c) l = l ∙ ap (λ (s : JournalState). record state { cursors = s.cursors }) (sym l)
-
--- and the next notice stays the next one
-pub next_stays : (old new : JournalState) (id : ℕ) → StaysButCursors old new → subscriptions_of new ≡ subscriptions_of old → next_at new id ≡ next_at old id
-next_stays old new id stays same =
-    λ i. option_and_then (λ (s : Subscription). slice_get (wanted_of (stays i).symbols s.terms (stays i).entries) s.offered) (slice_get (same i) id)
+    -- going past it offers it
+    pub one_offered : IsSome (next_at old id) → CountsOffer (subscriptions_of old) id (subscriptions_of new)
+    one_offered some = by found goes.found_is (subst (λ (o : Option Notice). IsSome o) (sym next_is) some)
+      where
+        by : (o : Option Notice) → o ≡ slice_get (changes old) goes.place → IsSome o → CountsOffer (subscriptions_of old) id (subscriptions_of new)
+        by None e k = absurd cc
+        by (Some n) e k =
+            let wanted = filter_more n e in
+            let here : of_cursor (record goes.cursor { seen = goes.place + 1 }) ≡ record (of_cursor goes.cursor) { offered = (of_cursor goes.cursor).offered + 1 }
+            = ap (λ (k : ℕ). record { terms = goes.cursor.terms; offered = k }) wanted in
+            let is : subscriptions_of new ≡ slice_set (subscriptions_of old) id (record (of_cursor goes.cursor) { offered = (of_cursor goes.cursor).offered + 1 }) =
+            ap subscriptions_of moved_past ∙ map_set of_cursor old.cursors id (record goes.cursor { seen = goes.place + 1 }) ∙ ap (slice_set (subscriptions_of old) id) here in
+            subst (λ (o : Option Subscription). MatchOption o ⊥ (λ s. subscriptions_of new ≡ slice_set (subscriptions_of old) id (record s { offered = s.offered + 1 }))) (sym subscription_here) is
+          where
+            filter_more : (n : Notice) → Some n ≡ slice_get (changes old) goes.place → (of_cursor (record goes.cursor { seen = goes.place + 1 })).offered ≡ (of_cursor goes.cursor).offered + 1
+            filter_more n e =
+                ap length (one_more_wanted (meets goes.cursor.terms) (changes old) goes.cursor.seen goes.place goes.next n (sym e))
+                ∙ length-append _ (n ∷ [])

@@ -8,12 +8,12 @@ use Rattle.filter_terms.specs.Filters.{terms_of}
 use Rattle.journal_book.specs.declared.consolidator.Consolidator.{Consolidator}
 use Rattle.journal_book.specs.declared.fault.JournalFault.{JournalFault}
 use Rattle.journal_book.specs.declared.fault.JournalFault.TheVariants.{NoMemory, JournalFull, UnknownVenue, AlreadySo, TooManySubscribers}
-use Rattle.journal_book.specs.Journals.{JournalState, Subscription, subscriptions_of, Subscribes}
+use Rattle.journal_book.specs.Journals.{JournalState, Subscription, subscriptions_of, AddsSubscription}
 use Rattle.journal_book.specs.Wanted.{wanted_of}
 
 -- the journal without the filters
-abbrev pub journal_of : {g F m : _} → Consolidator g F m → JournalState
-journal_of consolidator = consolidator.journal
+abbrev pub journal_in : {g F m : _} → Consolidator g F m → JournalState
+journal_in consolidator = consolidator.journal
 
 -- the first wanted notice past those that were offered
 abbrev pub next_for : JournalState → Subscription → Option Notice
@@ -28,8 +28,8 @@ abbrev pub StaysButCursors : JournalState → JournalState → Type 0
 StaysButCursors old new = new ≡ record old { cursors = new.cursors }
 
 -- one more notice was offered to this subscriber, and none to the others
-abbrev pub OffersOne : List Subscription → ℕ → List Subscription → Type 0
-OffersOne old id new = MatchOption (slice_get old id) ⊥
+abbrev pub CountsOffer : List Subscription → ℕ → List Subscription → Type 0
+CountsOffer old id new = MatchOption (slice_get old id) ⊥
     (λ subscription.
     new ≡ slice_set old id (record subscription { offered = subscription.offered + 1 }))
 
@@ -38,7 +38,7 @@ OffersOne old id new = MatchOption (slice_get old id) ⊥
 abbrev pub SubscribesFilter : {g F m : _} → JournalState → Filter g F m
     → Result ℕ (JournalFault × Filter g F m) → JournalState → Type 0
 SubscribesFilter old filter (Ok id) new =
-    (copy : Terms) × IsCopy (terms_of filter) copy × Subscribes old copy (Ok id) new
+    (copy : Terms) × IsCopy (terms_of filter) copy × AddsSubscription old copy (Ok id) new
 SubscribesFilter old filter (Err (TooManySubscribers, back)) new =
     (32 ≤ length old.cursors) × (back ≡ filter) × (new ≡ old)
 SubscribesFilter old filter (Err (NoMemory, back)) new =

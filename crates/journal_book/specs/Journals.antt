@@ -1,16 +1,16 @@
--- A journal as contracts see it.
-use Rattle.std.specs.Prelude.{◌≡◌, ℕ, ◌<◌, ◌≤◌, List, [], ◌∷◌, ◌++◌, Bool, true, false, length, map, filter, take, slice_get, slice_set, Option, MatchOption, option_and_then, Result, Ok, Err}
+-- What contracts see of a journal.
+use Rattle.std.specs.Prelude.{◌≡◌, ℕ, ◌<◌, ◌≤◌, List, [], ◌∷◌, ◌++◌, Bool, true, false, length, map, filter, take, slice_get, Option, Result, Ok, Err}
 use Rattle.std.specs.Option.{option_map}
 use Rattle.feed_types.specs.declared.journal.Entry.{Entry}
 use Rattle.feed_types.specs.declared.journal.Entry.TheVariants.{SelfHelp}
 use Rattle.feed_types.specs.declared.journal.Notice.{Notice}
-use Rattle.nbbo_book.specs.Eligible.{is_self_helped}
 use Rattle.filter_terms.specs.declared.terms.Terms.{Terms}
 use Rattle.filter_terms.specs.Terms.{meets}
 use Rattle.journal_book.specs.declared.cursor.Cursor.{Cursor}
 use Rattle.journal_book.specs.declared.fault.JournalFault.{JournalFault}
 use Rattle.journal_book.specs.declared.fault.JournalFault.TheVariants.{NoMemory, JournalFull, UnknownVenue, AlreadySo, TooManySubscribers}
 use Rattle.journal_book.specs.Changes.{changes_of}
+use Rattle.journal_book.specs.Declares.{IsSo, DeclaresBy}
 
 -- The configured symbols, the number of venues, the most entries that the journal holds, the
 -- entries, a cursor for each subscriber, and whether there is room for one more entry and all its
@@ -60,32 +60,22 @@ abbrev pub terms_at : JournalState → ℕ → Option Terms
 terms_at state id = option_map (λ cursor. cursor.terms) (slice_get state.cursors id)
 
 -- how many of the changes were looked at for the subscriber
-abbrev pub seen_at : JournalState → ℕ → Option ℕ
-seen_at state id = option_map (λ cursor. cursor.seen) (slice_get state.cursors id)
-
--- the first change that wasn't looked at for the subscriber
-abbrev pub unseen_at : JournalState → ℕ → Option Notice
-unseen_at state id = option_and_then (slice_get (changes state)) (seen_at state id)
-
--- `place` changes were looked at for the subscriber, and nothing else differs from before
-abbrev pub LooksTo : JournalState → ℕ → ℕ → JournalState → Type 0
-LooksTo old id place new = MatchOption (slice_get old.cursors id) ⊥
-    (λ cursor.
-    new ≡ record old { cursors = slice_set old.cursors id (record cursor { seen = place }) })
+abbrev pub cursor_at : JournalState → ℕ → Option ℕ
+cursor_at state id = option_map (λ cursor. cursor.seen) (slice_get state.cursors id)
 
 -- the answer to `subscribe`, by cases
-abbrev pub Subscribes : JournalState → Terms → Result ℕ (JournalFault × Terms) → JournalState
+abbrev pub AddsSubscription : JournalState → Terms → Result ℕ (JournalFault × Terms) → JournalState
     → Type 0
-Subscribes old terms (Ok id) new =
+AddsSubscription old terms (Ok id) new =
     (id ≡ length old.cursors) × (length old.cursors < 32)
     × (new ≡ record old { cursors = old.cursors ++ record { terms = terms; seen = 0 } ∷ [] })
-Subscribes old terms (Err (TooManySubscribers, back)) new =
+AddsSubscription old terms (Err (TooManySubscribers, back)) new =
     (32 ≤ length old.cursors) × (back ≡ terms) × (new ≡ old)
-Subscribes old terms (Err (NoMemory, back)) new =
+AddsSubscription old terms (Err (NoMemory, back)) new =
     (length old.cursors < 32) × (back ≡ terms) × (new ≡ old)
-Subscribes old terms (Err (JournalFull, back)) new = ⊥
-Subscribes old terms (Err (UnknownVenue, back)) new = ⊥
-Subscribes old terms (Err (AlreadySo, back)) new = ⊥
+AddsSubscription old terms (Err (JournalFull, back)) new = ⊥
+AddsSubscription old terms (Err (UnknownVenue, back)) new = ⊥
+AddsSubscription old terms (Err (AlreadySo, back)) new = ⊥
 
 -- there is one more entry, and nothing else differs, but for the room
 abbrev pub Journals : JournalState → Entry → JournalState → Type 0
@@ -101,19 +91,11 @@ Reserves old (Err UnknownVenue) new = ⊥
 Reserves old (Err AlreadySo) new = ⊥
 Reserves old (Err TooManySubscribers) new = ⊥
 
--- the venue's self-help is on, or isn't, as declared
-abbrev pub IsSo : JournalState → ℕ → Bool → Type 0
-IsSo state venue on = is_self_helped state.entries venue ≡ on
-
--- the answer to `declare`, by cases in the order in which they are tried
+-- the answer to `declare`: memory is refused only where the entry would be journaled else
 abbrev pub Declares : JournalState → ℕ → Bool → Result ℕ JournalFault → JournalState → Type 0
-Declares old venue on (Err UnknownVenue) new = (old.venues ≤ venue) × (new ≡ old)
-Declares old venue on (Err AlreadySo) new = (venue < old.venues) × IsSo old venue on × (new ≡ old)
-Declares old venue on (Err JournalFull) new =
-    (venue < old.venues) × (¬ IsSo old venue on) × (old.journal ≤ length old.entries) × (new ≡ old)
-Declares old venue on (Err NoMemory) new =
-    (venue < old.venues) × (¬ IsSo old venue on) × (length old.entries < old.journal) × (new ≡ old)
-Declares old venue on (Err TooManySubscribers) new = ⊥
-Declares old venue on (Ok position) new =
-    (venue < old.venues) × (¬ IsSo old venue on) × (length old.entries < old.journal)
-    × Journals old (SelfHelp venue on) new × (position ≡ length new.entries)
+Declares old venue on answer new =
+    DeclaresBy old.venues old.journal old.entries (new ≡ old)
+    ((venue < old.venues) × (¬ IsSo old.entries venue on) × (length old.entries < old.journal)
+    × (new ≡ old))
+    (λ position. Journals old (SelfHelp venue on) new × (position ≡ length new.entries))
+    venue on answer

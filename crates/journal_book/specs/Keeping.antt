@@ -1,11 +1,13 @@
--- What a journal keeps of its parts. Cited by private clauses alone.
-use Rattle.std.specs.Prelude.{◌≡◌, ℕ, ◌+◌, ◌≤◌, nat_lt, nat_le, Bool, ◌&&◌, List, length, slice_get, slice_set, MatchOption}
+-- Cited by private clauses alone: what a journal keeps of its parts.
+use Rattle.std.specs.Prelude.{◌≡◌, ℕ, ◌+◌, ◌*◌, ◌≤◌, nat_lt, nat_le, Bool, ◌&&◌, List, length, slice_get, slice_set, MatchOption}
 use Rattle.std.specs.List.{AllByRecursion}
 use Rattle.feed_types.specs.declared.journal.Entry.{Entry}
 use Rattle.feed_types.specs.declared.journal.Notice.{Notice}
+use Rattle.nbbo_book.specs.declared.change.Change.{Change}
 use Rattle.nbbo_book.specs.Books.{BookState, FitsBook}
 use Rattle.journal_book.specs.declared.cursor.Cursor.{Cursor}
-use Rattle.journal_book.specs.Changes.{changes_of}
+use Rattle.journal_book.specs.Changes.{changes_of, notices_from}
+use Rattle.journal_book.specs.Streaming.{before_last, latest_of}
 
 -- the book and the notices are those of the entries, and no cursor is past the notices
 pub record Keeps (book : BookState) (venues limit scratch : ℕ)
@@ -28,3 +30,17 @@ has_room limit symbols entries entry_room notices notice_room =
 abbrev pub CursorMoves : List Cursor → ℕ → ℕ → List Cursor → Type 0
 CursorMoves old index place new = MatchOption (slice_get old index) ⊥
     (λ cursor. new ≡ slice_set old index (record cursor { seen = place }))
+
+-- of a streaming journal: book, counts and the last entry's changes are those of the entries
+pub record FitsEntries (book : BookState) (limit scratch earlier : ℕ) (latest : List Change)
+    (entries : List Entry) : Type 0 where
+  pub fits : FitsBook book entries
+  pub last : book.last ≡ length entries
+  pub within : length entries ≤ limit
+  pub limited : limit ≤ 4294967295
+  pub few : length book.symbols ≤ 4096
+  pub room : length book.symbols ≤ scratch
+  pub before : earlier ≡ length (changes_of book.symbols (before_last entries))
+  pub all : earlier + length latest ≡ length (changes_of book.symbols entries)
+  pub bounded : earlier + length latest ≤ length entries * 4096
+  pub made : notices_from (earlier + 1) latest ≡ latest_of book.symbols entries

@@ -1,8 +1,16 @@
 pub mod Changes
+pub mod Growth
 pub mod Wanted
+pub mod Prefixes
+pub mod Rising
+pub mod Declares
 pub mod Journals
 pub mod Consolidators
 pub mod Keeping
 pub mod Places
-pub mod Running
+pub mod PlaceLaws
+pub mod Cursors
+pub mod CursorLaws
+pub mod Streaming
+pub mod LastEntry
 pub mod Codes

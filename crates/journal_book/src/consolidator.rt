@@ -1,14 +1,10 @@
 //! The journal with its subscribers' filters.
 
-ghost use Rattle.std.specs.Prelude.{◌≡◌, ◌<◌, ◌≤◌, ◌^◌, ◌↔◌, ◌⊎◌, length, IsTrue, IsSome, IfSome, IfOk, OnOk, IsErrOf, Some};
-ghost use Rattle.std.specs.List.{IsDistinct};
-ghost use Rattle.std.specs.Str.{bytes_eq};
+ghost use Rattle.std.specs.Prelude.{◌≡◌, ◌<◌, ◌≤◌, ◌↔◌, length, IsTrue, IsSome, IfSome, IfOk, Some};
 ghost use Rattle.journal_book.specs.Journals.{new_journal, changes, subscriptions_of, Journals, Reserves, Declares, terms_at};
-ghost use Rattle.journal_book.specs.Places.{IsNextOf, SameAnswers, SameAnswers-prop};
 
 use crate::fault::JournalFault;
 use crate::journal::Journal;
-use crate::places::{next_place, notice_at};
 use feed_types::{Entry, National, Notice, Numbered, SubscriberId, SymbolName, VenueId};
 use filter_terms::{Filter, Terms};
 use nbbo_book::BookFault;
@@ -20,15 +16,14 @@ use std::alloc::Global;
 pub struct Consolidator {
     journal: Journal,
     filters: Vec<Filter>,
-    ghost as_many: { length filters.items ≡ length journal.cursors },
-    ghost tied: { SameAnswers filters.items journal.cursors } by { SameAnswers-prop filters.items journal.cursors },
 }
 
 impl Consolidator {
     ghost use Rattle.nbbo_book.specs.Books.{is_configured};
     ghost use Rattle.nbbo_book.specs.Nationals.{national_of};
     ghost use Rattle.nbbo_book.specs.Eligible.{is_self_helped};
-    ghost use Rattle.journal_book.specs.Consolidators.{journal_of, next_at, StaysButCursors, OffersOne, SubscribesFilter};
+    ghost use Rattle.nbbo_book.specs.Refusals.{ConfiguresBook};
+    ghost use Rattle.journal_book.specs.Consolidators.{journal_in, next_at, StaysButCursors, CountsOffer, SubscribesFilter};
 
     /// A consolidator of no entries and no subscribers: see [`Journal::new`].
     pub fn new(
@@ -38,15 +33,8 @@ impl Consolidator {
         journal: u32,
     ) -> Result<Consolidator, BookFault>
         ensures new { IfOk result
-            (λ made. journal_of made ≡ new_journal symbols.now venue_count journal) }
-        ensures distinct { OnOk result (IsDistinct bytes_eq symbols.now) }
-        ensures bad_venue_count { IsErrOf result BookFault.BadVenueCount
-            ↔ ((venue_count ≡ 0) ⊎ (16 < venue_count)) }
-        ensures too_many_symbols { IsErrOf result BookFault.TooManySymbols
-            ↔ ((0 < venue_count) × (venue_count ≤ 16) × (4096 < length symbols.now)) }
-        ensures duplicate_symbol { IsErrOf result BookFault.DuplicateSymbol
-            → (0 < venue_count) × (venue_count ≤ 16) × (length symbols.now ≤ 4096)
-            × (¬ IsDistinct bytes_eq symbols.now) }
+            (λ made. journal_in made ≡ new_journal symbols.now venue_count journal) }
+        ensures answer { ConfiguresBook symbols.now venue_count result }
     {
         match Journal::new(alloc, symbols, venue_count, journal) {
             Ok(journal) => Ok(Consolidator {
@@ -60,14 +48,14 @@ impl Consolidator {
     /// Makes room for one entry and all changes that it can make: JournalFull where the journal
     /// has as many entries as it holds, else NoMemory where room was missing and refused.
     pub fn reserve_one(&mut self) -> Result<(), JournalFault>
-        ensures { Reserves (journal_of self.old) result (journal_of self.new) }
+        ensures { Reserves (journal_in self.old) result (journal_in self.new) }
     {
         self.journal.reserve_one()
     }
 
     /// Whether there is room for one more entry and all changes that it can make.
     pub fn has_room(&self) -> bool
-        ensures { result ≡ (journal_of self.now).ready }
+        ensures { result ≡ (journal_in self.now).ready }
     {
         self.journal.has_room()
     }
@@ -75,13 +63,13 @@ impl Consolidator {
     /// Journals the venue's item and its changes, and returns its position, which counts from 1. It
     /// takes no memory: there is room, and the venue is below the count.
     pub fn record(&mut self, venue: VenueId, numbered: Numbered) -> u64
-        requires ready { IsTrue (journal_of self.old).ready }
-        requires venue { venue < (journal_of self.old).venues }
-        ensures journals { Journals (journal_of self.old) (Entry.Consumed venue numbered)
-            (journal_of self.new) }
-        ensures position { result ≡ length (journal_of self.new).entries }
-        ensures offered { subscriptions_of (journal_of self.new)
-            ≡ subscriptions_of (journal_of self.old) }
+        requires ready { IsTrue (journal_in self.old).ready }
+        requires venue { venue < (journal_in self.old).venues }
+        ensures journals { Journals (journal_in self.old) (Entry.Consumed venue numbered)
+            (journal_in self.new) }
+        ensures position { result ≡ length (journal_in self.new).entries }
+        ensures offered { subscriptions_of (journal_in self.new)
+            ≡ subscriptions_of (journal_in self.old) }
     {
         self.journal.record(venue, numbered)
     }
@@ -90,16 +78,16 @@ impl Consolidator {
     /// refused as UnknownVenue, AlreadySo where the venue's self-help is in that state (off at
     /// first), JournalFull or NoMemory: the first that fits.
     pub fn declare(&mut self, venue: VenueId, on: bool) -> Result<u64, JournalFault>
-        ensures declares { Declares (journal_of self.old) venue on result (journal_of self.new) }
-        ensures offered { subscriptions_of (journal_of self.new)
-            ≡ subscriptions_of (journal_of self.old) }
+        ensures declares { Declares (journal_in self.old) venue on result (journal_in self.new) }
+        ensures offered { subscriptions_of (journal_in self.new)
+            ≡ subscriptions_of (journal_in self.old) }
     {
         self.journal.declare(venue, on)
     }
 
     /// Whether self-help is declared on the venue.
     pub fn is_self_helped(&self, venue: VenueId) -> bool
-        ensures { result ≡ is_self_helped (journal_of self.now).entries venue }
+        ensures { result ≡ is_self_helped (journal_in self.now).entries venue }
     {
         self.journal.is_self_helped(venue)
     }
@@ -108,9 +96,9 @@ impl Consolidator {
     /// Its notices begin with the first change of the journal, whenever it subscribes. It is
     /// refused, with the filter, as TooManySubscribers where there are 32, else as NoMemory.
     pub fn subscribe(&mut self, filter: Filter) -> Result<SubscriberId, (JournalFault, Filter)>
-        ensures { SubscribesFilter (journal_of self.old) filter result (journal_of self.new) }
+        ensures { SubscribesFilter (journal_in self.old) filter result (journal_in self.new) }
     {
-        if self.journal.subscriber_count() >= 32 {
+        if !self.journal.has_subscriber_room() {
             return Err((JournalFault::TooManySubscribers, filter));
         }
         if self.filters.reserve(1).is_err() {
@@ -130,80 +118,69 @@ impl Consolidator {
 
     /// Whether there is a subscriber of this id.
     pub fn has(&self, id: SubscriberId) -> bool
-        ensures { IsTrue result ↔ (id < length (journal_of self.now).cursors) }
+        ensures { IsTrue result ↔ (id < length (journal_in self.now).cursors) }
     {
         self.journal.has(id)
     }
 
     /// The subscriber's terms.
     pub fn terms(&self, id: SubscriberId) -> &Terms
-        requires { id < length (journal_of self.now).cursors }
-        ensures { terms_at (journal_of self.now) id ≡ Some result.now }
+        requires { id < length (journal_in self.now).cursors }
+        ensures { terms_at (journal_in self.now) id ≡ Some result.now }
     {
         self.journal.terms(id)
     }
 
-    /// The place of the next notice that the subscriber wants, or their number where there is none.
-    fn next_place(&self, id: SubscriberId) -> usize
-        requires { id < length (journal_of self.now).cursors }
-        ensures next { IsNextOf (journal_of self.now) id result }
-        ensures small { result < 2 ^ 63 }
-    {
-        let from = self.journal.seen(id);
-        next_place(&self.filters[id.index()], self.journal.changes(), from)
-    }
-
     /// The first notice past those offered that meets the subscriber's filter, if there is one.
     pub fn next_offer(&mut self, id: SubscriberId) -> Option<Notice>
-        requires { id < length (journal_of self.old).cursors }
-        ensures next { result ≡ next_at (journal_of self.old) id }
-        ensures offered { subscriptions_of (journal_of self.new)
-            ≡ subscriptions_of (journal_of self.old) }
-        ensures stays { StaysButCursors (journal_of self.old) (journal_of self.new) }
+        requires { id < length (journal_in self.old).cursors }
+        ensures next { result ≡ next_at (journal_in self.old) id }
+        ensures offered { subscriptions_of (journal_in self.new)
+            ≡ subscriptions_of (journal_in self.old) }
+        ensures stays { StaysButCursors (journal_in self.old) (journal_in self.new) }
 
-        // It stays the next one until it is counted, and the number of subscribers stays.
-        ensures still { result ≡ next_at (journal_of self.new) id }
-        ensures known { length (journal_of self.new).cursors
-            ≡ length (journal_of self.old).cursors }
+        // It is the next one still, until it is counted, and the subscribers are as many.
+        ensures still { result ≡ next_at (journal_in self.new) id }
+        ensures known { length (journal_in self.new).cursors
+            ≡ length (journal_in self.old).cursors }
     {
-        let place = self.next_place(id);
-        let found = notice_at(self.journal.changes(), place);
-        self.journal.look_to(id, place);
-        found
+        let filter = self.filters.get(id.index());
+        self.journal.next_offer(id, filter)
     }
 
     /// Counts the next notice that the subscriber wants as offered. There is one.
-    pub fn offered(&mut self, id: SubscriberId)
-        requires known { id < length (journal_of self.old).cursors }
-        requires next { IsSome (next_at (journal_of self.old) id) }
-        ensures offered { OffersOne (subscriptions_of (journal_of self.old)) id
-            (subscriptions_of (journal_of self.new)) }
-        ensures stays { StaysButCursors (journal_of self.old) (journal_of self.new) }
-        ensures known { length (journal_of self.new).cursors
-            ≡ length (journal_of self.old).cursors }
+    pub fn advance_cursor(&mut self, id: SubscriberId)
+        requires known { id < length (journal_in self.old).cursors }
+        requires next { IsSome (next_at (journal_in self.old) id) }
+        ensures offered { CountsOffer (subscriptions_of (journal_in self.old)) id
+            (subscriptions_of (journal_in self.new)) }
+        ensures stays { StaysButCursors (journal_in self.old) (journal_in self.new) }
+        ensures known { length (journal_in self.new).cursors
+            ≡ length (journal_in self.old).cursors }
     {
-        let place = self.next_place(id);
-        self.journal.look_to(id, place + 1);
+        let filter = self.filters.get(id.index());
+        let _counted = self.journal.next_offer(id, filter);
+        self.journal.advance_cursor(id);
     }
 
     /// The number of venues: items and declarations are of venues below it.
     pub fn venue_count(&self) -> usize
-        ensures { result ≡ (journal_of self.now).venues }
+        ensures { result ≡ (journal_in self.now).venues }
     {
         self.journal.venue_count()
     }
 
     /// The entries, each at its position less one.
     pub fn entries(&self) -> &[Entry]
-        ensures value { result.now ≡ (journal_of self.now).entries }
-        ensures within { length result.now ≤ (journal_of self.now).journal }
+        ensures value { result.now ≡ (journal_in self.now).entries }
+        ensures within { length result.now ≤ (journal_in self.now).journal }
     {
         self.journal.entries()
     }
 
     /// The changes of the entries, numbered from 1.
     pub fn changes(&self) -> &[Notice]
-        ensures { result.now ≡ changes (journal_of self.now) }
+        ensures { result.now ≡ changes (journal_in self.now) }
     {
         self.journal.changes()
     }
@@ -211,9 +188,9 @@ impl Consolidator {
     /// The national best of the symbol after all entries, `None` exactly where it isn't configured.
     pub fn national(&self, symbol: &SymbolName) -> Option<National>
         ensures configured { IsSome result
-            ↔ IsTrue (is_configured (journal_of self.now).symbols symbol.now) }
+            ↔ IsTrue (is_configured (journal_in self.now).symbols symbol.now) }
         ensures value { IfSome result
-            (λ national. national ≡ national_of (journal_of self.now).entries symbol.now) }
+            (λ national. national ≡ national_of (journal_in self.now).entries symbol.now) }
     {
         self.journal.national(symbol)
     }

@@ -1,8 +1,6 @@
 //! The journal of entries with the changes that they make, and a cursor for each subscriber.
 
-ghost use Rattle.std.specs.Prelude.{◌≡◌, ◌<◌, ◌≤◌, ◌↔◌, ◌∷◌, [], ◌++◌, ◌⊎◌, length, IsTrue, IsSome, IfSome, IfOk, OnOk, IsErrOf, Some};
-ghost use Rattle.std.specs.List.{IsDistinct};
-ghost use Rattle.std.specs.Str.{bytes_eq};
+ghost use Rattle.std.specs.Prelude.{◌≡◌, ◌<◌, ◌≤◌, ◌^◌, ◌↔◌, ◌∷◌, [], ◌++◌, length, IsTrue, IsSome, IfSome, IfOk, Some};
 ghost use Rattle.std.specs.Vec.{vec_len, vec_capacity};
 ghost use Rattle.journal_book.specs.Keeping.{Keeps, CursorMoves};
 
@@ -10,10 +8,11 @@ use crate::cursor::Cursor;
 use crate::fault::JournalFault;
 use crate::notices::push_notices;
 use crate::room::make_room;
+use crate::search::{next_wanted, notice_at};
 use feed_types::{
     Entry, Item, National, Notice, Numbered, Quote, SubscriberId, SymbolName, VenueId,
 };
-use filter_terms::Terms;
+use filter_terms::{Filter, Terms};
 use nbbo_book::{Book, BookFault, Change};
 use std::alloc::Global;
 use std::marker::Model;
@@ -26,7 +25,8 @@ const MAX_SUBSCRIBERS: usize = 32;
 ///
 /// Take a [`Journal`] where the filters are kept beside it, as under a lock whose contract names
 /// more than this crate does; take a [`Consolidator`](crate::Consolidator) where one value is to
-/// keep both, and a [`RunningJournal`](crate::RunningJournal) where nothing of it is read later.
+/// keep both, and a [`StreamingJournal`](crate::StreamingJournal) where nothing of it is read
+/// later.
 #[derive(Drop)]
 pub struct Journal {
     book: Book,
@@ -86,8 +86,10 @@ impl Journal {
     ghost use Rattle.std.specs.Prelude.{false, Ok, Err, None};
     ghost use Rattle.nbbo_book.specs.Books.{venue_of, is_configured};
     ghost use Rattle.nbbo_book.specs.Nationals.{national_of};
+    ghost use Rattle.nbbo_book.specs.Refusals.{ConfiguresBook};
     ghost use Rattle.nbbo_book.specs.Eligible.{is_self_helped};
-    ghost use Rattle.journal_book.specs.Journals.{JournalState, new_journal, changes, subscriptions_of, Journals, Reserves, Declares, Subscribes, LooksTo, terms_at, seen_at, unseen_at};
+    ghost use Rattle.journal_book.specs.Journals.{JournalState, new_journal, changes, subscriptions_of, Journals, Reserves, Declares, AddsSubscription, terms_at, cursor_at};
+    ghost use Rattle.journal_book.specs.Cursors.{MovesCursor, GoesToNext, StandsAtWanted, AdvancesCursor};
 
     /// A journal of no entries and no subscribers, over `venue_count` venues, 1 to 16, and these
     /// symbols, at most 4,096 and each once. It holds at most `journal` entries.
@@ -100,14 +102,7 @@ impl Journal {
         journal: u32,
     ) -> Result<Journal, BookFault>
         ensures new { IfOk result (λ made. made ≡ new_journal symbols.now venue_count journal) }
-        ensures distinct { OnOk result (IsDistinct bytes_eq symbols.now) }
-        ensures bad_venue_count { IsErrOf result BookFault.BadVenueCount
-            ↔ ((venue_count ≡ 0) ⊎ (16 < venue_count)) }
-        ensures too_many_symbols { IsErrOf result BookFault.TooManySymbols
-            ↔ ((0 < venue_count) × (venue_count ≤ 16) × (4096 < length symbols.now)) }
-        ensures duplicate_symbol { IsErrOf result BookFault.DuplicateSymbol
-            → (0 < venue_count) × (venue_count ≤ 16) × (length symbols.now ≤ 4096)
-            × (¬ IsDistinct bytes_eq symbols.now) }
+        ensures answer { ConfiguresBook symbols.now venue_count result }
     {
         let book = Book::new(alloc, symbols, venue_count)?;
         let Ok(made) = Vec::with_capacity(alloc, symbols.len()) else {
@@ -256,7 +251,7 @@ impl Journal {
     /// one from 0 on. It is refused, with the terms, as TooManySubscribers where there are 32, else
     /// as NoMemory.
     pub fn subscribe(&mut self, terms: Terms) -> Result<SubscriberId, (JournalFault, Terms)>
-        ensures { Subscribes self.old terms result self.new }
+        ensures { AddsSubscription self.old terms result self.new }
     {
         let count = self.cursors.len();
         let Some(id) = SubscriberId::new(count as u8) else {
@@ -269,7 +264,14 @@ impl Journal {
         Ok(id)
     }
 
-    /// The number of subscribers.
+    /// Whether one more subscriber is taken: there are 32 at most.
+    pub fn has_subscriber_room(&self) -> bool
+        ensures { IsTrue result ↔ (length self.now.cursors < 32) }
+    {
+        self.cursors.len() < MAX_SUBSCRIBERS
+    }
+
+    /// How many subscribers there are.
     pub fn subscriber_count(&self) -> usize
         ensures value { result ≡ length self.now.cursors }
         ensures few { result ≤ 32 }
@@ -292,31 +294,49 @@ impl Journal {
         &self.cursors[id.index()].terms
     }
 
-    /// The number of changes that were looked at for the subscriber.
-    pub fn seen(&self, id: SubscriberId) -> usize
+    /// How many of the changes were looked at for the subscriber.
+    pub fn cursor(&self, id: SubscriberId) -> usize
         requires { id < length self.now.cursors }
-        ensures value { seen_at self.now id ≡ Some result }
+        ensures value { cursor_at self.now id ≡ Some result }
         ensures within { result ≤ length (changes self.now) }
+        ensures small { result < 2 ^ 63 }
     {
         self.cursors[id.index()].seen
     }
 
-    /// The first change that wasn't looked at for the subscriber.
-    pub fn unseen(&self, id: SubscriberId) -> Option<Notice>
-        requires { id < length self.now.cursors }
-        ensures { result ≡ unseen_at self.now id }
-    {
-        let seen = self.seen(id);
-        self.changes().get(seen).copied()
-    }
-
-    /// Notes that the first `place` changes were looked at for the subscriber. The keeper of the
-    /// filters calls it once the filter was asked about each change before `place`.
-    pub fn look_to(&mut self, id: SubscriberId, place: usize)
+    /// Moves the subscriber's cursor to `place`.
+    #[inline(always)]
+    fn move_to(&mut self, id: SubscriberId, place: usize)
         requires known { id < length self.old.cursors }
         requires within { place ≤ length (changes self.old) }
-        ensures { LooksTo self.old id place self.new }
+        ensures { MovesCursor self.old id place self.new }
     {
         move_cursor(&mut self.cursors, id.index(), place);
+    }
+
+    /// Moves the subscriber's cursor on to the next change that it wants, or to the end, and
+    /// returns that change, which isn't counted as offered yet. `filter` is the subscriber's, of
+    /// whose terms the journal has a copy; `None` where there is none to ask.
+    #[inline(always)]
+    pub fn next_offer(&mut self, id: SubscriberId, filter: Option<&Filter>) -> Option<Notice>
+        requires { id < length self.old.cursors }
+        ensures goes { GoesToNext self.old id result self.new }
+        ensures stands { IfSome result (λ _. StandsAtWanted self.new id) }
+    {
+        let from = self.cursor(id);
+        let place = next_wanted(filter, self.terms(id), self.changes(), from);
+        self.move_to(id, place);
+        notice_at(self.changes(), place)
+    }
+
+    /// Moves the subscriber's cursor past the change where it stands, which is one that it wants:
+    /// it was offered.
+    #[inline(always)]
+    pub fn advance_cursor(&mut self, id: SubscriberId)
+        requires { StandsAtWanted self.old id }
+        ensures { AdvancesCursor self.old id self.new }
+    {
+        let place = self.cursor(id);
+        self.move_to(id, place + 1);
     }
 }

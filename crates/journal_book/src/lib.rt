@@ -2,9 +2,8 @@
 //! for each subscriber.
 //!
 //! A [`Consolidator`] keeps a [`Journal`] and the subscribers' filters. The journal alone holds no
-//! closure: a caller that keeps the filters elsewhere holds the two side by side. A
-//! [`RunningJournal`] has no subscribers and keeps no entry, for a caller that writes events
-//! elsewhere.
+//! closure: whoever keeps the filters elsewhere holds the two side by side. A [`StreamingJournal`]
+//! has no subscribers and keeps no entry, for whoever writes what happens elsewhere.
 //!
 //! Contract: the entries are what was recorded and declared, the changes are `changes_of` the
 //! entries (`specs/Changes.antt`), a definition over the whole list, and a subscriber is offered
@@ -16,16 +15,17 @@ mod consolidator;
 mod cursor;
 mod fault;
 mod journal;
+mod journaled_entries;
 mod laws;
 mod notices;
-mod past;
-mod places;
 mod room;
-mod running;
+mod search;
+mod streaming;
 
 pub use consolidator::Consolidator;
 pub use cursor::Cursor;
 pub use fault::JournalFault;
 pub use journal::Journal;
 pub use laws::{changes_grow_at_their_end, wanted_grow_at_their_end, wanted_numbers_rise};
-pub use running::{Latest, RunningJournal};
+pub use search::{next_wanted, notice_at};
+pub use streaming::{EntryChanges, StreamingJournal};

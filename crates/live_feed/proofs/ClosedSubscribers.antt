@@ -8,7 +8,7 @@ use Rattle.feed_types.specs.declared.journal.Notice.{Notice}
 use Rattle.filter_terms.specs.declared.terms.Terms.{Terms}
 use Rattle.filter_terms.specs.Terms.{meets}
 use Rattle.journal_book.specs.declared.cursor.Cursor.{Cursor}
-use Rattle.journal_book.specs.Journals.{JournalState, changes, terms_at, seen_at}
+use Rattle.journal_book.specs.Journals.{JournalState, changes, terms_at, cursor_at}
 use Rattle.fifo_lane.specs.Lane.{Keeps, LaneEnd}
 use Rattle.feed_core.proofs.Lists.{get_within}
 use Rattle.live_feed.specs.declared.subscriber.logged.Logged.{Logged}
@@ -39,7 +39,7 @@ module _ (wants : Notice → Bool) (xs : List Notice) (place : ℕ) where
   wanted_all room all past same = sym (append-nil room) ∙ ap (λ (l : List Notice). room ++ filter wants l) (sym (drop_past xs place past)) ∙ same
 
 pub served : (lanes : FeedLanes) (may_send : ℕ → List Notice → Type 0) (journal : JournalState) (id : ℕ) (sender : LaneEnd Notice) (terms : Terms) (seen : ℕ) (log : List Logged) (received inside unoffered : List Notice)
-    → IsOffered lanes journal id sender → id < length journal.cursors → terms_at journal id ≡ Some terms → seen_at journal id ≡ Some seen → map (λ (line : Logged). line.notice) log ≡ received
+    → IsOffered lanes journal id sender → id < length journal.cursors → terms_at journal id ≡ Some terms → cursor_at journal id ≡ Some seen → map (λ (line : Logged). line.notice) log ≡ received
     → Keeps may_send sender.tag sender.capacity sender.items received inside → unoffered ≡ filter (meets terms) (drop seen (changes journal)) → IsServed journal id log inside unoffered
 served lanes may_send journal id sender terms seen log received inside unoffered offered known terms_is seen_is notices keeps rest =
     let there = get_within journal.cursors id known in
@@ -47,7 +47,7 @@ served lanes may_send journal id sender terms seen log received inside unoffered
     let at = there.1 in
     let xs = changes journal in
     let t : cursor.terms ≡ terms = one_there (terms_at journal id) cursor.terms terms (ap (option_map (λ (c : Cursor). c.terms)) at) terms_is in
-    let s : cursor.seen ≡ seen = one_there (seen_at journal id) cursor.seen seen (ap (option_map (λ (c : Cursor). c.seen)) at) seen_is in
+    let s : cursor.seen ≡ seen = one_there (cursor_at journal id) cursor.seen seen (ap (option_map (λ (c : Cursor). c.seen)) at) seen_is in
     let sent : sender.items ≡ filter (meets terms) (take seen xs) = (offered.items cursor at).1 ∙ (λ i. filter (meets (t i)) (take (s i) xs)) in
     record {
       terms = terms;

@@ -1,12 +1,12 @@
--- What a consumed item and an offered notice leave of the consolidator's cell, in terms of plain
--- states.
-use Rattle.std.proofs.Common.{◌≡◌, ◌≢◌, ℕ, zero, suc, ◌+◌, ◌≤◌, ◌<◌, Bool, true, false, cond, List, [], ◌∷◌, ◌++◌, length, filter, take, drop, Option, Some, None, Result, Ok, Err, refl, sym, ap, subst, ◌∙◌, arith, append-nil, length-append, inl, inr}
+-- What a consumed item and an offered notice leave of the consolidator's cell, said of plain states.
+use Rattle.std.proofs.Common.{◌≡◌, ◌≢◌, ℕ, zero, suc, ◌+◌, ◌≤◌, ◌<◌, Bool, true, false, cond, List, [], ◌∷◌, ◌++◌, length, get_or, filter, take, drop, Option, Some, None, Result, Ok, Err, refl, sym, ap, subst, ◌∙◌, arith, append-nil, length-append, inl, inr}
 use Rattle.std.specs.Prelude.{slice_get, slice_set, nat_le, ◌⊎◌, ◌==◌, MatchOption, AllPairs, if◌then◌else◌}
 use Rattle.std.specs.Option.{option_map}
 use Rattle.std.proofs.lemmas.Grind.{flat_map-append}
 use Rattle.std.proofs.lemmas.List.Elements.{filter-append}
 use Rattle.std.proofs.lemmas.List.{take-append-drop}
 use Rattle.std.proofs.lemmas.Bool.Decides.{nat_tests}
+use Rattle.std.proofs.lemmas.Option.{slice_get_read}
 use Rattle.feed_types.specs.declared.item.Numbered.{Numbered}
 use Rattle.feed_types.specs.declared.journal.Entry.{Entry}
 use Rattle.feed_types.specs.declared.journal.Entry.TheVariants as entry
@@ -16,13 +16,14 @@ use Rattle.filter_terms.specs.declared.terms.Terms.{Terms}
 use Rattle.filter_terms.specs.Terms.{meets}
 use Rattle.journal_book.specs.declared.cursor.Cursor.{Cursor}
 use Rattle.journal_book.specs.Changes.{changes_of}
-use Rattle.journal_book.specs.Journals.{JournalState, changes, offered_of, Declares, Journals, LooksTo, Reserves, terms_at}
+use Rattle.journal_book.specs.Journals.{JournalState, changes, offered_of, Declares, Journals, Reserves, terms_at}
 use Rattle.journal_book.specs.declared.fault.JournalFault.{JournalFault}
 use Rattle.journal_book.specs.declared.fault.JournalFault.TheVariants.{NoMemory, JournalFull, UnknownVenue, AlreadySo, TooManySubscribers}
-use Rattle.journal_book.specs.Places.{IsNextPlace, IsNextOf}
+use Rattle.journal_book.specs.Places.{IsNextPlace}
+use Rattle.journal_book.specs.PlaceLaws.{next_of_wanted, one_more_wanted}
 use Rattle.journal_book.specs.Wanted.{wanted_of}
-use Rattle.journal_book.proofs.Growth.{changes_begin}
-use Rattle.journal_book.proofs.Rising.{wanted_rise, pairs_rise}
+use Rattle.journal_book.specs.Growth.{changes_begin}
+use Rattle.journal_book.specs.Rising.{wanted_rise, pairs_rise}
 use Rattle.fifo_lane.specs.Lane.{LaneEnd, with_items, WasEmpty, WasFull}
 use Rattle.fifo_lane.specs.Rising.{AllPairs-prefix}
 use Rattle.feed_core.proofs.Lists.{begins_len, get_push}
@@ -34,6 +35,10 @@ use Rattle.live_feed.specs.declared.unsent.Unsent.TheVariants as unsent
 use Rattle.live_feed.proofs.Histories.{take_same, take_next}
 
 -- ---- lists
+
+-- the item at an index is got there
+pub at_index : {X : Type 0} (xs : List X) (i k : ℕ) (x : X) → i ≡ k → i < length xs → x ≡ get_or xs i x → slice_get xs k ≡ Some x
+at_index xs i k x e lt h = ap (slice_get xs) (sym e) ∙ slice_get_read xs (length xs) i x refl lt h
 
 pub length_put : {X : Type 0} (xs : List X) (i : ℕ) (x : X) → length (slice_set xs i x) ≡ length xs
 length_put [] i x = refl
@@ -180,24 +185,6 @@ moves carries ends lanes s id c l place sent h at from within is = record {
           items = λ cursor here. elim (get_put s.journal.cursors id j (record c { seen = place }) cursor here) [ inl same ↦ absurd (apart same.0) | inr there ↦ o.items cursor there.1 ];
         }
 
--- the next wanted notice, after what was wanted before it
-pub filter_next : (p : Notice → Bool) (xs : List Notice) (from place : ℕ) (n : Notice) → IsNextPlace p xs from place → Some n ≡ slice_get xs place → place < length xs
-    → filter p (take (place + 1) xs) ≡ filter p (take from xs) ++ n ∷ []
-filter_next p xs from place n h at below =
-    ap (filter p) (take_next xs place (place + 1) n refl at) ∙ filter-append p (take place xs) (n ∷ []) ∙ by_test (p n) refl ∙ ap (λ (l : List Notice). l ++ n ∷ []) h.passed
-  where
-    more : filter p (take (place + 1) xs) ≡ filter p (take place xs) ++ filter p (n ∷ [])
-    more = ap (filter p) (take_next xs place (place + 1) n refl at) ∙ filter-append p (take place xs) (n ∷ [])
-
-    by_test : (b : Bool) → p n ≡ b → filter p (take place xs) ++ filter p (n ∷ []) ≡ filter p (take place xs) ++ n ∷ []
-    by_test true e = ap (λ (b : Bool). filter p (take place xs) ++ cond b (n ∷ []) []) e
-    by_test false e =
-        let none : filter p (n ∷ []) ≡ [] = ap (λ (b : Bool). cond b (n ∷ []) []) e in
-        let same : length (filter p (take (place + 1) xs)) ≡ length (filter p (take place xs)) = ap length (more ∙ ap (λ (l : List Notice). filter p (take place xs) ++ l) none ∙ append-nil (filter p (take place xs))) in
-        let counted = h.counted below in
-        let passed = ap length h.passed in
-        absurd (omega arith)
-
 pub below_of : {X : Type 0} (xs : List X) (i : ℕ) (x : X) → Some x ≡ slice_get xs i → i < length xs
 below_of [] i x e = absurd cc
 below_of (y ∷ ys) zero x e = omega arith
@@ -300,7 +287,7 @@ module _ (carries : Carries) (ends : Ends) (lanes : FeedLanes) (s : HubState) (i
   items_are = ((h.offered id l from).items c at).1
 
   wanted_next : slice_get (wanted_of s.journal.symbols c.terms s.journal.entries) (length l.items) ≡ slice_get (changes s.journal) place
-  wanted_next = ap (λ (xs : List Notice). slice_get (wanted_of s.journal.symbols c.terms s.journal.entries) (length xs)) items_are ∙ sym found.next
+  wanted_next = ap (λ (xs : List Notice). slice_get (wanted_of s.journal.symbols c.terms s.journal.entries) (length xs)) items_are ∙ sym (next_of_wanted (meets c.terms) (changes s.journal) c.seen place found)
 
   terms_here : terms_at s.journal id ≡ Some c.terms
   terms_here = ap (option_map (λ (x : Cursor). x.terms)) at
@@ -319,12 +306,12 @@ module _ (carries : Carries) (ends : Ends) (lanes : FeedLanes) (s : HubState) (i
       let below = below_of (changes s.journal) place n here in
       subst (λ (y : JournalState × LaneEnd Notice). HubLockInvariant carries ends lanes (record s { journal = y.0; senders = slice_set s.senders id y.1 })) (λ i. (sym is i, sym grown i))
       (moves carries ends lanes s id c l (place + 1) (l.items ++ n ∷ []) h at from (omega arith)
-      (ap (λ (xs : List Notice). xs ++ n ∷ []) items_are ∙ sym (filter_next (meets c.terms) (changes s.journal) c.seen place n found here below)))
+      (ap (λ (xs : List Notice). xs ++ n ∷ []) items_are ∙ sym (one_more_wanted (meets c.terms) (changes s.journal) c.seen place found n (sym here))))
 
   pub offer_may : (n : Notice) → Some n ≡ slice_get (changes s.journal) place → AllPairs (λ (x y : Notice). x.number < y.number) (l.items ++ n ∷ [])
   offer_may n here =
       subst (λ (xs : List Notice). AllPairs (λ (x y : Notice). x.number < y.number) xs)
-      (filter_next (meets c.terms) (changes s.journal) c.seen place n found here (below_of (changes s.journal) place n here) ∙ ap (λ (xs : List Notice). xs ++ n ∷ []) (sym items_are))
+      (one_more_wanted (meets c.terms) (changes s.journal) c.seen place found n (sym here) ∙ ap (λ (xs : List Notice). xs ++ n ∷ []) (sym items_are))
       (may_offer s.journal.symbols c.terms s.journal.entries (place + 1))
 
   module _ (may_send : ℕ → List Notice → Type 0) (j : JournalState) where
@@ -368,13 +355,6 @@ module _ (carries : Carries) (ends : Ends) (lanes : FeedLanes) (s : HubState) (i
       sent_is = ap (slice_set s.senders id) grown;
     }
 
--- what looking and finding are, at the subscriber's cursor
-pub looked : (s new : JournalState) (id place : ℕ) (c : Cursor) → LooksTo s id place new → slice_get s.cursors id ≡ Some c → new ≡ record s { cursors = slice_set s.cursors id (record c { seen = place }) }
-looked s new id place c looks at = subst (λ (o : Option Cursor). MatchOption o ⊥ (λ cursor. new ≡ record s { cursors = slice_set s.cursors id (record cursor { seen = place }) })) at looks
-
-pub found_at : (s : JournalState) (id place : ℕ) (c : Cursor) → IsNextOf s id place → slice_get s.cursors id ≡ Some c → IsNextPlace (meets c.terms) (changes s) c.seen place
-found_at s id place c found at = subst (λ (o : Option Cursor). MatchOption o ⊥ (λ cursor. IsNextPlace (meets cursor.terms) (changes s) cursor.seen place)) at found
-
 -- ---- declare
 
 pub declare_kept : (carries : Carries) (ends : Ends) (lanes : FeedLanes) (s : HubState) (venue : ℕ) (on : Bool) (answer : Result ℕ JournalFault) (j : JournalState) → HubLockInvariant carries ends lanes s → Declares s.journal venue on answer j
@@ -390,7 +370,7 @@ declare_kept carries ends lanes s venue on answer j h d = by_answer answer d
     by_answer (Err JournalFull) e = stays e.3
     by_answer (Err NoMemory) e = stays e.3
     by_answer (Err TooManySubscribers) e = absurd e
-    by_answer (Ok position) e = subst (λ (x : JournalState). HubLockInvariant carries ends lanes (record s { journal = x })) (sym e.3) (declares carries ends lanes s venue on j.ready h)
+    by_answer (Ok position) e = subst (λ (x : JournalState). HubLockInvariant carries ends lanes (record s { journal = x })) (sym e.3.0) (declares carries ends lanes s venue on j.ready h)
 
 -- ---- subscribe
 

@@ -3,6 +3,5 @@
 pub(crate) mod calls;
 pub(crate) mod cell;
 pub(crate) mod journal_and_lanes;
-mod next_wanted;
 pub(crate) mod spare;
 pub(crate) mod turn;

@@ -1,6 +1,6 @@
 use Rattle.std.specs.Prelude.{◌⊎◌}
 use Rattle.std.proofs.Common.{rules, inl, inr}
-use Rattle.filter_terms.proofs.Boxed.{boxed_allowed}
+use Rattle.filter_terms.specs.Boxed.{boxed_allowed}
 use Rattle.example_one_thread.proofs.main.Goals as goal
 
 -- not the first, which there is none of

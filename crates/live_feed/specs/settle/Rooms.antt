@@ -2,7 +2,7 @@
 use Rattle.std.specs.Prelude.{◌≡◌, ℕ, ◌+◌, ◌≤◌, List, length, Some, slice_get, vec_capacity}
 use Rattle.feed_types.specs.declared.journal.Entry.{Entry}
 use Rattle.feed_types.specs.declared.journal.Notice.{Notice}
-use Rattle.journal_book.specs.Journals.{JournalState, changes, seen_at}
+use Rattle.journal_book.specs.Journals.{JournalState, changes, cursor_at}
 use Rattle.fifo_lane.specs.Lane.{LaneEnd}
 use Rattle.live_feed.specs.venue.Cells.{CellState}
 use Rattle.live_feed.specs.hub.Hubs.{items_in}
@@ -24,7 +24,7 @@ pub record HasSubscriberRoom (journal : JournalState) (id : ℕ) (e : LaneEnd No
     (r : SubscriberRoom) : Type 0 where
   pub queued : (length r.queued.items ≡ 0) × (e.capacity ≤ vec_capacity r.queued)
   pub unoffered : (length r.unoffered.items ≡ 0)
-      × ((seen : ℕ) → seen_at journal id ≡ Some seen
+      × ((seen : ℕ) → cursor_at journal id ≡ Some seen
       → length (changes journal) ≤ seen + vec_capacity r.unoffered)
 
 -- the room of each venue

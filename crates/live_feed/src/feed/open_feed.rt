@@ -233,10 +233,10 @@ impl<G: Genuine, N: FeedName> OpenFeed<G, N> {
     {
         let mut hub = self.hub.lock(rt);
         let Ok(bells) = self.venues.share_bells() else {
-            let fault = if hub.core.subscriber_count() >= 32 {
-                JournalFault::TooManySubscribers
-            } else {
+            let fault = if hub.core.has_subscriber_room() {
                 JournalFault::NoMemory
+            } else {
+                JournalFault::TooManySubscribers
             };
             return Err((fault, filter, strategy));
         };

@@ -79,7 +79,7 @@ impl<G: Genuine, N: FeedName> HubCell<G, N> {
         ensures order { IfErr result (λ refused. RefusesSubscriber self.old.core refused.0) }
         ensures refused { OnErr result (self.new.core ≡ self.old.core) }
     {
-        if self.core.subscriber_count() >= 32 {
+        if !self.core.has_subscriber_room() {
             return Err((JournalFault::TooManySubscribers, filter));
         }
         if self.filters.reserve(1).is_err() {
@@ -108,7 +108,7 @@ impl<G: Genuine, N: FeedName> HubCell<G, N> {
         ensures count { length self.new.core.journal.cursors
             ≡ length self.old.core.journal.cursors }
     {
-        let place = self.core.next_place(self.filters.get(id.index()), id);
-        self.core.offer_at(rt, id, place)
+        let filter = self.filters.get(id.index());
+        self.core.offer(rt, id, filter)
     }
 }

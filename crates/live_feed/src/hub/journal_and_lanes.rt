@@ -1,13 +1,11 @@
 //! The journal with the lanes that meet at it.
 
-ghost use Rattle.std.specs.Prelude.{◌≡◌, ◌<◌, ◌^◌, ◌↔◌, length, slice_get, OnErr, IsTrue};
+ghost use Rattle.std.specs.Prelude.{◌≡◌, ◌<◌, ◌↔◌, length, OnErr, IsTrue};
 ghost use Rattle.journal_book.specs.Journals.{Declares};
-ghost use Rattle.journal_book.specs.Places.{IsNextOf};
 ghost use Rattle.live_feed.specs.hub.Hubs.{HubLockInvariant};
 ghost use Rattle.live_feed.specs.hub.Sections.{Consumes, KeepsButIntake, HubOffersOne, KeepsButOffers, HubSubscribes};
 
 use crate::feed_name::FeedName;
-use crate::hub::next_wanted::next_wanted;
 use crate::hub::spare::SpareLane;
 use crate::unsent::Unsent;
 use feed_types::{Genuine, Notice, Numbered, SubscriberId, VenueId};
@@ -61,12 +59,6 @@ impl<G: Genuine, N: FeedName> Model for JournalAndLanes<G, N> {
       senders = h.to_subscribers.items;
       spare = h.spare_lanes.items;
     }) };
-}
-
-fn notice_at(notices: &[Notice], place: usize) -> Option<Notice>
-    ensures { result ≡ slice_get notices.now place }
-{
-    notices.get(place).copied()
 }
 
 impl<G: Genuine, N: FeedName> JournalAndLanes<G, N> {
@@ -147,6 +139,13 @@ impl<G: Genuine, N: FeedName> JournalAndLanes<G, N> {
         self.kept.subscriber_count()
     }
 
+    /// Whether one more subscriber is taken.
+    pub(crate) fn has_subscriber_room(&self) -> bool
+        ensures { IsTrue result ↔ (length self.now.journal.cursors < 32) }
+    {
+        self.kept.has_subscriber_room()
+    }
+
     /// Whether there is a subscriber of this id.
     pub(crate) fn has(&self, id: SubscriberId) -> bool
         ensures { IsTrue result ↔ (id < length self.now.journal.cursors) }
@@ -201,7 +200,7 @@ impl<G: Genuine, N: FeedName> JournalAndLanes<G, N> {
     ) -> Result<(SubscriberId, Receiver<Notice, RisingNotices>), (JournalFault, Terms)>
         ensures { HubSubscribes N.lanes terms result self.old self.new }
     {
-        if self.kept.subscriber_count() >= 32 {
+        if !self.kept.has_subscriber_room() {
             return Err((JournalFault::TooManySubscribers, terms));
         }
         if self.to_subscribers.reserve(1).is_err() {
@@ -219,46 +218,31 @@ impl<G: Genuine, N: FeedName> JournalAndLanes<G, N> {
         Ok((id, receiver))
     }
 
-    /// The place of the next notice that the subscriber wants, or their number where there is none.
-    pub(crate) fn next_place(&self, filter: Option<&Filter>, id: SubscriberId) -> usize
-        requires { id < length self.now.journal.cursors }
-        ensures next { IsNextOf self.now.journal id result }
-        ensures small { result < 2 ^ 63 }
-    {
-        let from = self.kept.seen(id);
-        next_wanted(filter, self.kept.terms(id), self.kept.changes(), from)
-    }
-
-    /// Pushes the next notice that the subscriber wants, which is the one at the place.
-    pub(crate) fn offer_at<W: Wait>(
+    /// Pushes the next notice that the subscriber wants, whose filter is `filter`.
+    #[inline(always)]
+    pub(crate) fn offer<W: Wait>(
         &mut self,
         rt: &W,
         id: SubscriberId,
-        place: usize,
+        filter: Option<&Filter>,
     ) -> Result<u64, Unsent>
-        requires known { id < length self.old.journal.cursors }
-        requires next { IsNextOf self.old.journal id place }
-        requires small { place < 2 ^ 63 }
+        requires { id < length self.old.journal.cursors }
         ensures offer { HubOffersOne ⟦<RisingNotices as LaneRule<Notice>>⟧.may_send id result
             self.old self.new }
         ensures kept { KeepsButOffers self.old self.new }
         ensures count { length self.new.journal.cursors ≡ length self.old.journal.cursors }
     {
-        let Some(notice) = notice_at(self.kept.changes(), place) else {
-            self.kept.look_to(id, place);
+        let Some(notice) = self.kept.next_offer(id, filter) else {
             return Err(Unsent::Nothing);
         };
         let number = notice.number;
         let sender = &mut self.to_subscribers[id.index()];
         match sender.push(rt, notice) {
             Ok(()) => {
-                self.kept.look_to(id, place + 1);
+                self.kept.advance_cursor(id);
                 Ok(number)
             }
-            Err(_) => {
-                self.kept.look_to(id, place);
-                Err(Unsent::LaneFull)
-            }
+            Err(_) => Err(Unsent::LaneFull),
         }
     }
 }

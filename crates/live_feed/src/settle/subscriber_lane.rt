@@ -70,7 +70,7 @@ pub(crate) fn settle_subscriber<N: FeedName, W: Wait>(
     let SubscriberRoom { queued, unoffered } = room;
     let id = log.id();
     let capacity = sender.capacity();
-    let from = journal.seen(id);
+    let from = journal.cursor(id);
     let terms = journal.terms(id);
     let (lines, receiver) = log.into_parts();
     let inside = settle(sender, receiver);

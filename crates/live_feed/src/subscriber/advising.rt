@@ -1,16 +1,16 @@
 //! The call of a strategy.
 
 ghost use Rattle.filter_terms.specs.Allowed.{IsAllowed};
-ghost use Rattle.filter_terms.specs.Advisers.{MayAdvise};
+ghost use Rattle.filter_terms.specs.StoredStrategies.{MayAdvise};
 ghost use Rattle.filter_terms.specs.Strategies.{Advises};
 
 use feed_types::Notice;
-use filter_terms::{Advice, Adviser, Strategy};
+use filter_terms::{Advice, StoredStrategy, Strategy};
 
-fn ask(adviser: &mut Adviser, notice: &Notice) -> Advice
-    ensures { MayAdvise adviser.old notice.entry result adviser.new }
+fn ask(stored: &mut StoredStrategy, notice: &Notice) -> Advice
+    ensures { MayAdvise stored.old notice.entry result stored.new }
 {
-    (adviser.advise)(notice)
+    (stored.advise)(notice)
 }
 
 /// Returns what the strategy advises on the notice, as [`Strategy::advise`] does. It is here since
@@ -19,8 +19,8 @@ pub(crate) fn advise(strategy: &mut Strategy, notice: &Notice) -> Advice
     ensures allowed { IsAllowed strategy.old.limits notice.now result }
     ensures asked { Advises strategy.old notice.entry result strategy.new }
 {
-    match &mut strategy.adviser {
-        Some(adviser) => ask(adviser, notice),
+    match &mut strategy.stored {
+        Some(stored) => ask(stored, notice),
         None => Advice::Hold,
     }
 }

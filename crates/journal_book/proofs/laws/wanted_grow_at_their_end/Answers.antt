@@ -1,4 +1,4 @@
-use Rattle.journal_book.proofs.Prefixes.{prefix_then, wanted_begin}
+use Rattle.journal_book.specs.Prefixes.{prefix_then, wanted_begin}
 use Rattle.journal_book.proofs.laws.wanted_grow_at_their_end.Goals as goal
 
 pub returns : goal.returns

@@ -1,5 +1,5 @@
 use Rattle.journal_book.specs.Wanted.{wanted_of}
-use Rattle.journal_book.proofs.Rising.{wanted_rise, pairs_rise}
+use Rattle.journal_book.specs.Rising.{wanted_rise, pairs_rise}
 use Rattle.journal_book.proofs.laws.wanted_numbers_rise.Goals as goal
 
 pub returns-clause-past : goal.returns-clause-past

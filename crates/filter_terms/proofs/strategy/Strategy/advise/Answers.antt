@@ -1,4 +1,4 @@
-use Rattle.filter_terms.proofs.Advising.{one_allowed, still_allowed}
+use Rattle.filter_terms.specs.Advising.{one_allowed, still_allowed}
 use Rattle.filter_terms.proofs.strategy.Strategy.advise.Goals as goal
 
 pub invariant_of-self : goal.invariant_of-self

@@ -7,7 +7,7 @@ use Rattle.nbbo_book.specs.declared.change.Change.{Change}
 use Rattle.nbbo_book.specs.Changes.{changes_by}
 use Rattle.journal_book.specs.Changes.{notices_from}
 use Rattle.journal_book.specs.Journals.{subscription_of}
-use Rattle.journal_book.proofs.Growth.{notices-put}
+use Rattle.journal_book.specs.Growth.{notices-put}
 use Rattle.journal_book.proofs.CursorMoving.{still_seen, same_offered}
 use Rattle.journal_book.proofs.Adding.{below_limit}
 use Rattle.journal_book.proofs.journal.Journal.add.Goals as goal

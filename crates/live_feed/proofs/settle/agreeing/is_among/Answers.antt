@@ -1,5 +1,5 @@
 use Rattle.std.proofs.Common.{refl, sym, ◌∙◌}
-use Rattle.journal_book.proofs.Offering.{at_index}
+use Rattle.live_feed.proofs.HubMoves.{at_index}
 use Rattle.live_feed.specs.venue.Seats.{is_seat_of}
 use Rattle.live_feed.proofs.Sides.{any_more, any_here, any_none}
 use Rattle.live_feed.proofs.settle.agreeing.is_among.Goals as goal

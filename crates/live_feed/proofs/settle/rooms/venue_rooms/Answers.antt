@@ -1,6 +1,6 @@
 use Rattle.std.proofs.Common.{ℕ, ◌∷◌, [], length, map, refl, sym, ap, subst, ◌∙◌, arith, length-append}
 use Rattle.std.specs.Prelude.{slice_get}
-use Rattle.journal_book.proofs.Offering.{at_index}
+use Rattle.live_feed.proofs.HubMoves.{at_index}
 use Rattle.live_feed.specs.venue.Cells.{CellState}
 use Rattle.live_feed.specs.settle.Rooms.{HasVenueRoom}
 use Rattle.live_feed.specs.declared.settle.rooms.VenueRoom.{VenueRoom}

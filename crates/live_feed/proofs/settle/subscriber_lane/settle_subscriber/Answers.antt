@@ -2,7 +2,7 @@ use Rattle.std.proofs.Common.{◌<◌, ℕ, List, drop, filter, sym, subst, ap, 
 use Rattle.std.specs.Prelude.{AllPairs, slice_get}
 use Rattle.feed_types.specs.declared.journal.Notice.{Notice}
 use Rattle.filter_terms.specs.Terms.{meets}
-use Rattle.journal_book.specs.Journals.{seen_at, terms_at}
+use Rattle.journal_book.specs.Journals.{cursor_at, terms_at}
 use Rattle.fifo_lane.specs.Lane.{Keeps, LaneEnd}
 use Rattle.live_feed.specs.declared.subscriber.logged.Logged.{Logged}
 use Rattle.live_feed.specs.settle.Settlements.{IsServed, SubscriberEndState}
@@ -30,9 +30,9 @@ returns-clause-served g c =
     let unoffered = c.wanted_past-unoffered.result.items in
     let keeps = subst (λ (e : LaneEnd Notice). Keeps may sender.tag sender.capacity sender.items e.items inside) parts.1 c.settle-inside.ensures in
     let own = sym c.id-id.ensures in
-    let whole = served g.N.FeedName.lanes may journal log.id sender terms c.seen-from.result log.lines received inside unoffered
-    c.requires.offered c.requires.known (ap (terms_at journal) own ∙ c.terms-terms.ensures) (ap (seen_at journal) own ∙ c.seen-from.ensures.value)
-    c.into_parts-lines.ensures.log.notices keeps (c.wanted_past-unoffered.ensures ∙ (λ i. filter (meets terms) (drop c.seen-from.result (c.changes.ensures i)))) in
+    let whole = served g.N.FeedName.lanes may journal log.id sender terms c.cursor-from.result log.lines received inside unoffered
+    c.requires.offered c.requires.known (ap (terms_at journal) own ∙ c.terms-terms.ensures) (ap (cursor_at journal) own ∙ c.cursor-from.ensures.value)
+    c.into_parts-lines.ensures.log.notices keeps (c.wanted_past-unoffered.ensures ∙ (λ i. filter (meets terms) (drop c.cursor-from.result (c.changes.ensures i)))) in
     subst (λ (x : SubscriberEndState). IsServed journal log.id x.log x.queued x.unoffered) (sym c.new.ensures)
     (subst (λ (x : List Logged × List Notice). IsServed journal log.id x.0 x.1 unoffered) (λ i. (sym parts.0 i, sym c.drained-queued.ensures i)) whole)
 

@@ -1,6 +1,6 @@
 use Rattle.std.proofs.Common.{◌∙◌, refl, arith}
 use Rattle.filter_terms.specs.Terms.{meets}
-use Rattle.journal_book.proofs.Offering.{at_index}
+use Rattle.live_feed.proofs.HubMoves.{at_index}
 use Rattle.live_feed.proofs.ClosedSubscribers.{wanted_more, wanted_all}
 use Rattle.live_feed.proofs.settle.subscriber_lane.wanted_past.Goals as goal
 

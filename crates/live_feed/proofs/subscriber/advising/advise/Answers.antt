@@ -1,4 +1,4 @@
-use Rattle.filter_terms.proofs.Advising.{one_allowed, still_allowed}
+use Rattle.filter_terms.specs.Advising.{one_allowed, still_allowed}
 use Rattle.live_feed.proofs.subscriber.advising.advise.Goals as goal
 
 pub invariant_of-strategy : goal.invariant_of-strategy

@@ -1,4 +1,0 @@
-use Rattle.journal_book.proofs.running.RunningJournal.national.Goals as goal
-
-pub returns-clause-value : goal.returns-clause-value
-returns-clause-value c = rw (← c.self.view_is) (c.national.ensures.value _ c.self.invariant.fits)

@@ -1,0 +1,41 @@
+-- How a subscriber's cursor moves: on to the next change that it wants, and past that once it was
+-- offered.
+use Rattle.std.specs.Prelude.{◌≡◌, ℕ, ◌+◌, Option, Some, MatchOption, IsTrue, slice_get, slice_set}
+use Rattle.feed_types.specs.declared.journal.Notice.{Notice}
+use Rattle.filter_terms.specs.Terms.{meets}
+use Rattle.journal_book.specs.declared.cursor.Cursor.{Cursor}
+use Rattle.journal_book.specs.Journals.{JournalState, changes}
+use Rattle.journal_book.specs.Places.{IsNextPlace}
+
+-- the cursor is at this place, and nothing else is another than before
+abbrev pub MovesCursor : JournalState → ℕ → ℕ → JournalState → Type 0
+MovesCursor old id place new = MatchOption (slice_get old.cursors id) ⊥
+    (λ cursor.
+    new ≡ record old { cursors = slice_set old.cursors id (record cursor { seen = place }) })
+
+-- The cursor is at the next change that meets the subscriber's terms, or at the end, and this is
+-- the change there; nothing else is another than before.
+pub record GoesToNext (old : JournalState) (id : ℕ) (found : Option Notice) (new : JournalState)
+    : Type 0 where
+  pub cursor : Cursor
+  pub at : slice_get old.cursors id ≡ Some cursor
+  pub place : ℕ
+  pub next : IsNextPlace (meets cursor.terms) (changes old) cursor.seen place
+  pub found_is : found ≡ slice_get (changes old) place
+  pub moved : new
+      ≡ record old { cursors = slice_set old.cursors id (record cursor { seen = place }) }
+
+-- the cursor stands at a change that meets the subscriber's terms
+pub record StandsAtWanted (state : JournalState) (id : ℕ) : Type 0 where
+  pub cursor : Cursor
+  pub at : slice_get state.cursors id ≡ Some cursor
+  pub notice : Notice
+  pub here : slice_get (changes state) cursor.seen ≡ Some notice
+  pub wanted : IsTrue (meets cursor.terms notice)
+
+-- the cursor is past the change where it stood, and nothing else is another than before
+abbrev pub AdvancesCursor : JournalState → ℕ → JournalState → Type 0
+AdvancesCursor old id new = MatchOption (slice_get old.cursors id) ⊥
+    (λ cursor. new ≡ record old {
+      cursors = slice_set old.cursors id (record cursor { seen = cursor.seen + 1 });
+    })
