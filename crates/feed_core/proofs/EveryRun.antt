@@ -5,11 +5,11 @@ use Rattle.std.specs.List.{AllByRecursion}
 use Rattle.feed_types.specs.declared.line.LineId.{LineId}
 use Rattle.mold_packet.specs.Bytes.{AreBytes}
 use Rattle.mold_packet.specs.Faults.{code_of}
-use Rattle.mold_packet.proofs.EveryReading.{read_or_fault}
+use Rattle.mold_packet.specs.laws.EveryReading.{read_or_fault}
 use Rattle.filter_terms.specs.declared.terms.Terms.{Terms}
 use Rattle.line_arbiter.specs.Packets.{arrival_of, end_of}
 use Rattle.line_arbiter.specs.Histories.{History, names_of, after_arrival, history_after}
-use Rattle.line_arbiter.proofs.EveryAnswer.{every_answer, every_renewal}
+use Rattle.line_arbiter.specs.laws.EveryAnswer.{every_answer, every_renewal}
 use Rattle.feed_core.specs.declared.event.Event.{Event}
 use Rattle.feed_core.specs.declared.event.Event.TheVariants.{Packet, Push, Consume, Declare, Renew, Subscribe, Offer, Dequeue}
 use Rattle.feed_core.specs.declared.event.Done.{Done}

@@ -17,7 +17,7 @@ use Rattle.feed_core.specs.Worlds.{empty_lane, is_full, Venue, Subscriber, World
 use Rattle.feed_core.specs.Steps.{Refused, Changes, next_in, next_out, push_next, journal_item, is_same, offer_next, dequeue_next, journal_full, already_so, too_many_subscribers, unknown_venue, unknown_subscriber, put_subscriber, Stays, Applies, with_sent, with_intake, with_offered, with_dequeued, AnswersSubscribe}
 use Rattle.feed_core.specs.Runs.{IsStep, IsRun}
 use Rattle.feed_core.specs.declared.event.Done.TheVariants as done
-use Rattle.feed_core.proofs.Lists.{get_set, get_push}
+use Rattle.feed_core.specs.laws.Lists.{get_set, get_push}
 
 -- what holds of each subscriber, with the entries
 abbrev pub EachSubscriber : (List Entry → Subscriber → Type 0) → World → Type 0

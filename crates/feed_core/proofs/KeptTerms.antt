@@ -17,7 +17,7 @@ use Rattle.feed_core.specs.declared.event.Done.TheVariants as done
 use Rattle.feed_core.specs.Worlds.{empty_lane, is_full, Venue, Subscriber, World, Setting, new_world}
 use Rattle.feed_core.specs.Steps.{Transition, Refused, Changes, next_in, next_out, push_next, consume_next, declare_help, offer_next, dequeue_next, too_many_subscribers, unknown_venue, unknown_subscriber, put_subscriber, Stays, Applies, with_sent, with_intake, AnswersSubscribe}
 use Rattle.feed_core.specs.Runs.{IsStep, IsRun}
-use Rattle.feed_core.proofs.Lists.{get_set, get_push}
+use Rattle.feed_core.specs.laws.Lists.{get_set, get_push}
 
 -- each subscriber has the terms of the filter at its place, and as long as there is place no other
 -- filter was used

@@ -17,7 +17,7 @@ use Rattle.feed_core.specs.declared.event.Done.{Done}
 use Rattle.feed_core.specs.Worlds.{is_full, Venue, session_sent, Subscriber, World, Setting}
 use Rattle.feed_core.specs.Steps.{Transition, Refused, Changes, next_in, next_out, AddsArrival, AddsRenewal, push_next, journal_item, declare_help, add_subscriber, offer_next, dequeue_next, journal_full, unknown_venue, unknown_subscriber, put_venue, Stays, Applies, with_sent, with_intake, with_offered, with_dequeued, AnswersSubscribe}
 use Rattle.feed_core.specs.Runs.{IsStep, IsRun}
-use Rattle.feed_core.proofs.Lists.{get_set}
+use Rattle.feed_core.specs.laws.Lists.{get_set}
 
 pub record MoveKept (s : Setting) (May : Event → Type 0) (Q : ℕ → Venue → Type 0) : Type 0 where
   pub packet : (place : ℕ) (v : Venue) (line : LineId) (bytes : _) (p : Content) (rest : List ℕ) (answer : Result Outcome LineFault) (h : History)

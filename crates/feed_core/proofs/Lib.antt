@@ -1,4 +1,3 @@
-pub mod Lists
 pub mod Lanes
 pub mod KeptVenues
 pub mod VenueHalfLaw

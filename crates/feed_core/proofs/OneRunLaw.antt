@@ -2,7 +2,7 @@
 use Rattle.std.proofs.Common.{◌≡◌, ℕ, ◌+◌, List, [], ◌∷◌, Option, Some, None, Result, refl, sym, ap, subst, ◌∙◌, inl, inr}
 use Rattle.std.specs.Prelude.{MatchOption, slice_get, ◌⊎◌}
 use Rattle.feed_types.specs.declared.line.LineId.{LineId}
-use Rattle.mold_packet.proofs.OneReading.{same_packet, no_fault, same_fault}
+use Rattle.mold_packet.specs.laws.OneReading.{same_packet, no_fault, same_fault}
 use Rattle.mold_packet.specs.declared.fault.PacketFault.{PacketFault}
 use Rattle.mold_packet.specs.Faults.{code_of}
 use Rattle.mold_packet.specs.Content.{Content}
@@ -12,7 +12,7 @@ use Rattle.line_arbiter.specs.declared.outcome.LineFault.{LineFault}
 use Rattle.line_arbiter.specs.Packets.{arrival_of, end_of}
 use Rattle.line_arbiter.specs.Outcomes.{IsOutcome}
 use Rattle.line_arbiter.specs.Histories.{History, names_of, after_arrival, history_after}
-use Rattle.line_arbiter.proofs.OneOutcome.{one_answer, one_renewal}
+use Rattle.line_arbiter.specs.laws.OneOutcome.{one_answer, one_renewal}
 use Rattle.feed_core.specs.declared.event.Event.{Event}
 use Rattle.feed_core.specs.declared.event.Event.TheVariants.{Packet, Push, Consume, Declare, Renew, Subscribe, Offer, Dequeue}
 use Rattle.feed_core.specs.declared.event.Done.{Done}

@@ -16,17 +16,18 @@ use Rattle.line_arbiter.specs.Answered.{IsAnswered, AreAnswered}
 use Rattle.line_arbiter.specs.Renewals.{HasEnded}
 use Rattle.line_arbiter.specs.Histories.{Begun, History, new_session, all_begun, items_of, streams_of}
 use Rattle.line_arbiter.specs.OfSession.{IsOfSession, AreOfSession, GivesSession, session_stream}
-use Rattle.line_arbiter.proofs.Histories.{items_push}
-use Rattle.line_arbiter.proofs.Below.{answered_more, answered_grows, all_sent}
-use Rattle.line_arbiter.proofs.Giving.{gives_session}
-use Rattle.line_arbiter.proofs.Fronts.{front_is}
+use Rattle.line_arbiter.specs.laws.Histories.{items_push}
+use Rattle.line_arbiter.specs.laws.Arrivals.{all_push}
+use Rattle.line_arbiter.specs.laws.Below.{answered_more, answered_grows, all_sent}
+use Rattle.line_arbiter.specs.laws.Giving.{gives_session}
+use Rattle.line_arbiter.specs.laws.Fronts.{front_is}
 use Rattle.feed_core.specs.declared.event.Event.{Event}
 use Rattle.feed_core.specs.declared.event.Done.{Done}
 use Rattle.feed_core.specs.Worlds.{Venue, session_sent, World, Setting, new_venue, new_world}
 use Rattle.feed_core.specs.Steps.{AddsArrival, AddsRenewal}
 use Rattle.feed_core.specs.Runs.{IsRun}
 use Rattle.feed_core.specs.VenueHalf.{BringsOnly, BringOnly, AreSession, VenueHalf}
-use Rattle.feed_core.proofs.Lists.{begins_self, begins_then, begins_len, begins_all, all_push}
+use Rattle.feed_core.specs.laws.Lists.{begins_self, begins_then, begins_len, begins_all}
 use Rattle.feed_core.proofs.Lanes.{Serves, serve_in, serve_out, serve_more, serve_all}
 use Rattle.feed_core.proofs.KeptVenues.{MoveKept, EachVenue, run_keeps}
 

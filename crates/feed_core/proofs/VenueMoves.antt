@@ -20,8 +20,8 @@ use Rattle.feed_core.specs.declared.event.Done.TheVariants as done
 use Rattle.feed_core.specs.Worlds.{Lane, empty_lane, inside, is_full, new_venue, Venue, session_sent}
 use Rattle.feed_core.specs.Steps.{next_in, packet_done, push_next, renewal_done, AppliesTo}
 use Rattle.feed_core.specs.Fitting.{VenueView, FitsVenue, LeftAnswered, LeftPushed, LeftRenewed, ShowsLane}
-use Rattle.line_arbiter.proofs.Histories.{items_push}
-use Rattle.line_arbiter.proofs.FitsHistory.{fits_new, fits_packet, fits_push, fits_renewal, keeps_session, outcome_in, renewal_in}
+use Rattle.line_arbiter.specs.laws.Histories.{items_push}
+use Rattle.line_arbiter.specs.laws.FitsHistory.{fits_new, fits_packet, fits_push, fits_renewal, keeps_session, outcome_in, renewal_in}
 
 -- one more packet
 packet_fits : (window place : ℕ) (old new : State) (lane : Lane Numbered) (v : Venue) (a : Arrival) → FitsVenue window place (record { arbiter = old; lane = lane }) v → KeepsItsPlace old new → Fits new (v.history.present.packets ++ a ∷ [])

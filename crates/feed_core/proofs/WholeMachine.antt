@@ -18,7 +18,7 @@ use Rattle.feed_core.specs.declared.event.Done.{Done}
 use Rattle.feed_core.specs.Worlds.{Lane, inside, Venue, Subscriber, World, Setting, setting_of, new_venue, new_world}
 use Rattle.feed_core.specs.Headline.{ShownVenue, shown_venue, shown_subscriber, IsRunOf}
 use Rattle.feed_core.specs.Fitting.{VenueView, FitsVenue, ShowsLane, SubscriberView, MachineView, FitVenues, FitSubscribers, FitsWorld, HasReached, venue_shown, subscriber_shown, shown_by, ShownTo, ShowVenues}
-use Rattle.feed_core.proofs.Lists.{get_set, get_push}
+use Rattle.feed_core.specs.laws.Lists.{get_set, get_push}
 
 -- ---- as it is made
 

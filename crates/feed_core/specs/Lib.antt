@@ -7,3 +7,5 @@ pub mod Headline
 pub mod LaneCode
 pub mod Fitting
 pub mod Configs
+-- laws, which proofs of the crates above cite
+pub mod laws

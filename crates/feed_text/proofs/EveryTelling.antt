@@ -5,10 +5,10 @@ use Rattle.std.specs.List.{AllByRecursion}
 use Rattle.std.proofs.lemmas.List.{length-map}
 use Rattle.std.proofs.lemmas.List.Elements.{recursion_from_All}
 use Rattle.std.proofs.Math.ListN.{length-set}
-use Rattle.mold_packet.proofs.EveryReading.{read_or_fault}
+use Rattle.mold_packet.specs.laws.EveryReading.{read_or_fault}
 use Rattle.line_arbiter.specs.Packets.{arrival_of, end_of}
 use Rattle.line_arbiter.specs.Histories.{History, new_history, names_of, after_arrival, history_after}
-use Rattle.line_arbiter.proofs.EveryAnswer.{every_answer, every_renewal}
+use Rattle.line_arbiter.specs.laws.EveryAnswer.{every_answer, every_renewal}
 use Rattle.feed_text.specs.declared.replay.ReplayConfig.{ReplayConfig}
 use Rattle.feed_text.specs.Capture.{CaptureRecord, datagram_record, renewal_record, self_help_record, record_venue, IsRecord, HoldsBytes}
 use Rattle.feed_text.specs.ReplayEvents.{ReplayEvent, packet_answered, packet_refused, renewal_answered, self_help_declared}

@@ -17,7 +17,7 @@ use Rattle.line_arbiter.specs.declared.in_order.InOrder.{InOrder}
 use Rattle.line_arbiter.specs.declared.in_order.InOrder.TheVariants.{Next, Repeat}
 use Rattle.line_arbiter.specs.InOrder.{SendsInOrder, SendsPacket, sent_in_order}
 use Rattle.line_arbiter.specs.Fits.{Fits}
-use Rattle.line_arbiter.proofs.FitsHistory.{keeps_sent}
+use Rattle.line_arbiter.specs.laws.FitsHistory.{keeps_sent}
 use Rattle.feed_text.specs.declared.report.PublishStop.{PublishStop}
 use Rattle.feed_text.specs.ReplayEvents.{ReplayEvent, packet_answered, item_taken}
 use Rattle.feed_text.specs.ReplayStates.{ReplayState, GoesOn, EmitsInto}

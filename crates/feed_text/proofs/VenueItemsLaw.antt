@@ -18,8 +18,8 @@ use Rattle.line_arbiter.specs.Streams.{IsComplete, stream_of, gap_of}
 use Rattle.line_arbiter.specs.Answered.{IsAnswered, AreAnswered}
 use Rattle.line_arbiter.specs.Histories.{Begun, History, new_history, new_session, all_begun, names_of, streams_of, after_arrival, history_after}
 use Rattle.line_arbiter.specs.Histories as histories
-use Rattle.line_arbiter.proofs.Histories.{items_push}
-use Rattle.line_arbiter.proofs.Below.{answered_more, answered_grows, all_sent}
+use Rattle.line_arbiter.specs.laws.Histories.{items_push}
+use Rattle.line_arbiter.specs.laws.Below.{answered_more, answered_grows, all_sent}
 use Rattle.feed_text.specs.declared.replay.ReplayConfig.{ReplayConfig}
 use Rattle.feed_text.specs.Capture.{CaptureRecord, datagram_record, renewal_record, self_help_record, record_venue}
 use Rattle.feed_text.specs.ReplayEvents.{ReplayEvent, item_taken, packet_answered, renewal_answered}

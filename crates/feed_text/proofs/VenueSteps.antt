@@ -19,8 +19,8 @@ use Rattle.line_arbiter.specs.Renewals.{IsRenewal}
 use Rattle.line_arbiter.specs.Counts.{shown}
 use Rattle.line_arbiter.specs.States.{State, KeepsItsPlace, KeepsItsSession, KeepsAllButSent, IsNew, IsRenewed}
 use Rattle.line_arbiter.specs.Fits.{Fits}
-use Rattle.line_arbiter.proofs.Histories.{items_push}
-use Rattle.line_arbiter.proofs.FitsHistory.{fits_new, fits_packet, fits_renewal, keeps_sent, keeps_session, outcome_in, renewal_in, shown_more}
+use Rattle.line_arbiter.specs.laws.Histories.{items_push}
+use Rattle.line_arbiter.specs.laws.FitsHistory.{fits_new, fits_packet, fits_renewal, keeps_sent, keeps_session, outcome_in, renewal_in, shown_more}
 use Rattle.feed_text.specs.declared.report.PublishStop.{PublishStop}
 use Rattle.feed_text.specs.Capture.{datagram_record, renewal_record}
 use Rattle.feed_text.specs.Lines.{venue_line, wins_by}

@@ -9,10 +9,10 @@ use Rattle.line_arbiter.specs.Holding.{held_at, IsEmpty}
 use Rattle.line_arbiter.specs.States.{State, held_of, next_from, next_of}
 use Rattle.line_arbiter.specs.Fits.{Fits}
 use Rattle.line_arbiter.specs.Steps.{IsSound}
-use Rattle.line_arbiter.proofs.Standing.{stands_of}
-use Rattle.line_arbiter.proofs.Cursors.{cursor, length-stream, end_most}
+use Rattle.line_arbiter.specs.laws.Standing.{stands_of}
+use Rattle.line_arbiter.specs.laws.Cursors.{cursor, length-stream, end_most}
 use Rattle.line_arbiter.proofs.Nexts.{none_from, past_end}
-use Rattle.line_arbiter.proofs.StreamGrowth.{EndsPast}
+use Rattle.line_arbiter.specs.laws.StreamGrowth.{EndsPast}
 use Rattle.line_arbiter.proofs.Windows.{in_window}
 
 pub ends_past : (s : State) (packets : List Arrival) → IsSound s → Fits s packets → EndsPast packets

@@ -11,7 +11,7 @@ use Rattle.mold_packet.specs.declared.request.Request.{Request}
 use Rattle.line_arbiter.specs.Packets.{Arrival, carried, end_of, heard, known_of}
 use Rattle.line_arbiter.specs.Streams.{front_of, gap_of, missing_count}
 use Rattle.line_arbiter.specs.Gaps.{AreMissing, IsGap, IsGreatestHeard, IsKnown}
-use Rattle.line_arbiter.proofs.Fronts.{front_is, not_none}
+use Rattle.line_arbiter.specs.laws.Fronts.{front_is, not_none}
 
 none_of : (o : Option Item) → is_none o ≡ true → o ≡ None
 none_of None h = refl

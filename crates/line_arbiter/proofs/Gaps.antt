@@ -11,9 +11,9 @@ use Rattle.line_arbiter.specs.Streams.{front_of, missing_count, gap_of}
 use Rattle.line_arbiter.specs.Holding.{held_at}
 use Rattle.line_arbiter.specs.States.{State, held_of}
 use Rattle.line_arbiter.specs.Fits.{Fits}
-use Rattle.line_arbiter.proofs.Standing.{stands_of}
-use Rattle.line_arbiter.proofs.Options.{some_not_none}
-use Rattle.line_arbiter.proofs.Cursors.{cursor, held_is, known_at_end}
+use Rattle.line_arbiter.specs.laws.Standing.{stands_of}
+use Rattle.line_arbiter.specs.laws.Options.{some_not_none}
+use Rattle.line_arbiter.specs.laws.Cursors.{cursor, held_is, known_at_end}
 
 -- a run of numbers that pass a test, up to the first that doesn't or to the range's end
 run_is : (q : ℕ → Bool) (a len n : ℕ) → n ≤ len → ((m : ℕ) → a ≤ m → m < a + n → q m ≡ true) → (n < len → q (a + n) ≡ false) → prefix_len q (range_with_len a len) ≡ n

@@ -15,12 +15,12 @@ use Rattle.line_arbiter.specs.Filling.{put_all}
 use Rattle.line_arbiter.specs.Counts.{Counts, count_on, shown}
 use Rattle.line_arbiter.specs.States.{State, held_of}
 use Rattle.line_arbiter.specs.Steps.{TakesIn, raised}
-use Rattle.line_arbiter.proofs.Standing.{Stands}
+use Rattle.line_arbiter.specs.laws.Standing.{Stands}
 use Rattle.line_arbiter.proofs.LineCounts.{wins_of-untaken, wins_counted}
-use Rattle.line_arbiter.proofs.Options.{IsSome-or, IsSome-unless}
-use Rattle.line_arbiter.proofs.Bringing.{carried_same, carried_more, end_same, known-push}
-use Rattle.line_arbiter.proofs.Cursors.{cursor, length-stream, stream_len}
-use Rattle.line_arbiter.proofs.Fronts.{not_in}
+use Rattle.line_arbiter.specs.laws.Options.{IsSome-or, IsSome-unless}
+use Rattle.line_arbiter.specs.laws.Bringing.{carried_same, carried_more, end_same, known-push}
+use Rattle.line_arbiter.specs.laws.Cursors.{cursor, length-stream, stream_len}
+use Rattle.line_arbiter.specs.laws.Fronts.{not_in}
 
 -- a packet that is not taken and ends nothing is at most heard of
 pub fits_heard : (s : State) (packets : List Arrival) (a : Arrival) → is_taken a.answer ≡ false → is_ended a.answer ≡ false → Stands s packets → Stands (record s { known = raised s.known s.end (heard a) }) (packets ++ a ∷ [])

@@ -11,10 +11,10 @@ use Rattle.line_arbiter.specs.Streams.{is_same_line, wins_of}
 use Rattle.line_arbiter.specs.Outcomes.{new_count}
 use Rattle.line_arbiter.specs.Counts.{Counts, count_on, shown}
 use Rattle.line_arbiter.specs.Steps.{counted}
-use Rattle.line_arbiter.proofs.Bringing.{bringer-push, top_of-push}
+use Rattle.line_arbiter.specs.laws.Bringing.{bringer-push, top_of-push}
 use Rattle.line_arbiter.proofs.Counting.{count_same}
 use Rattle.line_arbiter.proofs.Winning.{wins_of-push}
-use Rattle.line_arbiter.proofs.Options.{or_none}
+use Rattle.line_arbiter.specs.laws.Options.{or_none}
 
 -- a packet that is not taken wins nothing
 pub wins_of-untaken : (packets : List Arrival) (a : Arrival) (line : LineId) → is_taken a.answer ≡ false → wins_of (packets ++ a ∷ []) line ≡ wins_of packets line

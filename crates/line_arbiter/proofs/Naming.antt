@@ -5,7 +5,7 @@ use Rattle.feed_types.specs.Sequence.{Carries, Ends}
 use Rattle.line_arbiter.specs.Genuine.{IsGenuine, IsGenuineAt}
 use Rattle.line_arbiter.specs.OfSession.{IsOfSession}
 use Rattle.mold_packet.specs.Content.{Content, IsContent}
-use Rattle.line_arbiter.proofs.Giving.{genuine_of}
+use Rattle.line_arbiter.specs.laws.Giving.{genuine_of}
 
 pub genuine_named : (sessions : SessionNames) (carries : Carries) (ends : Ends) (venue ordinal : ℕ) (all : List Session) (s : Session) (p : Content) → Names sessions carries ends venue all → IsSessionAt all ordinal s → IsContent p → IsOfSession s p → IsGenuine sessions carries ends venue p
 genuine_named sessions carries ends venue ordinal all s p names at content of other may =

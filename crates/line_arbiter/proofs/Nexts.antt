@@ -15,9 +15,9 @@ use Rattle.line_arbiter.specs.Holding.{held_at}
 use Rattle.line_arbiter.specs.States.{State, held_of, next_from, next_of}
 use Rattle.line_arbiter.specs.Counts.{count_on, shown}
 use Rattle.line_arbiter.specs.Steps.{DropsNext, IsSound}
-use Rattle.line_arbiter.proofs.Fronts.{IsFront}
-use Rattle.line_arbiter.proofs.Standing.{Stands}
-use Rattle.line_arbiter.proofs.Cursors.{held_is, end_len, end_most, length-stream}
+use Rattle.line_arbiter.specs.laws.Fronts.{IsFront}
+use Rattle.line_arbiter.specs.laws.Standing.{Stands}
+use Rattle.line_arbiter.specs.laws.Cursors.{held_is, end_len, end_most, length-stream}
 
 get_left : {X : Type 0} (xs ys : List X) (i : ℕ) → i < length xs → slice_get (xs ++ ys) i ≡ slice_get xs i
 get_left [] ys i h = absurd (omega arith)

@@ -20,8 +20,8 @@ use Rattle.line_arbiter.proofs.Answering.{packet_answer}
 use Rattle.line_arbiter.proofs.PacketSteps.{packet_fits}
 use Rattle.line_arbiter.proofs.Passing.{next_brings, next_of_packets, next_packet, passing_fits}
 use Rattle.line_arbiter.proofs.Repeating.{none_fresh, repeats, sent_agrees, sent_of_packets, sent_step, sent_there, was_sent}
-use Rattle.line_arbiter.proofs.Standing.{fits_of, stands_of}
-use Rattle.line_arbiter.proofs.StreamGrowth.{stream_grows}
+use Rattle.line_arbiter.specs.laws.Standing.{fits_of, stands_of}
+use Rattle.line_arbiter.specs.laws.StreamGrowth.{stream_grows}
 
 -- the state that a packet leaves which was all sent
 abbrev repeated : LineId → State → Content → State

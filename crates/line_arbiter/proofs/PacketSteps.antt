@@ -15,11 +15,11 @@ use Rattle.line_arbiter.specs.Holding.{held_at}
 use Rattle.line_arbiter.specs.States.{State, held_of}
 use Rattle.line_arbiter.specs.Counts.{count_on, shown}
 use Rattle.line_arbiter.specs.Steps.{EndStep, HeartbeatStep, KindStep, PacketStep, MessagesStep}
-use Rattle.line_arbiter.proofs.Standing.{Stands}
+use Rattle.line_arbiter.specs.laws.Standing.{Stands}
 use Rattle.mold_packet.specs.declared.packet.Kind.TheVariants as kinds
 use Rattle.line_arbiter.proofs.LineCounts.{wins_of-untaken}
-use Rattle.line_arbiter.proofs.Bringing.{carried_same, end_of-push}
-use Rattle.line_arbiter.proofs.Cursors.{known_at_end, length-stream, open_cursor, stream_len}
+use Rattle.line_arbiter.specs.laws.Bringing.{carried_same, end_of-push}
+use Rattle.line_arbiter.specs.laws.Cursors.{known_at_end, length-stream, open_cursor, stream_len}
 use Rattle.line_arbiter.proofs.Growth.{fits_heard, fits_refused, fits_taken}
 use Rattle.line_arbiter.proofs.Answering.{before_is, new_is}
 

@@ -27,15 +27,15 @@ use Rattle.line_arbiter.specs.Holding.{IsEmpty}
 use Rattle.line_arbiter.specs.States.{State, held_of}
 use Rattle.line_arbiter.specs.Steps.{GoesPast, raised}
 use Rattle.line_arbiter.specs.Fits.{Fits}
-use Rattle.line_arbiter.proofs.Standing.{Stands, fits_of}
+use Rattle.line_arbiter.specs.laws.Standing.{Stands, fits_of}
 use Rattle.line_arbiter.proofs.Answering.{before_is}
-use Rattle.line_arbiter.proofs.Bringing.{carried_more, end_same, known-push}
+use Rattle.line_arbiter.specs.laws.Bringing.{carried_more, end_same, known-push}
 use Rattle.line_arbiter.proofs.Counting.{count_first, count_same}
-use Rattle.line_arbiter.proofs.Cursors.{cursor, held_is, length-stream}
-use Rattle.line_arbiter.proofs.Fronts.{IsFront, front_is, front_unique, not_in, not_none}
+use Rattle.line_arbiter.specs.laws.Cursors.{cursor, held_is, length-stream}
+use Rattle.line_arbiter.specs.laws.Fronts.{IsFront, front_is, front_unique, not_in, not_none}
 use Rattle.line_arbiter.proofs.LineCounts.{wins_counted}
-use Rattle.line_arbiter.proofs.Options.{IsSome-or}
-use Rattle.line_arbiter.proofs.StreamGrowth.{stream_grows}
+use Rattle.line_arbiter.specs.laws.Options.{IsSome-or}
+use Rattle.line_arbiter.specs.laws.StreamGrowth.{stream_grows}
 
 count_all : (a n : ℕ) → count_by (λ (m : ℕ). true) (range_with_len a n) ≡ n
 count_all a zero = refl

@@ -11,8 +11,8 @@ use Rattle.line_arbiter.specs.Packets.{Arrival, bringer, carried, has_number, is
 use Rattle.line_arbiter.specs.Streams.{is_same_line, wins_of}
 use Rattle.line_arbiter.specs.Outcomes.{new_count}
 use Rattle.line_arbiter.proofs.Counting.{one_if, count_sum, count_same, count_none, count_split, count_past}
-use Rattle.line_arbiter.proofs.Bringing.{bringer-push, top_of-push}
-use Rattle.line_arbiter.proofs.Fronts.{bringer_above}
+use Rattle.line_arbiter.specs.laws.Bringing.{bringer-push, top_of-push}
+use Rattle.line_arbiter.specs.laws.Fronts.{bringer_above}
 
 -- the first to bring the number came on the line
 abbrev is_won : List Arrival → LineId → ℕ → Bool

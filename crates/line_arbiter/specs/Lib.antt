@@ -23,3 +23,5 @@ pub mod Marks
 pub mod Comparing
 pub mod Steps
 pub mod Inside
+-- laws, which proofs of the crates above cite
+pub mod laws

@@ -10,13 +10,13 @@ use Rattle.line_arbiter.specs.declared.outcome.LineFault.{LineFault}
 use Rattle.line_arbiter.specs.Outcomes.{IsOutcome, ToKind}
 use Rattle.line_arbiter.specs.Genuine.{AreGenuine}
 use Rattle.line_arbiter.specs.States.{ordinal_of}
-use Rattle.line_arbiter.proofs.OfSession.{part_of}
-use Rattle.line_arbiter.proofs.Accepting.{accepted}
+use Rattle.line_arbiter.specs.laws.OfSession.{part_of}
+use Rattle.line_arbiter.specs.laws.Accepting.{accepted}
 use Rattle.live_feed.specs.Lanes.{FeedLanes}
 use Rattle.live_feed.specs.venue.Cells.{CellState, VenueLockInvariant}
 use Rattle.live_feed.specs.venue.Sections.{AcceptsTheirPacket}
 use Rattle.live_feed.proofs.Histories.{given_genuine, present_given}
-use Rattle.line_arbiter.proofs.FitsHistory.{ordinal_is}
+use Rattle.line_arbiter.specs.laws.FitsHistory.{ordinal_is}
 
 pub accepts : (sessions : SessionNames) (carries : Carries) (ends : Ends) (lanes : FeedLanes) (c : CellState) (k : VenueLockInvariant sessions carries ends lanes c) (p : Content) (answer : Result Outcome LineFault) → IsContent p
     → IsOutcome c.arbiter.session c.arbiter.window c.arbiter.sent k.history.present.packets p answer

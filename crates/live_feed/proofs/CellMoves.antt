@@ -29,8 +29,8 @@ use Rattle.line_arbiter.specs.Histories.{History, all_begun, items_of, new_histo
 use Rattle.line_arbiter.specs.States.{State, ordinal_of, KeepsItsPlace, KeepsItsSession, IsAdvanced, IsNew, IsRenewed}
 use Rattle.line_arbiter.specs.Fits.{Fits}
 use Rattle.fifo_lane.specs.Lane.{LaneEnd, with_items, WasFull}
-use Rattle.line_arbiter.proofs.Histories.{items_push}
-use Rattle.line_arbiter.proofs.FitsHistory.{fits_new, fits_packet, fits_push, fits_renewal, keeps_session, ordinal_is, outcome_in, renewal_in}
+use Rattle.line_arbiter.specs.laws.Histories.{items_push}
+use Rattle.line_arbiter.specs.laws.FitsHistory.{fits_new, fits_packet, fits_push, fits_renewal, keeps_session, ordinal_is, outcome_in, renewal_in}
 use Rattle.live_feed.specs.Lanes.{FeedLanes}
 use Rattle.live_feed.specs.venue.Sums.{Sums, no_sums, sums_after, accepted_on, sums_on, line_sums_after, LineSums}
 use Rattle.live_feed.specs.venue.Cells.{CellState, FitsCell, AreGivenFrom, VenueLockInvariant, arrivals_of, new_cell}

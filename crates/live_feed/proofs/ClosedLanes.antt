@@ -15,12 +15,12 @@ use Rattle.line_arbiter.specs.Fits.{Fits}
 use Rattle.line_arbiter.specs.Counts.{Counts, count_on}
 use Rattle.line_arbiter.specs.Histories.{items_of}
 use Rattle.fifo_lane.specs.Lane.{Keeps}
-use Rattle.line_arbiter.proofs.Histories.{items_push}
+use Rattle.line_arbiter.specs.laws.Histories.{items_push}
 use Rattle.live_feed.specs.Lanes.{FeedLanes}
 use Rattle.live_feed.specs.venue.Cells.{AreGivenFrom, CellState, VenueLockInvariant}
 use Rattle.live_feed.specs.hub.Hubs.{item_by, items_in}
 use Rattle.live_feed.specs.settle.Settlements.{IsSettled}
-use Rattle.line_arbiter.proofs.FitsHistory.{wins_are}
+use Rattle.line_arbiter.specs.laws.FitsHistory.{wins_are}
 
 -- ---- what is ready
 

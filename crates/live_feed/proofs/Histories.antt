@@ -11,10 +11,9 @@ use Rattle.line_arbiter.specs.Streams.{IsComplete}
 use Rattle.line_arbiter.specs.Answered.{IsAnswered, AreAnsweredAfter}
 use Rattle.line_arbiter.specs.Genuine.{IsGenuineAt, AreGenuine, AreGenuineFrom}
 use Rattle.line_arbiter.specs.Histories.{Begun, History, all_begun, streams_of, after_arrival}
-use Rattle.line_arbiter.proofs.Below.{answered_more}
-use Rattle.line_arbiter.proofs.Arrivals.{genuine_grows}
-use Rattle.line_arbiter.proofs.InSequence.{streams_in_sequence}
-use Rattle.feed_core.proofs.Lists.{all_push}
+use Rattle.line_arbiter.specs.laws.Below.{answered_more}
+use Rattle.line_arbiter.specs.laws.Arrivals.{all_push, genuine_grows}
+use Rattle.line_arbiter.specs.laws.InSequence.{streams_in_sequence}
 use Rattle.live_feed.specs.venue.Cells.{AreGiven, AreGivenFrom, arrivals_of}
 
 -- ---- lists

@@ -26,7 +26,7 @@ use Rattle.journal_book.specs.Growth.{changes_begin}
 use Rattle.journal_book.specs.Rising.{wanted_rise, pairs_rise}
 use Rattle.fifo_lane.specs.Lane.{LaneEnd, with_items, WasEmpty, WasFull}
 use Rattle.fifo_lane.specs.Rising.{AllPairs-prefix}
-use Rattle.feed_core.proofs.Lists.{begins_len, get_push}
+use Rattle.feed_core.specs.laws.Lists.{begins_len, get_push}
 use Rattle.live_feed.specs.declared.hub.spare.SpareLane.{SpareLane}
 use Rattle.live_feed.specs.Lanes.{FeedLanes}
 use Rattle.live_feed.specs.hub.Hubs.{HubState, IsConsumed, HubLockInvariant, IsOffered, IsSpare, item_by, items_in}

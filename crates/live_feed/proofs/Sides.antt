@@ -4,7 +4,7 @@ use Rattle.std.specs.Prelude.{slice_get, ◌⊎◌, ◌||◌}
 use Rattle.std.specs.List.{list_any}
 use Rattle.std.specs.Option.{option_map}
 use Rattle.std.proofs.lemmas.Option.{slice_get-map}
-use Rattle.feed_core.proofs.Lists.{get_push}
+use Rattle.feed_core.specs.laws.Lists.{get_push}
 use Rattle.live_feed.specs.settle.Zips.{Zip2, Zip3}
 use Rattle.live_feed.proofs.HubMoves.{below_of, one_there}
 use Rattle.live_feed.proofs.ClosedLanes.{next_drop, drop_past}

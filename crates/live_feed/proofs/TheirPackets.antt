@@ -5,7 +5,7 @@ use Rattle.feed_types.specs.Sessions.{SessionNames}
 use Rattle.mold_packet.specs.Content.{Content, Spells}
 use Rattle.mold_packet.specs.Faults.{HasFault}
 use Rattle.mold_packet.specs.declared.fault.PacketFault.{PacketFault}
-use Rattle.mold_packet.proofs.OneReading.{same_packet, no_fault}
+use Rattle.mold_packet.specs.laws.OneReading.{same_packet, no_fault}
 use Rattle.line_arbiter.specs.declared.outcome.Outcome.{Outcome}
 use Rattle.line_arbiter.specs.declared.outcome.LineFault.{LineFault}
 use Rattle.line_arbiter.specs.declared.outcome.LineFault.TheVariants.{OtherSession}

@@ -1,10 +1,5 @@
-pub mod Cutting
 pub mod Growing
-pub mod EveryReading
-pub mod HeaderFields
-pub mod OneReading
 pub mod OneRequest
 pub mod Overwriting
 pub mod Packets
 pub mod ReadsBack
-pub mod Spelling

@@ -6,7 +6,7 @@ use Rattle.mold_packet.specs.declared.fault.PacketFault.TheVariants.{ShortHeader
 use Rattle.mold_packet.specs.declared.request.Request.{Request}
 use Rattle.mold_packet.specs.Header.{header}
 use Rattle.mold_packet.specs.Request.{SpellsRequest, HasRequestFault}
-use Rattle.mold_packet.proofs.HeaderFields.{Parts, parts, length-header}
+use Rattle.mold_packet.specs.laws.HeaderFields.{Parts, parts, length-header}
 
 parts_of : (bytes : List ℕ) (r : Request) → SpellsRequest bytes r → Parts bytes r.session r.number r.count []
 parts_of bytes r s = parts bytes r.session r.number r.count [] s.session s.small s.few (s.spelled ∙ sym (append-nil (header r.session r.number r.count)))

@@ -8,7 +8,7 @@ use Rattle.mold_packet.specs.Block.{block}
 use Rattle.mold_packet.specs.Body.{BodyFits, lent_bytes, body_kind, body_messages, packet_of}
 use Rattle.mold_packet.specs.Content.{IsContent, count_field, spelling, Spells}
 use Rattle.mold_packet.specs.Header.{header}
-use Rattle.mold_packet.proofs.HeaderFields.{length-header}
+use Rattle.mold_packet.specs.laws.HeaderFields.{length-header}
 use Rattle.mold_packet.proofs.Overwriting.{tail_written, take_front, writes_first}
 use Rattle.mold_packet.specs.Writing.{WritesFirst}
 use borrow.Rule.Slice.PartMut.{put_mid}

@@ -6,7 +6,7 @@ use Rattle.mold_packet.specs.declared.request.Request.{Request}
 use Rattle.mold_packet.specs.Content.{Content, Spells}
 use Rattle.mold_packet.specs.Faults.{HasFault}
 use Rattle.mold_packet.specs.Request.{SpellsRequest, HasRequestFault}
-use Rattle.mold_packet.proofs.OneReading.{same_packet, no_fault}
+use Rattle.mold_packet.specs.laws.OneReading.{same_packet, no_fault}
 use Rattle.mold_packet.proofs.OneRequest.{same_request, no_request_fault}
 
 pub packet_back : (bytes : List ℕ) (written : Content) (answer : Result Content PacketFault) → Spells bytes written [] → IfOk answer (λ packet. (rest : List ℕ) × Spells bytes packet rest) → IfErr answer (HasFault bytes) → answer ≡ Ok written

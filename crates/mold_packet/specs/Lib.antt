@@ -7,3 +7,5 @@ pub mod Header
 pub mod Packet
 pub mod Request
 pub mod Writing
+-- laws, which proofs of the crates above cite
+pub mod laws

@@ -6,7 +6,6 @@ pub mod EntryEffects
 pub mod SideInvariant
 pub mod Firsts
 pub mod Fitting
-pub mod Words
 pub mod Stepping
 pub mod BookFits
 pub mod Eligibility

@@ -35,7 +35,7 @@ use Rattle.nbbo_book.proofs.EntryEffects.{same_side_sound}
 use Rattle.nbbo_book.proofs.Firsts.{front_is_best}
 use Rattle.nbbo_book.proofs.Fitting.{row_fits, helped_fits}
 use Rattle.nbbo_book.proofs.Fronts.{same_best_refl}
-use Rattle.nbbo_book.proofs.Words.{apart_at, missed_all, place_is}
+use Rattle.nbbo_book.specs.WordLaws.{apart_at, missed_all, place_is}
 
 row_waits : (helped : List Bool) (n : ℕ) (r : Row) → IsRow helped n r → IsRow helped (n + 1) r
 row_waits helped n r h = record {

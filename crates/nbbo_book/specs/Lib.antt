@@ -10,3 +10,4 @@ pub mod Ranks
 pub mod BookSides
 pub mod Rows
 pub mod Tables
+pub mod WordLaws

@@ -16,7 +16,7 @@ use Rattle.feed_types.specs.Sessions.{Session, numbered_from, end_item, whole_se
 use Rattle.mold_packet.specs.declared.packet.Kind.TheVariants as kinds
 use Rattle.mold_packet.specs.Block.{IsMessage}
 use Rattle.mold_packet.specs.Content.{Content, IsContent, Spells, spelling}
-use Rattle.mold_packet.proofs.OneReading.{same_packet}
+use Rattle.mold_packet.specs.laws.OneReading.{same_packet}
 use Rattle.quote_payload.specs.Payload.{item_of}
 use Rattle.line_arbiter.specs.declared.outcome.Outcome.TheVariants.{Taken, Ended}
 use Rattle.line_arbiter.specs.Packets.{Arrival, arrival_of, carried, end_of, has_number, item_at, message_item}
@@ -25,11 +25,11 @@ use Rattle.line_arbiter.specs.Outcomes.{new_count, IsOutcome}
 use Rattle.line_arbiter.specs.Answered.{AreAnswered}
 use Rattle.line_arbiter.specs.Histories.{History, new_history}
 use Rattle.line_arbiter.specs.OfSession.{IsOfSession, AreOfSession, GivesSession}
-use Rattle.line_arbiter.proofs.Bringing.{carried_same, carried_more, end_of-push, end_same}
-use Rattle.line_arbiter.proofs.Below.{answered_more}
-use Rattle.line_arbiter.proofs.Fronts.{not_in, front_is, not_none, front_unique}
-use Rattle.line_arbiter.proofs.Giving.{gives_session}
-use Rattle.line_arbiter.proofs.Options.{IsSome-or}
+use Rattle.line_arbiter.specs.laws.Bringing.{carried_same, carried_more, end_of-push, end_same}
+use Rattle.line_arbiter.specs.laws.Below.{answered_more}
+use Rattle.line_arbiter.specs.laws.Fronts.{not_in, front_is, not_none, front_unique}
+use Rattle.line_arbiter.specs.laws.Giving.{gives_session}
+use Rattle.line_arbiter.specs.laws.Options.{IsSome-or}
 use Rattle.feed_core.specs.Worlds.{Setting}
 use Rattle.feed_text.specs.declared.replay.ReplayConfig.{ReplayConfig}
 use Rattle.feed_text.specs.Capture.{CaptureRecord, datagram_record}

@@ -30,7 +30,7 @@ use Rattle.feed_core.specs.Steps as steps
 use Rattle.feed_core.specs.VenueHalf.{BringsOnly, BringOnly, VenueHalf}
 use Rattle.feed_core.specs.Headline.{Headline}
 use Rattle.feed_core.proofs.HeadlineLaw.{headline}
-use Rattle.line_arbiter.proofs.Histories.{items_push}
+use Rattle.line_arbiter.specs.laws.Histories.{items_push}
 use Rattle.feed_text.specs.declared.replay.ReplayConfig.{ReplayConfig}
 use Rattle.feed_text.specs.Capture.{CaptureRecord, datagram_record, renewal_record, self_help_record, record_venue}
 use Rattle.feed_text.specs.ReplayEvents.{ReplayEvent, item_taken, is_so, entries_after, entries_of}

@@ -1,4 +1,4 @@
-use Rattle.line_arbiter.proofs.OfSession.{part_of, front_within, stream_is}
+use Rattle.line_arbiter.specs.laws.OfSession.{part_of, front_within, stream_is}
 use Rattle.line_arbiter.proofs.laws.a_genuine_stream_is_the_session.Goals as goal
 
 pub returns-clause-front : goal.returns-clause-front

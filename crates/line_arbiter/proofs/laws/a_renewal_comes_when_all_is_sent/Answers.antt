@@ -1,4 +1,4 @@
-use Rattle.line_arbiter.proofs.Below.{all_sent}
+use Rattle.line_arbiter.specs.laws.Below.{all_sent}
 use Rattle.line_arbiter.proofs.laws.a_renewal_comes_when_all_is_sent.Goals as goal
 
 pub returns : goal.returns

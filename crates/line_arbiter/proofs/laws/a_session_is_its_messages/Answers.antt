@@ -1,5 +1,5 @@
 use Rattle.line_arbiter.specs.OfSession.{session_of_messages}
-use Rattle.line_arbiter.proofs.Giving.{gives_session}
+use Rattle.line_arbiter.specs.laws.Giving.{gives_session}
 use Rattle.line_arbiter.proofs.Messages.{of_messages, all_of_messages}
 use Rattle.line_arbiter.proofs.laws.a_session_is_its_messages.Goals as goal
 

@@ -1,4 +1,4 @@
-use Rattle.line_arbiter.proofs.Below.{answered_more}
+use Rattle.line_arbiter.specs.laws.Below.{answered_more}
 use Rattle.line_arbiter.proofs.laws.answers_go_on.Goals as goal
 
 pub returns : goal.returns

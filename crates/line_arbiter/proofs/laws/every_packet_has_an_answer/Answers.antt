@@ -1,4 +1,4 @@
-use Rattle.line_arbiter.proofs.EveryAnswer.{every_answer}
+use Rattle.line_arbiter.specs.laws.EveryAnswer.{every_answer}
 use Rattle.line_arbiter.proofs.laws.every_packet_has_an_answer.Goals as goal
 
 pub returns : goal.returns

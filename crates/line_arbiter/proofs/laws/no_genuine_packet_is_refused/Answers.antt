@@ -1,5 +1,5 @@
-use Rattle.line_arbiter.proofs.OfSession.{part_of}
-use Rattle.line_arbiter.proofs.Accepting.{accepted}
+use Rattle.line_arbiter.specs.laws.OfSession.{part_of}
+use Rattle.line_arbiter.specs.laws.Accepting.{accepted}
 use Rattle.line_arbiter.proofs.laws.no_genuine_packet_is_refused.Goals as goal
 
 pub returns : goal.returns

@@ -1,4 +1,4 @@
-use Rattle.line_arbiter.proofs.OneOutcome.{one_renewal}
+use Rattle.line_arbiter.specs.laws.OneOutcome.{one_renewal}
 use Rattle.line_arbiter.proofs.laws.one_renewal.Goals as goal
 
 pub returns : goal.returns

@@ -1,4 +1,4 @@
-use Rattle.line_arbiter.proofs.InSequence.{streams_in_sequence}
+use Rattle.line_arbiter.specs.laws.InSequence.{streams_in_sequence}
 use Rattle.line_arbiter.proofs.laws.streams_are_in_sequence.Goals as goal
 
 pub returns : goal.returns

@@ -1,4 +1,4 @@
-use Rattle.line_arbiter.proofs.Fronts.{front_is, front_greatest}
+use Rattle.line_arbiter.specs.laws.Fronts.{front_is, front_greatest}
 use Rattle.line_arbiter.proofs.laws.the_front_is_the_first_gap.Goals as goal
 
 pub returns-clause-taken : goal.returns-clause-taken

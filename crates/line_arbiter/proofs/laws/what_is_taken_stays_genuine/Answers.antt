@@ -1,4 +1,4 @@
-use Rattle.line_arbiter.proofs.Arrivals.{genuine_grows}
+use Rattle.line_arbiter.specs.laws.Arrivals.{genuine_grows}
 use Rattle.line_arbiter.proofs.laws.what_is_taken_stays_genuine.Goals as goal
 
 pub returns : goal.returns

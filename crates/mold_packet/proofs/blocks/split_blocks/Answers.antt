@@ -1,6 +1,6 @@
 use Rattle.std.proofs.Common.{◌++◌, ◌∷◌, [], ◌≡◌, arith}
 use Rattle.mold_packet.specs.Block.{HasBlocks}
-use Rattle.mold_packet.proofs.Cutting.{one_more, cut_off, rest_off, are_blocks}
+use Rattle.mold_packet.specs.laws.Cutting.{one_more, cut_off, rest_off, are_blocks}
 use Rattle.mold_packet.proofs.blocks.split_blocks.Goals as goal
 use Rattle.mold_packet.proofs.blocks.split_blocks.Goals.{After-split_at}
 

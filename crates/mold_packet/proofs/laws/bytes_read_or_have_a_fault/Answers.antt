@@ -1,4 +1,4 @@
-use Rattle.mold_packet.proofs.EveryReading.{read_or_fault, request_or_fault}
+use Rattle.mold_packet.specs.laws.EveryReading.{read_or_fault, request_or_fault}
 use Rattle.mold_packet.proofs.laws.bytes_read_or_have_a_fault.Goals as goal
 
 pub returns-clause-packet : goal.returns-clause-packet

@@ -1,4 +1,4 @@
-use Rattle.mold_packet.proofs.OneReading.{same_packet, same_rest, no_fault, same_fault}
+use Rattle.mold_packet.specs.laws.OneReading.{same_packet, same_rest, no_fault, same_fault}
 use Rattle.mold_packet.proofs.laws.one_reading.Goals as goal
 
 pub returns-clause-packet : goal.returns-clause-packet

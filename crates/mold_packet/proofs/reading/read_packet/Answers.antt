@@ -1,7 +1,7 @@
 use Rattle.std.proofs.Common.{◌≡◌, ℕ, List, length, rules, refl, sym, ◌∙◌, arith}
 use Rattle.std.proofs.lemmas.List.{take_rest}
 use Rattle.mold_packet.specs.Content.{count_field}
-use Rattle.mold_packet.proofs.Spelling.{spells_from}
+use Rattle.mold_packet.specs.laws.Spelling.{spells_from}
 use Rattle.mold_packet.proofs.reading.read_packet.Goals as goal
 use Rattle.mold_packet.proofs.reading.read_packet.Goals.{Joined-read_count, in-0, in-65535, in_default}
 

@@ -1,6 +1,6 @@
 use Rattle.std.proofs.Common.{arith}
 use Rattle.std.proofs.lemmas.List.{length-take}
-use Rattle.mold_packet.proofs.HeaderFields.{whole_header}
+use Rattle.mold_packet.specs.laws.HeaderFields.{whole_header}
 use Rattle.mold_packet.proofs.request.read_request.Goals as goal
 
 pub returns-clause-spelled : goal.returns-clause-spelled

@@ -4,7 +4,7 @@ use Rattle.nbbo_book.specs.declared.row.Row.{Row}
 use Rattle.nbbo_book.specs.declared.change.Change.{Change}
 use Rattle.nbbo_book.specs.Rows.{IsRowRanked}
 use Rattle.nbbo_book.specs.Tables.{symbols_in_rows}
-use Rattle.nbbo_book.proofs.Words.{symbols_apart}
+use Rattle.nbbo_book.specs.WordLaws.{symbols_apart}
 use Rattle.nbbo_book.proofs.Stepping.{all_rows_at, found_symbol, missed_steps, found_steps, told_is, alone}
 use Rattle.nbbo_book.proofs.steps.step_symbol.Goals as goal
 

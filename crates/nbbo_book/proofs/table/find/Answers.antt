@@ -5,7 +5,7 @@ use Rattle.std.specs.Str.{bytes_eq}
 use Rattle.feed_types.specs.Symbols.{word_of}
 use Rattle.nbbo_book.specs.declared.row.Row.{Row}
 use Rattle.nbbo_book.specs.Tables.{HasWord, symbols_in_rows}
-use Rattle.nbbo_book.proofs.Words.{found_by_word, symbols_apart}
+use Rattle.nbbo_book.specs.WordLaws.{found_by_word, symbols_apart}
 use Rattle.nbbo_book.proofs.Stepping.{place_found}
 use Rattle.nbbo_book.proofs.table.find.Goals as goal
 

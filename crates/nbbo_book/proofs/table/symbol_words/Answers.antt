@@ -3,7 +3,7 @@ use Rattle.std.specs.List.{AllByRecursion, IsDistinct, list_any}
 use Rattle.std.specs.Int.{w64, to_be_bytes}
 use Rattle.feed_types.specs.Symbols.{word_of}
 use Rattle.nbbo_book.specs.Tables.{HasWord}
-use Rattle.nbbo_book.proofs.Words.{twice_here, distinct_symbols, take_whole}
+use Rattle.nbbo_book.specs.WordLaws.{twice_here, distinct_symbols, take_whole}
 use Rattle.nbbo_book.proofs.table.symbol_words.Goals as goal
 
 pub returns-in-Ok-false-clause-duplicate : goal.returns-in-Ok-false-clause-duplicate

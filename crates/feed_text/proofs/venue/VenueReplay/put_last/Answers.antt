@@ -2,7 +2,7 @@ use Rattle.std.proofs.Common.{◌++◌, List, ap, sym, ◌∙◌, subst}
 use Rattle.std.specs.Prelude.{ℕ}
 use Rattle.std.proofs.lemmas.Result.{on_ok_weaker}
 use Rattle.feed_text.specs.Following.{ReplayVenue, Follows}
-use Rattle.line_arbiter.proofs.FitsHistory.{wins_shown}
+use Rattle.line_arbiter.specs.laws.FitsHistory.{wins_shown}
 use Rattle.feed_text.proofs.VenueSteps.{last_is}
 use Rattle.feed_text.proofs.venue.VenueReplay.put_last.Goals as goal
 use Rattle.feed_types.specs.declared.line.LineId.TheVariants.{A, B, Recovery}

@@ -1,6 +1,6 @@
 use Rattle.std.proofs.Common.{ℕ, ap}
 use Rattle.line_arbiter.specs.States.{State}
-use Rattle.line_arbiter.proofs.Soundness.{sound_advanced}
+use Rattle.line_arbiter.specs.laws.Soundness.{sound_advanced}
 use Rattle.line_arbiter.proofs.arbiter.Arbiter.drop_next.Goals as goal
 
 pub invariant_of-self : goal.invariant_of-self

@@ -1,7 +1,7 @@
-use Rattle.line_arbiter.proofs.Standing.{stands_of, fits_of}
+use Rattle.line_arbiter.specs.laws.Standing.{stands_of, fits_of}
 use Rattle.line_arbiter.proofs.Answering.{packet_answer}
 use Rattle.line_arbiter.proofs.PacketSteps.{packet_fits}
-use Rattle.line_arbiter.proofs.StreamGrowth.{stream_grows}
+use Rattle.line_arbiter.specs.laws.StreamGrowth.{stream_grows}
 use Rattle.line_arbiter.proofs.Ending.{ends_past}
 use Rattle.line_arbiter.proofs.arbiter.Arbiter.take.Goals as goal
 

@@ -6,7 +6,7 @@ use Rattle.line_arbiter.specs.States.{State}
 use Rattle.line_arbiter.specs.Steps.{MessagesStep, TakesIn}
 use Rattle.line_arbiter.proofs.Filling.{fresh_most}
 use Rattle.line_arbiter.proofs.Turns.{numbers_fit}
-use Rattle.line_arbiter.proofs.Soundness.{sound_after}
+use Rattle.line_arbiter.specs.laws.Soundness.{sound_after}
 use Rattle.line_arbiter.proofs.arbiter.Arbiter.take_in.Given.{Over}
 use Rattle.line_arbiter.proofs.arbiter.Arbiter.take_in.Goals as goal
 use Rattle.line_arbiter.proofs.arbiter.Arbiter.take_in.Goals.{After-add, After-take_repeat}

@@ -5,7 +5,7 @@ use Rattle.nbbo_book.specs.declared.row.Row.{Row}
 use Rattle.nbbo_book.specs.Books.{BookState, FitsBook, is_configured}
 use Rattle.nbbo_book.specs.Rows.{ShowsSymbol}
 use Rattle.nbbo_book.specs.Tables.{symbols_in_rows, book_state_of}
-use Rattle.nbbo_book.proofs.Words.{found_configured, missed_configured}
+use Rattle.nbbo_book.specs.WordLaws.{found_configured, missed_configured}
 use Rattle.nbbo_book.proofs.BookFits.{found_shows}
 use Rattle.nbbo_book.proofs.book.Book.row_of.Goals as goal
 

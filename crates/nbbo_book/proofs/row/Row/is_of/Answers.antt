@@ -2,7 +2,7 @@ use Rattle.std.proofs.Common.{ℕ, ◌∙◌, ap, sym, nat_eq}
 use Rattle.std.specs.Int.{w64, to_be_bytes}
 use Rattle.feed_types.specs.Symbols.{word_of}
 use Rattle.nbbo_book.specs.Tables.{HasWord}
-use Rattle.nbbo_book.proofs.Words.{word_tells}
+use Rattle.nbbo_book.specs.WordLaws.{word_tells}
 use Rattle.nbbo_book.proofs.row.Row.is_of.Goals as goal
 
 pub returns : goal.returns

@@ -8,11 +8,13 @@ pub or_none : {X : Type 0} (o : Option X) → option_or o None ≡ o
 or_none None = refl
 or_none (Some x) = refl
 
-pub map_or : {A B : Type 0} (f : A → B) (o e : Option A) → option_map f (option_or o e) ≡ option_or (option_map f o) (option_map f e)
+pub map_or : {A B : Type 0} (f : A → B) (o e : Option A)
+    → option_map f (option_or o e) ≡ option_or (option_map f o) (option_map f e)
 map_or f None e = refl
 map_or f (Some x) e = refl
 
-pub picked : {A B : Type 0} (f : A → B) (b : Bool) (x : A) → option_map f (cond b (Some x) None) ≡ (if b then Some (f x) else None)
+pub picked : {A B : Type 0} (f : A → B) (b : Bool) (x : A)
+    → option_map f (cond b (Some x) None) ≡ (if b then Some (f x) else None)
 picked f true x = refl
 picked f false x = refl
 
@@ -20,7 +22,8 @@ pub IsSome-or : {X : Type 0} (o e : Option X) → IsSome o → IsSome (option_or
 IsSome-or None e h = absurd (false≢true h)
 IsSome-or (Some x) e h = h
 
-pub IsSome-unless : {X : Type 0} (b : Bool) (o : Option X) → IsSome (if b then None else o) → IsSome o
+pub IsSome-unless : {X : Type 0} (b : Bool) (o : Option X) → IsSome (if b then None else o)
+    → IsSome o
 IsSome-unless true o h = absurd (false≢true h)
 IsSome-unless false o h = h
 

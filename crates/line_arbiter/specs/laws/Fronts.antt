@@ -22,7 +22,8 @@ topped n a = if is_taken a.answer then max n (last_number a.packet) else n
 
 top_grows : (packets : List Arrival) (n : ℕ) → n ≤ fold topped n packets
 top_grows [] n = omega arith
-top_grows (a ∷ packets) n = let step = top_step n (is_taken a.answer) (last_number a.packet) in let rest = top_grows packets (topped n a) in omega arith
+top_grows (a ∷ packets) n =
+    let step = top_step n (is_taken a.answer) (last_number a.packet) in let rest = top_grows packets (topped n a) in omega arith
   where
     top_step : (n : ℕ) (b : Bool) (k : ℕ) → n ≤ (if b then max n k else n)
     top_step n true k = omega arith
@@ -31,11 +32,13 @@ top_grows (a ∷ packets) n = let step = top_step n (is_taken a.answer) (last_nu
 pub not_in : (p : Content) (m : ℕ) → last_number p < m → has_number p m ≡ false
 not_in p m h = grind (arith, nat_tests)
 
-brings_none : (n m : ℕ) (b : Bool) (p : Content) → (if b then max n (last_number p) else n) < m → (b && has_number p m) ≡ false
+brings_none : (n m : ℕ) (b : Bool) (p : Content) → (if b then max n (last_number p) else n) < m
+    → (b && has_number p m) ≡ false
 brings_none n m true p h = not_in p m (omega arith)
 brings_none n m false p h = refl
 
-pub bringer_above : (packets : List Arrival) (n m : ℕ) → fold topped n packets < m → bringer packets m ≡ None
+pub bringer_above : (packets : List Arrival) (n m : ℕ) → fold topped n packets < m
+    → bringer packets m ≡ None
 bringer_above [] n m h = refl
 bringer_above (a ∷ packets) n m h =
     let grows = top_grows packets (topped n a) in
@@ -43,7 +46,8 @@ bringer_above (a ∷ packets) n m h =
     ap (λ (b : Bool). cond b (Some a) (find (brings m) packets)) here ∙ bringer_above packets (topped n a) m h
 
 pub carried_above : (packets : List Arrival) (m : ℕ) → top_of packets < m → carried packets m ≡ None
-carried_above packets m h = ap (λ (o : Option Arrival). option_map (λ (a : Arrival). item_at a.packet m) o) (bringer_above packets 0 m h)
+carried_above packets m h =
+    ap (λ (o : Option Arrival). option_map (λ (a : Arrival). item_at a.packet m) o) (bringer_above packets 0 m h)
 
 none_is : {X : Type 0} (o : Option X) → is_some o ≡ false → o ≡ None
 none_is None h = refl
@@ -71,7 +75,8 @@ pub not_none : {X : Type 0} (o : Option X) → IsSome o → o ≡ None → ⊥
 not_none None h e = false≢true h
 not_none (Some x) h e = cc
 
-pub front_unique : (packets : List Arrival) (m n : ℕ) → IsFront packets m → IsFront packets n → m ≡ n
+pub front_unique : (packets : List Arrival) (m n : ℕ) → IsFront packets m → IsFront packets n
+    → m ≡ n
 front_unique packets m n a b = elim (cases_lt m n) [
   | inl lt ↦ absurd (not_none (carried packets (m + 1)) (b.all (m + 1) (omega arith) (omega arith)) a.next)
   | inr le ↦ elim (cases_lt n m) [

@@ -16,9 +16,9 @@ use Rattle.mold_packet.specs.Content.{Content, KindFits, count_field, Spells}
 use Rattle.mold_packet.specs.Faults.{blocks_wanted, IsWhole, HasFault}
 use Rattle.mold_packet.specs.Header.{session_at, number_at, count_at}
 use Rattle.mold_packet.specs.Request.{SpellsRequest, HasRequestFault}
-use Rattle.mold_packet.proofs.Cutting.{flat_map-first}
-use Rattle.mold_packet.proofs.HeaderFields.{part_is, whole_header}
-use Rattle.mold_packet.proofs.Spelling.{spells_from}
+use Rattle.mold_packet.specs.laws.Cutting.{flat_map-first}
+use Rattle.mold_packet.specs.laws.HeaderFields.{part_is, whole_header}
+use Rattle.mold_packet.specs.laws.Spelling.{spells_from}
 
 -- what follows the first of bytes are bytes
 behind : (n : ℕ) (bytes : List ℕ) → AreBytes bytes → AreBytes (drop n bytes)
@@ -63,29 +63,34 @@ record AreThere (n : ℕ) (bytes : List ℕ) : Type 0 where
   rest : List ℕ
   blocks : HasBlocks n bytes messages rest
 
-one_more_there : (n : ℕ) (bytes : List ℕ) (first : HasFirst bytes) → AreThere n first.after → AreThere (suc n) bytes
+one_more_there : (n : ℕ) (bytes : List ℕ) (first : HasFirst bytes) → AreThere n first.after
+    → AreThere (suc n) bytes
 one_more_there n bytes first h = record {
   messages = first.message ∷ h.messages;
   rest = h.rest;
   blocks = record {
     count = ap suc h.blocks.count;
     each = (first.short, h.blocks.each);
-    spelled = first.is ∙ ap (λ (x : List ℕ). block first.message ++ x) h.blocks.spelled ∙ sym (flat_map-first first.message h.messages h.rest);
+    spelled =
+        first.is ∙ ap (λ (x : List ℕ). block first.message ++ x) h.blocks.spelled ∙ sym (flat_map-first first.message h.messages h.rest);
   };
 }
 
-one_more_cut : (n : ℕ) (bytes : List ℕ) (first : HasFirst bytes) → CutShort n first.after → CutShort (suc n) bytes
+one_more_cut : (n : ℕ) (bytes : List ℕ) (first : HasFirst bytes) → CutShort n first.after
+    → CutShort (suc n) bytes
 one_more_cut n bytes first h = record {
   whole = first.message ∷ h.whole;
   part = h.part;
   fewer = let few = h.fewer in omega arith;
   each = (first.short, h.each);
-  spelled = first.is ∙ ap (λ (x : List ℕ). block first.message ++ x) h.spelled ∙ sym (flat_map-first first.message h.whole h.part);
+  spelled =
+      first.is ∙ ap (λ (x : List ℕ). block first.message ++ x) h.spelled ∙ sym (flat_map-first first.message h.whole h.part);
   cut = h.cut;
 }
 
 there_or_cut : (n : ℕ) (bytes : List ℕ) → AreBytes bytes → AreThere n bytes ⊎ CutShort n bytes
-there_or_cut zero bytes h = inl (record { messages = []; rest = bytes; blocks = record { count = refl; each = tt; spelled = refl } })
+there_or_cut zero bytes h =
+    inl (record { messages = []; rest = bytes; blocks = record { count = refl; each = tt; spelled = refl } })
 there_or_cut (suc n) bytes h = elim (first_or_cut bytes h) [
   | inr cut ↦ inr (record { whole = []; part = bytes; fewer = omega arith; each = tt; spelled = refl; cut = cut })
   | inl first ↦ elim (there_or_cut n first.after first.are) [
@@ -117,9 +122,12 @@ number_small bytes h =
 -- a header and all its blocks, with numbers in their range, are a packet
 module _ (bytes : List ℕ) (are : AreBytes bytes) (long : 20 ≤ length bytes) (there : AreThere (blocks_wanted (count_at bytes)) (drop 20 bytes)) (one : 1 ≤ number_at bytes) (within : number_at bytes + blocks_wanted (count_at bytes) ≤ 2 ^ 64) where
   abbrev content : Kind → Content
-  content kind = record { session = session_at bytes; number = number_at bytes; kind = kind; messages = there.messages; ignored = length there.rest }
+  content kind =
+      record { session = session_at bytes; number = number_at bytes; kind = kind; messages = there.messages; ignored = length there.rest }
 
-  spells : (kind : Kind) → KindFits kind there.messages → count_field kind there.messages ≡ count_at bytes → (packet : Content) × (rest : List ℕ) × Spells bytes packet rest
+  spells : (kind : Kind) → KindFits kind there.messages
+      → count_field kind there.messages ≡ count_at bytes
+      → (packet : Content) × (rest : List ℕ) × Spells bytes packet rest
   spells kind fits count = (
     content kind,
     there.rest,
@@ -149,7 +157,8 @@ module _ (bytes : List ℕ) (are : AreBytes bytes) (long : 20 ≤ length bytes) 
     ]
   ]
 
-pub read_or_fault : (bytes : List ℕ) → AreBytes bytes → ((packet : Content) × (rest : List ℕ) × Spells bytes packet rest) ⊎ ((fault : PacketFault) × HasFault bytes fault)
+pub read_or_fault : (bytes : List ℕ) → AreBytes bytes
+    → ((packet : Content) × (rest : List ℕ) × Spells bytes packet rest) ⊎ ((fault : PacketFault) × HasFault bytes fault)
 read_or_fault bytes are = elim (cases_lt (length bytes) 20) [
   | inl short ↦ inr (ShortHeader, short)
   | inr long ↦ elim (there_or_cut (blocks_wanted (count_at bytes)) (drop 20 bytes) (behind 20 bytes are)) [
@@ -159,14 +168,16 @@ read_or_fault bytes are = elim (cases_lt (length bytes) 20) [
         elim (cases_eq (number_at bytes) 0) [
           | inl zero_ ↦ inr (ZeroSequence, (whole, zero_))
           | inr one ↦ elim (cases_lt (2 ^ 64) (number_at bytes + blocks_wanted (count_at bytes))) [
-            | inl over ↦ let small = number_small bytes are in inr (SequenceOverflow, (whole, omega arith, omega arith, over))
+            | inl over ↦ let small =
+                number_small bytes are in inr (SequenceOverflow, (whole, omega arith, omega arith, over))
             | inr within ↦ inl (reading bytes are long there (omega arith) within)
           ]
         ]
   ]
 ]
 
-pub request_or_fault : (bytes : List ℕ) → AreBytes bytes → ((request : Request) × SpellsRequest bytes request) ⊎ ((fault : PacketFault) × HasRequestFault bytes fault)
+pub request_or_fault : (bytes : List ℕ) → AreBytes bytes
+    → ((request : Request) × SpellsRequest bytes request) ⊎ ((fault : PacketFault) × HasRequestFault bytes fault)
 request_or_fault bytes are = elim (cases_eq (length bytes) 20) [
   | inl exact ↦ inl (
     record { session = session_at bytes; number = number_at bytes; count = count_at bytes },

@@ -14,16 +14,19 @@ use Rattle.line_arbiter.specs.Histories.{History, all_begun, after_arrival, afte
 use Rattle.line_arbiter.specs.Counts.{count_on, no_counts, shown}
 use Rattle.line_arbiter.specs.States.{State, ordinal_of, IsNew, IsRenewed, KeepsAllButSent, KeepsItsPlace, KeepsItsSession}
 use Rattle.line_arbiter.specs.Fits.{Fits, FitsHistory}
-use Rattle.line_arbiter.proofs.Histories.{names_length, names_next, names_same, wins_push}
+use Rattle.line_arbiter.specs.laws.Histories.{names_length, names_next, names_same, wins_push}
 
 -- ---- what is kept
 
 pub keeps_session : {old new : State} → KeepsItsPlace old new → KeepsItsSession old new
-keeps_session kept = record { venue = kept.venue; sessions = kept.sessions; session = kept.session; window = kept.window; earlier = kept.earlier }
+keeps_session kept =
+    record { venue = kept.venue; sessions = kept.sessions; session = kept.session; window = kept.window; earlier = kept.earlier }
 
 -- a packet, and then what it made ready was sent
-pub keeps_sent : {old mid new : State} → KeepsItsSession old mid → KeepsAllButSent mid new → KeepsItsSession old new
-keeps_sent a b = record { venue = b.venue ∙ a.venue; sessions = b.sessions ∙ a.sessions; session = b.session ∙ a.session; window = b.window ∙ a.window; earlier = b.earlier ∙ a.earlier }
+pub keeps_sent : {old mid new : State} → KeepsItsSession old mid → KeepsAllButSent mid new
+    → KeepsItsSession old new
+keeps_sent a b =
+    record { venue = b.venue ∙ a.venue; sessions = b.sessions ∙ a.sessions; session = b.session ∙ a.session; window = b.window ∙ a.window; earlier = b.earlier ∙ a.earlier }
 
 -- ---- nothing came yet
 
@@ -32,7 +35,8 @@ no_wins A = refl
 no_wins B = refl
 no_wins Recovery = refl
 
-pub fits_new : {s : State} {venue window : ℕ} {name : List ℕ} → IsNew s venue name window → Fits s [] → FitsHistory s (new_history name)
+pub fits_new : {s : State} {venue window : ℕ} {name : List ℕ} → IsNew s venue name window
+    → Fits s [] → FitsHistory s (new_history name)
 fits_new new fits = record {
   present = fits;
   names = new.sessions;
@@ -42,7 +46,9 @@ fits_new new fits = record {
 
 -- ---- one more packet
 
-pub fits_packet : {old new : State} (h : History) (a : Arrival) → FitsHistory old h → KeepsItsSession old new → Fits new (h.present.packets ++ a ∷ []) → FitsHistory new (after_arrival h a)
+pub fits_packet : {old new : State} (h : History) (a : Arrival) → FitsHistory old h
+    → KeepsItsSession old new → Fits new (h.present.packets ++ a ∷ [])
+    → FitsHistory new (after_arrival h a)
 fits_packet h a f kept fits = record {
   present = fits;
   names = kept.sessions ∙ f.names ∙ names_same h a;
@@ -51,12 +57,16 @@ fits_packet h a f kept fits = record {
 }
 
 -- its answer is the one that the history asks for
-pub outcome_in : {s : State} (h : History) (p : Content) (answer : Result Outcome LineFault) → FitsHistory s h → IsOutcome s.session s.window s.sent h.present.packets p answer → IsOutcome h.present.name s.window s.sent h.present.packets p answer
-outcome_in {s = s} h p answer f right = subst (λ (name : List ℕ). IsOutcome name s.window s.sent h.present.packets p answer) f.session right
+pub outcome_in : {s : State} (h : History) (p : Content) (answer : Result Outcome LineFault)
+    → FitsHistory s h → IsOutcome s.session s.window s.sent h.present.packets p answer
+    → IsOutcome h.present.name s.window s.sent h.present.packets p answer
+outcome_in {s =
+    s} h p answer f right = subst (λ (name : List ℕ). IsOutcome name s.window s.sent h.present.packets p answer) f.session right
 
 -- ---- items that were sent
 
-pub fits_push : {old new : State} (h : History) → FitsHistory old h → KeepsAllButSent old new → Fits new h.present.packets → FitsHistory new h
+pub fits_push : {old new : State} (h : History) → FitsHistory old h → KeepsAllButSent old new
+    → Fits new h.present.packets → FitsHistory new h
 fits_push h f kept fits = record {
   present = fits;
   names = kept.sessions ∙ f.names;
@@ -70,17 +80,20 @@ fits_push h f kept fits = record {
 pub shown_more : (n earlier now : ℕ) → n ≡ shown earlier → shown (n + now) ≡ shown (earlier + now)
 shown_more n earlier now e = omega arith
 
-pub wins_shown : {s : State} (h : History) → FitsHistory s h → (line : LineId) → shown (count_on line s.earlier + wins_of h.present.packets line) ≡ shown (wins_in (all_begun h) line)
+pub wins_shown : {s : State} (h : History) → FitsHistory s h → (line : LineId)
+    → shown (count_on line s.earlier + wins_of h.present.packets line) ≡ shown (wins_in (all_begun h) line)
 wins_shown {s = s} h f line =
     shown_more (count_on line s.earlier) (wins_in h.earlier line) (wins_of h.present.packets line) (f.earlier line)
     ∙ ap shown (sym (wins_push h.earlier h.present line))
 
-pub wins_are : {s : State} (h : History) → FitsHistory s h → (line : LineId) → count_on line s.wins ≡ shown (wins_in (all_begun h) line)
+pub wins_are : {s : State} (h : History) → FitsHistory s h → (line : LineId)
+    → count_on line s.wins ≡ shown (wins_in (all_begun h) line)
 wins_are h f line = f.present.wins line ∙ wins_shown h f line
 
 -- ---- the next session
 
-pub fits_renewal : {old new : State} (h : History) (name : List ℕ) → FitsHistory old h → IsRenewed old new name → Fits new [] → FitsHistory new (after_renewal h name)
+pub fits_renewal : {old new : State} (h : History) (name : List ℕ) → FitsHistory old h
+    → IsRenewed old new name → Fits new [] → FitsHistory new (after_renewal h name)
 fits_renewal h name f renewed fits = record {
   present = fits;
   names = renewed.sessions ∙ ap (λ (names : List (List ℕ)). names ++ name ∷ []) f.names ∙ sym (names_next h name);
@@ -89,8 +102,11 @@ fits_renewal h name f renewed fits = record {
 }
 
 -- its answer is the one that the history asks for
-pub renewal_in : {s : State} (h : History) (name : List ℕ) (answer : Result ℕ RenewFault) → FitsHistory s h → IsRenewal s.sessions s.end s.sent name answer → IsRenewal (names_of h) (end_of h.present.packets) s.sent name answer
-renewal_in {s = s} h name answer f right = subst (λ (x : List (List ℕ) × Option ℕ). IsRenewal x.0 x.1 s.sent name answer) (λ i. (f.names i, f.present.end i)) right
+pub renewal_in : {s : State} (h : History) (name : List ℕ) (answer : Result ℕ RenewFault)
+    → FitsHistory s h → IsRenewal s.sessions s.end s.sent name answer
+    → IsRenewal (names_of h) (end_of h.present.packets) s.sent name answer
+renewal_in {s =
+    s} h name answer f right = subst (λ (x : List (List ℕ) × Option ℕ). IsRenewal x.0 x.1 s.sent name answer) (λ i. (f.names i, f.present.end i)) right
 
 pub ordinal_is : {s : State} (h : History) → FitsHistory s h → ordinal_of s ≡ 1 + length h.earlier
 ordinal_is h f = ap length f.names ∙ names_length h

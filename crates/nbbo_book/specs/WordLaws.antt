@@ -1,15 +1,15 @@
--- A symbol is found by its word.
+-- A symbol is found by its word: laws, with their proofs, which nobody has to read.
 use Rattle.std.proofs.Common.{ℕ, zero, suc, ◌<◌, ◌≡◌, ◌+◌, List, [], ◌∷◌, Bool, true, false, not, refl, ap, sym, ◌∙◌, subst, arith, length, map, take, get_or, nat_eq, nat_lt, cond, Some, None}
 use Rattle.std.specs.Prelude.{◌||◌, position}
 use Rattle.std.specs.List.{AllByRecursion, IsDistinct, list_any, prefix_len}
 use Rattle.std.specs.Int.{w64, to_be_bytes}
 use Rattle.std.specs.Str.{bytes_eq}
 use Rattle.std.specs.Cmp.Lexicographic.{bytes_decides, nat_list_eq_equiv}
+use Rattle.std.proofs.lemmas.Bool.{eqb-true, eq-eqb}
 use Rattle.std.proofs.lemmas.List.Quantifiers.{position-Some}
 use Rattle.feed_types.specs.Symbols.{word_of}
 use Rattle.nbbo_book.specs.Books.{is_configured}
 use Rattle.nbbo_book.specs.Tables.{HasWord, IsTable}
-use Rattle.nbbo_book.proofs.Ranking.{nat_same, nat_refl}
 
 one_word : (s t : List ℕ) → HasWord s → HasWord t → word_of s ≡ word_of t → s ≡ t
 one_word s t h k e = sym h.told ∙ ap (to_be_bytes w64) e ∙ k.told
@@ -19,12 +19,13 @@ pub word_tells : (s t : List ℕ) → HasWord s → HasWord t → nat_eq (word_o
 word_tells s t h k =
     let R : Bool → Type 0 = λ b. bytes_eq s t ≡ b → nat_eq (word_of s) (word_of t) ≡ b in
     (elim (bytes_eq s t) as R [
-      | true ↦ λ e. ap (λ u. nat_eq (word_of s) (word_of u)) (sym ((bytes_decides s t).0 e)) ∙ nat_refl (word_of s)
+      | true ↦ λ e. ap (λ u. nat_eq (word_of s) (word_of u)) (sym ((bytes_decides s t).0 e))
+          ∙ eq-eqb (word_of s) (word_of s) refl
       | false ↦ λ e.
           let Q : Bool → Type 0 = λ b. nat_eq (word_of s) (word_of t) ≡ b → b ≡ false in
           (elim (nat_eq (word_of s) (word_of t)) as Q [
             | true ↦ λ m. (let no : true ≡ false =
-                sym ((bytes_decides s t).1 (one_word s t h k (nat_same (word_of s) (word_of t) m))) ∙ e in no)
+                sym ((bytes_decides s t).1 (one_word s t h k (eqb-true (word_of s) (word_of t) m))) ∙ e in no)
             | false ↦ λ m. refl
           ]) refl
     ]) refl

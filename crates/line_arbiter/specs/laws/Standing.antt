@@ -8,7 +8,7 @@ use Rattle.line_arbiter.specs.Holding.{held_at}
 use Rattle.line_arbiter.specs.States.{State, held_of}
 use Rattle.line_arbiter.specs.Counts.{count_on, shown}
 use Rattle.line_arbiter.specs.Fits.{Fits}
-use Rattle.line_arbiter.proofs.Fronts.{IsFront, front_is, front_unique}
+use Rattle.line_arbiter.specs.laws.Fronts.{IsFront, front_is, front_unique}
 
 pub record Stands (s : State) (packets : List Arrival) : Type 0 where
   pub front : IsFront packets s.front
@@ -16,7 +16,8 @@ pub record Stands (s : State) (packets : List Arrival) : Type 0 where
   pub end : s.end ≡ end_of packets
   pub sent : s.sent ≤ length (stream_to packets s.front)
   pub held : (m : ℕ) → held_at (held_of s) m ≡ (if nat_le m s.sent then None else carried packets m)
-  pub wins : (line : LineId) → count_on line s.wins ≡ shown (count_on line s.earlier + wins_of packets line)
+  pub wins : (line : LineId)
+      → count_on line s.wins ≡ shown (count_on line s.earlier + wins_of packets line)
 
 pub stands_of : {s : State} {packets : List Arrival} → Fits s packets → Stands s packets
 stands_of {s} {packets} fits = record {

@@ -14,11 +14,13 @@ use Rattle.line_arbiter.specs.Packets.{Arrival, carried, end_of}
 use Rattle.line_arbiter.specs.Streams.{front_of, end_at, stream_of}
 use Rattle.line_arbiter.specs.Genuine.{AreGenuine}
 use Rattle.line_arbiter.specs.OfSession.{session_stream}
-use Rattle.line_arbiter.proofs.Fronts.{front_is}
-use Rattle.line_arbiter.proofs.Genuine.{some_is, carried_may, end_may}
+use Rattle.line_arbiter.specs.laws.Fronts.{front_is}
+use Rattle.line_arbiter.specs.laws.Genuine.{some_is, carried_may, end_may}
 
 -- items by number are items in a row
-numbered_take : (item : ℕ → Item) (all : List Item) (a n : ℕ) → ((i : ℕ) → i < n → slice_get all i ≡ Some (item (a + i))) → map (λ m. record { number = m; item = item m }) (range_with_len a n) ≡ numbered_from a (take n all)
+numbered_take : (item : ℕ → Item) (all : List Item) (a n : ℕ)
+    → ((i : ℕ) → i < n → slice_get all i ≡ Some (item (a + i)))
+    → map (λ m. record { number = m; item = item m }) (range_with_len a n) ≡ numbered_from a (take n all)
 numbered_take item all a zero h = refl
 numbered_take item [] a (suc n) h = absurd (none_some (item (a + 0)) (h 0 (omega arith)))
   where
@@ -31,11 +33,13 @@ numbered_take item (x ∷ all) a (suc n) h =
     same : (x y : Item) → Some y ≡ Some x → x ≡ y
     same x y h = cc
 
-    push : (m : ℕ) (x y : Item) (xs ys : List Numbered) → x ≡ y → xs ≡ ys → record { number = m; item = x } ∷ xs ≡ record { number = m; item = y } ∷ ys
+    push : (m : ℕ) (x y : Item) (xs ys : List Numbered) → x ≡ y → xs ≡ ys
+        → record { number = m; item = x } ∷ xs ≡ record { number = m; item = y } ∷ ys
     push m x y xs ys h k = cc
 
--- End is there where the whole session is in front of it
-end_is_last : (end : Option ℕ) (front len : ℕ) → ((e : ℕ) → end ≡ Some e → e ≡ len + 1) → end_at end (front + 1) ≡ (if is_some end && (front == len) then record { number = front + 1; item = items.End } ∷ [] else [])
+-- End stands where the whole session is in front of it
+end_is_last : (end : Option ℕ) (front len : ℕ) → ((e : ℕ) → end ≡ Some e → e ≡ len + 1)
+    → end_at end (front + 1) ≡ (if is_some end && (front == len) then record { number = front + 1; item = items.End } ∷ [] else [])
 end_is_last None front len h = refl
 end_is_last (Some e) front len h =
     let last = h e refl in
@@ -50,7 +54,9 @@ pub record IsPartOf (s : Session) (packets : List Arrival) : Type 0 where
   pub item : (m : ℕ) (item : Item) → carried packets m ≡ Some item → IsItemAt s m item
   pub end : (e : ℕ) → end_of packets ≡ Some e → e ≡ length s.items + 1
 
-pub part_of : (sessions : ℕ → ℕ → List ℕ → Type 0) (carries : ℕ → ℕ → ℕ → Item → Type 0) (ends : ℕ → ℕ → ℕ → Type 0) (venue ordinal : ℕ) (all : List Session) (s : Session) (packets : List Arrival) → Names sessions carries ends venue all → IsSessionAt all ordinal s → AreGenuine carries ends venue ordinal packets → IsPartOf s packets
+pub part_of : (sessions : ℕ → ℕ → List ℕ → Type 0) (carries : ℕ → ℕ → ℕ → Item → Type 0) (ends : ℕ → ℕ → ℕ → Type 0) (venue ordinal : ℕ) (all : List Session) (s : Session) (packets : List Arrival)
+    → Names sessions carries ends venue all → IsSessionAt all ordinal s
+    → AreGenuine carries ends venue ordinal packets → IsPartOf s packets
 part_of sessions carries ends venue ordinal all s packets names at genuine = record {
   item = λ m item is.
       let found = (names.carried ordinal m item).0 (carried_may carries ends venue ordinal packets m item genuine is) in
@@ -63,7 +69,8 @@ part_of sessions carries ends venue ordinal all s packets names at genuine = rec
   same_session t h = let mine : Some t ≡ Some s = sym h.1 ∙ at.1 in cc
 
 module _ (s : Session) (packets : List Arrival) (part : IsPartOf s packets) where
-  taken_is : (m : ℕ) → IsSome (carried packets m) → IsItemAt s m (unwrap_or (carried packets m) items.Other)
+  taken_is : (m : ℕ) → IsSome (carried packets m)
+      → IsItemAt s m (unwrap_or (carried packets m) items.Other)
   taken_is m h = part.item m (unwrap_or (carried packets m) items.Other) (some_is (carried packets m) h)
 
   pub taken_within : (m : ℕ) → IsSome (carried packets m) → m ≤ length s.items
@@ -77,8 +84,10 @@ module _ (s : Session) (packets : List Arrival) (part : IsPartOf s packets) wher
     | inr le ↦ omega arith
   ]
 
-  item_in_row : (i : ℕ) → i < front_of packets → slice_get s.items i ≡ Some (unwrap_or (carried packets (1 + i)) items.Other)
-  item_in_row i lt = ap (slice_get s.items) (omega arith) ∙ (taken_is (1 + i) ((front_is packets).all (1 + i) (omega arith) (omega arith))).1
+  item_in_row : (i : ℕ) → i < front_of packets
+      → slice_get s.items i ≡ Some (unwrap_or (carried packets (1 + i)) items.Other)
+  item_in_row i lt =
+      ap (slice_get s.items) (omega arith) ∙ (taken_is (1 + i) ((front_is packets).all (1 + i) (omega arith) (omega arith))).1
 
   pub stream_is : stream_of packets ≡ session_stream s (front_of packets) (end_of packets)
   stream_is =

@@ -13,10 +13,11 @@ use Rattle.mold_packet.specs.declared.packet.Kind.TheVariants as kinds
 use Rattle.line_arbiter.specs.declared.outcome.Outcome.{Outcome}
 use Rattle.line_arbiter.specs.declared.outcome.LineFault.{LineFault}
 use Rattle.line_arbiter.specs.declared.outcome.LineFault.TheVariants.{OtherSession, PastEnd, EndMoved, EndTooEarly, Conflict}
-use Rattle.line_arbiter.proofs.OfSession.{IsPartOf, taken_within}
+use Rattle.line_arbiter.specs.laws.OfSession.{IsPartOf, taken_within}
 
 module _ (s : Session) (packets : List Arrival) (part : IsPartOf s packets) where
-  not_past : (p : Content) → IsOfSession s p → 1 ≤ length p.messages → IsPast (end_of packets) (last_number p) → ⊥
+  not_past : (p : Content) → IsOfSession s p → 1 ≤ length p.messages
+      → IsPast (end_of packets) (last_number p) → ⊥
   not_past p of some past =
       let end = part.end past.at past.announced in
       let last = slice_get_within s.items (p.number + (length p.messages - 1) - 1) (message_item p (length p.messages - 1)) (of.messages (length p.messages - 1) (omega arith)) in
@@ -31,7 +32,9 @@ module _ (s : Session) (packets : List Arrival) (part : IsPartOf s packets) wher
       same_item : (x y : Item) → Some x ≡ Some y → x ≡ y
       same_item x y h = cc
 
-  messages_accepted : (window sent : ℕ) (p : Content) (answer : Result Outcome LineFault) → IsOfSession s p → 1 ≤ length p.messages → ToMessages window sent packets p answer → IsOk answer
+  messages_accepted : (window sent : ℕ) (p : Content) (answer : Result Outcome LineFault)
+      → IsOfSession s p → 1 ≤ length p.messages → ToMessages window sent packets p answer
+      → IsOk answer
   messages_accepted window sent p (Ok outcome) of some h = refl
   messages_accepted window sent p (Err PastEnd) of some h = absurd (not_past p of some h)
   messages_accepted window sent p (Err Conflict) of some h = absurd (agrees sent p of h.2)
@@ -39,7 +42,8 @@ module _ (s : Session) (packets : List Arrival) (part : IsPartOf s packets) wher
   messages_accepted window sent p (Err EndMoved) of some h = absurd h
   messages_accepted window sent p (Err EndTooEarly) of some h = absurd h
 
-  heartbeat_accepted : (n : ℕ) (answer : Result Outcome LineFault) → n ≤ length s.items + 1 → ToHeartbeat packets n answer → IsOk answer
+  heartbeat_accepted : (n : ℕ) (answer : Result Outcome LineFault) → n ≤ length s.items + 1
+      → ToHeartbeat packets n answer → IsOk answer
   heartbeat_accepted n (Ok outcome) of h = refl
   heartbeat_accepted n (Err PastEnd) of h = let end = part.end h.0 h.1 in let k = h.2 in absurd (omega arith)
   heartbeat_accepted n (Err OtherSession) of h = absurd h
@@ -47,20 +51,26 @@ module _ (s : Session) (packets : List Arrival) (part : IsPartOf s packets) wher
   heartbeat_accepted n (Err EndTooEarly) of h = absurd h
   heartbeat_accepted n (Err Conflict) of h = absurd h
 
-  end_accepted : (n : ℕ) (answer : Result Outcome LineFault) → n ≡ length s.items + 1 → ToEnd packets n answer → IsOk answer
+  end_accepted : (n : ℕ) (answer : Result Outcome LineFault) → n ≡ length s.items + 1
+      → ToEnd packets n answer → IsOk answer
   end_accepted n (Ok outcome) of h = refl
   end_accepted n (Err EndMoved) of h = absurd (h.2 (part.end h.0 h.1 ∙ sym of))
-  end_accepted n (Err EndTooEarly) of h = let k = taken_within s packets part h.1 h.3 in let above = h.2 in absurd (omega arith)
+  end_accepted n (Err EndTooEarly) of h =
+      let k = taken_within s packets part h.1 h.3 in let above = h.2 in absurd (omega arith)
   end_accepted n (Err OtherSession) of h = absurd h
   end_accepted n (Err PastEnd) of h = absurd h
   end_accepted n (Err Conflict) of h = absurd h
 
-  kind_accepted : (kind : Kind) (window sent : ℕ) (p : Content) (answer : Result Outcome LineFault) → p.kind ≡ kind → KindFits kind p.messages → IsOfSession s p → ToKind kind window sent packets p answer → IsOk answer
+  kind_accepted : (kind : Kind) (window sent : ℕ) (p : Content) (answer : Result Outcome LineFault)
+      → p.kind ≡ kind → KindFits kind p.messages → IsOfSession s p
+      → ToKind kind window sent packets p answer → IsOk answer
   kind_accepted kinds.Messages window sent p answer is fits of h = messages_accepted window sent p answer of fits.0 h
-  kind_accepted kinds.Heartbeat window sent p answer is fits of h = heartbeat_accepted p.number answer (of.heartbeat is) h
+  kind_accepted kinds.Heartbeat window sent p answer is fits of h =
+      heartbeat_accepted p.number answer (of.heartbeat is) h
   kind_accepted kinds.End window sent p answer is fits of h = end_accepted p.number answer (of.end is) h
 
-  pub accepted : (window sent : ℕ) (p : Content) (answer : Result Outcome LineFault) → IsContent p → IsOfSession s p → IsOutcome s.name window sent packets p answer → IsOk answer
+  pub accepted : (window sent : ℕ) (p : Content) (answer : Result Outcome LineFault) → IsContent p
+      → IsOfSession s p → IsOutcome s.name window sent packets p answer → IsOk answer
   accepted window sent p answer content of h = elim h [
     | inl other ↦ absurd (other.0 of.name)
     | inr same ↦ kind_accepted p.kind window sent p answer refl content.fits of same.1

@@ -18,9 +18,9 @@ use Rattle.line_arbiter.specs.declared.faults.RenewFault.TheVariants.{NotEnded, 
 use Rattle.line_arbiter.specs.Renewals.{HasEnded, IsRenewal}
 use Rattle.line_arbiter.specs.Packets.{Arrival, carried, end_of, message_item, top_of}
 use Rattle.line_arbiter.specs.Outcomes.{IsPast, IsBefore, Disagrees, Agrees, new_count, ToMessages, ToHeartbeat, ToEnd, ToKind, IsOutcome}
-use Rattle.line_arbiter.proofs.Deciding.{cases_bytes, cases_item, none_or_one, one_below}
-use Rattle.line_arbiter.proofs.Fronts.{carried_above, not_none}
-use Rattle.line_arbiter.proofs.OneOutcome.{same_some, none_or_some}
+use Rattle.line_arbiter.specs.laws.Deciding.{cases_bytes, cases_item, none_or_one, one_below}
+use Rattle.line_arbiter.specs.laws.Fronts.{carried_above, not_none}
+use Rattle.line_arbiter.specs.laws.OneOutcome.{same_some, none_or_some}
 
 -- ---- messages
 
@@ -36,7 +36,8 @@ past_or_before end n = elim (none_or_one end) [
 module _ (packets : List Arrival) (sent : ℕ) (p : Content) where
   -- what was taken at the number of a message reads as another item
   abbrev Other : ℕ → Type 0
-  Other k = (sent < p.number + k) × (item : Item) × (carried packets (p.number + k) ≡ Some item) × (item ≢ message_item p k)
+  Other k =
+      (sent < p.number + k) × (item : Item) × (carried packets (p.number + k) ≡ Some item) × (item ≢ message_item p k)
 
   other_or_not : (k : ℕ) → Other k ⊎ (Other k → ⊥)
   other_or_not k = elim (cases_lt sent (p.number + k)) [
@@ -44,7 +45,8 @@ module _ (packets : List Arrival) (sent : ℕ) (p : Content) where
     | inl past ↦ elim (none_or_one (carried packets (p.number + k))) [
       | inl none ↦ inr (λ h. let e : None ≡ Some h.1 = sym none ∙ h.2 in absurd cc)
       | inr one ↦ elim (cases_item one.0 (message_item p k)) [
-        | inl same ↦ inr (λ h. let e : Some one.0 ≡ Some h.1 = sym one.1 ∙ h.2 in let is : one.0 ≡ h.1 = cc in h.3 (sym is ∙ same))
+        | inl same ↦ inr (λ h. let e : Some one.0 ≡ Some h.1 =
+            sym one.1 ∙ h.2 in let is : one.0 ≡ h.1 = cc in h.3 (sym is ∙ same))
         | inr other ↦ inl (past, one.0, one.1, other)
       ]
     ]
@@ -52,14 +54,23 @@ module _ (packets : List Arrival) (sent : ℕ) (p : Content) where
 
   disagrees_or_agrees : Disagrees packets sent p ⊎ Agrees packets sent p
   disagrees_or_agrees = elim (one_below Other other_or_not (length p.messages)) [
-    | inl found ↦ inl (record { place = found.0; in_packet = found.1; unsent = found.2.0; item = found.2.1; taken = found.2.2; differs = found.2.3 })
+    | inl found ↦ inl (record {
+      place =
+          found.0;
+      in_packet = found.1;
+      unsent = found.2.0;
+      item = found.2.1;
+      taken = found.2.2;
+      differs = found.2.3;
+    })
     | inr none ↦ inr (λ k item within past taken. elim (cases_item item (message_item p k)) [
       | inl same ↦ same
       | inr other ↦ absurd (none k within (past, item, taken, other))
     ])
   ]
 
-  messages_have : (window : ℕ) → (answer : Result Outcome LineFault) × ToMessages window sent packets p answer
+  messages_have : (window : ℕ)
+      → (answer : Result Outcome LineFault) × ToMessages window sent packets p answer
   messages_have window = elim (past_or_before (end_of packets) (last_number p)) [
     | inl past ↦ (Err PastEnd, past)
     | inr before ↦ elim (cases_lt (sent + window) (last_number p)) [
@@ -76,7 +87,8 @@ module _ (packets : List Arrival) (sent : ℕ) (p : Content) where
 
 -- ---- a heartbeat, and an end of session
 
-heartbeat_has : (packets : List Arrival) (n : ℕ) → (answer : Result Outcome LineFault) × ToHeartbeat packets n answer
+heartbeat_has : (packets : List Arrival) (n : ℕ)
+    → (answer : Result Outcome LineFault) × ToHeartbeat packets n answer
 heartbeat_has packets n = elim (none_or_one (end_of packets)) [
   | inl none ↦ (Ok Heartbeat, λ e is. absurd (none_or_some (end_of packets) e none is))
   | inr one ↦ elim (cases_lt one.0 n) [
@@ -89,7 +101,8 @@ heartbeat_has packets n = elim (none_or_one (end_of packets)) [
 abbrev TakenFrom : List Arrival → ℕ → ℕ → Type 0
 TakenFrom packets n m = (n ≤ m) × IsSome (carried packets m)
 
-taken_or_not : (packets : List Arrival) (n m : ℕ) → TakenFrom packets n m ⊎ (TakenFrom packets n m → ⊥)
+taken_or_not : (packets : List Arrival) (n m : ℕ)
+    → TakenFrom packets n m ⊎ (TakenFrom packets n m → ⊥)
 taken_or_not packets n m = elim (cases_lt m n) [
   | inl below ↦ inr (λ h. let above = h.0 in omega arith)
   | inr above ↦ elim (cases_Bool (is_some (carried packets m))) [
@@ -99,7 +112,9 @@ taken_or_not packets n m = elim (cases_lt m n) [
 ]
 
 -- nothing is taken above the greatest number that was taken
-all_below : (packets : List Arrival) (n : ℕ) → ((m : ℕ) → m < top_of packets + 1 → TakenFrom packets n m → ⊥) → (m : ℕ) → IsSome (carried packets m) → m < n
+all_below : (packets : List Arrival) (n : ℕ)
+    → ((m : ℕ) → m < top_of packets + 1 → TakenFrom packets n m → ⊥) → (m : ℕ)
+    → IsSome (carried packets m) → m < n
 all_below packets n none m some = elim (cases_lt m n) [
   | inl below ↦ below
   | inr above ↦ elim (cases_lt (top_of packets) m) [
@@ -108,7 +123,8 @@ all_below packets n none m some = elim (cases_lt m n) [
   ]
 ]
 
-end_has : (packets : List Arrival) (n : ℕ) → (answer : Result Outcome LineFault) × ToEnd packets n answer
+end_has : (packets : List Arrival) (n : ℕ)
+    → (answer : Result Outcome LineFault) × ToEnd packets n answer
 end_has packets n = elim (none_or_one (end_of packets)) [
   | inl none ↦ elim (one_below (TakenFrom packets n) (taken_or_not packets n) (top_of packets + 1)) [
     | inl found ↦ (Err EndTooEarly, (none, found.0, found.2.0, found.2.1))
@@ -122,12 +138,14 @@ end_has packets n = elim (none_or_one (end_of packets)) [
 
 -- ---- any packet, and a renewal
 
-kind_has : (kind : Kind) (window sent : ℕ) (packets : List Arrival) (p : Content) → (answer : Result Outcome LineFault) × ToKind kind window sent packets p answer
+kind_has : (kind : Kind) (window sent : ℕ) (packets : List Arrival) (p : Content)
+    → (answer : Result Outcome LineFault) × ToKind kind window sent packets p answer
 kind_has kinds.Messages window sent packets p = messages_have packets sent p window
 kind_has kinds.Heartbeat window sent packets p = heartbeat_has packets p.number
 kind_has kinds.End window sent packets p = end_has packets p.number
 
-pub every_answer : (session : List ℕ) (window sent : ℕ) (packets : List Arrival) (p : Content) → (answer : Result Outcome LineFault) × IsOutcome session window sent packets p answer
+pub every_answer : (session : List ℕ) (window sent : ℕ) (packets : List Arrival) (p : Content)
+    → (answer : Result Outcome LineFault) × IsOutcome session window sent packets p answer
 every_answer session window sent packets p = elim (cases_bytes p.session session) [
   | inl same ↦ let given = kind_has p.kind window sent packets p in (given.0, inr (same, given.1))
   | inr other ↦ (Err OtherSession, inl (other, refl))
@@ -148,7 +166,8 @@ used_or_not names name = elim (one_below (λ k. slice_index_or names k name ≡ 
   | inr free ↦ inr (λ used. free used.0 used.1 used.2)
 ]
 
-pub every_renewal : (names : List (List ℕ)) (end : Option ℕ) (sent : ℕ) (name : List ℕ) → (answer : Result ℕ RenewFault) × IsRenewal names end sent name answer
+pub every_renewal : (names : List (List ℕ)) (end : Option ℕ) (sent : ℕ) (name : List ℕ)
+    → (answer : Result ℕ RenewFault) × IsRenewal names end sent name answer
 every_renewal names end sent name = elim (ended_or_not end sent) [
   | inr open_ ↦ (Err NotEnded, open_)
   | inl ended ↦ elim (used_or_not names name) [

@@ -9,28 +9,34 @@ use Rattle.line_arbiter.specs.Packets.{Arrival}
 use Rattle.line_arbiter.specs.Streams.{stream_of, wins_of}
 use Rattle.line_arbiter.specs.Histories.{Begun, History, all_begun, after_arrival, after_renewal, items_of, names_of, new_session, wins_in}
 
--- the names of sessions, whatever is added to the last one
-names_push : (bs : List Begun) (b c : Begun) → b.name ≡ c.name → map (λ (x : Begun). x.name) (bs ++ b ∷ []) ≡ map (λ (x : Begun). x.name) (bs ++ c ∷ [])
+-- the names of sessions, whatever came of the last one
+names_push : (bs : List Begun) (b c : Begun) → b.name ≡ c.name
+    → map (λ (x : Begun). x.name) (bs ++ b ∷ []) ≡ map (λ (x : Begun). x.name) (bs ++ c ∷ [])
 names_push [] b c e = ap (λ (n : List ℕ). n ∷ []) e
 names_push (a ∷ bs) b c e = ap (λ (l : List (List ℕ)). a.name ∷ l) (names_push bs b c e)
 
 pub names_same : (h : History) (a : Arrival) → names_of h ≡ names_of (after_arrival h a)
 names_same h a = names_push h.earlier h.present (after_arrival h a).present refl
 
-pub names_next : (h : History) (name : List ℕ) → names_of (after_renewal h name) ≡ names_of h ++ name ∷ []
+pub names_next : (h : History) (name : List ℕ)
+    → names_of (after_renewal h name) ≡ names_of h ++ name ∷ []
 names_next h name = map-append (λ (x : Begun). x.name) (all_begun h) (new_session name ∷ [])
 
 pub names_length : (h : History) → length (names_of h) ≡ 1 + length h.earlier
 names_length h = count h.earlier
   where
-    count : (bs : List Begun) → length (map (λ (x : Begun). x.name) (bs ++ h.present ∷ [])) ≡ 1 + length bs
+    count : (bs : List Begun)
+        → length (map (λ (x : Begun). x.name) (bs ++ h.present ∷ [])) ≡ 1 + length bs
     count [] = refl
     count (b ∷ bs) = let e = count bs in omega (arith, e)
 
 -- the streams of sessions, and of one more
-pub items_push : (bs : List Begun) (b : Begun) → items_of (bs ++ b ∷ []) ≡ items_of bs ++ stream_of b.packets
-items_push bs b = flat_map-append (λ (x : Begun). stream_of x.packets) bs (b ∷ []) ∙ ap (λ (xs : List Numbered). items_of bs ++ xs) (append-nil (stream_of b.packets))
+pub items_push : (bs : List Begun) (b : Begun)
+    → items_of (bs ++ b ∷ []) ≡ items_of bs ++ stream_of b.packets
+items_push bs b =
+    flat_map-append (λ (x : Begun). stream_of x.packets) bs (b ∷ []) ∙ ap (λ (xs : List Numbered). items_of bs ++ xs) (append-nil (stream_of b.packets))
 
 -- what the line brought first in sessions, and in one more
-pub wins_push : (bs : List Begun) (b : Begun) (line : LineId) → wins_in (bs ++ b ∷ []) line ≡ wins_in bs line + wins_of b.packets line
+pub wins_push : (bs : List Begun) (b : Begun) (line : LineId)
+    → wins_in (bs ++ b ∷ []) line ≡ wins_in bs line + wins_of b.packets line
 wins_push bs b line = sum_by_push (λ (x : Begun). wins_of x.packets line) bs b

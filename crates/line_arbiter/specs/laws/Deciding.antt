@@ -22,7 +22,8 @@ cases_flag false true = inr false≢true
 cases_flag false false = inl refl
 
 -- a part is the same, or the whole is another one
-part : {W X : Type 0} (f : W → X) → ((x y : X) → (x ≡ y) ⊎ (x ≢ y)) → (a b : W) → (f a ≡ f b) ⊎ (a ≢ b)
+part : {W X : Type 0} (f : W → X) → ((x y : X) → (x ≡ y) ⊎ (x ≢ y)) → (a b : W)
+    → (f a ≡ f b) ⊎ (a ≢ b)
 part f tell a b = elim (tell (f a) (f b)) [ inl same ↦ inl same | inr other ↦ inr (λ e. other (ap f e)) ]
 
 both : {P Q N : Type 0} → P ⊎ N → Q ⊎ N → (P × Q) ⊎ N
@@ -56,7 +57,8 @@ halt_is : (s t : List ℕ) (on off : Bool) → items.Halt s on ≡ items.Halt t 
 halt_is s t on off e = (cc, cc)
 
 pub cases_item : (a b : Item) → (a ≡ b) ⊎ (a ≢ b)
-cases_item (items.Quote a) (items.Quote b) = elim (cases_quote a b) [ inl same ↦ inl (ap items.Quote same) | inr other ↦ inr (λ e. other (quote_is a b e)) ]
+cases_item (items.Quote a) (items.Quote b) =
+    elim (cases_quote a b) [ inl same ↦ inl (ap items.Quote same) | inr other ↦ inr (λ e. other (quote_is a b e)) ]
 cases_item (items.Quote a) (items.Halt t off) = inr (λ e. cc)
 cases_item (items.Quote a) items.Other = inr (λ e. cc)
 cases_item (items.Quote a) items.End = inr (λ e. cc)
@@ -80,7 +82,8 @@ pub none_or_one : {X : Type 0} (o : Option X) → (o ≡ None) ⊎ ((x : X) × (
 none_or_one None = inl refl
 none_or_one (Some x) = inr (x, refl)
 
-pub one_below : (P : ℕ → Type 0) → ((k : ℕ) → P k ⊎ (P k → ⊥)) → (n : ℕ) → ((k : ℕ) × (k < n) × P k) ⊎ ((k : ℕ) → k < n → P k → ⊥)
+pub one_below : (P : ℕ → Type 0) → ((k : ℕ) → P k ⊎ (P k → ⊥)) → (n : ℕ)
+    → ((k : ℕ) × (k < n) × P k) ⊎ ((k : ℕ) → k < n → P k → ⊥)
 one_below P each zero = inr (λ k within h. omega arith)
 one_below P each (suc n) = elim (each n) [
   | inl last ↦ inl (n, omega arith, last)

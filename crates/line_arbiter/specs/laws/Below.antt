@@ -18,11 +18,11 @@ use Rattle.line_arbiter.specs.Streams.{front_of, stream_of, IsComplete}
 use Rattle.line_arbiter.specs.Outcomes.{IsOutcome, ToKind, IsBefore}
 use Rattle.line_arbiter.specs.Answered.{IsAnswered, AreAnswered, AreAnsweredAfter}
 use Rattle.line_arbiter.specs.Renewals.{HasEnded}
-use Rattle.line_arbiter.proofs.Bringing.{carried_same, carried_more, end_same, end_of-push}
-use Rattle.line_arbiter.proofs.Soundness.{number_in}
-use Rattle.line_arbiter.proofs.Fronts.{front_is}
-use Rattle.line_arbiter.proofs.Cursors.{length-stream, end_most}
-use Rattle.line_arbiter.proofs.StreamGrowth.{EndsPast, stream_grows}
+use Rattle.line_arbiter.specs.laws.Bringing.{carried_same, carried_more, end_same, end_of-push}
+use Rattle.line_arbiter.specs.laws.Soundness.{number_in}
+use Rattle.line_arbiter.specs.laws.Fronts.{front_is}
+use Rattle.line_arbiter.specs.laws.Cursors.{length-stream, end_most}
+use Rattle.line_arbiter.specs.laws.StreamGrowth.{EndsPast, stream_grows}
 
 pub record IsBelow (packets : List Arrival) : Type 0 where
   pub least : (e : ℕ) → end_of packets ≡ Some e → 1 ≤ e
@@ -31,18 +31,23 @@ pub record IsBelow (packets : List Arrival) : Type 0 where
 pub below_none : IsBelow []
 below_none = record { least = λ e h. absurd cc; above = λ e m h s. absurd cc }
 
-same : (packets : List Arrival) (a : Arrival) → is_taken a.answer ≡ false → is_ended a.answer ≡ false → IsBelow packets → IsBelow (packets ++ a ∷ [])
+same : (packets : List Arrival) (a : Arrival) → is_taken a.answer ≡ false
+    → is_ended a.answer ≡ false → IsBelow packets → IsBelow (packets ++ a ∷ [])
 same packets a t f b = record {
   least = λ e h. b.least e (sym (end_same packets a f) ∙ h);
-  above = λ e m h s. b.above e m (sym (end_same packets a f) ∙ h) (subst (λ (o : Option Item). IsSome o) (carried_same packets a m t) s);
+  above =
+      λ e m h s. b.above e m (sym (end_same packets a f) ∙ h) (subst (λ (o : Option Item). IsSome o) (carried_same packets a m t) s);
 }
 
-some_or : (o : Option Item) (b : Bool) (x : Item) → IsSome (option_or o (if b then Some x else None)) → IsSome o ⊎ (b ≡ true)
+some_or : (o : Option Item) (b : Bool) (x : Item)
+    → IsSome (option_or o (if b then Some x else None)) → IsSome o ⊎ (b ≡ true)
 some_or (Some y) b x h = inl refl
 some_or None true x h = inr refl
 some_or None false x h = absurd (false≢true h)
 
-taken : (packets : List Arrival) (a : Arrival) → is_taken a.answer ≡ true → is_ended a.answer ≡ false → IsBefore (end_of packets) (last_number a.packet) → IsBelow packets → IsBelow (packets ++ a ∷ [])
+taken : (packets : List Arrival) (a : Arrival) → is_taken a.answer ≡ true
+    → is_ended a.answer ≡ false → IsBefore (end_of packets) (last_number a.packet) → IsBelow packets
+    → IsBelow (packets ++ a ∷ [])
 taken packets a t f before b = record {
   least = λ e h. b.least e (sym (end_same packets a f) ∙ h);
   above = λ e m h s.
@@ -53,10 +58,13 @@ taken packets a t f before b = record {
       ];
 }
 
-ended : (packets : List Arrival) (a : Arrival) (n : ℕ) → is_taken a.answer ≡ false → end_of (packets ++ a ∷ []) ≡ Some n → 1 ≤ n → ((m : ℕ) → IsSome (carried packets m) → m < n) → IsBelow (packets ++ a ∷ [])
+ended : (packets : List Arrival) (a : Arrival) (n : ℕ) → is_taken a.answer ≡ false
+    → end_of (packets ++ a ∷ []) ≡ Some n → 1 ≤ n → ((m : ℕ) → IsSome (carried packets m) → m < n)
+    → IsBelow (packets ++ a ∷ [])
 ended packets a n t is least above = record {
   least = λ e h. let same : n ≡ e = one (sym is ∙ h) in omega arith;
-  above = λ e m h s. let same : n ≡ e = one (sym is ∙ h) in let k = above m (subst (λ (o : Option Item). IsSome o) (carried_same packets a m t) s) in omega arith;
+  above =
+      λ e m h s. let same : n ≡ e = one (sym is ∙ h) in let k = above m (subst (λ (o : Option Item). IsSome o) (carried_same packets a m t) s) in omega arith;
 }
   where
     one : {x y : ℕ} → Some x ≡ Some y → x ≡ y
@@ -66,7 +74,9 @@ module _ (window sent : ℕ) (packets : List Arrival) (line : LineId) (p : Conte
   Goal : Result Outcome LineFault → Type 0
   Goal answer = IsBelow (packets ++ record { line = line; packet = p; answer = answer } ∷ [])
 
-  by_kind : (kind : Kind) (answer : Result Outcome LineFault) → ToKind kind window sent packets p answer → IsBelow (packets ++ record { line = line; packet = p; answer = answer } ∷ [])
+  by_kind : (kind : Kind) (answer : Result Outcome LineFault)
+      → ToKind kind window sent packets p answer
+      → IsBelow (packets ++ record { line = line; packet = p; answer = answer } ∷ [])
   by_kind kinds.Messages (Ok (Taken new repeated)) h = taken packets _ refl refl h.0 b
   by_kind kinds.Messages (Ok Ended) h = absurd h
   by_kind kinds.Messages (Ok Heartbeat) h = absurd h
@@ -86,9 +96,16 @@ module _ (window sent : ℕ) (packets : List Arrival) (line : LineId) (p : Conte
     | inr once ↦ ended packets _ p.number refl (end_of-push packets _ ∙ ap (λ (o : Option ℕ). option_or o (Some p.number)) once.0) content.from_one once.1
   ]
 
-  pub below_grows : (session : List ℕ) (answer : Result Outcome LineFault) → IsOutcome session window sent packets p answer → IsBelow (packets ++ record { line = line; packet = p; answer = answer } ∷ [])
+  pub below_grows : (session : List ℕ) (answer : Result Outcome LineFault)
+      → IsOutcome session window sent packets p answer
+      → IsBelow (packets ++ record { line = line; packet = p; answer = answer } ∷ [])
   below_grows session answer h = elim h [
-    | inl other ↦ subst (λ (r : Result Outcome LineFault). IsBelow (packets ++ record { line = line; packet = p; answer = r } ∷ [])) (sym other.1) (same packets (record { line = line; packet = p; answer = Err OtherSession }) refl refl b)
+    | inl other ↦ subst (λ (r : Result Outcome LineFault). IsBelow (packets ++ record {
+      line =
+          line;
+      packet = p;
+      answer = r;
+    } ∷ [])) (sym other.1) (same packets (record { line = line; packet = p; answer = Err OtherSession }) refl refl b)
     | inr mine ↦ by_kind p.kind answer mine.1
   ]
 
@@ -98,30 +115,43 @@ below_past packets b e is = elim (cases_lt 0 (front_of packets)) [
   | inr none ↦ let least = b.least e is in omega arith
 ]
 
--- one more packet that was answered by the definitions
-pub answered_more : (session : List ℕ) (window : ℕ) (packets : List Arrival) (a : Arrival) → AreAnswered session window packets → IsAnswered session window packets a → AreAnswered session window (packets ++ a ∷ [])
+-- one more packet that was answered as it should be
+pub answered_more : (session : List ℕ) (window : ℕ) (packets : List Arrival) (a : Arrival)
+    → AreAnswered session window packets → IsAnswered session window packets a
+    → AreAnswered session window (packets ++ a ∷ [])
 answered_more session window packets a all one = after [] packets all one
   where
-    after : (before rest : List Arrival) → AreAnsweredAfter session window before rest → IsAnswered session window (before ++ rest) a → AreAnsweredAfter session window before (rest ++ a ∷ [])
-    after before [] all one = (subst (λ (xs : List Arrival). IsAnswered session window xs a) (append-nil before) one, tt)
-    after before (b ∷ rest) all one = (all.0, after (before ++ b ∷ []) rest all.1 (subst (λ (xs : List Arrival). IsAnswered session window xs a) (sym (append_assoc before (b ∷ []) rest)) one))
+    after : (before rest : List Arrival) → AreAnsweredAfter session window before rest
+        → IsAnswered session window (before ++ rest) a
+        → AreAnsweredAfter session window before (rest ++ a ∷ [])
+    after before [] all one =
+        (subst (λ (xs : List Arrival). IsAnswered session window xs a) (append-nil before) one, tt)
+    after before (b ∷ rest) all one =
+        (all.0, after (before ++ b ∷ []) rest all.1 (subst (λ (xs : List Arrival). IsAnswered session window xs a) (sym (append_assoc before (b ∷ []) rest)) one))
 
--- what was taken of packets that were answered by the definitions is below the announced end
-pub below_of : (session : List ℕ) (window : ℕ) (packets : List Arrival) → AreAnswered session window packets → IsBelow packets
+-- what was taken of packets that were answered as they should be lies below the announced end
+pub below_of : (session : List ℕ) (window : ℕ) (packets : List Arrival)
+    → AreAnswered session window packets → IsBelow packets
 below_of session window packets all = after [] packets below_none all
   where
-    after : (before rest : List Arrival) → IsBelow before → AreAnsweredAfter session window before rest → IsBelow (before ++ rest)
+    after : (before rest : List Arrival) → IsBelow before
+        → AreAnsweredAfter session window before rest → IsBelow (before ++ rest)
     after before [] below all = subst (λ (xs : List Arrival). IsBelow xs) (sym (append-nil before)) below
     after before (a ∷ rest) below all =
         let one = all.0 in
         subst (λ (xs : List Arrival). IsBelow xs) (append_assoc before (a ∷ []) rest)
         (after (before ++ a ∷ []) rest (below_grows window one.sent before a.line a.packet one.content below session a.answer one.outcome) all.1)
 
-pub answered_grows : (session : List ℕ) (window : ℕ) (packets : List Arrival) (a : Arrival) → AreAnswered session window packets → IsAnswered session window packets a → IsPrefix (stream_of packets) (stream_of (packets ++ a ∷ []))
-answered_grows session window packets a all one = stream_grows packets a (below_past (packets ++ a ∷ []) (below_of session window (packets ++ a ∷ []) (answered_more session window packets a all one)))
+pub answered_grows : (session : List ℕ) (window : ℕ) (packets : List Arrival) (a : Arrival)
+    → AreAnswered session window packets → IsAnswered session window packets a
+    → IsPrefix (stream_of packets) (stream_of (packets ++ a ∷ []))
+answered_grows session window packets a all one =
+    stream_grows packets a (below_past (packets ++ a ∷ []) (below_of session window (packets ++ a ∷ []) (answered_more session window packets a all one)))
 
 -- where the last item sent is End, the session is over and all of its stream was sent
-pub all_sent : (session : List ℕ) (window sent : ℕ) (packets : List Arrival) → AreAnswered session window packets → sent ≤ length (stream_of packets) → HasEnded (end_of packets) sent → IsComplete packets × (sent ≡ length (stream_of packets))
+pub all_sent : (session : List ℕ) (window sent : ℕ) (packets : List Arrival)
+    → AreAnswered session window packets → sent ≤ length (stream_of packets)
+    → HasEnded (end_of packets) sent → IsComplete packets × (sent ≡ length (stream_of packets))
 all_sent session window sent packets all within ended =
     let past = below_past packets (below_of session window packets all) sent ended in
     let len = length-stream packets (front_of packets) in

@@ -2,14 +2,15 @@
 use Rattle.std.proofs.Common.{◌≡◌, ℕ, zero, suc, ◌<◌, ◌≤◌, List, [], ◌∷◌, ◌++◌, length, drop, Some, refl, sym, ap, ◌∙◌, arith, append_assoc, append-nil, length-append, inl, inr}
 use Rattle.std.proofs.Math.Seq.{drop-append_seam}
 use Rattle.std.specs.Prelude.{slice_get, slice_set, ◌⊎◌}
-use Rattle.std.specs.List.{AllByRecursion}
 use Rattle.feed_types.specs.Prefix.{IsPrefix}
 
 pub begins_self : {X : Type 0} (xs : List X) → IsPrefix xs xs
 begins_self xs = record { rest = []; is = sym (append-nil xs) }
 
-pub begins_then : {X : Type 0} {xs ys zs : List X} → IsPrefix xs ys → IsPrefix ys zs → IsPrefix xs zs
-begins_then {xs = xs} a b = record { rest = a.rest ++ b.rest; is = b.is ∙ ap (λ (l : List _). l ++ b.rest) a.is ∙ append_assoc xs a.rest b.rest }
+pub begins_then : {X : Type 0} {xs ys zs : List X} → IsPrefix xs ys → IsPrefix ys zs
+    → IsPrefix xs zs
+begins_then {xs =
+    xs} a b = record { rest = a.rest ++ b.rest; is = b.is ∙ ap (λ (l : List _). l ++ b.rest) a.is ∙ append_assoc xs a.rest b.rest }
 
 pub begins_len : {X : Type 0} {xs ys : List X} → IsPrefix xs ys → length xs ≤ length ys
 begins_len {xs = xs} a = omega (arith, ap length a.is, length-append xs a.rest)
@@ -23,38 +24,42 @@ begins_all {xs = xs} a h =
     let none = no_more a.rest (omega (arith, ap length a.is, length-append xs a.rest)) in
     sym (append-nil xs) ∙ ap (λ (l : List _). xs ++ l) (sym none) ∙ sym a.is
 
-first : {X : Type 0} (xs more : List X) (x : X) → slice_get (xs ++ more) (length xs) ≡ Some x → IsPrefix (x ∷ []) more
+first : {X : Type 0} (xs more : List X) (x : X) → slice_get (xs ++ more) (length xs) ≡ Some x
+    → IsPrefix (x ∷ []) more
 first [] [] x e = absurd cc
 first [] (y ∷ more) x e = let same : y ≡ x = cc in record { rest = more; is = ap (λ (z : _). z ∷ more) same }
 first (y ∷ xs) more x e = first xs more x e
 
-pub begins_next : {X : Type 0} (xs ys : List X) (x : X) → IsPrefix xs ys → slice_get ys (length xs) ≡ Some x → IsPrefix (xs ++ x ∷ []) ys
+pub begins_next : {X : Type 0} (xs ys : List X) (x : X) → IsPrefix xs ys
+    → slice_get ys (length xs) ≡ Some x → IsPrefix (xs ++ x ∷ []) ys
 begins_next xs ys x a e =
     let f = first xs a.rest x (ap (λ (l : List _). slice_get l (length xs)) (sym a.is) ∙ e) in
     record { rest = f.rest; is = a.is ∙ ap (λ (l : List _). xs ++ l) f.is ∙ sym (append_assoc xs (x ∷ []) f.rest) }
 
 pub begins_drop : {X : Type 0} {xs ys : List X} → IsPrefix xs ys → xs ++ drop (length xs) ys ≡ ys
-begins_drop {xs = xs} a = ap (λ (l : List _). xs ++ drop (length xs) l) a.is ∙ ap (λ (l : List _). xs ++ l) (drop-append_seam xs a.rest) ∙ sym a.is
+begins_drop {xs =
+    xs} a = ap (λ (l : List _). xs ++ drop (length xs) l) a.is ∙ ap (λ (l : List _). xs ++ l) (drop-append_seam xs a.rest) ∙ sym a.is
 
 -- what is read after a write: what was written at its place, and what was there elsewhere
-pub get_set : {X : Type 0} (xs : List X) (i j : ℕ) (x y : X) → slice_get (slice_set xs i x) j ≡ Some y → ((j ≡ i) × (y ≡ x)) ⊎ (slice_get xs j ≡ Some y)
+pub get_set : {X : Type 0} (xs : List X) (i j : ℕ) (x y : X)
+    → slice_get (slice_set xs i x) j ≡ Some y → ((j ≡ i) × (y ≡ x)) ⊎ (slice_get xs j ≡ Some y)
 get_set [] i j x y e = absurd cc
 get_set (z ∷ xs) zero zero x y e = inl (refl, cc)
 get_set (z ∷ xs) zero (suc j) x y e = inr e
 get_set (z ∷ xs) (suc i) zero x y e = inr e
-get_set (z ∷ xs) (suc i) (suc j) x y e = elim (get_set xs i j x y e) [ inl here ↦ inl (ap suc here.0, here.1) | inr there ↦ inr there ]
+get_set (z ∷ xs) (suc i) (suc j) x y e =
+    elim (get_set xs i j x y e) [ inl here ↦ inl (ap suc here.0, here.1) | inr there ↦ inr there ]
 
-pub get_push : {X : Type 0} (xs : List X) (i : ℕ) (x y : X) → slice_get (xs ++ x ∷ []) i ≡ Some y → ((i ≡ length xs) × (y ≡ x)) ⊎ ((i < length xs) × (slice_get xs i ≡ Some y))
+pub get_push : {X : Type 0} (xs : List X) (i : ℕ) (x y : X) → slice_get (xs ++ x ∷ []) i ≡ Some y
+    → ((i ≡ length xs) × (y ≡ x)) ⊎ ((i < length xs) × (slice_get xs i ≡ Some y))
 get_push [] zero x y e = inl (refl, cc)
 get_push [] (suc i) x y e = absurd cc
 get_push (z ∷ xs) zero x y e = inr (omega arith, e)
-get_push (z ∷ xs) (suc i) x y e = elim (get_push xs i x y e) [ inl here ↦ inl (let h = here.0 in omega arith, here.1) | inr there ↦ inr (let h = there.0 in omega arith, there.1) ]
+get_push (z ∷ xs) (suc i) x y e =
+    elim (get_push xs i x y e) [ inl here ↦ inl (let h = here.0 in omega arith, here.1) | inr there ↦ inr (let h = there.0 in omega arith, there.1) ]
 
-pub get_within : {X : Type 0} (xs : List X) (i : ℕ) → i < length xs → (x : X) × (slice_get xs i ≡ Some x)
+pub get_within : {X : Type 0} (xs : List X) (i : ℕ) → i < length xs
+    → (x : X) × (slice_get xs i ≡ Some x)
 get_within [] i h = absurd (omega arith)
 get_within (x ∷ xs) zero h = (x, refl)
 get_within (x ∷ xs) (suc i) h = get_within xs i (omega arith)
-
-pub all_push : {X : Type 0} (Q : X → Type 0) (xs : List X) (x : X) → AllByRecursion Q xs → Q x → AllByRecursion Q (xs ++ x ∷ [])
-all_push Q [] x all one = (one, tt)
-all_push Q (y ∷ xs) x all one = (all.0, all_push Q xs x all.1 one)

@@ -4,9 +4,13 @@ use Rattle.std.specs.List.{flat_map}
 use Rattle.mold_packet.specs.Block.{block}
 use Rattle.mold_packet.specs.Content.{Content, IsContent, count_field, Spells}
 use Rattle.mold_packet.specs.Header.{header, session_at, number_at, count_at}
-use Rattle.mold_packet.proofs.HeaderFields.{header_of}
+use Rattle.mold_packet.specs.laws.HeaderFields.{header_of}
 
-pub spells_from : (bytes : List ℕ) (p : Content) (rest : List ℕ) → 20 ≤ length bytes → ((i : ℕ) → get_or bytes i 0 < 256) → IsContent p → p.session ≡ session_at bytes → p.number ≡ number_at bytes → count_field p.kind p.messages ≡ count_at bytes → drop 20 bytes ≡ flat_map block p.messages ++ rest → p.ignored ≡ length rest → Spells bytes p rest
+pub spells_from : (bytes : List ℕ) (p : Content) (rest : List ℕ) → 20 ≤ length bytes
+    → ((i : ℕ) → get_or bytes i 0 < 256) → IsContent p → p.session ≡ session_at bytes
+    → p.number ≡ number_at bytes → count_field p.kind p.messages ≡ count_at bytes
+    → drop 20 bytes ≡ flat_map block p.messages ++ rest → p.ignored ≡ length rest
+    → Spells bytes p rest
 spells_from bytes p rest long all_bytes content session number count body ignored = record {
   content = content;
   ignored = ignored;

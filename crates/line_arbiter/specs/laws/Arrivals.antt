@@ -17,26 +17,30 @@ use Rattle.line_arbiter.specs.Outcomes.{ToMessages, ToHeartbeat, ToKind, IsOutco
 use Rattle.line_arbiter.specs.Genuine.{IsGenuineAt, IsGenuineArrival, AreGenuine}
 
 -- only an end of session is answered Ended
-messages_unended : (window sent : ℕ) (packets : List Arrival) (p : Content) (answer : Result Outcome LineFault) → ToMessages window sent packets p answer → is_ended answer ≡ true → ⊥
+messages_unended : (window sent : ℕ) (packets : List Arrival) (p : Content) (answer : Result Outcome LineFault)
+    → ToMessages window sent packets p answer → is_ended answer ≡ true → ⊥
 messages_unended window sent packets p (Ok Ended) h e = h
 messages_unended window sent packets p (Ok Heartbeat) h e = false≢true e
 messages_unended window sent packets p (Ok Ahead) h e = false≢true e
 messages_unended window sent packets p (Ok (Taken new repeated)) h e = false≢true e
 messages_unended window sent packets p (Err fault) h e = false≢true e
 
-heartbeat_unended : (packets : List Arrival) (n : ℕ) (answer : Result Outcome LineFault) → ToHeartbeat packets n answer → is_ended answer ≡ true → ⊥
+heartbeat_unended : (packets : List Arrival) (n : ℕ) (answer : Result Outcome LineFault)
+    → ToHeartbeat packets n answer → is_ended answer ≡ true → ⊥
 heartbeat_unended packets n (Ok Ended) h e = h
 heartbeat_unended packets n (Ok Heartbeat) h e = false≢true e
 heartbeat_unended packets n (Ok Ahead) h e = false≢true e
 heartbeat_unended packets n (Ok (Taken new repeated)) h e = false≢true e
 heartbeat_unended packets n (Err fault) h e = false≢true e
 
-kind_ended : (kind : Kind) (window sent : ℕ) (packets : List Arrival) (p : Content) (answer : Result Outcome LineFault) → ToKind kind window sent packets p answer → is_ended answer ≡ true → kind ≡ kinds.End
+kind_ended : (kind : Kind) (window sent : ℕ) (packets : List Arrival) (p : Content) (answer : Result Outcome LineFault)
+    → ToKind kind window sent packets p answer → is_ended answer ≡ true → kind ≡ kinds.End
 kind_ended kinds.Messages window sent packets p answer h e = absurd (messages_unended window sent packets p answer h e)
 kind_ended kinds.Heartbeat window sent packets p answer h e = absurd (heartbeat_unended packets p.number answer h e)
 kind_ended kinds.End window sent packets p answer h e = refl
 
-ended_is_end : (session : List ℕ) (window sent : ℕ) (packets : List Arrival) (p : Content) (answer : Result Outcome LineFault) → IsOutcome session window sent packets p answer → is_ended answer ≡ true → p.kind ≡ kinds.End
+ended_is_end : (session : List ℕ) (window sent : ℕ) (packets : List Arrival) (p : Content) (answer : Result Outcome LineFault)
+    → IsOutcome session window sent packets p answer → is_ended answer ≡ true → p.kind ≡ kinds.End
 ended_is_end session window sent packets p answer h e = elim h [
   | inl other ↦ absurd (refused answer other.1 e)
   | inr same ↦ kind_ended p.kind window sent packets p answer same.1 e
@@ -47,7 +51,8 @@ ended_is_end session window sent packets p answer h e = elim h [
     refused (Err fault) is e = false≢true e
 
 -- only a packet of the session is answered with an outcome
-accepted_is_of_session : (session : List ℕ) (window sent : ℕ) (packets : List Arrival) (p : Content) (answer : Result Outcome LineFault) → IsOutcome session window sent packets p answer → IsOk answer → p.session ≡ session
+accepted_is_of_session : (session : List ℕ) (window sent : ℕ) (packets : List Arrival) (p : Content) (answer : Result Outcome LineFault)
+    → IsOutcome session window sent packets p answer → IsOk answer → p.session ≡ session
 accepted_is_of_session session window sent packets p answer h ok = elim h [
   | inl other ↦ absurd (refused answer other.1 ok)
   | inr same ↦ same.0
@@ -65,21 +70,28 @@ ended_ok : (r : Result Outcome LineFault) → is_ended r ≡ true → IsOk r
 ended_ok (Ok outcome) h = refl
 ended_ok (Err fault) h = absurd (false≢true h)
 
-pub all_push : {X : Type 0} (Q : X → Type 0) (xs : List X) (x : X) → AllByRecursion Q xs → Q x → AllByRecursion Q (xs ++ x ∷ [])
+pub all_push : {X : Type 0} (Q : X → Type 0) (xs : List X) (x : X) → AllByRecursion Q xs → Q x
+    → AllByRecursion Q (xs ++ x ∷ [])
 all_push Q [] x all one = (one, tt)
 all_push Q (y ∷ xs) x all one = (all.0, all_push Q xs x all.1 one)
 
 module _ (carries : Carries) (ends : Ends) (venue ordinal : ℕ) where
-  genuine_arrival : (session : List ℕ) (window : ℕ) (packets : List Arrival) (a : Arrival) → (a.packet.session ≡ session → IsGenuineAt carries ends venue ordinal a.packet) → IsAnswered session window packets a → IsGenuineArrival carries ends venue ordinal a
+  genuine_arrival : (session : List ℕ) (window : ℕ) (packets : List Arrival) (a : Arrival)
+      → (a.packet.session ≡ session → IsGenuineAt carries ends venue ordinal a.packet)
+      → IsAnswered session window packets a → IsGenuineArrival carries ends venue ordinal a
   genuine_arrival session window packets a genuine right = record {
-    taken = λ h. (genuine (accepted_is_of_session session window right.sent packets a.packet a.answer right.outcome (taken_ok a.answer h))).messages;
+    taken =
+        λ h. (genuine (accepted_is_of_session session window right.sent packets a.packet a.answer right.outcome (taken_ok a.answer h))).messages;
     ended = λ h.
         (genuine (accepted_is_of_session session window right.sent packets a.packet a.answer right.outcome (ended_ok a.answer h))).end
         (ended_is_end session window right.sent packets a.packet a.answer right.outcome h);
   }
 
   -- what was taken stays genuine when a packet comes that is so where it is of the session
-  pub genuine_grows : (window : ℕ) (session : List ℕ) (packets : List Arrival) (a : Arrival) → AreGenuine carries ends venue ordinal packets → (a.packet.session ≡ session → IsGenuineAt carries ends venue ordinal a.packet) → IsAnswered session window packets a
+  pub genuine_grows : (window : ℕ) (session : List ℕ) (packets : List Arrival) (a : Arrival)
+      → AreGenuine carries ends venue ordinal packets
+      → (a.packet.session ≡ session → IsGenuineAt carries ends venue ordinal a.packet)
+      → IsAnswered session window packets a
       → AreGenuine carries ends venue ordinal (packets ++ a ∷ [])
   genuine_grows window session packets a all genuine right =
       all_push (IsGenuineArrival carries ends venue ordinal) packets a all (genuine_arrival session window packets a genuine right)

@@ -1,0 +1,20 @@
+-- Laws of the definitions, with their proofs, which nobody has to read: proofs of the crates above cite them.
+pub mod Options
+pub mod Fronts
+pub mod Bringing
+pub mod Standing
+pub mod Cursors
+pub mod Soundness
+pub mod Genuine
+pub mod Arrivals
+pub mod OfSession
+pub mod Accepting
+pub mod Giving
+pub mod StreamGrowth
+pub mod Below
+pub mod InSequence
+pub mod Deciding
+pub mod OneOutcome
+pub mod EveryAnswer
+pub mod Histories
+pub mod FitsHistory
