@@ -1,4 +1,3 @@
-pub mod Continuing
 pub mod Naming
 pub mod Fields
 pub mod FieldWords

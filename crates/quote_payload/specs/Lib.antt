@@ -1,2 +1,3 @@
 pub mod Payload
 pub mod Written
+pub mod ItemLaws

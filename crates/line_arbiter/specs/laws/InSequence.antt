@@ -93,7 +93,7 @@ module _ (carries : ℕ → ℕ → ℕ → Item → Type 0) (ends : ℕ → ℕ
 
     pub stream_continues : Continues carries ends venue (place_at ordinal 1) (stream_of packets)
     stream_continues =
-        Continues-append carries ends venue (place_at ordinal 1) (map (item_numbered packets) (range_with_len 1 (front_of packets))) (end_at (end_of packets) (front_of packets + 1))
+        continues_append carries ends venue (place_at ordinal 1) (map (item_numbered packets) (range_with_len 1 (front_of packets))) (end_at (end_of packets) (front_of packets + 1))
         (messages_continue 1 (front_of packets) up_to_front)
         (subst (λ (place : Place). Continues carries ends venue place (end_at (end_of packets) (front_of packets + 1))) (sym place_at_front) (end_continues (end_of packets) (front_of packets + 1) (λ e is. end_may carries ends venue ordinal packets e genuine is)))
 
@@ -120,7 +120,7 @@ module _ (carries : ℕ → ℕ → ℕ → Item → Type 0) (ends : ℕ → ℕ
   streams_continue ordinal (b ∷ []) all =
       continues_append carries ends venue (place_at ordinal 1) (stream_of b.packets) [] (stream_continues ordinal b.packets all) tt
   streams_continue ordinal (b ∷ next ∷ rest) all =
-      Continues-append carries ends venue (place_at ordinal 1) (stream_of b.packets) (items_of (next ∷ rest)) (stream_continues ordinal b.packets all.0)
+      continues_append carries ends venue (place_at ordinal 1) (stream_of b.packets) (items_of (next ∷ rest)) (stream_continues ordinal b.packets all.0)
       (subst (λ (place : Place). Continues carries ends venue place (items_of (next ∷ rest))) (sym (place_after_stream ordinal b.packets all.0 all.1)) (streams_continue (ordinal + 1) (next ∷ rest) all.2))
 
   pub streams_in_sequence : (h : History) → AreGenuineFrom carries ends venue 1 (all_begun h)
