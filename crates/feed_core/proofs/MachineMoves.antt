@@ -25,7 +25,7 @@ use Rattle.feed_core.specs.Worlds.{Lane, empty_lane, is_full, Venue, Subscriber,
 use Rattle.feed_core.specs.Steps.{Transition, Refused, Changes, journal_full, already_so, is_same, next_in, next_out, push_next, Intake, journal_item, consume_next, declare_help, offer_next, dequeue_next, put_venue, put_subscriber, Applies, AppliesTo, with_sent, with_intake, with_offered, with_dequeued, too_many_subscribers, AnswersSubscribe}
 use Rattle.feed_core.specs.Runs.{IsStep, IsRun}
 use Rattle.feed_core.specs.Fitting.{VenueView, FitsVenue, LeftFaulty, LeftAnswered, LeftRenewed, LeftPushed, SubscriberView, FitsSubscriber, LeftOffered, intake_of, KeepsJournal, MachineView, FitSubscribers, FitsWorld, HasStepped, HasReached}
-use Rattle.journal_book.proofs.Growth.{changes_begin}
+use Rattle.journal_book.specs.Growth.{changes_begin}
 use Rattle.feed_core.specs.laws.Lists.{get_set, get_push, get_within}
 
 -- ---- places

@@ -10,8 +10,8 @@ use Rattle.feed_core.specs.declared.event.Done.{Done}
 use Rattle.feed_core.specs.Worlds.{Subscriber, World, Setting, new_world}
 use Rattle.feed_core.specs.Runs.{IsRun}
 use Rattle.feed_core.specs.SubscriberHalf.{SubscriberHalf}
-use Rattle.journal_book.proofs.Prefixes.{wanted_begin}
-use Rattle.journal_book.proofs.Rising.{wanted_rise}
+use Rattle.journal_book.specs.Prefixes.{wanted_begin}
+use Rattle.journal_book.specs.Rising.{wanted_rise}
 use Rattle.feed_core.specs.laws.Lists.{begins_self, begins_then, begins_drop}
 use Rattle.feed_core.proofs.Lanes.{Serves, serve_in, serve_out, serve_more}
 use Rattle.feed_core.proofs.KeptSubscribers.{run_keeps}

@@ -2,7 +2,7 @@ use Rattle.std.proofs.Common.{◌<◌, ℕ, List, Ok, Err, Some, None, sym, subs
 use Rattle.std.specs.Prelude.{slice_set}
 use Rattle.feed_types.specs.declared.item.Numbered.{Numbered}
 use Rattle.feed_types.specs.Sequence.{IsInSequence}
-use Rattle.journal_book.proofs.Offering.{at_index}
+use Rattle.live_feed.proofs.HubMoves.{at_index}
 use Rattle.feed_core.specs.laws.Lists.{get_within}
 use Rattle.live_feed.specs.hub.Hubs.{HubState}
 use Rattle.live_feed.specs.hub.Sections.{Consumes, ConsumesOne}
