@@ -76,7 +76,7 @@ impl Bells {
         self.full[id.index()].store(true, Ordering::SeqCst);
     }
 
-    /// Notes that no notice waits for room in the subscriber's lane. Where one did, the
+    /// Says that no notice waits for room in the subscriber's lane. Where one did, the
     /// consolidators are woken: one that hasn't offered it itself may wait for that alone.
     pub(crate) fn end_want_of_room(&self, id: SubscriberId) {
         if self.is_room_wanted(id) {

@@ -61,7 +61,7 @@ impl<G: Genuine> Model for LiveFeed<G> {
         f.starts.items f.from_venues.items f.kept f.spare_lanes.items };
 }
 
-/// Puts each venue into a lock of its own. There is room for all.
+/// Puts each venue under a lock of its own. There is room for all.
 fn locked<G: Genuine, N: FeedName>(
     starts: Vec<VenueStart<G>>,
     mut venues: Vec<VenueLock<G, N>>,
@@ -120,8 +120,8 @@ impl<G: Genuine> LiveFeed<G> {
         })
     }
 
-    /// Puts the venues and the journal into their locks. N names this feed's lanes. Where memory
-    /// was refused, the feed is handed back unchanged.
+    /// Puts the venues and the journal under their locks. N names this feed's lanes. Where memory
+    /// was refused, the feed comes back as it was.
     pub fn open<N: FeedName>(self, alloc: Global) -> Result<OpenFeed<G, N>, LiveFeed<G>>
         requires { self ≡ N.lanes }
         ensures { IfErr result (λ feed. feed ≡ self) }

@@ -7,8 +7,8 @@ use std::marker::Brand;
 pub trait FeedName {
     ghost use Rattle.live_feed.specs.Lanes.{FeedLanes};
 
-    /// The feed's lanes, those of its venues, in order, and those of its subscribers, and its
-    /// setting.
+    /// The feed's lanes, those of its venues, in order, and those of its subscribers, and what it
+    /// is set up with.
     ghost lanes: { FeedLanes };
 }
 

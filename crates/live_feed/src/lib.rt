@@ -1,10 +1,9 @@
-//! A feed that many threads run, its parts guarded by locks.
+//! A feed that many threads run: what its locks guard, and what is done under them.
 //!
-//! Each venue's arbiter and the sending end of its lane are guarded by a lock of the venue, as a
-//! [`VenueCell`]. The journal, the receiving ends of the venues' lanes and the sending ends of the
-//! subscribers' are guarded by the consolidator's lock, as a [`HubCell`]. A line has a
-//! [`LineSeat`], which shows what it brought; a [`Subscriber`] has the receiving end of its lane,
-//! its strategy and its log.
+//! A venue's lock guards the venue's arbiter and the sending end of its lane, a [`VenueCell`]. The
+//! consolidator's lock guards the journal, the receiving ends of the venues' lanes and the sending
+//! ends of the subscribers', a [`HubCell`]. A line has a [`LineSeat`], which shows what it brought;
+//! a [`Subscriber`] has the receiving end of its lane, its strategy and its log.
 //!
 //! Contract: whenever a lock is free, what it guards is a part of a world of the event machine
 //! (`feed_core`), and each section under the lock is one of its events
@@ -12,14 +11,14 @@
 //! `specs/hub/Hubs.antt` and `specs/subscriber/Logs.antt`, and at `venue/cell.rt` and `hub/cell.rt`
 //! for the code.
 //!
-//! A [`LiveFeed`] has all lanes of a feed, to which nothing came yet (`specs/feed/Feeds.antt`).
-//! Opened as an [`OpenFeed`] it is guarded by its locks; each call takes one of them. Once all
-//! threads have returned, `OpenFeed::settle` closes all lanes and returns a [`Settlement`]: per
-//! venue, what was consumed, is in the lane and is ready are the sessions' streams; per subscriber,
-//! its log, what is queued and what wasn't offered are what it wants
-//! (`specs/settle/Settlements.antt`). `settle/venue_lane.rt` closes a venue's lane,
-//! `settle/subscriber_lane.rt` a subscriber's, `settle/closing.rt` all. `run.rt` runs a feed by
-//! threads: a [`Line`] brings what its [`LineSource`] yields (`specs/run/Runs.antt`).
+//! A [`LiveFeed`] has all lanes of a feed, to which nothing came yet (`specs/feed/Feeds.antt`). An
+//! [`OpenFeed`] has them under its locks; each call takes one of these. Once all threads have
+//! returned, `OpenFeed::settle` closes all lanes and returns a [`Settlement`]: per venue, what was
+//! consumed, is in the lane and is ready are the sessions' streams; per subscriber, its log, what is
+//! queued and what wasn't offered are what it wants (`specs/settle/Settlements.antt`).
+//! `settle/venue_lane.rt` closes a venue's lane, `settle/subscriber_lane.rt` a subscriber's,
+//! `settle/closing.rt` all. `run.rt` runs a feed by threads: a [`Line`] brings what its
+//! [`LineSource`] returns (`specs/run/Runs.antt`), and a [`StopHandle`] ends the run.
 #![tactic(auto)]
 
 mod bells;

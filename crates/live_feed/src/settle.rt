@@ -58,7 +58,7 @@ fn out_of_locks<G: Genuine, N: FeedName>(
     venues
 }
 
-/// Puts each venue into a lock. There is room for all.
+/// Puts each venue under a lock. There is room for all.
 fn behind_locks<G: Genuine, N: FeedName>(
     venues: Vec<Guarded<G, N>>,
     mut locks: Vec<VenueLock<G, N>>,
@@ -103,7 +103,7 @@ fn unlock<G: Genuine, N: FeedName>(
     })
 }
 
-/// Puts the feed into locks again.
+/// Puts the feed under locks again.
 fn locked<G: Genuine, N: FeedName>(unlocked: Unlocked<G, N>) -> OpenFeed<G, N>
     requires room { (length unlocked.locks.items ≡ 0)
         × (vec_len unlocked.venues ≤ vec_capacity unlocked.locks) }

@@ -94,8 +94,8 @@ feed_lanes_code =
     (λ f. (f.venues, (f.subscribers, f.setting)))
     (λ p. record { venues = p.0; subscribers = p.1.0; setting = p.1.1 }) (λ _. refl)
 
--- The feed has a lane for each venue of its journal and for 32 subscribers, nothing came yet, and
--- this is its setting.
+-- The feed has a lane for each venue of its journal and for 32 subscribers, and nothing came yet.
+-- It is set up so.
 pub record IsClosed (setting : FeedSetting) (starts : List StartState)
     (receivers : List (LaneEnd Numbered)) (journal : JournalState) (spare : List SpareLane)
     : Type 0 where

@@ -1,4 +1,4 @@
--- The part that the consolidator's lock guards.
+-- What the consolidator's lock guards.
 use Rattle.std.specs.Prelude.{◌≡◌, ℕ, ◌+◌, ◌≤◌, ◌==◌, List, [], ◌∷◌, flat_map, length, Some, slice_get, if◌then◌else◌}
 use Rattle.feed_types.specs.declared.item.Numbered.{Numbered}
 use Rattle.feed_types.specs.declared.journal.Entry.{Entry}
@@ -54,8 +54,9 @@ pub record IsSpare (lanes : FeedLanes) (id : ℕ) (s : SpareLane) : Type 0 where
   pub items : s.sender.items ≡ []
   pub same : s.receiver ≡ s.sender
 
--- What holds whenever the consolidator's lock is free. The journal has the symbols and the capacity
--- of the feed's setting. (Its changes are those of its entries, by its own contract.)
+-- What is so whenever the consolidator's lock is free. The journal has the symbols and holds as
+-- many entries as the feed is set up with. (Its changes are those of its entries, by its own
+-- contract.)
 pub record HubLockInvariant (carries : Carries) (ends : Ends) (lanes : FeedLanes) (s : HubState)
     : Type 0 where
   pub venues : length s.receivers ≡ s.journal.venues

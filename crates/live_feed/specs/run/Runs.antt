@@ -61,7 +61,7 @@ pub record HasTaken (sessions : SessionNames) (carries : Carries) (ends : Ends)
   pub taken : AreTakenBy sessions carries ends lanes old takings last
 
 -- A line that has ended: its seat took each datagram that its source brought, in order and once;
--- the count is the number of these datagrams, empty ones too, as far as a u64 shows it; and of the
+-- the count of datagrams is how many these are, empty ones too, as a u64 shows it; and of the
 -- source's calls none failed but the last, where the line has a fault.
 pub record LineHasEnded {S : Type 0} (takes : SeatState → List (List ℕ) → SeatState → Type 0)
     (brings : S → List (List ℕ) → S → Type 0) (failures : S → ℕ)

@@ -19,8 +19,8 @@ pub record AsksOnce {g F m : _} (limits : Limits) (notice : Notice) (answer : Ad
   pub advises : Advises old shown advice new
   pub counts : old.limits ≡ limits → answer ≡ advice
 
--- The strategy of a subscriber that polls, by cases on the answer: it was asked once on the notice
--- that was logged, and is unchanged where none was.
+-- The strategy of who polls, by cases on the answer: it was asked once on the notice that was
+-- logged, and is as it was where none was.
 abbrev pub AsksForAdvice : {g F m : _} → Result (Option Advice) PollFault → SubscriberLogState
     → SubscriberLogState → Strategy g F m → Strategy g F m → Type 0
 AsksForAdvice (Ok (Some advice)) old new before after =

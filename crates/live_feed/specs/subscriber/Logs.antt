@@ -23,9 +23,9 @@ pub record SubscriberLogState : Type 0 where
 abbrev pub logged : Notice → Advice → Logged
 logged notice advice = record { notice = notice; advice = advice }
 
--- What holds after every poll: the log has one advice for each notice that was taken, in order,
+-- What is so after every poll: the log has one advice for each notice that was taken, in order,
 -- each allowed by the limits; the lane is the one that the feed has for the subscriber; and log and
--- lane have the capacities of the feed's setting.
+-- lane hold as many as the feed is set up with.
 pub record SubscriberLogInvariant (lanes : FeedLanes) (t : SubscriberLogState) : Type 0 where
   pub notices : map (λ line. line.notice) t.lines ≡ t.lane.items
   pub allowed : AllByRecursion (λ line. IsAllowed t.limits line.notice line.advice) t.lines

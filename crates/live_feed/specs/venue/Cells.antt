@@ -1,4 +1,4 @@
--- The part of a venue that its lock guards.
+-- What a venue's lock guards.
 use Rattle.std.specs.Prelude.{◌≡◌, ℕ, ◌+◌, List, [], ◌∷◌, ◌++◌, take, flat_map, Some, None, slice_get}
 use Rattle.std.specs.List.{AllByRecursion}
 use Rattle.feed_types.specs.declared.item.Numbered.{Numbered}

@@ -59,7 +59,7 @@ with_seat A s = record s { a = true }
 with_seat B s = record s { b = true }
 with_seat Recovery s = record s { recovery = true }
 
--- The answer to a request for a line's seat, by cases: SeatTaken exactly where it was handed out,
+-- The answer to who asks for a line's seat, by cases: SeatTaken exactly where it was handed out,
 -- and nothing changes then; else that line alone is marked.
 abbrev pub GivesSeat : {X : Type 0} → LineId → Result X FeedFault → SeatsGiven → SeatsGiven
     → Type 0

@@ -5,7 +5,8 @@ ghost use Rattle.std.specs.Prelude.{◌≡◌};
 use crate::feed_name::FeedName;
 use std::marker::{Model, PhantomData};
 
-/// The number of lines that a subscriber's log holds in the feed `N`, which is that of its setting.
+/// How many lines the log of a subscriber of the feed `N` holds: as many as the feed is set up
+/// with.
 #[derive(Drop)]
 pub(crate) struct LogSize<N: FeedName> {
     lines: u32,

@@ -1,4 +1,4 @@
-//! The part of a feed that the consolidator's lock guards.
+//! What the consolidator's lock guards.
 
 ghost use Rattle.std.specs.Prelude.{◌≡◌, ◌<◌, length, IfOk, IfErr, OnErr};
 ghost use Rattle.journal_book.specs.Journals.{Declares};
@@ -66,7 +66,7 @@ impl<G: Genuine, N: FeedName> HubCell<G, N> {
         self.core.declare(venue, on)
     }
 
-    /// Adds a subscriber, to whom nothing was offered, and returns its id and the receiving end of
+    /// Adds a subscriber, to whom nothing was offered, and gives its id and the receiving end of
     /// its lane. It is refused, with the filter, as TooManySubscribers where there are 32, else as
     /// NoMemory.
     pub(crate) fn subscribe(

@@ -50,8 +50,8 @@ pub trait LineSource<G: Genuine>: Drop {
     /// The number of calls that failed.
     ghost failures: { Self → ℕ };
 
-    /// Calls that bring the datagrams of these bytes, in order, lead from the one state of the
-    /// source to the other.
+    /// Calls that bring the datagrams of these bytes, in order, make the one state of the other: it
+    /// is the same source, later on.
     ghost brings: { Self → List (List ℕ) → Self → Type 0 };
 
     /// The venue whose datagrams it brings.
@@ -59,9 +59,9 @@ pub trait LineSource<G: Genuine>: Drop {
         ensures { result ≡ venue_of self.now };
 
     /// Waits for what `next` answers, and returns true once it is there; or returns false after a
-    /// while. A run calls it before each `next`, and looks in between whether it is to stop: a source
-    /// that has no body of its own for it waits in `next`, and so long a run that is to stop waits,
-    /// too.
+    /// while. A run calls it before each `next`, and looks in between whether it is to stop: a
+    /// source that has no body of its own for it waits in `next`, and so long a run that is to stop
+    /// waits, too.
     fn await_next(&mut self) -> bool
         ensures venue { venue_of self.new ≡ venue_of self.old }
         ensures brings { brings self.old [] self.new }

@@ -16,10 +16,10 @@ impl StopHandle {
         StopHandle { bells }
     }
 
-    /// Has the lines of the feed's runs, of those to come, too, read no further datagram. A run ends
-    /// then as where its lines end: what they brought is pushed, journaled, offered and polled, and
-    /// its report has no reason of an early stop. It waits for a line whose source waits in `next`
-    /// until that answers.
+    /// Has the lines of the feed's runs, of those to come, too, read no further datagram. A run
+    /// ends then as where its lines end: what they brought is pushed, journaled, offered and
+    /// polled, and its report has no reason of an early stop. It waits for a line whose source
+    /// waits in `next` until that answers.
     pub fn stop(&self) {
         self.bells.end_runs();
     }

@@ -50,8 +50,8 @@ impl VenueWins {
     }
 }
 
-/// A venue's items, split in those that were consumed, those that were still in the lane and those
-/// that are ready after it, and what is counted per line.
+/// A venue's items, parted in those that were consumed, those that still lay in the lane and those
+/// that are ready after those, and what is counted per line.
 #[derive(Drop)]
 pub(crate) struct VenueEnd {
     journaled: Vec<Numbered>,

@@ -50,9 +50,9 @@ impl<N: FeedName> Model for SubscriberLog<N> {
     }) };
 }
 
-/// Returns what the strategy, which is asked once, advises where its limits are `bounds`; with
-/// other limits, which no subscriber has, it returns Hold. The strategy is shown a copy, so that
-/// the notice itself goes into the log as it was read.
+/// What the strategy advises, which is asked once, where its limits are these; for another one,
+/// which no subscriber has, it is to hold. It is shown a copy, so that the notice itself goes into
+/// the log as it was read.
 fn advised(strategy: &mut Strategy, bounds: Limits, notice: &Notice) -> Advice
     ensures allowed { IsAllowed bounds notice.now result }
     ensures asks { AsksOnce bounds notice.now result strategy.old strategy.new }

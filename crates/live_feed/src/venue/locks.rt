@@ -1,4 +1,4 @@
-//! The venues of a feed, guarded by their locks.
+//! The venues of a feed, each under a lock.
 
 ghost use Rattle.std.specs.Prelude.{◌≡◌, ◌<◌, ◌↔◌, length, IsSome};
 
@@ -37,11 +37,11 @@ pub(crate) fn enter<'l, T, W: Wait>(rt: &W, lock: &'l Mutex<T>) -> MutexGuard<'l
     lock.lock(rt)
 }
 
-/// A venue guarded by its lock, on cache lines of its own.
+/// A venue under its lock, on cache lines of its own.
 pub(crate) type VenueLock<G, N> = CachePadded<Mutex<Guarded<G, N>>>;
 
-/// The venues guarded by their locks, in order. There are as many as the feed has lanes for.
-/// Contracts see how many.
+/// The venues under their locks, in order. There are as many as the feed has lanes for. Contracts
+/// see how many.
 #[derive(Drop)]
 pub struct VenueLocks<G: Genuine, N: FeedName> {
     locks: Vec<VenueLock<G, N>>,
