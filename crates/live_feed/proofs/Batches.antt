@@ -2,14 +2,17 @@
 use Rattle.std.proofs.Common.{◌≡◌, ℕ, zero, suc, ◌+◌, ◌≤◌, ◌<◌, Bool, true, false, List, [], ◌∷◌, ◌++◌, length, map, Option, Some, None, Result, Ok, Err, refl, sym, ap, subst, ◌∙◌, arith, append_assoc, append-nil, length-append}
 use Rattle.std.specs.Prelude.{slice_get, slice_set, nat_le, sum_by, if◌then◌else◌}
 use Rattle.std.proofs.lemmas.Bool.Decides.{nat_tests}
-use Rattle.std.proofs.lemmas.List.{map-append}
-use Rattle.std.proofs.lemmas.List.Sums.{sum_by-cons}
+use Rattle.std.proofs.lemmas.List.{length-map, map-append}
+use Rattle.std.proofs.lemmas.List.Sums.{fold-append, sum_by-cons}
 use Rattle.feed_types.specs.declared.item.Numbered.{Numbered}
+use Rattle.feed_types.specs.Sequence.{Carries, Ends, IsInSequence}
 use Rattle.feed_types.specs.declared.journal.Entry.{Entry}
 use Rattle.feed_types.specs.declared.journal.Entry.TheVariants as entry
 use Rattle.feed_types.specs.declared.journal.Notice.{Notice}
 use Rattle.line_arbiter.specs.Counts.{shown}
-use Rattle.journal_book.specs.declared.fault.JournalFault.TheVariants.{JournalFull}
+use Rattle.journal_book.specs.declared.fault.JournalFault.{JournalFault}
+use Rattle.journal_book.specs.declared.fault.JournalFault.TheVariants.{NoMemory, JournalFull, UnknownVenue, AlreadySo, TooManySubscribers}
+use Rattle.journal_book.specs.Journals.{JournalState}
 use Rattle.journal_book.specs.Wanted.{wanted_of}
 use Rattle.fifo_lane.specs.Lane.{LaneEnd, with_items}
 use Rattle.feed_core.specs.laws.Lists.{get_within}
@@ -17,9 +20,10 @@ use Rattle.feed_core.specs.declared.event.Done.TheVariants as done
 use Rattle.feed_core.specs.Steps.{AppliesTo, Intake, journal_item, journal_full, offer_next, Refused}
 use Rattle.live_feed.specs.declared.unsent.Unsent.{Unsent}
 use Rattle.live_feed.specs.declared.unsent.Unsent.TheVariants as unsent
-use Rattle.live_feed.specs.hub.Hubs.{HubState}
-use Rattle.live_feed.specs.hub.Sections.{ConsumesOne, KeepsButIntake, HubOffersOne, hub_intake}
-use Rattle.live_feed.specs.hub.Batches.{ConsumesCount, ConsumesItems, HadNoItem, OffersCount, sent_to_all}
+use Rattle.live_feed.specs.hub.Hubs.{HubLockInvariant, HubState}
+use Rattle.live_feed.specs.hub.Sections.{ConsumesOne, KeepsButIntake, KeepsButOffers, HubOffersOne, hub_intake}
+use Rattle.live_feed.specs.hub.Batches.{AreBatches, Batch, ConsumesBatch, ConsumesCount, ConsumesItems, ConsumesRound, HadNoItem, OffersCount, TakesTurn, TakesTurnUnderLock, count_in, fault_in, sent_to_all}
+use Rattle.live_feed.specs.Lanes.{FeedLanes}
 use Rattle.live_feed.proofs.HubMoves.{one_there, put_same}
 use Rattle.live_feed.proofs.CellMoves.{shown_sum}
 
@@ -193,6 +197,10 @@ module _ (old after : List Notice) where
   full_sent true (Some n) e = e.1
   full_sent false (Some n) e = absurd (let h = e.0 in cc)
 
+-- a notice offered leaves the entries
+entries_stay : (old new : HubState) → KeepsButOffers old new → new.journal.entries ≡ old.journal.entries
+entries_stay old new kept = ap (λ (j : JournalState). j.entries) kept.journal
+
 module _ (may_send : ℕ → List Notice → Type 0) (id : ℕ) (old new : HubState) where
   pub one_sent : (number : ℕ) → HubOffersOne may_send id (Ok number) old new → sent_to_all new ≡ sent_to_all old + 1
   one_sent number one =
@@ -208,21 +216,23 @@ module _ (may_send : ℕ → List Notice → Type 0) (id : ℕ) (old new : HubSt
       ap (λ (l : List (LaneEnd Notice)). sum_by (λ (e : LaneEnd Notice). length e.items) l)
       (one.sent_is ∙ ap (λ (l : List Notice). slice_set old.senders id (with_items one.lane l)) (full_sent one.lane.items one.sent one.full (slice_get (wanted_of old.journal.symbols one.terms old.journal.entries) (length one.lane.items)) one.comes) ∙ put_same old.senders id one.lane one.at)
 
--- one more notice was sent
-pub one_counted : (may_send : ℕ → List Notice → Type 0) (id number pushed more : ℕ) (old between new : HubState) → OffersCount pushed old between → HubOffersOne may_send id (Ok number) between new → more ≡ shown (pushed + 1)
+-- one notice more was sent
+pub one_counted : (may_send : ℕ → List Notice → Type 0) (id number pushed more : ℕ) (old between new : HubState) → OffersCount pushed old between → HubOffersOne may_send id (Ok number) between new → KeepsButOffers between new → more ≡ shown (pushed + 1)
     → OffersCount more old new
-one_counted may_send id number pushed more old between new r one is =
+one_counted may_send id number pushed more old between new r one kept is =
     let sent = one_sent may_send id between new number one in
     let before = r.total in
     record {
       more = r.more + 1;
       total = omega (arith, sent, before);
       counted = is ∙ ap (λ (n : ℕ). shown (n + 1)) r.counted ∙ shown_sum r.more 1;
+      entries = entries_stay between new kept ∙ r.entries;
     }
 
--- none was sent
-pub none_counted : (may_send : ℕ → List Notice → Type 0) (id pushed : ℕ) (why : Unsent) (old between new : HubState) → OffersCount pushed old between → HubOffersOne may_send id (Err why) between new → OffersCount pushed old new
-none_counted may_send id pushed why old between new r one = record { more = r.more; total = no_more_sent may_send id between new why one ∙ r.total; counted = r.counted }
+-- none was
+pub none_counted : (may_send : ℕ → List Notice → Type 0) (id pushed : ℕ) (why : Unsent) (old between new : HubState) → OffersCount pushed old between → HubOffersOne may_send id (Err why) between new → KeepsButOffers between new → OffersCount pushed old new
+none_counted may_send id pushed why old between new r one kept =
+    record { more = r.more; total = no_more_sent may_send id between new why one ∙ r.total; counted = r.counted; entries = entries_stay between new kept ∙ r.entries }
 
 both_shown : (m n : ℕ) → shown (shown m + shown n) ≡ shown (m + n)
 both_shown m n = grind (arith)
@@ -236,4 +246,78 @@ all_counted offer_next pushed sum old between new r next is =
       more = r.more + next.more;
       total = omega (arith, first, second);
       counted = is ∙ (λ i. shown (r.counted i + next.counted i)) ∙ both_shown r.more next.more;
+      entries = next.entries ∙ r.entries;
     }
+
+-- ---- A turn
+
+grows_not : (old new : HubState) → new ≡ old → length new.journal.entries ≡ length old.journal.entries + 0
+grows_not old new same =
+    let kept = ap (λ (s : HubState). length s.journal.entries) same in
+    omega (arith, kept)
+
+module _ (may_send : ℕ → List Numbered → Type 0) (lanes : FeedLanes) where
+  -- a call's items are as many entries more
+  batch_grows : (venue most : ℕ) (answer : Result ℕ JournalFault) (old new : HubState) → ConsumesBatch may_send lanes venue most answer old new
+      → length new.journal.entries ≡ length old.journal.entries + count_in answer
+  batch_grows venue most (Ok count) old new r =
+      let items = r.1.items in
+      let grown = ap length r.1.consumes.entries ∙ length-append old.journal.entries (map (entry.Consumed venue) items) in
+      let same = length-map items (entry.Consumed venue) in
+      let is = r.1.count_is in
+      omega (arith, grown, same, is)
+  batch_grows venue most (Err UnknownVenue) old new r = grows_not old new r.1
+  batch_grows venue most (Err JournalFull) old new r = grows_not old new r.1
+  batch_grows venue most (Err NoMemory) old new r = grows_not old new r
+  batch_grows venue most (Err AlreadySo) old new r = absurd r
+  batch_grows venue most (Err TooManySubscribers) old new r = absurd r
+
+  batches_more : (batches : List Batch) (b : Batch) (old between : HubState) → AreBatches may_send lanes batches old between → ConsumesBatch may_send lanes b.venue b.most b.answer between b.after
+      → AreBatches may_send lanes (batches ++ b ∷ []) old b.after
+  batches_more [] b old between same one = (subst (λ (s : HubState). ConsumesBatch may_send lanes b.venue b.most b.answer s b.after) same one, refl)
+  batches_more (x ∷ batches) b old between all one = (all.0, batches_more batches b x.after between all.1 one)
+
+  -- no call yet
+  pub no_batch : (old new : HubState) → new ≡ old → ConsumesRound may_send lanes 0 None old new
+  no_batch old new same = record { batches = []; consumes = same; count = refl; last = refl; grown = grows_not old new same }
+
+  -- one call more
+  one_batch : (consumed venue most : ℕ) (refused : Option JournalFault) (answer : Result ℕ JournalFault) (old between new : HubState) → ConsumesRound may_send lanes consumed refused old between
+      → ConsumesBatch may_send lanes venue most answer between new → ConsumesRound may_send lanes (consumed + count_in answer) (fault_in answer) old new
+  one_batch consumed venue most refused answer old between new r one =
+      let b : Batch = record { venue = venue; most = most; answer = answer; after = new } in
+      let before = r.grown in
+      let more = batch_grows venue most answer between new one in
+      record {
+        batches = r.batches ++ b ∷ [];
+        consumes = batches_more r.batches b old between r.consumes one;
+        count = fold-append (λ (n : ℕ) (x : Batch). n + count_in x.answer) 0 r.batches (b ∷ []) ∙ ap (λ (n : ℕ). n + count_in answer) r.count;
+        last = fold-append (λ (f : Option JournalFault) (x : Batch). fault_in x.answer) None r.batches (b ∷ []);
+        grown = omega (arith, before, more);
+      }
+
+  -- one call more in a turn that wasn't refused, from a state that is the one before
+  pub batch_of : (consumed venue most count : ℕ) (refused : Option JournalFault) (old between start new : HubState) → ConsumesRound may_send lanes consumed refused old between → refused ≡ None
+      → start ≡ between → ConsumesBatch may_send lanes venue most (Ok count) start new → ConsumesRound may_send lanes (consumed + count) refused old new
+  batch_of consumed venue most count refused old between start new r sound same one =
+      subst (λ (f : Option JournalFault). ConsumesRound may_send lanes (consumed + count) f old new) (sym sound)
+      (one_batch consumed venue most refused (Ok count) old between new r (subst (λ (s : HubState). ConsumesBatch may_send lanes venue most (Ok count) s new) same one))
+
+  -- and one that was refused
+  pub refusal_of : (consumed venue most : ℕ) (refused : Option JournalFault) (fault : JournalFault) (old between start new : HubState) → ConsumesRound may_send lanes consumed refused old between
+      → start ≡ between → ConsumesBatch may_send lanes venue most (Err fault) start new → ConsumesRound may_send lanes consumed (Some fault) old new
+  refusal_of consumed venue most refused fault old between start new r same one =
+      let none : consumed + 0 ≡ consumed = omega arith in
+      subst (λ (n : ℕ). ConsumesRound may_send lanes n (Some fault) old new) none
+      (one_batch consumed venue most refused (Err fault) old between new r (subst (λ (s : HubState). ConsumesBatch may_send lanes venue most (Err fault) s new) same one))
+
+  -- and then notices were offered
+  pub turn_taken : (consumed pushed : ℕ) (refused : Option JournalFault) (old between new : HubState) → ConsumesRound may_send lanes consumed refused old between → OffersCount pushed between new
+      → TakesTurn may_send lanes consumed pushed refused old new
+  turn_taken consumed pushed refused old between new r next =
+      record { between = between; consumes = r; offers = next; grown = ap length next.entries ∙ r.grown }
+
+-- a turn between two states that the lock kept
+pub turn_under_lock : (carries : Carries) (ends : Ends) (lanes : FeedLanes) (consumed pushed : ℕ) (refused : Option JournalFault) (old new : HubState) → HubLockInvariant carries ends lanes old
+    → HubLockInvariant carries ends lanes new → TakesTurn (IsInSequence carries ends) lanes consumed pushed refused old new → TakesTurnUnderLock carries ends lanes consumed pushed refused
+turn_under_lock carries ends lanes consumed pushed refused old new kept keeps turn = record { old = old; kept = kept; new = new; keeps = keeps; turn = turn }

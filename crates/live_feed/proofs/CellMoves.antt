@@ -1,5 +1,5 @@
--- What a packet, a push and a renewal leave of a venue's cell, in terms of plain states.
-use Rattle.std.proofs.Common.{◌≡◌, ℕ, zero, suc, ◌+◌, ◌-◌, ◌≤◌, true, false, List, [], ◌∷◌, ◌++◌, length, map, take, drop, Some, None, Result, Ok, Err, refl, sym, ap, subst, ◌∙◌, arith, append_assoc, append-nil, length-append}
+-- What a packet, a push and a renewal leave of a venue's cell, said of plain states.
+use Rattle.std.proofs.Common.{◌≡◌, ◌≢◌, inl, inr, ℕ, zero, suc, ◌+◌, ◌-◌, ◌≤◌, true, false, List, [], ◌∷◌, ◌++◌, length, map, take, drop, Some, None, Result, Ok, Err, refl, sym, ap, subst, ◌∙◌, arith, append_assoc, append-nil, length-append}
 use Rattle.std.specs.Prelude.{slice_get, if◌then◌else◌}
 use Rattle.std.proofs.lemmas.List.{take-append-drop}
 use Rattle.std.proofs.lemmas.List.Sums.{fold-append}
@@ -26,7 +26,7 @@ use Rattle.feed_types.specs.declared.item.Item.{Item}
 use Rattle.feed_types.specs.Sessions.{numbered_from}
 use Rattle.quote_payload.specs.Payload.{item_of}
 use Rattle.line_arbiter.specs.Histories.{History, all_begun, items_of, new_history, new_session, streams_of, after_arrival}
-use Rattle.line_arbiter.specs.States.{State, ordinal_of, KeepsItsPlace, KeepsItsSession, IsAdvanced, IsNew, IsRenewed}
+use Rattle.line_arbiter.specs.States.{State, ordinal_of, KeepsItsPlace, KeepsAllButSent, KeepsItsSession, IsAdvanced, IsNew, IsRenewed}
 use Rattle.line_arbiter.specs.Fits.{Fits}
 use Rattle.fifo_lane.specs.Lane.{LaneEnd, with_items, WasFull}
 use Rattle.line_arbiter.specs.laws.Histories.{items_push}
@@ -34,7 +34,7 @@ use Rattle.line_arbiter.specs.laws.FitsHistory.{fits_new, fits_packet, fits_push
 use Rattle.live_feed.specs.Lanes.{FeedLanes}
 use Rattle.live_feed.specs.venue.Sums.{Sums, no_sums, sums_after, accepted_on, sums_on, line_sums_after, LineSums}
 use Rattle.live_feed.specs.venue.Cells.{CellState, FitsCell, AreGivenFrom, VenueLockInvariant, arrivals_of, new_cell}
-use Rattle.live_feed.specs.venue.Sections.{TakesPacket, IsAnsweredBy, TakesAndPushes, PushesOne, RenewsSession}
+use Rattle.live_feed.specs.venue.Sections.{TakesPacket, IsAnsweredBy, IsFlushedBy, KeepsButSent, TakesAndPushes, PushesOne, RenewsSession}
 use Rattle.line_arbiter.specs.Renewals.{IsRenewal}
 use Rattle.live_feed.specs.declared.unsent.Unsent.TheVariants as unsent
 use Rattle.live_feed.proofs.Histories.{take_same, take_next, get_sent, arrivals_push, arrivals_more, given_more, present_more, next_given, streams_sequence}
@@ -387,3 +387,59 @@ module _ (old new : CellState) (h : History) (name : List ℕ) (f : FitsCell old
     renewed = record { right = renewal_in h name (Ok ordinal) f.history right; is = refl };
     fits = renewed_fits;
   }
+
+-- ---- Push, again and again
+
+arbiter_keeps : (a b c : State) → KeepsAllButSent a b → KeepsAllButSent b c → KeepsAllButSent a c
+arbiter_keeps a b c first next = record {
+  venue = next.venue ∙ first.venue;
+  sessions = next.sessions ∙ first.sessions;
+  session = next.session ∙ first.session;
+  window = next.window ∙ first.window;
+  front = next.front ∙ first.front;
+  known = next.known ∙ first.known;
+  end = next.end ∙ first.end;
+  wins = next.wins ∙ first.wins;
+  earlier = next.earlier ∙ first.earlier;
+}
+
+-- no push changes nothing
+pub sends_itself : (c : CellState) → KeepsButSent c c
+sends_itself c = record {
+  arbiter = record {
+    venue = refl;
+    sessions = refl;
+    session = refl;
+    window = refl;
+    front = refl;
+    known = refl;
+    end = refl;
+    wins = refl;
+    earlier = refl;
+  };
+  lane = refl;
+  others = refl;
+}
+
+-- a push that was refused changes nothing more
+pub sends_same : (a b c : CellState) → KeepsButSent a b → c ≡ b → KeepsButSent a c
+sends_same a b c kept same = subst (λ (s : CellState). KeepsButSent a s) (sym same) kept
+
+-- pushes after pushes are pushes
+pub sends_more : (a b c : CellState) → KeepsButSent a b → KeepsButSent b c → KeepsButSent a c
+sends_more a b c first next = record {
+  arbiter = arbiter_keeps a.arbiter b.arbiter c.arbiter first.arbiter next.arbiter;
+  lane = next.lane ∙ ap (λ (e : LaneEnd Numbered). with_items e c.lane.items) first.lane;
+  others = next.others ∙ ap (λ (s : CellState). record s { arbiter = c.arbiter; lane = c.lane }) first.others;
+}
+
+-- what was pushed under a venue's lock
+pub flushed : (sessions : SessionNames) (carries : Carries) (ends : Ends) (lanes : FeedLanes) (venue pushed : ℕ) (old new : CellState) → VenueLockInvariant sessions carries ends lanes old
+    → old.arbiter.venue ≡ venue → VenueLockInvariant sessions carries ends lanes new → KeepsButSent old new → length new.lane.items ≡ length old.lane.items + pushed
+    → IsFlushedBy sessions carries ends lanes venue pushed
+flushed sessions carries ends lanes venue pushed old new kept is keeps others sent = inl (record { old = old; kept = kept; venue_is = is; new = new; keeps = keeps; others = others; sent = sent })
+
+-- nothing was, where the lock was another venue's
+pub not_flushed : (sessions : SessionNames) (carries : Carries) (ends : Ends) (lanes : FeedLanes) (venue pushed : ℕ) (cell : CellState) → VenueLockInvariant sessions carries ends lanes cell
+    → cell.arbiter.venue ≢ venue → pushed ≡ 0 → IsFlushedBy sessions carries ends lanes venue pushed
+not_flushed sessions carries ends lanes venue pushed cell kept other none = inr (record { cell = cell; kept = kept; other = other; none = none })

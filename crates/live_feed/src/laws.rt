@@ -35,11 +35,11 @@ pub fn journaled_items_are_the_sessions<G: Genuine, N: FeedName>()
     sequence_is_of_the_sessions::<G>();
 }
 
-/// The same holds, in a settled feed, of a venue's items that were consumed, then those in its
-/// lane, then those that are ready.
+/// So are, of a settled feed, a venue's items that were consumed, then those in its lane, then
+/// those that are ready.
 pub fn settled_items_are_the_sessions<G: Genuine, N: FeedName>()
-    ensures { (seats : List SeatState) (logs : List SubscriberLogState) (s : SettlementState) (venue : ℕ)
-        (v : VenueEndState) (all : List Session)
+    ensures { (seats : List SeatState) (logs : List SubscriberLogState) (s : SettlementState)
+        (venue : ℕ) (v : VenueEndState) (all : List Session)
         → IsSettlement G.sessions G.carries G.ends N.lanes seats logs s
         → slice_get s.venues venue ≡ Some v
         → Names G.sessions G.carries G.ends venue all

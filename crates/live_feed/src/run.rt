@@ -129,8 +129,8 @@ where
         × (vec_len logs ≤ vec_capacity log_lists.threads)
         × (vec_len logs ≤ vec_capacity log_lists.back) }
     ensures lines { Pairwise (λ line ended. LineHasEnded (HasTaken G.sessions G.carries G.ends
-        N.lanes) S.brings S.failures line.seat line.source ended.seat ended.source ended.datagrams ended.fault)
-        lines.items result.ends.items }
+        N.lanes) S.brings S.failures line.seat line.source ended.seat ended.source
+        ended.datagrams ended.fault) lines.items result.ends.items }
     ensures logs { Pairwise HasPolled logs.items result.logs.items }
     ensures count { vec_len result.logs ≡ vec_len logs }
 {
@@ -192,9 +192,9 @@ impl<G: Genuine, N: FeedName> OpenFeed<G, N> {
 impl<G: Genuine + Send + Sync, N: FeedName + Send + Sync> OpenFeed<G, N> {
     /// Runs each line and each subscriber in a thread of its own, and the consolidator in this one,
     /// until all lines have ended; what is ready is then pushed, journaled and offered. Each line's
-    /// seat and source and each subscriber come back in the order given. Where the journal is full, or
-    /// memory or a thread is refused, the run stops early: then, and where a handle of `stop_handle`
-    /// stops it, no line reads a further datagram.
+    /// seat and source and each subscriber come back in the order given. Where the journal is full,
+    /// or memory or a thread is refused, the run stops early: then, and where a handle of
+    /// `stop_handle` stops it, no line reads a further datagram.
     ///
     /// Where memory for the lists of threads and logs is refused, nothing is started, and all are
     /// handed back.
@@ -277,8 +277,8 @@ where
         × (vec_len logs ≤ vec_capacity log_lists.threads)
         × (vec_len logs ≤ vec_capacity log_lists.back) }
     ensures lines { Pairwise (λ line ended. LineHasEnded (HasTaken G.sessions G.carries G.ends
-        N.lanes) S.brings S.failures line.seat line.source ended.seat ended.source ended.datagrams ended.fault)
-        lines.items result.ends.items }
+        N.lanes) S.brings S.failures line.seat line.source ended.seat ended.source
+        ended.datagrams ended.fault) lines.items result.ends.items }
     ensures logs { Pairwise HasPolled logs.items result.logs.items }
     ensures count { vec_len result.logs ≡ vec_len logs }
 {

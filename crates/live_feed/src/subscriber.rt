@@ -44,12 +44,12 @@ impl<N: FeedName> Subscriber<N> {
     /// that; None where the lane was empty. LogFull exactly where the log has as many lines as
     /// configured, else NoMemory where the room for one more was refused: both before a notice is
     /// taken. A refused call changes nothing. The strategy is asked once for each notice that is
-    /// taken, and never else.
-    /// and else not.
+    /// taken, and else not.
     pub fn poll<W: Wait>(&mut self, rt: &W) -> Result<Option<Advice>, PollFault>
         ensures polls { Polls ⟦<RisingNotices as LaneRule<Notice>>⟧.may_send result self.old.log
             self.new.log }
-        ensures asks { AsksForAdvice result self.old.log self.new.log self.old.strategy self.new.strategy }
+        ensures asks { AsksForAdvice result self.old.log self.new.log self.old.strategy
+            self.new.strategy }
     {
         self.log.poll(rt, &mut self.strategy)
     }

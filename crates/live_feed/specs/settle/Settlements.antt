@@ -21,8 +21,8 @@ use Rattle.live_feed.specs.subscriber.Logs.{SubscriberLogState}
 
 -- A venue whose lane is closed, through which these items were sent: what was consumed, then what
 -- is in the lane, is what was sent. There are packets that the venue was given, session by session,
--- each answered by the definitions and genuine; what was sent, then what is ready, are the
--- sessions' streams; and what is counted per line is that of these packets.
+-- each answered as it should be and genuine; what was sent, then what is ready, are the sessions'
+-- streams; and what is counted per line is that of these packets.
 pub record IsSettled (carries : Carries) (ends : Ends) (venue window : ℕ)
     (sent consumed in_lane ready : List Numbered) (won : Counts) (sums : LineSums) : Type 0 where
   pub sent_is : consumed ++ in_lane ≡ sent
@@ -122,7 +122,7 @@ pub record IsClosedVenue (sessions : SessionNames) (carries : Carries) (ends : E
 
 -- A venue of a closed feed, whose lock kept this cell last: its lane, through which the cell's
 -- items were sent, is closed; what was consumed is its items in the entries; and what is counted
--- per line is the sum of what the line's seats show.
+-- per line is what the line's seats show, added up.
 pub record ShowsVenue (sessions : SessionNames) (carries : Carries) (ends : Ends)
     (lanes : FeedLanes) (entries : List Entry) (seats : List SeatState) (venue : ℕ)
     (v : VenueEndState) : Type 0 where
@@ -145,8 +145,8 @@ pub record ShowsSubscriber (journal : JournalState) (id : ℕ) (t : SubscriberLo
 -- venues and each of its subscribers is closed. The journal has the symbols and the capacity of the
 -- feed's setting.
 pub record IsSettlement (sessions : SessionNames) (carries : Carries) (ends : Ends)
-    (lanes : FeedLanes) (seats : List SeatState) (logs : List SubscriberLogState) (s : SettlementState)
-    : Type 0 where
+    (lanes : FeedLanes) (seats : List SeatState) (logs : List SubscriberLogState)
+    (s : SettlementState) : Type 0 where
   pub symbols : s.journal.symbols ≡ lanes.setting.symbols
   pub size : s.journal.journal ≡ lanes.setting.journal
   pub venue_count : (length s.venues ≡ length lanes.venues)

@@ -1,6 +1,6 @@
 -- Each section under a lock is one event of the machine (feed_core), on the part that the lock
 -- keeps.
-use Rattle.std.specs.Prelude.{◌≡◌, ◌⊎◌, ℕ, Bool, true, false, List, length, slice_get, Result, Ok, Err, IsOk}
+use Rattle.std.specs.Prelude.{◌≡◌, ◌≢◌, ◌⊎◌, ℕ, ◌+◌, Bool, true, false, List, length, slice_get, Result, Ok, Err, IsOk}
 use Rattle.feed_types.specs.declared.item.Numbered.{Numbered}
 use Rattle.feed_types.specs.declared.line.LineId.{LineId}
 use Rattle.feed_types.specs.Sequence.{Carries, Ends}
@@ -78,8 +78,8 @@ pub record KeepsButSent (old new : CellState) : Type 0 where
   pub lane : new.lane ≡ with_items old.lane new.lane.items
   pub others : new ≡ record old { arbiter = new.arbiter; lane = new.lane }
 
--- Packet and then Push, in one section: the venue's history has grown by the packet, the next item
--- of its streams was sent, and the cell represents both.
+-- Packet and then Push, in one section: what came to the venue has grown by the packet, the next
+-- item of its streams was sent, and the cell stands for both.
 pub record TakesAndPushes (line : LineId) (p : Content) (outcome : Outcome) (h : History)
     (old new : CellState) : Type 0 where
   pub takes : TakesPacket line p (Ok outcome) h old new
@@ -97,8 +97,35 @@ pub record KeepsButPushed (old new : CellState) : Type 0 where
     accepted = new.accepted;
   }
 
--- A packet that isn't taken and pushed at once: the lane was full at a moment of the call, or the
--- packet doesn't go on where nothing is held, or hasn't one message.
+-- What was done under a venue's lock, of which nothing else is known than what it keeps: of two
+-- such cells of the venue the later one has sent this many items more, and nothing else has
+-- changed.
+pub record SendsUnderLock (sessions : SessionNames) (carries : Carries) (ends : Ends)
+    (lanes : FeedLanes) (venue push_next : ℕ) : Type 0 where
+  pub old : CellState
+  pub kept : VenueLockInvariant sessions carries ends lanes old
+  pub venue_is : old.arbiter.venue ≡ venue
+  pub new : CellState
+  pub keeps : VenueLockInvariant sessions carries ends lanes new
+  pub others : KeepsButSent old new
+  pub sent : length new.lane.items ≡ length old.lane.items + push_next
+
+-- The lock was another venue's, which no run meets, and nothing was sent.
+pub record SendsNothing (sessions : SessionNames) (carries : Carries) (ends : Ends)
+    (lanes : FeedLanes) (venue push_next : ℕ) : Type 0 where
+  pub cell : CellState
+  pub kept : VenueLockInvariant sessions carries ends lanes cell
+  pub other : cell.arbiter.venue ≢ venue
+  pub none : push_next ≡ 0
+
+-- The answer to who asks to push what is ready of the venue: how many items its lane was sent.
+abbrev pub IsFlushedBy : SessionNames → Carries → Ends → FeedLanes → ℕ → ℕ → Type 0
+IsFlushedBy sessions carries ends lanes venue push_next =
+    SendsUnderLock sessions carries ends lanes venue push_next
+    ⊎ SendsNothing sessions carries ends lanes venue push_next
+
+-- A packet that isn't taken so: the lane was full at a moment of the call, or the packet doesn't go
+-- on where nothing is held, or hasn't one message.
 abbrev pub IsLeft : (ℕ → List Numbered → Type 0) → Content → CellState → Type 0
 IsLeft may_send p c =
     WasFull may_send c.lane

@@ -1,6 +1,8 @@
-//! A feed whose parts are guarded by locks.
+//! An open feed: its venues and its journal, under locks.
 
 ghost use Rattle.std.specs.Prelude.{◌≡◌, ◌≤◌, ◌↔◌, [], length, IfOk, IfErr, IsErrOf};
+ghost use Rattle.live_feed.specs.hub.Batches.{LacksSubscriber, OffersUnderLock, TakesTurnUnderLock};
+ghost use Rattle.live_feed.specs.venue.Sections.{IsFlushedBy};
 ghost use Rattle.live_feed.specs.venue.Seats.{GivesSeat, new_seat};
 ghost use Rattle.live_feed.specs.venue.Datagrams.{AreGenuineBytes, AcceptsTheirs, IsTakenBy, bytes_of};
 
@@ -48,8 +50,8 @@ impl<G: Genuine, N: FeedName> Guarded<G, N> {
     }
 }
 
-/// A feed whose parts are guarded by locks: one for each venue, and the consolidator's. No call
-/// holds two of them.
+/// An open feed: each venue is under a lock of its own, and the journal with all lanes' other ends
+/// under the consolidator's. No call holds two of them.
 #[derive(Drop)]
 pub struct OpenFeed<G: Genuine, N: FeedName> {
     pub(crate) venues: VenueLocks<G, N>,
@@ -79,10 +81,10 @@ impl<G: Genuine, N: FeedName> OpenFeed<G, N> {
         guarded.give_seat(line)
     }
 
-    /// Takes a datagram that came on the seat's line, which is genuine at its venue, and returns
-    /// the packet's fault, else the line's, else the outcome. What is ready then, after a fault
-    /// too, is pushed, until nothing is or the lane is full. The datagram is read before the
-    /// venue's lock is taken.
+    /// Takes a datagram that came on the seat's line, which is genuine at its venue, and answers
+    /// what became of it: the packet's fault, else the line's, else the outcome. What is ready
+    /// then, after a fault too, is pushed, until nothing is or the lane is full. The datagram is
+    /// read before the venue's lock is taken.
     pub fn take<W: Wait>(
         &self,
         rt: &W,
@@ -104,11 +106,15 @@ impl<G: Genuine, N: FeedName> OpenFeed<G, N> {
     }
 
     /// Pushes what is ready of the venue, until nothing is or the lane is full, and returns how
-    /// many items were pushed. UnknownVenue where there is no such venue.
+    /// many items were pushed: the venue's lane was sent that many more.
     pub fn flush<W: Wait>(&self, rt: &W, venue: VenueId) -> Result<u64, FeedFault>
         ensures unknown { IsErrOf result FeedFault.UnknownVenue ↔ (length N.lanes.venues ≤ venue) }
+        ensures pushed { IfOk result (IsFlushedBy G.sessions G.carries G.ends N.lanes venue) }
     {
-        self.venues.flush_some(rt, venue, u64::MAX)
+        if venue.index() >= self.venues.len() {
+            return Err(FeedFault::UnknownVenue);
+        }
+        Ok(self.venues.flush_some(rt, venue, u64::MAX))
     }
 
     /// Returns the request for the venue's gap to send now, if any. UnknownVenue where there is no
@@ -121,7 +127,10 @@ impl<G: Genuine, N: FeedName> OpenFeed<G, N> {
     ) -> Result<Option<Request>, FeedFault>
         ensures unknown { IsErrOf result FeedFault.UnknownVenue ↔ (length N.lanes.venues ≤ venue) }
     {
-        self.venues.due(rt, venue, now_ms)
+        if venue.index() >= self.venues.len() {
+            return Err(FeedFault::UnknownVenue);
+        }
+        Ok(self.venues.due(rt, venue, now_ms))
     }
 
     /// Begins the venue's session of this ordinal and name, once End of the one before it was sent,
@@ -165,9 +174,9 @@ impl<G: Genuine, N: FeedName> OpenFeed<G, N> {
         consumed
     }
 
-    /// Journals the next items of the venue's lane as `consume` does, at most `most`, under the
-    /// consolidator's lock taken once, and returns how many there were. A refusal is answered where
-    /// it comes before the first item; else the next call answers it.
+    /// Journals the next items of the venue's lane as `consume` does, at most so many, under the
+    /// consolidator's lock taken once, and gives how many there were. A refusal is answered where
+    /// it comes before any of them; else the next call answers it.
     pub fn consume_batch<W: Wait>(
         &self,
         rt: &W,
@@ -186,12 +195,15 @@ impl<G: Genuine, N: FeedName> OpenFeed<G, N> {
     }
 
     /// Journals what is in the venues' lanes, and then offers each subscriber what it wants, as
-    /// `offer` does, under the consolidator's lock taken once. Returns how much it journaled and
-    /// offered. At most 64 items are journaled, up to the first refusal. A call begins with the
-    /// venue after the last one of the call before, so that no venue waits for ever. The
-    /// consolidator of `run` makes this call.
+    /// `offer` does, under the consolidator's lock taken once, and returns how many items and
+    /// notices these were; the journal has as many entries more as there were items. At most 64
+    /// items are journaled, up to the first refusal. A call begins with the venue after the last
+    /// one that the call before came to, so that none of them waits for ever. This is what the
+    /// consolidator of `run` calls.
     pub fn consolidate<W: Wait>(&self, rt: &W) -> Consolidated
         ensures most { result.consumed ≤ 64 }
+        ensures turn { TakesTurnUnderLock G.carries G.ends N.lanes result.consumed result.offered
+            result.refused }
     {
         let bells = self.venues.bells();
         let done = take_turn(rt, &mut self.hub.lock(rt), bells);
@@ -255,9 +267,19 @@ impl<G: Genuine, N: FeedName> OpenFeed<G, N> {
     }
 
     /// Pushes the notices that the subscriber wants, until there is none or its lane is full, and
-    /// returns how many were pushed. UnknownSubscriber where there is no such subscriber.
-    pub fn offer<W: Wait>(&self, rt: &W, id: SubscriberId) -> Result<u64, FeedFault> {
-        match offer_some(rt, &mut self.hub.lock(rt), self.venues.bells(), id) {
+    /// returns how many were pushed: the subscribers' lanes were sent that many more.
+    /// UnknownSubscriber where there is none of this id, and no other fault.
+    pub fn offer<W: Wait>(&self, rt: &W, id: SubscriberId) -> Result<u64, FeedFault>
+        ensures pushed { IfOk result (OffersUnderLock G.carries G.ends N.lanes id) }
+        ensures unknown { IfErr result (λ fault. (fault ≡ FeedFault.UnknownSubscriber)
+            × LacksSubscriber G.carries G.ends N.lanes id) }
+    {
+        let mut hub = self.hub.lock(rt);
+        hub.core.show_lock_invariant();
+        let offered = offer_some(rt, &mut hub, self.venues.bells(), id);
+        hub.core.show_lock_invariant();
+        drop(hub);
+        match offered {
             Some(pushed) => Ok(pushed),
             None => Err(FeedFault::UnknownSubscriber),
         }

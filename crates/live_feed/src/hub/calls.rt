@@ -1,6 +1,6 @@
 //! The sections that calls of a feed have under the consolidator's lock.
 
-ghost use Rattle.std.specs.Prelude.{◌≡◌, ◌≤◌, ◌↔◌, length, IfOk, IfSome, IfNone, IsErrOf};
+ghost use Rattle.std.specs.Prelude.{◌≡◌, ◌<◌, ◌≤◌, ◌↔◌, length, IfOk, IfSome, IfNone, IsErrOf, IsSome};
 ghost use Rattle.live_feed.specs.hub.Batches.{ConsumesBatch, OffersCount};
 
 use crate::bells::Bells;
@@ -12,8 +12,8 @@ use fifo_lane::{LaneRule, VenueItems};
 use journal_book::JournalFault;
 use std::sync::Wait;
 
-/// Journals the next item of the venue's lane, and returns its position; None where the lane was
-/// empty. A refused call changes nothing.
+/// Journals the next item of the venue's lane, and gives its position; None where nothing was
+/// inside. A refused call changes nothing.
 pub(crate) fn consume_next<G: Genuine, N: FeedName, W: Wait>(
     rt: &W,
     hub: &mut HubCell<G, N>,
@@ -28,7 +28,7 @@ pub(crate) fn consume_next<G: Genuine, N: FeedName, W: Wait>(
 }
 
 /// Journals the items that are in the venue's lane, at most `most`, and returns how many there
-/// were. UnknownVenue, else a refusal where it comes before the first item, whether or not there is
+/// were. UnknownVenue, else a refusal where it comes before any of them, whether or not there is
 /// one; then nothing has changed.
 pub(crate) fn consume_some<G: Genuine, N: FeedName, W: Wait>(
     rt: &W,
@@ -68,6 +68,7 @@ pub(crate) fn offer_some<G: Genuine, N: FeedName, W: Wait>(
 ) -> Option<u64>
     ensures sent { IfSome result (λ pushed. OffersCount pushed hub.old.core hub.new.core) }
     ensures none { IfNone result (hub.new.core ≡ hub.old.core) }
+    ensures known { IsSome result ↔ (id < length hub.old.core.journal.cursors) }
 {
     if !hub.core.has(id) {
         return None;

@@ -1,12 +1,14 @@
 //! A turn of the consolidator: its work under its lock taken once.
 
-ghost use Rattle.std.specs.Prelude.{◌≡◌, ◌≤◌};
+ghost use Rattle.std.specs.Prelude.{◌≡◌, ◌≤◌, None};
+ghost use Rattle.live_feed.specs.hub.Batches.{ConsumesRound, TakesTurn, TakesTurnUnderLock};
 
 use crate::bells::Bells;
 use crate::feed_name::FeedName;
 use crate::hub::calls::{consume_some, offer_each};
 use crate::hub::cell::HubCell;
-use feed_types::Genuine;
+use feed_types::{Genuine, Numbered};
+use fifo_lane::{LaneRule, VenueItems};
 use journal_book::JournalFault;
 use std::sync::Wait;
 
@@ -30,7 +32,8 @@ pub struct Consolidated {
 impl Consolidated {
     /// Returns the work of a turn that has done nothing yet.
     pub(crate) fn nothing() -> Consolidated
-        ensures { result.consumed ≡ 0 }
+        ensures none { result.consumed ≡ 0 }
+        ensures sound { result.refused ≡ None }
     {
         Consolidated {
             consumed: 0,
@@ -45,6 +48,8 @@ impl Consolidated {
 /// the venue after the last one of the turn before, so that no venue waits for ever.
 fn consume_round<G: Genuine, N: FeedName, W: Wait>(rt: &W, hub: &mut HubCell<G, N>) -> Consolidated
     ensures most { result.consumed ≤ 64 }
+    ensures round { ConsumesRound ⟦<VenueItems<G> as LaneRule<Numbered>>⟧.may_send N.lanes
+        result.consumed result.refused hub.old.core hub.new.core }
 {
     let mut done = Consolidated::nothing();
     for _ in 0..hub.core.venue_count() {
@@ -54,10 +59,9 @@ fn consume_round<G: Genuine, N: FeedName, W: Wait>(rt: &W, hub: &mut HubCell<G, 
         }
         let venue = hub.next_venue();
         match consume_some(rt, hub, venue, left) {
-            Ok(0) => {}
             Ok(count) => {
                 done.consumed += count;
-                done.venues[venue.index()] = true;
+                done.venues[venue.index()] = count > 0;
             }
             Err(fault) => {
                 done.refused = Some(fault);
@@ -70,14 +74,21 @@ fn consume_round<G: Genuine, N: FeedName, W: Wait>(rt: &W, hub: &mut HubCell<G, 
 
 /// Journals what is in the venues' lanes, at most 64 items, and then offers each subscriber what it
 /// wants.
+#[tactic(auto, using(crate::proofs::Batches::turn_taken, crate::proofs::Batches::turn_under_lock))]
 pub(crate) fn take_turn<G: Genuine, N: FeedName, W: Wait>(
     rt: &W,
     hub: &mut HubCell<G, N>,
     bells: &Bells,
 ) -> Consolidated
     ensures most { result.consumed ≤ 64 }
+    ensures turn { TakesTurn ⟦<VenueItems<G> as LaneRule<Numbered>>⟧.may_send N.lanes
+        result.consumed result.offered result.refused hub.old.core hub.new.core }
+    ensures locked { TakesTurnUnderLock G.carries G.ends N.lanes result.consumed result.offered
+        result.refused }
 {
+    hub.core.show_lock_invariant();
     let mut done = consume_round(rt, hub);
     done.offered = offer_each(rt, hub, bells);
+    hub.core.show_lock_invariant();
     done
 }

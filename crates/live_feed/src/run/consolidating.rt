@@ -3,6 +3,7 @@
 use crate::bells::Bells;
 use crate::feed::open_feed::OpenFeed;
 use crate::feed_name::FeedName;
+use crate::hub::calls::offer_each;
 use crate::hub::turn::Consolidated;
 use crate::run::idle::{is_tired, rest};
 use crate::run::report::Stop;
@@ -38,7 +39,6 @@ fn flush_each<G: Genuine, N: FeedName, W: Wait>(
         };
         if all || (!done.venues[venue.index()] && feed.venues.is_held_back(venue)) {
             let pushed = feed.venues.flush_some(rt, venue, ITEMS_A_SECTION);
-            let pushed = pushed.unwrap_or(0);
             moved = moved || pushed > 0;
         }
     }
@@ -53,23 +53,8 @@ fn reason_of(fault: JournalFault) -> Stop {
     }
 }
 
-/// Offers each subscriber what it wants, and returns how many notices were offered.
-fn offer_all<G: Genuine, N: FeedName, W: Wait>(rt: &W, feed: &OpenFeed<G, N>) -> u64 {
-    let mut offered: u64 = 0;
-    for place in 0..32u8 {
-        let Some(id) = SubscriberId::new(place) else {
-            break;
-        };
-        let Ok(pushed) = feed.offer(rt, id) else {
-            break;
-        };
-        offered = offered.saturating_add(pushed);
-    }
-    offered
-}
-
-/// Takes a turn: journals and offers, or, where the run stops early, only offers. Returns what the
-/// turn did.
+/// Takes a turn: journals and offers, or, where the run stops early, offers alone. Returns what
+/// that came to.
 fn take_turn<G: Genuine, N: FeedName, W: Wait>(
     rt: &W,
     feed: &OpenFeed<G, N>,
@@ -79,7 +64,7 @@ fn take_turn<G: Genuine, N: FeedName, W: Wait>(
         return feed.consolidate(rt);
     }
     let mut done = Consolidated::nothing();
-    done.offered = offer_all(rt, feed);
+    done.offered = offer_each(rt, &mut feed.hub.lock(rt), feed.venues.bells());
     done
 }
 
@@ -100,9 +85,8 @@ fn is_room_wanted(signals: &Signals, bells: &Bells) -> bool {
 /// and nothing is left to do, and returns why the run stopped early, if journaling was the reason.
 /// Once the lines have ended, what is ready is pushed in any case.
 ///
-/// It sleeps after it has looked in vain for a while. The wait is announced before the last look,
-/// so whatever comes after that look ends the sleep.
-/// looks, so whatever comes after that look ends the sleep.
+/// It sleeps after it has looked in vain for a while. The wait is announced before the last of
+/// these looks, so whatever comes after that look ends the sleep.
 pub(crate) fn consolidate<G: Genuine, N: FeedName, W: Wait>(
     rt: &W,
     feed: &OpenFeed<G, N>,

@@ -48,8 +48,8 @@ fn request_due<G: Genuine, N: FeedName, S: LineSource<G>, W: Wait>(
     }
     let now_ms = source.now_ms();
     match venues.due(rt, venue, now_ms) {
-        Ok(Some(request)) => source.request(&request),
-        _ => Ok(()),
+        Some(request) => source.request(&request),
+        None => Ok(()),
     }
 }
 

@@ -1,12 +1,12 @@
 //! The calls of a feed that take only a venue's lock.
 
-ghost use Rattle.std.specs.Prelude.{◌≡◌, ◌≤◌, ◌+◌, ◌↔◌, length, IsErrOf};
+ghost use Rattle.std.specs.Prelude.{◌≡◌, ◌<◌, ◌≤◌, ◌+◌, length};
 ghost use Rattle.line_arbiter.specs.Genuine.{IsGenuine};
 ghost use Rattle.live_feed.specs.venue.Seats.{seat_after};
-ghost use Rattle.live_feed.specs.venue.Sections.{AcceptsTheirPacket};
+ghost use Rattle.live_feed.specs.venue.Sections.{AcceptsTheirPacket, IsFlushedBy, KeepsButSent};
 ghost use Rattle.live_feed.specs.venue.Datagrams.{AreGenuineBytes, AcceptsTheirs, IsAnsweredAt, IsTakenBy, bytes_of};
 
-use crate::faults::{FeedFault, TakeFault};
+use crate::faults::TakeFault;
 use crate::feed_name::FeedName;
 use crate::unsent::Unsent;
 use crate::venue::cell::VenueCell;
@@ -20,6 +20,7 @@ use std::sync::Wait;
 
 /// Pushes what is ready of the venue, at most `most` items, until nothing is or the lane is full.
 /// Returns how many were pushed, and whether something may be ready still.
+#[tactic(auto, using(crate::proofs::CellMoves::sends_itself, crate::proofs::CellMoves::sends_more, crate::proofs::CellMoves::sends_same))]
 fn push_ready<G: Genuine, N: FeedName, W: Wait>(
     rt: &W,
     cell: &mut VenueCell<G, N>,
@@ -27,6 +28,7 @@ fn push_ready<G: Genuine, N: FeedName, W: Wait>(
 ) -> (u64, bool)
     ensures count { length cell.new.lane.items ≡ length cell.old.lane.items + result.0 }
     ensures most { result.0 ≤ most }
+    ensures kept { KeepsButSent cell.old cell.new }
 {
     for pushed in 0..most {
         match cell.push_one(rt) {
@@ -35,6 +37,25 @@ fn push_ready<G: Genuine, N: FeedName, W: Wait>(
         }
     }
     (most, true)
+}
+
+/// Pushes what is ready as `push_ready` does, where the cell is of this venue; else nothing.
+#[tactic(auto, using(crate::proofs::CellMoves::flushed, crate::proofs::CellMoves::not_flushed))]
+fn flush_cell<G: Genuine, N: FeedName, W: Wait>(
+    rt: &W,
+    cell: &mut VenueCell<G, N>,
+    venue: VenueId,
+    most: u64,
+) -> (u64, bool)
+    ensures { IsFlushedBy G.sessions G.carries G.ends N.lanes venue result.0 }
+{
+    cell.show_lock_invariant();
+    if cell.venue() != venue {
+        return (0, false);
+    }
+    let pushed = push_ready(rt, cell, most);
+    cell.show_lock_invariant();
+    pushed
 }
 
 /// Whether a packet brought nothing.
@@ -87,7 +108,7 @@ impl<G: Genuine, N: FeedName> VenueLocks<G, N> {
                 Err(fault) => Err(TakeFault::Line(fault)),
             },
             Err(fault) => {
-                let _ = self.flush_some(rt, seat.venue(), u64::MAX);
+                let _pushed = self.flush_some(rt, seat.venue(), u64::MAX);
                 *gap = true;
                 Err(TakeFault::Packet(fault))
             }
@@ -126,48 +147,34 @@ impl<G: Genuine, N: FeedName> VenueLocks<G, N> {
     }
 
     /// Pushes what is ready of the venue, at most `most` items, until nothing is or the lane is
-    /// full, and returns how many items were pushed. Where something may be ready still, the venue
-    /// is held back.
-    pub(crate) fn flush_some<W: Wait>(
-        &self,
-        rt: &W,
-        venue: VenueId,
-        most: u64,
-    ) -> Result<u64, FeedFault>
-        ensures unknown { IsErrOf result FeedFault.UnknownVenue ↔ (length N.lanes.venues ≤ venue) }
+    /// full, and returns how many items were pushed: none where there is no such venue. Where
+    /// something may be ready still, the venue is held back.
+    pub(crate) fn flush_some<W: Wait>(&self, rt: &W, venue: VenueId, most: u64) -> u64
+        ensures { venue < length N.lanes.venues
+            → IsFlushedBy G.sessions G.carries G.ends N.lanes venue result }
     {
         let Some(lock) = self.get(venue) else {
-            return Err(FeedFault::UnknownVenue);
+            return 0;
         };
         let mut guarded = enter(rt, lock);
-        if guarded.cell.venue() != venue {
-            return Ok(0);
-        }
-        let (pushed, is_held_back) = push_ready(rt, &mut guarded.cell, most);
+        let (pushed, is_held_back) = flush_cell(rt, &mut guarded.cell, venue, most);
         self.set_held_back(venue, is_held_back);
         drop(guarded);
         if pushed > 0 {
             self.bells().ring_work();
         }
-        Ok(pushed)
+        pushed
     }
 
-    /// Returns the request for the venue's gap to send now, if any.
-    pub(crate) fn due<W: Wait>(
-        &self,
-        rt: &W,
-        venue: VenueId,
-        now_ms: u64,
-    ) -> Result<Option<Request>, FeedFault>
-        ensures unknown { IsErrOf result FeedFault.UnknownVenue ↔ (length N.lanes.venues ≤ venue) }
-    {
+    /// The request for the venue's gap to send now, if any; None where there is no such venue.
+    pub(crate) fn due<W: Wait>(&self, rt: &W, venue: VenueId, now_ms: u64) -> Option<Request> {
         let Some(lock) = self.get(venue) else {
-            return Err(FeedFault::UnknownVenue);
+            return None;
         };
         let mut guarded = enter(rt, lock);
         if guarded.cell.venue() != venue {
-            return Ok(None);
+            return None;
         }
-        Ok(guarded.cell.due(now_ms))
+        guarded.cell.due(now_ms)
     }
 }

@@ -1,4 +1,4 @@
-//! The part of a venue that its lock guards.
+//! What a venue's lock guards.
 
 ghost use Rattle.std.specs.Prelude.{◌≡◌, ◌≤◌, ◌+◌, [], ◌∷◌, Some, Ok, OnOk, OnErr, IfOk, IfSome, IfNone, length, map, slice_get};
 ghost use Rattle.feed_types.specs.declared.item.Numbered.{Numbered};
@@ -107,7 +107,16 @@ impl<G: Genuine, N: FeedName> VenueCell<G, N> {
         self.lines.venue()
     }
 
-    /// The number of the venue's present session, counted from 1 to 64.
+    /// Does nothing: it says what is so whenever the venue's lock is free.
+    #[inline(always)]
+    pub(crate) fn show_lock_invariant(&self)
+        ensures { VenueLockInvariant G.sessions G.carries G.ends N.lanes self.now }
+    {
+        // for the prover: the invariant is known where a field is used
+        let _ = &self.items;
+    }
+
+    /// Which of the venue's sessions the present one is, counted from 1 to 64.
     pub fn ordinal(&self) -> u64
         ensures value { result ≡ ordinal_of self.now.arbiter }
         ensures range { (1 ≤ result) × (result ≤ 64) }

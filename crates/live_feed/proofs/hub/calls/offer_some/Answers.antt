@@ -10,7 +10,7 @@ loop-preserved-in-Ok g c =
       tt,
       search rules,
       one_counted _ c.args.id _ c.loop.pushed _ c.args.hub.now.core c.loop.hub.core c.offer_one.new.self.core i.3
-          e.offer c.saturating_add-pushed.ensures,
+          e.offer e.kept c.saturating_add-pushed.ensures,
     )
 
 pub loop-preserved : goal.loop-preserved
@@ -21,10 +21,10 @@ loop-preserved g c =
       tt,
       search rules,
       none_counted _ c.args.id c.loop.pushed _ c.args.hub.now.core c.loop.hub.core c.offer_one.new.self.core i.3
-          e.offer,
+          e.offer e.kept,
     )
 
 pub returns-in-Err-clause-sent : goal.returns-in-Err-clause-sent
 returns-in-Err-clause-sent g c =
     none_counted _ c.args.id c.loop.pushed _ c.args.hub.now.core c.loop.hub.core c.offer_one.new.self.core
-    c.loop.invariant.3 c.in-Err.ensures.offer
+    c.loop.invariant.3 c.in-Err.ensures.offer c.in-Err.ensures.kept
