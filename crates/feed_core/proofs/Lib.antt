@@ -1,11 +1,5 @@
-pub mod Lanes
-pub mod KeptVenues
-pub mod VenueHalfLaw
-pub mod KeptSubscribers
-pub mod SubscriberHalfLaw
 mod KeptTerms
 mod FirstNames
-pub mod HeadlineLaw
 pub mod OneRunLaw
 pub mod EveryRun
 pub mod VenueMoves

@@ -1,2 +1,10 @@
 -- Laws of the definitions, with their proofs, which nobody has to read: proofs of the crates above cite them.
 pub mod Lists
+pub mod KeptSubscribers
+pub mod KeptTerms
+pub mod KeptVenues
+pub mod Lanes
+pub mod SubscriberHalfLaw
+pub mod VenueHalfLaw
+pub mod FirstNames
+pub mod HeadlineLaw

@@ -6,7 +6,6 @@ pub mod Rest
 pub mod VenueSteps
 pub mod Tales
 pub mod Telling
-pub mod VenueItemsLaw
 pub mod EveryTelling
 pub mod OneText
 pub mod Stopping

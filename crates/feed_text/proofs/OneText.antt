@@ -13,7 +13,7 @@ use Rattle.line_arbiter.specs.Outcomes.{IsOutcome}
 use Rattle.line_arbiter.specs.laws.OneOutcome.{one_renewal}
 use Rattle.feed_types.specs.declared.journal.Entry.{Entry}
 use Rattle.feed_types.specs.declared.journal.Entry.TheVariants.{Consumed, SelfHelp}
-use Rattle.feed_text.proofs.Tales.{entries_more}
+use Rattle.feed_text.specs.laws.Entries.{entries_more, entries_grow}
 use Rattle.feed_text.proofs.Steps.{tells_one}
 use Rattle.line_arbiter.specs.Histories.{History, names_of, after_arrival, history_after}
 use Rattle.feed_text.specs.declared.replay.ReplayConfig.{ReplayConfig}
@@ -79,23 +79,6 @@ pub one_lines : (config : ReplayConfig) (records : List CaptureRecord) (t u : Li
 one_lines config records t u one a b =
     let x = one_told config.window config.gaps records (new_histories config) a.histories b.histories a.emitted b.emitted one a.emits b.emits in
     a.lines_are ∙ ap (lines_emitted config) x.0 ∙ sym b.lines_are
-
-if_grows : (b : Bool) (old : List Entry) (e : Entry) → length old ≤ length (if b then old else old ++ e ∷ [])
-if_grows true old e = omega arith
-if_grows false old e = let n = length-append old (e ∷ []) in omega arith
-
-after_grows : (old : List Entry) (h : ReplayEvent) → length old ≤ length (entries_after old h)
-after_grows old (packet_answered venue line answer) = omega arith
-after_grows old (packet_refused venue line fault) = omega arith
-after_grows old (item_taken venue numbered) = let n = length-append old (Consumed venue numbered ∷ []) in omega arith
-after_grows old (gap_left venue request) = omega arith
-after_grows old (renewal_answered venue answer) = omega arith
-after_grows old (self_help_declared venue on) = if_grows (is_so old venue on) old (SelfHelp venue on)
-
--- the journal only grows
-pub entries_grow : (old : List Entry) (hs : List ReplayEvent) → length old ≤ length (entries_of old hs)
-entries_grow old [] = omega arith
-entries_grow old (h ∷ hs) = let a = after_grows old h in let b = entries_grow (entries_after old h) hs in omega arith
 
 -- what had room up to the next event is the same prefix
 one_front : (limit : ℕ) (old : List Entry) (f g : List ReplayEvent) (x y : ReplayEvent) (xs ys : List ReplayEvent) → f ++ x ∷ xs ≡ g ++ y ∷ ys

@@ -18,7 +18,8 @@ use Rattle.feed_text.specs.ReplayStates.{ReplayState, IsWithinJournal, GoesOn}
 use Rattle.feed_text.specs.Following.{VenueList, FollowAll, TakesRecord, PrintsLast}
 use Rattle.feed_text.specs.Replays.{venues_in, HasRead, WroteAll, WroteLines, WroteLinesUntil, WrotePrefix, texts_of}
 use Rattle.journal_book.specs.Streaming.{StreamingState, new_streaming}
-use Rattle.feed_text.proofs.Tales.{entries_more, text_more, tale_with, tale_from}
+use Rattle.feed_text.specs.laws.Entries.{entries_more, text_more}
+use Rattle.feed_text.proofs.Tales.{tale_with, tale_from}
 
 -- the laws of a reader and a writer
 pub record Laws {R W : Type 0} (reading : Reading R) (writing : Writing W) : Type 0 where

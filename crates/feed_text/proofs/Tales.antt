@@ -17,6 +17,7 @@ use Rattle.mold_packet.specs.declared.request.Request.{Request}
 use Rattle.feed_text.specs.Emitted.{gap_event}
 use Rattle.feed_text.specs.Lines.{best_line, gap_line, item_line, declare_line}
 use Rattle.feed_text.specs.Texts.{line_of, lines_of, text_of}
+use Rattle.feed_text.specs.laws.Entries.{entries_more, text_more}
 use Rattle.feed_text.specs.ReplayStates.{ReplayState, state_after, IsWithinJournal, Grows, GoesOn, GoesToFull, EmitsInto}
 
 -- a running journal and a text
@@ -38,16 +39,6 @@ tale_with t entries text = record {
   entries = entries;
   text = text;
 }
-
-pub entries_more : (old : List Entry) (xs ys : List ReplayEvent) → entries_of old (xs ++ ys) ≡ entries_of (entries_of old xs) ys
-entries_more old [] ys = refl
-entries_more old (x ∷ xs) ys = entries_more (entries_after old x) xs ys
-
-pub text_more : (symbols : List (List ℕ)) (old : List Entry) (xs ys : List ReplayEvent) → text_of symbols old (xs ++ ys) ≡ text_of symbols old xs ++ text_of symbols (entries_of old xs) ys
-text_more symbols old [] ys = refl
-text_more symbols old (x ∷ xs) ys =
-    ap (λ (t : List ℕ). lines_of symbols old x ++ t) (text_more symbols (entries_after old x) xs ys)
-    ∙ sym (append_assoc (lines_of symbols old x) (text_of symbols (entries_after old x) xs) (text_of symbols (entries_of (entries_after old x) xs) ys))
 
 tale_more : (t : ReplayState) (xs ys : List ReplayEvent) → state_after (state_after t xs) ys ≡ state_after t (xs ++ ys)
 tale_more t xs ys =

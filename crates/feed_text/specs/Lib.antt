@@ -12,3 +12,5 @@ pub mod Following
 pub mod Replays
 pub mod Placing
 pub mod Pages
+-- laws, which proofs of the crates above cite
+pub mod laws

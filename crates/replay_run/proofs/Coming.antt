@@ -35,7 +35,7 @@ use Rattle.feed_text.specs.declared.replay.ReplayConfig.{ReplayConfig}
 use Rattle.feed_text.specs.Capture.{CaptureRecord, datagram_record}
 use Rattle.feed_text.specs.ReplayEvents.{ReplayEvent, packet_answered, item_taken, entries_of}
 use Rattle.feed_text.specs.Emitted.{stream_length, items_emitted, EmitsRecord, Emits}
-use Rattle.feed_text.proofs.Tales.{entries_more}
+use Rattle.feed_text.specs.laws.Entries.{entries_more}
 use Rattle.replay_run.specs.Events.{replay_setting, consumed_all, world_of, outcomes_of, IsReplayRun}
 use Rattle.replay_run.specs.VenueItems.{HoldsOnly, HoldOnly}
 use Rattle.replay_run.specs.Moving.{session_of, ComesThrough}

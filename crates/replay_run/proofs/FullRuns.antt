@@ -22,7 +22,7 @@ use Rattle.feed_core.specs.Steps.{Applies, Refused, Changes, next_out, journal_i
 use Rattle.feed_core.specs.Runs.{IsStep, IsRun}
 use Rattle.feed_core.specs.Steps as steps
 use Rattle.feed_core.specs.VenueHalf.{BringsOnly, BringOnly}
-use Rattle.feed_core.proofs.HeadlineLaw.{headline}
+use Rattle.feed_core.specs.laws.HeadlineLaw.{headline}
 use Rattle.feed_text.specs.declared.replay.ReplayConfig.{ReplayConfig}
 use Rattle.feed_text.specs.Capture.{CaptureRecord, datagram_record, renewal_record, self_help_record, record_venue}
 use Rattle.feed_text.specs.ReplayEvents.{ReplayEvent, packet_answered, packet_refused, item_taken, gap_left, renewal_answered, self_help_declared, is_so, entries_after, entries_of}
@@ -30,10 +30,10 @@ use Rattle.feed_text.specs.Emitted.{gap_event, gap_emitted, EmitsFault, EmitsPac
 use Rattle.feed_text.specs.Told as telling
 use Rattle.feed_text.specs.Texts.{IsLinesToFull}
 use Rattle.feed_text.specs.VenueItems.{taken_by, items_taken}
-use Rattle.feed_text.proofs.Telling.{get_set_same, get_set_other, same_or_not}
-use Rattle.feed_text.proofs.Tales.{entries_more}
-use Rattle.feed_text.proofs.OneText.{entries_grow}
-use Rattle.feed_text.proofs.VenueItemsLaw.{IsKept, Each, items_same, items_other, new_kept, all_kept, taken_are_streams}
+use Rattle.feed_text.specs.laws.Lists.{get_set_same, get_set_other, same_or_not}
+use Rattle.feed_text.specs.laws.Entries.{entries_more}
+use Rattle.feed_text.specs.laws.Entries.{entries_grow}
+use Rattle.feed_text.specs.laws.VenueItemsLaw.{IsKept, Each, items_same, items_other, new_kept, all_kept, taken_are_streams}
 use Rattle.replay_run.specs.VenueItems.{HoldsOnly, HoldOnly}
 use Rattle.replay_run.specs.Events.{slice_of, event_of, drains, AreEvents, outcomes_of, replay_setting, consumed_all, world_of}
 use Rattle.replay_run.specs.Full.{StopsAt, IsRunToFull}

@@ -29,7 +29,7 @@ use Rattle.feed_core.specs.Runs.{IsStep, IsRun}
 use Rattle.feed_core.specs.Steps as steps
 use Rattle.feed_core.specs.VenueHalf.{BringsOnly, BringOnly, VenueHalf}
 use Rattle.feed_core.specs.Headline.{Headline}
-use Rattle.feed_core.proofs.HeadlineLaw.{headline}
+use Rattle.feed_core.specs.laws.HeadlineLaw.{headline}
 use Rattle.line_arbiter.specs.laws.Histories.{items_push}
 use Rattle.feed_text.specs.declared.replay.ReplayConfig.{ReplayConfig}
 use Rattle.feed_text.specs.Capture.{CaptureRecord, datagram_record, renewal_record, self_help_record, record_venue}
@@ -37,11 +37,11 @@ use Rattle.feed_text.specs.ReplayEvents.{ReplayEvent, item_taken, is_so, entries
 use Rattle.feed_text.specs.Emitted.{gap_event, gap_emitted, items_emitted, EmitsFault, EmitsPacket, EmitsRenewal, EmitsSelfHelp, EmitsAt, EmitsRecord, Emits}
 use Rattle.feed_text.specs.Told as telling
 use Rattle.feed_text.specs.Texts.{EmitsAll, HasJournalRoom}
-use Rattle.feed_text.proofs.Telling.{same_set}
-use Rattle.feed_text.proofs.Tales.{entries_more}
-use Rattle.feed_text.proofs.OneText.{entries_grow}
+use Rattle.feed_text.specs.laws.Lists.{same_set}
+use Rattle.feed_text.specs.laws.Entries.{entries_more}
+use Rattle.feed_text.specs.laws.Entries.{entries_grow}
 use Rattle.feed_text.specs.VenueItems.{items_taken}
-use Rattle.feed_text.proofs.VenueItemsLaw.{IsKept, Each, ready_items, here, one_came, new_kept, taken_are_streams}
+use Rattle.feed_text.specs.laws.VenueItemsLaw.{IsKept, Each, ready_items, here, one_came, new_kept, taken_are_streams}
 use Rattle.replay_run.specs.VenueItems.{HoldsOnly, HoldOnly, TellsSessions}
 use Rattle.replay_run.specs.Events.{slice_of, event_of, drains, AreEvents, outcomes_by, outcomes_of, replay_setting, consumed_all, world_of, IsReplayRun}
 

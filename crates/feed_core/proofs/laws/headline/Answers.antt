@@ -1,4 +1,4 @@
-use Rattle.feed_core.proofs.HeadlineLaw.{headline}
+use Rattle.feed_core.specs.laws.HeadlineLaw.{headline}
 use Rattle.feed_core.proofs.laws.headline.Goals as goal
 
 pub returns : goal.returns

@@ -1,4 +1,4 @@
-use Rattle.feed_core.proofs.SubscriberHalfLaw.{subscriber_half}
+use Rattle.feed_core.specs.laws.SubscriberHalfLaw.{subscriber_half}
 use Rattle.feed_core.proofs.laws.subscriber_half.Goals as goal
 
 pub returns : goal.returns

@@ -1,4 +1,4 @@
-use Rattle.feed_core.proofs.VenueHalfLaw.{venue_half}
+use Rattle.feed_core.specs.laws.VenueHalfLaw.{venue_half}
 use Rattle.feed_core.proofs.laws.venue_half.Goals as goal
 
 pub returns : goal.returns

@@ -2,7 +2,7 @@ use Rattle.std.proofs.Common.{List, ap, subst}
 use Rattle.filter_terms.specs.declared.terms.Terms.{Terms}
 use Rattle.feed_core.specs.Worlds.{all_terms, setting_of}
 use Rattle.feed_core.specs.Headline.{IsRunOf}
-use Rattle.feed_core.proofs.HeadlineLaw.{shows_headline}
+use Rattle.feed_core.specs.laws.HeadlineLaw.{shows_headline}
 use Rattle.feed_core.proofs.running.run.Goals as goal
 
 pub returns-in-Ok-clause-run : goal.returns-in-Ok-clause-run

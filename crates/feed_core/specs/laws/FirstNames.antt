@@ -8,8 +8,8 @@ use Rattle.feed_core.specs.declared.event.Event.{Event}
 use Rattle.feed_core.specs.declared.event.Done.{Done}
 use Rattle.feed_core.specs.Worlds.{Venue, World, Setting, new_venue, new_world}
 use Rattle.feed_core.specs.Runs.{IsRun}
-use Rattle.feed_core.proofs.KeptVenues.{MoveKept, run_keeps}
-use Rattle.feed_core.proofs.VenueHalfLaw.{none_asked}
+use Rattle.feed_core.specs.laws.KeptVenues.{MoveKept, run_keeps}
+use Rattle.feed_core.specs.laws.VenueHalfLaw.{none_asked}
 
 abbrev IsFirst : Setting → ℕ → Venue → Type 0
 IsFirst s place v = slice_get (names_of v.history) 0 ≡ slice_get s.sessions place

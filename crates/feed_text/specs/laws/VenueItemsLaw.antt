@@ -26,7 +26,7 @@ use Rattle.feed_text.specs.ReplayEvents.{ReplayEvent, item_taken, packet_answere
 use Rattle.feed_text.specs.Emitted.{stream_length, gap_event, gap_emitted, EmitsPacket, EmitsAt, EmitsRecord, Emits}
 use Rattle.feed_text.specs.Texts.{EmitsAll}
 use Rattle.feed_text.specs.VenueItems.{taken_by, items_taken}
-use Rattle.feed_text.proofs.Telling.{get_set_same, get_set_other, same_or_not}
+use Rattle.feed_text.specs.laws.Lists.{get_set_same, get_set_other, same_or_not}
 
 -- ---- what came to a venue
 

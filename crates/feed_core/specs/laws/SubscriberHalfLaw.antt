@@ -13,8 +13,8 @@ use Rattle.feed_core.specs.SubscriberHalf.{SubscriberHalf}
 use Rattle.journal_book.specs.Prefixes.{wanted_begin}
 use Rattle.journal_book.specs.Rising.{wanted_rise}
 use Rattle.feed_core.specs.laws.Lists.{begins_self, begins_then, begins_drop}
-use Rattle.feed_core.proofs.Lanes.{Serves, serve_in, serve_out, serve_more}
-use Rattle.feed_core.proofs.KeptSubscribers.{run_keeps}
+use Rattle.feed_core.specs.laws.Lanes.{Serves, serve_in, serve_out, serve_more}
+use Rattle.feed_core.specs.laws.KeptSubscribers.{run_keeps}
 
 rise_front : (n : ℕ) (xs ys : List Notice) → RisesPast n (xs ++ ys) → RisesPast n xs
 rise_front n [] ys h = tt

@@ -28,8 +28,8 @@ use Rattle.feed_core.specs.Steps.{AddsArrival, AddsRenewal}
 use Rattle.feed_core.specs.Runs.{IsRun}
 use Rattle.feed_core.specs.VenueHalf.{BringsOnly, BringOnly, AreSession, VenueHalf}
 use Rattle.feed_core.specs.laws.Lists.{begins_self, begins_then, begins_len, begins_all}
-use Rattle.feed_core.proofs.Lanes.{Serves, serve_in, serve_out, serve_more, serve_all}
-use Rattle.feed_core.proofs.KeptVenues.{MoveKept, EachVenue, run_keeps}
+use Rattle.feed_core.specs.laws.Lanes.{Serves, serve_in, serve_out, serve_more, serve_all}
+use Rattle.feed_core.specs.laws.KeptVenues.{MoveKept, EachVenue, run_keeps}
 
 -- a session that is over: each packet was answered by the definitions, and all of its messages came
 pub record IsOver (window : ℕ) (b : Begun) : Type 0 where

@@ -10,10 +10,10 @@ use Rattle.feed_core.specs.Runs.{IsRun}
 use Rattle.feed_core.specs.VenueHalf.{AreVenueItems}
 use Rattle.feed_core.specs.SubscriberHalf.{AreNotices}
 use Rattle.feed_core.specs.Headline.{Headline, ShownVenue, ShownSubscriber, Shown, shown_venue, shown_subscriber, IsRunOf, ShownVenueHalf, ShownSubscriberHalf, ShowsHeadline}
-use Rattle.feed_core.proofs.VenueHalfLaw.{venue_half}
-use Rattle.feed_core.proofs.SubscriberHalfLaw.{subscriber_half}
-use Rattle.feed_core.proofs.FirstNames.{first_through}
-use Rattle.feed_core.proofs.KeptTerms.{terms_in_turn}
+use Rattle.feed_core.specs.laws.VenueHalfLaw.{venue_half}
+use Rattle.feed_core.specs.laws.SubscriberHalfLaw.{subscriber_half}
+use Rattle.feed_core.specs.laws.FirstNames.{first_through}
+use Rattle.feed_core.specs.laws.KeptTerms.{terms_in_turn}
 
 pub headline : (s : Setting) (events : List Event) (ds : List Done) (w : World) → IsRun s (new_world s) events ds w
     → Headline s events w
