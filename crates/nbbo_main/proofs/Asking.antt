@@ -7,7 +7,7 @@ use Rattle.clap.specs.Walk.{Row, Text}
 use Rattle.clap.specs.Faults.{fault_of}
 use Rattle.clap.specs.declared.error.kind.ErrorKind.{ErrorKind}
 use Rattle.clap.specs.declared.error.kind.ErrorKind.TheVariants.{DisplayHelp, DisplayVersion, OutOfMemory}
-use Rattle.nbbo_main.specs.CommandLine.{GivesNone, IsCount, IsRefused, IsWindowOf, RefusesBy, list_in, refusal_by, symbol_words_in, symbols_refusal_by}
+use Rattle.nbbo_main.specs.CommandLine.{GivesNone, IsCount, IsGivenCount, IsRefused, IsWindowOf, RefusesBy, list_in, refusal_by, symbol_words_in, symbols_refusal_by}
 use Rattle.nbbo_main.specs.Commands.{nbbo_app}
 use Rattle.nbbo_main.specs.Sessions.{sessions_in}
 use Rattle.nbbo_main.specs.declared.sessions.SessionsFault.{SessionsFault}
@@ -51,6 +51,16 @@ IsCount-read (Some t) n none value = λ numeral few. value t refl
 pub IsCount-none : (text : Option Text) → ((t : Text) → text ≡ Some t → IsNumeral 10 (without_leading_plus t) × (number_of t < 2 ^ 32) → ⊥) → IsCount text 1000000
 IsCount-none None unread = refl
 IsCount-none (Some t) unread = λ numeral few. absurd (unread t refl (numeral, omega arith))
+
+-- a number that was read is the one that is given
+pub IsGivenCount-read : (text : Option Text) (n : ℕ) → (text ≡ None → Some n ≡ None) → ((t : Text) → text ≡ Some t → n ≡ number_of t) → IsGivenCount text (Some n)
+IsGivenCount-read None n none value = absurd (not_some n (none refl))
+IsGivenCount-read (Some t) n none value = λ numeral few. ap (λ (m : ℕ). Some m) (value t refl)
+
+-- and where none was read
+pub IsGivenCount-none : (text : Option Text) → ((t : Text) → text ≡ Some t → IsNumeral 10 (without_leading_plus t) × (number_of t < 2 ^ 32) → ⊥) → IsGivenCount text None
+IsGivenCount-none None unread = refl
+IsGivenCount-none (Some t) unread = λ numeral few. absurd (unread t refl (numeral, omega arith))
 
 -- a fault of the symbols is the refusal, where the list of sessions is right
 pub GivesNone-symbols : (rows : List Row) (words sessions : List Text) (fault : SymbolsFault) → words ≡ symbol_words_in rows → sessions_in (list_in rows) ≡ Ok sessions → HasSymbolsFault words fault → GivesNone rows (symbols_refusal_by fault)

@@ -69,6 +69,13 @@ IsCount (Some text) count =
     let number = digits_value 10 (without_leading_plus text) in
     IsNumeral 10 (without_leading_plus text) → number ≤ 4294967295 → count ≡ number
 
+-- the number that a text gives, where there is one: the number that it is, up to 4294967295
+abbrev pub IsGivenCount : Option Text → Option ℕ → Type 0
+IsGivenCount None count = count ≡ None
+IsGivenCount (Some text) count =
+    let number = digits_value 10 (without_leading_plus text) in
+    IsNumeral 10 (without_leading_plus text) → number ≤ 4294967295 → count ≡ Some number
+
 -- a flag that is given has the value true, and one that isn't has the value false
 pub record IsFlag (text : Option Text) (flag : Bool) : Type 0 where
   pub given : text ≡ Some (codes "true") → flag ≡ true
@@ -92,6 +99,7 @@ pub record GivesListening (rows : List Row) (settings : ListenSettings) : Type 0
   pub window : IsWindowOf (one_of (codes "window") rows) settings.window
   pub journal : IsCount (one_of (codes "journal") rows) settings.journal
   pub datagrams : IsCount (one_of (codes "datagrams") rows) settings.datagrams
+  pub buffer : IsGivenCount (one_of (codes "buffer") rows) settings.buffer
 
 -- The symbols are wrong, where the list of sessions is right: that is looked at first.
 abbrev pub GivesNoSymbols : List Row → SymbolsFault → Type 0

@@ -56,6 +56,14 @@ datagrams_rule = record (new_rule (codes "datagrams")) {
   defaults = codes "1000000" ∷ [];
 }
 
+-- --buffer BYTES, a number from 1 to 1073741823
+abbrev pub buffer_rule : Rule
+buffer_rule = record (new_rule (codes "buffer")) {
+  long = Some (codes "buffer");
+  value_names = 1;
+  parser = Some (Signed (pos 1) (pos 1073741823));
+}
+
 -- --gaps
 abbrev pub gaps_rule : Rule
 gaps_rule = record (new_rule (codes "gaps")) { long = Some (codes "gaps"); action = Some SetTrue }
@@ -87,7 +95,7 @@ abbrev pub counts_app : App
 counts_app = with_rule (with_rule (with_rule lines_app window_rule) journal_rule) datagrams_rule
 
 abbrev pub listen_app : App
-listen_app = with_rule counts_app symbols_rule
+listen_app = with_rule (with_rule counts_app buffer_rule) symbols_rule
 
 -- the program without its subcommands, which then does nothing
 abbrev pub program_app : App

@@ -2,6 +2,7 @@ pub mod Addresses
 pub mod CommandLine
 pub mod Commands
 pub mod Ending
+pub mod Hints
 pub mod Listening
 pub mod Runs
 pub mod Sessions

@@ -12,6 +12,7 @@ use Rattle.live_feed.specs.declared.run.report.Stop.TheVariants as stops
 use Rattle.live_feed.specs.settle.Settlements.{SettlementState, VenueEndState, SubscriberEndState}
 use Rattle.nbbo_main.specs.Runs.{Says}
 use Rattle.nbbo_main.specs.UdpLines.{UdpLineState}
+use Rattle.nbbo_main.specs.declared.lack.Lack.{Lack}
 use Rattle.nbbo_main.specs.declared.listen_settings.ListenSettings.{ListenSettings}
 use Rattle.nbbo_main.specs.declared.listening.ListenFault.{ListenFault}
 use Rattle.nbbo_main.specs.declared.listening.ListenFault.TheVariants.{NoMemory, Unsettled}
@@ -34,6 +35,7 @@ pub record IsSourceOf (settings : ListenSettings) (venue : ℕ) (line : UdpLineS
   pub venue_is : line.venue ≡ venue
   pub left : line.left ≡ settings.datagrams
   pub whole : line.failed ≡ false
+  pub unended : line.ended ≡ false
 
 -- the line of an address: line A's and then line B's, those of venue 0 first
 abbrev pub line_at : ℕ → LineId
@@ -77,9 +79,36 @@ failed_tail A = codes " A failed\n"
 failed_tail B = codes " B failed\n"
 failed_tail Recovery = codes " R failed\n"
 
--- the texts of a line that failed: the venue's number, and the line's letter
+-- what became of a line: the venue's number, and a text with the line's letter
+abbrev pub line_texts : ℕ → List ℕ → List (List ℕ)
+line_texts venue tail = codes "nbbo: line " ∷ decimal venue ∷ tail ∷ []
+
+-- a line failed
 abbrev pub failed_texts : ℕ × LineId → List (List ℕ)
-failed_texts line = codes "nbbo: line " ∷ decimal line.0 ∷ failed_tail line.1 ∷ []
+failed_texts line = line_texts line.0 (failed_tail line.1)
+
+abbrev pub read_out_tail : LineId → List ℕ
+read_out_tail A = codes " A ended by --datagrams\n"
+read_out_tail B = codes " B ended by --datagrams\n"
+read_out_tail Recovery = codes " R ended by --datagrams\n"
+
+-- a line has read as many datagrams as it may
+abbrev pub read_out_texts : ℕ × LineId → List (List ℕ)
+read_out_texts line = line_texts line.0 (read_out_tail line.1)
+
+abbrev pub messages_text : ℕ → List ℕ
+messages_text count = if count == 1 then codes " message from " else codes " messages from "
+
+-- what a venue lacks: its number, then how many messages, and the first of them
+abbrev pub lacking_texts : ℕ → List (List ℕ)
+lacking_texts venue = codes "nbbo: venue " ∷ decimal venue ∷ codes " lacks " ∷ []
+
+abbrev pub missing_texts : ℕ → ℕ → List (List ℕ)
+missing_texts count number =
+    decimal count ∷ messages_text count ∷ decimal number ∷ codes "\n" ∷ []
+
+abbrev pub lack_texts : Lack → List (List ℕ)
+lack_texts lack = lacking_texts lack.venue ++ missing_texts lack.count lack.number
 
 abbrev pub stop_text : Stop → List ℕ
 stop_text stops.JournalFull = codes "nbbo: journal full; --journal gives it more room\n"
@@ -93,10 +122,12 @@ stop_texts (Some stop) = stop_text stop ∷ []
 
 -- ---- the end
 
--- the texts of a report: the lines that failed, and why it stopped early
+-- what is said of a report: the lines that failed, why it stopped early, the lines that have read as
+-- many datagrams as they may, and what venues lack
 abbrev pub report_texts : ListenReport → List (List ℕ)
 report_texts report =
-    flat_map failed_texts report.failed.items ++ stop_texts report.stopped
+    (flat_map failed_texts report.failed.items ++ stop_texts report.stopped)
+    ++ (flat_map read_out_texts report.read_out.items ++ flat_map lack_texts report.lacking.items)
 
 -- 0 where no line failed and nothing stopped the run early
 abbrev pub report_status : List (ℕ × LineId) → Option Stop → ℕ

@@ -5,7 +5,7 @@ ghost use Rattle.clap.specs.Simple.{subcommand_of, subcommand_rows_of};
 ghost use Rattle.clap.specs.Values.{kind_of};
 ghost use Rattle.clap.specs.Walk.{first_of, one_of, rows_of};
 ghost use Rattle.nbbo_main.specs.Addresses.{HasLinesFault, NameLines, NamesNoRequest, NamesRequest};
-ghost use Rattle.nbbo_main.specs.CommandLine.{Asks, Gives, GivesListening, GivesNoListening, GivesNone, IsCount, IsFlag, IsRefused, IsAccepted, IsWindowOf, RefusesBy, lines_in, symbol_words_in};
+ghost use Rattle.nbbo_main.specs.CommandLine.{Asks, Gives, GivesListening, GivesNoListening, GivesNone, IsCount, IsFlag, IsGivenCount, IsRefused, IsAccepted, IsWindowOf, RefusesBy, lines_in, symbol_words_in};
 ghost use Rattle.nbbo_main.specs.Commands.{nbbo_app};
 ghost use Rattle.nbbo_main.specs.Symbols.{HasSymbolsFault, NameSymbols};
 
@@ -109,6 +109,16 @@ fn text_of<'a>(options: &ArgMatches<'a>, name: &str) -> &'a str
     }
 }
 
+/// The number that the option of this name gives, if it is given.
+fn given_count_of(options: &ArgMatches<'_>, name: &str) -> Option<u32>
+    ensures { IsGivenCount (one_of name.now (rows_of (found_of options.now))) result }
+{
+    match options.get_one::<u32>(name) {
+        Some(count) => Some(count),
+        None => None,
+    }
+}
+
 /// Whether gaps are printed.
 fn gaps_of(replay: &ArgMatches<'_>) -> bool
     ensures { IsFlag (one_of (codes "gaps") (rows_of (found_of replay.now))) result }
@@ -170,6 +180,7 @@ fn listening_of(alloc: Global, listen: &ArgMatches<'_>) -> Result<ListenSettings
         window: window_of(listen),
         journal: count_of(listen, "journal"),
         datagrams: count_of(listen, "datagrams"),
+        buffer: given_count_of(listen, "buffer"),
     })
 }
 

@@ -3,10 +3,10 @@ ghost use Rattle.std.specs.Prelude.{◌≡◌, IfOk, false, codes};
 ghost use Rattle.clap.specs.Simple.{app_of, new_app};
 ghost use Rattle.clap.specs.Walk.{rule_of};
 ghost use Rattle.clap.specs.declared.builder.command.Command.TheViews.{out-Command as fields_of};
-ghost use Rattle.nbbo_main.specs.Commands.{counts_app, datagrams_rule, gaps_rule, journal_rule, lines_app, lines_rule, listen_app, nbbo_app, options_app, program_app, replay_app, replaying_app, request_rule, sessions_rule, symbols_rule, window_rule};
+ghost use Rattle.nbbo_main.specs.Commands.{buffer_rule, counts_app, datagrams_rule, gaps_rule, journal_rule, lines_app, lines_rule, listen_app, nbbo_app, options_app, program_app, replay_app, replaying_app, request_rule, sessions_rule, symbols_rule, window_rule};
 
 use crate::help_texts::{
-    ABOUT, DATAGRAMS_HELP, EXAMPLE, GAPS_HELP, JOURNAL_HELP, LINES_HELP, LISTEN_ABOUT,
+    ABOUT, BUFFER_HELP, DATAGRAMS_HELP, EXAMPLE, GAPS_HELP, JOURNAL_HELP, LINES_HELP, LISTEN_ABOUT,
     LISTEN_EXAMPLE, LISTEN_LINES, LISTEN_LONG_ABOUT, LISTEN_USAGE, REPLAY_ABOUT, REPLAY_EXAMPLE,
     REPLAY_LINES, REPLAY_LONG_ABOUT, REPLAY_USAGE, REQUEST_HELP, SESSIONS_HELP, SYMBOLS_HELP,
     VERSION, WINDOW_HELP,
@@ -86,6 +86,18 @@ fn datagrams_option<'a>(alloc: Global) -> Arg<'a>
         .default_value("1000000")
         .help("How many datagrams a line reads at most, 0 to 4294967295")
         .long_help(DATAGRAMS_HELP)
+}
+
+fn buffer_option<'a>(alloc: Global) -> Arg<'a>
+    ensures rule { rule_of result ≡ buffer_rule }
+    ensures local { result.global ≡ false }
+{
+    Arg::new(alloc, "buffer")
+        .long("buffer")
+        .value_name("BYTES")
+        .value_parser(value_parser!(u32).range(1..=1073741823))
+        .help("How large a buffer to ask for at each line's socket, 1 to 1073741823 bytes")
+        .long_help(BUFFER_HELP)
 }
 
 fn gaps_flag<'a>(alloc: Global) -> Arg<'a>
@@ -182,7 +194,9 @@ fn listen_command<'a>(alloc: Global) -> Result<Command<'a>, AllocError>
     ensures app { IfOk result (λ c. app_of c ≡ listen_app) }
     ensures local { IfOk result (λ c. (fields_of c).has_globals ≡ false) }
 {
-    counts_command(alloc)?.arg(symbols_argument(alloc))
+    counts_command(alloc)?
+        .arg(buffer_option(alloc))?
+        .arg(symbols_argument(alloc))
 }
 
 /// The program without its subcommands.

@@ -129,21 +129,28 @@ Status:
 pub const LINES_HELP: &str = "\
 Where the lines are received: two addresses for each venue, line A's and then line
 B's, venue 0's first, parted by commas. An address is an IP address of this machine
-and a port, as 127.0.0.1:7001 or [::1]:7001; with 0.0.0.0 all of its addresses. A line
-whose datagrams come by multicast needs a relay that has joined the group: see below";
+and a port, as 127.0.0.1:7001 or [::1]:7001; with 0.0.0.0 all of its addresses. For a
+line whose datagrams come by multicast it is the group's, which the system has to have
+joined before: see below";
 
 pub const REQUEST_HELP: &str = "\
 Where messages that are missing are asked for: the address of a retransmission server.
 A request goes there from the socket of the line that found the gap, at once, and again
 while the gap stands, with the venue's next datagram that comes 250 ms or more later,
-from the line that it came on. A reply is read on the line that asked. Without this
-option nothing is asked for";
+from the line that it came on. A reply is read on the line that asked. A fault of the
+socket at a request ends the line that asks, as where the port is 0 or the address is of
+another version of IP than the line. Without this option nothing is asked for";
 
 pub const DATAGRAMS_HELP: &str = "\
 How many datagrams a line reads at most: 0 to 4294967295. A line also ends after a
 datagram that is an end of session, of whichever session";
 
-/// `listen`, in one line.
+pub const BUFFER_HELP: &str = "\
+How many bytes of room to ask for in each line's socket, where the system keeps what has
+come until it is read: 1 to 1073741823. Standard error says how many there are then; the
+system gives no more than its own limit. Without this option it is the system's default";
+
+/// `listen`, in a line.
 pub const LISTEN_ABOUT: &str = "Listens on the lines of live venues and prints what they came to";
 
 pub const LISTEN_LONG_ABOUT: &str = "\
@@ -184,23 +191,32 @@ Then send it a capture, each datagram to its line, and an end to each line:
       127.0.0.1:7001,127.0.0.1:7002,127.0.0.1:7003,127.0.0.1:7004 --end \
       < examples/two-venues.capture
 
-Multicast groups are not joined. A relay for each line that has joined its group can send on what
-it receives:
-  socat -u -b 65535 \
-      UDP4-RECV:26400,bind=233.54.12.111,ip-add-membership=233.54.12.111:eth0,reuseaddr \
-      UDP4-SENDTO:127.0.0.1:7001
-With bind it takes its own group alone, where others use the same port; with -b it cuts no
-datagram.
+Multicast groups are not joined by the program, but by the system: as root, once a group, on the
+interface that it comes by:
+  ip address add 239.1.1.1/32 dev eth0 autojoin
+Then --lines 239.1.1.1:26400,.. receives what is sent to that group and port, and nothing else.
+
+What a sender does at the end: messages that are missing are asked for after a datagram has come,
+and once more with one that comes 250 ms or more later. So that what both lines lost of the last
+messages is asked for and can be sent again, it sends heartbeats for some seconds, one in each at
+least, before it sends the end of session. What is missing all the same is told.
 
 A line's socket has the system's default buffer, often with room for some 250 small datagrams;
-more are dropped while its thread waits for a processor. For more room, as root, beforehand:
-  sysctl -w net.core.rmem_default=4194304
+more are dropped while its thread waits for a processor. --buffer asks for more room; where that
+says that the system allows no more, as root, beforehand:
+  sysctl -w net.core.rmem_max=4194304
 
 A first interrupt from the keyboard ends the program at once, and nothing is printed: what
 was taken is not kept. To have it printed, send each line an end of session.
 
 Status:
-  0  all lines ended and what they came to was printed, or help was shown
+  0  all lines ended and what they came to was printed, or help was shown. Standard error says
+     what else is to be known:
+       line V L ended by --datagrams
+                        the line has read as many datagrams as it may
+       venue V lacks COUNT messages from NUMBER
+                        they never came, though later ones did: the first that are missing, as far
+                        as the window goes. Nothing past them was printed
   1  standard error says what went wrong:
        line V L failed  the line's socket gave a fault, and that line ended there; the others
                         went on, and what they brought was printed

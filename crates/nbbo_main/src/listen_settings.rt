@@ -23,6 +23,8 @@ pub struct ListenSettings {
     pub journal: u32,
     /// The most datagrams that a line reads.
     pub datagrams: u32,
+    /// How many bytes a socket's buffer is asked for, if any number.
+    pub buffer: Option<u32>,
     ghost some_venues: { 1 ≤ vec_len sessions },
     ghost few_venues: { vec_len sessions ≤ 16 },
     ghost two_lines_each: { vec_len lines ≡ 2 * vec_len sessions },

@@ -2,6 +2,7 @@
 ghost use Rattle.std.specs.Prelude.{◌≡◌, ◌/◌, ◌≤◌, IfOk, OnErr};
 ghost use Rattle.nbbo_main.specs.Listening.{IsFeedOf, IsSourceOf, line_at};
 
+use crate::lack::Lack;
 use crate::listen_settings::ListenSettings;
 use crate::udp_line::UdpLine;
 use feed_types::{Anything, FeedConfig, LineId, VenueId};
@@ -38,7 +39,11 @@ pub struct ListenReport {
     pub failed: Vec<(VenueId, LineId)>,
     /// Why the run stopped early, if it did.
     pub stopped: Option<Stop>,
-    /// The settlement of the feed.
+    /// The lines that have read as many datagrams as they may, in the order of the settings.
+    pub read_out: Vec<(VenueId, LineId)>,
+    /// What is missing, of each venue that lacks anything.
+    pub lacking: Vec<Lack>,
+    /// What was taken, and what became of it.
     pub settlement: Settlement,
 }
 
@@ -94,25 +99,53 @@ fn line_over<N: FeedName, C: Clock + Drop>(
     }
 }
 
-/// Splits lines that have ended in their seats and the list of those that failed.
-fn part_lines<N: FeedName, S: Drop>(
+/// Appends it to the list. NoMemory where memory was refused.
+fn append<T: Drop>(list: &mut Vec<T>, item: T) -> Result<(), ListenFault> {
+    match list.push(item) {
+        Ok(()) => Ok(()),
+        Err(_) => Err(ListenFault::NoMemory),
+    }
+}
+
+/// What is left of the lines of a run.
+#[derive(Drop)]
+struct Ended<N> {
+    /// Their seats.
+    seats: Vec<LineSeat<Anything, N>>,
+    /// Those that failed.
+    failed: Vec<(VenueId, LineId)>,
+    /// Those that have read as many datagrams as they may.
+    read_out: Vec<(VenueId, LineId)>,
+}
+
+/// Parts lines that have ended.
+fn part_lines<N: FeedName, C: Drop>(
     alloc: Global,
-    ends: Vec<LineEnd<Anything, N, S>>,
-) -> Result<(Vec<LineSeat<Anything, N>>, Vec<(VenueId, LineId)>), ListenFault> {
+    ends: Vec<LineEnd<Anything, N, UdpLine<C>>>,
+) -> Result<Ended<N>, ListenFault> {
     let mut seats = Vec::with_capacity(alloc, ends.len())?;
     let mut failed = Vec::new(alloc);
+    let mut read_out = Vec::new(alloc);
     for end in ends {
-        let LineEnd { seat, fault, .. } = end;
+        let LineEnd {
+            seat,
+            source,
+            fault,
+            ..
+        } = end;
         if fault.is_some() {
-            if failed.push((seat.venue(), seat.line())).is_err() {
-                return Err(ListenFault::NoMemory);
-            }
+            append(&mut failed, (seat.venue(), seat.line()))?;
         }
-        if seats.push(seat).is_err() {
-            return Err(ListenFault::NoMemory);
+        if source.is_read_out() {
+            append(&mut read_out, (seat.venue(), seat.line()))?;
         }
+        append(&mut seats, seat)?;
     }
-    Ok((seats, failed))
+    Ok(Ended {
+        seats,
+        failed,
+        read_out,
+    })
 }
 
 fn fault_of(fault: SettleFault) -> ListenFault {
@@ -166,11 +199,22 @@ where
     let Ok(report) = feed.run(rt, alloc, lines, subscribers) else {
         return Err(ListenFault::NoMemory);
     };
-    let (seats, failed) = part_lines(alloc, report.lines)?;
-    match feed.settle(rt, alloc, seats, report.subscribers) {
+    let mut lacking = Vec::new(alloc);
+    for place in 0..settings.sessions.len() {
+        let Some(venue) = VenueId::from_index(place) else {
+            break;
+        };
+        if let Ok(Some(gap)) = feed.due(rt, venue, u64::MAX) {
+            append(&mut lacking, Lack::of(venue, &gap))?;
+        }
+    }
+    let ended = part_lines(alloc, report.lines)?;
+    match feed.settle(rt, alloc, ended.seats, report.subscribers) {
         Ok(settlement) => Ok(ListenReport {
-            failed,
+            failed: ended.failed,
             stopped: report.stopped,
+            read_out: ended.read_out,
+            lacking,
             settlement,
         }),
         Err(unsettled) => Err(fault_of(unsettled.fault)),

@@ -5,14 +5,14 @@
 //! a capture is and what its lines are.
 //!
 //! `nbbo listen --sessions LIST --lines LIST [--request ADDR] [--window N] [--journal N]
-//! [--datagrams N] [SYMBOL]...` receives the lines of live venues by UDP, runs them as a live feed
-//! (`live_feed`), and prints its report once all have ended.
+//! [--datagrams N] [--buffer BYTES] [SYMBOL]...` receives the lines of live venues by UDP, runs them as a live feed
+//! (`live_feed`), and prints what they came to once all have ended.
 //!
-//! The contract here is that of `run::run`: of any words, over any input, output and standard
-//! error, it says what is read, what is written where, and the status, or that the words ask to
-//! listen (`specs/Runs.antt`). Not part of it are, in this file, the opening of the three streams
-//! and of the sockets, the words as the system gives them, and the exit; and listening itself
-//! (`listen.rt`), which tests show.
+//! The contract here is that of `run::run`: of any words, over any input, output and standard error,
+//! it says what is read, what is written where, and the status, or that the words ask to listen
+//! (`specs/Runs.antt`). Outside of it stand, in this file, the opening of the three streams and of
+//! the sockets, the words as the system gives them, what a terminal is told beside it (`hints.rt`),
+//! and the exit; and listening itself (`listen.rt`), which tests show.
 //!
 //! Begin with `run.rt`, then `specs/CommandLine.antt` and `command_line.rt`; `listen.rt` and
 //! `listening.rt` for live lines. `ending.rt` has the texts of faults.
@@ -26,6 +26,9 @@ mod command_line;
 mod commands;
 mod ending;
 mod help_texts;
+mod hints;
+mod kept_start;
+mod lack;
 mod listen;
 mod listen_lines;
 mod listen_settings;
@@ -34,6 +37,7 @@ mod refusal;
 mod replay_settings;
 mod run;
 mod sessions;
+mod socket_buffers;
 mod sockets;
 mod summary;
 mod symbols;
@@ -41,16 +45,21 @@ mod task;
 mod udp_line;
 
 use feed_text::count::Count;
-use feed_text::devices::TextOut;
+use feed_text::devices::{CaptureIn, TextOut};
 use feed_text::system::{StreamIn, StreamOut};
 use filter_terms::Terms;
+use hints::{format_hint, hint_at_file};
+use kept_start::KeptStart;
 use listen::{NO_MEMORY, listen_with};
 use listen_settings::ListenSettings;
 use refusal::Refusal;
 use run::{Next, refuse, run, write_stderr};
+use socket_buffers::enlarge;
 use sockets::{bind_sockets, listening_line};
+use std::alloc::{AllocError, Global};
 use std::io::{ErrorKind, IsTerminal, Stderr, Stdin, Stdout};
 use std::marker::Brand;
+use std::net::UdpSocket;
 use std::process::ExitCode;
 use std::sync::Wait;
 use std::sync::ledger::{Blank, Ledger};
@@ -97,30 +106,72 @@ fn run_streams<H: Threads + Wait + Sync, C: Ledger, R: Ledger, W: Ledger, E: Led
     requires error_parts { of_errors.parts ≡ E.parts }
     requires some_errors { 0 < of_errors.parts }
 {
-    let at_terminal = rt.stdin().is_terminal();
-    let mut input: StreamIn<Stdin, C, R> = StreamIn::new(
+    let input: StreamIn<Stdin, C, R> = StreamIn::new(
         rt.stdin(),
         Count::new(of_calls),
         Count::new(of_reads),
     );
     let mut output: StreamOut<Stdout, W> = StreamOut::new(rt.stdout(), Count::new(of_writes));
     let mut errors: StreamOut<Stderr, E> = StreamOut::new(rt.stderr(), Count::new(of_errors));
+    run_words(
+        rt,
+        threads,
+        &mut KeptStart::new(input),
+        &mut output,
+        &mut errors,
+    )
+}
+
+/// Does what the words of the command line ask for, and gives the status of the program. Where standard error is a
+/// terminal it is also told what was probably meant.
+fn run_words<H: Threads + Wait + Sync, R: CaptureIn, W: TextOut, E: TextOut>(
+    rt: &HostRuntime,
+    threads: &H,
+    input: &mut KeptStart<R>,
+    output: &mut W,
+    errors: &mut E,
+) -> u8 {
     let words = match words_of(rt) {
         Ok(words) => words,
-        Err(error) => return refuse(&unread(error.kind()), &mut output, &mut errors),
+        Err(error) => return refuse(&unread(error.kind()), output, errors),
     };
-    let next = run(
+    let hints = rt.stderr().is_terminal();
+    if hints {
+        hint_at_file(rt, words.as_slice(), errors);
+    }
+    let at_terminal = rt.stdin().is_terminal();
+    match run(
         rt.alloc(),
         words.as_slice(),
         at_terminal,
-        &mut input,
-        &mut output,
-        &mut errors,
-    );
-    match next {
-        Next::Ended(status) => status,
-        Next::Listens(settings) => listen_live(rt, threads, &settings, &mut output, &mut errors),
+        input,
+        output,
+        errors,
+    ) {
+        Next::Ended(status) => {
+            if hints {
+                write_stderr(format_hint(input.start()), errors);
+            }
+            status
+        }
+        Next::Listens(settings) => listen_live(rt, threads, &settings, output, errors),
     }
+}
+
+/// Says where the sockets listen, and how large their buffers are where a size was asked for.
+fn tell_sockets<E: TextOut>(
+    alloc: Global,
+    settings: &ListenSettings,
+    sockets: &[UdpSocket],
+    errors: &mut E,
+) -> Result<(), AllocError> {
+    let line = listening_line(alloc, sockets, settings.lines.as_slice())?;
+    write_stderr(line.as_str(), errors);
+    if let Some(bytes) = settings.buffer {
+        let line = enlarge(alloc, sockets, bytes)?;
+        write_stderr(line.as_str(), errors);
+    }
+    Ok(())
 }
 
 /// Listens on the lines of the settings.
@@ -138,12 +189,9 @@ fn listen_live<H: Threads + Wait + Sync, W: TextOut, E: TextOut>(
             return 1;
         }
     };
-    match listening_line(rt.alloc(), sockets.as_slice(), settings.lines.as_slice()) {
-        Ok(line) => write_stderr(line.as_str(), errors),
-        Err(_) => {
-            write_stderr(NO_MEMORY, errors);
-            return 1;
-        }
+    if tell_sockets(rt.alloc(), settings, sockets.as_slice(), errors).is_err() {
+        write_stderr(NO_MEMORY, errors);
+        return 1;
     }
     listen_with(
         threads,

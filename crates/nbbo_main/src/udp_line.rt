@@ -1,9 +1,9 @@
 //! A line that is received by UDP.
-ghost use Rattle.std.specs.Prelude.{◌≡◌, ◌≢◌, ◌+◌, ◌*◌, ◌/◌, ◌-◌, ◌^◌, ◌≤◌, ◌⊎◌, ◌↔◌, min, IfOk, IfErr, IfSome, IsTrue, Ok, Some, None, false, length};
+ghost use Rattle.std.specs.Prelude.{◌≡◌, ◌≢◌, ◌+◌, ◌*◌, ◌/◌, ◌-◌, ◌^◌, ◌≤◌, ◌⊎◌, ◌↔◌, min, IfOk, IfErr, IsTrue, OnErr, Ok, Some, None, true, false, length};
 ghost use Rattle.std.specs.Duration.{as_nanos};
 ghost use Rattle.live_feed.specs.venue.Datagrams.{bytes_of};
 ghost use Rattle.live_feed.specs.run.Runs.{failures_after};
-ghost use Rattle.nbbo_main.specs.UdpLines.{IsOver, SpellsEnd, failures_of};
+ghost use Rattle.nbbo_main.specs.UdpLines.{IsOver, SpellsEnd, failures_of, is_read_out};
 ghost use Rattle.live_feed.specs.declared.run.source.SourceFault.TheVariants.{NoMemory};
 
 use feed_types::{Anything, VenueId};
@@ -40,8 +40,7 @@ pub struct UdpLine<C> {
     moment_ms: u64,
     to_read: u32,
     broken: bool,
-    /// What the socket has brought for the next call: a datagram, or why there is none.
-    heard: Option<Result<Datagram, SourceFault>>,
+    at_end: bool,
     alloc: Global,
     buffer: Vec<u8>,
 }
@@ -51,7 +50,12 @@ impl<C> Model for UdpLine<C> {
 
     ghost Value = { UdpLineState };
 
-    ghost view = { λ l. record { venue = l.line_venue; left = l.to_read; failed = l.broken } };
+    ghost view = { λ l. record {
+      venue = l.line_venue;
+      left = l.to_read;
+      failed = l.broken;
+      ended = l.at_end;
+    } };
 }
 
 /// Waits a while for a datagram, puts it at the front of the buffer, and returns how many bytes it has; None where none
@@ -149,6 +153,7 @@ impl<C: Drop> UdpLine<C> {
         ensures venue { IfOk result (λ line. line.venue ≡ venue) }
         ensures left { IfOk result (λ line. line.left ≡ datagrams) }
         ensures whole { IfOk result (λ line. line.failed ≡ false) }
+        ensures unended { IfOk result (λ line. line.ended ≡ false) }
     {
         let _ = socket.set_read_timeout(Some(Duration::from_millis(WAIT_MS)));
         Ok(UdpLine {
@@ -159,7 +164,7 @@ impl<C: Drop> UdpLine<C> {
             moment_ms: 0,
             to_read: datagrams,
             broken: false,
-            heard: None,
+            at_end: false,
             alloc,
             buffer: vec![in alloc; 0; MAX_DATAGRAM]?,
         })
@@ -186,10 +191,13 @@ impl<C: Drop> UdpLine<C> {
         ensures over { result ≡ Ok None → IsOver self.old }
         ensures ended { IsOver self.old → (result ≡ Ok None) × (self.new ≡ self.old) }
         ensures last { (datagram : Datagram) → result ≡ Ok (Some datagram)
-            → SpellsEnd (bytes_of datagram) → self.new.left ≡ 0 }
+            → SpellsEnd (bytes_of datagram)
+            → (self.new.left ≡ 0) × (self.new.ended ≡ true) }
         ensures other { (datagram : Datagram) → result ≡ Ok (Some datagram)
-            → (SpellsEnd (bytes_of datagram) → ⊥) → self.new.left + 1 ≡ self.old.left }
+            → (SpellsEnd (bytes_of datagram) → ⊥)
+            → (self.new.left + 1 ≡ self.old.left) × (self.new.ended ≡ false) }
         ensures venue { self.new.venue ≡ self.old.venue }
+        ensures ended_by { OnErr result (self.new.ended ≡ self.old.ended) }
         ensures sound { IfOk result (λ _. failures_of self.new.failed ≡ failures_of self.old.failed) }
         ensures failed { IfErr result (λ fault. failures_of self.new.failed
             ≡ failures_after (failures_of self.old.failed) fault) }
@@ -201,26 +209,20 @@ impl<C: Drop> UdpLine<C> {
             if self.listen() {
                 break;
             }
-        }
-        match self.heard.take() {
-            Some(Ok(datagram)) => {
-                self.to_read = if is_end(datagram.bytes()) {
-                    0
-                } else {
-                    self.to_read - 1
-                };
-                Ok(Some(datagram))
-            }
-            Some(Err(SourceFault::NoMemory)) => Err(SourceFault::NoMemory),
-            Some(Err(fault)) => {
-                self.broken = true;
-                Err(fault)
-            }
-            None => {
-                self.broken = true;
-                Err(SourceFault::TooManyTurns)
-            }
-        }
+        };
+        let Ok(datagram) = datagram_of(self.alloc, &self.buffer[..count]) else {
+            return Err(SourceFault::NoMemory);
+        };
+        self.at_end = is_end(datagram.bytes());
+        self.to_read = if self.at_end { 0 } else { self.to_read - 1 };
+        Ok(Some(datagram))
+    }
+
+    /// Whether the line has ended since it has read as many datagrams as it may.
+    pub fn is_read_out(&self) -> bool
+        ensures { result ≡ is_read_out self.now }
+    {
+        !self.broken && !self.at_end && self.to_read == 0
     }
 }
 

@@ -1,15 +1,13 @@
-use Rattle.std.proofs.Common.{ℕ, List, flat_map, subst}
+use Rattle.std.proofs.Common.{flat_map, ◌++◌}
 use Rattle.feed_text.specs.Devices.{Writing}
-use Rattle.feed_types.specs.declared.line.LineId.{LineId}
-use Rattle.nbbo_main.specs.Listening.{SaysEach, failed_texts, stop_texts}
+use Rattle.nbbo_main.specs.Listening.{failed_texts, lack_texts, read_out_texts, stop_texts}
 use Rattle.nbbo_main.proofs.Reporting.{says_each}
 use Rattle.nbbo_main.proofs.listen_lines.write_report_lines.Goals as goal
 
 pub returns : goal.returns
 returns g c =
     let w : Writing g.row.E.Denot = record { adds = g.E.TextOut.adds; failures = g.E.TextOut.failures } in
-    says_each w (flat_map failed_texts c.args.report.now.failed.items) (stop_texts c.args.report.now.stopped)
-    c.args.errors.now c.write_each_failed.new.errors c.write_stop.new.errors
-    (subst (λ (lines : List (ℕ × LineId)). SaysEach w (flat_map failed_texts lines) c.args.errors.now c.write_each_failed.new.errors)
-    c.as_slice.ensures.value c.write_each_failed.ensures)
-    c.write_stop.ensures
+    let r = c.args.report.now in
+    says_each w (flat_map failed_texts r.failed.items ++ stop_texts r.stopped) (flat_map read_out_texts r.read_out.items ++ flat_map lack_texts r.lacking.items)
+    c.args.errors.now c.write_faults.new.errors c.write_gaps.new.errors
+    c.write_faults.ensures c.write_gaps.ensures

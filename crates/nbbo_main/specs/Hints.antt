@@ -1,0 +1,19 @@
+-- What a terminal is told of an input that is no capture of this project's own, by the number of its first four bytes,
+-- the first of them the highest.
+use Rattle.std.specs.Prelude.{ℕ, ◌/◌, ◌==◌, Bool, ◌||◌, List, [], codes, if◌then◌else◌}
+
+-- the first bytes of pcap, in either order of bytes, with microseconds and then with nanoseconds, and of pcapng
+abbrev pub is_packets : ℕ → Bool
+is_packets start =
+    (start == 3569595041)
+    || ((start == 2712847316)
+    || ((start == 1295823521) || ((start == 2712812621) || (start == 168627466))))
+
+-- one line, where the input is a packet capture or begins with the two bytes of gzip
+abbrev pub format_hint : ℕ → List ℕ
+format_hint start =
+    if is_packets start
+    then codes "nbbo: the input is a packet capture (pcap or pcapng), not a capture as 'nbbo replay --help' tells of\n"
+    else (if start / 65536 == 8075
+    then codes "nbbo: the input is in gzip; to unpack it write 'zcat FILE | nbbo replay ..'\n"
+    else [])

@@ -1,0 +1,57 @@
+//! The start of a capture, kept while it is read.
+ghost use Rattle.std.specs.Prelude.{◌≡◌};
+
+use feed_text::devices::{CaptureIn, ReadStop};
+
+/// The number of the first four bytes, the first of them the highest; 0 where there are fewer.
+fn word_of(bytes: &[u8]) -> u32 {
+    if bytes.len() < 4 {
+        return 0;
+    }
+    u32::from_be_bytes([bytes[0], bytes[1], bytes[2], bytes[3]])
+}
+
+/// What a capture is read from, and the first bytes that it gave.
+#[derive(Drop)]
+pub struct KeptStart<R> {
+    inner: R,
+    first: Option<u32>,
+}
+
+impl<R> KeptStart<R> {
+    /// Reads what the reader gives from here on.
+    pub fn new(inner: R) -> KeptStart<R> {
+        KeptStart { inner, first: None }
+    }
+
+    /// The number of the first four bytes that one call gave, the first of them the highest; 0 where there were fewer,
+    /// or none were read.
+    pub fn start(&self) -> u32 {
+        self.first.unwrap_or(0)
+    }
+}
+
+impl<R: CaptureIn> CaptureIn for KeptStart<R> {
+    ghost gives = { λ s n xs t. R.gives s.inner n xs t.inner };
+
+    ghost ends = { λ s t. R.ends s.inner t.inner };
+
+    ghost failures = { λ s. R.failures s.inner };
+
+    ghost gives_none = { λ s. R.gives_none s.inner };
+
+    ghost gives_more = { λ s t u m n xs ys a b.
+        R.gives_more s.inner t.inner u.inner m n xs ys a b };
+
+    fn read(&mut self, buf: &mut [u8]) -> Result<usize, ReadStop> {
+        match self.inner.read(buf) {
+            Ok(count) => {
+                if self.first.is_none() {
+                    self.first = Some(word_of(&buf[..count]));
+                }
+                Ok(count)
+            }
+            Err(stop) => Err(stop),
+        }
+    }
+}
