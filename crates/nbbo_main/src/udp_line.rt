@@ -1,5 +1,5 @@
 //! A line that is received by UDP.
-ghost use Rattle.std.specs.Prelude.{◌≡◌, ◌≢◌, ◌+◌, ◌*◌, ◌/◌, ◌-◌, ◌^◌, ◌≤◌, ◌⊎◌, ◌↔◌, min, IfOk, IfErr, IsTrue, OnErr, Ok, Some, None, true, false, length};
+ghost use Rattle.std.specs.Prelude.{◌≡◌, ◌≢◌, ◌+◌, ◌*◌, ◌/◌, ◌-◌, ◌^◌, ◌≤◌, ◌⊎◌, ◌↔◌, min, IfOk, IfErr, IfSome, IsTrue, OnErr, Ok, Some, None, true, false, length};
 ghost use Rattle.std.specs.Duration.{as_nanos};
 ghost use Rattle.live_feed.specs.venue.Datagrams.{bytes_of};
 ghost use Rattle.live_feed.specs.run.Runs.{failures_after};
@@ -18,10 +18,10 @@ use std::time::{Clock, Duration};
 /// The most bytes that a datagram can have.
 const MAX_DATAGRAM: usize = 65_535;
 
-/// The number of bytes of a request.
+/// How many bytes a request has.
 const REQUEST_LEN: usize = 20;
 
-/// The most times that one call asks the socket.
+/// How many times one call asks the socket at most.
 const MAX_TURNS: u32 = 1_000_000;
 
 /// How long a line waits for a datagram, in milliseconds, until a run may look whether it is to stop.
@@ -41,6 +41,8 @@ pub struct UdpLine<C> {
     to_read: u32,
     broken: bool,
     at_end: bool,
+    /// What the socket has brought for the next call: a datagram, or why there is none.
+    heard: Option<Result<Datagram, SourceFault>>,
     alloc: Global,
     buffer: Vec<u8>,
 }
@@ -165,6 +167,7 @@ impl<C: Drop> UdpLine<C> {
             to_read: datagrams,
             broken: false,
             at_end: false,
+            heard: None,
             alloc,
             buffer: vec![in alloc; 0; MAX_DATAGRAM]?,
         })
@@ -185,8 +188,8 @@ impl<C: Drop> UdpLine<C> {
     /// Receives the next datagram; None once the line has ended, and only then. An end of session ends it, and
     /// so does the last datagram that it may read.
     ///
-    /// Device where the socket failed, TooManyTurns where it was interrupted a million times: the
-    /// line has ended then. NoMemory where memory for the datagram was refused, which is lost then.
+    /// Device where the socket failed, TooManyTurns where it was interrupted a million times: the line has
+    /// ended then. NoMemory where memory for the datagram was refused, which is lost then.
     fn receive_next(&mut self) -> Result<Option<Datagram>, SourceFault>
         ensures over { result ≡ Ok None → IsOver self.old }
         ensures ended { IsOver self.old → (result ≡ Ok None) × (self.new ≡ self.old) }
@@ -209,13 +212,23 @@ impl<C: Drop> UdpLine<C> {
             if self.listen() {
                 break;
             }
-        };
-        let Ok(datagram) = datagram_of(self.alloc, &self.buffer[..count]) else {
-            return Err(SourceFault::NoMemory);
-        };
-        self.at_end = is_end(datagram.bytes());
-        self.to_read = if self.at_end { 0 } else { self.to_read - 1 };
-        Ok(Some(datagram))
+        }
+        match self.heard.take() {
+            Some(Ok(datagram)) => {
+                self.at_end = is_end(datagram.bytes());
+                self.to_read = if self.at_end { 0 } else { self.to_read - 1 };
+                Ok(Some(datagram))
+            }
+            Some(Err(SourceFault::NoMemory)) => Err(SourceFault::NoMemory),
+            Some(Err(fault)) => {
+                self.broken = true;
+                Err(fault)
+            }
+            None => {
+                self.broken = true;
+                Err(SourceFault::TooManyTurns)
+            }
+        }
     }
 
     /// Whether the line has ended since it has read as many datagrams as it may.
