@@ -84,7 +84,7 @@ impl SubscriberState {
     }
 
     /// The notices that were dequeued.
-    pub(crate) fn dequeue_next(&self) -> &[Notice]
+    pub(crate) fn dequeued(&self) -> &[Notice]
         ensures { result.now ≡ self.now.lane.received }
     {
         self.notices.received()
