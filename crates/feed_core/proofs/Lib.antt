@@ -1,5 +1,3 @@
-mod KeptTerms
-mod FirstNames
 pub mod OneRunLaw
 pub mod EveryRun
 pub mod VenueMoves

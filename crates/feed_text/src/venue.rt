@@ -147,7 +147,7 @@ fn take_next(
     report: &mut ReplaySink,
 ) -> Result<(), PublishStop>
     requires { venue < report.old.journal.venues }
-    ensures tells { (from : ℕ) (packets : List Arrival) → Fits arbiter.old packets
+    ensures emits { (from : ℕ) (packets : List Arrival) → Fits arbiter.old packets
         → SendsPacket from arbiter.old.sent packet.now packets
         → EmitsInto (state_of_replay report.old)
         (packet_answered venue line (Ok outcome)
@@ -172,7 +172,7 @@ fn publish_answer(
     report: &mut ReplaySink,
 ) -> Result<(), PublishStop>
     requires { venue < report.old.journal.venues }
-    ensures tells { (packets : List Arrival) → Fits arbiter.old packets
+    ensures emits { (packets : List Arrival) → Fits arbiter.old packets
         → EmitsInto (state_of_replay report.old)
         (packet_answered venue line answer.now
         ∷ map (item_taken venue) (drop arbiter.old.sent (stream_of packets)))
