@@ -26,8 +26,7 @@ use Rattle.feed_core.specs.laws.HeadlineLaw.{headline}
 use Rattle.feed_text.specs.declared.replay.ReplayConfig.{ReplayConfig}
 use Rattle.feed_text.specs.Capture.{CaptureRecord, datagram_record, renewal_record, self_help_record, record_venue}
 use Rattle.feed_text.specs.ReplayEvents.{ReplayEvent, packet_answered, packet_refused, item_taken, gap_left, renewal_answered, self_help_declared, is_so, entries_after, entries_of}
-use Rattle.feed_text.specs.Emitted.{gap_event, gap_emitted, EmitsFault, EmitsPacket, EmitsSelfHelp, EmitsAt, EmitsRecord}
-use Rattle.feed_text.specs.Told as telling
+use Rattle.feed_text.specs.Emitted.{stream_length, gap_event, gap_emitted, EmitsFault, EmitsPacket, EmitsSelfHelp, EmitsAt, EmitsRecord}
 use Rattle.feed_text.specs.Texts.{IsLinesToFull}
 use Rattle.feed_text.specs.VenueItems.{taken_by, items_taken}
 use Rattle.feed_text.specs.laws.Lists.{get_set_same, get_set_other, same_or_not}
@@ -77,7 +76,7 @@ in_gap : (window : ℕ) (gaps : Bool) (venue : ℕ) (h : History) (E : List Entr
     (next : ReplayEvent) → gap_emitted window gaps venue h ≡ first ++ next ∷ others → Adds E next → ⊥
 in_gap window false venue h E first others next e adds = none_is first next others e
 in_gap window true venue h E first others next e adds =
-    by (gap_of h.present.name window (telling.sent_of h) h.present.packets) e
+    by (gap_of h.present.name window (stream_length h) h.present.packets) e
   where
     by : (o : Option Request) → gap_event venue o ≡ first ++ next ∷ others → ⊥
     by None e = none_is first next others e
@@ -207,7 +206,7 @@ module _ (s : Setting) (gaps : Bool) (lane : 1 ≤ s.lane) (hs : List History) (
       → length (entries_of E first) ≤ s.journal → s.journal < length (entries_after (entries_of E first) next)
       → LastRan s (datagram_record venue line bytes) hs E emitted first
   packet_stops line bytes first others next new t room short =
-      let ready : List Numbered = drop (telling.sent_of h) (stream_of new.present.packets) in
+      let ready : List Numbered = drop (stream_length h) (stream_of new.present.packets) in
       let F : List Entry = entries_of E first in
       let p = past F (packet_answered venue line t.answer)
       (map (item_taken venue) ready ++ gap_emitted s.window gaps venue new) first others next (sym t.emitted_is) refl
@@ -217,7 +216,7 @@ module _ (s : Setting) (gaps : Bool) (lane : 1 ≤ s.lane) (hs : List History) (
       let first_is : first ≡ packet_answered venue line t.answer ∷ taken =
       p.first_is ∙ ap (λ (xs : List ReplayEvent). packet_answered venue line t.answer ∷ xs) i.first_are in
       let after : F ≡ entries_of E taken = ap (entries_of E) first_is in
-      let outcomes : outcomes_of E first ≡ steps.answered t.answer ∷ outcomes_of E taken =
+      let outcomes : outcomes_of E first ≡ steps.packet_done t.answer ∷ outcomes_of E taken =
       ap (outcomes_of E) first_is in
       let all : streams_of new ≡ streams_of h ++ (i.had ++ i.item ∷ i.rest) =
       ready_behind s gaps lane hs E venue h there kept line bytes (first ++ next ∷ others) new t
@@ -236,7 +235,7 @@ module _ (s : Setting) (gaps : Bool) (lane : 1 ≤ s.lane) (hs : List History) (
       ap (λ (x : ReplayEvent). length (entries_after F x)) i.next_is in let m =
       length-append F (entry.Consumed venue i.item ∷ []) in omega arith) in
       let ran : IsRun s w (Packet venue line (slice_of bytes) ∷ drains venue (length i.had) ++ Push venue ∷ [])
-      ((steps.answered t.answer ∷ outcomes_of E taken) ++ outcome.Pushed i.item.number ∷ []) full = (
+      ((steps.packet_done t.answer ∷ outcomes_of E taken) ++ outcome.Pushed i.item.number ∷ []) full = (
         mid,
         packet_begins s gaps lane hs E venue h there kept line bytes (first ++ next ∷ others) new t,
         run_more s mid drained full (drains venue (length i.had)) (Push venue ∷ []) (outcomes_of E taken)

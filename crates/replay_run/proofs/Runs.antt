@@ -22,8 +22,7 @@ use Rattle.feed_core.specs.declared.event.Event.{Event}
 use Rattle.feed_core.specs.declared.event.Event.TheVariants.{Packet, Push, Consume, Declare, Renew}
 use Rattle.feed_core.specs.declared.event.Done.{Done}
 use Rattle.feed_core.specs.declared.event.Done.TheVariants as done
-use Rattle.feed_core.specs.Worlds.{Lane, is_full, Venue, World, Setting, new_venue, new_world}
-use Rattle.feed_core.specs.Worlds as worlds
+use Rattle.feed_core.specs.Worlds.{Lane, is_full, Venue, session_sent, World, Setting, new_venue, new_world}
 use Rattle.feed_core.specs.Steps.{Stays, Applies, Refused, Changes, next_in, next_out, push_next, journal_item, consume_next, journal_full, unknown_venue, already_so, declare_help, is_same, Intake, put_venue, with_sent, with_intake, AddsArrival, AddsRenewal, RefusesBytes, AnswersRenewal}
 use Rattle.feed_core.specs.Runs.{IsStep, IsRun}
 use Rattle.feed_core.specs.Steps as steps
@@ -34,8 +33,7 @@ use Rattle.line_arbiter.specs.laws.Histories.{items_push}
 use Rattle.feed_text.specs.declared.replay.ReplayConfig.{ReplayConfig}
 use Rattle.feed_text.specs.Capture.{CaptureRecord, datagram_record, renewal_record, self_help_record, record_venue}
 use Rattle.feed_text.specs.ReplayEvents.{ReplayEvent, item_taken, is_so, entries_after, entries_of}
-use Rattle.feed_text.specs.Emitted.{gap_event, gap_emitted, items_emitted, EmitsFault, EmitsPacket, EmitsRenewal, EmitsSelfHelp, EmitsAt, EmitsRecord, Emits}
-use Rattle.feed_text.specs.Told as telling
+use Rattle.feed_text.specs.Emitted.{stream_length, gap_event, gap_emitted, items_emitted, EmitsFault, EmitsPacket, EmitsRenewal, EmitsSelfHelp, EmitsAt, EmitsRecord, Emits}
 use Rattle.feed_text.specs.Texts.{EmitsAll, HasJournalRoom}
 use Rattle.feed_text.specs.laws.Lists.{same_set}
 use Rattle.feed_text.specs.laws.Entries.{entries_more}
@@ -110,7 +108,7 @@ record IsSilent (hs : List ReplayEvent) : Type 0 where
 
 gap_silent : (window : ℕ) (gaps : Bool) (venue : ℕ) (h : History) → IsSilent (gap_emitted window gaps venue h)
 gap_silent window false venue h = record { outcomes = λ old. refl; entries = λ old. refl }
-gap_silent window true venue h = at (gap_of h.present.name window (telling.sent_of h) h.present.packets)
+gap_silent window true venue h = at (gap_of h.present.name window (stream_length h) h.present.packets)
   where
     at : (o : Option Request) → IsSilent (gap_event venue o)
     at None = record { outcomes = λ old. refl; entries = λ old. refl }
@@ -220,7 +218,7 @@ items_len venue (x ∷ xs) entries =
     let more = items_len venue xs (entries ++ entry.Consumed venue x ∷ []) in
     omega arith
 
-counted : (h : History) → worlds.sent_of (consumed_all h) ≡ telling.sent_of h
+counted : (h : History) → session_sent (consumed_all h) ≡ stream_length h
 counted h =
     let n : length (streams_of h) ≡ length (items_of h.earlier) + length (stream_of h.present.packets) =
     ap length (items_push h.earlier h.present) ∙ length-append (items_of h.earlier) (stream_of h.present.packets) in
@@ -274,7 +272,7 @@ module _ (s : Setting) (gaps : Bool) (lane : 1 ≤ s.lane) (hs : List History) (
       let silent = gap_silent s.window gaps venue new in
       let step : IsStep s w (Packet venue line (slice_of bytes)) d w =
       at_venue w venue (consumed_all h) d w
-      (λ v. RefusesBytes bytes w d w ⊎ steps.IsAnswered s.window venue v line bytes w d w) there_is
+      (λ v. RefusesBytes bytes w d w ⊎ steps.AnswersPacket s.window venue v line bytes w d w) there_is
       (inl (record { fault = t.fault; has = t.has; is = (refl, refl) })) in (
         0,
         run_as s w (Packet venue line (slice_of bytes) ∷ []) (d ∷ []) (outcomes_of entries emitted) w
@@ -288,14 +286,14 @@ module _ (s : Setting) (gaps : Bool) (lane : 1 ≤ s.lane) (hs : List History) (
   -- the packet is answered, and nothing is pushed yet
   pub packet_begins : (line : LineId) (bytes : List ℕ) (emitted : List ReplayEvent) (new : History)
       (t : EmitsPacket s.window gaps venue line bytes h emitted new)
-      → IsStep s (world_of hs entries) (Packet venue line (slice_of bytes)) (steps.answered t.answer)
+      → IsStep s (world_of hs entries) (Packet venue line (slice_of bytes)) (steps.packet_done t.answer)
       (at (map consumed_all hs) venue (venue_at new (streams_of h)) entries)
   packet_begins line bytes emitted new t =
       let w : World = world_of hs entries in
-      let d : Done = steps.answered t.answer in
+      let d : Done = steps.packet_done t.answer in
       let mid : World = at (map consumed_all hs) venue (venue_at new (streams_of h)) entries in
       at_venue w venue (consumed_all h) d mid
-      (λ v. RefusesBytes bytes w d mid ⊎ steps.IsAnswered s.window venue v line bytes w d mid) there_is (inr (record {
+      (λ v. RefusesBytes bytes w d mid ⊎ steps.AnswersPacket s.window venue v line bytes w d mid) there_is (inr (record {
         packet = t.packet;
         rest = t.rest;
         spells = t.spells;
@@ -314,7 +312,7 @@ module _ (s : Setting) (gaps : Bool) (lane : 1 ≤ s.lane) (hs : List History) (
   -- the items that it made ready follow the streams
   pub ready_behind : (line : LineId) (bytes : List ℕ) (emitted : List ReplayEvent) (new : History)
       → EmitsPacket s.window gaps venue line bytes h emitted new
-      → streams_of new ≡ streams_of h ++ drop (telling.sent_of h) (stream_of new.present.packets)
+      → streams_of new ≡ streams_of h ++ drop (stream_length h) (stream_of new.present.packets)
   ready_behind line bytes emitted new t =
       (here s.window gaps (datagram_record venue line bytes) h new emitted kept (inr t)).items
       ∙ ap (λ (xs : List Numbered). streams_of h ++ xs) (ready_items s.window gaps venue line bytes h new emitted t)
@@ -324,8 +322,8 @@ module _ (s : Setting) (gaps : Bool) (lane : 1 ≤ s.lane) (hs : List History) (
       → Ran s (datagram_record venue line bytes) hs entries emitted (slice_set hs venue new)
   packet_ran line bytes emitted new t room =
       let w : World = world_of hs entries in
-      let d : Done = steps.answered t.answer in
-      let ready : List Numbered = drop (telling.sent_of h) (stream_of new.present.packets) in
+      let d : Done = steps.packet_done t.answer in
+      let ready : List Numbered = drop (stream_length h) (stream_of new.present.packets) in
       let mid : World = at (map consumed_all hs) venue (venue_at new (streams_of h)) entries in
       let silent = gap_silent s.window gaps venue new in
       let hs1 : List ReplayEvent = map (item_taken venue) ready in
@@ -364,7 +362,7 @@ module _ (s : Setting) (gaps : Bool) (lane : 1 ≤ s.lane) (hs : List History) (
       → Ran s (renewal_record venue name) hs entries emitted (slice_set hs venue new)
   renewal_ran name emitted new t =
       let w : World = world_of hs entries in
-      let d : Done = steps.renewal t.answer in
+      let d : Done = steps.renewal_done t.answer in
       let mid : World = at (map consumed_all hs) venue (venue_at new (streams_of h)) entries in
       let streams : streams_of new ≡ streams_of h =
       (here s.window gaps (renewal_record venue name) h new emitted kept t).items
