@@ -1,0 +1,10 @@
+use Rattle.std.proofs.Common.{rules}
+use Rattle.line_captures.proofs.Listed.{listed_more}
+use Rattle.line_captures.proofs.line_list.lines_at.Goals as goal
+
+pub loop-address-preserved : goal.loop-address-preserved
+loop-address-preserved c = record {
+  place = search rules;
+  lines = listed_more c.args.addresses.now c.loop-address.place c.loop-address.address-index _ c.loop-address.lines.items c.push.new.self.items c.captured_line_at.result
+      c.loop-address.invariant.place c.loop-address-test.true c.loop-address.invariant.lines c.captured_line_at.ensures c.in_ok-push.ensures.items;
+}
