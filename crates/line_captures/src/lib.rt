@@ -1,4 +1,14 @@
-//! From a packet capture to the records of its lines' datagrams, in this project's own format.
+//! Packet captures as captures: the records of the datagrams that a pcap or pcapng file has for some
+//! lines, in this project's own format.
+//!
+//! A [`LinesIn`] reads the capture's bytes from a reader and is a reader of the records' bytes, which
+//! allocates nothing once it is made. A [`CapturedLine`] is an address and port with the venue and the
+//! line whose datagrams go there.
+//!
+//! Contract: what it gave, then what is pending, are the records of the frames of whole pieces, in file
+//! order, each frame's datagram for the first line that takes it, and nothing else
+//! (`specs/Readers.antt`, over `specs/Records.antt` and `specs/Lines.antt`). Begin at `lines_in.rt`. No
+//! crate calls it yet.
 #![tactic(auto)]
 
 mod captured_line;
