@@ -11,3 +11,6 @@ pub mod Sides
 pub mod Settled
 pub mod OfSessions
 pub mod Batches
+pub mod LaneEnds
+pub mod Offers
+pub mod Turns

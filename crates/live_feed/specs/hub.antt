@@ -2,3 +2,5 @@
 pub mod Hubs
 pub mod Sections
 pub mod Batches
+pub mod Offers
+pub mod Turns
