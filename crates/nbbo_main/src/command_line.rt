@@ -1,5 +1,5 @@
 //! The requests of the words of the command line.
-ghost use Rattle.std.specs.Prelude.{◌≡◌, ◌*◌, ◌≤◌, [], IfOk, IfErr, OnOk, codes, map, string_bytes, unwrap_or, vec_len};
+ghost use Rattle.std.specs.Prelude.{◌≡◌, ◌*◌, ◌≤◌, [], IfOk, IfErr, OnErr, OnOk, codes, map, string_bytes, unwrap_or, vec_len};
 ghost use Rattle.clap.specs.Matches.{found_of};
 ghost use Rattle.clap.specs.Simple.{subcommand_of, subcommand_rows_of};
 ghost use Rattle.clap.specs.Values.{kind_of};
@@ -9,7 +9,7 @@ ghost use Rattle.nbbo_main.specs.CommandLine.{Asks, Gives, GivesListening, Gives
 ghost use Rattle.nbbo_main.specs.Commands.{nbbo_app};
 ghost use Rattle.nbbo_main.specs.Symbols.{HasSymbolsFault, NameSymbols};
 
-use crate::addresses::{LinesFault, read_lines, read_request};
+use crate::addresses::{LinesFault, RequestFault, read_lines, read_request};
 use crate::commands::nbbo_command;
 use crate::listen_settings::ListenSettings;
 use crate::refusal::Refusal;
@@ -21,7 +21,7 @@ use clap::error::ErrorKind;
 use clap::{ArgMatches, Error};
 use feed_types::SymbolName;
 use std::alloc::Global;
-use std::net::{AddrParseError, SocketAddr};
+use std::net::SocketAddr;
 
 /// The most messages that a window can have.
 const MAX_WINDOW: u32 = 65_535;
@@ -141,14 +141,17 @@ fn lines_of(
     read_lines(alloc, text_of(listen, "lines"), venues)
 }
 
-/// The address for requests that the option gives, if it is given.
-fn request_of(listen: &ArgMatches<'_>) -> Result<Option<SocketAddr>, AddrParseError>
-    ensures ok { IfOk result (NamesRequest
+/// The address for these lines' requests that the option gives, if it is given.
+fn request_of(
+    listen: &ArgMatches<'_>,
+    lines: &[SocketAddr],
+) -> Result<Option<SocketAddr>, RequestFault>
+    ensures ok { IfOk result (NamesRequest lines.now
         (first_of (codes "request") (rows_of (found_of listen.now)))) }
-    ensures err { IfErr result (λ _. NamesNoRequest
+    ensures err { OnErr result (NamesNoRequest lines.now
         (first_of (codes "request") (rows_of (found_of listen.now)))) }
 {
-    read_request(listen.get_str("request"))
+    read_request(listen.get_str("request"), lines)
 }
 
 /// The settings that the options of `replay` give.
@@ -172,10 +175,11 @@ fn listening_of(alloc: Global, listen: &ArgMatches<'_>) -> Result<ListenSettings
 {
     let sessions = read_sessions(alloc, text_of(listen, "sessions"))?;
     let lines = lines_of(alloc, listen, sessions.len())?;
+    let request = request_of(listen, lines.as_slice())?;
     Ok(ListenSettings {
         sessions,
         lines,
-        request: request_of(listen)?,
+        request,
         symbols: symbols_of(alloc, listen)?,
         window: window_of(listen),
         journal: count_of(listen, "journal"),

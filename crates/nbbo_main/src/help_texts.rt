@@ -137,9 +137,10 @@ pub const REQUEST_HELP: &str = "\
 Where messages that are missing are asked for: the address of a retransmission server.
 A request goes there from the socket of the line that found the gap, at once, and again
 while the gap stands, with the venue's next datagram that comes 250 ms or more later,
-from the line that it came on. A reply is read on the line that asked. A fault of the
-socket at a request ends the line that asks, as where the port is 0 or the address is of
-another version of IP than the line. Without this option nothing is asked for";
+from the line that it came on. A reply is read on the line that asked. The port isn't 0,
+nor the IP address 0.0.0.0 or [::], and it is of each line's version of IP. A fault of the
+socket at a request, as where a firewall refuses it or there is no route, ends the line
+that asks. Without this option nothing is asked for";
 
 pub const DATAGRAMS_HELP: &str = "\
 How many datagrams a line reads at most: 0 to 4294967295. A line also ends after a
@@ -229,4 +230,5 @@ Status:
        no memory        memory was refused
   2  the command line was refused; standard error says why. 'bad session', 'too many sessions',
      'bad symbol', 'too many symbols' and 'duplicate symbol' as of 'nbbo replay'; 'bad lines': not
-     two addresses for each session; 'bad request address': it is no address";
+     two addresses for each session; 'bad request address': it is none, or none that the lines
+     can send to (port 0, IP address 0.0.0.0 or [::], another version of IP than a line's)";
