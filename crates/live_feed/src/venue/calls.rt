@@ -102,16 +102,26 @@ impl<G: Genuine, N: FeedName> VenueLocks<G, N> {
         ensures accepts { AcceptsTheirs G.sessions G.carries G.ends seat.old.venue
             (bytes_of datagram.now) result }
     {
-        match read_packet(datagram.bytes()) {
+        let fault = match read_packet(datagram.bytes()) {
             Ok(packet) => match self.take_packet(rt, seat, &packet, gap) {
-                Ok(outcome) => Ok(outcome),
-                Err(fault) => Err(TakeFault::Line(fault)),
+                Ok(outcome) => return Ok(outcome),
+                Err(fault) => TakeFault::Line(fault),
             },
             Err(fault) => {
                 let _pushed = self.flush_some(rt, seat.venue(), u64::MAX);
                 *gap = true;
-                Err(TakeFault::Packet(fault))
+                TakeFault::Packet(fault)
             }
+        };
+        seat.count_refusal(fault);
+        self.show_refusals(rt, seat);
+        Err(fault)
+    }
+
+    /// Has the venue's status show what the seat's datagrams were refused.
+    fn show_refusals<W: Wait>(&self, rt: &W, seat: &LineSeat<G, N>) {
+        if let Some(lock) = self.get(seat.venue()) {
+            enter(rt, lock).refused.set(seat.line(), seat.refused());
         }
     }
 
