@@ -8,8 +8,8 @@ ghost use Rattle.live_feed.specs.Allowed.{IsAllowed};
 
 use live_feed::{
     Advice, Anything, Datagram, FeedConfig, FeedName, Filter, Limits, Line, LineId, LineSource,
-    LiveFeed, Notice, OpenFeed, Request, Settlement, SourceFault, Strategy, SubscriberId,
-    SymbolName, Terms, VenueId,
+    LiveFeed, Notice, OpenFeed, Request, Settlement, SourceFault, StopHandle, Strategy,
+    SubscriberId, SymbolName, Terms, VenueId, VenueStatus,
 };
 use std::alloc::{AllocError, Global};
 use std::collections::VecDeque;
@@ -29,10 +29,11 @@ const QUOTES: [(u32, u32); 5] = [
     (101_500, 101_600),
 ];
 
-/// The messages that each line brings: line A loses 2, and both lose 4.
+/// The messages that line A brings: it loses 2 and 4.
 const ON_A: [u64; 3] = [1, 3, 5];
 
-const ON_B: [u64; 4] = [1, 2, 3, 5];
+/// The messages that line B brings: it loses 4, and brings one of number 0, which is refused.
+const ON_B: [u64; 5] = [1, 0, 2, 3, 5];
 
 /// A datagram of the session's message of this number: a quotation of ACME, 300 shares on each
 /// side. Past the last message it is the end of the session.
@@ -131,14 +132,27 @@ fn line_of<N: FeedName, R: Wait>(
     Line::new(seat, Listed { place, left, alloc }).ok()
 }
 
-/// Looks at the venue until its whole session was sent on, and returns its national best then.
-fn watch<N: FeedName, R: Wait>(rt: &R, feed: &OpenFeed<Anything, N>) {
+/// Whether the session was sent on to its end, which both lines have brought: the third sum of a
+/// line's accepted packets is that of ends of session.
+fn is_over(status: &VenueStatus) -> bool {
+    status.cursors.end == Some(status.cursors.sent)
+        && status.a.accepted[2] > 0
+        && status.b.accepted[2] > 0
+}
+
+/// Looks at the venue, beside a run, until its session is over or the run has ended by itself, and
+/// stops the run then.
+fn watch<N: FeedName, R: Wait>(rt: &R, feed: &OpenFeed<Anything, N>, handle: &StopHandle) {
     for _ in rt.forever() {
-        match feed.status(rt, VenueId::default()) {
-            Ok(status) if status.cursors.end != Some(status.cursors.sent) => thread::yield_now(),
-            _ => break,
+        let Ok(status) = feed.status(rt, VenueId::default()) else {
+            break;
+        };
+        if handle.is_stopped() || is_over(&status) {
+            break;
         }
+        thread::yield_now();
     }
+    handle.stop();
 }
 
 /// Buys what is offered at 10.1600 or less, at most 200 shares.
@@ -155,25 +169,32 @@ fn bought(notice: &Notice) -> Advice
     }
 }
 
-/// Sells at 10.1700 or more, at most 100 shares.
+/// Sells to who bids 10.1700 or more, at most 200 shares.
 fn sold(notice: &Notice) -> Advice
-    ensures { IsAllowed (record { max_size = 100 }) notice.now result }
+    ensures { IsAllowed (record { max_size = 200 }) notice.now result }
 {
     match notice.national.bid {
         Some(bid) if bid.price >= 101_700 && bid.size > 0 => Advice::Sell {
             venue: bid.venue,
             price: bid.price,
-            size: bid.size.min(100),
+            size: bid.size.min(200),
         },
         _ => Advice::Hold,
     }
+}
+
+/// What the venue had come to after a run, and the feed's settlement.
+#[derive(Drop)]
+struct Ended {
+    status: VenueStatus,
+    settlement: Settlement,
 }
 
 /// Runs the feed until its venue's session is over, and settles it. None where memory was refused.
 ///
 /// N names the feed's lanes. Stored closures are made where they are used, and the feed is opened
 /// there: no function hands one out.
-fn run_feed<N, R>(rt: &R, alloc: Global, closed: LiveFeed<Anything>) -> Option<Settlement>
+fn run_feed<N, R>(rt: &R, alloc: Global, closed: LiveFeed<Anything>) -> Option<Ended>
 where
     N: FeedName + Send + Sync,
     R: Threads + Wait + Sync,
@@ -186,57 +207,48 @@ where
             requires { Unit {0} }
             ensures { IsAllowed (record { max_size = 200 }) notice.now result }
         { bought(notice) },
-    )
-    .ok()?;
-    let buyer = Strategy::new(Limits { max_size: 200 }, buy);
+    );
+    let buyer = Strategy::new(Limits { max_size: 200 }, buy.ok()?);
     let sell = Box::new(
         alloc,
         |notice: &Notice| -> Advice
             requires { Unit {0} }
-            ensures { IsAllowed (record { max_size = 100 }) notice.now result }
+            ensures { IsAllowed (record { max_size = 200 }) notice.now result }
         { sold(notice) },
-    )
-    .ok()?;
-    let seller = Strategy::new(Limits { max_size: 100 }, sell);
-    let all = Filter::of(Terms::All);
-    let large = Filter::of(Terms::MinSize(300));
-    let mut subscribers = Vec::with_capacity(alloc, 2).ok()?;
-    subscribers
-        .push(feed.subscribe(rt, alloc, all, buyer).ok()?)
-        .ok()?;
-    subscribers
-        .push(feed.subscribe(rt, alloc, large, seller).ok()?)
-        .ok()?;
-    let mut lines = Vec::with_capacity(alloc, 2).ok()?;
-    lines
-        .push(line_of(rt, alloc, &feed, LineId::A, &ON_A)?)
-        .ok()?;
-    lines
-        .push(line_of(rt, alloc, &feed, LineId::B, &ON_B)?)
-        .ok()?;
+    );
+    let seller = Strategy::new(Limits { max_size: 200 }, sell.ok()?);
+    let all = feed.subscribe(rt, alloc, Filter::of(Terms::All), buyer);
+    let large = feed.subscribe(rt, alloc, Filter::of(Terms::MinSize(300)), seller);
+    let subscribers = Vec::from_array(alloc, [all.ok()?, large.ok()?]).ok()?;
+    let a = line_of(rt, alloc, &feed, LineId::A, &ON_A)?;
+    let b = line_of(rt, alloc, &feed, LineId::B, &ON_B)?;
+    let lines = Vec::from_array(alloc, [a, b]).ok()?;
+    // The run takes this thread, and the watcher another one beside it.
     let handle = feed.stop_handle().ok()?;
     let (report, ()) = thread::join(
         rt,
-        || feed.run(rt, alloc, lines, subscribers),
         || {
-            watch(rt, &feed);
+            let report = feed.run(rt, alloc, lines, subscribers);
             handle.stop();
+            report
         },
+        || watch(rt, &feed, &handle),
     );
     let report = report.ok()?;
     let mut seats = Vec::with_capacity(alloc, 2).ok()?;
     for end in report.lines {
         seats.push(end.seat).ok()?;
     }
-    feed.settle(rt, alloc, seats, report.subscribers).ok()
+    let status = feed.status(rt, VenueId::default()).ok()?;
+    let settlement = feed.settle(rt, alloc, seats, report.subscribers).ok()?;
+    Some(Ended { status, settlement })
 }
 
-/// Makes the feed of one venue, whose journal holds 1,000 entries.
+/// Makes the feed of one venue.
 fn new_feed(alloc: Global) -> Option<LiveFeed<Anything>> {
-    let symbol = SymbolName::from_text(b"ACME")?;
     let config = FeedConfig {
         sessions: &[SESSION],
-        symbols: &[symbol],
+        symbols: &[SymbolName::from_text(b"ACME")?],
         window: 64,
         lane: 64,
         journal: 1_000,
@@ -250,22 +262,24 @@ fn main(rt: HostRuntime) -> io::Result<()> {
     let Some(closed) = new_feed(alloc) else {
         return println!(rt; "no memory for a feed");
     };
-    let Some(settlement) = run_feed::<Brand, HostRuntime>(&rt, alloc, closed) else {
+    let Some(ended) = run_feed::<Brand, HostRuntime>(&rt, alloc, closed) else {
         return println!(rt; "no memory for the run");
     };
+    let (cursors, gap) = (ended.status.cursors, ended.status.gap);
     println!(rt;
-        "{} entries, {} changes",
-        settlement.entries().len(),
-        settlement.changes().len()
+        "sent up to {} of {:?}, gap {gap:?}",
+        cursors.sent, cursors.end
     )?;
+    let refused = ended.status.b.refused.by_code();
+    println!(rt; "line B: {} refused by code 3", refused[3])?;
     for place in 0..2u8 {
         let Some(id) = SubscriberId::new(place) else {
             break;
         };
-        if id.index() >= settlement.subscriber_count() {
+        if id.index() >= ended.settlement.subscriber_count() {
             break;
         }
-        for line in settlement.log(id) {
+        for line in ended.settlement.log(id) {
             let (change, advice) = (line.notice.number, line.advice);
             println!(rt; "subscriber {place}, change {change}: {advice:?}")?;
         }

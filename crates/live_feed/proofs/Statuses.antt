@@ -1,43 +1,46 @@
--- What a venue's status shows, in terms of plain states.
-use Rattle.std.proofs.Common.{◌≡◌, ℕ, List, length, sym, ap, subst, ◌∙◌}
-use Rattle.feed_types.specs.declared.line.LineId.{LineId}
-use Rattle.line_arbiter.specs.Fits.{cursors_of}
-use Rattle.line_arbiter.specs.Histories.{History, names_of}
-use Rattle.line_arbiter.specs.Counts.{count_on}
-use Rattle.line_arbiter.specs.States.{ordinal_of}
-use Rattle.line_arbiter.specs.Streams.{gap_of}
-use Rattle.line_arbiter.specs.laws.FitsHistory.{wins_are}
-use Rattle.live_feed.specs.declared.venue.status.LineStatus.{LineStatus}
+-- What is read under a lock, in terms of plain states.
+use Rattle.std.proofs.Common.{◌≡◌, ◌≢◌, ◌⊎◌, ℕ, ◌≤◌, List, length, Option, Some, None, IfSome, inr, tt, ap, subst, ◌∙◌}
+use Rattle.feed_types.specs.declared.national.National.{National}
+use Rattle.feed_types.specs.Sequence.{Carries, Ends}
+use Rattle.feed_types.specs.Sessions.{SessionNames}
+use Rattle.line_arbiter.specs.Histories.{History}
+use Rattle.nbbo_book.specs.Nationals.{national_of}
+use Rattle.live_feed.specs.Lanes.{FeedLanes}
 use Rattle.live_feed.specs.declared.venue.status.VenueStatus.{VenueStatus}
-use Rattle.live_feed.specs.venue.Cells.{CellState, FitsCell}
-use Rattle.live_feed.specs.venue.Sums.{sums_list, sums_on}
-use Rattle.live_feed.specs.venue.Statuses.{ShowsHistory, ShowsLine, status_on}
+use Rattle.live_feed.specs.venue.Cells.{CellState, FitsCell, VenueLockInvariant}
+use Rattle.live_feed.specs.venue.Statuses.{LocksAnother, ShowsHistory, ShowsUnderLock}
+use Rattle.live_feed.specs.hub.Hubs.{HubLockInvariant, HubState}
+use Rattle.live_feed.specs.hub.Nationals.{WasNational}
 
--- what the cell counts for a line is what its history has of the line
-pub shows_line : (c : CellState) (h : History) (line : LineId) (status : LineStatus) → FitsCell c h
-    → status.wins ≡ count_on line c.arbiter.wins
-    → status.accepted ≡ sums_list (sums_on line c.accepted)
-    → ShowsLine h line status
-shows_line c h line status f wins accepted = record {
-  wins = wins ∙ wins_are h f.history line;
-  accepted = accepted ∙ ap sums_list (f.accepted line);
+-- what was read of a state that the consolidator's lock kept
+pub was_national : (carries : Carries) (ends : Ends) (lanes : FeedLanes) (symbol : List ℕ)
+    (hub : HubState) (found : Option National) → HubLockInvariant carries ends lanes hub
+    → IfSome found (λ n. n ≡ national_of hub.journal.entries symbol)
+    → IfSome found (WasNational carries ends lanes symbol)
+was_national carries ends lanes symbol hub None kept is = tt
+was_national carries ends lanes symbol hub (Some n) kept is =
+    record { hub = hub; kept = kept; national_is = is }
+
+-- what was read of a cell that a venue's lock kept
+pub shows_under_lock : (sessions : SessionNames) (carries : Carries) (ends : Ends)
+    (lanes : FeedLanes) (venue : ℕ) (cell : CellState) (status : VenueStatus)
+    → VenueLockInvariant sessions carries ends lanes cell → cell.arbiter.venue ≡ venue
+    → status.cursors.sent ≡ cell.arbiter.sent
+    → ((h : History) → FitsCell cell h → ShowsHistory cell.arbiter.window h status)
+    → ShowsUnderLock sessions carries ends lanes venue status
+shows_under_lock sessions carries ends lanes venue cell status kept is sent shows = record {
+  cell = cell;
+  kept = kept;
+  venue_is = is;
+  sent = sent;
+  shows = subst (λ (w : ℕ). ShowsHistory w kept.history status) kept.window
+      (shows kept.history kept.fits);
 }
 
--- what the arbiter answers of itself is what its history has of the present session
-pub shows_history : (c : CellState) (h : History) (status : VenueStatus) → FitsCell c h
-    → status.ordinal ≡ ordinal_of c.arbiter
-    → status.session ≡ c.arbiter.session
-    → status.cursors.sent ≡ c.arbiter.sent
-    → status.cursors ≡ cursors_of c.arbiter.sent h.present.packets
-    → status.gap ≡ gap_of c.arbiter.session c.arbiter.window c.arbiter.sent h.present.packets
-    → ((line : LineId) → ShowsLine h line (status_on line status))
-    → ShowsHistory c.arbiter.window h status
-shows_history c h status f ordinal session sent cursors gap lines = record {
-  ordinal = ordinal ∙ ap length f.history.names;
-  session = session ∙ f.history.session;
-  cursors = cursors ∙ ap (λ (n : ℕ). cursors_of n h.present.packets) (sym sent);
-  gap = gap
-      ∙ ap (λ (name : List ℕ). gap_of name c.arbiter.window c.arbiter.sent h.present.packets) f.history.session
-      ∙ ap (λ (n : ℕ). gap_of h.present.name c.arbiter.window n h.present.packets) (sym sent);
-  lines = lines;
-}
+-- a lock that kept another venue's cell
+pub locks_another : (sessions : SessionNames) (carries : Carries) (ends : Ends)
+    (lanes : FeedLanes) (venue : ℕ) (cell : CellState)
+    → VenueLockInvariant sessions carries ends lanes cell → cell.arbiter.venue ≢ venue
+    → (length lanes.venues ≤ venue) ⊎ LocksAnother sessions carries ends lanes venue
+locks_another sessions carries ends lanes venue cell kept other =
+    inr (record { cell = cell; kept = kept; other = other })

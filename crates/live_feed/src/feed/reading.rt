@@ -6,12 +6,42 @@ ghost use Rattle.live_feed.specs.hub.Nationals.{WasNational};
 ghost use Rattle.live_feed.specs.venue.Statuses.{IsStatusOf};
 
 use crate::faults::FeedFault;
-use crate::feed::open_feed::OpenFeed;
+use crate::feed::open_feed::{Guarded, OpenFeed};
 use crate::feed_name::FeedName;
+use crate::hub::cell::HubCell;
 use crate::venue::locks::enter;
 use crate::venue::status::VenueStatus;
 use feed_types::{Genuine, National, SymbolName, VenueId};
 use std::sync::Wait;
+
+/// The national best of the symbol in the consolidator's journal.
+#[tactic(auto, using(crate::proofs::Statuses::was_national))]
+fn national_in<G: Genuine, N: FeedName>(
+    hub: &HubCell<G, N>,
+    symbol: &SymbolName,
+) -> Option<National>
+    ensures configured { IsSome result
+        ↔ IsTrue (is_configured N.lanes.setting.symbols symbol.now) }
+    ensures value { IfSome result (WasNational G.carries G.ends N.lanes symbol.now) }
+{
+    hub.core.show_lock_invariant();
+    hub.core.journal().national(symbol)
+}
+
+/// The status of this venue, whose cell it is; UnknownVenue where it is another's.
+#[tactic(auto, using(crate::proofs::Statuses::shows_under_lock, crate::proofs::Statuses::locks_another))]
+fn status_in<G: Genuine, N: FeedName>(
+    guarded: &Guarded<G, N>,
+    venue: VenueId,
+) -> Result<VenueStatus, FeedFault>
+    ensures { IsStatusOf G.sessions G.carries G.ends N.lanes venue result }
+{
+    guarded.cell.show_lock_invariant();
+    if guarded.cell.venue() != venue {
+        return Err(FeedFault::UnknownVenue);
+    }
+    Ok(VenueStatus::of(&guarded.cell, &guarded.refused))
+}
 
 impl<G: Genuine, N: FeedName> OpenFeed<G, N> {
     /// Returns the national best of the symbol after all entries that are journaled at a moment of
@@ -22,9 +52,7 @@ impl<G: Genuine, N: FeedName> OpenFeed<G, N> {
             ↔ IsTrue (is_configured N.lanes.setting.symbols symbol.now) }
         ensures value { IfSome result (WasNational G.carries G.ends N.lanes symbol.now) }
     {
-        let hub = self.hub.lock(rt);
-        hub.core.show_lock_invariant();
-        hub.core.journal().national(symbol)
+        national_in(&self.hub.lock(rt), symbol)
     }
 
     /// Returns what the venue has come to at a moment of the call, all read under its lock taken
@@ -36,11 +64,6 @@ impl<G: Genuine, N: FeedName> OpenFeed<G, N> {
         let Some(lock) = self.venues.get(venue) else {
             return Err(FeedFault::UnknownVenue);
         };
-        let guarded = enter(rt, lock);
-        guarded.cell.show_lock_invariant();
-        if guarded.cell.venue() != venue {
-            return Err(FeedFault::UnknownVenue);
-        }
-        Ok(VenueStatus::of(&guarded.cell, &guarded.refused))
+        status_in(&enter(rt, lock), venue)
     }
 }
