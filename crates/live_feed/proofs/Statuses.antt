@@ -1,5 +1,7 @@
 -- What is read under a lock, in terms of plain states.
-use Rattle.std.proofs.Common.{◌≡◌, ◌≢◌, ◌⊎◌, ℕ, ◌≤◌, List, length, Option, Some, None, IfSome, inr, tt, ap, subst, ◌∙◌}
+use Rattle.std.proofs.Common.{◌≡◌, ℕ, Bool, false, not, List, Option, Some, None, IfSome, subst, arith}
+use Rattle.std.specs.Prelude.{◌==◌}
+use Rattle.std.proofs.lemmas.Bool.Decides.{nat_tests}
 use Rattle.feed_types.specs.declared.national.National.{National}
 use Rattle.feed_types.specs.Sequence.{Carries, Ends}
 use Rattle.feed_types.specs.Sessions.{SessionNames}
@@ -8,7 +10,7 @@ use Rattle.nbbo_book.specs.Nationals.{national_of}
 use Rattle.live_feed.specs.Lanes.{FeedLanes}
 use Rattle.live_feed.specs.declared.venue.status.VenueStatus.{VenueStatus}
 use Rattle.live_feed.specs.venue.Cells.{CellState, FitsCell, VenueLockInvariant}
-use Rattle.live_feed.specs.venue.Statuses.{LocksAnother, ShowsHistory, ShowsUnderLock}
+use Rattle.live_feed.specs.venue.Statuses.{ShowsHistory, ShowsUnderLock}
 use Rattle.live_feed.specs.hub.Hubs.{HubLockInvariant, HubState}
 use Rattle.live_feed.specs.hub.Nationals.{WasNational}
 
@@ -37,10 +39,6 @@ shows_under_lock sessions carries ends lanes venue cell status kept is sent show
       (shows kept.history kept.fits);
 }
 
--- a lock that kept another venue's cell
-pub locks_another : (sessions : SessionNames) (carries : Carries) (ends : Ends)
-    (lanes : FeedLanes) (venue : ℕ) (cell : CellState)
-    → VenueLockInvariant sessions carries ends lanes cell → cell.arbiter.venue ≢ venue
-    → (length lanes.venues ≤ venue) ⊎ LocksAnother sessions carries ends lanes venue
-locks_another sessions carries ends lanes venue cell kept other =
-    inr (record { cell = cell; kept = kept; other = other })
+-- venues whose numbers don't differ are the same
+pub same_venue : (m n : ℕ) (differ : Bool) → differ ≡ not (m == n) → differ ≡ false → m ≡ n
+same_venue m n differ test none = grind (arith, nat_tests)

@@ -15,7 +15,6 @@ use feed_types::{Genuine, National, SymbolName, VenueId};
 use std::sync::Wait;
 
 /// The national best of the symbol in the consolidator's journal.
-#[tactic(auto, using(crate::proofs::Statuses::was_national))]
 fn national_in<G: Genuine, N: FeedName>(
     hub: &HubCell<G, N>,
     symbol: &SymbolName,
@@ -29,7 +28,6 @@ fn national_in<G: Genuine, N: FeedName>(
 }
 
 /// The status of this venue, whose cell it is; UnknownVenue where it is another's.
-#[tactic(auto, using(crate::proofs::Statuses::shows_under_lock, crate::proofs::Statuses::locks_another))]
 fn status_in<G: Genuine, N: FeedName>(
     guarded: &Guarded<G, N>,
     venue: VenueId,
