@@ -4,3 +4,4 @@ pub mod Sections
 pub mod Batches
 pub mod Offers
 pub mod Turns
+pub mod Nationals
