@@ -3,7 +3,7 @@
 ghost use Rattle.std.specs.Prelude.{◌≡◌, ◌<◌, length};
 ghost use Rattle.line_arbiter.specs.Genuine.{IsGenuine};
 ghost use Rattle.live_feed.specs.venue.Seats.{seat_after, seat_refusing};
-ghost use Rattle.live_feed.specs.venue.Sections.{AcceptsTheirPacket, IsFlushedBy, KeepsButSent, Pushes};
+ghost use Rattle.live_feed.specs.venue.Sections.{AcceptsTheirPacket, IsFlushedBy, Pushes};
 ghost use Rattle.live_feed.specs.venue.Datagrams.{AreGenuineBytes, AcceptsTheirs, IsAnsweredAt, IsTakenBy, bytes_of};
 
 use crate::faults::TakeFault;
