@@ -15,7 +15,7 @@ use Rattle.journal_book.specs.declared.fault.JournalFault.TheVariants.{NoMemory,
 use Rattle.journal_book.specs.Journals.{JournalState}
 use Rattle.journal_book.specs.Wanted.{wanted_of}
 use Rattle.fifo_lane.specs.Lane.{LaneEnd, with_items}
-use Rattle.feed_core.specs.laws.Lists.{get_within}
+use Rattle.feed_types.specs.ListLaws.{get_within}
 use Rattle.feed_core.specs.declared.event.Done.TheVariants as done
 use Rattle.feed_core.specs.Steps.{AppliesTo, Intake, journal_item, journal_full, offer_next, Refused}
 use Rattle.live_feed.specs.declared.unsent.Unsent.{Unsent}
