@@ -16,7 +16,8 @@ use Rattle.feed_core.specs.declared.event.Done.{Done}
 use Rattle.feed_core.specs.declared.event.Done.TheVariants as done
 use Rattle.feed_core.specs.Worlds.{Venue, session_sent, World, Setting}
 use Rattle.feed_core.specs.Steps.{Transition, Refused, Changes, Stays, Applies, put_venue, RefusesBytes, packet_done, AnswersPacket, renewal_done, AnswersRenewal, AnswersSubscribe}
-use Rattle.feed_core.specs.Runs.{IsStep, IsRun, BringsBytes}
+use Rattle.feed_core.specs.OneStep.{IsStep}
+use Rattle.feed_core.specs.Runs.{IsRun, BringsBytes}
 
 -- some outcome and some world
 abbrev HasStep : (Done → World → Type 0) → Type 0

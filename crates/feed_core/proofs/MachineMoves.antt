@@ -16,17 +16,19 @@ use Rattle.filter_terms.specs.Terms.{meets}
 use Rattle.journal_book.specs.Changes.{changes_of}
 use Rattle.journal_book.specs.Wanted.{wanted_of}
 use Rattle.journal_book.specs.Journals.{JournalState}
-use Rattle.nbbo_book.specs.Eligible.{is_self_helped}
+use Rattle.nbbo_book.specs.Eligible.{is_so}
 use Rattle.feed_core.specs.declared.event.Event.{Event}
 use Rattle.feed_core.specs.declared.event.Event.TheVariants as events
 use Rattle.feed_core.specs.declared.event.Done.{Done}
 use Rattle.feed_core.specs.declared.event.Done.TheVariants as done
 use Rattle.feed_core.specs.Worlds.{Lane, empty_lane, is_full, Venue, Subscriber, World, Setting, new_world}
-use Rattle.feed_core.specs.Steps.{Transition, Refused, Changes, journal_full, already_so, is_same, next_in, next_out, push_next, Intake, journal_item, consume_next, declare_help, offer_next, dequeue_next, put_venue, put_subscriber, Applies, AppliesTo, with_sent, with_intake, with_offered, with_dequeued, too_many_subscribers, AnswersSubscribe}
-use Rattle.feed_core.specs.Runs.{IsStep, IsRun}
+use Rattle.feed_core.specs.Steps.{Transition, Refused, Changes, journal_full, already_so, next_in, next_out, push_next, Intake, journal_item, consume_next, declare_help, offer_next, dequeue_next, put_venue, put_subscriber, Applies, AppliesTo, with_sent, with_intake, with_offered, with_dequeued, too_many_subscribers, AnswersSubscribe}
+use Rattle.feed_core.specs.OneStep.{IsStep}
+use Rattle.feed_core.specs.Runs.{IsRun}
 use Rattle.feed_core.specs.Fitting.{VenueView, FitsVenue, LeftFaulty, LeftAnswered, LeftRenewed, LeftPushed, SubscriberView, FitsSubscriber, LeftOffered, intake_of, KeepsJournal, MachineView, FitSubscribers, FitsWorld, HasStepped, HasReached}
 use Rattle.journal_book.specs.Growth.{changes_begin}
-use Rattle.feed_core.specs.laws.Lists.{get_set, get_push, get_within}
+use Rattle.feed_types.specs.ListLaws.{get_within}
+use Rattle.feed_core.specs.laws.Lists.{get_set, get_push}
 
 -- ---- places
 
@@ -269,7 +271,7 @@ module _ (s : Setting) (m : MachineView) (w : World) (place : ℕ) (on : Bool) (
       let v = get_within w.venues place (omega arith) in
       let of_entries = subst (λ (E : List Entry). AppliesTo (declare_help m.journal.journal place on E) E d journal.entries) f.entries comes in
       let of_world : AppliesTo (declare_help s.journal place on w.entries) w.entries d journal.entries = subst (λ (k : ℕ). AppliesTo (declare_help k place on w.entries) w.entries d journal.entries) f.journal of_entries in
-      let grown = declared_is (is_same (is_self_helped w.entries place) on) (nat_le s.journal (length w.entries)) place on w.entries journal.entries d of_world in
+      let grown = declared_is (is_so w.entries place on) (nat_le s.journal (length w.entries)) place on w.entries journal.entries d of_world in
       record {
         after = record w { entries = journal.entries };
         fits = record {

@@ -19,7 +19,8 @@ use Rattle.feed_core.specs.declared.event.Done.{Done}
 use Rattle.feed_core.specs.declared.event.Done.TheVariants as done
 use Rattle.feed_core.specs.Worlds.{Venue, session_sent, World, Setting}
 use Rattle.feed_core.specs.Steps.{Transition, Refused, Changes, Stays, Applies, put_venue, RefusesBytes, packet_done, AnswersPacket, renewal_done, AnswersRenewal, AnswersSubscribe}
-use Rattle.feed_core.specs.Runs.{IsStep, IsRun}
+use Rattle.feed_core.specs.OneStep.{IsStep}
+use Rattle.feed_core.specs.Runs.{IsRun}
 
 pub record Same (a b : Done) (v w : World) : Type 0 where
   pub outcome : a ≡ b

@@ -25,7 +25,8 @@ use Rattle.journal_book.specs.Changes.{changes_of}
 use Rattle.journal_book.specs.Wanted.{wanted_of}
 use Rattle.journal_book.specs.Journals.{JournalState}
 use Rattle.feed_core.specs.Steps.{next_in, AddsArrival, AddsRenewal, packet_done, renewal_done, push_next, offer_next, AppliesTo, Intake}
-use Rattle.feed_core.specs.Runs.{IsStep, IsRun}
+use Rattle.feed_core.specs.OneStep.{IsStep}
+use Rattle.feed_core.specs.Runs.{IsRun}
 
 -- a venue's arbiter, and its lane
 pub record VenueView : Type 0 where

@@ -1,5 +1,6 @@
 pub mod Worlds
 pub mod Steps
+pub mod OneStep
 pub mod Runs
 pub mod VenueHalf
 pub mod SubscriberHalf

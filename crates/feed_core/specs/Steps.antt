@@ -1,7 +1,7 @@
 -- One event on its part of the world: the part that it looks at, and that in a running feed is
--- under one lock or at one end of a lane. The step (Runs.antt) puts that part back in its place.
+-- under one lock or at one end of a lane. The step (OneStep.antt) puts that part back in its place.
 -- Refusals are listed in the order in which they are looked for.
-use Rattle.std.specs.Prelude.{◌≡◌, ℕ, ◌+◌, Bool, true, false, nat_le, List, [], ◌∷◌, ◌++◌, length, Option, Some, None, Result, Ok, Err, slice_get, slice_set, if◌then◌else◌}
+use Rattle.std.specs.Prelude.{◌≡◌, ℕ, ◌+◌, Bool, true, false, nat_le, List, [], ◌∷◌, ◌++◌, length, MatchOption, Option, Some, None, Result, Ok, Err, slice_get, slice_set, if◌then◌else◌}
 use Rattle.feed_types.specs.declared.item.Numbered.{Numbered}
 use Rattle.feed_types.specs.declared.line.LineId.{LineId}
 use Rattle.feed_types.specs.declared.journal.Entry.{Entry}
@@ -19,7 +19,7 @@ use Rattle.line_arbiter.specs.Outcomes.{IsOutcome}
 use Rattle.line_arbiter.specs.Renewals.{IsRenewal}
 use Rattle.line_arbiter.specs.Histories.{History, names_of, after_arrival, history_after}
 use Rattle.filter_terms.specs.declared.terms.Terms.{Terms}
-use Rattle.nbbo_book.specs.Eligible.{is_self_helped}
+use Rattle.nbbo_book.specs.Eligible.{is_so}
 use Rattle.feed_core.specs.declared.event.Event.TheVariants.{Packet, Push, Consume, Declare, Renew, Subscribe, Offer, Dequeue}
 use Rattle.feed_core.specs.declared.event.Done.{Done}
 use Rattle.feed_core.specs.declared.event.Done.TheVariants as done
@@ -93,17 +93,13 @@ journal_item venue (Some x) old = Changes (done.Consumed (length old.entries + 1
 
 abbrev pub consume_next : ℕ → ℕ → Option Numbered → Intake → Transition Intake
 consume_next journal venue next old =
-    if nat_le journal (length old.entries) then Refused journal_full else journal_item venue next old
+    if nat_le journal (length old.entries) then Refused journal_full else
+    journal_item venue next old
 
 -- Declare, on the journal: adds an entry, unless that is declared already or the journal is full.
-abbrev pub is_same : Bool → Bool → Bool
-is_same true b = b
-is_same false true = false
-is_same false false = true
-
 abbrev pub declare_help : ℕ → ℕ → Bool → List Entry → Transition (List Entry)
 declare_help journal venue on entries =
-    if is_same (is_self_helped entries venue) on then Refused already_so else
+    if is_so entries venue on then Refused already_so else
     (if nat_le journal (length entries) then Refused journal_full else
     Changes (done.Declared (length entries + 1)) (entries ++ entry.SelfHelp venue on ∷ []))
 
@@ -177,7 +173,8 @@ packet_done (Ok outcome) = done.Packet outcome
 packet_done (Err fault) = done.Refused (line_fault_code fault)
 
 -- the datagram is a packet, and the venue's lines answer it
-pub record AnswersPacket (window place : ℕ) (v : Venue) (line : LineId) (bytes : List ℕ) (old : World)
+pub record AnswersPacket (window place : ℕ) (v : Venue) (line : LineId) (bytes : List ℕ)
+    (old : World)
     (outcome : Done) (new : World) : Type 0 where
   pub packet : Content
   pub rest : List ℕ
@@ -207,3 +204,12 @@ AnswersSubscribe (Some terms) old outcome new =
     let after : World = record old { used = old.used + 1 } in
     Applies (λ xs. record after { subscribers = xs })
     (add_subscriber terms old.subscribers) after outcome new
+
+-- the venue or the subscriber isn't there: that is looked at first of all
+abbrev pub AtVenue : World → ℕ → Done → World → (Venue → Type 0) → Type 0
+AtVenue old place outcome new Known =
+    MatchOption (slice_get old.venues place) (Stays unknown_venue old outcome new) Known
+
+abbrev pub AtSubscriber : World → ℕ → Done → World → (Subscriber → Type 0) → Type 0
+AtSubscriber old id outcome new Known =
+    MatchOption (slice_get old.subscribers id) (Stays unknown_subscriber old outcome new) Known

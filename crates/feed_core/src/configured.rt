@@ -4,7 +4,7 @@ ghost use Rattle.std.specs.Prelude.{◌≡◌, IfOk, IfErr, MatchOption, OnOk};
 ghost use Rattle.feed_core.specs.Configs.{IsSized, IsGood, IsBadConfig, Explains, journal_of_config};
 
 use crate::config::{ConfigFault, CoreFault};
-use feed_types::FeedConfig;
+use feed_types::{FeedConfig, MAX_LANE, MAX_SYMBOLS, MAX_VENUES, MAX_WINDOW};
 use journal_book::Journal;
 use nbbo_book::BookFault;
 use std::alloc::Global;
@@ -13,16 +13,16 @@ use std::alloc::Global;
 fn fault_of(config: &FeedConfig<'_>) -> Option<ConfigFault>
     ensures { MatchOption result (IsSized config.now) (IsBadConfig config.now) }
 {
-    if config.sessions.is_empty() || config.sessions.len() > 16 {
+    if config.sessions.is_empty() || config.sessions.len() > MAX_VENUES {
         return Some(ConfigFault::BadVenueCount);
     }
-    if config.window < 1 || config.window > 65_535 {
+    if config.window < 1 || config.window > MAX_WINDOW {
         return Some(ConfigFault::BadWindow);
     }
-    if config.lane < 1 || config.lane > 65_536 {
+    if config.lane < 1 || config.lane > MAX_LANE {
         return Some(ConfigFault::BadCapacity);
     }
-    if config.symbols.len() > 4_096 {
+    if config.symbols.len() > MAX_SYMBOLS {
         return Some(ConfigFault::TooManySymbols);
     }
     None

@@ -7,7 +7,7 @@
 //!
 //! Contract: what is shown is that of the one run over the events (`specs/Runs.antt`), and the
 //! headline holds of it (`specs/Headline.antt`, law [`headline`]). Begin at `specs/Worlds.antt`,
-//! `specs/Runs.antt` and `specs/Steps.antt` for what an event does, and at `running.rt` for the
+//! `specs/OneStep.antt` and `specs/Steps.antt` for what an event does, and at `running.rt` for the
 //! code.
 #![tactic(auto)]
 

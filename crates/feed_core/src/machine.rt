@@ -13,14 +13,11 @@ use crate::journaling;
 use crate::subscriber::SubscriberState;
 use crate::venue::VenueState;
 use crate::world::World;
-use feed_types::{FeedConfig, LineId, SubscriberId, VenueId};
+use feed_types::{FeedConfig, LineId, MAX_SUBSCRIBERS, SubscriberId, VenueId};
 use filter_terms::Filter;
 use journal_book::Journal;
 use std::alloc::{AllocError, Global};
 use std::marker::Model;
-
-/// The most subscribers that a machine has.
-const MAX_SUBSCRIBERS: usize = 32;
 
 /// The parts of a feed. The filters are kept beside it, that of each subscriber at its place.
 #[derive(Drop)]
@@ -54,17 +51,6 @@ impl Model for Machine {
         × (length m.venue_states.items ≤ m.kept.venues) };
 }
 
-/// The venue of this number.
-fn venue_at(place: usize) -> VenueId
-    requires { place < 16 }
-    ensures { result ≡ place }
-{
-    match VenueId::new(place as u8) {
-        Some(venue) => venue,
-        None => unreachable!(),
-    }
-}
-
 fn new_venues(
     alloc: Global,
     sessions: &[[u8; 10]],
@@ -75,7 +61,7 @@ fn new_venues(
 {
     let mut states = Vec::new(alloc);
     for (place, session) in sessions.iter().enumerate() {
-        let state = VenueState::new(alloc, venue_at(place), *session, window)?;
+        let state = VenueState::new(alloc, VenueId::at(place), *session, window)?;
         states.push(state)?;
     }
     Ok(states)
@@ -244,7 +230,7 @@ impl Machine {
             return Ok(Done::Refused(20));
         }
         self.subscriber_states.push(SubscriberState::new(alloc))?;
-        Ok(Done::Subscribed(subscriber_at(count)))
+        Ok(Done::Subscribed(SubscriberId::at(count)))
     }
 
     /// Takes one event. Each subscriber's filter is at its place.
@@ -289,15 +275,5 @@ impl Machine {
             outcomes.push(done)?;
         }
         Ok(outcomes)
-    }
-}
-
-fn subscriber_at(place: usize) -> SubscriberId
-    requires { place < 32 }
-    ensures { result ≡ place }
-{
-    match SubscriberId::new(place as u8) {
-        Some(id) => id,
-        None => unreachable!(),
     }
 }

@@ -15,7 +15,7 @@ use Rattle.feed_text.specs.ReplayEvents.{ReplayEvent, packet_answered, packet_re
 use Rattle.feed_text.specs.Emitted.{stream_length, gap_emitted, items_emitted, EmitsAt, EmitsRecord, Emits}
 use Rattle.feed_text.specs.Texts.{EmitsAll}
 use Rattle.feed_text.specs.Replays.{venues_in}
-use Rattle.feed_text.specs.laws.Lists.{get_within}
+use Rattle.feed_types.specs.ListLaws.{get_within}
 
 -- the events that a record emits of its venue, which has this history
 tells_at : (window : ℕ) (gaps : Bool) (r : CaptureRecord) (old : History) → HoldsBytes r → (emitted : List ReplayEvent) × (new : History) × EmitsAt window gaps r old emitted new

@@ -18,7 +18,7 @@ use Rattle.feed_text.proofs.Steps.{tells_one}
 use Rattle.line_arbiter.specs.Histories.{History, names_of, after_arrival, history_after}
 use Rattle.feed_text.specs.declared.replay.ReplayConfig.{ReplayConfig}
 use Rattle.feed_text.specs.Capture.{CaptureRecord, datagram_record, renewal_record, self_help_record, record_venue}
-use Rattle.feed_text.specs.ReplayEvents.{ReplayEvent, packet_answered, packet_refused, item_taken, gap_left, renewal_answered, self_help_declared, is_so, entries_after, entries_of}
+use Rattle.feed_text.specs.ReplayEvents.{ReplayEvent, packet_answered, packet_refused, item_taken, gap_left, renewal_answered, self_help_declared, entries_after, entries_of}
 use Rattle.feed_text.specs.Emitted.{stream_length, gap_emitted, items_emitted, EmitsFault, EmitsPacket, EmitsAt, EmitsRecord, Emits}
 use Rattle.feed_text.specs.Texts.{last_lines, new_histories, EmitsAll, lines_emitted, HasJournalRoom, IsTextOf, IsLinesOf, IsLinesToFull}
 

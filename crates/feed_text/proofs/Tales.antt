@@ -1,18 +1,18 @@
 -- States that go on: events after events.
 use Rattle.std.proofs.Common.{◌≡◌, ℕ, Bool, true, false, ◌+◌, ◌<◌, ◌≤◌, List, [], ◌∷◌, ◌++◌, length, drop, refl, sym, ap, subst, ◌∙◌, arith, append_assoc, append-nil, length-append}
-use Rattle.std.specs.Prelude.{Result, Ok, Err, flat_map, not, Some, None, Option}
+use Rattle.std.specs.Prelude.{Result, Ok, Err, flat_map, not, Some, None, Option, if◌then◌else◌}
 use Rattle.std.proofs.Math.ListN.{drop_of_length-le}
 use Rattle.feed_types.specs.declared.item.Numbered.{Numbered}
 use Rattle.feed_types.specs.declared.journal.Entry.{Entry}
 use Rattle.feed_types.specs.declared.journal.Entry.TheVariants.{Consumed, SelfHelp}
-use Rattle.nbbo_book.specs.Eligible.{is_self_helped}
+use Rattle.nbbo_book.specs.Eligible.{is_self_helped, is_so}
 use Rattle.journal_book.specs.Changes.{changes_of, notices_since}
 use Rattle.journal_book.specs.Streaming.{StreamingState, latest_of, GoesOnBy}
 use Rattle.journal_book.specs.LastEntry.{before-put}
 use Rattle.feed_types.specs.declared.journal.Notice.{Notice}
 use Rattle.feed_text.specs.declared.report.PublishStop.{PublishStop}
 use Rattle.feed_text.specs.declared.report.PublishStop.TheVariants.{JournalFull, NoMemory}
-use Rattle.feed_text.specs.ReplayEvents.{ReplayEvent, item_taken, gap_left, self_help_declared, is_so, entries_after, entries_of}
+use Rattle.feed_text.specs.ReplayEvents.{ReplayEvent, item_taken, gap_left, self_help_declared, entries_after, entries_of}
 use Rattle.mold_packet.specs.declared.request.Request.{Request}
 use Rattle.feed_text.specs.Emitted.{gap_event}
 use Rattle.feed_text.specs.Lines.{best_line, gap_line, item_line, declare_line}
@@ -186,21 +186,23 @@ item_full o venue n text full = record {
   full = let n = length-append o.entries (Consumed venue n ∷ []) in omega arith;
 }
 
-not_true : (b : Bool) → (b ≡ true → ⊥) → b ≡ false
-not_true true h = absurd (h refl)
-not_true false h = refl
-
-not_false : (b : Bool) → (b ≡ false → ⊥) → not b ≡ false
-not_false true h = refl
-not_false false h = absurd (h refl)
-
 so_not : (entries : List Entry) (venue : ℕ) (on : Bool) → (is_self_helped entries venue ≡ on → ⊥) → is_so entries venue on ≡ false
-so_not entries venue true h = not_true (is_self_helped entries venue) h
-so_not entries venue false h = not_false (is_self_helped entries venue) h
+so_not entries venue on h = by (is_self_helped entries venue) on h
+  where
+    by : (helped on : Bool) → (helped ≡ on → ⊥) → (if helped then on else not on) ≡ false
+    by true true h = absurd (h refl)
+    by true false h = refl
+    by false true h = refl
+    by false false h = absurd (h refl)
 
 so_yes : (entries : List Entry) (venue : ℕ) (on : Bool) → is_self_helped entries venue ≡ on → is_so entries venue on ≡ true
-so_yes entries venue true h = h
-so_yes entries venue false h = ap not h
+so_yes entries venue on h = by (is_self_helped entries venue) on h
+  where
+    by : (helped on : Bool) → helped ≡ on → (if helped then on else not on) ≡ true
+    by true true e = refl
+    by true false e = absurd cc
+    by false true e = absurd cc
+    by false false e = refl
 
 -- a declaration that was journaled
 pub declared_goes : (o j : StreamingState) (venue : ℕ) (on : Bool) (position : ℕ) (latest : List Notice) (t0 t1 t2 : List ℕ)

@@ -13,7 +13,8 @@ use Rattle.feed_text.specs.Texts.{last_line, last_lines}
 use Rattle.feed_text.specs.ReplayStates.{ReplayState, EmitsInto}
 use Rattle.feed_text.specs.ReplayEvents.{self_help_declared}
 use Rattle.feed_text.specs.Following.{ReplayVenue, VenueList, Follows, FollowAll, EmitsOne, TakesRecord}
-use Rattle.feed_text.specs.laws.Lists.{get_within, get_set_same, get_set_other, same_or_not, same_set}
+use Rattle.feed_types.specs.ListLaws.{get_within}
+use Rattle.feed_text.specs.laws.Lists.{get_set_same, get_set_other, same_or_not, same_set}
 use Rattle.feed_text.proofs.VenueSteps.{on_ok}
 use Rattle.feed_text.proofs.Rest.{rest_at}
 

@@ -31,5 +31,6 @@ pub no_calls : (calls : ℕ) → calls ≡ calls + 0
 no_calls calls = omega arith
 
 -- calls after calls
-pub more_calls : (before mid after m n : ℕ) → mid ≡ before + m → after ≡ mid + n → after ≡ before + (m + n)
+pub more_calls : (before mid after m n : ℕ) → mid ≡ before + m → after ≡ mid + n
+    → after ≡ before + (m + n)
 more_calls before mid after m n a b = omega (arith, a, b)

@@ -23,7 +23,8 @@ pub record HeldBytes : Type 0 where
   pub piece : ℕ
 
 -- `calls` calls read these bytes from the front, each at least one and at most a piece.
-pub record GivesPieces (before : HeldBytes) (calls : ℕ) (bytes : List ℕ) (after : HeldBytes) : Type 0 where
+pub record GivesPieces (before : HeldBytes) (calls : ℕ) (bytes : List ℕ) (after : HeldBytes) : Type
+    0 where
   pub front : before.bytes ≡ bytes ++ after.bytes
   pub least : calls ≤ length bytes
   pub most : length bytes ≤ calls * before.piece

@@ -51,7 +51,8 @@ pub record EmitsPacket (window : ℕ) (gaps : Bool) (venue : ℕ) (line : LineId
   pub rest : List ℕ
   pub answer : Result Outcome LineFault
   pub spells : Spells bytes packet rest
-  pub outcome : IsOutcome old.present.name window (stream_length old) old.present.packets packet answer
+  pub outcome : IsOutcome old.present.name window (stream_length old) old.present.packets packet
+      answer
   pub grown : new ≡ after_arrival old (arrival_of line packet answer)
   pub emitted_is : emitted ≡ packet_answered venue line answer
       ∷ items_emitted venue old new.present.packets ++ gap_emitted window gaps venue new
@@ -75,8 +76,10 @@ abbrev pub EmitsAt : ℕ → Bool → CaptureRecord → History → List ReplayE
 EmitsAt window gaps (datagram_record venue line bytes) old emitted new =
     EmitsFault window gaps venue line bytes old emitted new
     ⊎ EmitsPacket window gaps venue line bytes old emitted new
-EmitsAt window gaps (renewal_record venue name) old emitted new = EmitsRenewal venue name old emitted new
-EmitsAt window gaps (self_help_record venue on) old emitted new = EmitsSelfHelp venue on old emitted new
+EmitsAt window gaps (renewal_record venue name) old emitted new =
+    EmitsRenewal venue name old emitted new
+EmitsAt window gaps (self_help_record venue on) old emitted new =
+    EmitsSelfHelp venue on old emitted new
 
 -- a record: its venue's history goes on, and the others stay
 pub record EmitsRecord (window : ℕ) (gaps : Bool) (r : CaptureRecord) (old : List History)

@@ -62,6 +62,14 @@ pub record EmitsOutcome (width place : ℕ) (line : LineId) (packet : Content) (
       new done
   pub follows : OnOk done (Follows width place v (after_arrival h (arrival_of line packet answer)))
 
+-- The same, whatever history the venue followed.
+abbrev pub PublishesPacket : ℕ → LineId → Content → ReplayVenue → ReplayState → ReplayVenue
+    → ReplayState
+    → Result (Unit {0}) PublishStop → Type 0
+PublishesPacket place line packet old before new after done =
+    (width : ℕ) (h : History) → Follows width place old h
+    → EmitsOutcome width place line packet h before after new done
+
 -- A renewal was answered, and the venue follows the history after it.
 pub record Renews (width place : ℕ) (name : List ℕ) (h : History) (v : ReplayVenue)
     (answer : Result ℕ RenewFault) : Type 0 where
@@ -86,21 +94,24 @@ pub record VenueList : Type 0 where
 -- each venue follows its history
 pub record FollowAll (window : ℕ) (vs : List ReplayVenue) (hs : List History) : Type 0 where
   pub count : length vs ≡ length hs
-  pub each : (i : ℕ) (v : ReplayVenue) (h : History) → slice_get vs i ≡ Some v → slice_get hs i ≡ Some h
+  pub each : (i : ℕ) (v : ReplayVenue) (h : History) → slice_get vs i ≡ Some v
+      → slice_get hs i ≡ Some h
       → Follows window i v h
 
 -- The events of a record were emitted, and where all of them were the venues follow the histories
 -- after it.
 pub record EmitsNext (window : ℕ) (gaps : Bool) (r : CaptureRecord) (hs : List History)
-    (old new : ReplayState) (vs : List ReplayVenue) (done : Result (Unit {0}) PublishStop) : Type 0 where
-  pub emitted : List ReplayEvent
-  pub after : List History
-  pub record_tells : EmitsRecord window gaps r hs emitted after
-  pub emits : EmitsInto old emitted new done
-  pub follow : OnOk done (FollowAll window vs after)
+    (old new : ReplayState) (vs : List ReplayVenue) (done : Result (Unit {0}) PublishStop) : Type 0
+  where
+    pub emitted : List ReplayEvent
+    pub after : List History
+    pub record_tells : EmitsRecord window gaps r hs emitted after
+    pub emits : EmitsInto old emitted new done
+    pub follow : OnOk done (FollowAll window vs after)
 
 -- The venues take a record, whatever histories they follow.
-pub record TakesRecord (from : VenueList) (r : CaptureRecord) (old new : ReplayState) (to : VenueList)
+pub record TakesRecord (from : VenueList) (r : CaptureRecord) (old new : ReplayState)
+    (to : VenueList)
     (done : Result (Unit {0}) PublishStop) : Type 0 where
   pub gaps : OnOk done (to.gaps ≡ from.gaps)
   pub count : OnOk done (length to.items ≡ length from.items)
@@ -143,8 +154,4 @@ Closes adds failures at before after (Ok done) = WritesLast at (λ lines. adds b
 Closes adds failures at before after (Err faults.NoMemory) = after ≡ before
 Closes adds failures at before after (Err faults.WriteFailed) =
     WritesLast at (λ lines. Wrote adds before lines after) × (failures after ≡ failures before + 1)
-Closes adds failures at before after (Err faults.BadRecord) = ⊥
-Closes adds failures at before after (Err faults.ShortRecord) = ⊥
-Closes adds failures at before after (Err faults.TooManyTurns) = ⊥
-Closes adds failures at before after (Err faults.JournalFull) = ⊥
-Closes adds failures at before after (Err faults.ReadFailed) = ⊥
+Closes adds failures at before after _ = ⊥

@@ -1,5 +1,5 @@
 -- The events of a replay, apart from how they are printed, and the journal that they make.
-use Rattle.std.specs.Prelude.{ℕ, Bool, true, false, not, List, [], ◌∷◌, ◌++◌, Result, if◌then◌else◌}
+use Rattle.std.specs.Prelude.{ℕ, Bool, List, [], ◌∷◌, ◌++◌, Result, if◌then◌else◌}
 use Rattle.feed_types.specs.declared.item.Numbered.{Numbered}
 use Rattle.feed_types.specs.declared.journal.Entry.{Entry}
 use Rattle.feed_types.specs.declared.journal.Entry.TheVariants.{Consumed, SelfHelp}
@@ -9,7 +9,7 @@ use Rattle.mold_packet.specs.declared.request.Request.{Request}
 use Rattle.line_arbiter.specs.declared.outcome.Outcome.{Outcome}
 use Rattle.line_arbiter.specs.declared.outcome.LineFault.{LineFault}
 use Rattle.line_arbiter.specs.declared.faults.RenewFault.{RenewFault}
-use Rattle.nbbo_book.specs.Eligible.{is_self_helped}
+use Rattle.nbbo_book.specs.Eligible.{is_so}
 
 -- A packet was answered, a datagram was no packet, an item was ready and taken, a run of messages
 -- is to be asked for, a renewal was answered, or self-help was declared or withdrawn: each at a
@@ -21,11 +21,6 @@ pub data ReplayEvent : Type 0 where
   gap_left : (venue : ℕ) (request : Request) → ReplayEvent
   renewal_answered : (venue : ℕ) (answer : Result ℕ RenewFault) → ReplayEvent
   self_help_declared : (venue : ℕ) (on : Bool) → ReplayEvent
-
--- self-help on the venue is on, or off, already; at first it is off
-abbrev pub is_so : List Entry → ℕ → Bool → Bool
-is_so entries venue true = is_self_helped entries venue
-is_so entries venue false = not (is_self_helped entries venue)
 
 -- The journal after one more event: an item adds its entry, a declaration adds one unless that is
 -- declared already, and other events add none.

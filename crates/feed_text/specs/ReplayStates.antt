@@ -44,21 +44,24 @@ pub record Grows (old new : List ℕ) : Type 0 where
   pub behind : new ≡ old ++ more
 
 -- The state goes on with these events.
-pub record GoesOn (old : ReplayState) (emitted : List ReplayEvent) (new : ReplayState) : Type 0 where
-  pub is : new ≡ state_after old emitted
-  pub within : IsWithinJournal old → IsWithinJournal new
+pub record GoesOn (old : ReplayState) (emitted : List ReplayEvent) (new : ReplayState) : Type 0
+  where
+    pub is : new ≡ state_after old emitted
+    pub within : IsWithinJournal old → IsWithinJournal new
 
 -- The state goes on with the first of these events, and the journal has no room for the next one.
-pub record GoesToFull (old : ReplayState) (emitted : List ReplayEvent) (new : ReplayState) : Type 0 where
-  pub first : List ReplayEvent
-  pub next : ReplayEvent
-  pub others : List ReplayEvent
-  pub emitted_is : emitted ≡ first ++ next ∷ others
-  pub goes : GoesOn old first new
-  pub full : new.journal < length (entries_after new.entries next)
+pub record GoesToFull (old : ReplayState) (emitted : List ReplayEvent) (new : ReplayState) : Type 0
+  where
+    pub first : List ReplayEvent
+    pub next : ReplayEvent
+    pub others : List ReplayEvent
+    pub emitted_is : emitted ≡ first ++ next ∷ others
+    pub goes : GoesOn old first new
+    pub full : new.journal < length (entries_after new.entries next)
 
 -- The results of emitting these events, by the answer.
-abbrev pub EmitsInto : ReplayState → List ReplayEvent → ReplayState → Result (Unit {0}) PublishStop → Type 0
+abbrev pub EmitsInto : ReplayState → List ReplayEvent → ReplayState → Result (Unit {0}) PublishStop
+    → Type 0
 EmitsInto old emitted new (Ok done) = GoesOn old emitted new
 EmitsInto old emitted new (Err JournalFull) = GoesToFull old emitted new
 EmitsInto old emitted new (Err NoMemory) = Grows old.text new.text

@@ -3,12 +3,13 @@
 use Rattle.std.specs.Prelude.{◌≡◌, ℕ, ◌+◌, ◌<◌, ◌≤◌, Bool, List, [], ◌∷◌, ◌++◌, length, flat_map, map, Option, Some, None, if◌then◌else◌}
 use Rattle.feed_types.specs.declared.journal.Entry.{Entry}
 use Rattle.mold_packet.specs.Faults.{code_of}
+use Rattle.nbbo_book.specs.Eligible.{is_so}
 use Rattle.line_arbiter.specs.Histories.{History, new_history, all_begun, streams_of, wins_in}
 use Rattle.line_arbiter.specs.Counts.{shown}
 use Rattle.journal_book.specs.Changes.{notices_since}
 use Rattle.feed_text.specs.declared.replay.ReplayConfig.{ReplayConfig}
 use Rattle.feed_text.specs.Capture.{CaptureRecord}
-use Rattle.feed_text.specs.ReplayEvents.{ReplayEvent, packet_answered, packet_refused, item_taken, gap_left, renewal_answered, self_help_declared, is_so, entries_after, entries_of}
+use Rattle.feed_text.specs.ReplayEvents.{ReplayEvent, packet_answered, packet_refused, item_taken, gap_left, renewal_answered, self_help_declared, entries_after, entries_of}
 use Rattle.feed_text.specs.Lines.{packet_line, fault_line, item_line, best_line, gap_line, renew_line, declare_line, venue_line}
 use Rattle.feed_text.specs.Emitted.{EmitsRecord, Emits}
 

@@ -14,7 +14,7 @@ ghost use Rattle.feed_text.specs.ReplayEvents.{item_taken, packet_answered};
 ghost use Rattle.feed_text.specs.Emitted.{gap_event};
 ghost use Rattle.feed_text.specs.Texts.{last_line};
 ghost use Rattle.feed_text.specs.ReplayStates.{EmitsInto, state_of_replay};
-ghost use Rattle.feed_text.specs.Following.{Follows, TakesReady, EmitsOutcome, EmitsOne, Renews};
+ghost use Rattle.feed_text.specs.Following.{Follows, TakesReady, PublishesPacket, EmitsOne, Renews};
 
 use crate::lines::{put_fault, put_gap, put_packet, put_renewal, put_venue};
 use crate::page::LineBuffer;
@@ -224,9 +224,8 @@ impl VenueReplay {
         report: &mut ReplaySink,
     ) -> Result<(), PublishStop>
         requires { venue < report.old.journal.venues }
-        ensures { (width : ℕ) (h : History) → Follows width venue self.old h
-            → EmitsOutcome width venue line packet.now h
-            (state_of_replay report.old) (state_of_replay report.new) self.new result }
+        ensures { PublishesPacket venue line packet.now self.old (state_of_replay report.old)
+            self.new (state_of_replay report.new) result }
     {
         match self.arbiter.take(line, packet) {
             Ok(outcome) => publish_answer(&mut self.arbiter, venue, line, &Ok(outcome), report),
@@ -244,9 +243,8 @@ impl VenueReplay {
         report: &mut ReplaySink,
     ) -> Result<(), PublishStop>
         requires { venue < report.old.journal.venues }
-        ensures { (width : ℕ) (h : History) → Follows width venue self.old h
-            → EmitsOutcome width venue line packet.now h
-            (state_of_replay report.old) (state_of_replay report.new) self.new result }
+        ensures { PublishesPacket venue line packet.now self.old (state_of_replay report.old)
+            self.new (state_of_replay report.new) result }
     {
         self.take_any(venue, line, &packet.copied(), report)
     }
@@ -262,9 +260,8 @@ impl VenueReplay {
         report: &mut ReplaySink,
     ) -> Result<(), PublishStop>
         requires { venue < report.old.journal.venues }
-        ensures { (width : ℕ) (h : History) → Follows width venue self.old h
-            → EmitsOutcome width venue line packet.now h
-            (state_of_replay report.old) (state_of_replay report.new) self.new result }
+        ensures { PublishesPacket venue line packet.now self.old (state_of_replay report.old)
+            self.new (state_of_replay report.new) result }
     {
         let Some(order) = self.arbiter.peek_in_order(packet) else {
             return self.take_copied(venue, line, packet, report);

@@ -28,17 +28,6 @@ impl Model for Venues {
     ghost view = { λ v. record { items = v.venues.items; gaps = v.gaps } };
 }
 
-/// The venue of this number.
-fn venue_at(place: usize) -> VenueId
-    requires { place < 16 }
-    ensures { result ≡ place }
-{
-    match VenueId::from_index(place) {
-        Some(venue) => venue,
-        None => unreachable!(),
-    }
-}
-
 impl Venues {
     /// A venue for each session name, 16 at most, to which nothing came. They take the memory of
     /// their windows here, and none later.
@@ -57,7 +46,7 @@ impl Venues {
     {
         let mut venues = Vec::new(alloc);
         for (place, session) in sessions.iter().enumerate() {
-            let venue = VenueReplay::new(alloc, venue_at(place), *session, window)?;
+            let venue = VenueReplay::new(alloc, VenueId::at(place), *session, window)?;
             venues.push(venue)?;
         }
         Ok(Venues { venues, gaps })

@@ -10,7 +10,7 @@ use Rattle.std.proofs.lemmas.List.Folds.{list_all_at}
 use Rattle.std.proofs.lemmas.Nat.{be_bytes_8}
 use Rattle.std.specs.Int.{w64, to_be_bytes}
 use Rattle.feed_types.specs.FieldTests.{is_filled, is_name_filled}
-use Rattle.feed_types.specs.Symbols.{is_space, is_name_byte, name_of, filling_of, is_symbol_field, word_of}
+use Rattle.feed_types.specs.Symbols.{is_space, is_name_byte, name_of, filling_of, is_symbol_field, key_of}
 
 -- a byte that a field may have
 abbrev pub may_stand : ℕ → Bool
@@ -100,10 +100,10 @@ bytes_small field h =
     all_small field (and_parts (list_all may_stand field) (is_name_filled (map is_no_space field)) (tested field n ∙ h)).0
 
 -- the number of a symbol's field gives its bytes again
-pub bytes_of_word : (field : List ℕ) → is_symbol_field field ≡ true → to_be_bytes w64 (word_of field) ≡ field
-bytes_of_word field h = be_bytes_8 field (word_of field) (len_eight field h) (bytes_small field h) refl
+pub bytes_of_word : (field : List ℕ) → is_symbol_field field ≡ true → to_be_bytes w64 (key_of field) ≡ field
+bytes_of_word field h = be_bytes_8 field (key_of field) (len_eight field h) (bytes_small field h) refl
 
-pub same_symbol : (a b : List ℕ) → is_symbol_field a ≡ true → is_symbol_field b ≡ true → word_of a ≡ word_of b → a ≡ b
+pub same_symbol : (a b : List ℕ) → is_symbol_field a ≡ true → is_symbol_field b ≡ true → key_of a ≡ key_of b → a ≡ b
 same_symbol a b ha hb e = sym (bytes_of_word a ha) ∙ ap (λ (w : ℕ). to_be_bytes w64 w) e ∙ bytes_of_word b hb
 
 spaced : (field : List ℕ) → is_symbol_field field ≡ true → list_all is_space (filling_of field) ≡ true

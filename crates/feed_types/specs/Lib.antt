@@ -3,6 +3,7 @@ pub mod FieldTests
 pub mod Nationals
 pub mod Text
 pub mod Prefix
+pub mod ListLaws
 pub mod Sequence
 pub mod SequenceLaws
 pub mod Sessions

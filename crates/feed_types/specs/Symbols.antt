@@ -33,5 +33,5 @@ abbrev pub filled : List ℕ → List ℕ
 filled name = name ++ replicate (8 - length name) 32
 
 -- the field as one number, its first byte highest
-abbrev pub word_of : List ℕ → ℕ
-word_of field = from_be_bytes w64 field
+abbrev pub key_of : List ℕ → ℕ
+key_of field = from_be_bytes w64 field

@@ -3,6 +3,7 @@
 ghost use Rattle.std.specs.Prelude.{◌≡◌, ◌<◌, Some, decimal};
 ghost use Rattle.std.specs.Option.{SomeIff};
 
+use crate::limits::{MAX_SUBSCRIBERS, MAX_VENUES};
 use std::fmt;
 use std::marker::Model;
 
@@ -29,7 +30,7 @@ impl VenueId {
     pub const fn new(place: u8) -> Option<VenueId>
         ensures { SomeIff result (place < 16) place }
     {
-        if place < 16 {
+        if (place as usize) < MAX_VENUES {
             Some(VenueId { place })
         } else {
             None
@@ -40,11 +41,19 @@ impl VenueId {
     pub const fn from_index(index: usize) -> Option<VenueId>
         ensures { SomeIff result (index < 16) index }
     {
-        if index < 16 {
-            Some(VenueId { place: index as u8 })
+        if index < MAX_VENUES {
+            Some(VenueId::at(index))
         } else {
             None
         }
+    }
+
+    /// The venue at this place of a list of at most 16 venues.
+    pub const fn at(index: usize) -> VenueId
+        requires { index < 16 }
+        ensures { result ≡ index }
+    {
+        VenueId { place: index as u8 }
     }
 
     /// The venue's number, for use as an index.
@@ -88,11 +97,19 @@ impl SubscriberId {
     pub const fn new(place: u8) -> Option<SubscriberId>
         ensures { SomeIff result (place < 32) place }
     {
-        if place < 32 {
+        if (place as usize) < MAX_SUBSCRIBERS {
             Some(SubscriberId { place })
         } else {
             None
         }
+    }
+
+    /// The subscriber at this place of a list of at most 32 subscribers.
+    pub const fn at(index: usize) -> SubscriberId
+        requires { index < 32 }
+        ensures { result ≡ index }
+    {
+        SubscriberId { place: index as u8 }
     }
 
     /// The subscriber's number, for use as an index.

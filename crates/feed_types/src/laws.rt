@@ -5,7 +5,7 @@ ghost use Rattle.feed_types.specs.declared.item.Numbered.{Numbered};
 ghost use Rattle.feed_types.specs.Prefix.{IsPrefix};
 ghost use Rattle.feed_types.specs.Sequence.{first_place, place_after, place_after_all, MayCarry, IsInSequence};
 ghost use Rattle.feed_types.specs.Sessions.{Session, Names, whole_sessions};
-ghost use Rattle.feed_types.specs.Symbols.{is_symbol_field, word_of};
+ghost use Rattle.feed_types.specs.Symbols.{is_symbol_field, key_of};
 
 use crate::genuine::Genuine;
 
@@ -37,8 +37,8 @@ pub fn sequence_is_of_the_sessions<G: Genuine>()
         IsPrefix xs (whole_sessions all) }
 {}
 
-/// No two symbols have one word.
-pub fn one_symbol_a_word()
+/// No two symbols have one key.
+pub fn one_symbol_a_key()
     ensures { (a b : List ℕ) → IsTrue (is_symbol_field a) → IsTrue (is_symbol_field b) →
-        word_of a ≡ word_of b → a ≡ b }
+        key_of a ≡ key_of b → a ≡ b }
 {}

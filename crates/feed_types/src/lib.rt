@@ -16,6 +16,7 @@ mod ids;
 mod item;
 mod journal;
 mod laws;
+mod limits;
 mod line;
 mod national;
 mod price;
@@ -27,9 +28,10 @@ pub use ids::{SubscriberId, VenueId};
 pub use item::{Item, Numbered, Quote};
 pub use journal::{Entry, Notice};
 pub use laws::{
-    every_prefix_is_in_sequence, one_more_in_sequence, one_symbol_a_word,
+    every_prefix_is_in_sequence, one_more_in_sequence, one_symbol_a_key,
     sequence_is_of_the_sessions,
 };
+pub use limits::{MAX_LANE, MAX_SESSIONS, MAX_SUBSCRIBERS, MAX_SYMBOLS, MAX_VENUES, MAX_WINDOW};
 pub use line::{LineId, Side};
 pub use national::{Best, National, NationalState};
 pub use price::Price;

@@ -4,7 +4,7 @@ ghost use Rattle.std.specs.Prelude.{◌*◌, ◌≡◌, IsTrue, Some, length, na
 ghost use Rattle.std.specs.Int.{w64, to_be_bytes};
 ghost use Rattle.std.specs.List.{list_all};
 ghost use Rattle.std.specs.Option.{SomeIff};
-ghost use Rattle.feed_types.specs.Symbols.{is_name_byte, is_symbol_field, is_symbol_name, name_of, filled, word_of};
+ghost use Rattle.feed_types.specs.Symbols.{is_name_byte, is_symbol_field, is_symbol_name, name_of, filled, key_of};
 ghost use Rattle.feed_types.specs.FieldTests.{EndsWithin, IsZeroWhereFilled, Marks};
 
 use std::fmt;
@@ -159,8 +159,8 @@ impl SymbolName {
     /// The field as one number, its first byte highest: equal exactly where the symbols are, and in
     /// their order. As a key it hashes faster than eight bytes do.
     #[inline(always)]
-    pub fn word(self) -> u64
-        ensures value { result ≡ word_of self }
+    pub fn key(self) -> u64
+        ensures value { result ≡ key_of self }
         ensures field { to_be_bytes w64 result ≡ self }
     {
         u64::from_be_bytes(self.bytes)

@@ -26,7 +26,7 @@ mod steps;
 
 pub use fault::LaneFault;
 pub use laws::{notice_numbers_rise, venue_items_are_in_sequence, venue_numbers_count_up};
-pub use making::{MAX_CAPACITY, lane};
+pub use making::lane;
 pub use receiver::Receiver;
 pub use rule::LaneRule;
 pub use rules::{RisingNotices, VenueItems};

@@ -11,16 +11,14 @@ use crate::receiver::Receiver;
 use crate::rule::LaneRule;
 use crate::sender::Sender;
 use crate::steps::Parted;
+use feed_types::MAX_LANE;
 use std::alloc::Global;
 use std::marker::Brand;
 use std::sync::Arc;
 
-/// The most items that a lane may have room for.
-pub const MAX_CAPACITY: u32 = 65_536;
-
 /// The two ends of an empty lane with this tag, which has room for `capacity` items.
 ///
-/// `BadCapacity` where that isn't 1 to [`MAX_CAPACITY`], else `NoMemory` where the memory for its
+/// `BadCapacity` where that isn't 1 to [`MAX_LANE`], else `NoMemory` where the memory for its
 /// places was refused. No other call of a lane takes memory. Under [`crate::VenueItems`] the tag is
 /// the venue's number, under [`crate::RisingNotices`] the subscriber's id.
 pub fn lane<T: Drop, R: LaneRule<T>>(
@@ -36,7 +34,7 @@ pub fn lane<T: Drop, R: LaneRule<T>>(
     ensures ok { OnOk result ((1 ≤ capacity) × (capacity ≤ 65536)) }
     ensures bad { (result ≡ Err BadCapacity) ↔ ((capacity < 1) ⊎ (65536 < capacity)) }
 {
-    if capacity == 0 || capacity > MAX_CAPACITY {
+    if capacity == 0 || capacity > MAX_LANE {
         return Err(LaneFault::BadCapacity);
     }
     let Ok((queue, mut pass)) = Queue::<T, R>::ruled(alloc, capacity as usize) else {

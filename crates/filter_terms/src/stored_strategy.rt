@@ -17,14 +17,14 @@ impl StoredStrategy {
     ghost use Rattle.std.specs.Prelude.{◌≡◌};
     ghost use Rattle.filter_terms.specs.StoredStrategies.{MayAdvise};
 
-    pub fn new(advise: AdviceFn) -> StoredStrategy
+    pub(crate) fn new(advise: AdviceFn) -> StoredStrategy
         requires { AdviceFn.IsAlwaysCallable advise }
         ensures { result.advise ≡ advise }
     {
         StoredStrategy { advise }
     }
 
-    pub fn ask(&mut self, notice: &Notice) -> Advice
+    pub(crate) fn ask(&mut self, notice: &Notice) -> Advice
         ensures { MayAdvise self.old notice.entry result self.new }
     {
         (self.advise)(notice)

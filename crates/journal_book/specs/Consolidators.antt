@@ -43,6 +43,4 @@ SubscribesFilter old filter (Err (TooManySubscribers, back)) new =
     (32 ≤ length old.cursors) × (back ≡ filter) × (new ≡ old)
 SubscribesFilter old filter (Err (NoMemory, back)) new =
     (length old.cursors < 32) × (back ≡ filter) × (new ≡ old)
-SubscribesFilter old filter (Err (JournalFull, back)) new = ⊥
-SubscribesFilter old filter (Err (UnknownVenue, back)) new = ⊥
-SubscribesFilter old filter (Err (AlreadySo, back)) new = ⊥
+SubscribesFilter old filter _ new = ⊥

@@ -73,9 +73,7 @@ AddsSubscription old terms (Err (TooManySubscribers, back)) new =
     (32 ≤ length old.cursors) × (back ≡ terms) × (new ≡ old)
 AddsSubscription old terms (Err (NoMemory, back)) new =
     (length old.cursors < 32) × (back ≡ terms) × (new ≡ old)
-AddsSubscription old terms (Err (JournalFull, back)) new = ⊥
-AddsSubscription old terms (Err (UnknownVenue, back)) new = ⊥
-AddsSubscription old terms (Err (AlreadySo, back)) new = ⊥
+AddsSubscription old terms _ new = ⊥
 
 -- there is one more entry, and nothing else differs, but for the room
 abbrev pub Journals : JournalState → Entry → JournalState → Type 0
@@ -87,9 +85,7 @@ abbrev pub Reserves : JournalState → Result (Unit {0}) JournalFault → Journa
 Reserves old (Ok u) new = (length old.entries < old.journal) × (new ≡ record old { ready = true })
 Reserves old (Err JournalFull) new = (old.journal ≤ length old.entries) × (new ≡ old)
 Reserves old (Err NoMemory) new = (length old.entries < old.journal) × (new ≡ old)
-Reserves old (Err UnknownVenue) new = ⊥
-Reserves old (Err AlreadySo) new = ⊥
-Reserves old (Err TooManySubscribers) new = ⊥
+Reserves old _ new = ⊥
 
 -- the answer to `declare`: memory is refused only where the entry would be journaled else
 abbrev pub Declares : JournalState → ℕ → Bool → Result ℕ JournalFault → JournalState → Type 0

@@ -19,18 +19,25 @@ before-put es e =
 
 -- what the entry that was put made
 pub latest-put : (symbols : List (List ℕ)) (es : List Entry) (e : Entry)
-    → latest_of symbols (es ++ e ∷ []) ≡ notices_from (length (changes_of symbols es) + 1) (changes_by symbols es (length es + 1) e)
+    → latest_of symbols (es ++ e ∷ [])
+    ≡ notices_from (length (changes_of symbols es) + 1)
+    (changes_by symbols es (length es + 1) e)
 latest-put symbols es e =
-    let made = notices_from (length (changes_of symbols es) + 1) (changes_by symbols es (length es + 1) e) in
-    ap (λ (l : List Entry). drop (length (changes_of symbols l)) (changes_of symbols (es ++ e ∷ []))) (before-put es e)
+    let made =
+    notices_from (length (changes_of symbols es) + 1) (changes_by symbols es (length es + 1) e)
+    in
+    ap (λ (l : List Entry). drop (length (changes_of symbols l))
+    (changes_of symbols (es ++ e ∷ []))) (before-put es e)
     ∙ ap (λ (l : List Notice). drop (length (changes_of symbols es)) l) (changes-put symbols es e)
     ∙ drop-append_seam (changes_of symbols es) made
 
 -- and how many notices there are then
 pub count-put : (symbols : List (List ℕ)) (es : List Entry) (e : Entry)
-    → length (changes_of symbols (es ++ e ∷ [])) ≡ length (changes_of symbols es) + length (changes_by symbols es (length es + 1) e)
+    → length (changes_of symbols (es ++ e ∷ []))
+    ≡ length (changes_of symbols es) + length (changes_by symbols es (length es + 1) e)
 count-put symbols es e =
     let made = changes_by symbols es (length es + 1) e in
     ap length (changes-put symbols es e)
     ∙ length-append (changes_of symbols es) (notices_from (length (changes_of symbols es) + 1) made)
-    ∙ ap (λ (n : ℕ). length (changes_of symbols es) + n) (length-numbered (length (changes_of symbols es) + 1) made)
+    ∙ ap (λ (n : ℕ). length (changes_of symbols es) + n)
+    (length-numbered (length (changes_of symbols es) + 1) made)

@@ -11,15 +11,13 @@ use crate::numbered_book::NumberedBook;
 use crate::room::make_room;
 use crate::search::{next_wanted, notice_at};
 use feed_types::{
-    Entry, Item, National, Notice, Numbered, Quote, SubscriberId, SymbolName, VenueId,
+    Entry, Item, MAX_SUBSCRIBERS, National, Notice, Numbered, Quote, SubscriberId, SymbolName,
+    VenueId,
 };
 use filter_terms::{Filter, Terms};
 use nbbo_book::BookFault;
 use std::alloc::Global;
 use std::marker::Model;
-
-/// The most subscribers.
-const MAX_SUBSCRIBERS: usize = 32;
 
 /// The entries, in the order in which they were taken, the changes of the national best that they
 /// made, numbered from 1, and a cursor for each subscriber. It holds no closure.
@@ -163,8 +161,9 @@ impl Journal {
         ensures offered { subscriptions_of self.new ≡ subscriptions_of self.old }
     {
         let place = self.entries.len();
+        let position = place as u64 + 1;
         push_entry(&mut self.entries, entry);
-        let position = self.numbered.take(&self.entries[place]);
+        self.numbered.take(position, &self.entries[place]);
         push_notices(&mut self.notices, self.numbered.latest());
         position
     }

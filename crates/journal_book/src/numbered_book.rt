@@ -1,6 +1,6 @@
 //! A book whose entries are numbered.
 
-ghost use Rattle.std.specs.Prelude.{◌≡◌, ◌<◌, ◌≤◌, ◌↔◌, length, IsTrue, IfOk};
+ghost use Rattle.std.specs.Prelude.{◌≡◌, ◌+◌, ◌<◌, ◌≤◌, ◌↔◌, length, IsTrue, IfOk};
 ghost use Rattle.feed_types.specs.declared.journal.Entry.{Entry};
 ghost use Rattle.nbbo_book.specs.Books.{FitsBook, venue_of};
 ghost use Rattle.nbbo_book.specs.Refusals.{ConfiguresBook};
@@ -113,21 +113,27 @@ impl NumberedBook {
         Ok(())
     }
 
-    /// Numbers the entry and applies it, and returns its number, the position that it has.
+    /// Returns the position of the next entry, of which there is room for one.
     #[inline(always)]
-    pub(crate) fn take(&mut self, entry: &Entry) -> u64
-        requires room { length self.old.entries < self.old.journal }
+    pub(crate) fn next_position(&self) -> u64
+        requires { length self.now.entries < self.now.journal }
+        ensures { result ≡ length self.now.entries + 1 }
+    {
+        self.book.last_position() + 1
+    }
+
+    /// Applies the next entry, whose position this is.
+    #[inline(always)]
+    pub(crate) fn take(&mut self, position: u64, entry: &Entry)
+        requires next { position ≡ length self.old.entries + 1 }
         requires venue { venue_of entry.now < self.old.venues }
         ensures takes { TakesEntry self.old entry.now self.new }
-        ensures position { result ≡ length self.new.entries }
         ensures few { length self.new.latest ≤ length self.new.symbols }
         ensures most { length self.new.symbols ≤ 4096 }
     {
-        let position = self.book.last_position() + 1;
         self.latest.clear();
         self.book.apply(position, entry, &mut self.latest);
         self.past = self.past.with(entry);
-        position
     }
 
     /// Lends the changes that the last entry made, in the order of the symbols; none before there

@@ -88,7 +88,9 @@ impl StreamingJournal {
         ensures position { result ≡ length self.new.entries }
     {
         self.earlier += self.numbered.latest().len() as u64;
-        self.numbered.take(entry)
+        let position = self.numbered.next_position();
+        self.numbered.take(position, entry);
+        position
     }
 
     /// Journals the venue's item, and returns its position, which counts from 1. There is room, and

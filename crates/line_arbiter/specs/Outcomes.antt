@@ -54,23 +54,13 @@ ToMessages window sent packets p (Ok (Taken new repeated)) =
     IsBefore (end_of packets) (last_number p) × (last_number p ≤ sent + window)
     × Agrees packets sent p
     × (new ≡ new_count packets p) × (new + repeated ≡ length p.messages)
-ToMessages window sent packets p (Ok Heartbeat) = ⊥
-ToMessages window sent packets p (Ok Ended) = ⊥
-ToMessages window sent packets p (Err OtherSession) = ⊥
-ToMessages window sent packets p (Err EndMoved) = ⊥
-ToMessages window sent packets p (Err EndTooEarly) = ⊥
+ToMessages window sent packets p _ = ⊥
 
 -- the answer to a heartbeat with this number
 abbrev pub ToHeartbeat : List Arrival → ℕ → Result Outcome LineFault → Type 0
 ToHeartbeat packets n (Err PastEnd) = (end : ℕ) × (end_of packets ≡ Some end) × (end < n)
 ToHeartbeat packets n (Ok Heartbeat) = (end : ℕ) → end_of packets ≡ Some end → n ≤ end
-ToHeartbeat packets n (Ok Ended) = ⊥
-ToHeartbeat packets n (Ok Ahead) = ⊥
-ToHeartbeat packets n (Ok (Taken new repeated)) = ⊥
-ToHeartbeat packets n (Err OtherSession) = ⊥
-ToHeartbeat packets n (Err EndMoved) = ⊥
-ToHeartbeat packets n (Err EndTooEarly) = ⊥
-ToHeartbeat packets n (Err Conflict) = ⊥
+ToHeartbeat packets n _ = ⊥
 
 -- the answer to an end of session with this number
 abbrev pub ToEnd : List Arrival → ℕ → Result Outcome LineFault → Type 0
@@ -80,12 +70,7 @@ ToEnd packets n (Err EndTooEarly) =
 ToEnd packets n (Ok Ended) =
     (end_of packets ≡ Some n)
     ⊎ ((end_of packets ≡ None) × ((m : ℕ) → IsSome (carried packets m) → m < n))
-ToEnd packets n (Ok Heartbeat) = ⊥
-ToEnd packets n (Ok Ahead) = ⊥
-ToEnd packets n (Ok (Taken new repeated)) = ⊥
-ToEnd packets n (Err OtherSession) = ⊥
-ToEnd packets n (Err PastEnd) = ⊥
-ToEnd packets n (Err Conflict) = ⊥
+ToEnd packets n _ = ⊥
 
 abbrev pub ToKind : Kind → ℕ → ℕ → List Arrival → Content → Result Outcome LineFault → Type 0
 ToKind kinds.Messages window sent packets p answer = ToMessages window sent packets p answer

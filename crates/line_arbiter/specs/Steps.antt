@@ -82,24 +82,14 @@ MessagesStep line old new p (Ok (Taken fresh repeated)) =
     × HeldAgrees (held_of old) p
     × (fresh ≡ fresh_to (length p.messages) old.sent (held_of old) p)
     × (fresh + repeated ≡ length p.messages)
-MessagesStep line old new p (Ok Heartbeat) = ⊥
-MessagesStep line old new p (Ok Ended) = ⊥
-MessagesStep line old new p (Err OtherSession) = ⊥
-MessagesStep line old new p (Err EndMoved) = ⊥
-MessagesStep line old new p (Err EndTooEarly) = ⊥
+MessagesStep line old new p _ = ⊥
 
 abbrev pub HeartbeatStep : State → State → ℕ → Result Outcome LineFault → Type 0
 HeartbeatStep old new n (Err PastEnd) = (new ≡ old) × (e : ℕ) × (old.end ≡ Some e) × (e < n)
 HeartbeatStep old new n (Ok Heartbeat) =
     (new ≡ record old { known = raised old.known old.end (n - 1) })
     × ((e : ℕ) → old.end ≡ Some e → n ≤ e)
-HeartbeatStep old new n (Ok Ended) = ⊥
-HeartbeatStep old new n (Ok Ahead) = ⊥
-HeartbeatStep old new n (Ok (Taken fresh repeated)) = ⊥
-HeartbeatStep old new n (Err OtherSession) = ⊥
-HeartbeatStep old new n (Err EndMoved) = ⊥
-HeartbeatStep old new n (Err EndTooEarly) = ⊥
-HeartbeatStep old new n (Err Conflict) = ⊥
+HeartbeatStep old new n _ = ⊥
 
 abbrev pub EndStep : State → State → ℕ → Result Outcome LineFault → Type 0
 EndStep old new n (Err EndMoved) = (new ≡ old) × (e : ℕ) × (old.end ≡ Some e) × (e ≢ n)
@@ -110,12 +100,7 @@ EndStep old new n (Ok Ended) =
     ((new ≡ old) × (old.end ≡ Some n))
     ⊎ ((new ≡ record old { end = Some n; known = n - 1 }) × (old.end ≡ None) × (old.front < n)
     × ((m : ℕ) → IsSome (held_at (held_of old) m) → m < n))
-EndStep old new n (Ok Heartbeat) = ⊥
-EndStep old new n (Ok Ahead) = ⊥
-EndStep old new n (Ok (Taken fresh repeated)) = ⊥
-EndStep old new n (Err OtherSession) = ⊥
-EndStep old new n (Err PastEnd) = ⊥
-EndStep old new n (Err Conflict) = ⊥
+EndStep old new n _ = ⊥
 
 abbrev pub KindStep : Kind → LineId → State → State → Content → Result Outcome LineFault → Type 0
 KindStep kinds.Messages line old new p answer = MessagesStep line old new p answer

@@ -17,4 +17,5 @@ pub mod Deciding
 pub mod OneOutcome
 pub mod EveryAnswer
 pub mod Histories
+pub mod AnsweredHistories
 pub mod FitsHistory

@@ -17,16 +17,10 @@ use crate::outcome::{LineFault, Outcome};
 use crate::window::Window;
 use crate::wins::Wins;
 use arrayvec::ArrayVec;
-use feed_types::{Genuine, Item, LineId, Numbered, VenueId};
+use feed_types::{Genuine, Item, LineId, MAX_SESSIONS, MAX_WINDOW, Numbered, VenueId};
 use mold_packet::{Packet, Request};
 use std::alloc::Global;
 use std::marker::{Model, PhantomData};
-
-/// The greatest window, in messages.
-const MAX_WINDOW: u32 = 65_535;
-
-/// The most sessions that a venue has.
-const MAX_SESSIONS: usize = 64;
 
 /// The cursors of a venue's present session. Numbers count from 1.
 #[derive(Clone, Copy, Debug, PartialEq, Eq)]

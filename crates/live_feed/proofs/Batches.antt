@@ -8,7 +8,7 @@ use Rattle.feed_types.specs.declared.journal.Entry.{Entry}
 use Rattle.feed_types.specs.declared.journal.Entry.TheVariants as entry
 use Rattle.journal_book.specs.declared.fault.JournalFault.TheVariants.{JournalFull}
 use Rattle.fifo_lane.specs.Lane.{LaneEnd, with_items}
-use Rattle.feed_core.specs.laws.Lists.{get_within}
+use Rattle.feed_types.specs.ListLaws.{get_within}
 use Rattle.feed_core.specs.declared.event.Done.TheVariants as done
 use Rattle.feed_core.specs.Steps.{AppliesTo, Intake, journal_item, journal_full, Refused}
 use Rattle.live_feed.specs.hub.Hubs.{HubState}

@@ -10,7 +10,7 @@ use Rattle.filter_terms.specs.Terms.{meets}
 use Rattle.journal_book.specs.declared.cursor.Cursor.{Cursor}
 use Rattle.journal_book.specs.Journals.{JournalState, changes, terms_at, cursor_at}
 use Rattle.fifo_lane.specs.Lane.{Keeps, LaneEnd}
-use Rattle.feed_core.specs.laws.Lists.{get_within}
+use Rattle.feed_types.specs.ListLaws.{get_within}
 use Rattle.live_feed.specs.declared.subscriber.logged.Logged.{Logged}
 use Rattle.live_feed.specs.Lanes.{FeedLanes}
 use Rattle.live_feed.specs.hub.Hubs.{IsOffered}

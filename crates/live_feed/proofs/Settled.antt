@@ -5,7 +5,7 @@ use Rattle.feed_types.specs.Sequence.{Carries, Ends}
 use Rattle.feed_types.specs.Sessions.{SessionNames}
 use Rattle.line_arbiter.specs.Counts.{count_on}
 use Rattle.journal_book.specs.Journals.{JournalState}
-use Rattle.feed_core.specs.laws.Lists.{get_within}
+use Rattle.feed_types.specs.ListLaws.{get_within}
 use Rattle.live_feed.specs.Lanes.{FeedLanes}
 use Rattle.live_feed.specs.venue.Cells.{CellState}
 use Rattle.live_feed.specs.hub.Hubs.{HubState}

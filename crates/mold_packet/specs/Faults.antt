@@ -26,8 +26,7 @@ HasFault bytes ZeroSequence = IsWhole bytes × (number_at bytes ≡ 0)
 HasFault bytes SequenceOverflow =
     IsWhole bytes × (1 ≤ number_at bytes) × (1 ≤ blocks_wanted (count_at bytes))
     × (2 ^ 64 < number_at bytes + blocks_wanted (count_at bytes))
-HasFault bytes BufferTooSmall = ⊥
-HasFault bytes BadRequestLength = ⊥
+HasFault bytes _ = ⊥
 
 -- the code by which logs name a fault
 abbrev pub code_of : PacketFault → ℕ

@@ -17,7 +17,4 @@ pub record SpellsRequest (bytes : List ℕ) (request : Request) : Type 0 where
 abbrev pub HasRequestFault : List ℕ → PacketFault → Type 0
 HasRequestFault bytes BadRequestLength = ¬ (length bytes ≡ 20)
 HasRequestFault bytes ZeroSequence = (length bytes ≡ 20) × (number_at bytes ≡ 0)
-HasRequestFault bytes ShortHeader = ⊥
-HasRequestFault bytes TruncatedBlock = ⊥
-HasRequestFault bytes SequenceOverflow = ⊥
-HasRequestFault bytes BufferTooSmall = ⊥
+HasRequestFault bytes _ = ⊥

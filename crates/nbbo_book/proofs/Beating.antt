@@ -1,5 +1,5 @@
 -- The ranking of two sides: the order is one way, goes on, and separates any two of different ages.
-use Rattle.std.proofs.Common.{ℕ, ◌<◌, ◌≡◌, Bool, true, false, refl, ap, ◌∙◌, arith, nat_eq, nat_lt, ◌⊎◌, inl, inr}
+use Rattle.std.proofs.Common.{ℕ, ◌<◌, ◌≡◌, Bool, true, false, refl, ap, subst, sym, ◌∙◌, arith, nat_eq, nat_lt, ◌⊎◌, inl, inr}
 use Rattle.std.specs.Prelude.{◌&&◌, ◌||◌}
 use Rattle.feed_types.specs.declared.line.Side.{Side}
 use Rattle.feed_types.specs.declared.line.Side.TheVariants.{Bid, Offer}
@@ -22,34 +22,21 @@ bid_beats f x y p = grind (arith, p)
 offer_beats : (f : ℕ → ℕ) (x y : Best) → Precedes (x.price < y.price) f x y → beats Offer f x y ≡ true
 offer_beats f x y p = grind (arith, p)
 
-bid_chain : (f : ℕ → ℕ) (x y z : Best) → Precedes (y.price < x.price) f x y → Precedes (z.price < y.price) f y z
-    → Precedes (z.price < x.price) f x z
-bid_chain f x y z p q = elim p [
-  | inl h ↦ elim q [ inl k ↦ inl (omega (arith, h, k)) | inr k ↦ inl (omega (arith, h, k)) ]
-  | inr h ↦ elim q [
-    | inl k ↦ inl (omega (arith, h, k))
-    | inr k ↦ inr (
-      omega (arith, h, k),
-      elim h.1 [
-        | inl m ↦ elim k.1 [ inl n ↦ inl (omega (arith, m, n)) | inr n ↦ inl (omega (arith, m, n)) ]
-        | inr m ↦ elim k.1 [
-          | inl n ↦ inl (omega (arith, m, n))
-          | inr n ↦ inr
-              (omega (arith, m, n), omega (arith, m, n))
-        ]
-      ],
-    )
+-- prices that are ordered one way, whichever it is
+chain : (IsBefore : ℕ → ℕ → Type 0)
+    → ((a b c : ℕ) → IsBefore a b → IsBefore b c → IsBefore a c)
+    → (f : ℕ → ℕ) (x y z : Best)
+    → Precedes (IsBefore x.price y.price) f x y → Precedes (IsBefore y.price z.price) f y z
+    → Precedes (IsBefore x.price z.price) f x z
+chain IsBefore then_before f x y z p q = elim p [
+  | inl h ↦ elim q [
+    | inl k ↦ inl (then_before x.price y.price z.price h k)
+    | inr k ↦ inl (subst (λ (n : ℕ). IsBefore x.price n) k.0 h)
   ]
-]
-
-offer_chain : (f : ℕ → ℕ) (x y z : Best) → Precedes (x.price < y.price) f x y → Precedes (y.price < z.price) f y z
-    → Precedes (x.price < z.price) f x z
-offer_chain f x y z p q = elim p [
-  | inl h ↦ elim q [ inl k ↦ inl (omega (arith, h, k)) | inr k ↦ inl (omega (arith, h, k)) ]
   | inr h ↦ elim q [
-    | inl k ↦ inl (omega (arith, h, k))
+    | inl k ↦ inl (subst (λ (n : ℕ). IsBefore n z.price) (sym h.0) k)
     | inr k ↦ inr (
-      omega (arith, h, k),
+      h.0 ∙ k.0,
       elim h.1 [
         | inl m ↦ elim k.1 [ inl n ↦ inl (omega (arith, m, n)) | inr n ↦ inl (omega (arith, m, n)) ]
         | inr m ↦ elim k.1 [
@@ -64,9 +51,12 @@ offer_chain f x y z p q = elim p [
 
 pub beats_chain : (b : Side) (f : ℕ → ℕ) (x y z : Best) → beats b f x y ≡ true → beats b f y z ≡ true
     → beats b f x z ≡ true
-beats_chain Bid f x y z p q = bid_beats f x z (bid_chain f x y z (bid_precedes f x y p) (bid_precedes f y z q))
+beats_chain Bid f x y z p q =
+    bid_beats f x z
+    (chain (λ a b. b < a) (λ a b c h k. omega (arith, h, k)) f x y z (bid_precedes f x y p) (bid_precedes f y z q))
 beats_chain Offer f x y z p q =
-    offer_beats f x z (offer_chain f x y z (offer_precedes f x y p) (offer_precedes f y z q))
+    offer_beats f x z
+    (chain (λ a b. a < b) (λ a b c h k. omega (arith, h, k)) f x y z (offer_precedes f x y p) (offer_precedes f y z q))
 
 pub beats_one_way : (b : Side) (f : ℕ → ℕ) (x y : Best) → beats b f x y ≡ true → beats b f y x ≡ true → ⊥
 beats_one_way Bid f x y p q = grind (arith, p, q)

@@ -20,6 +20,10 @@ self_help_said venue (SelfHelp of on) = if of == venue then Some on else None
 abbrev pub is_self_helped : List Entry → ℕ → Bool
 is_self_helped entries venue = unwrap_or (last_said (self_help_said venue) entries) false
 
+-- self-help on the venue is as declared, on or off, already; at first it is off
+abbrev pub is_so : List Entry → ℕ → Bool → Bool
+is_so entries venue on = if is_self_helped entries venue then on else not on
+
 abbrev pub IsSelfHelped : List Entry → ℕ → Type 0
 IsSelfHelped entries venue = IsTrue (is_self_helped entries venue)
 

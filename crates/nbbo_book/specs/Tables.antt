@@ -2,7 +2,7 @@
 use Rattle.std.specs.Prelude.{◌≡◌, ◌≢◌, ℕ, ◌<◌, ◌≤◌, ◌+◌, nat_eq, List, Bool, IsSome, length, map}
 use Rattle.std.specs.Int.{w64, to_be_bytes}
 use Rattle.std.specs.List.{AllByRecursion, IsDistinct}
-use Rattle.feed_types.specs.Symbols.{word_of}
+use Rattle.feed_types.specs.Symbols.{key_of}
 use Rattle.feed_types.specs.declared.line.Side.{Side}
 use Rattle.feed_types.specs.declared.line.Side.TheVariants.{Bid, Offer}
 use Rattle.nbbo_book.specs.declared.row.Row.{Row}
@@ -17,13 +17,13 @@ abbrev pub symbols_in_rows : List Row → List (List ℕ)
 symbols_in_rows rows = map (λ (row : Row). row.symbol) rows
 
 -- the eight bytes can be read from their word
-pub record HasWord (symbol : List ℕ) : Type 0 where
-  pub told : to_be_bytes w64 (word_of symbol) ≡ symbol
+pub record HasKey (symbol : List ℕ) : Type 0 where
+  pub told : to_be_bytes w64 (key_of symbol) ≡ symbol
 
 -- the keys are the words of the symbols, in order and each once
 pub record IsTable (symbols : List (List ℕ)) (keys : List ℕ) : Type 0 where
-  pub words : keys ≡ map word_of symbols
-  pub told : AllByRecursion HasWord symbols
+  pub words : keys ≡ map key_of symbols
+  pub told : AllByRecursion HasKey symbols
   pub distinct : IsDistinct nat_eq keys
 
 -- No two venues' sides have the same age, the ages are those of entries before the next one, and

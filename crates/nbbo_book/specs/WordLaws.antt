@@ -7,56 +7,56 @@ use Rattle.std.specs.Str.{bytes_eq}
 use Rattle.std.specs.Cmp.Lexicographic.{bytes_decides, nat_list_eq_equiv}
 use Rattle.std.proofs.lemmas.Bool.{eqb-true, eq-eqb}
 use Rattle.std.proofs.lemmas.List.Quantifiers.{position-Some}
-use Rattle.feed_types.specs.Symbols.{word_of}
+use Rattle.feed_types.specs.Symbols.{key_of}
 use Rattle.nbbo_book.specs.Books.{is_configured}
-use Rattle.nbbo_book.specs.Tables.{HasWord, IsTable}
+use Rattle.nbbo_book.specs.Tables.{HasKey, IsTable}
 
-one_word : (s t : List ℕ) → HasWord s → HasWord t → word_of s ≡ word_of t → s ≡ t
+one_word : (s t : List ℕ) → HasKey s → HasKey t → key_of s ≡ key_of t → s ≡ t
 one_word s t h k e = sym h.told ∙ ap (to_be_bytes w64) e ∙ k.told
 
 -- words are equal exactly where the symbols are
-pub word_tells : (s t : List ℕ) → HasWord s → HasWord t → nat_eq (word_of s) (word_of t) ≡ bytes_eq s t
+pub word_tells : (s t : List ℕ) → HasKey s → HasKey t → nat_eq (key_of s) (key_of t) ≡ bytes_eq s t
 word_tells s t h k =
-    let R : Bool → Type 0 = λ b. bytes_eq s t ≡ b → nat_eq (word_of s) (word_of t) ≡ b in
+    let R : Bool → Type 0 = λ b. bytes_eq s t ≡ b → nat_eq (key_of s) (key_of t) ≡ b in
     (elim (bytes_eq s t) as R [
-      | true ↦ λ e. ap (λ u. nat_eq (word_of s) (word_of u)) (sym ((bytes_decides s t).0 e))
-          ∙ eq-eqb (word_of s) (word_of s) refl
+      | true ↦ λ e. ap (λ u. nat_eq (key_of s) (key_of u)) (sym ((bytes_decides s t).0 e))
+          ∙ eq-eqb (key_of s) (key_of s) refl
       | false ↦ λ e.
-          let Q : Bool → Type 0 = λ b. nat_eq (word_of s) (word_of t) ≡ b → b ≡ false in
-          (elim (nat_eq (word_of s) (word_of t)) as Q [
+          let Q : Bool → Type 0 = λ b. nat_eq (key_of s) (key_of t) ≡ b → b ≡ false in
+          (elim (nat_eq (key_of s) (key_of t)) as Q [
             | true ↦ λ m. (let no : true ≡ false =
-                sym ((bytes_decides s t).1 (one_word s t h k (eqb-true (word_of s) (word_of t) m))) ∙ e in no)
+                sym ((bytes_decides s t).1 (one_word s t h k (eqb-true (key_of s) (key_of t) m))) ∙ e in no)
             | false ↦ λ m. refl
           ]) refl
     ]) refl
 
-long_words : (ss : List (List ℕ)) → length (map word_of ss) ≡ length ss
+long_words : (ss : List (List ℕ)) → length (map key_of ss) ≡ length ss
 long_words [] = refl
 long_words (s ∷ ss) = ap suc (long_words ss)
 
-first_word : (s : List ℕ) (ss : List (List ℕ)) → HasWord s → AllByRecursion HasWord ss
-    → prefix_len (λ k. not (nat_eq (word_of s) k)) (map word_of ss) ≡ prefix_len (λ t. not (bytes_eq s t)) ss
+first_word : (s : List ℕ) (ss : List (List ℕ)) → HasKey s → AllByRecursion HasKey ss
+    → prefix_len (λ k. not (nat_eq (key_of s) k)) (map key_of ss) ≡ prefix_len (λ t. not (bytes_eq s t)) ss
 first_word s [] h all = refl
 first_word s (t ∷ ss) h all =
-    ap (λ b. cond (not b) (1 + prefix_len (λ k. not (nat_eq (word_of s) k)) (map word_of ss)) 0)
+    ap (λ b. cond (not b) (1 + prefix_len (λ k. not (nat_eq (key_of s) k)) (map key_of ss)) 0)
     (word_tells s t h all.0)
     ∙ ap (λ n. cond (not (bytes_eq s t)) (1 + n) 0) (first_word s ss h all.1)
 
 -- where its word is, the symbol is
-pub found_by_word : (s : List ℕ) (ss : List (List ℕ)) → HasWord s → AllByRecursion HasWord ss
-    → position (nat_eq (word_of s)) (map word_of ss) ≡ position (bytes_eq s) ss
+pub found_by_word : (s : List ℕ) (ss : List (List ℕ)) → HasKey s → AllByRecursion HasKey ss
+    → position (nat_eq (key_of s)) (map key_of ss) ≡ position (bytes_eq s) ss
 found_by_word s ss h all =
-    ap (λ n. cond (nat_lt n (length (map word_of ss))) (Some n) None) (first_word s ss h all)
+    ap (λ n. cond (nat_lt n (length (map key_of ss))) (Some n) None) (first_word s ss h all)
     ∙ ap (λ n. cond (nat_lt (prefix_len (λ t. not (bytes_eq s t)) ss) n)
     (Some (prefix_len (λ t. not (bytes_eq s t)) ss)) None) (long_words ss)
 
-apart_words : (s : List ℕ) (ss : List (List ℕ)) → HasWord s → AllByRecursion HasWord ss
-    → AllByRecursion (λ k. nat_eq (word_of s) k ≡ false) (map word_of ss)
+apart_words : (s : List ℕ) (ss : List (List ℕ)) → HasKey s → AllByRecursion HasKey ss
+    → AllByRecursion (λ k. nat_eq (key_of s) k ≡ false) (map key_of ss)
     → AllByRecursion (λ t. bytes_eq s t ≡ false) ss
 apart_words s [] h all a = tt
 apart_words s (t ∷ ss) h all a = (sym (word_tells s t h all.0) ∙ a.0, apart_words s ss h all.1 a.1)
 
-pub distinct_symbols : (ss : List (List ℕ)) → AllByRecursion HasWord ss → IsDistinct nat_eq (map word_of ss)
+pub distinct_symbols : (ss : List (List ℕ)) → AllByRecursion HasKey ss → IsDistinct nat_eq (map key_of ss)
     → IsDistinct bytes_eq ss
 unfolding IsDistinct
 distinct_symbols [] all d = tt
@@ -156,10 +156,10 @@ not_false : (b : Bool) → not b ≡ false → b ≡ true
 not_false true h = refl
 not_false false h = sym h
 
-any_word : (s : List ℕ) (ss : List (List ℕ)) → HasWord s → AllByRecursion HasWord ss
-    → list_any (nat_eq (word_of s)) (map word_of ss) ≡ list_any (bytes_eq s) ss
+any_word : (s : List ℕ) (ss : List (List ℕ)) → HasKey s → AllByRecursion HasKey ss
+    → list_any (nat_eq (key_of s)) (map key_of ss) ≡ list_any (bytes_eq s) ss
 any_word s [] h all = refl
-any_word s (t ∷ ss) h all = ap (λ b. b || list_any (nat_eq (word_of s)) (map word_of ss)) (word_tells s t h all.0)
+any_word s (t ∷ ss) h all = ap (λ b. b || list_any (nat_eq (key_of s)) (map key_of ss)) (word_tells s t h all.0)
     ∙ ap (λ b. bytes_eq s t || b) (any_word s ss h all.1)
 
 never_twice : (xs : List (List ℕ)) (i : ℕ) (d : List ℕ) → i < length xs
@@ -175,12 +175,12 @@ never_twice (x ∷ xs) (suc i) d l t h =
 
 -- one symbol is there twice, where its word is among those before
 pub twice_here : (ss : List (List ℕ)) (i : ℕ) (s : List ℕ) (keys : List ℕ) (added : Bool) → i < length ss
-    → s ≡ get_or ss i s → HasWord s → AllByRecursion HasWord (take i ss) → keys ≡ map word_of (take i ss)
-    → added ≡ not (list_any (nat_eq (word_of s)) keys) → added ≡ false → IsDistinct bytes_eq ss → ⊥
+    → s ≡ get_or ss i s → HasKey s → AllByRecursion HasKey (take i ss) → keys ≡ map key_of (take i ss)
+    → added ≡ not (list_any (nat_eq (key_of s)) keys) → added ≡ false → IsDistinct bytes_eq ss → ⊥
 twice_here ss i s keys added l at h all now says refused distinct =
-    let there : list_any (nat_eq (word_of s)) (map word_of (take i ss)) ≡ true =
-    sym (ap (list_any (nat_eq (word_of s))) now)
-    ∙ not_false (list_any (nat_eq (word_of s)) keys) (sym says ∙ refused) in
+    let there : list_any (nat_eq (key_of s)) (map key_of (take i ss)) ≡ true =
+    sym (ap (list_any (nat_eq (key_of s))) now)
+    ∙ not_false (list_any (nat_eq (key_of s)) keys) (sym says ∙ refused) in
     never_twice ss i s l (sym (ap (λ t. list_any (bytes_eq t) (take i ss)) at) ∙ sym (any_word s (take i ss) h all)
     ∙ there) distinct
 

@@ -17,12 +17,9 @@ use crate::row::Row;
 use crate::steps::{Step, apply_step};
 use crate::table::{Table, find, symbol_table};
 use crate::venues::Venues;
-use feed_types::{Best, Entry, National, Side, SymbolName, VenueId};
+use feed_types::{Best, Entry, MAX_VENUES, National, Side, SymbolName, VenueId};
 use std::alloc::{AllocError, Global};
 use std::marker::Model;
-
-/// The most venues.
-const MAX_VENUES: usize = 16;
 
 /// The rows of this many symbols are in the cache anyway.
 const FEW_SYMBOLS: usize = 512;

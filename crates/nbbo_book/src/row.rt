@@ -24,12 +24,12 @@ pub struct Row {
 }
 
 impl Row {
-    /// Returns whether the symbol is the row's. Their words are compared: eight bytes at once.
+    /// Returns whether the symbol is the row's. Their keys are compared: eight bytes at once.
     #[inline(always)]
     pub fn is_of(&self, symbol: SymbolName) -> bool
         ensures { result ≡ bytes_eq symbol self.now.symbol }
     {
-        symbol.word() == self.symbol.word()
+        symbol.key() == self.symbol.key()
     }
 
     /// Takes a quotation of the symbol. Returns whether the national best differs then.

@@ -41,7 +41,7 @@ impl SymbolCache {
         let mut cache = SymbolCache { slots, shift };
         let mut place: u16 = 0;
         for symbol in symbols {
-            let slot = cache.slot_of(symbol.word());
+            let slot = cache.slot_of(symbol.key());
             if let Some(noted) = cache.slots.get_mut(slot) {
                 *noted = place;
             }

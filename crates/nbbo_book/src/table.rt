@@ -8,24 +8,21 @@ ghost use Rattle.nbbo_book.specs.Tables.{IsTable, symbols_in_rows};
 use crate::fault::BookFault;
 use crate::row::Row;
 use crate::symbol_cache::SymbolCache;
-use feed_types::SymbolName;
+use feed_types::{MAX_SYMBOLS, SymbolName};
 use indexmap::IndexSet;
 use std::alloc::Global;
 
-/// The most symbols.
-const MAX_SYMBOLS: usize = 4096;
-
-/// The symbols' words: one number hashes faster than eight bytes.
+/// The symbols' keys: one number hashes faster than eight bytes.
 pub type Words = IndexSet<u64>;
 
-/// The symbols' words, in order, and a cache of where each symbol stands.
+/// The symbols' keys, in order, and a cache of where each symbol stands.
 #[derive(Drop)]
 pub struct Table {
     pub words: Words,
     pub cache: SymbolCache,
 }
 
-/// Makes the set of these symbols' words, in order.
+/// Makes the set of these symbols' keys, in order.
 fn symbol_words(alloc: Global, symbols: &[SymbolName]) -> Result<Words, BookFault>
     ensures words { IfOk result (λ words. IsTable symbols.now words.keys) }
     ensures distinct { OnOk result (IsDistinct bytes_eq symbols.now) }
@@ -42,7 +39,7 @@ fn symbol_words(alloc: Global, symbols: &[SymbolName]) -> Result<Words, BookFaul
         Err(_) => return Err(BookFault::NoMemory),
     };
     for symbol in symbols {
-        match table.insert(symbol.word()) {
+        match table.insert(symbol.key()) {
             Ok(true) => {}
             Ok(false) => return Err(BookFault::DuplicateSymbol),
             Err(_) => return Err(BookFault::NoMemory),
@@ -74,9 +71,9 @@ pub fn find(table: &Table, rows: &[Row], symbol: SymbolName) -> Option<usize>
     requires { IsTable (symbols_in_rows rows.now) table.now.words.keys }
     ensures { result ≡ position (bytes_eq symbol) (symbols_in_rows rows.now) }
 {
-    let cached = table.cache.place_of(symbol.word());
+    let cached = table.cache.place_of(symbol.key());
     if cached < rows.len() && rows[cached].is_of(symbol) {
         return Some(cached);
     }
-    table.words.get_index_of(&symbol.word())
+    table.words.get_index_of(&symbol.key())
 }

@@ -69,7 +69,7 @@ fn are_distinct(alloc: Global, symbols: &[SymbolName]) -> Result<bool, AllocErro
 {
     let mut words = IndexSet::with_capacity(alloc, symbols.len())?;
     for symbol in symbols {
-        match words.insert(symbol.word()) {
+        match words.insert(symbol.key()) {
             Ok(true) => {}
             Ok(false) => return Ok(false),
             Err(error) => return Err(error.into()),

@@ -10,6 +10,7 @@ use Rattle.feed_types.specs.declared.journal.Entry.TheVariants as entry
 use Rattle.feed_types.specs.declared.line.LineId.{LineId}
 use Rattle.feed_types.specs.Sessions.{Session}
 use Rattle.mold_packet.specs.declared.request.Request.{Request}
+use Rattle.nbbo_book.specs.Eligible.{is_so}
 use Rattle.line_arbiter.specs.Streams.{stream_of, gap_of}
 use Rattle.line_arbiter.specs.Histories.{History, new_history, streams_of}
 use Rattle.filter_terms.specs.declared.terms.Terms.{Terms}
@@ -19,24 +20,26 @@ use Rattle.feed_core.specs.declared.event.Done.{Done}
 use Rattle.feed_core.specs.declared.event.Done.TheVariants as outcome
 use Rattle.feed_core.specs.Worlds.{Venue, World, Setting, new_venue, new_world}
 use Rattle.feed_core.specs.Steps.{Applies, Refused, Changes, next_out, journal_item, consume_next, journal_full, already_so, declare_help, with_intake}
-use Rattle.feed_core.specs.Runs.{IsStep, IsRun}
+use Rattle.feed_core.specs.OneStep.{IsStep}
+use Rattle.feed_core.specs.Runs.{IsRun}
 use Rattle.feed_core.specs.Steps as steps
 use Rattle.feed_core.specs.VenueHalf.{BringsOnly, BringOnly}
 use Rattle.feed_core.specs.laws.HeadlineLaw.{headline}
 use Rattle.feed_text.specs.declared.replay.ReplayConfig.{ReplayConfig}
 use Rattle.feed_text.specs.Capture.{CaptureRecord, datagram_record, renewal_record, self_help_record, record_venue}
-use Rattle.feed_text.specs.ReplayEvents.{ReplayEvent, packet_answered, packet_refused, item_taken, gap_left, renewal_answered, self_help_declared, is_so, entries_after, entries_of}
+use Rattle.feed_text.specs.ReplayEvents.{ReplayEvent, packet_answered, packet_refused, item_taken, gap_left, renewal_answered, self_help_declared, entries_after, entries_of}
 use Rattle.feed_text.specs.Emitted.{stream_length, gap_event, gap_emitted, EmitsFault, EmitsPacket, EmitsSelfHelp, EmitsAt, EmitsRecord}
 use Rattle.feed_text.specs.Texts.{IsLinesToFull}
 use Rattle.feed_text.specs.VenueItems.{taken_by, items_taken}
 use Rattle.feed_text.specs.laws.Lists.{get_set_same, get_set_other, same_or_not}
 use Rattle.feed_text.specs.laws.Entries.{entries_more}
 use Rattle.feed_text.specs.laws.Entries.{entries_grow}
-use Rattle.feed_text.specs.laws.VenueItemsLaw.{IsKept, Each, items_same, items_other, new_kept, all_kept, taken_are_streams}
+use Rattle.line_arbiter.specs.laws.AnsweredHistories.{IsAnsweredThroughout}
+use Rattle.feed_text.specs.laws.VenueItemsLaw.{Each, items_same, items_other, new_each, all_kept, taken_are_streams}
 use Rattle.replay_run.specs.VenueItems.{HoldsOnly, HoldOnly}
 use Rattle.replay_run.specs.Events.{slice_of, event_of, drains, AreEvents, outcomes_of, replay_setting, consumed_all, world_of}
 use Rattle.replay_run.specs.Full.{StopsAt, IsRunToFull}
-use Rattle.replay_run.proofs.Runs.{at, venue_at, venue_more, at_venue, get_map, get_set_here, get_seam, push_step, drain, items_len, same_so, packet_begins, ready_behind, outcomes_more, run_more, RanAll, all_ran, begins, with_venues, all_more, drains_only, event_only, events_only}
+use Rattle.replay_run.proofs.Runs.{at, venue_at, venue_more, at_venue, get_map, get_set_here, get_seam, push_step, drain, items_len, packet_begins, ready_behind, outcomes_more, run_more, RanAll, all_ran, begins, with_venues, all_more, drains_only, event_only, events_only}
 
 -- ---- the event that finds no room
 
@@ -151,7 +154,7 @@ record LastRan (s : Setting) (r : CaptureRecord) (hs : List History) (E : List E
   next : IsStep s full refused journal_full full
 
 module _ (s : Setting) (gaps : Bool) (lane : 1 ≤ s.lane) (hs : List History) (E : List Entry) (emitted : List ReplayEvent)
-    (venue : ℕ) (h : History) (there : slice_get hs venue ≡ Some h) (kept : IsKept s.window h) where
+    (venue : ℕ) (h : History) (there : slice_get hs venue ≡ Some h) (kept : IsAnsweredThroughout s.window h) where
   -- the item that was pushed isn't consumed
   refused_next : (new : History) (items : List Numbered) (x : Numbered) (F : List Entry) → s.journal ≤ length F
       → IsStep s (at (map consumed_all hs) venue (venue_more new items x) F) (Consume venue) journal_full
@@ -313,11 +316,7 @@ module _ (s : Setting) (gaps : Bool) (lane : 1 ≤ s.lane) (hs : List History) (
         next = at_venue w venue (consumed_all h) journal_full w
             (λ v. Applies (λ (x : List Entry). record w { entries = x })
             (declare_help s.journal venue on E) w journal_full w) (get_map consumed_all hs venue h there)
-            (subst (λ (x : Bool). Applies (λ (F : List Entry). world_of hs F)
-            (if x then Refused already_so else
-            (if nat_le s.journal (length E) then Refused journal_full else Changes (outcome.Declared (length E + 1))
-            (E ++ entry.SelfHelp venue on ∷ []))) w journal_full w)
-            (sym (same_so E venue on)) (declared_full on (is_so E venue on) refl room over));
+            (declared_full on (is_so E venue on) refl room over);
       }
 
 last_ran : (s : Setting) (gaps : Bool) → 1 ≤ s.lane
@@ -328,7 +327,7 @@ last_ran : (s : Setting) (gaps : Bool) → 1 ≤ s.lane
 last_ran s gaps lane hs after E r emitted first others next each t room short =
     by r t.at (each (record_venue r) t.before t.at) t.emits
   where
-    by : (r : CaptureRecord) → slice_get hs (record_venue r) ≡ Some t.before → IsKept s.window t.before
+    by : (r : CaptureRecord) → slice_get hs (record_venue r) ≡ Some t.before → IsAnsweredThroughout s.window t.before
         → EmitsAt s.window gaps r t.before (first ++ next ∷ others) t.after → LastRan s r hs E emitted first
     by (datagram_record venue line bytes) at kept x = elim x [
       | inl f ↦
@@ -380,7 +379,7 @@ full_run config lane filters records lines some x =
     let before_fits : length E ≤ config.journal = (let g = entries_grow E x.first in omega arith) in
     let ran : RanAll s x.earlier (map new_history config.sessions.now) [] x.emitted hs =
     all_ran s config.gaps some x.earlier (map new_history config.sessions.now) hs [] x.emitted
-    (new_kept config) x.emits before_fits in
+    (new_each config) x.emits before_fits in
     let run : IsRun s (new_world s) ran.0 (outcomes_of [] x.emitted) (world_of hs E) =
     subst (λ (w : World). IsRun s w ran.0 (outcomes_of [] x.emitted) (world_of hs E))
     (with_venues [] (map consumed_all (map new_history config.sessions.now)) (map new_venue config.sessions.now)

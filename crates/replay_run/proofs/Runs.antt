@@ -10,7 +10,7 @@ use Rattle.feed_types.specs.declared.line.LineId.{LineId}
 use Rattle.feed_types.specs.Sessions.{Session}
 use Rattle.mold_packet.specs.declared.request.Request.{Request}
 use Rattle.mold_packet.specs.Faults.{code_of}
-use Rattle.nbbo_book.specs.Eligible.{is_self_helped}
+use Rattle.nbbo_book.specs.Eligible.{is_self_helped, is_so}
 use Rattle.line_arbiter.specs.declared.faults.RenewFault.{RenewFault}
 use Rattle.line_arbiter.specs.Packets.{end_of}
 use Rattle.line_arbiter.specs.Streams.{stream_of, gap_of}
@@ -23,8 +23,9 @@ use Rattle.feed_core.specs.declared.event.Event.TheVariants.{Packet, Push, Consu
 use Rattle.feed_core.specs.declared.event.Done.{Done}
 use Rattle.feed_core.specs.declared.event.Done.TheVariants as done
 use Rattle.feed_core.specs.Worlds.{Lane, is_full, Venue, session_sent, World, Setting, new_venue, new_world}
-use Rattle.feed_core.specs.Steps.{Stays, Applies, Refused, Changes, next_in, next_out, push_next, journal_item, consume_next, journal_full, unknown_venue, already_so, declare_help, is_same, Intake, put_venue, with_sent, with_intake, AddsArrival, AddsRenewal, RefusesBytes, AnswersRenewal}
-use Rattle.feed_core.specs.Runs.{IsStep, IsRun}
+use Rattle.feed_core.specs.Steps.{Stays, Applies, Refused, Changes, next_in, next_out, push_next, journal_item, consume_next, journal_full, unknown_venue, already_so, declare_help, Intake, put_venue, with_sent, with_intake, AddsArrival, AddsRenewal, RefusesBytes, AnswersRenewal}
+use Rattle.feed_core.specs.OneStep.{IsStep}
+use Rattle.feed_core.specs.Runs.{IsRun}
 use Rattle.feed_core.specs.Steps as steps
 use Rattle.feed_core.specs.VenueHalf.{BringsOnly, BringOnly, VenueHalf}
 use Rattle.feed_core.specs.Headline.{Headline}
@@ -32,14 +33,15 @@ use Rattle.feed_core.specs.laws.HeadlineLaw.{headline}
 use Rattle.line_arbiter.specs.laws.Histories.{items_push}
 use Rattle.feed_text.specs.declared.replay.ReplayConfig.{ReplayConfig}
 use Rattle.feed_text.specs.Capture.{CaptureRecord, datagram_record, renewal_record, self_help_record, record_venue}
-use Rattle.feed_text.specs.ReplayEvents.{ReplayEvent, item_taken, is_so, entries_after, entries_of}
+use Rattle.feed_text.specs.ReplayEvents.{ReplayEvent, item_taken, entries_after, entries_of}
 use Rattle.feed_text.specs.Emitted.{stream_length, gap_event, gap_emitted, items_emitted, EmitsFault, EmitsPacket, EmitsRenewal, EmitsSelfHelp, EmitsAt, EmitsRecord, Emits}
 use Rattle.feed_text.specs.Texts.{EmitsAll, HasJournalRoom}
 use Rattle.feed_text.specs.laws.Lists.{same_set}
 use Rattle.feed_text.specs.laws.Entries.{entries_more}
 use Rattle.feed_text.specs.laws.Entries.{entries_grow}
 use Rattle.feed_text.specs.VenueItems.{items_taken}
-use Rattle.feed_text.specs.laws.VenueItemsLaw.{IsKept, Each, ready_items, here, one_came, new_kept, taken_are_streams}
+use Rattle.line_arbiter.specs.laws.AnsweredHistories.{IsAnsweredThroughout}
+use Rattle.feed_text.specs.laws.VenueItemsLaw.{Each, ready_items, here, one_came, new_each, taken_are_streams}
 use Rattle.replay_run.specs.VenueItems.{HoldsOnly, HoldOnly, TellsSessions}
 use Rattle.replay_run.specs.Events.{slice_of, event_of, drains, AreEvents, outcomes_by, outcomes_of, replay_setting, consumed_all, world_of, IsReplayRun}
 
@@ -224,17 +226,6 @@ counted h =
     ap length (items_push h.earlier h.present) ∙ length-append (items_of h.earlier) (stream_of h.present.packets) in
     omega arith
 
-pub same_so : (entries : List Entry) (venue : ℕ) (on : Bool)
-    → is_same (is_self_helped entries venue) on ≡ is_so entries venue on
-same_so entries venue on = by (is_self_helped entries venue) on refl
-  where
-    by : (b on : Bool) → is_self_helped entries venue ≡ b
-        → is_same (is_self_helped entries venue) on ≡ is_so entries venue on
-    by true true e = ap (λ (x : Bool). is_same x true) e ∙ sym e
-    by false true e = ap (λ (x : Bool). is_same x true) e ∙ sym e
-    by true false e = ap (λ (x : Bool). is_same x false) e ∙ sym (ap not e)
-    by false false e = ap (λ (x : Bool). is_same x false) e ∙ sym (ap not e)
-
 run_as : (s : Setting) (a : World) (es : List Event) (ds gs : List Done) (b c : World) → ds ≡ gs → b ≡ c
     → IsRun s a es ds b → IsRun s a es gs c
 run_as s a es ds gs b c e f x =
@@ -247,7 +238,7 @@ Ran s r hs entries emitted new =
     (world_of new (entries_of entries emitted))
 
 module _ (s : Setting) (gaps : Bool) (lane : 1 ≤ s.lane) (hs : List History) (entries : List Entry) (venue : ℕ)
-    (h : History) (there : slice_get hs venue ≡ Some h) (kept : IsKept s.window h) where
+    (h : History) (there : slice_get hs venue ≡ Some h) (kept : IsAnsweredThroughout s.window h) where
   vs : List Venue
   vs = map consumed_all hs
 
@@ -425,11 +416,7 @@ module _ (s : Setting) (gaps : Bool) (lane : 1 ≤ s.lane) (hs : List History) (
       at_venue w venue (consumed_all h) d mid
       (λ v. Applies (λ (x : List Entry). record w { entries = x }) (declare_help s.journal venue on entries) w d mid)
       there_is
-      (subst (λ (x : Bool). Applies (λ (E : List Entry). world_of hs E)
-      (if x then Refused already_so else
-      (if nat_le s.journal (length entries) then Refused journal_full else Changes (done.Declared (length entries + 1))
-      (entries ++ entry.SelfHelp venue on ∷ []))) w d mid)
-      (sym (same_so entries venue on)) (declared_so on b fits)) in (
+      (declared_so on b fits) in (
         0,
         run_as s w (Declare venue on ∷ []) (d ∷ []) (outcomes_of entries emitted) mid
             (world_of (slice_set hs venue new) (entries_of entries emitted))
@@ -445,7 +432,7 @@ record_ran : (s : Setting) (gaps : Bool) → 1 ≤ s.lane
 record_ran s gaps lane hs new entries r emitted each t room =
     subst (Ran s r hs entries emitted) (sym t.others) (by r t.at (each (record_venue r) t.before t.at) t.emits)
   where
-    by : (r : CaptureRecord) → slice_get hs (record_venue r) ≡ Some t.before → IsKept s.window t.before
+    by : (r : CaptureRecord) → slice_get hs (record_venue r) ≡ Some t.before → IsAnsweredThroughout s.window t.before
         → EmitsAt s.window gaps r t.before emitted t.after → Ran s r hs entries emitted (slice_set hs (record_venue r) t.after)
     by (datagram_record venue line bytes) at kept x = elim x [
       | inl f ↦ fault_ran s gaps lane hs entries venue t.before at kept line bytes emitted t.after f
@@ -558,7 +545,7 @@ replay_run config lane filters records emitted hs some emits room =
     let s : Setting = replay_setting config lane filters in
     let ran : RanAll s records (map new_history config.sessions.now) [] emitted hs =
     all_ran s config.gaps some records (map new_history config.sessions.now) hs [] emitted
-    (new_kept config) emits room in
+    (new_each config) emits room in
     let run : IsRun s (new_world s) ran.0 (outcomes_of [] emitted) (world_of hs (entries_of [] emitted)) =
     subst (λ (w : World). IsRun s w ran.0 (outcomes_of [] emitted) (world_of hs (entries_of [] emitted)))
     (with_venues [] _ _ (begins config.sessions.now)) ran.2 in

@@ -6,7 +6,8 @@ use Rattle.feed_core.specs.declared.event.Event.TheVariants.{Packet, Push, Consu
 use Rattle.feed_core.specs.declared.event.Done.{Done}
 use Rattle.feed_core.specs.Worlds.{Venue, World, Setting, new_world}
 use Rattle.feed_core.specs.Steps.{journal_full}
-use Rattle.feed_core.specs.Runs.{IsStep, IsRun}
+use Rattle.feed_core.specs.OneStep.{IsStep}
+use Rattle.feed_core.specs.Runs.{IsRun}
 use Rattle.feed_core.specs.VenueHalf.{BringOnly}
 use Rattle.feed_core.specs.Headline.{Headline}
 use Rattle.feed_text.specs.Capture.{CaptureRecord, datagram_record, renewal_record, self_help_record}

@@ -34,7 +34,8 @@ first_renewed old name (Err fault) = refl
 moves : (s : Setting) → MoveKept s (λ e. Unit {0}) (IsFirst s)
 moves s = record {
   packet = λ place v line bytes p rest answer h may spells taken k.
-      ap (λ (x : History). slice_get (names_of x) 0) taken.is ∙ first_same v.history.earlier _ v.history.present refl
+      ap (λ (x : History). slice_get (names_of x) 0) taken.is
+      ∙ first_same v.history.earlier _ v.history.present refl
       ∙ k;
   renew = λ place v name answer h r k. ap (λ (x : History). slice_get (names_of x) 0) r.is
       ∙ first_renewed v.history name answer ∙ k;
@@ -42,7 +43,8 @@ moves s = record {
   consume = λ place v x e k. k;
 }
 
-new_first : (sessions : List (List ℕ)) (i : ℕ) (v : Venue) → slice_get (map new_venue sessions) i ≡ Some v
+new_first : (sessions : List (List ℕ)) (i : ℕ) (v : Venue)
+    → slice_get (map new_venue sessions) i ≡ Some v
     → slice_get (names_of v.history) 0 ≡ slice_get sessions i
 new_first [] i v e = absurd cc
 new_first (name ∷ names) zero v e =
@@ -50,7 +52,8 @@ new_first (name ∷ names) zero v e =
     (let same : new_venue name ≡ v = cc in same) refl
 new_first (name ∷ names) (suc i) v e = new_first names i v e
 
-pub first_through : (s : Setting) (events : List Event) (ds : List Done) (w : World) → IsRun s (new_world s) events ds w
+pub first_through : (s : Setting) (events : List Event) (ds : List Done) (w : World)
+    → IsRun s (new_world s) events ds w
     → (place : ℕ) (v : Venue) → slice_get w.venues place ≡ Some v
     → slice_get (names_of v.history) 0 ≡ slice_get s.sessions place
 first_through s events ds w run =

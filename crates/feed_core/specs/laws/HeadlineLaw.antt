@@ -15,7 +15,8 @@ use Rattle.feed_core.specs.laws.SubscriberHalfLaw.{subscriber_half}
 use Rattle.feed_core.specs.laws.FirstNames.{first_through}
 use Rattle.feed_core.specs.laws.KeptTerms.{terms_in_turn}
 
-pub headline : (s : Setting) (events : List Event) (ds : List Done) (w : World) → IsRun s (new_world s) events ds w
+pub headline : (s : Setting) (events : List Event) (ds : List Done) (w : World)
+    → IsRun s (new_world s) events ds w
     → Headline s events w
 headline s events ds w run = record {
   venues = venue_half s events ds w run;
@@ -26,13 +27,15 @@ headline s events ds w run = record {
 
 -- ---- what is shown
 
-get_map_back : {X Y : Type 0} (f : X → Y) (xs : List X) (i : ℕ) (y : Y) → slice_get (map f xs) i ≡ Some y
+get_map_back : {X Y : Type 0} (f : X → Y) (xs : List X) (i : ℕ) (y : Y)
+    → slice_get (map f xs) i ≡ Some y
     → (x : X) × (slice_get xs i ≡ Some x) × (f x ≡ y)
 get_map_back f [] i y e = absurd cc
 get_map_back f (x ∷ xs) zero y e = (x, refl, (let same : f x ≡ y = cc in same))
 get_map_back f (x ∷ xs) (suc i) y e = get_map_back f xs i y e
 
-shown_venue_half : (s : Setting) (events : List Event) (w : World) → Headline s events w → (place : ℕ) (v : ShownVenue)
+shown_venue_half : (s : Setting) (events : List Event) (w : World) → Headline s events w
+    → (place : ℕ) (v : ShownVenue)
     → slice_get (map shown_venue w.venues) place ≡ Some v → ShownVenueHalf s events place v
 shown_venue_half s events w h place v at =
     let u = get_map_back shown_venue w.venues place v at in
@@ -44,7 +47,8 @@ shown_venue_half s events w h place v at =
 
 shown_subscriber_half : (s : Setting) (events : List Event) (w : World) → Headline s events w
     → (id : ℕ) (x : ShownSubscriber)
-    → slice_get (map shown_subscriber w.subscribers) id ≡ Some x → ShownSubscriberHalf s w.entries id x
+    → slice_get (map shown_subscriber w.subscribers) id ≡ Some x
+    → ShownSubscriberHalf s w.entries id x
 shown_subscriber_half s events w h id x at =
     let y = get_map_back shown_subscriber w.subscribers id x at in
     subst (ShownSubscriberHalf s w.entries id) y.2 (record {
@@ -65,7 +69,8 @@ shows_headline s events shown r =
           (subst (λ (x : Shown). slice_get x.venues place ≡ Some v) r.shows at);
       changes = ap (λ (x : Shown). x.changes) r.shows
           ∙ sym (ap (λ (x : Shown). changes_of s.symbols x.entries) r.shows);
-      subscribers = λ id x at. subst (λ (E : List Entry). ShownSubscriberHalf s E id x) (sym entries)
+      subscribers =
+          λ id x at. subst (λ (E : List Entry). ShownSubscriberHalf s E id x) (sym entries)
           (shown_subscriber_half s events r.world h id x
           (subst (λ (y : Shown). slice_get y.subscribers id ≡ Some x) r.shows at));
     }

@@ -10,7 +10,12 @@ begins_self xs = record { rest = []; is = sym (append-nil xs) }
 pub begins_then : {X : Type 0} {xs ys zs : List X} → IsPrefix xs ys → IsPrefix ys zs
     → IsPrefix xs zs
 begins_then {xs =
-    xs} a b = record { rest = a.rest ++ b.rest; is = b.is ∙ ap (λ (l : List _). l ++ b.rest) a.is ∙ append_assoc xs a.rest b.rest }
+    xs} a b = record {
+      rest =
+          a.rest ++ b.rest;
+      is = b.is ∙ ap (λ (l : List _). l ++ b.rest) a.is
+          ∙ append_assoc xs a.rest b.rest;
+    }
 
 pub begins_len : {X : Type 0} {xs ys : List X} → IsPrefix xs ys → length xs ≤ length ys
 begins_len {xs = xs} a = omega (arith, ap length a.is, length-append xs a.rest)
@@ -27,18 +32,24 @@ begins_all {xs = xs} a h =
 first : {X : Type 0} (xs more : List X) (x : X) → slice_get (xs ++ more) (length xs) ≡ Some x
     → IsPrefix (x ∷ []) more
 first [] [] x e = absurd cc
-first [] (y ∷ more) x e = let same : y ≡ x = cc in record { rest = more; is = ap (λ (z : _). z ∷ more) same }
+first [] (y ∷ more) x e =
+    let same : y ≡ x = cc in record { rest = more; is = ap (λ (z : _). z ∷ more) same }
 first (y ∷ xs) more x e = first xs more x e
 
 pub begins_next : {X : Type 0} (xs ys : List X) (x : X) → IsPrefix xs ys
     → slice_get ys (length xs) ≡ Some x → IsPrefix (xs ++ x ∷ []) ys
 begins_next xs ys x a e =
     let f = first xs a.rest x (ap (λ (l : List _). slice_get l (length xs)) (sym a.is) ∙ e) in
-    record { rest = f.rest; is = a.is ∙ ap (λ (l : List _). xs ++ l) f.is ∙ sym (append_assoc xs (x ∷ []) f.rest) }
+    record {
+      rest = f.rest;
+      is = a.is ∙ ap (λ (l : List _). xs ++ l) f.is
+          ∙ sym (append_assoc xs (x ∷ []) f.rest);
+    }
 
 pub begins_drop : {X : Type 0} {xs ys : List X} → IsPrefix xs ys → xs ++ drop (length xs) ys ≡ ys
 begins_drop {xs =
-    xs} a = ap (λ (l : List _). xs ++ drop (length xs) l) a.is ∙ ap (λ (l : List _). xs ++ l) (drop-append_seam xs a.rest) ∙ sym a.is
+    xs} a = ap (λ (l : List _). xs ++ drop (length xs) l) a.is
+    ∙ ap (λ (l : List _). xs ++ l) (drop-append_seam xs a.rest) ∙ sym a.is
 
 -- what is read after a write: what was written at its place, and what was there elsewhere
 pub get_set : {X : Type 0} (xs : List X) (i j : ℕ) (x y : X)
@@ -56,10 +67,8 @@ get_push [] zero x y e = inl (refl, cc)
 get_push [] (suc i) x y e = absurd cc
 get_push (z ∷ xs) zero x y e = inr (omega arith, e)
 get_push (z ∷ xs) (suc i) x y e =
-    elim (get_push xs i x y e) [ inl here ↦ inl (let h = here.0 in omega arith, here.1) | inr there ↦ inr (let h = there.0 in omega arith, there.1) ]
-
-pub get_within : {X : Type 0} (xs : List X) (i : ℕ) → i < length xs
-    → (x : X) × (slice_get xs i ≡ Some x)
-get_within [] i h = absurd (omega arith)
-get_within (x ∷ xs) zero h = (x, refl)
-get_within (x ∷ xs) (suc i) h = get_within xs i (omega arith)
+    elim (get_push xs i x y e) [
+      | inl here ↦ inl (let h = here.0 in omega arith, here.1)
+      | inr there ↦
+          inr (let h = there.0 in omega arith, there.1)
+    ]

@@ -20,11 +20,20 @@ rise_front : (n : ℕ) (xs ys : List Notice) → RisesPast n (xs ++ ys) → Rise
 rise_front n [] ys h = tt
 rise_front n (x ∷ xs) ys h = (h.0, rise_front x.number xs ys h.1)
 
-pub subscriber_half : (s : Setting) (events : List Event) (ds : List Done) (w : World) → IsRun s (new_world s) events ds w → (id : ℕ) (x : Subscriber) → slice_get w.subscribers id ≡ Some x → SubscriberHalf s.symbols w.entries x
+pub subscriber_half : (s : Setting) (events : List Event) (ds : List Done) (w : World)
+    → IsRun s (new_world s) events ds w → (id : ℕ) (x : Subscriber)
+    → slice_get w.subscribers id ≡ Some x → SubscriberHalf s.symbols w.entries x
 subscriber_half s events ds w run id x at =
     let serves = run_keeps s (λ E y. Serves y.lane (wanted_of s.symbols y.terms E)) (record {
-      grow = λ E e y k. serve_more y.lane (wanted_of s.symbols y.terms E) _ (wanted_begin s.symbols y.terms E (e ∷ [])) k;
-      new = λ E terms. record { sent = record { rest = wanted_of s.symbols terms E; is = refl }; received = begins_self [] };
+      grow =
+          λ E e y k. serve_more y.lane (wanted_of s.symbols y.terms E) _
+          (wanted_begin s.symbols y.terms E (e ∷ [])) k;
+      new =
+          λ E terms. record {
+            sent =
+                record { rest = wanted_of s.symbols terms E; is = refl };
+            received = begins_self [];
+          };
       offer = λ E y n e k. serve_in y.lane _ n k e;
       dequeue = λ E y n e k. serve_out y.lane _ n k e;
     }) (new_world s) events ds w (λ i y e. absurd cc) run id x at in
@@ -32,6 +41,11 @@ subscriber_half s events ds w run id x at =
     let rise = wanted_rise s.symbols x.terms w.entries in
     record {
       dequeued = begins_then serves.received serves.sent;
-      queued = subst (λ (l : List Notice). IsPrefix l (wanted_of s.symbols x.terms w.entries)) (sym both) serves.sent;
-      once = subst (λ (l : List Notice). RisesPast 0 l) (sym both) (rise_front 0 x.lane.sent serves.sent.rest (subst (λ (l : List Notice). RisesPast 0 l) serves.sent.is rise));
+      queued =
+          subst (λ (l : List Notice). IsPrefix l (wanted_of s.symbols x.terms w.entries)) (sym both)
+          serves.sent;
+      once =
+          subst (λ (l : List Notice). RisesPast 0 l) (sym both)
+          (rise_front 0 x.lane.sent serves.sent.rest
+          (subst (λ (l : List Notice). RisesPast 0 l) serves.sent.is rise));
     }

@@ -19,7 +19,8 @@ use Rattle.line_arbiter.specs.Answered.{IsAnswered, AreAnswered}
 use Rattle.line_arbiter.specs.Histories.{Begun, History, new_history, new_session, all_begun, names_of, streams_of, after_arrival, history_after}
 use Rattle.line_arbiter.specs.Histories as histories
 use Rattle.line_arbiter.specs.laws.Histories.{items_push}
-use Rattle.line_arbiter.specs.laws.Below.{answered_more, answered_grows, all_sent}
+use Rattle.line_arbiter.specs.laws.Below.{answered_grows}
+use Rattle.line_arbiter.specs.laws.AnsweredHistories.{IsAnsweredThroughout, new_answered, answered_arrival, answered_renewal}
 use Rattle.feed_text.specs.declared.replay.ReplayConfig.{ReplayConfig}
 use Rattle.feed_text.specs.Capture.{CaptureRecord, datagram_record, renewal_record, self_help_record, record_venue}
 use Rattle.feed_text.specs.ReplayEvents.{ReplayEvent, item_taken, packet_answered, renewal_answered}
@@ -30,24 +31,11 @@ use Rattle.feed_text.specs.laws.Lists.{get_set_same, get_set_other, same_or_not}
 
 -- ---- what came to a venue
 
--- a session that is over: each packet was answered by the definitions, and all of its messages came
-pub record IsOver (window : ℕ) (b : Begun) : Type 0 where
-  pub answered : AreAnswered b.name window b.packets
-  pub complete : IsComplete b.packets
-
--- each packet of the present session was answered by the definitions, too
-pub record IsKept (window : ℕ) (h : History) : Type 0 where
-  pub over : AllByRecursion (IsOver window) h.earlier
-  pub answered : AreAnswered h.present.name window h.present.packets
-
 -- The effect of a record on a venue: the items that it emits follow the venue's streams.
-pub record GoesOn (window place : ℕ) (old : History) (emitted : List ReplayEvent) (new : History) : Type 0 where
+pub record GoesOn (window place : ℕ) (old : History) (emitted : List ReplayEvent)
+    (new : History) : Type 0 where
   pub items : streams_of new ≡ streams_of old ++ items_taken place emitted
-  pub kept : IsKept window new
-
-all_push : {X : Type 0} (Q : X → Type 0) (xs : List X) (x : X) → AllByRecursion Q xs → Q x → AllByRecursion Q (xs ++ x ∷ [])
-all_push Q [] x all one = (one, tt)
-all_push Q (y ∷ xs) x all one = (all.0, all_push Q xs x all.1 one)
+  pub kept : IsAnsweredThroughout window new
 
 -- ---- the items among what was emitted
 
@@ -57,132 +45,194 @@ same n = grind (arith, nat_tests)
 other : (m n : ℕ) → m ≢ n → (m == n) ≡ false
 other m n h = grind (arith, nat_tests, h)
 
-pub items_same : (place : ℕ) (xs : List Numbered) → items_taken place (map (item_taken place) xs) ≡ xs
+pub items_same : (place : ℕ) (xs : List Numbered)
+    → items_taken place (map (item_taken place) xs) ≡ xs
 items_same place [] = refl
-items_same place (x ∷ xs) = ap (λ (b : Bool). (if b then x ∷ [] else []) ++ items_taken place (map (item_taken place) xs)) (same place) ∙ ap (λ (ys : List Numbered). x ∷ ys) (items_same place xs)
+items_same place (x ∷ xs) =
+    ap (λ (b : Bool). (if b then x ∷ [] else []) ++ items_taken place (map (item_taken place) xs))
+    (same place) ∙ ap (λ (ys : List Numbered). x ∷ ys) (items_same place xs)
 
-pub items_other : (place venue : ℕ) (xs : List Numbered) → venue ≢ place → items_taken place (map (item_taken venue) xs) ≡ []
+pub items_other : (place venue : ℕ) (xs : List Numbered) → venue ≢ place
+    → items_taken place (map (item_taken venue) xs) ≡ []
 items_other place venue [] h = refl
-items_other place venue (x ∷ xs) h = ap (λ (b : Bool). (if b then x ∷ [] else []) ++ items_taken place (map (item_taken venue) xs)) (other venue place h) ∙ items_other place venue xs h
+items_other place venue (x ∷ xs) h =
+    ap (λ (b : Bool). (if b then x ∷ [] else []) ++ items_taken place (map (item_taken venue) xs))
+    (other venue place h) ∙ items_other place venue xs h
 
-no_gap_items : (place window : ℕ) (gaps : Bool) (venue : ℕ) (h : History) → items_taken place (gap_emitted window gaps venue h) ≡ []
+no_gap_items : (place window : ℕ) (gaps : Bool) (venue : ℕ) (h : History)
+    → items_taken place (gap_emitted window gaps venue h) ≡ []
 no_gap_items place window false venue h = refl
-no_gap_items place window true venue h = at (gap_of h.present.name window (stream_length h) h.present.packets)
+no_gap_items place window true venue h =
+    at (gap_of h.present.name window (stream_length h) h.present.packets)
   where
     at : (o : Option Request) → items_taken place (gap_event venue o) ≡ []
     at None = refl
     at (Some request) = refl
 
 -- of a packet's events
-packet_items : (place window : ℕ) (gaps : Bool) (venue : ℕ) (line : LineId) (answer : Result Outcome LineFault) (xs : List Numbered) (h : History)
-    → items_taken place (packet_answered venue line answer ∷ map (item_taken venue) xs ++ gap_emitted window gaps venue h) ≡ items_taken place (map (item_taken venue) xs)
+packet_items : (place window : ℕ) (gaps : Bool) (venue : ℕ) (line : LineId)
+    (answer : Result Outcome LineFault) (xs : List Numbered) (h : History)
+    → items_taken place (packet_answered venue line answer ∷ map (item_taken venue) xs ++
+    gap_emitted window gaps venue h) ≡ items_taken place (map (item_taken venue) xs)
 packet_items place window gaps venue line answer xs h =
     flat_map-append (taken_by place) (map (item_taken venue) xs) (gap_emitted window gaps venue h)
-    ∙ ap (λ (ys : List Numbered). items_taken place (map (item_taken venue) xs) ++ ys) (no_gap_items place window gaps venue h)
+    ∙ ap (λ (ys : List Numbered). items_taken place (map (item_taken venue) xs) ++ ys)
+    (no_gap_items place window gaps venue h)
     ∙ append-nil (items_taken place (map (item_taken venue) xs))
 
 -- ---- a record of the venue
 
-stays : (window place : ℕ) (old new : History) (emitted : List ReplayEvent) → IsKept window old → new ≡ old → items_taken place emitted ≡ [] → GoesOn window place old emitted new
-stays window place old new emitted k e none = subst (GoesOn window place old emitted) (sym e) (record {
-  items = sym (append-nil (streams_of old)) ∙ ap (λ (xs : List Numbered). streams_of old ++ xs) (sym none);
-  kept = k;
-})
+stays : (window place : ℕ) (old new : History) (emitted : List ReplayEvent)
+    → IsAnsweredThroughout window old → new ≡ old → items_taken place emitted ≡ []
+    → GoesOn window place old emitted new
+stays window place old new emitted k e none =
+    subst (GoesOn window place old emitted) (sym e) (record {
+      items =
+          sym (append-nil (streams_of old))
+          ∙ ap (λ (xs : List Numbered). streams_of old ++ xs) (sym none);
+      kept = k;
+    })
 
 seam : {xs ys : List Numbered} → IsPrefix xs ys → ys ≡ xs ++ drop (length xs) ys
-seam {xs = xs} a = a.is ∙ ap (λ (l : List Numbered). xs ++ l) (sym (drop-append_seam xs a.rest)) ∙ ap (λ (l : List Numbered). xs ++ drop (length xs) l) (sym a.is)
+seam {xs = xs} a =
+    a.is ∙ ap (λ (l : List Numbered). xs ++ l) (sym (drop-append_seam xs a.rest))
+    ∙ ap (λ (l : List Numbered). xs ++ drop (length xs) l) (sym a.is)
 
 module _ (window : ℕ) (gaps : Bool) (venue : ℕ) where
   -- the items of a packet are those that it made ready
-  pub ready_items : (line : LineId) (bytes : List ℕ) (old new : History) (emitted : List ReplayEvent) → EmitsPacket window gaps venue line bytes old emitted new → items_taken venue emitted ≡ drop (stream_length old) (stream_of new.present.packets)
+  pub ready_items : (line : LineId) (bytes : List ℕ) (old new : History)
+      (emitted : List ReplayEvent) → EmitsPacket window gaps venue line bytes old emitted new
+      → items_taken venue emitted ≡ drop (stream_length old) (stream_of new.present.packets)
   ready_items line bytes old new emitted t =
       let ready : List Numbered = drop (stream_length old) (stream_of new.present.packets) in
-      ap (items_taken venue) t.emitted_is ∙ packet_items venue window gaps venue line t.answer ready new ∙ items_same venue ready
+      ap (items_taken venue) t.emitted_is
+      ∙ packet_items venue window gaps venue line t.answer ready new ∙ items_same venue ready
 
-  packet_goes : (line : LineId) (bytes : List ℕ) (old new : History) (emitted : List ReplayEvent) → IsKept window old → EmitsPacket window gaps venue line bytes old emitted new → GoesOn window venue old emitted new
+  packet_goes : (line : LineId) (bytes : List ℕ) (old new : History) (emitted : List ReplayEvent)
+      → IsAnsweredThroughout window old → EmitsPacket window gaps venue line bytes old emitted new
+      → GoesOn window venue old emitted new
   packet_goes line bytes old new emitted k t =
       let a : Arrival = arrival_of line t.packet t.answer in
       let b : Begun = old.present in
       let next : Begun = record b { packets = b.packets ++ a ∷ [] } in
       let ready : List Numbered = drop (stream_length old) (stream_of next.packets) in
-      let one : IsAnswered b.name window b.packets a = record { content = t.spells.content; sent = stream_length old; outcome = t.outcome } in
-      let items : items_taken venue emitted ≡ ready = ready_items line bytes old new emitted t ∙ ap (λ (h : History). drop (stream_length old) (stream_of h.present.packets)) t.grown in
+      let one : IsAnswered b.name window b.packets a =
+      record { content = t.spells.content; sent = stream_length old; outcome = t.outcome } in
+      let items : items_taken venue emitted ≡ ready =
+      ready_items line bytes old new emitted t
+      ∙ ap (λ (h : History). drop (stream_length old) (stream_of h.present.packets)) t.grown in
       subst (GoesOn window venue old emitted) (sym t.grown) (record {
         items = items_push old.earlier next
-            ∙ ap (λ (xs : List Numbered). histories.items_of old.earlier ++ xs) (seam (answered_grows b.name window b.packets a k.answered one))
+            ∙ ap (λ (xs : List Numbered). histories.items_of old.earlier ++ xs)
+            (seam (answered_grows b.name window b.packets a k.answered one))
             ∙ sym (append_assoc (histories.items_of old.earlier) (stream_of b.packets) ready)
             ∙ ap (λ (xs : List Numbered). xs ++ ready) (sym (items_push old.earlier b))
             ∙ ap (λ (xs : List Numbered). streams_of old ++ xs) (sym items);
-        kept = record { over = k.over; answered = answered_more b.name window b.packets a k.answered one };
+        kept = answered_arrival window old k a one;
       })
 
-  renewal_goes : (name : List ℕ) (old new : History) (emitted : List ReplayEvent) (answer : Result ℕ RenewFault) → IsKept window old
-      → IsRenewal (names_of old) (end_of old.present.packets) (stream_length old) name answer → new ≡ history_after old name answer → emitted ≡ renewal_answered venue answer ∷ [] → GoesOn window venue old emitted new
-  renewal_goes name old new emitted (Err fault) k is after emitted_is = stays window venue old new emitted k after (ap (items_taken venue) emitted_is)
-  renewal_goes name old new emitted (Ok ordinal) k is after emitted_is = subst (GoesOn window venue old emitted) (sym after) (record {
-    items = items_push (all_begun old) (new_session name) ∙ ap (λ (xs : List Numbered). streams_of old ++ xs) (sym (ap (items_taken venue) emitted_is));
-    kept = record {
-      over = all_push (IsOver window) old.earlier old.present k.over (record {
-        answered = k.answered;
-        complete = (all_sent old.present.name window (stream_length old) old.present.packets k.answered (omega arith) is.0).0;
-      });
-      answered = tt;
-    };
-  })
+  renewal_goes : (name : List ℕ) (old new : History) (emitted : List ReplayEvent)
+      (answer : Result ℕ RenewFault) → IsAnsweredThroughout window old
+      → IsRenewal (names_of old) (end_of old.present.packets) (stream_length old) name answer
+      → new ≡ history_after old name answer → emitted ≡ renewal_answered venue answer ∷ []
+      → GoesOn window venue old emitted new
+  renewal_goes name old new emitted (Err fault) k is after emitted_is =
+      stays window venue old new emitted k after (ap (items_taken venue) emitted_is)
+  renewal_goes name old new emitted (Ok ordinal) k is after emitted_is =
+      subst (GoesOn window venue old emitted) (sym after) (record {
+        items =
+            items_push (all_begun old) (new_session name)
+            ∙ ap (λ (xs : List Numbered). streams_of old ++ xs)
+            (sym (ap (items_taken venue) emitted_is));
+        kept = answered_renewal window old k (stream_length old) name (omega arith) is.0;
+      })
 
-pub here : (window : ℕ) (gaps : Bool) (r : CaptureRecord) (old new : History) (emitted : List ReplayEvent) → IsKept window old → EmitsAt window gaps r old emitted new → GoesOn window (record_venue r) old emitted new
+pub here : (window : ℕ) (gaps : Bool) (r : CaptureRecord) (old new : History)
+    (emitted : List ReplayEvent) → IsAnsweredThroughout window old
+    → EmitsAt window gaps r old emitted new → GoesOn window (record_venue r) old emitted new
 here window gaps (datagram_record venue line bytes) old new emitted k t = elim t [
-  | inl f ↦ stays window venue old new emitted k f.same (ap (items_taken venue) f.emitted_is ∙ no_gap_items venue window gaps venue new)
+  | inl f ↦ stays window venue old new emitted k f.same
+      (ap (items_taken venue) f.emitted_is ∙ no_gap_items venue window gaps venue new)
   | inr p ↦ packet_goes window gaps venue line bytes old new emitted k p
 ]
-here window gaps (renewal_record venue name) old new emitted k t = renewal_goes window gaps venue name old new emitted t.answer k t.is t.after t.emitted_is
-here window gaps (self_help_record venue on) old new emitted k t = stays window venue old new emitted k t.same (ap (items_taken venue) t.emitted_is)
+here window gaps (renewal_record venue name) old new emitted k t =
+    renewal_goes window gaps venue name old new emitted t.answer k t.is t.after t.emitted_is
+here window gaps (self_help_record venue on) old new emitted k t =
+    stays window venue old new emitted k t.same (ap (items_taken venue) t.emitted_is)
 
 -- ---- a record of another venue
 
-no_items : (window : ℕ) (gaps : Bool) (place : ℕ) (r : CaptureRecord) (old new : History) (emitted : List ReplayEvent) → record_venue r ≢ place → EmitsAt window gaps r old emitted new → items_taken place emitted ≡ []
+no_items : (window : ℕ) (gaps : Bool) (place : ℕ) (r : CaptureRecord) (old new : History)
+    (emitted : List ReplayEvent) → record_venue r ≢ place → EmitsAt window gaps r old emitted new
+    → items_taken place emitted ≡ []
 no_items window gaps place (datagram_record venue line bytes) old new emitted away t = elim t [
   | inl f ↦ ap (items_taken place) f.emitted_is ∙ no_gap_items place window gaps venue new
   | inr p ↦ ap (items_taken place) p.emitted_is
-      ∙ packet_items place window gaps venue line p.answer (drop (stream_length old) (stream_of new.present.packets)) new
+      ∙ packet_items place window gaps venue line p.answer
+      (drop (stream_length old) (stream_of new.present.packets)) new
       ∙ items_other place venue (drop (stream_length old) (stream_of new.present.packets)) away
 ]
-no_items window gaps place (renewal_record venue name) old new emitted away t = ap (items_taken place) t.emitted_is
-no_items window gaps place (self_help_record venue on) old new emitted away t = ap (items_taken place) t.emitted_is
+no_items window gaps place (renewal_record venue name) old new emitted away t =
+    ap (items_taken place) t.emitted_is
+no_items window gaps place (self_help_record venue on) old new emitted away t =
+    ap (items_taken place) t.emitted_is
 
 -- ---- records
 
 abbrev pub Each : ℕ → List History → Type 0
-Each window hs = (place : ℕ) (h : History) → slice_get hs place ≡ Some h → IsKept window h
+Each window hs =
+    (place : ℕ) (h : History) → slice_get hs place ≡ Some h → IsAnsweredThroughout window h
 
 -- the effect of records on the venue at a place
-record Came (window place : ℕ) (old : List History) (emitted : List ReplayEvent) (new : History) : Type 0 where
+record Came (window place : ℕ) (old : List History) (emitted : List ReplayEvent)
+    (new : History) : Type 0 where
   before : History
   at : slice_get old place ≡ Some before
   items : streams_of new ≡ streams_of before ++ items_taken place emitted
-  kept : IsKept window new
+  kept : IsAnsweredThroughout window new
 
-pub one_came : (window : ℕ) (gaps : Bool) (r : CaptureRecord) (old mid : List History) (emitted : List ReplayEvent) → Each window old → EmitsRecord window gaps r old emitted mid
-    → (place : ℕ) (h : History) → slice_get mid place ≡ Some h → (before : History) × (slice_get old place ≡ Some before) × GoesOn window place before emitted h
+pub one_came : (window : ℕ) (gaps : Bool) (r : CaptureRecord) (old mid : List History)
+    (emitted : List ReplayEvent) → Each window old → EmitsRecord window gaps r old emitted mid
+    → (place : ℕ) (h : History) → slice_get mid place ≡ Some h → (before : History)
+    × (slice_get old place ≡ Some before) × GoesOn window place before emitted h
 one_came window gaps r old mid emitted each t place h at =
-    let set : slice_get (slice_set old (record_venue r) t.after) place ≡ Some h = subst (λ (hs : List History). slice_get hs place ≡ Some h) t.others at in
+    let set : slice_get (slice_set old (record_venue r) t.after) place ≡ Some h =
+    subst (λ (hs : List History). slice_get hs place ≡ Some h) t.others at in
     elim (same_or_not place (record_venue r)) [
       | inl now ↦
-          let is : h ≡ t.after = get_set_same old (record_venue r) t.after h (subst (λ (n : ℕ). slice_get (slice_set old (record_venue r) t.after) n ≡ Some h) now set) in
-          rw (now, is) (t.before, t.at, here window gaps r t.before t.after emitted (each (record_venue r) t.before t.at) t.emits)
+          let is : h ≡ t.after =
+          get_set_same old (record_venue r) t.after h
+          (subst (λ (n : ℕ). slice_get (slice_set old (record_venue r) t.after) n ≡ Some h) now
+          set) in
+          rw (now, is) (
+            t.before,
+            t.at,
+            here window gaps r t.before t.after emitted
+                (each (record_venue r) t.before t.at) t.emits,
+          )
       | inr away ↦
-          let old_at : slice_get old place ≡ Some h = sym (get_set_other old (record_venue r) place t.after away) ∙ set in
-          let far : record_venue r ≢ place = λ e. away (sym e) in
-          (h, old_at, stays window place h h emitted (each place h old_at) refl (no_items window gaps place r t.before t.after emitted far t.emits))
+          let old_at : slice_get old place ≡ Some h =
+          sym (get_set_other old (record_venue r) place t.after away) ∙ set in
+          let far : record_venue r ≢ place = λ e. away (sym e) in (
+            h,
+            old_at,
+            stays window place h h emitted (each place h old_at) refl
+                (no_items window gaps place r t.before t.after emitted far t.emits),
+          )
     ]
 
-all_came : (window : ℕ) (gaps : Bool) (rs : List CaptureRecord) (old new : List History) (emitted : List ReplayEvent) → Each window old → Emits window gaps rs old emitted new → (place : ℕ) (h : History) → slice_get new place ≡ Some h → Came window place old emitted h
+all_came : (window : ℕ) (gaps : Bool) (rs : List CaptureRecord) (old new : List History)
+    (emitted : List ReplayEvent) → Each window old → Emits window gaps rs old emitted new
+    → (place : ℕ) (h : History) → slice_get new place ≡ Some h → Came window place old emitted h
 all_came window gaps [] old new emitted each t place h at =
-    let was : slice_get old place ≡ Some h = subst (λ (hs : List History). slice_get hs place ≡ Some h) t.1 at in
+    let was : slice_get old place ≡ Some h =
+    subst (λ (hs : List History). slice_get hs place ≡ Some h) t.1 at in
     record {
       before = h;
       at = was;
-      items = sym (append-nil (streams_of h)) ∙ ap (λ (xs : List Numbered). streams_of h ++ xs) (sym (ap (items_taken place) t.0));
+      items =
+          sym (append-nil (streams_of h))
+          ∙ ap (λ (xs : List Numbered). streams_of h ++ xs) (sym (ap (items_taken place) t.0));
       kept = each place h was;
     }
 all_came window gaps (r ∷ rs) old new emitted each t place h at =
@@ -195,31 +245,46 @@ all_came window gaps (r ∷ rs) old new emitted each t place h at =
       items = c.items
           ∙ ap (λ (xs : List Numbered). xs ++ items_taken place t.2) one.2.items
           ∙ append_assoc (streams_of one.0) (items_taken place t.1) (items_taken place t.2)
-          ∙ ap (λ (xs : List Numbered). streams_of one.0 ++ xs) (sym (ap (items_taken place) t.5 ∙ flat_map-append (taken_by place) t.1 t.2));
+          ∙ ap (λ (xs : List Numbered). streams_of one.0 ++ xs)
+          (sym (ap (items_taken place) t.5 ∙ flat_map-append (taken_by place) t.1 t.2));
       kept = c.kept;
     }
 
 -- ---- from the first record on
 
-new_at : (Q : History → Type 0) (sessions : List (List ℕ)) → ((name : List ℕ) → Q (new_history name)) → (i : ℕ) (h : History) → slice_get (map new_history sessions) i ≡ Some h → Q h
+new_at : (Q : History → Type 0) (sessions : List (List ℕ))
+    → ((name : List ℕ) → Q (new_history name)) → (i : ℕ) (h : History)
+    → slice_get (map new_history sessions) i ≡ Some h → Q h
 new_at Q [] f i h e = absurd cc
 new_at Q (name ∷ names) f zero h e = subst Q (let same : new_history name ≡ h = cc in same) (f name)
 new_at Q (name ∷ names) f (suc i) h e = new_at Q names f i h e
 
-pub new_kept : (config : ReplayConfig) → Each config.window (map new_history config.sessions.now)
-new_kept config = λ i k e. new_at (IsKept config.window) config.sessions.now (λ name. record { over = tt; answered = tt }) i k e
+pub new_each : (config : ReplayConfig) → Each config.window (map new_history config.sessions.now)
+new_each config =
+    λ i k e. new_at (IsAnsweredThroughout config.window) config.sessions.now
+    (new_answered config.window) i k e
 
-came : (config : ReplayConfig) (records : List CaptureRecord) (emitted : List ReplayEvent) (histories : List History) → EmitsAll config records emitted histories
-    → (place : ℕ) (h : History) → slice_get histories place ≡ Some h → Came config.window place (map new_history config.sessions.now) emitted h
-came config records emitted histories t place h at = all_came config.window config.gaps records (map new_history config.sessions.now) histories emitted (new_kept config) t place h at
+came : (config : ReplayConfig) (records : List CaptureRecord) (emitted : List ReplayEvent)
+    (histories : List History) → EmitsAll config records emitted histories
+    → (place : ℕ) (h : History) → slice_get histories place ≡ Some h
+    → Came config.window place (map new_history config.sessions.now) emitted h
+came config records emitted histories t place h at =
+    all_came config.window config.gaps records (map new_history config.sessions.now) histories
+    emitted (new_each config) t place h at
 
-pub taken_are_streams : (config : ReplayConfig) (records : List CaptureRecord) (emitted : List ReplayEvent) (histories : List History) → EmitsAll config records emitted histories
-    → (place : ℕ) (h : History) → slice_get histories place ≡ Some h → items_taken place emitted ≡ streams_of h
+pub taken_are_streams : (config : ReplayConfig) (records : List CaptureRecord)
+    (emitted : List ReplayEvent) (histories : List History)
+    → EmitsAll config records emitted histories
+    → (place : ℕ) (h : History) → slice_get histories place ≡ Some h
+    → items_taken place emitted ≡ streams_of h
 taken_are_streams config records emitted hs t place h at =
     let c = came config records emitted hs t place h at in
-    let first = new_at (λ k. streams_of k ≡ []) config.sessions.now (λ name. refl) place c.before c.at in
+    let first =
+    new_at (λ k. streams_of k ≡ []) config.sessions.now (λ name. refl) place c.before c.at in
     sym (c.items ∙ ap (λ (xs : List Numbered). xs ++ items_taken place emitted) first)
 
 -- each packet that came was answered by the definitions
-pub all_kept : (config : ReplayConfig) (records : List CaptureRecord) (emitted : List ReplayEvent) (histories : List History) → EmitsAll config records emitted histories → Each config.window histories
+pub all_kept : (config : ReplayConfig) (records : List CaptureRecord) (emitted : List ReplayEvent)
+    (histories : List History) → EmitsAll config records emitted histories
+    → Each config.window histories
 all_kept config records emitted hs t place h at = (came config records emitted hs t place h at).kept

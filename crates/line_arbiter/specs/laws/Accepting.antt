@@ -20,14 +20,18 @@ module _ (s : Session) (packets : List Arrival) (part : IsPartOf s packets) wher
       → IsPast (end_of packets) (last_number p) → ⊥
   not_past p of some past =
       let end = part.end past.at past.announced in
-      let last = slice_get_within s.items (p.number + (length p.messages - 1) - 1) (message_item p (length p.messages - 1)) (of.messages (length p.messages - 1) (omega arith)) in
+      let last =
+      slice_get_within s.items (p.number + (length p.messages - 1) - 1)
+      (message_item p (length p.messages - 1))
+      (of.messages (length p.messages - 1) (omega arith)) in
       let k = past.past in
       omega arith
 
   agrees : (sent : ℕ) (p : Content) → IsOfSession s p → Disagrees packets sent p → ⊥
   agrees sent p of other =
       let mine = (part.item (p.number + other.place) other.item other.taken).1 in
-      other.differs (same_item other.item (message_item p other.place) (sym mine ∙ of.messages other.place other.in_packet))
+      other.differs (same_item other.item (message_item p other.place)
+      (sym mine ∙ of.messages other.place other.in_packet))
     where
       same_item : (x y : Item) → Some x ≡ Some y → x ≡ y
       same_item x y h = cc
@@ -45,7 +49,8 @@ module _ (s : Session) (packets : List Arrival) (part : IsPartOf s packets) wher
   heartbeat_accepted : (n : ℕ) (answer : Result Outcome LineFault) → n ≤ length s.items + 1
       → ToHeartbeat packets n answer → IsOk answer
   heartbeat_accepted n (Ok outcome) of h = refl
-  heartbeat_accepted n (Err PastEnd) of h = let end = part.end h.0 h.1 in let k = h.2 in absurd (omega arith)
+  heartbeat_accepted n (Err PastEnd) of h =
+      let end = part.end h.0 h.1 in let k = h.2 in absurd (omega arith)
   heartbeat_accepted n (Err OtherSession) of h = absurd h
   heartbeat_accepted n (Err EndMoved) of h = absurd h
   heartbeat_accepted n (Err EndTooEarly) of h = absurd h
@@ -64,10 +69,12 @@ module _ (s : Session) (packets : List Arrival) (part : IsPartOf s packets) wher
   kind_accepted : (kind : Kind) (window sent : ℕ) (p : Content) (answer : Result Outcome LineFault)
       → p.kind ≡ kind → KindFits kind p.messages → IsOfSession s p
       → ToKind kind window sent packets p answer → IsOk answer
-  kind_accepted kinds.Messages window sent p answer is fits of h = messages_accepted window sent p answer of fits.0 h
+  kind_accepted kinds.Messages window sent p answer is fits of h =
+      messages_accepted window sent p answer of fits.0 h
   kind_accepted kinds.Heartbeat window sent p answer is fits of h =
       heartbeat_accepted p.number answer (of.heartbeat is) h
-  kind_accepted kinds.End window sent p answer is fits of h = end_accepted p.number answer (of.end is) h
+  kind_accepted kinds.End window sent p answer is fits of h =
+      end_accepted p.number answer (of.end is) h
 
   pub accepted : (window sent : ℕ) (p : Content) (answer : Result Outcome LineFault) → IsContent p
       → IsOfSession s p → IsOutcome s.name window sent packets p answer → IsOk answer

@@ -17,7 +17,8 @@ use Rattle.line_arbiter.specs.Outcomes.{ToMessages, ToHeartbeat, ToKind, IsOutco
 use Rattle.line_arbiter.specs.Genuine.{IsGenuineAt, IsGenuineArrival, AreGenuine}
 
 -- only an end of session is answered Ended
-messages_unended : (window sent : ℕ) (packets : List Arrival) (p : Content) (answer : Result Outcome LineFault)
+messages_unended : (window sent : ℕ) (packets : List Arrival) (p : Content)
+    (answer : Result Outcome LineFault)
     → ToMessages window sent packets p answer → is_ended answer ≡ true → ⊥
 messages_unended window sent packets p (Ok Ended) h e = h
 messages_unended window sent packets p (Ok Heartbeat) h e = false≢true e
@@ -33,13 +34,17 @@ heartbeat_unended packets n (Ok Ahead) h e = false≢true e
 heartbeat_unended packets n (Ok (Taken new repeated)) h e = false≢true e
 heartbeat_unended packets n (Err fault) h e = false≢true e
 
-kind_ended : (kind : Kind) (window sent : ℕ) (packets : List Arrival) (p : Content) (answer : Result Outcome LineFault)
+kind_ended : (kind : Kind) (window sent : ℕ) (packets : List Arrival) (p : Content)
+    (answer : Result Outcome LineFault)
     → ToKind kind window sent packets p answer → is_ended answer ≡ true → kind ≡ kinds.End
-kind_ended kinds.Messages window sent packets p answer h e = absurd (messages_unended window sent packets p answer h e)
-kind_ended kinds.Heartbeat window sent packets p answer h e = absurd (heartbeat_unended packets p.number answer h e)
+kind_ended kinds.Messages window sent packets p answer h e =
+    absurd (messages_unended window sent packets p answer h e)
+kind_ended kinds.Heartbeat window sent packets p answer h e =
+    absurd (heartbeat_unended packets p.number answer h e)
 kind_ended kinds.End window sent packets p answer h e = refl
 
-ended_is_end : (session : List ℕ) (window sent : ℕ) (packets : List Arrival) (p : Content) (answer : Result Outcome LineFault)
+ended_is_end : (session : List ℕ) (window sent : ℕ) (packets : List Arrival) (p : Content)
+    (answer : Result Outcome LineFault)
     → IsOutcome session window sent packets p answer → is_ended answer ≡ true → p.kind ≡ kinds.End
 ended_is_end session window sent packets p answer h e = elim h [
   | inl other ↦ absurd (refused answer other.1 e)
@@ -51,7 +56,8 @@ ended_is_end session window sent packets p answer h e = elim h [
     refused (Err fault) is e = false≢true e
 
 -- only a packet of the session is answered with an outcome
-accepted_is_of_session : (session : List ℕ) (window sent : ℕ) (packets : List Arrival) (p : Content) (answer : Result Outcome LineFault)
+accepted_is_of_session : (session : List ℕ) (window sent : ℕ) (packets : List Arrival) (p : Content)
+    (answer : Result Outcome LineFault)
     → IsOutcome session window sent packets p answer → IsOk answer → p.session ≡ session
 accepted_is_of_session session window sent packets p answer h ok = elim h [
   | inl other ↦ absurd (refused answer other.1 ok)
@@ -81,9 +87,11 @@ module _ (carries : Carries) (ends : Ends) (venue ordinal : ℕ) where
       → IsAnswered session window packets a → IsGenuineArrival carries ends venue ordinal a
   genuine_arrival session window packets a genuine right = record {
     taken =
-        λ h. (genuine (accepted_is_of_session session window right.sent packets a.packet a.answer right.outcome (taken_ok a.answer h))).messages;
+        λ h. (genuine (accepted_is_of_session session window right.sent packets a.packet a.answer
+        right.outcome (taken_ok a.answer h))).messages;
     ended = λ h.
-        (genuine (accepted_is_of_session session window right.sent packets a.packet a.answer right.outcome (ended_ok a.answer h))).end
+        (genuine (accepted_is_of_session session window right.sent packets a.packet a.answer
+        right.outcome (ended_ok a.answer h))).end
         (ended_is_end session window right.sent packets a.packet a.answer right.outcome h);
   }
 
@@ -94,4 +102,5 @@ module _ (carries : Carries) (ends : Ends) (venue ordinal : ℕ) where
       → IsAnswered session window packets a
       → AreGenuine carries ends venue ordinal (packets ++ a ∷ [])
   genuine_grows window session packets a all genuine right =
-      all_push (IsGenuineArrival carries ends venue ordinal) packets a all (genuine_arrival session window packets a genuine right)
+      all_push (IsGenuineArrival carries ends venue ordinal) packets a all
+      (genuine_arrival session window packets a genuine right)

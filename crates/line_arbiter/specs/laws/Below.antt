@@ -36,7 +36,8 @@ same : (packets : List Arrival) (a : Arrival) → is_taken a.answer ≡ false
 same packets a t f b = record {
   least = λ e h. b.least e (sym (end_same packets a f) ∙ h);
   above =
-      λ e m h s. b.above e m (sym (end_same packets a f) ∙ h) (subst (λ (o : Option Item). IsSome o) (carried_same packets a m t) s);
+      λ e m h s. b.above e m (sym (end_same packets a f) ∙ h)
+      (subst (λ (o : Option Item). IsSome o) (carried_same packets a m t) s);
 }
 
 some_or : (o : Option Item) (b : Bool) (x : Item)
@@ -52,7 +53,8 @@ taken packets a t f before b = record {
   least = λ e h. b.least e (sym (end_same packets a f) ∙ h);
   above = λ e m h s.
       let at : end_of packets ≡ Some e = sym (end_same packets a f) ∙ h in
-      elim (some_or (carried packets m) (has_number a.packet m) (item_at a.packet m) (subst (λ (o : Option Item). IsSome o) (carried_more packets a m t) s)) [
+      elim (some_or (carried packets m) (has_number a.packet m) (item_at a.packet m)
+      (subst (λ (o : Option Item). IsSome o) (carried_more packets a m t) s)) [
         | inl old ↦ b.above e m at old
         | inr now ↦ let within = number_in a.packet m now in let l = before e at in omega arith
       ];
@@ -64,13 +66,17 @@ ended : (packets : List Arrival) (a : Arrival) (n : ℕ) → is_taken a.answer �
 ended packets a n t is least above = record {
   least = λ e h. let same : n ≡ e = one (sym is ∙ h) in omega arith;
   above =
-      λ e m h s. let same : n ≡ e = one (sym is ∙ h) in let k = above m (subst (λ (o : Option Item). IsSome o) (carried_same packets a m t) s) in omega arith;
+      λ e m h s.
+      let same : n ≡ e = one (sym is ∙ h) in
+      let k = above m (subst (λ (o : Option Item). IsSome o) (carried_same packets a m t) s) in
+      omega arith;
 }
   where
     one : {x y : ℕ} → Some x ≡ Some y → x ≡ y
     one h = cc
 
-module _ (window sent : ℕ) (packets : List Arrival) (line : LineId) (p : Content) (content : IsContent p) (b : IsBelow packets) where
+module _ (window sent : ℕ) (packets : List Arrival) (line : LineId) (p : Content)
+    (content : IsContent p) (b : IsBelow packets) where
   Goal : Result Outcome LineFault → Type 0
   Goal answer = IsBelow (packets ++ record { line = line; packet = p; answer = answer } ∷ [])
 
@@ -92,8 +98,12 @@ module _ (window sent : ℕ) (packets : List Arrival) (line : LineId) (p : Conte
   by_kind kinds.End (Ok Ahead) h = absurd h
   by_kind kinds.End (Err fault) h = same packets _ refl refl b
   by_kind kinds.End (Ok Ended) h = elim h [
-    | inl again ↦ ended packets _ p.number refl (end_of-push packets _ ∙ ap (λ (o : Option ℕ). option_or o (Some p.number)) again) content.from_one (λ m s. b.above p.number m again s)
-    | inr once ↦ ended packets _ p.number refl (end_of-push packets _ ∙ ap (λ (o : Option ℕ). option_or o (Some p.number)) once.0) content.from_one once.1
+    | inl again ↦ ended packets _ p.number refl
+        (end_of-push packets _ ∙ ap (λ (o : Option ℕ). option_or o (Some p.number)) again)
+        content.from_one (λ m s. b.above p.number m again s)
+    | inr once ↦ ended packets _ p.number refl
+        (end_of-push packets _ ∙ ap (λ (o : Option ℕ). option_or o (Some p.number)) once.0)
+        content.from_one once.1
   ]
 
   pub below_grows : (session : List ℕ) (answer : Result Outcome LineFault)
@@ -105,13 +115,19 @@ module _ (window sent : ℕ) (packets : List Arrival) (line : LineId) (p : Conte
           line;
       packet = p;
       answer = r;
-    } ∷ [])) (sym other.1) (same packets (record { line = line; packet = p; answer = Err OtherSession }) refl refl b)
+    } ∷ [])) (sym other.1) (same packets (record {
+      line =
+          line;
+      packet = p;
+      answer = Err OtherSession;
+    }) refl refl b)
     | inr mine ↦ by_kind p.kind answer mine.1
   ]
 
 pub below_past : (packets : List Arrival) → IsBelow packets → EndsPast packets
 below_past packets b e is = elim (cases_lt 0 (front_of packets)) [
-  | inl some ↦ b.above e (front_of packets) is ((front_is packets).all (front_of packets) (omega arith) (omega arith))
+  | inl some ↦ b.above e (front_of packets) is
+      ((front_is packets).all (front_of packets) (omega arith) (omega arith))
   | inr none ↦ let least = b.least e is in omega arith
 ]
 
@@ -126,8 +142,12 @@ answered_more session window packets a all one = after [] packets all one
         → AreAnsweredAfter session window before (rest ++ a ∷ [])
     after before [] all one =
         (subst (λ (xs : List Arrival). IsAnswered session window xs a) (append-nil before) one, tt)
-    after before (b ∷ rest) all one =
-        (all.0, after (before ++ b ∷ []) rest all.1 (subst (λ (xs : List Arrival). IsAnswered session window xs a) (sym (append_assoc before (b ∷ []) rest)) one))
+    after before (b ∷ rest) all one = (
+      all.0,
+      after (before ++ b ∷ []) rest all.1
+          (subst (λ (xs : List Arrival). IsAnswered session window xs a)
+          (sym (append_assoc before (b ∷ []) rest)) one),
+    )
 
 -- what was taken of packets that were answered as they should be lies below the announced end
 pub below_of : (session : List ℕ) (window : ℕ) (packets : List Arrival)
@@ -136,17 +156,23 @@ below_of session window packets all = after [] packets below_none all
   where
     after : (before rest : List Arrival) → IsBelow before
         → AreAnsweredAfter session window before rest → IsBelow (before ++ rest)
-    after before [] below all = subst (λ (xs : List Arrival). IsBelow xs) (sym (append-nil before)) below
+    after before [] below all =
+        subst (λ (xs : List Arrival). IsBelow xs) (sym (append-nil before)) below
     after before (a ∷ rest) below all =
         let one = all.0 in
         subst (λ (xs : List Arrival). IsBelow xs) (append_assoc before (a ∷ []) rest)
-        (after (before ++ a ∷ []) rest (below_grows window one.sent before a.line a.packet one.content below session a.answer one.outcome) all.1)
+        (after (before ++ a ∷ []) rest
+        (below_grows window one.sent before a.line a.packet one.content below session a.answer
+        one.outcome) all.1)
 
 pub answered_grows : (session : List ℕ) (window : ℕ) (packets : List Arrival) (a : Arrival)
     → AreAnswered session window packets → IsAnswered session window packets a
     → IsPrefix (stream_of packets) (stream_of (packets ++ a ∷ []))
 answered_grows session window packets a all one =
-    stream_grows packets a (below_past (packets ++ a ∷ []) (below_of session window (packets ++ a ∷ []) (answered_more session window packets a all one)))
+    stream_grows packets a
+    (below_past (packets ++ a ∷ [])
+    (below_of session window (packets ++ a ∷ [])
+    (answered_more session window packets a all one)))
 
 -- where the last item sent is End, the session is over and all of its stream was sent
 pub all_sent : (session : List ℕ) (window sent : ℕ) (packets : List Arrival)

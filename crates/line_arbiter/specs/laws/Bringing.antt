@@ -13,11 +13,14 @@ abbrev higher : ℕ → Arrival → ℕ
 higher n a = if is_taken a.answer then max n (last_number a.packet) else n
 
 pub top_of-push : (packets : List Arrival) (a : Arrival)
-    → top_of (packets ++ a ∷ []) ≡ (if is_taken a.answer then max (top_of packets) (last_number a.packet) else top_of packets)
+    → top_of (packets ++ a ∷ [])
+    ≡ (if is_taken a.answer then max (top_of packets) (last_number a.packet) else
+    top_of packets)
 top_of-push packets a = fold_push higher 0 packets a
 
 pub bringer-push : (packets : List Arrival) (a : Arrival) (m : ℕ)
-    → bringer (packets ++ a ∷ []) m ≡ option_or (bringer packets m) (if brings m a then Some a else None)
+    → bringer (packets ++ a ∷ []) m
+    ≡ option_or (bringer packets m) (if brings m a then Some a else None)
 bringer-push packets a m = find-append (brings m) packets (a ∷ [])
 
 find_one : {A B : Type 0} (f : A → B) (q : A → Bool) (a : A)
@@ -25,40 +28,59 @@ find_one : {A B : Type 0} (f : A → B) (q : A → Bool) (a : A)
 find_one f q a = picked f (q a) a
 
 pub carried-push : (packets : List Arrival) (a : Arrival) (m : ℕ)
-    → carried (packets ++ a ∷ []) m ≡ option_or (carried packets m) (if brings m a then Some (item_at a.packet m) else None)
+    → carried (packets ++ a ∷ []) m
+    ≡ option_or (carried packets m) (if brings m a then Some (item_at a.packet m) else None)
 carried-push packets a m =
     ap (option_map (λ (x : Arrival). item_at x.packet m)) (find-append (brings m) packets (a ∷ []))
-    ∙ map_or (λ (x : Arrival). item_at x.packet m) (find (brings m) packets) (find (brings m) (a ∷ []))
-    ∙ ap (option_or (carried packets m)) (find_one (λ (x : Arrival). item_at x.packet m) (brings m) a)
+    ∙ map_or (λ (x : Arrival). item_at x.packet m) (find (brings m) packets)
+    (find (brings m) (a ∷ []))
+    ∙ ap (option_or (carried packets m))
+    (find_one (λ (x : Arrival). item_at x.packet m) (brings m) a)
 
 -- a packet that was not taken carries nothing
 pub carried_same : (packets : List Arrival) (a : Arrival) (m : ℕ) → is_taken a.answer ≡ false
     → carried (packets ++ a ∷ []) m ≡ carried packets m
 carried_same packets a m untaken =
-    carried-push packets a m ∙ ap (λ (b : Bool). option_or (carried packets m) (if b && has_number a.packet m then Some (item_at a.packet m) else None)) untaken ∙ or_none (carried packets m)
+    carried-push packets a m
+    ∙ ap (λ (b : Bool). option_or (carried packets m)
+    (if b && has_number a.packet m then Some (item_at a.packet m) else None)) untaken
+    ∙ or_none (carried packets m)
 
 pub carried_more : (packets : List Arrival) (a : Arrival) (m : ℕ) → is_taken a.answer ≡ true
-    → carried (packets ++ a ∷ []) m ≡ option_or (carried packets m) (if has_number a.packet m then Some (item_at a.packet m) else None)
+    → carried (packets ++ a ∷ []) m
+    ≡ option_or (carried packets m)
+    (if has_number a.packet m then Some (item_at a.packet m) else None)
 carried_more packets a m was_taken =
-    carried-push packets a m ∙ ap (λ (b : Bool). option_or (carried packets m) (if b && has_number a.packet m then Some (item_at a.packet m) else None)) was_taken
+    carried-push packets a m
+    ∙ ap (λ (b : Bool). option_or (carried packets m)
+    (if b && has_number a.packet m then Some (item_at a.packet m) else None)) was_taken
 
 pub end_of-push : (packets : List Arrival) (a : Arrival)
-    → end_of (packets ++ a ∷ []) ≡ option_or (end_of packets) (if is_ended a.answer then Some a.packet.number else None)
+    → end_of (packets ++ a ∷ [])
+    ≡ option_or (end_of packets) (if is_ended a.answer then Some a.packet.number else None)
 end_of-push packets a =
-    ap (option_map (λ (x : Arrival). x.packet.number)) (find-append (λ (x : Arrival). is_ended x.answer) packets (a ∷ []))
-    ∙ map_or (λ (x : Arrival). x.packet.number) (find (λ (x : Arrival). is_ended x.answer) packets) (find (λ (x : Arrival). is_ended x.answer) (a ∷ []))
-    ∙ ap (option_or (end_of packets)) (find_one (λ (x : Arrival). x.packet.number) (λ (x : Arrival). is_ended x.answer) a)
+    ap (option_map (λ (x : Arrival). x.packet.number))
+    (find-append (λ (x : Arrival). is_ended x.answer) packets (a ∷ []))
+    ∙ map_or (λ (x : Arrival). x.packet.number) (find (λ (x : Arrival). is_ended x.answer) packets)
+    (find (λ (x : Arrival). is_ended x.answer) (a ∷ []))
+    ∙ ap (option_or (end_of packets))
+    (find_one (λ (x : Arrival). x.packet.number) (λ (x : Arrival). is_ended x.answer) a)
 
 pub end_same : (packets : List Arrival) (a : Arrival) → is_ended a.answer ≡ false
     → end_of (packets ++ a ∷ []) ≡ end_of packets
 end_same packets a unended =
-    end_of-push packets a ∙ ap (λ (b : Bool). option_or (end_of packets) (if b then Some a.packet.number else None)) unended ∙ or_none (end_of packets)
+    end_of-push packets a
+    ∙ ap (λ (b : Bool). option_or (end_of packets) (if b then Some a.packet.number else None))
+    unended ∙ or_none (end_of packets)
 
 pub known-push : (packets : List Arrival) (a : Arrival) → is_ended a.answer ≡ false
     → known_of (packets ++ a ∷ []) ≡ raised (known_of packets) (end_of packets) (heard a)
 known-push packets a unended =
-    let top : fold (λ k x. max k (heard x)) 0 (packets ++ a ∷ []) ≡ max (fold (λ k x. max k (heard x)) 0 packets) (heard a) = fold-append (λ k x. max k (heard x)) 0 packets (a ∷ []) in
-    ap (λ (o : Option ℕ). option_map_or (λ e. e - 1) o (fold (λ k x. max k (heard x)) 0 (packets ++ a ∷ []))) (end_same packets a unended)
+    let top : fold (λ k x. max k (heard x)) 0 (packets ++ a ∷ [])
+    ≡ max (fold (λ k x. max k (heard x)) 0 packets) (heard a) =
+    fold-append (λ k x. max k (heard x)) 0 packets (a ∷ []) in
+    ap (λ (o : Option ℕ). option_map_or (λ e. e - 1) o
+    (fold (λ k x. max k (heard x)) 0 (packets ++ a ∷ []))) (end_same packets a unended)
     ∙ ap (λ (n : ℕ). option_map_or (λ e. e - 1) (end_of packets) n) top
     ∙ by_end (end_of packets) (fold (λ k x. max k (heard x)) 0 packets) (heard a)
   where

@@ -16,12 +16,18 @@ use Rattle.feed_types.specs.declared.item.Item.TheVariants as items
 pub length-stream : (packets : List Arrival) (n : ℕ)
     → length (stream_to packets n) ≡ n + length (end_at (end_of packets) (n + 1))
 length-stream packets n =
-    omega (arith, length-append (map (item_numbered packets) (range_with_len 1 n)) (end_at (end_of packets) (n + 1)), length-map-range_with_len (item_numbered packets) 1 n)
+    omega (
+      arith,
+      length-append (map (item_numbered packets) (range_with_len 1 n))
+          (end_at (end_of packets) (n + 1)),
+      length-map-range_with_len (item_numbered packets) 1 n,
+    )
 
 pub stream_len : (packets Q : List Arrival) (n : ℕ) → end_of Q ≡ end_of packets
     → length (stream_to Q n) ≡ length (stream_to packets n)
 stream_len packets Q n e =
-    length-stream Q n ∙ ap (λ (o : Option ℕ). n + length (end_at o (n + 1))) e ∙ sym (length-stream packets n)
+    length-stream Q n ∙ ap (λ (o : Option ℕ). n + length (end_at o (n + 1))) e
+    ∙ sym (length-stream packets n)
 
 some_if : {X : Type 0} (b : Bool) (x : X) → 0 < length (if b then x ∷ [] else []) → b ≡ true
 some_if true x h = refl
@@ -35,7 +41,8 @@ most_if false x = omega arith
 pub end_len : (o : Option ℕ) (m : ℕ) → 0 < length (end_at o m) → o ≡ Some m
 end_len None m h = absurd (omega arith)
 end_len (Some e) m h =
-    ap (λ (k : ℕ). Some k) (eqb-true e m (some_if (e == m) (record { number = m; item = items.End }) h))
+    ap (λ (k : ℕ). Some k)
+    (eqb-true e m (some_if (e == m) (record { number = m; item = items.End }) h))
 
 pub end_most : (o : Option ℕ) (m : ℕ) → length (end_at o m) ≤ 1
 end_most None m = omega arith
@@ -45,8 +52,11 @@ end_most (Some e) m = most_if (e == m) (record { number = m; item = items.End })
 pub cursor : (s : State) (packets : List Arrival) → Stands s packets
     → (s.sent ≤ s.front) ⊎ ((s.sent ≡ s.front + 1) × (end_of packets ≡ Some (s.front + 1)))
 cursor s packets fits = elim (cases_lt s.front s.sent) [
-  | inl past ↦ inr (let k = fits.sent in let l = length-stream packets s.front in
-      (omega (arith, end_most (end_of packets) (s.front + 1)), end_len (end_of packets) (s.front + 1) (omega arith)))
+  | inl past ↦ inr (let k = fits.sent in let l = length-stream packets s.front in (
+    omega (arith, end_most (end_of packets) (s.front + 1)),
+    end_len (end_of packets)
+        (s.front + 1) (omega arith),
+  ))
   | inr le ↦ inl le
 ]
 
@@ -68,4 +78,6 @@ known_at_end packets e is =
 pub held_is : (s : State) (packets : List Arrival) → Stands s packets → (m : ℕ) → s.sent < m
     → held_at (held_of s) m ≡ carried packets m
 held_is s packets fits m h =
-    let no : nat_le m s.sent ≡ false = lt-leb m s.sent h in fits.held m ∙ ap (λ (b : Bool). if b then None else carried packets m) no
+    let no : nat_le m s.sent ≡ false =
+    lt-leb m s.sent h in fits.held m
+    ∙ ap (λ (b : Bool). if b then None else carried packets m) no

@@ -24,7 +24,8 @@ cases_flag false false = inl refl
 -- a part is the same, or the whole is another one
 part : {W X : Type 0} (f : W → X) → ((x y : X) → (x ≡ y) ⊎ (x ≢ y)) → (a b : W)
     → (f a ≡ f b) ⊎ (a ≢ b)
-part f tell a b = elim (tell (f a) (f b)) [ inl same ↦ inl same | inr other ↦ inr (λ e. other (ap f e)) ]
+part f tell a b =
+    elim (tell (f a) (f b)) [ inl same ↦ inl same | inr other ↦ inr (λ e. other (ap f e)) ]
 
 both : {P Q N : Type 0} → P ⊎ N → Q ⊎ N → (P × Q) ⊎ N
 both (inl p) (inl q) = inl (p, q)
@@ -33,9 +34,15 @@ both (inr n) o = inr n
 
 cases_quote : (a b : Quote) → (a ≡ b) ⊎ (a ≢ b)
 cases_quote a b =
-    let sizes = both (part (λ (q : Quote). q.bid_size) cases_eq a b) (part (λ (q : Quote). q.offer_size) cases_eq a b) in
-    let prices = both (part (λ (q : Quote). q.bid_price) cases_eq a b) (part (λ (q : Quote). q.offer_price) cases_eq a b) in
-    let flags = both (part (λ (q : Quote). q.bid_auto) cases_flag a b) (part (λ (q : Quote). q.offer_auto) cases_flag a b) in
+    let sizes =
+    both (part (λ (q : Quote). q.bid_size) cases_eq a b)
+    (part (λ (q : Quote). q.offer_size) cases_eq a b) in
+    let prices =
+    both (part (λ (q : Quote). q.bid_price) cases_eq a b)
+    (part (λ (q : Quote). q.offer_price) cases_eq a b) in
+    let flags =
+    both (part (λ (q : Quote). q.bid_auto) cases_flag a b)
+    (part (λ (q : Quote). q.offer_auto) cases_flag a b) in
     let symbol = part (λ (q : Quote). q.symbol) cases_bytes a b in
     elim (both (both sizes prices) (both flags symbol)) [
       | inl all ↦ inl (λ i. record {
@@ -58,13 +65,18 @@ halt_is s t on off e = (cc, cc)
 
 pub cases_item : (a b : Item) → (a ≡ b) ⊎ (a ≢ b)
 cases_item (items.Quote a) (items.Quote b) =
-    elim (cases_quote a b) [ inl same ↦ inl (ap items.Quote same) | inr other ↦ inr (λ e. other (quote_is a b e)) ]
+    elim (cases_quote a b)
+    [ inl same ↦ inl (ap items.Quote same) | inr other ↦ inr (λ e. other (quote_is a b e)) ]
 cases_item (items.Quote a) (items.Halt t off) = inr (λ e. cc)
 cases_item (items.Quote a) items.Other = inr (λ e. cc)
 cases_item (items.Quote a) items.End = inr (λ e. cc)
 cases_item (items.Halt s on) (items.Quote b) = inr (λ e. cc)
 cases_item (items.Halt s on) (items.Halt t off) = elim (cases_bytes s t) [
-  | inl symbol ↦ elim (cases_flag on off) [ inl flag ↦ inl (λ i. items.Halt (symbol i) (flag i)) | inr other ↦ inr (λ e. other (halt_is s t on off e).1) ]
+  | inl symbol ↦ elim (cases_flag on off) [
+    | inl flag ↦ inl (λ i. items.Halt (symbol i) (flag i))
+    | inr other ↦
+        inr (λ e. other (halt_is s t on off e).1)
+  ]
   | inr other ↦ inr (λ e. other (halt_is s t on off e).0)
 ]
 cases_item (items.Halt s on) items.Other = inr (λ e. cc)
@@ -89,6 +101,7 @@ one_below P each (suc n) = elim (each n) [
   | inl last ↦ inl (n, omega arith, last)
   | inr not_last ↦ elim (one_below P each n) [
     | inl found ↦ let within = found.1 in inl (found.0, omega arith, found.2)
-    | inr none ↦ inr (λ k within h. elim (cases_eq k n) [ inl is ↦ not_last (subst P is h) | inr before ↦ none k (omega arith) h ])
+    | inr none ↦ inr (λ k within h. elim (cases_eq k n)
+        [ inl is ↦ not_last (subst P is h) | inr before ↦ none k (omega arith) h ])
   ]
 ]

@@ -37,7 +37,8 @@ module _ (packets : List Arrival) (sent : ℕ) (p : Content) where
   -- what was taken at the number of a message reads as another item
   abbrev Other : ℕ → Type 0
   Other k =
-      (sent < p.number + k) × (item : Item) × (carried packets (p.number + k) ≡ Some item) × (item ≢ message_item p k)
+      (sent < p.number + k) × (item : Item) × (carried packets (p.number + k) ≡ Some item)
+      × (item ≢ message_item p k)
 
   other_or_not : (k : ℕ) → Other k ⊎ (Other k → ⊥)
   other_or_not k = elim (cases_lt sent (p.number + k)) [
@@ -45,8 +46,10 @@ module _ (packets : List Arrival) (sent : ℕ) (p : Content) where
     | inl past ↦ elim (none_or_one (carried packets (p.number + k))) [
       | inl none ↦ inr (λ h. let e : None ≡ Some h.1 = sym none ∙ h.2 in absurd cc)
       | inr one ↦ elim (cases_item one.0 (message_item p k)) [
-        | inl same ↦ inr (λ h. let e : Some one.0 ≡ Some h.1 =
-            sym one.1 ∙ h.2 in let is : one.0 ≡ h.1 = cc in h.3 (sym is ∙ same))
+        | inl same ↦ inr (λ h.
+            let e : Some one.0 ≡ Some h.1 = sym one.1 ∙ h.2 in
+            let is : one.0 ≡ h.1 = cc in
+            h.3 (sym is ∙ same))
         | inr other ↦ inl (past, one.0, one.1, other)
       ]
     ]
@@ -78,9 +81,13 @@ module _ (packets : List Arrival) (sent : ℕ) (p : Content) where
       | inr within ↦ elim disagrees_or_agrees [
         | inl other ↦ (Err Conflict, (before, within, other))
         | inr same ↦
-            let most = count_by-le-length (λ m. is_none (carried packets m)) (range_with_len p.number (length p.messages)) in
-            let len = length-range_with_len p.number (length p.messages) in
-            (Ok (Taken (new_count packets p) (length p.messages - new_count packets p)), (before, within, same, refl, omega arith))
+            let most =
+            count_by-le-length (λ m. is_none (carried packets m))
+            (range_with_len p.number (length p.messages)) in
+            let len = length-range_with_len p.number (length p.messages) in (
+              Ok (Taken (new_count packets p) (length p.messages - new_count packets p)),
+              (before, within, same, refl, omega arith),
+            )
       ]
     ]
   ]
@@ -93,7 +100,11 @@ heartbeat_has packets n = elim (none_or_one (end_of packets)) [
   | inl none ↦ (Ok Heartbeat, λ e is. absurd (none_or_some (end_of packets) e none is))
   | inr one ↦ elim (cases_lt one.0 n) [
     | inl past ↦ (Err PastEnd, (one.0, one.1, past))
-    | inr within ↦ (Ok Heartbeat, λ e is. let same = same_some one.0 e (end_of packets) one.1 is in omega arith)
+    | inr within ↦ (
+      Ok Heartbeat,
+      λ e is. let same = same_some one.0 e (end_of packets) one.1 is in
+          omega arith,
+    )
   ]
 ]
 
@@ -160,11 +171,14 @@ ended_or_not end sent = elim (none_or_one end) [
   ]
 ]
 
-used_or_not : (names : List (List ℕ)) (name : List ℕ) → Contains names name ⊎ (Contains names name → ⊥)
-used_or_not names name = elim (one_below (λ k. slice_index_or names k name ≡ name) (λ k. cases_bytes (slice_index_or names k name) name) (length names)) [
-  | inl used ↦ inl used
-  | inr free ↦ inr (λ used. free used.0 used.1 used.2)
-]
+used_or_not : (names : List (List ℕ)) (name : List ℕ) → Contains names name
+    ⊎ (Contains names name → ⊥)
+used_or_not names name =
+    elim (one_below (λ k. slice_index_or names k name ≡ name)
+    (λ k. cases_bytes (slice_index_or names k name) name) (length names)) [
+      | inl used ↦ inl used
+      | inr free ↦ inr (λ used. free used.0 used.1 used.2)
+    ]
 
 pub every_renewal : (names : List (List ℕ)) (end : Option ℕ) (sent : ℕ) (name : List ℕ)
     → (answer : Result ℕ RenewFault) × IsRenewal names end sent name answer

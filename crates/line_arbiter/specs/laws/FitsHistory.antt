@@ -20,13 +20,27 @@ use Rattle.line_arbiter.specs.laws.Histories.{names_length, names_next, names_sa
 
 pub keeps_session : {old new : State} → KeepsItsPlace old new → KeepsItsSession old new
 keeps_session kept =
-    record { venue = kept.venue; sessions = kept.sessions; session = kept.session; window = kept.window; earlier = kept.earlier }
+    record {
+      venue = kept.venue;
+      sessions = kept.sessions;
+      session = kept.session;
+      window =
+          kept.window;
+      earlier = kept.earlier;
+    }
 
 -- a packet, and then what it made ready was sent
 pub keeps_sent : {old mid new : State} → KeepsItsSession old mid → KeepsAllButSent mid new
     → KeepsItsSession old new
 keeps_sent a b =
-    record { venue = b.venue ∙ a.venue; sessions = b.sessions ∙ a.sessions; session = b.session ∙ a.session; window = b.window ∙ a.window; earlier = b.earlier ∙ a.earlier }
+    record {
+      venue = b.venue ∙ a.venue;
+      sessions = b.sessions ∙ a.sessions;
+      session = b.session
+          ∙ a.session;
+      window = b.window ∙ a.window;
+      earlier = b.earlier ∙ a.earlier;
+    }
 
 -- ---- nothing came yet
 
@@ -61,7 +75,9 @@ pub outcome_in : {s : State} (h : History) (p : Content) (answer : Result Outcom
     → FitsHistory s h → IsOutcome s.session s.window s.sent h.present.packets p answer
     → IsOutcome h.present.name s.window s.sent h.present.packets p answer
 outcome_in {s =
-    s} h p answer f right = subst (λ (name : List ℕ). IsOutcome name s.window s.sent h.present.packets p answer) f.session right
+    s} h p answer f right =
+    subst (λ (name : List ℕ). IsOutcome name s.window s.sent h.present.packets p answer)
+    f.session right
 
 -- ---- items that were sent
 
@@ -81,9 +97,11 @@ pub shown_more : (n earlier now : ℕ) → n ≡ shown earlier → shown (n + no
 shown_more n earlier now e = omega arith
 
 pub wins_shown : {s : State} (h : History) → FitsHistory s h → (line : LineId)
-    → shown (count_on line s.earlier + wins_of h.present.packets line) ≡ shown (wins_in (all_begun h) line)
+    → shown (count_on line s.earlier + wins_of h.present.packets line)
+    ≡ shown (wins_in (all_begun h) line)
 wins_shown {s = s} h f line =
-    shown_more (count_on line s.earlier) (wins_in h.earlier line) (wins_of h.present.packets line) (f.earlier line)
+    shown_more (count_on line s.earlier) (wins_in h.earlier line) (wins_of h.present.packets line)
+    (f.earlier line)
     ∙ ap shown (sym (wins_push h.earlier h.present line))
 
 pub wins_are : {s : State} (h : History) → FitsHistory s h → (line : LineId)
@@ -96,7 +114,9 @@ pub fits_renewal : {old new : State} (h : History) (name : List ℕ) → FitsHis
     → IsRenewed old new name → Fits new [] → FitsHistory new (after_renewal h name)
 fits_renewal h name f renewed fits = record {
   present = fits;
-  names = renewed.sessions ∙ ap (λ (names : List (List ℕ)). names ++ name ∷ []) f.names ∙ sym (names_next h name);
+  names =
+      renewed.sessions ∙ ap (λ (names : List (List ℕ)). names ++ name ∷ []) f.names
+      ∙ sym (names_next h name);
   session = renewed.begun.session;
   earlier = λ line. ap (count_on line) renewed.earlier ∙ wins_are h f line;
 }
@@ -106,7 +126,9 @@ pub renewal_in : {s : State} (h : History) (name : List ℕ) (answer : Result �
     → FitsHistory s h → IsRenewal s.sessions s.end s.sent name answer
     → IsRenewal (names_of h) (end_of h.present.packets) s.sent name answer
 renewal_in {s =
-    s} h name answer f right = subst (λ (x : List (List ℕ) × Option ℕ). IsRenewal x.0 x.1 s.sent name answer) (λ i. (f.names i, f.present.end i)) right
+    s} h name answer f right =
+    subst (λ (x : List (List ℕ) × Option ℕ). IsRenewal x.0 x.1 s.sent name answer)
+    (λ i. (f.names i, f.present.end i)) right
 
 pub ordinal_is : {s : State} (h : History) → FitsHistory s h → ordinal_of s ≡ 1 + length h.earlier
 ordinal_is h f = ap length f.names ∙ names_length h

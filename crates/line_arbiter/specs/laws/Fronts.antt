@@ -23,7 +23,9 @@ topped n a = if is_taken a.answer then max n (last_number a.packet) else n
 top_grows : (packets : List Arrival) (n : ℕ) → n ≤ fold topped n packets
 top_grows [] n = omega arith
 top_grows (a ∷ packets) n =
-    let step = top_step n (is_taken a.answer) (last_number a.packet) in let rest = top_grows packets (topped n a) in omega arith
+    let step = top_step n (is_taken a.answer) (last_number a.packet) in
+    let rest = top_grows packets (topped n a) in
+    omega arith
   where
     top_step : (n : ℕ) (b : Bool) (k : ℕ) → n ≤ (if b then max n k else n)
     top_step n true k = omega arith
@@ -43,11 +45,13 @@ bringer_above [] n m h = refl
 bringer_above (a ∷ packets) n m h =
     let grows = top_grows packets (topped n a) in
     let here : brings m a ≡ false = brings_none n m (is_taken a.answer) a.packet (omega arith) in
-    ap (λ (b : Bool). cond b (Some a) (find (brings m) packets)) here ∙ bringer_above packets (topped n a) m h
+    ap (λ (b : Bool). cond b (Some a) (find (brings m) packets)) here
+    ∙ bringer_above packets (topped n a) m h
 
 pub carried_above : (packets : List Arrival) (m : ℕ) → top_of packets < m → carried packets m ≡ None
 carried_above packets m h =
-    ap (λ (o : Option Arrival). option_map (λ (a : Arrival). item_at a.packet m) o) (bringer_above packets 0 m h)
+    ap (λ (o : Option Arrival). option_map (λ (a : Arrival). item_at a.packet m) o)
+    (bringer_above packets 0 m h)
 
 none_is : {X : Type 0} (o : Option X) → is_some o ≡ false → o ≡ None
 none_is None h = refl
@@ -61,12 +65,17 @@ front_is packets =
     let most = prefix_len-le-length test numbers in
     record {
       all = λ m one within.
-          let at : get_or numbers (m - 1) 0 ≡ m = get_or-range_with_len 1 (top_of packets) (m - 1) 0 (omega arith) ∙ omega arith in
-          subst (λ (k : ℕ). IsSome (carried packets k)) at (prefix_len_passes test numbers (m - 1) 0 (omega arith));
+          let at : get_or numbers (m - 1) 0 ≡ m =
+          get_or-range_with_len 1 (top_of packets) (m - 1) 0 (omega arith) ∙ omega arith in
+          subst (λ (k : ℕ). IsSome (carried packets k))
+          at (prefix_len_passes test numbers (m - 1) 0 (omega arith));
       next = elim (cases_lt (front_of packets) (top_of packets)) [
         | inl lt ↦
-            let at : get_or numbers (front_of packets) 0 ≡ front_of packets + 1 = get_or-range_with_len 1 (top_of packets) (front_of packets) 0 lt ∙ omega arith in
-            none_is (carried packets (front_of packets + 1)) (subst (λ (k : ℕ). is_some (carried packets k) ≡ false) at (prefix_len_stops test numbers 0 (omega arith)))
+            let at : get_or numbers (front_of packets) 0 ≡ front_of packets + 1 =
+            get_or-range_with_len 1 (top_of packets) (front_of packets) 0 lt ∙ omega arith in
+            none_is (carried packets (front_of packets + 1))
+            (subst (λ (k : ℕ). is_some (carried packets k) ≡ false)
+            at (prefix_len_stops test numbers 0 (omega arith)))
         | inr le ↦ carried_above packets (front_of packets + 1) (omega arith)
       ];
     }
@@ -78,9 +87,11 @@ not_none (Some x) h e = cc
 pub front_unique : (packets : List Arrival) (m n : ℕ) → IsFront packets m → IsFront packets n
     → m ≡ n
 front_unique packets m n a b = elim (cases_lt m n) [
-  | inl lt ↦ absurd (not_none (carried packets (m + 1)) (b.all (m + 1) (omega arith) (omega arith)) a.next)
+  | inl lt ↦ absurd (not_none (carried packets (m + 1)) (b.all (m + 1) (omega arith) (omega arith))
+      a.next)
   | inr le ↦ elim (cases_lt n m) [
-    | inl lt ↦ absurd (not_none (carried packets (n + 1)) (a.all (n + 1) (omega arith) (omega arith)) b.next)
+    | inl lt ↦ absurd (not_none (carried packets (n + 1))
+        (a.all (n + 1) (omega arith) (omega arith)) b.next)
     | inr ge ↦ omega arith
   ]
 ]
@@ -88,6 +99,7 @@ front_unique packets m n a b = elim (cases_lt m n) [
 -- the front is the greatest number up to which all were taken
 pub front_greatest : (packets : List Arrival) (n : ℕ) → AreTaken packets n → n ≤ front_of packets
 front_greatest packets n all = elim (cases_lt (front_of packets) n) [
-  | inl lt ↦ absurd (not_none (carried packets (front_of packets + 1)) (all (front_of packets + 1) (omega arith) (omega arith)) (front_is packets).next)
+  | inl lt ↦ absurd (not_none (carried packets (front_of packets + 1))
+      (all (front_of packets + 1) (omega arith) (omega arith)) (front_is packets).next)
   | inr le ↦ le
 ]

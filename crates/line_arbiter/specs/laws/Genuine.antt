@@ -25,11 +25,13 @@ module _ (carries : ℕ → ℕ → ℕ → Item → Type 0) (ends : ℕ → ℕ
       → AreGenuine carries ends venue ordinal packets → carried packets m ≡ Some item
       → carries venue ordinal m item
   carried_may [] m item all is = absurd cc
-  carried_may (a ∷ packets) m item all is = by_test (λ h. carried_may packets m item all.1 h) (brings m a) refl is
+  carried_may (a ∷ packets) m item all is =
+      by_test (λ h. carried_may packets m item all.1 h) (brings m a) refl is
     where
       by_test : (carried packets m ≡ Some item → carries venue ordinal m item) → (b : Bool)
           → brings m a ≡ b
-          → option_map (λ (x : Arrival). item_at x.packet m) (cond b (Some a) (find (brings m) packets)) ≡ Some item
+          → option_map (λ (x : Arrival). item_at x.packet m)
+          (cond b (Some a) (find (brings m) packets)) ≡ Some item
           → carries venue ordinal m item
       by_test later true e h =
           let both = and_parts (is_taken a.answer) (has_number a.packet m) e in
@@ -40,11 +42,13 @@ module _ (carries : ℕ → ℕ → ℕ → Item → Type 0) (ends : ℕ → ℕ
   pub end_may : (packets : List Arrival) (e : ℕ) → AreGenuine carries ends venue ordinal packets
       → end_of packets ≡ Some e → ends venue ordinal e
   end_may [] e all is = absurd cc
-  end_may (a ∷ packets) e all is = by_test (λ h. end_may packets e all.1 h) (is_ended a.answer) refl is
+  end_may (a ∷ packets) e all is =
+      by_test (λ h. end_may packets e all.1 h) (is_ended a.answer) refl is
     where
       by_test : (end_of packets ≡ Some e → ends venue ordinal e) → (b : Bool)
           → is_ended a.answer ≡ b
-          → option_map (λ (x : Arrival). x.packet.number) (cond b (Some a) (find (λ (x : Arrival). is_ended x.answer) packets)) ≡ Some e
+          → option_map (λ (x : Arrival). x.packet.number)
+          (cond b (Some a) (find (λ (x : Arrival). is_ended x.answer) packets)) ≡ Some e
           → ends venue ordinal e
       by_test later true ended h =
           let same : a.packet.number ≡ e = cc in
@@ -55,16 +59,20 @@ module _ (carries : ℕ → ℕ → ℕ → Item → Type 0) (ends : ℕ → ℕ
 pub carried_never_end : (packets : List Arrival) (m : ℕ) (item : Item)
     → carried packets m ≡ Some item → item ≡ items.End → ⊥
 carried_never_end [] m item is h = absurd cc
-carried_never_end (a ∷ packets) m item is h = by_test (λ k. carried_never_end packets m item k h) (brings m a) is
+carried_never_end (a ∷ packets) m item is h =
+    by_test (λ k. carried_never_end packets m item k h) (brings m a) is
   where
     by_test : (carried packets m ≡ Some item → ⊥) → (b : Bool)
-        → option_map (λ (x : Arrival). item_at x.packet m) (cond b (Some a) (find (brings m) packets)) ≡ Some item
+        → option_map (λ (x : Arrival). item_at x.packet m)
+        (cond b (Some a) (find (brings m) packets)) ≡ Some item
         → ⊥
-    by_test later true is = item_of-never_end _ (let same : item_at a.packet m ≡ items.End = cc in same)
+    by_test later true is =
+        item_of-never_end _ (let same : item_at a.packet m ≡ items.End = cc in same)
     by_test later false is = later is
 
 -- a message's item that may be carried is allowed at its place
-allowed_item : (carries : ℕ → ℕ → ℕ → Item → Type 0) (ends : ℕ → ℕ → ℕ → Type 0) (venue ordinal m : ℕ) (item : Item)
+allowed_item : (carries : ℕ → ℕ → ℕ → Item → Type 0) (ends : ℕ → ℕ → ℕ → Type 0)
+    (venue ordinal m : ℕ) (item : Item)
     → carries venue ordinal m item → (item ≡ items.End → ⊥)
     → MayCarry carries ends venue (record { ordinal = ordinal; number = m }) item
 allowed_item carries ends venue ordinal m (items.Quote quote) may never = may
@@ -72,7 +80,8 @@ allowed_item carries ends venue ordinal m (items.Halt symbol halted) may never =
 allowed_item carries ends venue ordinal m items.Other may never = may
 allowed_item carries ends venue ordinal m items.End may never = absurd (never refl)
 
-allowed_next : (carries : ℕ → ℕ → ℕ → Item → Type 0) (ends : ℕ → ℕ → ℕ → Type 0) (venue ordinal m : ℕ) (held : Option Item) (end : Option ℕ)
+allowed_next : (carries : ℕ → ℕ → ℕ → Item → Type 0) (ends : ℕ → ℕ → ℕ → Type 0)
+    (venue ordinal m : ℕ) (held : Option Item) (end : Option ℕ)
     → ((item : Item) → held ≡ Some item → MayCarry carries ends venue (record {
       ordinal =
           ordinal;
@@ -88,16 +97,23 @@ allowed_next carries ends venue ordinal m None None message last = tt
 allowed_next carries ends venue ordinal m None (Some e) message last = by_test (e == m) refl
   where
     by_test : (t : Bool) → (e == m) ≡ t
-        → IfSome {T = Numbered} (if t then Some (record { number = m; item = items.End }) else None) (λ n. MayCarry carries ends venue (record { ordinal = ordinal; number = n.number }) n.item)
+        → IfSome {T = Numbered} (if t then Some (record { number = m; item = items.End }) else None)
+        (λ n. MayCarry carries ends venue (record { ordinal = ordinal; number = n.number })
+        n.item)
     by_test true is = subst (λ (n : ℕ). ends venue ordinal n) (eqb-true e m is) (last e refl)
     by_test false is = tt
 
 -- what comes next is allowed at its place, where what was taken is genuine
-pub next_allowed : (carries : ℕ → ℕ → ℕ → Item → Type 0) (ends : ℕ → ℕ → ℕ → Type 0) (venue ordinal : ℕ) (s : State) (packets : List Arrival)
+pub next_allowed : (carries : ℕ → ℕ → ℕ → Item → Type 0) (ends : ℕ → ℕ → ℕ → Type 0)
+    (venue ordinal : ℕ) (s : State) (packets : List Arrival)
     → Stands s packets → AreGenuine carries ends venue ordinal packets
-    → IfSome (next_of s) (λ n. MayCarry carries ends venue (record { ordinal = ordinal; number = n.number }) n.item)
+    → IfSome (next_of s) (λ n. MayCarry carries ends venue
+    (record { ordinal = ordinal; number = n.number }) n.item)
 next_allowed carries ends venue ordinal s packets stands all =
-    let held : held_at (held_of s) (s.sent + 1) ≡ carried packets (s.sent + 1) = held_is s packets stands (s.sent + 1) (omega arith) in
+    let held : held_at (held_of s) (s.sent + 1) ≡ carried packets (s.sent + 1) =
+    held_is s packets stands (s.sent + 1) (omega arith) in
     allowed_next carries ends venue ordinal (s.sent + 1) (held_at (held_of s) (s.sent + 1)) s.end
-    (λ item is. allowed_item carries ends venue ordinal (s.sent + 1) item (carried_may carries ends venue ordinal packets (s.sent + 1) item all (sym held ∙ is)) (carried_never_end packets (s.sent + 1) item (sym held ∙ is)))
+    (λ item is. allowed_item carries ends venue ordinal (s.sent + 1) item
+    (carried_may carries ends venue ordinal packets (s.sent + 1) item all (sym held ∙ is))
+    (carried_never_end packets (s.sent + 1) item (sym held ∙ is)))
     (λ e is. end_may carries ends venue ordinal packets e all (sym stands.end ∙ is))

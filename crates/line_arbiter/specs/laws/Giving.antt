@@ -26,7 +26,8 @@ abbrev ends_alone : Session → ℕ → ℕ → ℕ → Type 0
 ends_alone s venue ordinal e = e ≡ length s.items + 1
 
 -- a packet of the session is genuine where the session's items may be carried
-pub genuine_of : (carries : ℕ → ℕ → ℕ → Item → Type 0) (ends : ℕ → ℕ → ℕ → Type 0) (venue ordinal : ℕ) (s : Session)
+pub genuine_of : (carries : ℕ → ℕ → ℕ → Item → Type 0) (ends : ℕ → ℕ → ℕ → Type 0)
+    (venue ordinal : ℕ) (s : Session)
     → ((m : ℕ) (item : Item) → IsItemAt s m item → carries venue ordinal m item)
     → ends venue ordinal (length s.items + 1)
     → (p : Content) → IsContent p → IsOfSession s p → IsGenuineAt carries ends venue ordinal p
@@ -57,9 +58,13 @@ more : (s : Session) (window : ℕ) (packets : List Arrival) (a : Arrival)
     → IsOf s packets → IsOf s (packets ++ a ∷ [])
 more s window packets a may right of = record {
   genuine =
-      genuine_grows (carries_alone s) (ends_alone s) 0 0 window s.name packets a of.genuine (λ e. genuine_of (carries_alone s) (ends_alone s) 0 0 s (λ m item h. h) refl a.packet right.content (may e)) right;
+      genuine_grows (carries_alone s) (ends_alone s) 0 0 window s.name packets a of.genuine
+      (λ e. genuine_of (carries_alone s) (ends_alone s) 0 0 s (λ m item h. h) refl a.packet
+      right.content (may e)) right;
   accepted =
-      all_push (λ x. x.packet.session ≡ s.name → IsOk x.answer) packets a of.accepted (λ e. accepted s packets (part s packets of) window right.sent a.packet a.answer right.content (may e) right.outcome);
+      all_push (λ x. x.packet.session ≡ s.name → IsOk x.answer) packets a of.accepted
+      (λ e. accepted s packets (part s packets of) window right.sent a.packet a.answer
+      right.content (may e) right.outcome);
 }
 
 is_of : (s : Session) (window : ℕ) (packets : List Arrival) → AreAnswered s.name window packets
@@ -68,7 +73,8 @@ is_of s window packets all of = after [] packets (record { genuine = tt; accepte
   where
     after : (before rest : List Arrival) → IsOf s before
         → AreAnsweredAfter s.name window before rest → AreOfSession s rest → IsOf s (before ++ rest)
-    after before [] so_far all of = subst (λ (xs : List Arrival). IsOf s xs) (sym (append-nil before)) so_far
+    after before [] so_far all of =
+        subst (λ (xs : List Arrival). IsOf s xs) (sym (append-nil before)) so_far
     after before (a ∷ rest) so_far all of =
         subst (λ (xs : List Arrival). IsOf s xs) (append_assoc before (a ∷ []) rest)
         (after (before ++ a ∷ []) rest (more s window before a of.0 all.0 so_far) all.1 of.1)
@@ -108,6 +114,9 @@ gives_session s window packets all of =
       accepted = own.accepted;
       whole = λ complete.
           let last = (part s packets own).end (front_of packets + 1) complete in
-          let front : front_of packets ≡ length s.items = omega arith in
-          (front, stream ∙ whole_is s (front_of packets) (end_of packets) (front_of packets + 1) front complete);
+          let front : front_of packets ≡ length s.items = omega arith in (
+            front,
+            stream ∙ whole_is s (front_of packets) (end_of packets) (front_of packets + 1)
+                front complete,
+          );
     }

@@ -34,7 +34,8 @@ names_length h = count h.earlier
 pub items_push : (bs : List Begun) (b : Begun)
     → items_of (bs ++ b ∷ []) ≡ items_of bs ++ stream_of b.packets
 items_push bs b =
-    flat_map-append (λ (x : Begun). stream_of x.packets) bs (b ∷ []) ∙ ap (λ (xs : List Numbered). items_of bs ++ xs) (append-nil (stream_of b.packets))
+    flat_map-append (λ (x : Begun). stream_of x.packets) bs (b ∷ [])
+    ∙ ap (λ (xs : List Numbered). items_of bs ++ xs) (append-nil (stream_of b.packets))
 
 -- what the line brought first in sessions, and in one more
 pub wins_push : (bs : List Begun) (b : Begun) (line : LineId)

@@ -20,7 +20,8 @@ use Rattle.line_arbiter.specs.laws.Genuine.{some_is, carried_may, end_may}
 -- items by number are items in a row
 numbered_take : (item : ℕ → Item) (all : List Item) (a n : ℕ)
     → ((i : ℕ) → i < n → slice_get all i ≡ Some (item (a + i)))
-    → map (λ m. record { number = m; item = item m }) (range_with_len a n) ≡ numbered_from a (take n all)
+    → map (λ m. record { number = m; item = item m }) (range_with_len a n)
+    ≡ numbered_from a (take n all)
 numbered_take item all a zero h = refl
 numbered_take item [] a (suc n) h = absurd (none_some (item (a + 0)) (h 0 (omega arith)))
   where
@@ -28,7 +29,8 @@ numbered_take item [] a (suc n) h = absurd (none_some (item (a + 0)) (h 0 (omega
     none_some x h = cc
 numbered_take item (x ∷ all) a (suc n) h =
     push a (item a) x _ _ (sym (ap item (omega arith)) ∙ same (item (a + 0)) x (h 0 (omega arith)))
-    (numbered_take item all (a + 1) n (λ i lt. h (suc i) (omega arith) ∙ ap (λ (m : ℕ). Some (item m)) (omega arith)))
+    (numbered_take item all (a + 1) n
+    (λ i lt. h (suc i) (omega arith) ∙ ap (λ (m : ℕ). Some (item m)) (omega arith)))
   where
     same : (x y : Item) → Some y ≡ Some x → x ≡ y
     same x y h = cc
@@ -39,7 +41,9 @@ numbered_take item (x ∷ all) a (suc n) h =
 
 -- End stands where the whole session is in front of it
 end_is_last : (end : Option ℕ) (front len : ℕ) → ((e : ℕ) → end ≡ Some e → e ≡ len + 1)
-    → end_at end (front + 1) ≡ (if is_some end && (front == len) then record { number = front + 1; item = items.End } ∷ [] else [])
+    → end_at end (front + 1)
+    ≡ (if is_some end && (front == len) then
+    record { number = front + 1; item = items.End } ∷ [] else [])
 end_is_last None front len h = refl
 end_is_last (Some e) front len h =
     let last = h e refl in
@@ -54,15 +58,20 @@ pub record IsPartOf (s : Session) (packets : List Arrival) : Type 0 where
   pub item : (m : ℕ) (item : Item) → carried packets m ≡ Some item → IsItemAt s m item
   pub end : (e : ℕ) → end_of packets ≡ Some e → e ≡ length s.items + 1
 
-pub part_of : (sessions : ℕ → ℕ → List ℕ → Type 0) (carries : ℕ → ℕ → ℕ → Item → Type 0) (ends : ℕ → ℕ → ℕ → Type 0) (venue ordinal : ℕ) (all : List Session) (s : Session) (packets : List Arrival)
+pub part_of : (sessions : ℕ → ℕ → List ℕ → Type 0) (carries : ℕ → ℕ → ℕ → Item → Type 0)
+    (ends : ℕ → ℕ → ℕ → Type 0) (venue ordinal : ℕ) (all : List Session) (s : Session)
+    (packets : List Arrival)
     → Names sessions carries ends venue all → IsSessionAt all ordinal s
     → AreGenuine carries ends venue ordinal packets → IsPartOf s packets
 part_of sessions carries ends venue ordinal all s packets names at genuine = record {
   item = λ m item is.
-      let found = (names.carried ordinal m item).0 (carried_may carries ends venue ordinal packets m item genuine is) in
+      let found =
+      (names.carried ordinal m item).0
+      (carried_may carries ends venue ordinal packets m item genuine is) in
       subst (λ (t : Session). IsItemAt t m item) (same_session found.0 found.1) found.2;
   end = λ e is.
-      let found = (names.ended ordinal e).0 (end_may carries ends venue ordinal packets e genuine is) in
+      let found =
+      (names.ended ordinal e).0 (end_may carries ends venue ordinal packets e genuine is) in
       subst (λ (t : Session). e ≡ length t.items + 1) (same_session found.0 found.1) found.2;
 } where
   same_session : (t : Session) → IsSessionAt all ordinal t → t ≡ s
@@ -71,25 +80,33 @@ part_of sessions carries ends venue ordinal all s packets names at genuine = rec
 module _ (s : Session) (packets : List Arrival) (part : IsPartOf s packets) where
   taken_is : (m : ℕ) → IsSome (carried packets m)
       → IsItemAt s m (unwrap_or (carried packets m) items.Other)
-  taken_is m h = part.item m (unwrap_or (carried packets m) items.Other) (some_is (carried packets m) h)
+  taken_is m h =
+      part.item m (unwrap_or (carried packets m) items.Other) (some_is (carried packets m) h)
 
   pub taken_within : (m : ℕ) → IsSome (carried packets m) → m ≤ length s.items
   taken_within m h =
-      let lt = slice_get_within s.items (m - 1) (unwrap_or (carried packets m) items.Other) (taken_is m h).1 in
+      let lt =
+      slice_get_within s.items (m - 1) (unwrap_or (carried packets m) items.Other)
+      (taken_is m h).1 in
       omega arith
 
   pub front_within : front_of packets ≤ length s.items
   front_within = elim (cases_lt 0 (front_of packets)) [
-    | inl lt ↦ taken_within (front_of packets) ((front_is packets).all (front_of packets) (omega arith) (omega arith))
+    | inl lt ↦ taken_within (front_of packets)
+        ((front_is packets).all (front_of packets) (omega arith) (omega arith))
     | inr le ↦ omega arith
   ]
 
   item_in_row : (i : ℕ) → i < front_of packets
       → slice_get s.items i ≡ Some (unwrap_or (carried packets (1 + i)) items.Other)
   item_in_row i lt =
-      ap (slice_get s.items) (omega arith) ∙ (taken_is (1 + i) ((front_is packets).all (1 + i) (omega arith) (omega arith))).1
+      ap (slice_get s.items) (omega arith)
+      ∙ (taken_is (1 + i) ((front_is packets).all (1 + i) (omega arith) (omega arith))).1
 
   pub stream_is : stream_of packets ≡ session_stream s (front_of packets) (end_of packets)
   stream_is =
-      ap (λ (xs : List Numbered). xs ++ end_at (end_of packets) (front_of packets + 1)) (numbered_take (λ m. unwrap_or (carried packets m) items.Other) s.items 1 (front_of packets) item_in_row)
-      ∙ ap (λ (xs : List Numbered). numbered_from 1 (take (front_of packets) s.items) ++ xs) (end_is_last (end_of packets) (front_of packets) (length s.items) part.end)
+      ap (λ (xs : List Numbered). xs ++ end_at (end_of packets) (front_of packets + 1))
+      (numbered_take (λ m. unwrap_or (carried packets m) items.Other) s.items 1
+      (front_of packets) item_in_row)
+      ∙ ap (λ (xs : List Numbered). numbered_from 1 (take (front_of packets) s.items) ++ xs)
+      (end_is_last (end_of packets) (front_of packets) (length s.items) part.end)

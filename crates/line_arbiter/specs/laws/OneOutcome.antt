@@ -18,7 +18,8 @@ same_some a b o p q = let e : Some a ≡ Some b = sym p ∙ q in cc
 
 past_or_before : (packets : List Arrival) (n : ℕ) → IsPast (end_of packets) n
     → IsBefore (end_of packets) n → ⊥
-past_or_before packets n past before = let b = before past.at past.announced in let p = past.past in omega arith
+past_or_before packets n past before =
+    let b = before past.at past.announced in let p = past.past in omega arith
 
 agrees_or_not : (packets : List Arrival) (sent : ℕ) (p : Content) → Disagrees packets sent p
     → Agrees packets sent p → ⊥
@@ -30,28 +31,37 @@ taken n r = Ok (Taken n r)
 taken_once : (n r m s len : ℕ) → n ≡ m → n + r ≡ len → m + s ≡ len → taken n r ≡ taken m s
 taken_once n r m s len e f g = let k : r ≡ s = omega arith in cc
 
-to_messages : (window sent : ℕ) (packets : List Arrival) (p : Content) (a b : Result Outcome LineFault)
+to_messages : (window sent : ℕ) (packets : List Arrival) (p : Content)
+    (a b : Result Outcome LineFault)
     → ToMessages window sent packets p a → ToMessages window sent packets p b → a ≡ b
 unfolding taken
 to_messages window sent packets p (Err PastEnd) (Err PastEnd) x y = refl
-to_messages window sent packets p (Err PastEnd) (Ok Ahead) x y = absurd (past_or_before packets (last_number p) x y.0)
+to_messages window sent packets p (Err PastEnd) (Ok Ahead) x y =
+    absurd (past_or_before packets (last_number p) x y.0)
 to_messages window sent packets p (Err PastEnd) (Err Conflict) x y =
     absurd (past_or_before packets (last_number p) x y.0)
 to_messages window sent packets p (Err PastEnd) (Ok (Taken n r)) x y =
     absurd (past_or_before packets (last_number p) x y.0)
-to_messages window sent packets p (Ok Ahead) (Err PastEnd) x y = absurd (past_or_before packets (last_number p) y x.0)
+to_messages window sent packets p (Ok Ahead) (Err PastEnd) x y =
+    absurd (past_or_before packets (last_number p) y x.0)
 to_messages window sent packets p (Ok Ahead) (Ok Ahead) x y = refl
-to_messages window sent packets p (Ok Ahead) (Err Conflict) x y = let u = x.1 in let v = y.1 in absurd (omega arith)
-to_messages window sent packets p (Ok Ahead) (Ok (Taken n r)) x y = let u = x.1 in let v = y.1 in absurd (omega arith)
+to_messages window sent packets p (Ok Ahead) (Err Conflict) x y =
+    let u = x.1 in let v = y.1 in absurd (omega arith)
+to_messages window sent packets p (Ok Ahead) (Ok (Taken n r)) x y =
+    let u = x.1 in let v = y.1 in absurd (omega arith)
 to_messages window sent packets p (Err Conflict) (Err PastEnd) x y =
     absurd (past_or_before packets (last_number p) y x.0)
-to_messages window sent packets p (Err Conflict) (Ok Ahead) x y = let u = x.1 in let v = y.1 in absurd (omega arith)
+to_messages window sent packets p (Err Conflict) (Ok Ahead) x y =
+    let u = x.1 in let v = y.1 in absurd (omega arith)
 to_messages window sent packets p (Err Conflict) (Err Conflict) x y = refl
-to_messages window sent packets p (Err Conflict) (Ok (Taken n r)) x y = absurd (agrees_or_not packets sent p x.2 y.2)
+to_messages window sent packets p (Err Conflict) (Ok (Taken n r)) x y =
+    absurd (agrees_or_not packets sent p x.2 y.2)
 to_messages window sent packets p (Ok (Taken n r)) (Err PastEnd) x y =
     absurd (past_or_before packets (last_number p) y x.0)
-to_messages window sent packets p (Ok (Taken n r)) (Ok Ahead) x y = let u = x.1 in let v = y.1 in absurd (omega arith)
-to_messages window sent packets p (Ok (Taken n r)) (Err Conflict) x y = absurd (agrees_or_not packets sent p y.2 x.2)
+to_messages window sent packets p (Ok (Taken n r)) (Ok Ahead) x y =
+    let u = x.1 in let v = y.1 in absurd (omega arith)
+to_messages window sent packets p (Ok (Taken n r)) (Err Conflict) x y =
+    absurd (agrees_or_not packets sent p y.2 x.2)
 to_messages window sent packets p (Ok (Taken n r)) (Ok (Taken m s)) x y =
     taken_once n r m s (length p.messages) (x.3 ∙ sym y.3) x.4 y.4
 to_messages window sent packets p (Ok Heartbeat) b x y = absurd x
@@ -68,8 +78,10 @@ to_messages window sent packets p a (Err EndTooEarly) x y = absurd y
 to_heartbeat : (packets : List Arrival) (n : ℕ) (a b : Result Outcome LineFault)
     → ToHeartbeat packets n a → ToHeartbeat packets n b → a ≡ b
 to_heartbeat packets n (Err PastEnd) (Err PastEnd) x y = refl
-to_heartbeat packets n (Err PastEnd) (Ok Heartbeat) x y = let u = y x.0 x.1 in let v = x.2 in absurd (omega arith)
-to_heartbeat packets n (Ok Heartbeat) (Err PastEnd) x y = let u = x y.0 y.1 in let v = y.2 in absurd (omega arith)
+to_heartbeat packets n (Err PastEnd) (Ok Heartbeat) x y =
+    let u = y x.0 x.1 in let v = x.2 in absurd (omega arith)
+to_heartbeat packets n (Ok Heartbeat) (Err PastEnd) x y =
+    let u = x y.0 y.1 in let v = y.2 in absurd (omega arith)
 to_heartbeat packets n (Ok Heartbeat) (Ok Heartbeat) x y = refl
 to_heartbeat packets n (Ok Ended) b x y = absurd x
 to_heartbeat packets n (Ok Ahead) b x y = absurd x
@@ -92,17 +104,35 @@ none_or_some o e p q = let r : None ≡ Some e = sym p ∙ q in absurd cc
 to_end : (packets : List Arrival) (n : ℕ) (a b : Result Outcome LineFault) → ToEnd packets n a
     → ToEnd packets n b → a ≡ b
 to_end packets n (Err EndMoved) (Err EndMoved) x y = refl
-to_end packets n (Err EndMoved) (Err EndTooEarly) x y = absurd (none_or_some (end_of packets) x.0 y.0 x.1)
+to_end packets n (Err EndMoved) (Err EndTooEarly) x y =
+    absurd (none_or_some (end_of packets) x.0 y.0 x.1)
 to_end packets n (Err EndMoved) (Ok Ended) x y =
-    elim y [ inl again ↦ absurd (x.2 (same_some x.0 n (end_of packets) x.1 again)) | inr first ↦ absurd (none_or_some (end_of packets) x.0 first.0 x.1) ]
-to_end packets n (Err EndTooEarly) (Err EndMoved) x y = absurd (none_or_some (end_of packets) y.0 x.0 y.1)
+    elim y [
+      | inl again ↦ absurd (x.2 (same_some x.0 n (end_of packets) x.1 again))
+      | inr first ↦
+          absurd (none_or_some (end_of packets) x.0 first.0 x.1)
+    ]
+to_end packets n (Err EndTooEarly) (Err EndMoved) x y =
+    absurd (none_or_some (end_of packets) y.0 x.0 y.1)
 to_end packets n (Err EndTooEarly) (Err EndTooEarly) x y = refl
 to_end packets n (Err EndTooEarly) (Ok Ended) x y =
-    elim y [ inl again ↦ absurd (none_or_some (end_of packets) n x.0 again) | inr first ↦ let below = first.1 x.1 x.3 in let above = x.2 in absurd (omega arith) ]
+    elim y [
+      | inl again ↦ absurd (none_or_some (end_of packets) n x.0 again)
+      | inr first ↦
+          let below = first.1 x.1 x.3 in let above = x.2 in absurd (omega arith)
+    ]
 to_end packets n (Ok Ended) (Err EndMoved) x y =
-    elim x [ inl again ↦ absurd (y.2 (same_some y.0 n (end_of packets) y.1 again)) | inr first ↦ absurd (none_or_some (end_of packets) y.0 first.0 y.1) ]
+    elim x [
+      | inl again ↦ absurd (y.2 (same_some y.0 n (end_of packets) y.1 again))
+      | inr first ↦
+          absurd (none_or_some (end_of packets) y.0 first.0 y.1)
+    ]
 to_end packets n (Ok Ended) (Err EndTooEarly) x y =
-    elim x [ inl again ↦ absurd (none_or_some (end_of packets) n y.0 again) | inr first ↦ let below = first.1 y.1 y.3 in let above = y.2 in absurd (omega arith) ]
+    elim x [
+      | inl again ↦ absurd (none_or_some (end_of packets) n y.0 again)
+      | inr first ↦
+          let below = first.1 y.1 y.3 in let above = y.2 in absurd (omega arith)
+    ]
 to_end packets n (Ok Ended) (Ok Ended) x y = refl
 to_end packets n (Ok Heartbeat) b x y = absurd x
 to_end packets n (Ok Ahead) b x y = absurd x
@@ -117,20 +147,27 @@ to_end packets n a (Err OtherSession) x y = absurd y
 to_end packets n a (Err PastEnd) x y = absurd y
 to_end packets n a (Err Conflict) x y = absurd y
 
-to_kind : (kind : Kind) (window sent : ℕ) (packets : List Arrival) (p : Content) (a b : Result Outcome LineFault)
+to_kind : (kind : Kind) (window sent : ℕ) (packets : List Arrival) (p : Content)
+    (a b : Result Outcome LineFault)
     → ToKind kind window sent packets p a → ToKind kind window sent packets p b → a ≡ b
 to_kind kinds.Messages window sent packets p a b x y = to_messages window sent packets p a b x y
 to_kind kinds.Heartbeat window sent packets p a b x y = to_heartbeat packets p.number a b x y
 to_kind kinds.End window sent packets p a b x y = to_end packets p.number a b x y
 
-pub one_answer : (session : List ℕ) (window sent : ℕ) (packets : List Arrival) (p : Content) (a b : Result Outcome LineFault)
+pub one_answer : (session : List ℕ) (window sent : ℕ) (packets : List Arrival) (p : Content)
+    (a b : Result Outcome LineFault)
     → IsOutcome session window sent packets p a → IsOutcome session window sent packets p b → a ≡ b
 one_answer session window sent packets p a b x y = elim x [
   | inl other ↦ elim y [ inl too ↦ other.1 ∙ sym too.1 | inr same ↦ absurd (other.0 same.0) ]
-  | inr same ↦ elim y [ inl other ↦ absurd (other.0 same.0) | inr too ↦ to_kind p.kind window sent packets p a b same.1 too.1 ]
+  | inr same ↦ elim y [
+    | inl other ↦ absurd (other.0 same.0)
+    | inr too ↦
+        to_kind p.kind window sent packets p a b same.1 too.1
+  ]
 ]
 
-pub one_renewal : (names : List (List ℕ)) (end : Option ℕ) (sent : ℕ) (name : List ℕ) (a b : Result ℕ RenewFault)
+pub one_renewal : (names : List (List ℕ)) (end : Option ℕ) (sent : ℕ) (name : List ℕ)
+    (a b : Result ℕ RenewFault)
     → IsRenewal names end sent name a → IsRenewal names end sent name b → a ≡ b
 one_renewal names end sent name (Ok m) (Ok n) x y = ap Ok (x.3 ∙ sym y.3)
 one_renewal names end sent name (Ok m) (Err NotEnded) x y = absurd (y x.0)

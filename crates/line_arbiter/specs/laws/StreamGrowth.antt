@@ -21,52 +21,66 @@ EndsPast packets = (e : ℕ) → end_of packets ≡ Some e → front_of packets 
 some_kept : (packets : List Arrival) (a : Arrival) (m : ℕ) → IsSome (carried packets m)
     → carried (packets ++ a ∷ []) m ≡ carried packets m
 some_kept packets a m h =
-    let here : carried packets m ≡ Some (unwrap_or (carried packets m) items.Other) = some_is (carried packets m) h in
+    let here : carried packets m ≡ Some (unwrap_or (carried packets m) items.Other) =
+    some_is (carried packets m) h in
     carried-push packets a m
-    ∙ ap (λ (o : Option Item). option_or o (if brings m a then Some (item_at a.packet m) else None)) here
+    ∙ ap (λ (o : Option Item). option_or o (if brings m a then Some (item_at a.packet m) else None))
+    here
     ∙ sym here
 
 end_kept : (packets : List Arrival) (a : Arrival) (e : ℕ) → end_of packets ≡ Some e
     → end_of (packets ++ a ∷ []) ≡ Some e
 end_kept packets a e is =
-    end_of-push packets a ∙ ap (λ (o : Option ℕ). option_or o (if is_ended a.answer then Some a.packet.number else None)) is
+    end_of-push packets a
+    ∙ ap (λ (o : Option ℕ). option_or o
+    (if is_ended a.answer then Some a.packet.number else None)) is
 
 front_grows : (packets : List Arrival) (a : Arrival)
     → front_of packets ≤ front_of (packets ++ a ∷ [])
 front_grows packets a = elim (cases_lt (front_of (packets ++ a ∷ [])) (front_of packets)) [
   | inl lt ↦
       let n = front_of (packets ++ a ∷ []) + 1 in
-      let there : IsSome (carried packets n) = (front_is packets).all n (omega arith) (omega arith) in
-      absurd (not_none (carried packets n) there (sym (some_kept packets a n there) ∙ (front_is (packets ++ a ∷ [])).next))
+      let there : IsSome (carried packets n) =
+      (front_is packets).all n (omega arith) (omega arith) in
+      absurd (not_none (carried packets n) there
+      (sym (some_kept packets a n there) ∙ (front_is (packets ++ a ∷ [])).next))
   | inr le ↦ le
 ]
 
 same_messages : (packets : List Arrival) (a : Arrival) (from n : ℕ)
     → ((m : ℕ) → from ≤ m → m < from + n → IsSome (carried packets m))
-    → map (item_numbered (packets ++ a ∷ [])) (range_with_len from n) ≡ map (item_numbered packets) (range_with_len from n)
+    → map (item_numbered (packets ++ a ∷ [])) (range_with_len from n)
+    ≡ map (item_numbered packets) (range_with_len from n)
 same_messages packets a from zero h = refl
 same_messages packets a from (suc n) h =
-    push from (some_kept packets a from (h from (omega arith) (omega arith))) (same_messages packets a (from + 1) n (λ m low high. h m (omega arith) (omega arith)))
+    push from (some_kept packets a from (h from (omega arith) (omega arith)))
+    (same_messages packets a (from + 1) n (λ m low high. h m (omega arith) (omega arith)))
   where
     push : (m : ℕ) {x y : Option Item} {xs ys : List Numbered} → x ≡ y → xs ≡ ys
-        → record { number = m; item = unwrap_or x items.Other } ∷ xs ≡ record { number = m; item = unwrap_or y items.Other } ∷ ys
+        → record { number = m; item = unwrap_or x items.Other } ∷ xs
+        ≡ record { number = m; item = unwrap_or y items.Other } ∷ ys
     push m h k = rw (h, k) refl
 
 range_split : (f : ℕ → Numbered) (from n k : ℕ)
-    → map f (range_with_len from (n + k)) ≡ map f (range_with_len from n) ++ map f (range_with_len (from + n) k)
+    → map f (range_with_len from (n + k))
+    ≡ map f (range_with_len from n) ++ map f (range_with_len (from + n) k)
 range_split f from zero k =
     let none : 0 + k ≡ k = omega arith in
     let here : from ≡ from + 0 = omega arith in
-    ap (λ (x : ℕ). map f (range_with_len from x)) none ∙ ap (λ (x : ℕ). map f (range_with_len x k)) here
+    ap (λ (x : ℕ). map f (range_with_len from x)) none
+    ∙ ap (λ (x : ℕ). map f (range_with_len x k)) here
 range_split f from (suc n) k =
     let one : suc n + k ≡ suc (n + k) = omega arith in
     let here : from + 1 + n ≡ from + suc n = omega arith in
     ap (λ (x : ℕ). map f (range_with_len from x)) one
-    ∙ ap (λ (xs : List Numbered). f from ∷ xs) (range_split f (from + 1) n k ∙ ap (λ (x : ℕ). map f (range_with_len (from + 1) n) ++ map f (range_with_len x k)) here)
+    ∙ ap (λ (xs : List Numbered). f from ∷ xs)
+    (range_split f (from + 1) n k
+    ∙ ap (λ (x : ℕ). map f (range_with_len (from + 1) n) ++ map f (range_with_len x k)) here)
 
 -- without End behind it, the front's messages are where the longer stream begins
 messages_grow : (packets : List Arrival) (a : Arrival)
-    → IsPrefix (map (item_numbered packets) (range_with_len 1 (front_of packets)) ++ []) (stream_of (packets ++ a ∷ []))
+    → IsPrefix (map (item_numbered packets) (range_with_len 1 (front_of packets)) ++ [])
+    (stream_of (packets ++ a ∷ []))
 messages_grow packets a =
     let Q = packets ++ a ∷ [] in
     let n = front_of packets in
@@ -79,8 +93,11 @@ messages_grow packets a =
       is =
           ap (λ (k : ℕ). map (item_numbered Q) (range_with_len 1 k) ++ tail) (sym whole)
           ∙ ap (λ (xs : List Numbered). xs ++ tail) (range_split (item_numbered Q) 1 n d)
-          ∙ ap (λ (xs : List Numbered). (xs ++ map (item_numbered Q) (range_with_len (1 + n) d)) ++ tail) (same_messages packets a 1 n (λ m low high. (front_is packets).all m low (omega arith)))
-          ∙ joined (map (item_numbered packets) (range_with_len 1 n)) (map (item_numbered Q) (range_with_len (1 + n) d)) tail;
+          ∙ ap (λ (xs : List Numbered). (xs ++ map (item_numbered Q) (range_with_len (1 + n) d)) ++
+          tail) (same_messages packets a 1 n
+          (λ m low high. (front_is packets).all m low (omega arith)))
+          ∙ joined (map (item_numbered packets) (range_with_len 1 n))
+          (map (item_numbered Q) (range_with_len (1 + n) d)) tail;
     }
   where
     joined : (xs ys zs : List Numbered) → (xs ++ ys) ++ zs ≡ (xs ++ []) ++ (ys ++ zs)
@@ -94,7 +111,9 @@ stream_grows packets a past = by_end (end_of packets) refl
     front = map (item_numbered packets) (range_with_len 1 (front_of packets))
 
     by_test : (e : ℕ) (b : Bool) → (e == front_of packets + 1) ≡ b → end_of packets ≡ Some e
-        → IsPrefix (front ++ (if b then record { number = front_of packets + 1; item = items.End } ∷ [] else [])) (stream_of (packets ++ a ∷ []))
+        → IsPrefix (front ++ (if b then
+        record { number = front_of packets + 1; item = items.End } ∷ [] else []))
+        (stream_of (packets ++ a ∷ []))
     by_test e false other is = messages_grow packets a
     by_test e true last is =
         let Q = packets ++ a ∷ [] in
@@ -106,8 +125,11 @@ stream_grows packets a past = by_end (end_of packets) refl
         record {
           rest = [];
           is =
-              ap (λ (k : ℕ). map (item_numbered Q) (range_with_len 1 k) ++ end_at (end_of Q) (k + 1)) same
-              ∙ ap (λ (xs : List Numbered). xs ++ end_at (end_of Q) (front_of packets + 1)) (same_messages packets a 1 (front_of packets) (λ m low high. (front_is packets).all m low (omega arith)))
+              ap (λ (k : ℕ). map (item_numbered Q) (range_with_len 1 k) ++ end_at (end_of Q)
+              (k + 1)) same
+              ∙ ap (λ (xs : List Numbered). xs ++ end_at (end_of Q) (front_of packets + 1))
+              (same_messages packets a 1 (front_of packets)
+              (λ m low high. (front_is packets).all m low (omega arith)))
               ∙ ap (λ (o : Option ℕ). front ++ end_at o (front_of packets + 1)) there
               ∙ ap (λ (b : Bool). front ++ (if b then record {
                 number =
@@ -120,6 +142,9 @@ stream_grows packets a past = by_end (end_of packets) refl
     by_end : (o : Option ℕ) → end_of packets ≡ o
         → IsPrefix (stream_of packets) (stream_of (packets ++ a ∷ []))
     by_end None is =
-        subst (λ (o : Option ℕ). IsPrefix (front ++ end_at o (front_of packets + 1)) (stream_of (packets ++ a ∷ []))) (sym is) (messages_grow packets a)
+        subst (λ (o : Option ℕ). IsPrefix (front ++ end_at o (front_of packets + 1))
+        (stream_of (packets ++ a ∷ []))) (sym is) (messages_grow packets a)
     by_end (Some e) is =
-        subst (λ (o : Option ℕ). IsPrefix (front ++ end_at o (front_of packets + 1)) (stream_of (packets ++ a ∷ []))) (sym is) (by_test e (e == front_of packets + 1) refl is)
+        subst (λ (o : Option ℕ). IsPrefix (front ++ end_at o (front_of packets + 1))
+        (stream_of (packets ++ a ∷ []))) (sym is)
+        (by_test e (e == front_of packets + 1) refl is)

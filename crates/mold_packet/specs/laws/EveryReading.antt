@@ -40,22 +40,26 @@ record HasFirst (bytes : List ℕ) : Type 0 where
 first_or_cut : (bytes : List ℕ) → AreBytes bytes → HasFirst bytes ⊎ IsCut bytes
 first_or_cut [] h = inr tt
 first_or_cut (high ∷ []) h = inr tt
-first_or_cut (high ∷ low ∷ body) h = elim (cases_lt (length body) (from_be_bytes w16 (high ∷ low ∷ []))) [
-  | inl lt ↦ inr lt
-  | inr le ↦
-      let len : ℕ = from_be_bytes w16 (high ∷ low ∷ []) in
-      let first : length (take len body) ≡ len = omega (arith, length-take len body) in
-      let field : to_be_bytes w16 (length (take len body)) ≡ high ∷ low ∷ [] = be_bytes_2 (high ∷ low ∷ []) (length (take len body)) refl (two high low body h) first in
-      inl (record {
-        message = take len body;
-        after = drop len body;
-        short = let a = h 0 in let b = h 1 in omega arith;
-        is = sym (append_assoc (to_be_bytes w16 (length (take len body))) (take len body) (drop len body)
-            ∙ ap (λ (x : List ℕ). x ++ (take len body ++ drop len body)) field
-            ∙ ap (λ (x : List ℕ). high ∷ low ∷ x) (take-append-drop len body));
-        are = behind len body (λ i. h (suc (suc i)));
-      })
-]
+first_or_cut (high ∷ low ∷ body) h =
+    elim (cases_lt (length body) (from_be_bytes w16 (high ∷ low ∷ []))) [
+      | inl lt ↦ inr lt
+      | inr le ↦
+          let len : ℕ = from_be_bytes w16 (high ∷ low ∷ []) in
+          let first : length (take len body) ≡ len = omega (arith, length-take len body) in
+          let field : to_be_bytes w16 (length (take len body)) ≡ high ∷ low ∷ [] =
+          be_bytes_2 (high ∷ low ∷ []) (length (take len body)) refl (two high low body h) first in
+          inl (record {
+            message = take len body;
+            after = drop len body;
+            short = let a = h 0 in let b = h 1 in omega arith;
+            is =
+                sym (append_assoc (to_be_bytes w16 (length (take len body))) (take len body)
+                (drop len body)
+                ∙ ap (λ (x : List ℕ). x ++ (take len body ++ drop len body)) field
+                ∙ ap (λ (x : List ℕ). high ∷ low ∷ x) (take-append-drop len body));
+            are = behind len body (λ i. h (suc (suc i)));
+          })
+    ]
 
 -- `n` blocks are there, or one of them is cut
 record AreThere (n : ℕ) (bytes : List ℕ) : Type 0 where
@@ -72,7 +76,8 @@ one_more_there n bytes first h = record {
     count = ap suc h.blocks.count;
     each = (first.short, h.blocks.each);
     spelled =
-        first.is ∙ ap (λ (x : List ℕ). block first.message ++ x) h.blocks.spelled ∙ sym (flat_map-first first.message h.messages h.rest);
+        first.is ∙ ap (λ (x : List ℕ). block first.message ++ x) h.blocks.spelled
+        ∙ sym (flat_map-first first.message h.messages h.rest);
   };
 }
 
@@ -84,15 +89,29 @@ one_more_cut n bytes first h = record {
   fewer = let few = h.fewer in omega arith;
   each = (first.short, h.each);
   spelled =
-      first.is ∙ ap (λ (x : List ℕ). block first.message ++ x) h.spelled ∙ sym (flat_map-first first.message h.whole h.part);
+      first.is ∙ ap (λ (x : List ℕ). block first.message ++ x) h.spelled
+      ∙ sym (flat_map-first first.message h.whole h.part);
   cut = h.cut;
 }
 
 there_or_cut : (n : ℕ) (bytes : List ℕ) → AreBytes bytes → AreThere n bytes ⊎ CutShort n bytes
 there_or_cut zero bytes h =
-    inl (record { messages = []; rest = bytes; blocks = record { count = refl; each = tt; spelled = refl } })
+    inl (record {
+      messages = [];
+      rest = bytes;
+      blocks =
+          record { count = refl; each = tt; spelled = refl };
+    })
 there_or_cut (suc n) bytes h = elim (first_or_cut bytes h) [
-  | inr cut ↦ inr (record { whole = []; part = bytes; fewer = omega arith; each = tt; spelled = refl; cut = cut })
+  | inr cut ↦ inr (record {
+    whole = [];
+    part = bytes;
+    fewer = omega arith;
+    each = tt;
+    spelled =
+        refl;
+    cut = cut;
+  })
   | inl first ↦ elim (there_or_cut n first.after first.are) [
     | inl there ↦ inl (one_more_there n bytes first there)
     | inr cut ↦ inr (one_more_cut n bytes first cut)
@@ -120,10 +139,19 @@ number_small bytes h =
     omega arith
 
 -- a header and all its blocks, with numbers in their range, are a packet
-module _ (bytes : List ℕ) (are : AreBytes bytes) (long : 20 ≤ length bytes) (there : AreThere (blocks_wanted (count_at bytes)) (drop 20 bytes)) (one : 1 ≤ number_at bytes) (within : number_at bytes + blocks_wanted (count_at bytes) ≤ 2 ^ 64) where
+module _ (bytes : List ℕ) (are : AreBytes bytes) (long : 20 ≤ length bytes)
+    (there : AreThere (blocks_wanted (count_at bytes)) (drop 20 bytes)) (one : 1 ≤ number_at bytes)
+    (within : number_at bytes + blocks_wanted (count_at bytes) ≤ 2 ^ 64) where
   abbrev content : Kind → Content
   content kind =
-      record { session = session_at bytes; number = number_at bytes; kind = kind; messages = there.messages; ignored = length there.rest }
+      record {
+        session = session_at bytes;
+        number = number_at bytes;
+        kind = kind;
+        messages =
+            there.messages;
+        ignored = length there.rest;
+      }
 
   spells : (kind : Kind) → KindFits kind there.messages
       → count_field kind there.messages ≡ count_at bytes
@@ -150,7 +178,9 @@ module _ (bytes : List ℕ) (are : AreBytes bytes) (long : 20 ≤ length bytes) 
     | inr some ↦ elim (cases_eq (count_at bytes) 65535) [
       | inl end ↦ spells End (none (ap blocks_wanted end)) (sym end)
       | inr few ↦
-          let wanted : blocks_wanted (count_at bytes) ≡ count_at bytes = ap (λ (t : Bool). if t then 0 else count_at bytes) (ne_eqb (count_at bytes) 65535 few) in
+          let wanted : blocks_wanted (count_at bytes) ≡ count_at bytes =
+          ap (λ (t : Bool). if t then 0 else count_at bytes) (ne_eqb (count_at bytes) 65535 few)
+          in
           let count : length there.messages ≡ count_at bytes = there.blocks.count ∙ wanted in
           let small = count_small bytes are in
           spells Messages (omega arith, omega arith) count
@@ -158,26 +188,37 @@ module _ (bytes : List ℕ) (are : AreBytes bytes) (long : 20 ≤ length bytes) 
   ]
 
 pub read_or_fault : (bytes : List ℕ) → AreBytes bytes
-    → ((packet : Content) × (rest : List ℕ) × Spells bytes packet rest) ⊎ ((fault : PacketFault) × HasFault bytes fault)
+    → ((packet : Content) × (rest : List ℕ) × Spells bytes packet rest)
+    ⊎ ((fault : PacketFault) × HasFault bytes fault)
 read_or_fault bytes are = elim (cases_lt (length bytes) 20) [
   | inl short ↦ inr (ShortHeader, short)
-  | inr long ↦ elim (there_or_cut (blocks_wanted (count_at bytes)) (drop 20 bytes) (behind 20 bytes are)) [
-    | inr cut ↦ inr (TruncatedBlock, (long, cut))
-    | inl there ↦
-        let whole : IsWhole bytes = record { header = long; messages = there.messages; rest = there.rest; blocks = there.blocks } in
-        elim (cases_eq (number_at bytes) 0) [
-          | inl zero_ ↦ inr (ZeroSequence, (whole, zero_))
-          | inr one ↦ elim (cases_lt (2 ^ 64) (number_at bytes + blocks_wanted (count_at bytes))) [
-            | inl over ↦ let small =
-                number_small bytes are in inr (SequenceOverflow, (whole, omega arith, omega arith, over))
-            | inr within ↦ inl (reading bytes are long there (omega arith) within)
-          ]
-        ]
-  ]
+  | inr long ↦ elim (there_or_cut (blocks_wanted (count_at bytes)) (drop 20 bytes)
+      (behind 20 bytes are)) [
+        | inr cut ↦ inr (TruncatedBlock, (long, cut))
+        | inl there ↦
+            let whole : IsWhole bytes =
+            record {
+              header = long;
+              messages = there.messages;
+              rest = there.rest;
+              blocks =
+                  there.blocks;
+            } in
+            elim (cases_eq (number_at bytes) 0) [
+              | inl zero_ ↦ inr (ZeroSequence, (whole, zero_))
+              | inr one ↦ elim (cases_lt (2 ^ 64) (number_at bytes + blocks_wanted (count_at bytes))) [
+                | inl over ↦ let small =
+                    number_small bytes are in
+                    inr (SequenceOverflow, (whole, omega arith, omega arith, over))
+                | inr within ↦ inl (reading bytes are long there (omega arith) within)
+              ]
+            ]
+      ]
 ]
 
 pub request_or_fault : (bytes : List ℕ) → AreBytes bytes
-    → ((request : Request) × SpellsRequest bytes request) ⊎ ((fault : PacketFault) × HasRequestFault bytes fault)
+    → ((request : Request) × SpellsRequest bytes request)
+    ⊎ ((fault : PacketFault) × HasRequestFault bytes fault)
 request_or_fault bytes are = elim (cases_eq (length bytes) 20) [
   | inl exact ↦ inl (
     record { session = session_at bytes; number = number_at bytes; count = count_at bytes },
@@ -185,7 +226,9 @@ request_or_fault bytes are = elim (cases_eq (length bytes) 20) [
       session = omega (arith, length-take 10 bytes);
       small = number_small bytes are;
       few = count_small bytes are;
-      spelled = whole_header bytes (session_at bytes) (number_at bytes) (count_at bytes) exact are refl refl refl;
+      spelled =
+          whole_header bytes (session_at bytes) (number_at bytes) (count_at bytes) exact are refl
+          refl refl;
     },
   )
   | inr bad ↦ inr (BadRequestLength, bad)

@@ -11,20 +11,25 @@ pub part_is : (bytes : List ℕ) (from n : ℕ) → ((i : ℕ) → get_or bytes 
     → get_or (take n (drop from bytes)) i 0 < 256
 part_is bytes from n h i =
     elim (cases_lt i n) [
-      | inl lt ↦ rw (get_or-take n (drop from bytes) i 0 lt, get_or-drop from bytes i 0) (h (from + i))
-      | inr le ↦ rw (get_or_past (take n (drop from bytes)) i 0 (omega (arith, length-take n (drop from bytes)))) (omega arith)
+      | inl lt ↦ rw (get_or-take n (drop from bytes) i 0 lt, get_or-drop from bytes i 0)
+          (h (from + i))
+      | inr le ↦ rw (get_or_past (take n (drop from bytes)) i 0
+          (omega (arith, length-take n (drop from bytes)))) (omega arith)
     ]
 
 cut : (bytes : List ℕ) (from n : ℕ)
     → drop from bytes ≡ take n (drop from bytes) ++ drop (from + n) bytes
 cut bytes from n =
-    sym (take-append-drop n (drop from bytes)) ∙ ap (λ (x : List ℕ). take n (drop from bytes) ++ x) (drop-drop n from bytes)
+    sym (take-append-drop n (drop from bytes))
+    ∙ ap (λ (x : List ℕ). take n (drop from bytes) ++ x) (drop-drop n from bytes)
 
 header-append : (session : List ℕ) (number count : ℕ) (body : List ℕ)
-    → header session number count ++ body ≡ session ++ (to_be_bytes w64 number ++ (to_be_bytes w16 count ++ body))
+    → header session number count ++ body
+    ≡ session ++ (to_be_bytes w64 number ++ (to_be_bytes w16 count ++ body))
 header-append session number count body =
     append_assoc session (to_be_bytes w64 number ++ to_be_bytes w16 count) body
-    ∙ ap (λ (x : List ℕ). session ++ x) (append_assoc (to_be_bytes w64 number) (to_be_bytes w16 count) body)
+    ∙ ap (λ (x : List ℕ). session ++ x)
+    (append_assoc (to_be_bytes w64 number) (to_be_bytes w16 count) body)
 
 pub length-header : (session : List ℕ) (number count : ℕ) → length session ≡ 10
     → length (header session number count) ≡ 20
@@ -35,11 +40,21 @@ length-header session number count h =
 header_is : (bytes : List ℕ) → 20 ≤ length bytes → ((i : ℕ) → get_or bytes i 0 < 256)
     → bytes ≡ header (session_at bytes) (number_at bytes) (count_at bytes) ++ drop 20 bytes
 header_is bytes long h =
-    let n : to_be_bytes w64 (number_at bytes) ≡ take 8 (drop 10 bytes) = be_bytes_8 (take 8 (drop 10 bytes)) (number_at bytes) (omega (arith, length-take 8 (drop 10 bytes), length-drop 10 bytes)) (part_is bytes 10 8 h) refl in
-    let c : to_be_bytes w16 (count_at bytes) ≡ take 2 (drop 18 bytes) = be_bytes_2 (take 2 (drop 18 bytes)) (count_at bytes) (omega (arith, length-take 2 (drop 18 bytes), length-drop 18 bytes)) (part_is bytes 18 2 h) refl in
-    let third : drop 18 bytes ≡ to_be_bytes w16 (count_at bytes) ++ drop 20 bytes = cut bytes 18 2 ∙ ap (λ (x : List ℕ). x ++ drop 20 bytes) (sym c) in
-    let second : drop 10 bytes ≡ to_be_bytes w64 (number_at bytes) ++ drop 18 bytes = cut bytes 10 8 ∙ ap (λ (x : List ℕ). x ++ drop 18 bytes) (sym n) in
-    sym (take-append-drop 10 bytes) ∙ ap (λ (x : List ℕ). take 10 bytes ++ x) (second ∙ ap (λ (x : List ℕ). to_be_bytes w64 (number_at bytes) ++ x) third)
+    let n : to_be_bytes w64 (number_at bytes) ≡ take 8 (drop 10 bytes) =
+    be_bytes_8 (take 8 (drop 10 bytes)) (number_at bytes)
+    (omega (arith, length-take 8 (drop 10 bytes), length-drop 10 bytes)) (part_is bytes 10 8 h)
+    refl in
+    let c : to_be_bytes w16 (count_at bytes) ≡ take 2 (drop 18 bytes) =
+    be_bytes_2 (take 2 (drop 18 bytes)) (count_at bytes)
+    (omega (arith, length-take 2 (drop 18 bytes), length-drop 18 bytes)) (part_is bytes 18 2 h)
+    refl in
+    let third : drop 18 bytes ≡ to_be_bytes w16 (count_at bytes) ++ drop 20 bytes =
+    cut bytes 18 2 ∙ ap (λ (x : List ℕ). x ++ drop 20 bytes) (sym c) in
+    let second : drop 10 bytes ≡ to_be_bytes w64 (number_at bytes) ++ drop 18 bytes =
+    cut bytes 10 8 ∙ ap (λ (x : List ℕ). x ++ drop 18 bytes) (sym n) in
+    sym (take-append-drop 10 bytes)
+    ∙ ap (λ (x : List ℕ). take 10 bytes ++ x)
+    (second ∙ ap (λ (x : List ℕ). to_be_bytes w64 (number_at bytes) ++ x) third)
     ∙ sym (header-append (session_at bytes) (number_at bytes) (count_at bytes) (drop 20 bytes))
 
 -- the same, with the fields as the code read them
@@ -65,17 +80,30 @@ pub parts : (bytes session : List ℕ) (number count : ℕ) (body : List ℕ) �
     → number < 2 ^ 64 → count < 2 ^ 16 → bytes ≡ header session number count ++ body
     → Parts bytes session number count body
 parts bytes session number count body ten small few e =
-    let all : bytes ≡ session ++ (to_be_bytes w64 number ++ (to_be_bytes w16 count ++ body)) = e ∙ header-append session number count body in
-    let from_10 : drop 10 bytes ≡ to_be_bytes w64 number ++ (to_be_bytes w16 count ++ body) = ap (drop 10) all ∙ drop_at session (to_be_bytes w64 number ++ (to_be_bytes w16 count ++ body)) 10 ten in
-    let from_18 : drop 18 bytes ≡ to_be_bytes w16 count ++ body = sym (drop-drop 8 10 bytes) ∙ ap (drop 8) from_10 ∙ drop_at (to_be_bytes w64 number) (to_be_bytes w16 count ++ body) 8 refl in
+    let all : bytes ≡ session ++ (to_be_bytes w64 number ++ (to_be_bytes w16 count ++ body)) =
+    e ∙ header-append session number count body in
+    let from_10 : drop 10 bytes ≡ to_be_bytes w64 number ++ (to_be_bytes w16 count ++ body) =
+    ap (drop 10) all ∙ drop_at session
+    (to_be_bytes w64 number ++ (to_be_bytes w16 count ++ body)) 10 ten in
+    let from_18 : drop 18 bytes ≡ to_be_bytes w16 count ++ body =
+    sym (drop-drop 8 10 bytes) ∙ ap (drop 8) from_10
+    ∙ drop_at (to_be_bytes w64 number) (to_be_bytes w16 count ++ body) 8 refl in
     record {
       session_is =
-          ap (take 10) all ∙ take_at session (to_be_bytes w64 number ++ (to_be_bytes w16 count ++ body)) 10 ten;
+          ap (take 10) all ∙ take_at session
+          (to_be_bytes w64 number ++ (to_be_bytes w16 count ++ body)) 10 ten;
       number_is =
-          ap (λ (x : List ℕ). from_be_bytes w64 (take 8 x)) from_10 ∙ ap (from_be_bytes w64) (take_at (to_be_bytes w64 number) (to_be_bytes w16 count ++ body) 8 refl) ∙ from_be_bytes-to_be_bytes_8 number small;
+          ap (λ (x : List ℕ). from_be_bytes w64 (take 8 x)) from_10
+          ∙ ap (from_be_bytes w64)
+          (take_at (to_be_bytes w64 number) (to_be_bytes w16 count ++ body) 8 refl)
+          ∙ from_be_bytes-to_be_bytes_8 number small;
       count_is =
-          ap (λ (x : List ℕ). from_be_bytes w16 (take 2 x)) from_18 ∙ ap (from_be_bytes w16) (take_at (to_be_bytes w16 count) body 2 refl) ∙ from_be_bytes-to_be_bytes_2 count few;
-      body_is = sym (drop-drop 2 18 bytes) ∙ ap (drop 2) from_18 ∙ drop_at (to_be_bytes w16 count) body 2 refl;
+          ap (λ (x : List ℕ). from_be_bytes w16 (take 2 x)) from_18
+          ∙ ap (from_be_bytes w16) (take_at (to_be_bytes w16 count) body 2 refl)
+          ∙ from_be_bytes-to_be_bytes_2 count few;
+      body_is =
+          sym (drop-drop 2 18 bytes) ∙ ap (drop 2) from_18
+          ∙ drop_at (to_be_bytes w16 count) body 2 refl;
     }
 
 -- 20 bytes are a header and nothing else

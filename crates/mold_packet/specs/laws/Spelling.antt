@@ -15,6 +15,8 @@ spells_from bytes p rest long all_bytes content session number count body ignore
   content = content;
   ignored = ignored;
   spelled =
-      header_of bytes p.session p.number (count_field p.kind p.messages) (flat_map block p.messages ++ rest) long all_bytes session number count body
-      ∙ sym (append_assoc (header p.session p.number (count_field p.kind p.messages)) (flat_map block p.messages) rest);
+      header_of bytes p.session p.number (count_field p.kind p.messages)
+      (flat_map block p.messages ++ rest) long all_bytes session number count body
+      ∙ sym (append_assoc (header p.session p.number (count_field p.kind p.messages))
+      (flat_map block p.messages) rest);
 }

@@ -2,9 +2,9 @@ use Rattle.std.proofs.Common.{ℕ, List, ◌∙◌, ap, sym, arith, nat_eq}
 use Rattle.std.specs.Prelude.{position}
 use Rattle.std.specs.Int.{w64, to_be_bytes}
 use Rattle.std.specs.Str.{bytes_eq}
-use Rattle.feed_types.specs.Symbols.{word_of}
+use Rattle.feed_types.specs.Symbols.{key_of}
 use Rattle.nbbo_book.specs.declared.row.Row.{Row}
-use Rattle.nbbo_book.specs.Tables.{HasWord, symbols_in_rows}
+use Rattle.nbbo_book.specs.Tables.{HasKey, symbols_in_rows}
 use Rattle.nbbo_book.specs.WordLaws.{found_by_word, symbols_apart}
 use Rattle.nbbo_book.proofs.Stepping.{place_found}
 use Rattle.nbbo_book.proofs.table.find.Goals as goal
@@ -21,9 +21,9 @@ returns-then-is_of c =
 pub returns : goal.returns
 returns c =
     let symbols = symbols_in_rows c.args.rows.now in
-    let has : HasWord c.args.symbol =
-    record { told = ap (to_be_bytes w64) (sym c.word-2.ensures.value) ∙ c.word-2.ensures.field } in
+    let has : HasKey c.args.symbol =
+    record { told = ap (to_be_bytes w64) (sym c.key-2.ensures.value) ∙ c.key-2.ensures.field } in
     c.get_index_of.ensures.index
-    ∙ ap (λ (w : ℕ). position (nat_eq w) c.args.table.now.words.keys) c.word-2.ensures.value
-    ∙ ap (λ (ks : List ℕ). position (nat_eq (word_of c.args.symbol)) ks) c.requires.words
+    ∙ ap (λ (w : ℕ). position (nat_eq w) c.args.table.now.words.keys) c.key-2.ensures.value
+    ∙ ap (λ (ks : List ℕ). position (nat_eq (key_of c.args.symbol)) ks) c.requires.words
     ∙ found_by_word c.args.symbol symbols has c.requires.told

@@ -3,7 +3,7 @@ use Rattle.std.specs.Prelude.{slice_set}
 use Rattle.feed_types.specs.declared.item.Numbered.{Numbered}
 use Rattle.feed_types.specs.Sequence.{IsInSequence}
 use Rattle.live_feed.proofs.HubMoves.{at_index}
-use Rattle.feed_core.specs.laws.Lists.{get_within}
+use Rattle.feed_types.specs.ListLaws.{get_within}
 use Rattle.live_feed.specs.hub.Hubs.{HubState}
 use Rattle.live_feed.specs.hub.Sections.{Consumes, ConsumesOne}
 use Rattle.live_feed.proofs.HubMoves.{consume_refused, consume_none, consume_none_kept, consume_one, consume_one_kept}

@@ -2,7 +2,7 @@ use Rattle.std.proofs.Common.{◌<◌, ◌+◌, ℕ, List, length, Ok, Err, refl
 use Rattle.std.specs.Prelude.{slice_set, AllPairs}
 use Rattle.feed_types.specs.declared.journal.Notice.{Notice}
 use Rattle.journal_book.specs.CursorLaws.{goes_past}
-use Rattle.feed_core.specs.laws.Lists.{get_within}
+use Rattle.feed_types.specs.ListLaws.{get_within}
 use Rattle.live_feed.specs.hub.Hubs.{HubState}
 use Rattle.live_feed.specs.hub.Sections.{HubOffersOne, KeepsButOffers}
 use Rattle.live_feed.specs.declared.unsent.Unsent.TheVariants as unsent

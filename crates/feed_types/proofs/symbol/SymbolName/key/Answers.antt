@@ -1,7 +1,7 @@
 use Rattle.std.proofs.Common.{◌∙◌, ℕ, ap}
 use Rattle.std.specs.Int.{w64, to_be_bytes}
 use Rattle.feed_types.proofs.Fields.{bytes_of_word}
-use Rattle.feed_types.proofs.symbol.SymbolName.word.Goals as goal
+use Rattle.feed_types.proofs.symbol.SymbolName.key.Goals as goal
 
 pub returns-clause-field : goal.returns-clause-field
 returns-clause-field c =

@@ -1,0 +1,39 @@
+-- One step of the machine: an event leads to the old world with the part changed that the event
+-- looks at (Steps.antt).
+use Rattle.std.specs.Prelude.{◌⊎◌, slice_get}
+use Rattle.line_arbiter.specs.Histories.{streams_of}
+use Rattle.journal_book.specs.Wanted.{wanted_of}
+use Rattle.feed_core.specs.declared.event.Event.{Event}
+use Rattle.feed_core.specs.declared.event.Event.TheVariants.{Packet, Push, Consume, Declare, Renew, Subscribe, Offer, Dequeue}
+use Rattle.feed_core.specs.declared.event.Done.{Done}
+use Rattle.feed_core.specs.Worlds.{is_full, World, Setting}
+use Rattle.feed_core.specs.Steps.{next_in, next_out, push_next, consume_next, declare_help, offer_next, dequeue_next, Applies, with_sent, with_intake, with_offered, with_dequeued, RefusesBytes, AnswersPacket, AnswersRenewal, AnswersSubscribe, AtVenue, AtSubscriber}
+
+-- one event, from the old world to the new one, with its outcome
+abbrev pub IsStep : Setting → World → Event → Done → World → Type 0
+IsStep s old (Packet venue line bytes) outcome new = AtVenue old venue outcome new
+    (λ v. RefusesBytes bytes.now old outcome new
+    ⊎ AnswersPacket s.window venue v line bytes.now old outcome new)
+IsStep s old (Renew venue name) outcome new = AtVenue old venue outcome new
+    (λ v. AnswersRenewal venue v name old outcome new)
+IsStep s old (Push venue) outcome new = AtVenue old venue outcome new
+    (λ v. Applies (with_sent old venue v)
+    (push_next (is_full s.lane v.lane) (next_in (streams_of v.history) v.lane) v.lane.sent)
+    old outcome new)
+IsStep s old (Consume venue) outcome new = AtVenue old venue outcome new
+    (λ v. Applies (with_intake old venue v)
+    (consume_next s.journal venue (next_out v.lane)
+    (record { received = v.lane.received; entries = old.entries }))
+    old outcome new)
+IsStep s old (Declare venue on) outcome new = AtVenue old venue outcome new
+    (λ v. Applies (λ entries. record old { entries = entries })
+    (declare_help s.journal venue on old.entries) old outcome new)
+IsStep s old Subscribe outcome new = AnswersSubscribe (slice_get s.filters old.used) old outcome new
+IsStep s old (Offer id) outcome new = AtSubscriber old id outcome new
+    (λ x. Applies (with_offered old id x)
+    (offer_next (is_full s.lane x.lane)
+    (next_in (wanted_of s.symbols x.terms old.entries) x.lane) x.lane.sent)
+    old outcome new)
+IsStep s old (Dequeue id) outcome new = AtSubscriber old id outcome new
+    (λ x. Applies (with_dequeued old id x)
+    (dequeue_next (next_out x.lane) x.lane.received) old outcome new)
