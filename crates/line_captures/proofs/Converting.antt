@@ -20,9 +20,8 @@ use Rattle.line_captures.specs.ReaderLaws.{HasGivenRecords, has_given, whole_cap
 use Rattle.line_captures.specs.Conversions.{Copies, HasCopied, WroteCapture, WroteRecords, AnswersConversion, Converts}
 
 front_same : (n : ℕ) (bytes : List ℕ) → take n bytes ≡ take (min n (length bytes)) bytes
-front_same zero [] = refl
-front_same zero (x ∷ xs) = refl
-front_same (suc n) [] = refl
+front_same zero bytes = let none : min 0 (length bytes) ≡ 0 = omega arith in ap (λ m. take m bytes) (sym none)
+front_same (suc n) [] = let none : min (suc n) (length {A = ℕ} []) ≡ 0 = omega arith in ap (λ m. take m []) (sym none)
 front_same (suc n) (x ∷ xs) =
     let one : min (suc n) (length (x ∷ xs)) ≡ suc (min n (length xs)) = omega arith in
     ap (λ (ys : List ℕ). x ∷ ys) (front_same n xs) ∙ ap (λ m. take m (x ∷ xs)) (sym one)
@@ -131,10 +130,10 @@ converts_so {R} {W} reading writing lines from t before after (Ok done) c =
 converts_so reading writing lines from t before after (Err ReadFailed) c = fails_so reading writing lines from t before after t.fault refl c.0 c.1
 converts_so {R} {W} reading writing lines from t before after (Err WriteFailed) c =
     let O : Option InputFault → Type 0 = λ o. AnswersConversion reading writing lines from t.inner before after t.point (outcome_by o (Err WriteFailed)) in
-    subst O (sym (sound_still {R} {W} reading writing lines from t (λ bytes. Wrote writing.adds before bytes after) c.0)) (stopped_so reading writing lines from t before after c.0, c.1)
+    subst O (sym (sound_still reading writing lines from t (λ bytes. Wrote writing.adds before bytes after) c.0)) (stopped_so reading writing lines from t before after c.0, c.1)
 converts_so {R} {W} reading writing lines from t before after (Err TooManyTurns) c =
     let O : Option InputFault → Type 0 = λ o. AnswersConversion reading writing lines from t.inner before after t.point (outcome_by o (Err TooManyTurns)) in
-    subst O (sym (sound_still {R} {W} reading writing lines from t (λ bytes. writing.adds before bytes after) c)) (stopped_so reading writing lines from t before after (record {
+    subst O (sym (sound_still reading writing lines from t (λ bytes. writing.adds before bytes after) c)) (stopped_so reading writing lines from t before after (record {
       calls = c.calls;
       mid = c.mid;
       bytes = c.bytes;

@@ -12,6 +12,12 @@ CopiedTo reading writing from to before after =
 pub copied_none : {R W : Type 0} (reading : Reading R) (writing : Writing W) (from : R) (before : W) → reading.gives from 0 [] from → writing.adds before [] before → CopiedTo reading writing from from before before
 copied_none reading writing from before given taken = record { calls = 0; mid = from; bytes = []; read = given; taken = taken; came_to = refl }
 
+-- the same of a writer that goes by another name
+pub copied_at : {R W : Type 0} (reading : Reading R) (writing : Writing W) (from to : R) (before after last : W) → last ≡ after → CopiedTo reading writing from to before after → CopiedTo reading writing from to before last
+copied_at {R} {W} reading writing from to before after last e c =
+    let P : W → Type 0 = λ w. CopiedTo reading writing from to before w in
+    subst P (sym e) c
+
 -- what one more call gave comes after it
 pub gives_next : {R : Type 0} (reading : Reading R) → ((s t u : R) (m n : ℕ) (xs ys : List ℕ) → reading.gives s m xs t → reading.gives t n ys u → reading.gives s (m + n) (xs ++ ys) u) → (from mid to next : R) (calls : ℕ) (bytes more : List ℕ) → mid ≡ to → reading.gives from calls bytes mid → reading.gives to 1 more next → reading.gives from (calls + 1) (bytes ++ more) next
 gives_next {R} reading law from mid to next calls bytes more e given later =

@@ -5,9 +5,9 @@ use Rattle.packet_capture.specs.Frames.{FrameContent}
 use Rattle.packet_capture.specs.Captures.{Context, PieceContent, IsPiece, frames_of, list_of}
 use Rattle.feed_text.specs.Capture.{CaptureRecord, bytes_of_record}
 use Rattle.line_captures.specs.declared.captured_line.CapturedLine.{CapturedLine}
-use Rattle.line_captures.specs.Readers.{CapturePoint}
+use Rattle.line_captures.specs.Readers.{CapturePoint, point_of}
 use Rattle.line_captures.specs.Records.{AreOfFrame, AreOfFrames, IsOfLine}
-use Rattle.line_captures.specs.Counts.{CountsPieces, IsFate, raised, passed_after, falls_after, last_after, times_of}
+use Rattle.line_captures.specs.Counts.{CountsPieces, IsFate, count_after, passed_after, falls_after, last_after, times_of}
 use Rattle.line_captures.specs.declared.passed_over.PassedOver.{PassedOver}
 use Rattle.line_captures.specs.declared.passed_over.Progress.{Progress}
 use Rattle.line_captures.specs.Steps.{CountsFrame, PutsFrame, TakesPiece, timed_after}
@@ -66,7 +66,7 @@ in_bytes a b seen bytes p all is =
     (piece_len a bytes p b (subst Q all is)).1
 
 -- what one piece counts, with a frame
-pub counts_frame : (lines : List CapturedLine) (before timed joined after : Progress) (passed : PassedOver) (p : PieceContent) (f : FrameContent) → timed ≡ timed_after before f.time → CountsFrame lines f timed.passed passed → joined ≡ record timed { passed = passed } → after ≡ record joined { position = raised joined.position p.len } → p.frame ≡ Some f → CountsPieces lines before (p ∷ []) after
+pub counts_frame : (lines : List CapturedLine) (before timed joined after : Progress) (passed : PassedOver) (p : PieceContent) (f : FrameContent) → timed ≡ timed_after before f.time → CountsFrame lines f timed.passed passed → joined ≡ record timed { passed = passed } → after ≡ record joined { position = count_after joined.position p.len } → p.frame ≡ Some f → CountsPieces lines before (p ∷ []) after
 counts_frame lines before timed joined after passed p f time counts join bytes framed =
     let frames : frames_of (p ∷ []) ≡ f ∷ [] = ap (λ (o : Option FrameContent). list_of o ++ []) framed in
     let times : times_of (frames_of (p ∷ [])) ≡ option_to_list f.time = ap times_of frames ∙ append-nil (option_to_list f.time) in
@@ -76,7 +76,7 @@ counts_frame lines before timed joined after passed p f time counts join bytes f
     record {
       fates = counts.fate ∷ [];
       are = subst Z (sym frames) (counts.is, tt);
-      position = ap (λ (x : Progress). x.position) bytes ∙ ap (λ n. raised n p.len) at_join ∙ ap (raised before.position) sum;
+      position = ap (λ (x : Progress). x.position) bytes ∙ ap (λ n. count_after n p.len) at_join ∙ ap (count_after before.position) sum;
       last_time = ap (λ (x : Progress). x.last_time) bytes ∙ ap (λ (x : Progress). x.last_time) join ∙ ap (λ (x : Progress). x.last_time) time
           ∙ ap (last_after before.last_time) (sym times);
       passed = ap (λ (x : Progress). x.passed) bytes ∙ ap (λ (x : Progress). x.passed) join ∙ counts.after_is
@@ -85,7 +85,7 @@ counts_frame lines before timed joined after passed p f time counts join bytes f
     }
 
 -- and without one
-pub counts_silent : (lines : List CapturedLine) (before joined after : Progress) (p : PieceContent) → joined ≡ before → after ≡ record joined { position = raised joined.position p.len } → p.frame ≡ None → CountsPieces lines before (p ∷ []) after
+pub counts_silent : (lines : List CapturedLine) (before joined after : Progress) (p : PieceContent) → joined ≡ before → after ≡ record joined { position = count_after joined.position p.len } → p.frame ≡ None → CountsPieces lines before (p ∷ []) after
 counts_silent lines before joined after p join bytes unframed =
     let frames : frames_of (p ∷ []) ≡ [] = ap (λ (o : Option FrameContent). list_of o ++ []) unframed in
     let times : times_of (frames_of (p ∷ [])) ≡ [] = ap times_of frames in
@@ -94,8 +94,12 @@ counts_silent lines before joined after p join bytes unframed =
     record {
       fates = [];
       are = subst Z (sym frames) tt;
-      position = ap (λ (x : Progress). x.position) bytes ∙ ap (λ (x : Progress). raised x.position p.len) join ∙ ap (raised before.position) sum;
+      position = ap (λ (x : Progress). x.position) bytes ∙ ap (λ (x : Progress). count_after x.position p.len) join ∙ ap (count_after before.position) sum;
       last_time = ap (λ (x : Progress). x.last_time) bytes ∙ ap (λ (x : Progress). x.last_time) join ∙ ap (last_after before.last_time) (sym times);
       passed = ap (λ (x : Progress). x.passed) bytes ∙ ap (λ (x : Progress). x.passed) join
           ∙ ap (λ n. passed_after before.passed [] (falls_after before.last_time n)) (sym times);
     }
+
+-- the same point, by its parts
+pub point_same : {a b : Context} {x y : Progress} → a ≡ b → x ≡ y → point_of a x ≡ point_of b y
+point_same e f = cc

@@ -9,22 +9,22 @@ use Rattle.packet_capture.specs.Frames.{FrameContent}
 use Rattle.line_captures.specs.declared.captured_line.CapturedLine.{CapturedLine}
 use Rattle.line_captures.specs.declared.passed_over.PassedOver.{PassedOver}
 use Rattle.line_captures.specs.declared.passed_over.Progress.{Progress}
-use Rattle.line_captures.specs.Counts.{FrameFate, IsFate, CountsPieces, raised, passed_after, falls_after, last_after, times_in, times_of, is_without, is_fragment, is_cut, is_malformed, is_unreadable, goes_elsewhere, goes_to_line}
+use Rattle.line_captures.specs.Counts.{FrameFate, IsFate, CountsPieces, count_after, passed_after, falls_after, last_after, times_in, times_of, is_without, is_fragment, is_cut, is_malformed, is_unreadable, goes_elsewhere, goes_to_line}
 
--- a count that is raised twice
-raised_twice : (count m n : ℕ) → raised (raised count m) n ≡ raised count (m + n)
+-- a count that is count_after twice
+raised_twice : (count m n : ℕ) → count_after (count_after count m) n ≡ count_after count (m + n)
 raised_twice count zero zero = refl
-raised_twice count zero (suc n) = let same : suc n ≡ zero + suc n = omega arith in ap (raised count) same
-raised_twice count (suc m) zero = let same : suc m ≡ suc m + zero = omega arith in ap (raised count) same
+raised_twice count zero (suc n) = let same : suc n ≡ zero + suc n = omega arith in ap (count_after count) same
+raised_twice count (suc m) zero = let same : suc m ≡ suc m + zero = omega arith in ap (count_after count) same
 raised_twice count (suc m) (suc n) =
     let sum : suc m + suc n ≡ suc (m + suc n) = omega arith in
-    let one : raised (raised count (suc m)) (suc n) ≡ raised count (suc (m + suc n)) = omega arith in
-    one ∙ ap (raised count) (sym sum)
+    let one : count_after (count_after count (suc m)) (suc n) ≡ count_after count (suc (m + suc n)) = omega arith in
+    one ∙ ap (count_after count) (sym sum)
 
-raised_both : (count m n : ℕ) (all : ℕ) → all ≡ m + n → raised (raised count m) n ≡ raised count all
-raised_both count m n all e = raised_twice count m n ∙ ap (raised count) (sym e)
+raised_both : (count m n : ℕ) (all : ℕ) → all ≡ m + n → count_after (count_after count m) n ≡ count_after count all
+raised_both count m n all e = raised_twice count m n ∙ ap (count_after count) (sym e)
 
-counted_both : (kind : FrameFate → Bool) (count : ℕ) (xs ys : List FrameFate) → raised (raised count (count_by kind xs)) (count_by kind ys) ≡ raised count (count_by kind (xs ++ ys))
+counted_both : (kind : FrameFate → Bool) (count : ℕ) (xs ys : List FrameFate) → count_after (count_after count (count_by kind xs)) (count_by kind ys) ≡ count_after count (count_by kind (xs ++ ys))
 counted_both kind count xs ys = raised_both count (count_by kind xs) (count_by kind ys) (count_by kind (xs ++ ys)) (sum_by-append (λ x. cond (kind x) 1 0) xs ys)
 
 passed_twice : (passed : PassedOver) (xs ys : List FrameFate) (m n : ℕ) → passed_after (passed_after passed xs m) ys n ≡ passed_after passed (xs ++ ys) (m + n)
@@ -74,7 +74,7 @@ counts_then lines a b c ps qs x y =
     record {
       fates = x.fates ++ y.fates;
       are = subst Z (sym frames) (zip_both (IsFate lines) (frames_of ps) (frames_of qs) x.fates y.fates x.are y.are);
-      position = y.position ∙ ap (λ n. raised n (sum_by (λ piece. piece.len) qs)) x.position
+      position = y.position ∙ ap (λ n. count_after n (sum_by (λ piece. piece.len) qs)) x.position
           ∙ raised_both a.position (sum_by (λ piece. piece.len) ps) (sum_by (λ piece. piece.len) qs) (sum_by (λ piece. piece.len) (ps ++ qs)) (sum_by-append (λ piece. piece.len) ps qs);
       last_time = y.last_time ∙ ap (λ n. last_after n (times_of (frames_of qs))) x.last_time
           ∙ sym (last_both a.last_time (times_of (frames_of ps)) (times_of (frames_of qs))) ∙ ap (last_after a.last_time) (sym times);

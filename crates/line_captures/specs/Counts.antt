@@ -85,9 +85,9 @@ is_unreadable NotIp = false
 is_unreadable NotUdp = false
 
 -- a count after this many more
-abbrev pub raised : ℕ → ℕ → ℕ
-raised count zero = count
-raised count (suc more) = min (count + suc more) 18446744073709551615
+abbrev pub count_after : ℕ → ℕ → ℕ
+count_after count zero = count
+count_after count (suc more) = min (count + suc more) 18446744073709551615
 
 -- the times of the frames that have one
 abbrev pub times_in : FrameContent → List ℕ
@@ -108,13 +108,13 @@ last_after last (time ∷ times) = last_after time times
 -- the counts after frames with these fates, and after this many that are out of time order
 abbrev pub passed_after : PassedOver → List FrameFate → ℕ → PassedOver
 passed_after passed fates falls = record {
-  fragments = raised passed.fragments (count_by (is_without is_fragment) fates);
-  cut = raised passed.cut (count_by (is_without is_cut) fates);
-  malformed = raised passed.malformed (count_by (is_without is_malformed) fates);
-  not_read = raised passed.not_read (count_by (is_without is_unreadable) fates);
-  disordered = raised passed.disordered falls;
-  elsewhere = raised passed.elsewhere (count_by goes_elsewhere fates);
-  to_lines = raised passed.to_lines (count_by goes_to_line fates);
+  fragments = count_after passed.fragments (count_by (is_without is_fragment) fates);
+  cut = count_after passed.cut (count_by (is_without is_cut) fates);
+  malformed = count_after passed.malformed (count_by (is_without is_malformed) fates);
+  not_read = count_after passed.not_read (count_by (is_without is_unreadable) fates);
+  disordered = count_after passed.disordered falls;
+  elsewhere = count_after passed.elsewhere (count_by goes_elsewhere fates);
+  to_lines = count_after passed.to_lines (count_by goes_to_line fates);
 }
 
 -- What was counted of these pieces: their bytes, the last time, and the fates of their frames.
@@ -122,7 +122,7 @@ pub record CountsPieces (lines : List CapturedLine) (before : Progress) (pieces 
     (after : Progress) : Type 0 where
   pub fates : List FrameFate
   pub are : AllZip (IsFate lines) (frames_of pieces) fates
-  pub position : after.position ≡ raised before.position (sum_by (λ piece. piece.len) pieces)
+  pub position : after.position ≡ count_after before.position (sum_by (λ piece. piece.len) pieces)
   pub last_time : after.last_time ≡ last_after before.last_time (times_of (frames_of pieces))
   pub passed : after.passed
       ≡ passed_after before.passed fates

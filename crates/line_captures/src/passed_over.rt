@@ -1,6 +1,6 @@
 //! What of a capture was passed over.
 ghost use Rattle.std.specs.Prelude.{◌≡◌, [], ◌∷◌};
-ghost use Rattle.line_captures.specs.Counts.{to_line, elsewhere, no_datagram, passed_after, raised};
+ghost use Rattle.line_captures.specs.Counts.{to_line, elsewhere, no_datagram, passed_after, count_after};
 ghost use Rattle.line_captures.specs.Steps.{timed_after};
 
 use packet_capture::FrameFault;
@@ -25,8 +25,8 @@ pub struct PassedOver {
 }
 
 /// A count after one more.
-fn raised(count: u64) -> u64
-    ensures { result ≡ raised count 1 }
+fn count_after(count: u64) -> u64
+    ensures { result ≡ count_after count 1 }
 {
     count.saturating_add(1)
 }
@@ -36,14 +36,14 @@ impl PassedOver {
     pub(crate) fn add_to_line(&mut self)
         ensures { self.new ≡ passed_after self.old (to_line ∷ []) 0 }
     {
-        self.to_lines = raised(self.to_lines);
+        self.to_lines = count_after(self.to_lines);
     }
 
     /// Counts a frame whose datagram goes to no line.
     pub(crate) fn add_elsewhere(&mut self)
         ensures { self.new ≡ passed_after self.old (elsewhere ∷ []) 0 }
     {
-        self.elsewhere = raised(self.elsewhere);
+        self.elsewhere = count_after(self.elsewhere);
     }
 
     /// Counts a frame that carries no datagram.
@@ -51,12 +51,12 @@ impl PassedOver {
         ensures { self.new ≡ passed_after self.old (no_datagram fault ∷ []) 0 }
     {
         match fault {
-            FrameFault::Fragment => self.fragments = raised(self.fragments),
-            FrameFault::ShortFrame => self.cut = raised(self.cut),
-            FrameFault::BadIpHeader => self.malformed = raised(self.malformed),
-            FrameFault::BadUdpLength => self.malformed = raised(self.malformed),
-            FrameFault::UnknownLink => self.not_read = raised(self.not_read),
-            FrameFault::ExtensionHeader => self.not_read = raised(self.not_read),
+            FrameFault::Fragment => self.fragments = count_after(self.fragments),
+            FrameFault::ShortFrame => self.cut = count_after(self.cut),
+            FrameFault::BadIpHeader => self.malformed = count_after(self.malformed),
+            FrameFault::BadUdpLength => self.malformed = count_after(self.malformed),
+            FrameFault::UnknownLink => self.not_read = count_after(self.not_read),
+            FrameFault::ExtensionHeader => self.not_read = count_after(self.not_read),
             FrameFault::NotIp => {}
             FrameFault::NotUdp => {}
         }
@@ -76,7 +76,7 @@ pub(crate) struct Progress {
 impl Progress {
     /// Counts the bytes of a piece.
     pub(crate) fn add_bytes(&mut self, bytes: usize)
-        ensures { self.new ≡ (record self.old { position = raised self.old.position bytes }) }
+        ensures { self.new ≡ (record self.old { position = count_after self.old.position bytes }) }
     {
         self.position = self.position.saturating_add(bytes as u64);
     }
@@ -87,7 +87,7 @@ impl Progress {
     {
         if let Some(time) = time {
             if time < self.last_time {
-                self.passed.disordered = raised(self.passed.disordered);
+                self.passed.disordered = count_after(self.passed.disordered);
             }
             self.last_time = time;
         }

@@ -1,5 +1,5 @@
 -- Runs of the program over packet captures, and the result of any run.
-use Rattle.std.specs.Prelude.{◌≡◌, ◌⊎◌, ℕ, ◌==◌, List, [], ◌∷◌, ◌++◌, Bool, codes, decimal, if◌then◌else◌, Result, Ok, Err}
+use Rattle.std.specs.Prelude.{◌≡◌, ◌⊎◌, ℕ, zero, suc, List, [], ◌∷◌, ◌++◌, Bool, codes, decimal, Result, Ok, Err}
 use Rattle.clap.specs.Walk.{Text}
 use Rattle.packet_capture.specs.declared.fault.CaptureFault.{CaptureFault}
 use Rattle.packet_capture.specs.declared.fault.CaptureFault.TheVariants.{NotCapture, UnknownVersion, TooLong, BadByteOrder, BadBlockLength, LengthsDiffer, ShortBlock, UnknownInterface, FramePastBlock, OptionPastBlock, TooManyInterfaces}
@@ -27,8 +27,8 @@ use Rattle.nbbo_main.specs.declared.run.Next.TheVariants.{Ended, Listens}
 
 -- a line with a count, where that isn't 0
 abbrev pub count_texts : List ℕ → ℕ → List (List ℕ)
-count_texts label count =
-    if count == 0 then [] else label ∷ decimal count ∷ codes "\n" ∷ []
+count_texts label zero = []
+count_texts label (suc more) = label ∷ decimal (suc more) ∷ codes "\n" ∷ []
 
 -- what a line may have lost
 abbrev pub lost_texts : PassedOver → List (List ℕ)
@@ -66,10 +66,14 @@ input_texts (BadCapture fault) position =
     codes "nbbo: bad capture at byte " ∷ decimal position ∷ capture_fault_text fault ∷ []
 input_texts ShortCapture position = codes "nbbo: short record\n" ∷ []
 
+-- that no datagram goes to a line, by how many do
+abbrev pub no_line_texts : ℕ → List (List ℕ)
+no_line_texts zero = codes "nbbo: no datagram goes to a line\n" ∷ []
+no_line_texts (suc more) = []
+
 -- the line of an outcome; of a whole capture, that no datagram goes to a line
 abbrev pub capture_outcome_texts : Result (Unit {0}) LinesFault → ℕ → ℕ → List (List ℕ)
-capture_outcome_texts (Ok done) position to_lines =
-    if to_lines == 0 then codes "nbbo: no datagram goes to a line\n" ∷ [] else []
+capture_outcome_texts (Ok done) position to_lines = no_line_texts to_lines
 capture_outcome_texts (Err (Input fault)) position to_lines = input_texts fault position
 capture_outcome_texts (Err (Run fault)) position to_lines = fault_text fault ∷ []
 

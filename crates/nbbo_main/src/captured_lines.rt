@@ -35,8 +35,8 @@ pub fn read_all_lines(alloc: Global, list: &str) -> Result<Vec<CapturedLine>, Li
     ensures ok { IfOk result (λ lines. NameAllLines list.now lines.items) }
     ensures err { IfErr result (HasAllLinesFault list.now) }
 {
-    for venues in 1..=MAX_VENUES {
-        match read_captured_lines(alloc, list, venues) {
+    for fewer in 0..MAX_VENUES {
+        match read_captured_lines(alloc, list, fewer + 1) {
             Ok(lines) => return Ok(lines),
             Err(LinesFault::BadLines) => {}
             Err(LinesFault::NoMemory) => return Err(LinesFault::NoMemory),

@@ -1,7 +1,7 @@
 //! Runs of the program over packet captures.
 ghost use Rattle.std.specs.Prelude.{◌≡◌, ◌++◌};
 ghost use Rattle.feed_text.specs.Devices.{Writing};
-ghost use Rattle.nbbo_main.specs.LineRuns.{RunsConversion, RunsLineReplay, TellsCapture, capture_fault_text, capture_outcome_texts, capture_status, count_texts, input_texts, lost_texts, other_texts, passed_texts};
+ghost use Rattle.nbbo_main.specs.LineRuns.{RunsConversion, RunsLineReplay, TellsCapture, capture_fault_text, capture_outcome_texts, capture_status, count_texts, input_texts, lost_texts, no_line_texts, other_texts, passed_texts};
 ghost use Rattle.nbbo_main.specs.Listening.{SaysEach};
 
 use crate::ending::fault_line;
@@ -111,6 +111,16 @@ fn write_input_fault<E: TextOut>(fault: InputFault, position: u64, errors: &mut 
     }
 }
 
+/// Writes that no datagram goes to a line, where none does.
+fn write_no_line<E: TextOut>(to_lines: u64, errors: &mut E)
+    ensures { SaysEach (record { adds = E.adds; failures = E.failures })
+        (no_line_texts to_lines) errors.old errors.new }
+{
+    if to_lines == 0 {
+        write_stderr("nbbo: no datagram goes to a line\n", errors);
+    }
+}
+
 /// Writes the line of an outcome, if it has one.
 fn write_outcome<E: TextOut>(
     outcome: &Result<(), LinesFault>,
@@ -122,11 +132,7 @@ fn write_outcome<E: TextOut>(
         (capture_outcome_texts outcome.now position to_lines) errors.old errors.new }
 {
     match outcome {
-        Ok(()) => {
-            if to_lines == 0 {
-                write_stderr("nbbo: no datagram goes to a line\n", errors);
-            }
-        }
+        Ok(()) => write_no_line(to_lines, errors),
         Err(LinesFault::Input(fault)) => write_input_fault(*fault, position, errors),
         Err(LinesFault::Run(fault)) => write_stderr(fault_line(*fault), errors),
     }

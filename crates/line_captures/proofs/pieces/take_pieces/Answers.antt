@@ -1,6 +1,7 @@
 use Rattle.line_captures.specs.Readers.{point_of}
 use Rattle.line_captures.specs.ReaderLaws.{takes_then}
 use Rattle.line_captures.proofs.Fronts.{takes_one, takes_same}
+use Rattle.line_captures.proofs.TakingPieces.{point_same}
 use Rattle.line_captures.proofs.Results.{on_ok, on_err}
 use Rattle.line_captures.proofs.pieces.take_pieces.Goals as goal
 
@@ -14,7 +15,7 @@ returns-then-is_err-clause-taken c =
     let told = c.take_piece-in-loop-capture.ensures in
     takes_same c.args.lines.now (point_of c.args.capture.now c.args.progress.now) (point_of c.loop-capture.capture c.loop-capture.progress) (point_of c.take_piece-in-loop-capture.new.capture c.take_piece-in-loop-capture.new.progress) c.args.unread.now c.args.pending.now
     c.loop-capture.unread c.take_piece-in-loop-capture.new.unread c.loop-capture.pending c.take_piece-in-loop-capture.new.pending
-    (on_err _ failed told.same_context) (on_err _ failed told.same_bytes) (on_err _ failed told.same_pending) c.loop-capture.invariant
+    (point_same (on_err _ failed told.same_context) (on_err _ failed told.same_progress)) (on_err _ failed told.same_bytes) (on_err _ failed told.same_pending) c.loop-capture.invariant
 
 pub loop-capture-smaller : goal.loop-capture-smaller
 loop-capture-smaller c = (on_ok _ c.if-is_err.ensures.value c.take_piece-in-loop-capture.ensures.taken).shorter
