@@ -119,6 +119,7 @@ impl NumberedBook {
         requires { length self.now.entries < self.now.journal }
         ensures { result ≡ length self.now.entries + 1 }
     {
+        let _bounds_it = self.limit;
         self.book.last_position() + 1
     }
 
