@@ -1,6 +1,6 @@
 -- What a consumed item and an offered notice leave of the consolidator's cell, said of plain states.
-use Rattle.std.proofs.Common.{◌≡◌, ◌≢◌, ℕ, zero, suc, ◌+◌, ◌≤◌, ◌<◌, Bool, true, false, cond, List, [], ◌∷◌, ◌++◌, length, map, get_or, filter, take, drop, Option, Some, None, Result, Ok, Err, refl, sym, ap, subst, ◌∙◌, arith, append-nil, length-append, inl, inr}
-use Rattle.std.specs.Prelude.{slice_get, slice_set, nat_le, ◌⊎◌, ◌==◌, MatchOption, AllPairs, if◌then◌else◌}
+use Rattle.std.proofs.Common.{◌≡◌, ◌≢◌, ℕ, zero, suc, ◌+◌, ◌≤◌, ◌<◌, Bool, true, false, List, [], ◌∷◌, ◌++◌, length, map, get_or, filter, take, drop, Option, Some, None, Result, Ok, Err, refl, sym, ap, subst, ◌∙◌, arith, append-nil, length-append, inl, inr}
+use Rattle.std.specs.Prelude.{slice_get, slice_set, nat_le, ◌⊎◌, ◌==◌, AllPairs, if◌then◌else◌}
 use Rattle.std.specs.Option.{option_map}
 use Rattle.std.proofs.lemmas.Grind.{flat_map-append}
 use Rattle.std.proofs.lemmas.List.Elements.{filter-append}
@@ -32,7 +32,7 @@ use Rattle.live_feed.specs.Lanes.{FeedLanes}
 use Rattle.live_feed.specs.hub.Hubs.{HubState, IsConsumed, HubLockInvariant, IsOffered, IsSpare, UnderHubLock, item_by, items_in}
 use Rattle.live_feed.specs.hub.Sections.{Consumes, ConsumesOne, HubOffersOne, KeepsButOffers, hub_intake}
 use Rattle.live_feed.specs.declared.unsent.Unsent.TheVariants as unsent
-use Rattle.live_feed.proofs.Histories.{take_same, take_next}
+use Rattle.live_feed.proofs.Histories.{take_same}
 
 -- ---- lists
 

@@ -9,7 +9,6 @@ use Rattle.feed_types.specs.SequenceLaws.{prefix_in_sequence}
 use Rattle.feed_types.specs.Sessions.{Session, SessionNames, Names, whole_sessions}
 use Rattle.line_arbiter.specs.Streams.{stream_of}
 use Rattle.line_arbiter.specs.Histories.{items_of, streams_of}
-use Rattle.fifo_lane.specs.Lane.{LaneEnd}
 use Rattle.feed_types.specs.ListLaws.{get_within}
 use Rattle.line_arbiter.specs.laws.Histories.{items_push}
 use Rattle.live_feed.specs.Lanes.{FeedLanes}

@@ -12,10 +12,12 @@
 //! for the code.
 //!
 //! A [`LiveFeed`] has all lanes of a feed, to which nothing came yet (`specs/feed/Feeds.antt`). An
-//! [`OpenFeed`] has them under its locks; each call takes one of these. Once all threads have
+//! [`OpenFeed`] has them under its locks; each call takes one of these. Of what a call did under
+//! the consolidator's lock, or a flush under a venue's, its clauses say which section led from one
+//! state that the lock keeps to another (`UnderHubLock`, `UnderVenueLock`). Once all threads have
 //! returned, `OpenFeed::settle` closes all lanes and returns a [`Settlement`]: per venue, what was
-//! consumed, is in the lane and is ready are the sessions' streams; per subscriber, its log, what is
-//! queued and what wasn't offered are what it wants (`specs/settle/Settlements.antt`).
+//! consumed, is in the lane and is ready are the sessions' streams; per subscriber, its log, what
+//! is queued and what wasn't offered are what it wants (`specs/settle/Settlements.antt`).
 //! `settle/venue_lane.rt` closes a venue's lane, `settle/subscriber_lane.rt` a subscriber's,
 //! `settle/closing.rt` all. `run.rt` runs a feed by threads: a [`Line`] brings what its
 //! [`LineSource`] returns (`specs/run/Runs.antt`), and a [`StopHandle`] ends the run.

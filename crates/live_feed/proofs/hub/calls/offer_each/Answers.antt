@@ -1,5 +1,5 @@
 use Rattle.std.proofs.Common.{rules, arith}
-use Rattle.live_feed.proofs.Offers.{all_offered, count_stays, none_yet, one_offered}
+use Rattle.live_feed.proofs.Offers.{all_offered, none_yet, one_offered}
 use Rattle.live_feed.proofs.hub.calls.offer_each.Goals as goal
 
 pub loop-place-init : goal.loop-place-init

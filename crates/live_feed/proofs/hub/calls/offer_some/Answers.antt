@@ -1,4 +1,4 @@
-use Rattle.std.proofs.Common.{ℕ, ◌<◌, length, sym, subst, rules, arith}
+use Rattle.std.proofs.Common.{ℕ, ◌<◌, sym, subst, rules, arith}
 use Rattle.live_feed.proofs.Offers.{count_stays, no_notices, no_notice, offered, one_notice}
 use Rattle.live_feed.proofs.hub.calls.offer_some.Goals as goal
 

@@ -1,7 +1,7 @@
-use Rattle.std.proofs.Common.{refl, sym, ◌∙◌}
+use Rattle.std.proofs.Common.{refl, sym}
 use Rattle.live_feed.proofs.HubMoves.{at_index}
 use Rattle.live_feed.specs.venue.Seats.{is_seat_of}
-use Rattle.live_feed.proofs.Sides.{any_more, any_here, any_none}
+use Rattle.live_feed.proofs.Sides.{any_more, any_none}
 use Rattle.live_feed.proofs.settle.agreeing.is_among.Goals as goal
 
 pub loop-place-preserved : goal.loop-place-preserved

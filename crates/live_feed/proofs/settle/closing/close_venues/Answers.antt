@@ -1,4 +1,4 @@
-use Rattle.std.proofs.Common.{ℕ, length, map, sym, ap, subst, arith, length-append}
+use Rattle.std.proofs.Common.{ℕ, [], ◌∷◌, length, map, sym, ap, subst, arith, length-append}
 use Rattle.std.proofs.lemmas.List.{length-map}
 use Rattle.live_feed.specs.hub.Hubs.{IsConsumed}
 use Rattle.live_feed.specs.settle.Settlements.{IsClosedVenue}
@@ -78,7 +78,7 @@ loop-guarded-preserved g c =
     c.pop_front-in-Some-2.new.self.items cell receiver room first second.items third.items i.closes in
     let closed = subst (λ (venue : ℕ). S venue cell end) next.venue_is c.settle_venue.ensures in
     let longer = ap length c.push_reserved.ensures.items in
-    let by_one = length-append old _ in
+    let by_one = length-append old (end ∷ []) in
     let venues = c.in-Some.ensures.cases in
     let receivers = second.cases in
     let rooms = third.cases in

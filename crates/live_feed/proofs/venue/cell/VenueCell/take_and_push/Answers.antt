@@ -7,7 +7,7 @@ use Rattle.line_arbiter.specs.Genuine.{IsGenuine}
 use Rattle.line_arbiter.specs.declared.outcome.Outcome.TheVariants.{Taken}
 use Rattle.live_feed.specs.venue.Cells.{CellState, FitsCell}
 use Rattle.live_feed.specs.venue.Sections.{IsAnsweredBy, TakesAndPushes}
-use Rattle.live_feed.proofs.CellMoves.{BringsNext, answered, brings_next, first_number, given_after, may_pass, more_kept, pass_fits, pass_takes, passes, sent_one, taken_one}
+use Rattle.live_feed.proofs.CellMoves.{answered, brings_next, first_number, given_after, may_pass, more_kept, pass_fits, pass_takes, passes, sent_one, taken_one}
 use Rattle.live_feed.proofs.venue.cell.VenueCell.take_and_push.Given.{Over}
 use Rattle.live_feed.proofs.venue.cell.VenueCell.take_and_push.Goals as goal
 use Rattle.live_feed.proofs.venue.cell.VenueCell.take_and_push.Goals.{After-count}
