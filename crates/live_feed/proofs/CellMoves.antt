@@ -1,6 +1,6 @@
 -- What a packet, a push and a renewal leave of a venue's cell, said of plain states.
-use Rattle.std.proofs.Common.{◌≡◌, ◌≢◌, inl, inr, ℕ, zero, suc, ◌+◌, ◌-◌, ◌≤◌, true, false, List, [], ◌∷◌, ◌++◌, length, map, take, drop, Some, None, Result, Ok, Err, refl, sym, ap, subst, ◌∙◌, arith, append_assoc, append-nil, length-append}
-use Rattle.std.specs.Prelude.{slice_get, if◌then◌else◌}
+use Rattle.std.proofs.Common.{◌≡◌, ◌≢◌, inl, inr, ℕ, zero, suc, ◌+◌, ◌-◌, ◌≤◌, Bool, true, false, Option, List, [], ◌∷◌, ◌++◌, length, map, take, drop, Some, None, Result, Ok, Err, refl, sym, ap, subst, ◌∙◌, arith, append_assoc, append-nil, length-append}
+use Rattle.std.specs.Prelude.{◌⊎◌, slice_get, if◌then◌else◌}
 use Rattle.std.proofs.lemmas.List.{take-append-drop}
 use Rattle.std.proofs.lemmas.List.Sums.{fold-append}
 use Rattle.feed_types.specs.declared.item.Numbered.{Numbered}
@@ -34,8 +34,11 @@ use Rattle.line_arbiter.specs.laws.FitsHistory.{fits_new, fits_packet, fits_push
 use Rattle.live_feed.specs.Lanes.{FeedLanes}
 use Rattle.live_feed.specs.venue.Sums.{Sums, no_sums, sums_after, accepted_on, sums_on, line_sums_after, LineSums}
 use Rattle.live_feed.specs.venue.Cells.{CellState, FitsCell, AreGivenFrom, VenueLockInvariant, arrivals_of, new_cell}
-use Rattle.live_feed.specs.venue.Sections.{TakesPacket, IsAnsweredBy, IsFlushedBy, KeepsButSent, TakesAndPushes, PushesOne, RenewsSession}
+use Rattle.live_feed.specs.venue.Sections.{TakesPacket, IsAnsweredBy, IsFlushedBy, HasNoneReady, KeepsButSent, Pushes, TakesAndPushes, PushesOne, RenewsSession}
+use Rattle.feed_core.specs.declared.event.Done.TheVariants as done
+use Rattle.feed_core.specs.Steps.{AppliesTo, push_next}
 use Rattle.line_arbiter.specs.Renewals.{IsRenewal}
+use Rattle.live_feed.specs.declared.unsent.Unsent.{Unsent}
 use Rattle.live_feed.specs.declared.unsent.Unsent.TheVariants as unsent
 use Rattle.live_feed.proofs.Histories.{take_same, take_next, get_sent, arrivals_push, arrivals_more, given_more, present_more, next_given, streams_sequence}
 
@@ -390,6 +393,18 @@ module _ (old new : CellState) (h : History) (name : List ℕ) (f : FitsCell old
 
 -- ---- Push, again and again
 
+none_ready : (sent after : List Numbered) (full : Bool) (next : Option Numbered)
+    → AppliesTo (push_next full next sent) sent done.NothingReady after → next ≡ None
+none_ready sent after full None e = refl
+none_ready sent after true (Some x) e = absurd (let h = e.0 in cc)
+none_ready sent after false (Some x) e = absurd (let h = e.0 in cc)
+
+was_refused : (sent after : List Numbered) (full : Bool) (next : Option Numbered)
+    → AppliesTo (push_next full next sent) sent done.LaneFull after → full ≡ true
+was_refused sent after full None e = absurd (let h = e.0 in cc)
+was_refused sent after true (Some x) e = refl
+was_refused sent after false (Some x) e = absurd (let h = e.0 in cc)
+
 arbiter_keeps : (a b c : State) → KeepsAllButSent a b → KeepsAllButSent b c → KeepsAllButSent a c
 arbiter_keeps a b c first next = record {
   venue = next.venue ∙ first.venue;
@@ -403,43 +418,91 @@ arbiter_keeps a b c first next = record {
   earlier = next.earlier ∙ first.earlier;
 }
 
+-- Pushes of a section so far.
+pub record PushesSoFar (pushed : ℕ) (old new : CellState) : Type 0 where
+  pub sent : length new.lane.items ≡ length old.lane.items + pushed
+  pub others : KeepsButSent old new
+
 -- no push changes nothing
-pub sends_itself : (c : CellState) → KeepsButSent c c
-sends_itself c = record {
-  arbiter = record {
-    venue = refl;
-    sessions = refl;
-    session = refl;
-    window = refl;
-    front = refl;
-    known = refl;
-    end = refl;
-    wins = refl;
-    earlier = refl;
+pub no_push : (c : CellState) → PushesSoFar 0 c c
+no_push c = record {
+  sent = omega arith;
+  others = record {
+    arbiter = record {
+      venue = refl;
+      sessions = refl;
+      session = refl;
+      window = refl;
+      front = refl;
+      known = refl;
+      end = refl;
+      wins = refl;
+      earlier = refl;
+    };
+    lane = refl;
+    others = refl;
   };
-  lane = refl;
-  others = refl;
 }
 
--- a push that was refused changes nothing more
-pub sends_same : (a b c : CellState) → KeepsButSent a b → c ≡ b → KeepsButSent a c
-sends_same a b c kept same = subst (λ (s : CellState). KeepsButSent a s) (sym same) kept
+module _ (pushed : ℕ) (old between new : CellState) (r : PushesSoFar pushed old between) where
+  -- one push more
+  pub one_push : KeepsButSent between new → length new.lane.items ≡ length between.lane.items + 1
+      → PushesSoFar (pushed + 1) old new
+  one_push next longer =
+      let before = r.sent in
+      record {
+        sent = omega (arith, longer, before);
+        others = record {
+          arbiter = arbiter_keeps old.arbiter between.arbiter new.arbiter r.others.arbiter next.arbiter;
+          lane = next.lane ∙ ap (λ (e : LaneEnd Numbered). with_items e new.lane.items) r.others.lane;
+          others = next.others
+              ∙ ap (λ (s : CellState). record s { arbiter = new.arbiter; lane = new.lane }) r.others.others;
+        };
+      }
 
--- pushes after pushes are pushes
-pub sends_more : (a b c : CellState) → KeepsButSent a b → KeepsButSent b c → KeepsButSent a c
-sends_more a b c first next = record {
-  arbiter = arbiter_keeps a.arbiter b.arbiter c.arbiter first.arbiter next.arbiter;
-  lane = next.lane ∙ ap (λ (e : LaneEnd Numbered). with_items e c.lane.items) first.lane;
-  others = next.others ∙ ap (λ (s : CellState). record s { arbiter = c.arbiter; lane = c.lane }) first.others;
-}
+  pub pushed_most : (may_send : ℕ → List Numbered → Type 0) → Pushes may_send pushed pushed old between
+  pushed_most may_send = record { few = omega arith; sent = r.sent; others = r.others; over = inl refl }
+
+  -- a push that was refused
+  pub push_refused : (sessions : SessionNames) (carries : Carries) (ends : Ends) (lanes : FeedLanes)
+      (may_send : ℕ → List Numbered → Type 0) (most : ℕ) (why : Unsent) → pushed ≤ most
+      → ((h : History) → FitsCell between h → PushesOne may_send (Err why) h between new)
+      → new ≡ between → VenueLockInvariant sessions carries ends lanes new
+      → Pushes may_send most pushed old new
+  push_refused sessions carries ends lanes may_send most why few one same k =
+      subst (λ (c : CellState). Pushes may_send most pushed old c) (sym same) (record {
+        few = few;
+        sent = r.sent;
+        others = r.others;
+        over = inr (by_why why one);
+      })
+    where
+      fits : FitsCell between k.history
+      fits = subst (λ (c : CellState). FitsCell c k.history) same k.fits
+
+      by_why : (u : Unsent)
+          → ((h : History) → FitsCell between h → PushesOne may_send (Err u) h between new)
+          → WasFull may_send between.lane ⊎ HasNoneReady between
+      by_why unsent.Nothing all = inr (λ h f. none_ready between.lane.items new.lane.items (all h f).full
+          (slice_get (streams_of h) (length between.lane.items)) (all h f).comes)
+      by_why unsent.LaneFull all =
+          let p = all k.history fits in
+          inl (p.was_full (was_refused between.lane.items new.lane.items p.full
+          (slice_get (streams_of k.history) (length between.lane.items)) p.comes))
+
+-- nothing was pushed, where the lock was another venue's
+pub not_flushed : (sessions : SessionNames) (carries : Carries) (ends : Ends) (lanes : FeedLanes)
+    (venue most pushed : ℕ) (cell : CellState) → VenueLockInvariant sessions carries ends lanes cell
+    → cell.arbiter.venue ≢ venue → pushed ≡ 0
+    → IsFlushedBy sessions carries ends lanes venue most pushed
+not_flushed sessions carries ends lanes venue most pushed cell kept other none =
+    inr (record { cell = cell; kept = kept; other = other }, none)
 
 -- what was pushed under a venue's lock
-pub flushed : (sessions : SessionNames) (carries : Carries) (ends : Ends) (lanes : FeedLanes) (venue pushed : ℕ) (old new : CellState) → VenueLockInvariant sessions carries ends lanes old
-    → old.arbiter.venue ≡ venue → VenueLockInvariant sessions carries ends lanes new → KeepsButSent old new → length new.lane.items ≡ length old.lane.items + pushed
-    → IsFlushedBy sessions carries ends lanes venue pushed
-flushed sessions carries ends lanes venue pushed old new kept is keeps others sent = inl (record { old = old; kept = kept; venue_is = is; new = new; keeps = keeps; others = others; sent = sent })
-
--- nothing was, where the lock was another venue's
-pub not_flushed : (sessions : SessionNames) (carries : Carries) (ends : Ends) (lanes : FeedLanes) (venue pushed : ℕ) (cell : CellState) → VenueLockInvariant sessions carries ends lanes cell
-    → cell.arbiter.venue ≢ venue → pushed ≡ 0 → IsFlushedBy sessions carries ends lanes venue pushed
-not_flushed sessions carries ends lanes venue pushed cell kept other none = inr (record { cell = cell; kept = kept; other = other; none = none })
+pub flushed : (sessions : SessionNames) (carries : Carries) (ends : Ends) (lanes : FeedLanes)
+    (venue most pushed : ℕ) (old new : CellState) → VenueLockInvariant sessions carries ends lanes old
+    → old.arbiter.venue ≡ venue → VenueLockInvariant sessions carries ends lanes new
+    → Pushes (IsInSequence carries ends) most pushed old new
+    → IsFlushedBy sessions carries ends lanes venue most pushed
+flushed sessions carries ends lanes venue most pushed old new kept is keeps leads =
+    inl (record { old = old; kept = kept; venue_is = is; new = new; keeps = keeps; leads = leads })

@@ -83,6 +83,7 @@ module _ (starts : List StartState) (receivers : List (LaneEnd Numbered)) (journ
   fresh carries ends = record {
     venues = h.venues;
     count = lanes_count ∙ h.venues;
+    few = h.few;
     symbols = h.symbols ∙ ap (λ (s : FeedSetting). s.symbols) setting_is;
     size = h.size ∙ ap (λ (s : FeedSetting). s.journal) setting_is;
     subscribers = sym (ap length h.cursors);

@@ -1,5 +1,5 @@
 -- What a consumed item and an offered notice leave of the consolidator's cell, said of plain states.
-use Rattle.std.proofs.Common.{◌≡◌, ◌≢◌, ℕ, zero, suc, ◌+◌, ◌≤◌, ◌<◌, Bool, true, false, cond, List, [], ◌∷◌, ◌++◌, length, get_or, filter, take, drop, Option, Some, None, Result, Ok, Err, refl, sym, ap, subst, ◌∙◌, arith, append-nil, length-append, inl, inr}
+use Rattle.std.proofs.Common.{◌≡◌, ◌≢◌, ℕ, zero, suc, ◌+◌, ◌≤◌, ◌<◌, Bool, true, false, cond, List, [], ◌∷◌, ◌++◌, length, map, get_or, filter, take, drop, Option, Some, None, Result, Ok, Err, refl, sym, ap, subst, ◌∙◌, arith, append-nil, length-append, inl, inr}
 use Rattle.std.specs.Prelude.{slice_get, slice_set, nat_le, ◌⊎◌, ◌==◌, MatchOption, AllPairs, if◌then◌else◌}
 use Rattle.std.specs.Option.{option_map}
 use Rattle.std.proofs.lemmas.Grind.{flat_map-append}
@@ -29,8 +29,8 @@ use Rattle.fifo_lane.specs.Rising.{AllPairs-prefix}
 use Rattle.feed_core.specs.laws.Lists.{begins_len, get_push}
 use Rattle.live_feed.specs.declared.hub.spare.SpareLane.{SpareLane}
 use Rattle.live_feed.specs.Lanes.{FeedLanes}
-use Rattle.live_feed.specs.hub.Hubs.{HubState, IsConsumed, HubLockInvariant, IsOffered, IsSpare, item_by, items_in}
-use Rattle.live_feed.specs.hub.Sections.{Consumes, ConsumesOne, HubOffersOne, hub_intake}
+use Rattle.live_feed.specs.hub.Hubs.{HubState, IsConsumed, HubLockInvariant, IsOffered, IsSpare, UnderHubLock, item_by, items_in}
+use Rattle.live_feed.specs.hub.Sections.{Consumes, ConsumesOne, HubOffersOne, KeepsButOffers, hub_intake}
 use Rattle.live_feed.specs.declared.unsent.Unsent.TheVariants as unsent
 use Rattle.live_feed.proofs.Histories.{take_same, take_next}
 
@@ -61,6 +61,13 @@ put_same (y ∷ ys) (suc i) x e = ap (λ (l : List _). y ∷ l) (put_same ys i x
 
 pub one_there : {X : Type 0} (o : Option X) (x y : X) → o ≡ Some x → o ≡ Some y → x ≡ y
 one_there o x y e f = cc
+
+-- a cursor that goes on keeps its terms
+terms_put : (xs : List Cursor) (i to : ℕ) (c : Cursor) → slice_get xs i ≡ Some c
+    → map (λ (x : Cursor). x.terms) (slice_set xs i (record c { seen = to })) ≡ map (λ (x : Cursor). x.terms) xs
+terms_put [] i to c e = refl
+terms_put (x ∷ xs) zero to c e = let same : x ≡ c = cc in ap (λ (y : Cursor). y.terms ∷ map (λ (z : Cursor). z.terms) xs) (sym same)
+terms_put (x ∷ xs) (suc i) to c e = ap (λ (l : List Terms). x.terms ∷ l) (terms_put xs i to c e)
 
 -- ---- a venue's items
 
@@ -100,6 +107,7 @@ pub declares : (carries : Carries) (ends : Ends) (lanes : FeedLanes) (s : HubSta
 declares carries ends lanes s k on ready h = record {
   venues = h.venues;
   count = h.count;
+  few = h.few;
   symbols = h.symbols;
   size = h.size;
   subscribers = h.subscribers;
@@ -118,6 +126,7 @@ pub consumes : (carries : Carries) (ends : Ends) (lanes : FeedLanes) (s : HubSta
 consumes carries ends lanes s k r x ready h at may = record {
   venues = length_put s.receivers k w ∙ h.venues;
   count = h.count;
+  few = h.few;
   symbols = h.symbols;
   size = h.size;
   subscribers = h.subscribers;
@@ -154,6 +163,7 @@ pub moves : (carries : Carries) (ends : Ends) (lanes : FeedLanes) (s : HubState)
 moves carries ends lanes s id c l place sent h at from within is = record {
   venues = h.venues;
   count = h.count;
+  few = h.few;
   symbols = h.symbols;
   size = h.size;
   many = ap (λ (n : ℕ). n + length s.spare) (length_put s.journal.cursors id (record c { seen = place })) ∙ h.many;
@@ -211,6 +221,7 @@ pub ready_still : (carries : Carries) (ends : Ends) (lanes : FeedLanes) (s : Hub
 ready_still carries ends lanes s j h is = subst (λ (x : JournalState). HubLockInvariant carries ends lanes (record s { journal = x })) (sym is) (record {
   venues = h.venues;
   count = h.count;
+  few = h.few;
   symbols = h.symbols;
   size = h.size;
   subscribers = h.subscribers;
@@ -280,6 +291,18 @@ module _ (may_send : ℕ → List Numbered → Type 0) (venue : ℕ) (s : HubSta
           (consumes carries ends lanes s venue r x k.ready h at (subst (λ (e : LaneEnd Numbered). IsInSequence carries ends r.tag e.items) grown may))
 
 -- ---- offer
+
+-- nothing but a cursor and a lane has changed
+pub offer_keeps : (s : HubState) (id to : ℕ) (c : Cursor) (j : JournalState) (senders : List (LaneEnd Notice))
+    → slice_get s.journal.cursors id ≡ Some c
+    → j ≡ record s.journal { cursors = slice_set s.journal.cursors id (record c { seen = to }) }
+    → KeepsButOffers s (record s { journal = j; senders = senders })
+offer_keeps s id to c j senders at is = record {
+  journal = is ∙ ap (λ (x : JournalState). record s.journal { cursors = x.cursors }) (sym is);
+  terms = ap (λ (x : JournalState). map (λ (y : Cursor). y.terms) x.cursors) is
+      ∙ terms_put s.journal.cursors id to c at;
+  others = refl;
+}
 
 module _ (carries : Carries) (ends : Ends) (lanes : FeedLanes) (s : HubState) (id place : ℕ) (h : HubLockInvariant carries ends lanes s) (l : LaneEnd Notice) (from : slice_get s.senders id ≡ Some l)
     (c : Cursor) (at : slice_get s.journal.cursors id ≡ Some c) (found : IsNextPlace (meets c.terms) (changes s.journal) c.seen place) where
@@ -382,6 +405,7 @@ subscribes carries ends lanes s x rest j senders terms h first is more =
     subst (λ (y : JournalState × List (LaneEnd Notice)). HubLockInvariant carries ends lanes (record s { journal = y.0; senders = y.1; spare = rest })) (λ i. (sym is i, sym more i)) (record {
       venues = h.venues;
       count = h.count;
+      few = h.few;
       symbols = h.symbols;
       size = h.size;
       subscribers = length-append s.senders (x.sender ∷ []) ∙ ap (λ (n : ℕ). n + 1) h.subscribers ∙ sym count;
@@ -434,3 +458,9 @@ spare_end carries ends lanes s x rest h first =
     let i = h.spare 0 x (ap (λ (l : List SpareLane). slice_get l 0) first) in
     let zero_more : length s.journal.cursors + 0 ≡ length s.journal.cursors = omega arith in
     (i.same, ap (λ (e : LaneEnd Notice). e.tag) i.same ∙ i.tag ∙ zero_more, ap (λ (e : LaneEnd Notice). e.items) i.same ∙ i.items, ap (slice_get lanes.subscribers) (sym zero_more) ∙ i.lane ∙ ap (λ (e : LaneEnd Notice). Some e.lane) (sym i.same), ap (λ (e : LaneEnd Notice). e.capacity) i.same ∙ i.capacity)
+
+-- ---- a section
+
+pub under_hub_lock : (carries : Carries) (ends : Ends) (lanes : FeedLanes) (section : HubState → HubState → Type 0) (old new : HubState) → HubLockInvariant carries ends lanes old → HubLockInvariant carries ends lanes new → section old new
+    → UnderHubLock carries ends lanes section
+under_hub_lock carries ends lanes section old new kept keeps leads = record { old = old; kept = kept; new = new; keeps = keeps; leads = leads }

@@ -1,5 +1,6 @@
 pub mod Histories
 pub mod CellMoves
+pub mod Statuses
 pub mod CellAnswers
 pub mod HubMoves
 pub mod FeedMoves
@@ -11,3 +12,6 @@ pub mod Sides
 pub mod Settled
 pub mod OfSessions
 pub mod Batches
+pub mod LaneEnds
+pub mod Offers
+pub mod Turns

@@ -162,3 +162,40 @@ module _ {A D : Type 0} (S : ℕ → A → D → Type 0) where
 
   pub two_at_start : (xs : List A) (ds : List D) → Zip2 S 0 xs ds → (p : ℕ) (x : A) (d : D) → slice_get xs p ≡ Some x → slice_get ds p ≡ Some d → S p x d
   two_at_start xs ds h p x d left right = let same : 0 + p ≡ p = omega arith in subst (λ (n : ℕ). S n x d) same (two_at 0 xs ds h p x d left right)
+
+-- ---- lists whose items are closed side by side
+
+module _ {A B C D : Type 0} (R : ℕ → A → B → C → Type 0) (S : ℕ → A → D → Type 0) where
+  -- Of all items of the first list these are left, and beside them those of the two others; the
+  -- last list holds the results of those that were closed.
+  pub record Closes (all : List A) (done : List D) (xs : List A) (ys : List B) (zs : List C)
+      : Type 0 where
+    pub left : Zip3 R (length done) xs ys zs
+    pub until : Until S all done xs
+
+  pub none_closed : (all xs : List A) (done : List D) (ys bs : List B) (zs cs : List C)
+      → length done ≡ 0 → xs ≡ all → bs ≡ ys → cs ≡ zs → Zip3 R 0 all ys zs
+      → Closes all done xs bs cs
+  none_closed all xs done ys bs zs cs none first second third ready = record {
+    left = subst (λ (l : ℕ × (List A × (List B × List C))). Zip3 R l.0 l.1.0 l.1.1.0 l.1.1.1)
+        (λ i. (sym none i, (sym first i, (sym second i, sym third i)))) ready;
+    until = none_done S all xs done none first;
+  }
+
+  module _ (all xs more_xs : List A) (done : List D) (ys more_ys : List B) (zs more_zs : List C)
+      (x : A) (y : B) (z : C) (first : xs ≡ x ∷ more_xs) (second : ys ≡ y ∷ more_ys)
+      (third : zs ≡ z ∷ more_zs) (c : Closes all done xs ys zs) where
+    next : R (length done) x y z × Zip3 R (length done + 1) more_xs more_ys more_zs
+    next = three_next R (length done) xs more_xs ys more_ys zs more_zs x y z first second third c.left
+
+    pub next_closes : R (length done) x y z
+    next_closes = next.0
+
+    pub one_closed : (more : List D) (d : D) → more ≡ done ++ d ∷ [] → S (length done) x d
+        → Closes all more more_xs more_ys more_zs
+    one_closed more d grown here =
+        let longer : length more ≡ length done + 1 = ap length grown ∙ length-append done (d ∷ []) in
+        record {
+          left = subst (λ (k : ℕ). Zip3 R k more_xs more_ys more_zs) (sym longer) next.1;
+          until = one_done S all xs more_xs done more x d first grown here c.until;
+        }

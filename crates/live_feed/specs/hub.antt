@@ -2,3 +2,6 @@
 pub mod Hubs
 pub mod Sections
 pub mod Batches
+pub mod Offers
+pub mod Turns
+pub mod Nationals

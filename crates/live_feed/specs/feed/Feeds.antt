@@ -1,5 +1,5 @@
 -- A feed that isn't open yet.
-use Rattle.std.specs.Prelude.{◌≡◌, ℕ, List, [], length, map, Some, slice_get, refl}
+use Rattle.std.specs.Prelude.{◌≡◌, ℕ, ◌≤◌, List, [], length, map, Some, slice_get, refl}
 use Rattle.std.specs.Coded.{Coded, code_by, coded×, coded_ℕ, coded_list}
 use Rattle.atomic_table.specs.Seated.{TableId, table_id_coded}
 use Rattle.feed_types.specs.declared.item.Numbered.{Numbered}
@@ -101,6 +101,7 @@ pub record IsClosed (setting : FeedSetting) (starts : List StartState)
     : Type 0 where
   pub begun : AreStarts setting.window setting.lane starts receivers
   pub venues : length receivers ≡ journal.venues
+  pub few : journal.venues ≤ 16
   pub entries : journal.entries ≡ []
   pub cursors : journal.cursors ≡ []
   pub unused : AreUnused setting.lane spare

@@ -61,6 +61,7 @@ pub record HubLockInvariant (carries : Carries) (ends : Ends) (lanes : FeedLanes
     : Type 0 where
   pub venues : length s.receivers ≡ s.journal.venues
   pub count : length lanes.venues ≡ s.journal.venues
+  pub few : s.journal.venues ≤ 16
   pub symbols : s.journal.symbols ≡ lanes.setting.symbols
   pub size : s.journal.journal ≡ lanes.setting.journal
   pub subscribers : length s.senders ≡ length s.journal.cursors
@@ -71,3 +72,13 @@ pub record HubLockInvariant (carries : Carries) (ends : Ends) (lanes : FeedLanes
   pub many : length s.journal.cursors + length s.spare ≡ 32
   pub spare : (k : ℕ) (x : SpareLane) → slice_get s.spare k ≡ Some x
       → IsSpare lanes (length s.journal.cursors + k) x
+
+-- What was done in a section under the consolidator's lock, of which a caller knows nothing else
+-- than what it keeps: there are two such states, and the section leads from the one to the other.
+pub record UnderHubLock (carries : Carries) (ends : Ends) (lanes : FeedLanes)
+    (section : HubState → HubState → Type 0) : Type 0 where
+  pub old : HubState
+  pub kept : HubLockInvariant carries ends lanes old
+  pub new : HubState
+  pub keeps : HubLockInvariant carries ends lanes new
+  pub leads : section old new

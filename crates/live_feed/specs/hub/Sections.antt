@@ -1,13 +1,13 @@
 -- Each section under the consolidator's lock is one event of the machine (feed_core), on the part
 -- that the lock keeps.
-use Rattle.std.specs.Prelude.{◌≡◌, ℕ, ◌<◌, ◌≤◌, Bool, true, List, [], ◌∷◌, ◌++◌, length, slice_get, slice_set, Option, Some, None, Result, Ok, Err}
+use Rattle.std.specs.Prelude.{◌≡◌, ℕ, ◌<◌, ◌≤◌, Bool, true, List, [], ◌∷◌, ◌++◌, length, map, slice_get, slice_set, Option, Some, None, Result, Ok, Err}
 use Rattle.feed_types.specs.declared.item.Numbered.{Numbered}
 use Rattle.feed_types.specs.declared.journal.Notice.{Notice}
 use Rattle.filter_terms.specs.declared.terms.Terms.{Terms}
 use Rattle.journal_book.specs.declared.fault.JournalFault.{JournalFault}
 use Rattle.journal_book.specs.declared.fault.JournalFault.TheVariants.{NoMemory, JournalFull, UnknownVenue, AlreadySo, TooManySubscribers}
 use Rattle.journal_book.specs.Codes.{journal_fault_code}
-use Rattle.journal_book.specs.Journals.{JournalState, terms_at}
+use Rattle.journal_book.specs.Journals.{Declares, JournalState, terms_at}
 use Rattle.journal_book.specs.Consolidators.{StaysButCursors}
 use Rattle.journal_book.specs.Wanted.{wanted_of}
 use Rattle.fifo_lane.specs.Lane.{LaneEnd, WasEmpty, WasFull, with_items}
@@ -62,6 +62,12 @@ KeepsButIntake old new = new ≡ record old {
   receivers = new.receivers;
 }
 
+-- SelfHelp: declared or withdrawn in the journal, and nothing else has changed.
+pub record DeclaresAt (venue : ℕ) (on : Bool) (answer : Result ℕ JournalFault)
+    (old new : HubState) : Type 0 where
+  pub declares : Declares old.journal venue on answer new.journal
+  pub kept : new ≡ record old { journal = new.journal }
+
 -- the outcome of Offer for an answer
 abbrev pub offer_done : Result ℕ Unsent → Done
 offer_done (Ok number) = done.Offered number
@@ -89,6 +95,7 @@ pub record HubOffersOne (may_send : ℕ → List Notice → Type 0) (id : ℕ) (
 -- nothing else has changed, but how many changes were looked at
 pub record KeepsButOffers (old new : HubState) : Type 0 where
   pub journal : StaysButCursors old.journal new.journal
+  pub terms : map (λ c. c.terms) new.journal.cursors ≡ map (λ c. c.terms) old.journal.cursors
   pub others : new ≡ record old { journal = new.journal; senders = new.senders }
 
 -- Subscribe: there is one more subscriber with these terms, to whom nothing was offered, and with

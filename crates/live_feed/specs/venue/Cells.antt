@@ -1,5 +1,5 @@
 -- What a venue's lock guards.
-use Rattle.std.specs.Prelude.{◌≡◌, ℕ, ◌+◌, List, [], ◌∷◌, ◌++◌, take, flat_map, Some, None, slice_get}
+use Rattle.std.specs.Prelude.{◌≡◌, ◌≢◌, ℕ, ◌+◌, List, [], ◌∷◌, ◌++◌, take, flat_map, Some, None, slice_get}
 use Rattle.std.specs.List.{AllByRecursion}
 use Rattle.feed_types.specs.declared.item.Numbered.{Numbered}
 use Rattle.feed_types.specs.declared.line.LineId.{LineId}
@@ -77,3 +77,21 @@ pub record VenueLockInvariant (sessions : SessionNames) (carries : Carries) (end
   pub lane : slice_get lanes.venues c.arbiter.venue ≡ Some c.lane.lane
   pub window : c.arbiter.window ≡ lanes.setting.window
   pub capacity : c.lane.capacity ≡ lanes.setting.lane
+
+-- What was done in a section under the venue's lock, of which a caller knows nothing else than what
+-- it keeps: there are two such cells of the venue, and the section leads from the one to the other.
+pub record UnderVenueLock (sessions : SessionNames) (carries : Carries) (ends : Ends)
+    (lanes : FeedLanes) (venue : ℕ) (section : CellState → CellState → Type 0) : Type 0 where
+  pub old : CellState
+  pub kept : VenueLockInvariant sessions carries ends lanes old
+  pub venue_is : old.arbiter.venue ≡ venue
+  pub new : CellState
+  pub keeps : VenueLockInvariant sessions carries ends lanes new
+  pub leads : section old new
+
+-- The lock was another venue's, which no run meets.
+pub record IsOthersLock (sessions : SessionNames) (carries : Carries) (ends : Ends)
+    (lanes : FeedLanes) (venue : ℕ) : Type 0 where
+  pub cell : CellState
+  pub kept : VenueLockInvariant sessions carries ends lanes cell
+  pub other : cell.arbiter.venue ≢ venue

@@ -1,9 +1,9 @@
 -- Each section under a lock is one event of the machine (feed_core), on the part that the lock
 -- keeps.
-use Rattle.std.specs.Prelude.{◌≡◌, ◌≢◌, ◌⊎◌, ℕ, ◌+◌, Bool, true, false, List, length, slice_get, Result, Ok, Err, IsOk}
+use Rattle.std.specs.Prelude.{◌≡◌, ◌⊎◌, ℕ, ◌+◌, ◌≤◌, Bool, true, false, List, length, slice_get, None, Result, Ok, Err, IsOk}
 use Rattle.feed_types.specs.declared.item.Numbered.{Numbered}
 use Rattle.feed_types.specs.declared.line.LineId.{LineId}
-use Rattle.feed_types.specs.Sequence.{Carries, Ends}
+use Rattle.feed_types.specs.Sequence.{Carries, Ends, IsInSequence}
 use Rattle.feed_types.specs.Sessions.{Session, SessionNames, IsSessionAt, Names}
 use Rattle.mold_packet.specs.Content.{Content}
 use Rattle.line_arbiter.specs.declared.outcome.Outcome.{Outcome}
@@ -21,7 +21,7 @@ use Rattle.feed_core.specs.Steps.{AddsArrival, AddsRenewal, push_next, AppliesTo
 use Rattle.live_feed.specs.declared.unsent.Unsent.{Unsent}
 use Rattle.live_feed.specs.declared.unsent.Unsent.TheVariants as unsent
 use Rattle.live_feed.specs.Lanes.{FeedLanes}
-use Rattle.live_feed.specs.venue.Cells.{CellState, FitsCell, VenueLockInvariant, new_pace}
+use Rattle.live_feed.specs.venue.Cells.{CellState, FitsCell, IsOthersLock, UnderVenueLock, VenueLockInvariant, new_pace}
 
 -- Packet: the venue's history has grown by the packet, and the cell represents it.
 pub record TakesPacket (line : LineId) (p : Content) (answer : Result Outcome LineFault)
@@ -97,32 +97,28 @@ pub record KeepsButPushed (old new : CellState) : Type 0 where
     accepted = new.accepted;
   }
 
--- What was done under a venue's lock, of which nothing else is known than what it keeps: of two
--- such cells of the venue the later one has sent this many items more, and nothing else has
--- changed.
-pub record SendsUnderLock (sessions : SessionNames) (carries : Carries) (ends : Ends)
-    (lanes : FeedLanes) (venue push_next : ℕ) : Type 0 where
-  pub old : CellState
-  pub kept : VenueLockInvariant sessions carries ends lanes old
-  pub venue_is : old.arbiter.venue ≡ venue
-  pub new : CellState
-  pub keeps : VenueLockInvariant sessions carries ends lanes new
+-- no item is ready to be sent
+abbrev pub HasNoneReady : CellState → Type 0
+HasNoneReady c =
+    (h : History) → FitsCell c h → slice_get (streams_of h) (length c.lane.items) ≡ None
+
+-- Push, again and again: the cell has sent this many items more, and nothing else has changed. It
+-- ends where these are as many as asked for, where the lane was full at a moment of the call, or
+-- where no further item is ready.
+pub record Pushes (may_send : ℕ → List Numbered → Type 0) (most pushed : ℕ)
+    (old new : CellState) : Type 0 where
+  pub few : pushed ≤ most
+  pub sent : length new.lane.items ≡ length old.lane.items + pushed
   pub others : KeepsButSent old new
-  pub sent : length new.lane.items ≡ length old.lane.items + push_next
+  pub over : (pushed ≡ most) ⊎ (WasFull may_send new.lane ⊎ HasNoneReady new)
 
--- The lock was another venue's, which no run meets, and nothing was sent.
-pub record SendsNothing (sessions : SessionNames) (carries : Carries) (ends : Ends)
-    (lanes : FeedLanes) (venue push_next : ℕ) : Type 0 where
-  pub cell : CellState
-  pub kept : VenueLockInvariant sessions carries ends lanes cell
-  pub other : cell.arbiter.venue ≢ venue
-  pub none : push_next ≡ 0
-
--- The answer to who asks to push what is ready of the venue: how many items its lane was sent.
-abbrev pub IsFlushedBy : SessionNames → Carries → Ends → FeedLanes → ℕ → ℕ → Type 0
-IsFlushedBy sessions carries ends lanes venue push_next =
-    SendsUnderLock sessions carries ends lanes venue push_next
-    ⊎ SendsNothing sessions carries ends lanes venue push_next
+-- The answer to who asks to push what is ready of the venue, at most `most` items: how many items
+-- its lane was sent.
+abbrev pub IsFlushedBy : SessionNames → Carries → Ends → FeedLanes → ℕ → ℕ → ℕ → Type 0
+IsFlushedBy sessions carries ends lanes venue most pushed =
+    UnderVenueLock sessions carries ends lanes venue
+    (Pushes (IsInSequence carries ends) most pushed)
+    ⊎ (IsOthersLock sessions carries ends lanes venue × (pushed ≡ 0))
 
 -- A packet that isn't taken so: the lane was full at a moment of the call, or the packet doesn't go
 -- on where nothing is held, or hasn't one message.

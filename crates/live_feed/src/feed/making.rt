@@ -4,23 +4,13 @@ ghost use Rattle.std.specs.Prelude.{◌≡◌, ◌≤◌, ◌<◌, [], length, I
 ghost use Rattle.live_feed.specs.feed.Feeds.{AreNamed, AreStarts, AreUnused};
 
 use crate::hub::spare::SpareLane;
+use crate::places::venue_at;
 use crate::venue::start::VenueStart;
 use feed_types::{FeedConfig, Genuine, Numbered, VenueId};
 use fifo_lane::{Receiver, VenueItems, lane};
 use line_arbiter::Arbiter;
 use std::alloc::{AllocError, Global};
 use std::collections::VecDeque;
-
-/// The venue of this number.
-fn venue_at(place: usize) -> VenueId
-    requires { place < 16 }
-    ensures { result ≡ place }
-{
-    match VenueId::new(place as u8) {
-        Some(venue) => venue,
-        None => unreachable!(),
-    }
-}
 
 /// Makes a venue to which nothing came, and the receiving end of its lane.
 fn new_start<G: Genuine>(

@@ -1,7 +1,13 @@
 //! An open feed: its venues and its journal, under locks.
 
-ghost use Rattle.std.specs.Prelude.{◌≡◌, ◌≤◌, ◌↔◌, [], length, IfOk, IfErr, IsErrOf};
-ghost use Rattle.live_feed.specs.hub.Batches.{LacksSubscriber, OffersUnderLock, TakesTurnUnderLock};
+ghost use Rattle.std.specs.Prelude.{◌≡◌, ◌<◌, ◌≤◌, ◌↔◌, ◌-◌, ◌^◌, [], length, IfOk, IfErr, IsErrOf};
+ghost use Rattle.feed_types.specs.Sequence.{IsInSequence};
+ghost use Rattle.journal_book.specs.Journals.{Declares};
+ghost use Rattle.live_feed.specs.hub.Hubs.{UnderHubLock};
+ghost use Rattle.live_feed.specs.hub.Sections.{Consumes, DeclaresAt};
+ghost use Rattle.live_feed.specs.hub.Batches.{ConsumesBatch};
+ghost use Rattle.live_feed.specs.hub.Offers.{LacksSubscriber, Offers};
+ghost use Rattle.live_feed.specs.hub.Turns.{TakesTurn};
 ghost use Rattle.live_feed.specs.venue.Sections.{IsFlushedBy};
 ghost use Rattle.live_feed.specs.venue.Seats.{GivesSeat, new_seat};
 ghost use Rattle.live_feed.specs.venue.Datagrams.{AreGenuineBytes, AcceptsTheirs, IsTakenBy, bytes_of};
@@ -17,6 +23,7 @@ use crate::subscriber::log::SubscriberLog;
 use crate::venue::cell::VenueCell;
 use crate::venue::datagram::Datagram;
 use crate::venue::locks::VenueLocks;
+use crate::venue::refusals::RefusedLines;
 use crate::venue::seat::LineSeat;
 use crate::venue::seated_lines::SeatedLines;
 use crossbeam_utils::CachePadded;
@@ -28,11 +35,13 @@ use mold_packet::Request;
 use std::alloc::Global;
 use std::sync::{Mutex, Wait};
 
-/// The part that a venue's lock guards: the cell, and which lines have their seats.
+/// The part that a venue's lock guards: the cell, which lines have their seats, and what the lines
+/// were refused.
 #[derive(Drop)]
 pub(crate) struct Guarded<G: Genuine, N: FeedName> {
     pub(crate) cell: VenueCell<G, N>,
     pub(crate) seated: SeatedLines,
+    pub(crate) refused: RefusedLines,
 }
 
 impl<G: Genuine, N: FeedName> Guarded<G, N> {
@@ -106,10 +115,11 @@ impl<G: Genuine, N: FeedName> OpenFeed<G, N> {
     }
 
     /// Pushes what is ready of the venue, until nothing is or the lane is full, and returns how
-    /// many items were pushed: the venue's lane was sent that many more.
+    /// many items were pushed.
     pub fn flush<W: Wait>(&self, rt: &W, venue: VenueId) -> Result<u64, FeedFault>
         ensures unknown { IsErrOf result FeedFault.UnknownVenue ↔ (length N.lanes.venues ≤ venue) }
-        ensures pushed { IfOk result (IsFlushedBy G.sessions G.carries G.ends N.lanes venue) }
+        ensures pushed { IfOk result
+            (IsFlushedBy G.sessions G.carries G.ends N.lanes venue (2 ^ 64 - 1)) }
     {
         if venue.index() >= self.venues.len() {
             return Err(FeedFault::UnknownVenue);
@@ -163,20 +173,28 @@ impl<G: Genuine, N: FeedName> OpenFeed<G, N> {
     /// Journals the next item of the venue's lane, and returns its position; None where the lane
     /// was empty. UnknownVenue, JournalFull or NoMemory come before an item is taken out of the
     /// lane.
+    #[tactic(auto, using(crate::proofs::HubMoves::under_hub_lock))]
     pub fn consume<W: Wait>(&self, rt: &W, venue: VenueId) -> Result<Option<u64>, JournalFault>
         ensures unknown { IsErrOf result JournalFault.UnknownVenue
             ↔ (length N.lanes.venues ≤ venue) }
+        ensures consumes { venue < length N.lanes.venues → UnderHubLock G.carries G.ends N.lanes
+            (Consumes (IsInSequence G.carries G.ends) venue result) }
     {
-        let consumed = consume_next(rt, &mut self.hub.lock(rt), venue);
+        let mut hub = self.hub.lock(rt);
+        hub.core.show_lock_invariant();
+        let consumed = consume_next(rt, &mut hub, venue);
+        hub.core.show_lock_invariant();
+        drop(hub);
         if let Ok(Some(_)) = consumed {
             self.venues.bells().ring_work();
         }
         consumed
     }
 
-    /// Journals the next items of the venue's lane as `consume` does, at most so many, under the
-    /// consolidator's lock taken once, and gives how many there were. A refusal is answered where
-    /// it comes before any of them; else the next call answers it.
+    /// Journals the next items of the venue's lane as `consume` does, at most `most`, under the
+    /// consolidator's lock taken once, and returns how many there were. A refusal is returned where
+    /// it comes before any of them; else the next call returns it.
+    #[tactic(auto, using(crate::proofs::HubMoves::under_hub_lock))]
     pub fn consume_batch<W: Wait>(
         &self,
         rt: &W,
@@ -186,27 +204,38 @@ impl<G: Genuine, N: FeedName> OpenFeed<G, N> {
         ensures unknown { IsErrOf result JournalFault.UnknownVenue
             ↔ (length N.lanes.venues ≤ venue) }
         ensures most { IfOk result (λ count. count ≤ most) }
+        ensures batch { UnderHubLock G.carries G.ends N.lanes
+            (ConsumesBatch (IsInSequence G.carries G.ends) N.lanes venue most result) }
     {
-        let consumed = consume_some(rt, &mut self.hub.lock(rt), venue, most)?;
-        if consumed > 0 {
+        let mut hub = self.hub.lock(rt);
+        hub.core.show_lock_invariant();
+        let consumed = consume_some(rt, &mut hub, venue, most);
+        hub.core.show_lock_invariant();
+        drop(hub);
+        if let Ok(1..) = consumed {
             self.venues.bells().ring_work();
         }
-        Ok(consumed)
+        consumed
     }
 
     /// Journals what is in the venues' lanes, and then offers each subscriber what it wants, as
     /// `offer` does, under the consolidator's lock taken once, and returns how many items and
-    /// notices these were; the journal has as many entries more as there were items. At most 64
-    /// items are journaled, up to the first refusal. A call begins with the venue after the last
-    /// one that the call before came to, so that none of them waits for ever. This is what the
-    /// consolidator of `run` calls.
+    /// notices these were; the journal has as many entries more as there were items. Each venue is
+    /// asked for its items, until 64 were journaled or there is a refusal. A call begins with the
+    /// venue after the last one that the call before asked, so that none of them waits for ever.
+    /// This is what the consolidator of `run` calls.
+    #[tactic(auto, using(crate::proofs::HubMoves::under_hub_lock))]
     pub fn consolidate<W: Wait>(&self, rt: &W) -> Consolidated
         ensures most { result.consumed ≤ 64 }
-        ensures turn { TakesTurnUnderLock G.carries G.ends N.lanes result.consumed result.offered
-            result.refused }
+        ensures turn { UnderHubLock G.carries G.ends N.lanes (TakesTurn G.carries G.ends N.lanes
+            result.consumed result.offered result.refused) }
     {
         let bells = self.venues.bells();
-        let done = take_turn(rt, &mut self.hub.lock(rt), bells);
+        let mut hub = self.hub.lock(rt);
+        hub.core.show_lock_invariant();
+        let done = take_turn(rt, &mut hub, bells);
+        hub.core.show_lock_invariant();
+        drop(hub);
         if done.consumed > 0 {
             bells.ring_work();
         }
@@ -216,11 +245,17 @@ impl<G: Genuine, N: FeedName> OpenFeed<G, N> {
     /// Declares self-help on the venue, or withdraws it, and returns the entry's position. It is
     /// refused as UnknownVenue, AlreadySo (the venue's self-help is in that state), JournalFull or
     /// NoMemory: the first that fits. A refused call changes nothing.
+    #[tactic(auto, using(crate::proofs::HubMoves::under_hub_lock))]
     pub fn declare<W: Wait>(&self, rt: &W, venue: VenueId, on: bool) -> Result<u64, JournalFault>
         ensures unknown { IsErrOf result JournalFault.UnknownVenue
             ↔ (length N.lanes.venues ≤ venue) }
+        ensures declares { UnderHubLock G.carries G.ends N.lanes (DeclaresAt venue on result) }
     {
-        let declared = self.hub.lock(rt).declare(venue, on);
+        let mut hub = self.hub.lock(rt);
+        hub.core.show_lock_invariant();
+        let declared = hub.declare(venue, on);
+        hub.core.show_lock_invariant();
+        drop(hub);
         if declared.is_ok() {
             self.venues.bells().ring_work();
         }
@@ -267,12 +302,14 @@ impl<G: Genuine, N: FeedName> OpenFeed<G, N> {
     }
 
     /// Pushes the notices that the subscriber wants, until there is none or its lane is full, and
-    /// returns how many were pushed: the subscribers' lanes were sent that many more.
-    /// UnknownSubscriber where there is none of this id, and no other fault.
+    /// returns how many were pushed. UnknownSubscriber where there is none of this id, and no other
+    /// fault.
+    #[tactic(auto, using(crate::proofs::HubMoves::under_hub_lock))]
     pub fn offer<W: Wait>(&self, rt: &W, id: SubscriberId) -> Result<u64, FeedFault>
-        ensures pushed { IfOk result (OffersUnderLock G.carries G.ends N.lanes id) }
+        ensures offers { IfOk result (λ pushed.
+            UnderHubLock G.carries G.ends N.lanes (Offers id pushed)) }
         ensures unknown { IfErr result (λ fault. (fault ≡ FeedFault.UnknownSubscriber)
-            × LacksSubscriber G.carries G.ends N.lanes id) }
+            × UnderHubLock G.carries G.ends N.lanes (LacksSubscriber id)) }
     {
         let mut hub = self.hub.lock(rt);
         hub.core.show_lock_invariant();

@@ -1,18 +1,21 @@
 //! The sections that calls of a feed have under the consolidator's lock.
 
-ghost use Rattle.std.specs.Prelude.{◌≡◌, ◌<◌, ◌≤◌, ◌↔◌, length, IfOk, IfSome, IfNone, IsErrOf, IsSome};
-ghost use Rattle.live_feed.specs.hub.Batches.{ConsumesBatch, OffersCount};
+ghost use Rattle.std.specs.Prelude.{◌≡◌, ◌<◌, ◌≤◌, ◌↔◌, length, IfOk, IfSome, IfNone, IsErrOf};
+ghost use Rattle.live_feed.specs.hub.Sections.{Consumes};
+ghost use Rattle.live_feed.specs.hub.Batches.{ConsumesBatch};
+ghost use Rattle.live_feed.specs.hub.Offers.{LacksSubscriber, Offers, OffersAll};
 
 use crate::bells::Bells;
 use crate::feed_name::FeedName;
 use crate::hub::cell::HubCell;
+use crate::places::subscriber_at;
 use crate::unsent::Unsent;
 use feed_types::{Genuine, Numbered, SubscriberId, VenueId};
 use fifo_lane::{LaneRule, VenueItems};
 use journal_book::JournalFault;
 use std::sync::Wait;
 
-/// Journals the next item of the venue's lane, and gives its position; None where nothing was
+/// Journals the next item of the venue's lane, and returns its position; None where nothing was
 /// inside. A refused call changes nothing.
 pub(crate) fn consume_next<G: Genuine, N: FeedName, W: Wait>(
     rt: &W,
@@ -20,6 +23,9 @@ pub(crate) fn consume_next<G: Genuine, N: FeedName, W: Wait>(
     venue: VenueId,
 ) -> Result<Option<u64>, JournalFault>
     ensures unknown { IsErrOf result JournalFault.UnknownVenue ↔ (length N.lanes.venues ≤ venue) }
+    ensures consumes { venue < length N.lanes.venues
+        → Consumes ⟦<VenueItems<G> as LaneRule<Numbered>>⟧.may_send venue result hub.old.core
+        hub.new.core }
 {
     if venue.index() >= hub.core.venue_count() {
         return Err(JournalFault::UnknownVenue);
@@ -66,9 +72,8 @@ pub(crate) fn offer_some<G: Genuine, N: FeedName, W: Wait>(
     bells: &Bells,
     id: SubscriberId,
 ) -> Option<u64>
-    ensures sent { IfSome result (λ pushed. OffersCount pushed hub.old.core hub.new.core) }
-    ensures none { IfNone result (hub.new.core ≡ hub.old.core) }
-    ensures known { IsSome result ↔ (id < length hub.old.core.journal.cursors) }
+    ensures offers { IfSome result (λ pushed. Offers id pushed hub.old.core hub.new.core) }
+    ensures none { IfNone result (LacksSubscriber id hub.old.core hub.new.core) }
 {
     if !hub.core.has(id) {
         return None;
@@ -89,7 +94,7 @@ pub(crate) fn offer_some<G: Genuine, N: FeedName, W: Wait>(
             }
         }
     }
-    Some(pushed)
+    unreachable!()
 }
 
 /// Offers each subscriber what it wants, and returns how many notices were pushed in all.
@@ -98,15 +103,13 @@ pub(crate) fn offer_each<G: Genuine, N: FeedName, W: Wait>(
     hub: &mut HubCell<G, N>,
     bells: &Bells,
 ) -> u64
-    ensures { OffersCount result hub.old.core hub.new.core }
+    ensures { OffersAll result hub.old.core hub.new.core }
 {
     let mut offered: u64 = 0;
-    for place in 0..32u8 {
-        let Some(id) = SubscriberId::new(place) else {
-            break;
-        };
+    for place in 0..hub.core.subscriber_count() {
+        let id = subscriber_at(place);
         let Some(pushed) = offer_some(rt, hub, bells, id) else {
-            break;
+            unreachable!()
         };
         offered = offered.saturating_add(pushed);
     }

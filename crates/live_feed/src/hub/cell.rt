@@ -1,8 +1,7 @@
 //! What the consolidator's lock guards.
 
-ghost use Rattle.std.specs.Prelude.{◌≡◌, ◌<◌, length, IfOk, IfErr, OnErr};
-ghost use Rattle.journal_book.specs.Journals.{Declares};
-ghost use Rattle.live_feed.specs.hub.Sections.{Consumes, KeepsButIntake, HubOffersOne, KeepsButOffers, AddsSubscriber, RefusesSubscriber};
+ghost use Rattle.std.specs.Prelude.{◌≡◌, ◌⊎◌, ◌<◌, length, IfOk, IfErr, OnErr};
+ghost use Rattle.live_feed.specs.hub.Sections.{Consumes, DeclaresAt, KeepsButIntake, HubOffersOne, KeepsButOffers, AddsSubscriber, RefusesSubscriber};
 ghost use Rattle.filter_terms.specs.declared.terms.Terms.{Terms};
 ghost use Rattle.filter_terms.specs.Copies.{IsCopy};
 ghost use Rattle.filter_terms.specs.Filters.{terms_of};
@@ -22,24 +21,21 @@ pub struct HubCell<G: Genuine, N: FeedName> {
     /// The journal and the lanes.
     pub core: JournalAndLanes<G, N>,
     pub(crate) filters: Vec<Filter>,
-    /// The number of the venue with which the consolidator's next turn begins.
-    pub(crate) next: u8,
+    /// The number of the venue with which the consolidator's next turn begins, or past the last one
+    /// where it begins with the first.
+    pub(crate) next: usize,
 }
 
 impl<G: Genuine, N: FeedName> HubCell<G, N> {
-    /// Returns the venue whose turn it is, and passes the turn to the next one, after the last to
-    /// the first.
-    pub(crate) fn next_venue(&mut self) -> VenueId
-        ensures kept { self.new.core ≡ self.old.core }
+    /// Returns the number of the venue with which the consolidator's turn begins.
+    pub(crate) fn first_place(&self) -> usize
+        ensures { (result ≡ 0) ⊎ (result < length N.lanes.venues) }
     {
-        let place = self.next;
-        let next = place.saturating_add(1);
-        self.next = if usize::from(next) < self.core.venue_count() {
-            next
+        if self.next < self.core.venue_count() {
+            self.next
         } else {
             0
-        };
-        VenueId::new(place).unwrap_or_default()
+        }
     }
 
     /// Journals the next item of the venue's lane, and returns its position; None where the lane
@@ -58,10 +54,8 @@ impl<G: Genuine, N: FeedName> HubCell<G, N> {
     /// Declares self-help on the venue, or withdraws it, and returns the entry's position. It is
     /// refused as UnknownVenue, AlreadySo, JournalFull or NoMemory: the first that fits.
     pub fn declare(&mut self, venue: VenueId, on: bool) -> Result<u64, JournalFault>
-        ensures declares { Declares self.old.core.journal venue on result self.new.core.journal }
+        ensures declares { DeclaresAt venue on result self.old.core self.new.core }
         ensures venues { self.old.core.journal.venues ≡ length N.lanes.venues }
-        ensures kept { self.new.core
-            ≡ record self.old.core { journal = self.new.core.journal } }
     {
         self.core.declare(venue, on)
     }
@@ -105,8 +99,6 @@ impl<G: Genuine, N: FeedName> HubCell<G, N> {
         ensures offer { HubOffersOne ⟦<RisingNotices as LaneRule<Notice>>⟧.may_send id result
             self.old.core self.new.core }
         ensures kept { KeepsButOffers self.old.core self.new.core }
-        ensures count { length self.new.core.journal.cursors
-            ≡ length self.old.core.journal.cursors }
     {
         let filter = self.filters.get(id.index());
         self.core.offer(rt, id, filter)

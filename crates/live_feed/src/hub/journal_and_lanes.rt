@@ -1,9 +1,8 @@
 //! The journal with the lanes that meet at it.
 
-ghost use Rattle.std.specs.Prelude.{◌≡◌, ◌<◌, ◌↔◌, length, OnErr, IsTrue};
-ghost use Rattle.journal_book.specs.Journals.{Declares};
+ghost use Rattle.std.specs.Prelude.{◌≡◌, ◌≤◌, ◌<◌, ◌↔◌, length, OnErr, IsTrue};
 ghost use Rattle.live_feed.specs.hub.Hubs.{HubLockInvariant};
-ghost use Rattle.live_feed.specs.hub.Sections.{Consumes, KeepsButIntake, HubOffersOne, KeepsButOffers, HubSubscribes};
+ghost use Rattle.live_feed.specs.hub.Sections.{Consumes, DeclaresAt, KeepsButIntake, HubOffersOne, KeepsButOffers, HubSubscribes};
 
 use crate::feed_name::FeedName;
 use crate::hub::spare::SpareLane;
@@ -136,6 +135,7 @@ impl<G: Genuine, N: FeedName> JournalAndLanes<G, N> {
     pub(crate) fn venue_count(&self) -> usize
         ensures value { result ≡ self.now.journal.venues }
         ensures lanes { result ≡ length N.lanes.venues }
+        ensures few { result ≤ 16 }
         ensures receivers { result ≡ length self.now.receivers }
     {
         self.from_venues.len()
@@ -143,7 +143,8 @@ impl<G: Genuine, N: FeedName> JournalAndLanes<G, N> {
 
     /// The number of subscribers.
     pub(crate) fn subscriber_count(&self) -> usize
-        ensures { result ≡ length self.now.journal.cursors }
+        ensures count { result ≡ length self.now.journal.cursors }
+        ensures few { result ≤ 32 }
     {
         self.kept.subscriber_count()
     }
@@ -157,7 +158,8 @@ impl<G: Genuine, N: FeedName> JournalAndLanes<G, N> {
 
     /// Whether there is a subscriber of this id.
     pub(crate) fn has(&self, id: SubscriberId) -> bool
-        ensures { IsTrue result ↔ (id < length self.now.journal.cursors) }
+        ensures known { IsTrue result ↔ (id < length self.now.journal.cursors) }
+        ensures senders { length self.now.senders ≡ length self.now.journal.cursors }
     {
         self.kept.has(id)
     }
@@ -195,9 +197,8 @@ impl<G: Genuine, N: FeedName> JournalAndLanes<G, N> {
 
     /// Declares self-help on the venue, or withdraws it, and returns the entry's position.
     pub(crate) fn declare(&mut self, venue: VenueId, on: bool) -> Result<u64, JournalFault>
-        ensures declares { Declares self.old.journal venue on result self.new.journal }
+        ensures declares { DeclaresAt venue on result self.old self.new }
         ensures venues { self.old.journal.venues ≡ length N.lanes.venues }
-        ensures kept { self.new ≡ record self.old { journal = self.new.journal } }
     {
         self.kept.declare(venue, on)
     }
@@ -239,7 +240,6 @@ impl<G: Genuine, N: FeedName> JournalAndLanes<G, N> {
         ensures offer { HubOffersOne ⟦<RisingNotices as LaneRule<Notice>>⟧.may_send id result
             self.old self.new }
         ensures kept { KeepsButOffers self.old self.new }
-        ensures count { length self.new.journal.cursors ≡ length self.old.journal.cursors }
     {
         let Some(notice) = self.kept.next_offer(id, filter) else {
             return Err(Unsent::Nothing);

@@ -1,14 +1,14 @@
 //! A turn of the consolidator: its work under its lock taken once.
 
-ghost use Rattle.std.specs.Prelude.{◌≡◌, ◌≤◌, None};
-ghost use Rattle.live_feed.specs.hub.Batches.{ConsumesRound, TakesTurn, TakesTurnUnderLock};
+ghost use Rattle.std.specs.Prelude.{◌≡◌, ◌⊎◌, ◌≤◌, ◌<◌, ◌+◌, None};
+ghost use Rattle.live_feed.specs.hub.Turns.{ConsumesRound, TakesTurn};
 
 use crate::bells::Bells;
 use crate::feed_name::FeedName;
 use crate::hub::calls::{consume_some, offer_each};
 use crate::hub::cell::HubCell;
-use feed_types::{Genuine, Numbered};
-use fifo_lane::{LaneRule, VenueItems};
+use crate::places::venue_at;
+use feed_types::{Genuine, VenueId};
 use journal_book::JournalFault;
 use std::sync::Wait;
 
@@ -44,20 +44,39 @@ impl Consolidated {
     }
 }
 
+/// Returns the venue that comes `step` places after the venue at `first`, after the last one the
+/// first.
+fn venue_after(first: usize, step: usize, venues: usize) -> VenueId
+    requires known { (first < venues) × (step < venues) }
+    requires few { venues ≤ 16 }
+    ensures place { (result ≡ first + step) ⊎ (result + venues ≡ first + step) }
+    ensures below { result < venues }
+{
+    let place = first + step;
+    if place < venues {
+        venue_at(place)
+    } else {
+        venue_at(place - venues)
+    }
+}
+
 /// Journals what is in the venues' lanes, at most 64 items, up to the first refusal. It begins with
 /// the venue after the last one of the turn before, so that no venue waits for ever.
 fn consume_round<G: Genuine, N: FeedName, W: Wait>(rt: &W, hub: &mut HubCell<G, N>) -> Consolidated
     ensures most { result.consumed ≤ 64 }
-    ensures round { ConsumesRound ⟦<VenueItems<G> as LaneRule<Numbered>>⟧.may_send N.lanes
-        result.consumed result.refused hub.old.core hub.new.core }
+    ensures round { ConsumesRound G.carries G.ends N.lanes result.consumed result.refused
+        hub.old.core hub.new.core }
 {
     let mut done = Consolidated::nothing();
-    for _ in 0..hub.core.venue_count() {
+    let venues = hub.core.venue_count();
+    let first = hub.first_place();
+    for step in 0..venues {
         let left = ITEMS_A_SECTION - done.consumed;
         if left == 0 {
             break;
         }
-        let venue = hub.next_venue();
+        let venue = venue_after(first, step, venues);
+        hub.next = venue.index() + 1;
         match consume_some(rt, hub, venue, left) {
             Ok(count) => {
                 done.consumed += count;
@@ -74,21 +93,17 @@ fn consume_round<G: Genuine, N: FeedName, W: Wait>(rt: &W, hub: &mut HubCell<G, 
 
 /// Journals what is in the venues' lanes, at most 64 items, and then offers each subscriber what it
 /// wants.
-#[tactic(auto, using(crate::proofs::Batches::turn_taken, crate::proofs::Batches::turn_under_lock))]
+#[tactic(auto, using(crate::proofs::Turns::turn_taken))]
 pub(crate) fn take_turn<G: Genuine, N: FeedName, W: Wait>(
     rt: &W,
     hub: &mut HubCell<G, N>,
     bells: &Bells,
 ) -> Consolidated
     ensures most { result.consumed ≤ 64 }
-    ensures turn { TakesTurn ⟦<VenueItems<G> as LaneRule<Numbered>>⟧.may_send N.lanes
-        result.consumed result.offered result.refused hub.old.core hub.new.core }
-    ensures locked { TakesTurnUnderLock G.carries G.ends N.lanes result.consumed result.offered
-        result.refused }
+    ensures turn { TakesTurn G.carries G.ends N.lanes result.consumed result.offered result.refused
+        hub.old.core hub.new.core }
 {
-    hub.core.show_lock_invariant();
     let mut done = consume_round(rt, hub);
     done.offered = offer_each(rt, hub, bells);
-    hub.core.show_lock_invariant();
     done
 }

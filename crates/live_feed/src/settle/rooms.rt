@@ -7,6 +7,7 @@ ghost use Rattle.live_feed.specs.settle.Closings.{HasRoom};
 use crate::feed::open_feed::Guarded;
 use crate::feed_name::FeedName;
 use crate::hub::journal_and_lanes::JournalAndLanes;
+use crate::places::subscriber_at;
 use crate::settle::subscriber_end::SubscriberEnd;
 use crate::settle::venue_end::VenueEnd;
 use crate::settle::venue_lane::count_items;
@@ -91,17 +92,6 @@ fn subscriber_room(
     let queued = Vec::with_capacity(alloc, sender.capacity())?;
     let unoffered = Vec::with_capacity(alloc, unseen)?;
     Ok(SubscriberRoom { queued, unoffered })
-}
-
-/// The subscriber of this number.
-fn subscriber_at(place: usize) -> SubscriberId
-    requires { place < 32 }
-    ensures { result ≡ place }
-{
-    match SubscriberId::new(place as u8) {
-        Some(id) => id,
-        None => unreachable!(),
-    }
 }
 
 fn subscriber_rooms(

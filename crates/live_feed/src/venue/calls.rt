@@ -1,9 +1,9 @@
 //! The calls of a feed that take only a venue's lock.
 
-ghost use Rattle.std.specs.Prelude.{◌≡◌, ◌<◌, ◌≤◌, ◌+◌, length};
+ghost use Rattle.std.specs.Prelude.{◌≡◌, ◌<◌, length};
 ghost use Rattle.line_arbiter.specs.Genuine.{IsGenuine};
-ghost use Rattle.live_feed.specs.venue.Seats.{seat_after};
-ghost use Rattle.live_feed.specs.venue.Sections.{AcceptsTheirPacket, IsFlushedBy, KeepsButSent};
+ghost use Rattle.live_feed.specs.venue.Seats.{seat_after, seat_refusing};
+ghost use Rattle.live_feed.specs.venue.Sections.{AcceptsTheirPacket, IsFlushedBy, Pushes};
 ghost use Rattle.live_feed.specs.venue.Datagrams.{AreGenuineBytes, AcceptsTheirs, IsAnsweredAt, IsTakenBy, bytes_of};
 
 use crate::faults::TakeFault;
@@ -13,27 +13,29 @@ use crate::venue::cell::VenueCell;
 use crate::venue::datagram::Datagram;
 use crate::venue::locks::{VenueLocks, enter};
 use crate::venue::seat::LineSeat;
-use feed_types::{Genuine, VenueId};
+use feed_types::{Genuine, Numbered, VenueId};
+use fifo_lane::{LaneRule, VenueItems};
 use line_arbiter::{LineFault, Outcome};
 use mold_packet::{Packet, Request, read_packet};
 use std::sync::Wait;
 
 /// Pushes what is ready of the venue, at most `most` items, until nothing is or the lane is full.
 /// Returns how many were pushed, and whether something may be ready still.
-#[tactic(auto, using(crate::proofs::CellMoves::sends_itself, crate::proofs::CellMoves::sends_more, crate::proofs::CellMoves::sends_same))]
 fn push_ready<G: Genuine, N: FeedName, W: Wait>(
     rt: &W,
     cell: &mut VenueCell<G, N>,
     most: u64,
 ) -> (u64, bool)
-    ensures count { length cell.new.lane.items ≡ length cell.old.lane.items + result.0 }
-    ensures most { result.0 ≤ most }
-    ensures kept { KeepsButSent cell.old cell.new }
+    ensures { Pushes ⟦<VenueItems<G> as LaneRule<Numbered>>⟧.may_send most result.0 cell.old
+        cell.new }
 {
     for pushed in 0..most {
         match cell.push_one(rt) {
             Ok(_) => {}
-            Err(unsent) => return (pushed, unsent == Unsent::LaneFull),
+            Err(unsent) => {
+                cell.show_lock_invariant();
+                return (pushed, unsent == Unsent::LaneFull);
+            }
         }
     }
     (most, true)
@@ -47,7 +49,7 @@ fn flush_cell<G: Genuine, N: FeedName, W: Wait>(
     venue: VenueId,
     most: u64,
 ) -> (u64, bool)
-    ensures { IsFlushedBy G.sessions G.carries G.ends N.lanes venue result.0 }
+    ensures { IsFlushedBy G.sessions G.carries G.ends N.lanes venue most result.0 }
 {
     cell.show_lock_invariant();
     if cell.venue() != venue {
@@ -105,13 +107,28 @@ impl<G: Genuine, N: FeedName> VenueLocks<G, N> {
         match read_packet(datagram.bytes()) {
             Ok(packet) => match self.take_packet(rt, seat, &packet, gap) {
                 Ok(outcome) => Ok(outcome),
-                Err(fault) => Err(TakeFault::Line(fault)),
+                Err(fault) => {
+                    self.refuse(rt, seat, TakeFault::Line(fault));
+                    Err(TakeFault::Line(fault))
+                }
             },
             Err(fault) => {
                 let _pushed = self.flush_some(rt, seat.venue(), u64::MAX);
                 *gap = true;
+                self.refuse(rt, seat, TakeFault::Packet(fault));
                 Err(TakeFault::Packet(fault))
             }
+        }
+    }
+
+    /// Counts one more datagram of the seat that was refused with this fault, and has the venue's
+    /// status show it.
+    fn refuse<W: Wait>(&self, rt: &W, seat: &mut LineSeat<G, N>, fault: TakeFault)
+        ensures { seat.new ≡ seat_refusing fault seat.old }
+    {
+        seat.count_refusal(fault);
+        if let Some(lock) = self.get(seat.venue()) {
+            enter(rt, lock).refused.set(seat.line(), seat.refused());
         }
     }
 
@@ -151,7 +168,7 @@ impl<G: Genuine, N: FeedName> VenueLocks<G, N> {
     /// something may be ready still, the venue is held back.
     pub(crate) fn flush_some<W: Wait>(&self, rt: &W, venue: VenueId, most: u64) -> u64
         ensures { venue < length N.lanes.venues
-            → IsFlushedBy G.sessions G.carries G.ends N.lanes venue result }
+            → IsFlushedBy G.sessions G.carries G.ends N.lanes venue most result }
     {
         let Some(lock) = self.get(venue) else {
             return 0;

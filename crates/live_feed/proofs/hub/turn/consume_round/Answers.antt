@@ -1,23 +1,53 @@
-use Rattle.std.proofs.Common.{◌-◌, rules, arith}
-use Rattle.feed_types.specs.Sequence.{IsInSequence}
-use Rattle.live_feed.proofs.Batches.{batch_of, refusal_of}
+use Rattle.std.proofs.Common.{◌≡◌, ℕ, ◌+◌, ◌-◌, sym, subst, rules, arith}
+use Rattle.std.specs.Prelude.{◌⊎◌}
+use Rattle.live_feed.proofs.Turns.{RoundUpTo, no_call, one_call, refused_call, round_over}
 use Rattle.live_feed.proofs.hub.turn.consume_round.Goals as goal
 
-pub loop-preserved : goal.loop-preserved
-loop-preserved g c =
-    let i = c.loop.invariant in
-    let next = c.next_venue-venue in (
+pub loop-step-init : goal.loop-step-init
+loop-step-init g c =
+    let carries = g.G.Genuine.carries in
+    let ends = g.G.Genuine.ends in
+    let lanes = g.N.FeedName.lanes in
+    let first = c.first_place-first in
+    let old = c.args.hub.now.core in
+    let nothing = c.nothing-done.ensures in (
+      omega (arith, nothing.none),
+      nothing.sound,
+      subst (λ (n : ℕ). RoundUpTo carries ends lanes first.result 0 n old old) (sym nothing.none)
+          (no_call carries ends lanes first.result first.ensures old),
+    )
+
+pub loop-step-preserved : goal.loop-step-preserved
+loop-step-preserved g c =
+    let i = c.loop-step.invariant in
+    let first = c.first_place-first in
+    let step = c.loop-step.step in
+    let consumed = c.loop-step.done.consumed in
+    let venue = c.venue_after-venue in
+    let place = subst (λ (n : ℕ). (venue.result ≡ first.result + step) ⊎ (venue.result + n ≡ first.result + step))
+    c.venue_count-venues.ensures.lanes venue.ensures.place in (
       search (rules, arith),
       i.1,
-      batch_of (IsInSequence g.G.Genuine.carries g.G.Genuine.ends) g.N.FeedName.lanes c.loop.done.consumed
-          next.result _ c.in-Ok.count c.loop.done.refused c.args.hub.now.core c.loop.hub.core next.new.self.core
-          c.consume_some.new.hub.core i.2 i.1 next.ensures.kept c.in-Ok.ensures.batch,
+      one_call g.G.Genuine.carries g.G.Genuine.ends g.N.FeedName.lanes first.result first.ensures step consumed
+          c.args.hub.now.core c.loop-step.hub.core i.2 venue.result (64 - consumed) c.in-Ok.count
+          c.consume_some.new.hub.core (search (rules, arith)) (search (rules, arith)) place
+          (search (rules, arith)) c.in-Ok.ensures.batch,
     )
 
 pub returns-in-Err-clause-round : goal.returns-in-Err-clause-round
 returns-in-Err-clause-round g c =
-    let next = c.next_venue-venue in
-    refusal_of (IsInSequence g.G.Genuine.carries g.G.Genuine.ends) g.N.FeedName.lanes c.loop.done.consumed
-    next.result (64 - c.loop.done.consumed) c.loop.done.refused c.in-Err.fault c.args.hub.now.core
-    c.loop.hub.core next.new.self.core c.consume_some.new.hub.core c.loop.invariant.2 next.ensures.kept
-    c.in-Err.ensures.batch
+    let first = c.first_place-first in
+    let consumed = c.loop-step.done.consumed in
+    refused_call g.G.Genuine.carries g.G.Genuine.ends g.N.FeedName.lanes first.result first.ensures
+    c.loop-step.step consumed c.args.hub.now.core c.loop-step.hub.core c.loop-step.invariant.2
+    c.venue_after-venue.result (64 - consumed) c.in-Err.fault c.consume_some.new.hub.core
+    (search (rules, arith)) (search (rules, arith)) c.in-Err.ensures.batch
+
+pub returns-after-loop-step-clause-round : goal.returns-after-loop-step-clause-round
+returns-after-loop-step-clause-round g c =
+    let i = c.loop-step.invariant in
+    let first = c.first_place-first in
+    let done = c.loop-step.done in
+    round_over g.G.Genuine.carries g.G.Genuine.ends g.N.FeedName.lanes first.result first.ensures
+    c.loop-step.step done.consumed c.args.hub.now.core c.loop-step.hub.core i.2 done.refused i.1
+    (search (rules, arith))

@@ -1,23 +1,45 @@
-use Rattle.std.proofs.Common.{ℕ, ◌+◌, ◌≡◌, List, ◌∷◌, [], length, map, sym, ap, subst, ◌∙◌, arith, length-append}
+use Rattle.std.proofs.Common.{◌≡◌, ℕ, List, [], ◌∷◌, ◌++◌, length, map, ap, subst, arith, length-append}
 use Rattle.std.proofs.lemmas.List.{length-map}
 use Rattle.feed_types.specs.declared.journal.Notice.{Notice}
+use Rattle.journal_book.specs.Journals.{JournalState}
 use Rattle.fifo_lane.specs.Lane.{LaneEnd}
-use Rattle.live_feed.specs.settle.Zips.{Zip3}
+use Rattle.live_feed.specs.Lanes.{FeedLanes}
 use Rattle.live_feed.specs.subscriber.Logs.{SubscriberLogState}
-use Rattle.live_feed.specs.settle.Settlements.{IsServed, ShowsSubscriber}
+use Rattle.live_feed.specs.settle.Settlements.{IsServed, ShowsSubscriber, SubscriberEndState}
 use Rattle.live_feed.specs.settle.Closings.{IsToServe}
 use Rattle.live_feed.specs.declared.settle.rooms.SubscriberRoom.{SubscriberRoom}
-use Rattle.live_feed.proofs.Sides.{no_items, three_long, three_next, none_done, one_done, all_done}
+use Rattle.live_feed.proofs.Sides.{Closes, no_items, three_long, none_closed, next_closes, one_closed, all_done}
 use Rattle.live_feed.proofs.settle.closing.close_subscribers.Goals as goal
+
+-- one more subscriber was served
+one_served : (lanes : FeedLanes) (journal : JournalState) (all xs more_xs : List SubscriberLogState)
+    (old : List SubscriberEndState) (ys more_ys : List (LaneEnd Notice)) (zs more_zs : List SubscriberRoom)
+    (log : SubscriberLogState) (sender : LaneEnd Notice) (room : SubscriberRoom) (first : xs ≡ log ∷ more_xs)
+    (second : ys ≡ sender ∷ more_ys) (third : zs ≡ room ∷ more_zs)
+    → Closes (IsToServe lanes journal) (ShowsSubscriber journal) all old xs ys zs
+    → (more : List SubscriberEndState) (end : SubscriberEndState) → more ≡ old ++ end ∷ []
+    → IsServed journal log.id end.log end.queued end.unoffered → end.log ≡ log.lines
+    → Closes (IsToServe lanes journal) (ShowsSubscriber journal) all more more_xs more_ys more_zs
+one_served lanes journal all xs more_xs old ys more_ys zs more_zs log sender room first second third closes
+    more end grown served own =
+    let R = IsToServe lanes journal in
+    let S = ShowsSubscriber journal in
+    let same = (next_closes R S all xs more_xs old ys more_ys zs more_zs log sender room first second third
+    closes).known.0 in
+    one_closed R S all xs more_xs old ys more_ys zs more_zs log sender room first second third closes more end
+    grown (record {
+      served = subst (λ (id : ℕ). IsServed journal id end.log end.queued end.unoffered) same served;
+      own = (same, own);
+    })
 
 pub loop-subscriber-init : goal.loop-subscriber-init
 loop-subscriber-init g c =
     let R = IsToServe g.N.FeedName.lanes c.args.journal.now in
-    let S = ShowsSubscriber c.args.journal.now in
     let subscribers = c.from_vec-subscribers in
     let senders = c.from_vec-senders in
     let rooms = c.from_vec-rooms in
-    let long = three_long R 0 (map (λ v. v.log) c.args.subscribers.items) c.args.senders.items c.args.rooms.items c.requires.ready in
+    let logs = map (λ v. v.log) c.args.subscribers.items in
+    let long = three_long R 0 logs c.args.senders.items c.args.rooms.items c.requires.ready in
     let first = long.0 in
     let second = long.1 in
     let same = length-map c.args.subscribers.items (λ v. v.log) in
@@ -30,9 +52,10 @@ loop-subscriber-init g c =
     let none = c.requires.room.0 in
     let room = c.requires.room.1 in
     record {
-      left = subst (λ (x : ℕ × (List SubscriberLogState × (List (LaneEnd Notice) × List SubscriberRoom))). Zip3 R x.0 x.1.0 x.1.1.0 x.1.1.1)
-          (λ i. (sym none i, (map (λ v. v.log) (sym subscribers.ensures.items i), (sym senders.ensures.items i, sym rooms.ensures.items i)))) c.requires.ready;
-      done = none_done S (map (λ v. v.log) c.args.subscribers.items) (map (λ v. v.log) subscribers.result.items) c.args.ends.items none (ap (map (λ v. v.log)) subscribers.ensures.items);
+      closes = none_closed R (ShowsSubscriber c.args.journal.now) logs (map (λ v. v.log) subscribers.result.items)
+          c.args.ends.items c.args.senders.items senders.result.items c.args.rooms.items rooms.result.items none
+          (ap (map (λ v. v.log)) subscribers.ensures.items) senders.ensures.items rooms.ensures.items
+          c.requires.ready;
       senders = omega arith;
       rooms = omega arith;
       fits = omega arith;
@@ -40,32 +63,26 @@ loop-subscriber-init g c =
 
 pub loop-subscriber-preserved-in-Some-pop_front-2 : goal.loop-subscriber-preserved-in-Some-pop_front-2
 loop-subscriber-preserved-in-Some-pop_front-2 g c =
-    let R = IsToServe g.N.FeedName.lanes c.args.journal.now in
-    let S = ShowsSubscriber c.args.journal.now in
     let i = c.loop-subscriber.invariant in
-    let old = c.loop-subscriber.ends.items in
-    let more = c.push_reserved.new.self.items in
-    let log = c.in-Some.subscriber.log in
-    let v = c.settle_subscriber.result in
-    let left = map (λ v. v.log) c.pop_front.new.self.items in
-    let first = ap (map (λ v. v.log)) c.in-Some.ensures.items in
-    let next = three_next R (length old) _ left _ c.pop_front-in-Some.new.self.items _ c.pop_front-in-Some-2.new.self.items
-    log c.in-Some-pop_front.sender c.in-Some-pop_front-2.room first c.in-Some-pop_front.ensures.items c.in-Some-pop_front-2.ensures.items i.left in
+    let second = c.in-Some-pop_front.ensures in
+    let third = c.in-Some-pop_front-2.ensures in
     let grown = c.push_reserved.ensures.items in
-    let longer : length more ≡ length old + 1 = ap length grown ∙ length-append old (v ∷ []) in
-    let same = next.0.known.0 in
-    let served = subst (λ (id : ℕ). IsServed c.args.journal.now id v.log v.queued v.unoffered) same c.settle_subscriber.ensures.served in
-    let shown : S (length old) log v = record { served = served; own = (same, c.settle_subscriber.ensures.log) } in
+    let longer = ap length grown in
+    let by_one = length-append c.loop-subscriber.ends.items _ in
     let subscribers = c.in-Some.ensures.cases in
-    let senders = c.in-Some-pop_front.ensures.cases in
-    let rooms = c.in-Some-pop_front-2.ensures.cases in
+    let senders = second.cases in
+    let rooms = third.cases in
     let were_senders = i.senders in
     let were_rooms = i.rooms in
     let fits = i.fits in
     let capacity = c.push_reserved.ensures.capacity in
     record {
-      left = subst (λ (k : ℕ). Zip3 R k left c.pop_front-in-Some.new.self.items c.pop_front-in-Some-2.new.self.items) (sym longer) next.1;
-      done = one_done S (map (λ v. v.log) c.args.subscribers.items) (map (λ v. v.log) c.loop-subscriber.subscribers.items) left old more log v first grown shown i.done;
+      closes = one_served g.N.FeedName.lanes c.args.journal.now (map (λ v. v.log) c.args.subscribers.items) _
+          (map (λ v. v.log) c.pop_front.new.self.items) c.loop-subscriber.ends.items _
+          c.pop_front-in-Some.new.self.items _ c.pop_front-in-Some-2.new.self.items c.in-Some.subscriber.log
+          c.in-Some-pop_front.sender c.in-Some-pop_front-2.room (ap (map (λ v. v.log)) c.in-Some.ensures.items)
+          second.items third.items i.closes c.push_reserved.new.self.items c.settle_subscriber.result grown
+          c.settle_subscriber.ensures.served c.settle_subscriber.ensures.log;
       senders = omega arith;
       rooms = omega arith;
       fits = omega arith;
@@ -73,32 +90,26 @@ loop-subscriber-preserved-in-Some-pop_front-2 g c =
 
 pub loop-subscriber-preserved : goal.loop-subscriber-preserved
 loop-subscriber-preserved g c =
-    let R = IsToServe g.N.FeedName.lanes c.args.journal.now in
-    let S = ShowsSubscriber c.args.journal.now in
     let i = c.loop-subscriber.invariant in
-    let old = c.loop-subscriber.ends.items in
-    let more = c.push_reserved.new.self.items in
-    let log = c.in-Some.subscriber.log in
-    let v = c.settle_subscriber.result in
-    let left = map (λ v. v.log) c.pop_front.new.self.items in
-    let first = ap (map (λ v. v.log)) c.in-Some.ensures.items in
-    let next = three_next R (length old) _ left _ c.pop_front-in-Some.new.self.items _ c.pop_front-in-Some-2.new.self.items
-    log c.in-Some-pop_front.sender c.in-Some-pop_front-2.room first c.in-Some-pop_front.ensures.items c.in-Some-pop_front-2.ensures.items i.left in
+    let second = c.in-Some-pop_front.ensures in
+    let third = c.in-Some-pop_front-2.ensures in
     let grown = c.push_reserved.ensures.items in
-    let longer : length more ≡ length old + 1 = ap length grown ∙ length-append old (v ∷ []) in
-    let same = next.0.known.0 in
-    let served = subst (λ (id : ℕ). IsServed c.args.journal.now id v.log v.queued v.unoffered) same c.settle_subscriber.ensures.served in
-    let shown : S (length old) log v = record { served = served; own = (same, c.settle_subscriber.ensures.log) } in
+    let longer = ap length grown in
+    let by_one = length-append c.loop-subscriber.ends.items _ in
     let subscribers = c.in-Some.ensures.cases in
-    let senders = c.in-Some-pop_front.ensures.cases in
-    let rooms = c.in-Some-pop_front-2.ensures.cases in
+    let senders = second.cases in
+    let rooms = third.cases in
     let were_senders = i.senders in
     let were_rooms = i.rooms in
     let fits = i.fits in
     let capacity = c.push_reserved.ensures.capacity in
     record {
-      left = subst (λ (k : ℕ). Zip3 R k left c.pop_front-in-Some.new.self.items c.pop_front-in-Some-2.new.self.items) (sym longer) next.1;
-      done = one_done S (map (λ v. v.log) c.args.subscribers.items) (map (λ v. v.log) c.loop-subscriber.subscribers.items) left old more log v first grown shown i.done;
+      closes = one_served g.N.FeedName.lanes c.args.journal.now (map (λ v. v.log) c.args.subscribers.items) _
+          (map (λ v. v.log) c.pop_front.new.self.items) c.loop-subscriber.ends.items _
+          c.pop_front-in-Some.new.self.items _ c.pop_front-in-Some-2.new.self.items c.in-Some.subscriber.log
+          c.in-Some-pop_front.sender c.in-Some-pop_front-2.room (ap (map (λ v. v.log)) c.in-Some.ensures.items)
+          second.items third.items i.closes c.push_reserved.new.self.items c.settle_subscriber.result grown
+          c.settle_subscriber.ensures.served c.settle_subscriber.ensures.log;
       senders = omega arith;
       rooms = omega arith;
       fits = omega arith;
@@ -106,7 +117,9 @@ loop-subscriber-preserved g c =
 
 pub returns : goal.returns
 returns g c =
-    let S = ShowsSubscriber c.args.journal.now in
     let none = c.in_default.ensures.cases.0 in
     let long = c.loop-subscriber.subscribers.ok.0 in
-    all_done S (map (λ v. v.log) c.args.subscribers.items) (map (λ v. v.log) c.loop-subscriber.subscribers.items) c.loop-subscriber.ends.items (no_items (λ v. v.log) c.loop-subscriber.subscribers.items (omega arith)) c.loop-subscriber.invariant.done
+    all_done (ShowsSubscriber c.args.journal.now) (map (λ v. v.log) c.args.subscribers.items)
+    (map (λ v. v.log) c.loop-subscriber.subscribers.items) c.loop-subscriber.ends.items
+    (no_items (λ v. v.log) c.loop-subscriber.subscribers.items (omega arith))
+    c.loop-subscriber.invariant.closes.until

@@ -1,14 +1,15 @@
 use Rattle.std.proofs.Common.{◌≡◌, ◌≤◌, ◌+◌, length, map, vec_capacity, deque_len}
-use Rattle.live_feed.specs.settle.Zips.{Zip3}
 use Rattle.live_feed.specs.settle.Settlements.{IsClosedVenue}
 use Rattle.live_feed.specs.settle.Closings.{IsToClose}
-use Rattle.live_feed.proofs.Sides.{Until}
+use Rattle.live_feed.proofs.Sides.{Closes}
 use Rattle.live_feed.proofs.settle.closing.close_venues.Given as goal
 
 abbrev pub invariant-loop-guarded : goal.invariant-loop-guarded
 invariant-loop-guarded g l = record {
-  left : Zip3 (IsToClose g.G.Genuine.carries g.G.Genuine.ends g.N.FeedName.lanes l.entries) (length l.ends.items) (map (λ x. x.cell) l.venues.items) l.receivers.items l.rooms.items;
-  done : Until (IsClosedVenue g.G.Genuine.sessions g.G.Genuine.carries g.G.Genuine.ends g.N.FeedName.lanes l.entries) (map (λ x. x.cell) l.fn.venues.items) l.ends.items (map (λ x. x.cell) l.venues.items);
+  closes : Closes (IsToClose g.G.Genuine.carries g.G.Genuine.ends g.N.FeedName.lanes l.entries)
+      (IsClosedVenue g.G.Genuine.sessions g.G.Genuine.carries g.G.Genuine.ends g.N.FeedName.lanes l.entries)
+      (map (λ x. x.cell) l.fn.venues.items) l.ends.items (map (λ x. x.cell) l.venues.items) l.receivers.items
+      l.rooms.items;
   receivers : deque_len l.receivers ≡ deque_len l.venues;
   rooms : deque_len l.rooms ≡ deque_len l.venues;
   fits : length l.ends.items + deque_len l.venues ≤ vec_capacity l.ends;

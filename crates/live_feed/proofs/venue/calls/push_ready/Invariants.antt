@@ -1,7 +1,5 @@
-use Rattle.std.proofs.Common.{◌≡◌, ◌+◌, length}
-use Rattle.live_feed.specs.venue.Sections.{KeepsButSent}
+use Rattle.live_feed.proofs.CellMoves.{PushesSoFar}
 use Rattle.live_feed.proofs.venue.calls.push_ready.Given as goal
 
 abbrev pub invariant-loop-pushed : goal.invariant-loop-pushed
-invariant-loop-pushed g l =
-    (length l.cell.lane.items ≡ length l.fn.cell.lane.items + l.pushed) × KeepsButSent l.fn.cell l.cell
+invariant-loop-pushed g l = PushesSoFar l.pushed l.fn.cell l.cell

@@ -4,9 +4,9 @@ use Rattle.feed_types.specs.declared.journal.Notice.{Notice}
 use Rattle.journal_book.specs.CursorLaws.{goes_past}
 use Rattle.feed_types.specs.ListLaws.{get_within}
 use Rattle.live_feed.specs.hub.Hubs.{HubState}
-use Rattle.live_feed.specs.hub.Sections.{HubOffersOne}
+use Rattle.live_feed.specs.hub.Sections.{HubOffersOne, KeepsButOffers}
 use Rattle.live_feed.specs.declared.unsent.Unsent.TheVariants as unsent
-use Rattle.live_feed.proofs.HubMoves.{at_index, looks_only, looks_kept, offers_kept, offer_may, offer_nothing, offer_full, offer_one}
+use Rattle.live_feed.proofs.HubMoves.{at_index, looks_only, looks_kept, offers_kept, offer_may, offer_nothing, offer_full, offer_keeps, offer_one}
 use Rattle.live_feed.proofs.hub.journal_and_lanes.JournalAndLanes.offer.Goals as goal
 
 abbrev RisingNotices : ℕ → List Notice → Type 0
@@ -78,3 +78,25 @@ returns-in-Err-clause-offer g c =
     subst (λ (x : HubState × ℕ). HubOffersOne RisingNotices c.args.id (Err unsent.LaneFull) x.0 (record { journal = c.next_offer.new.self; receivers = c.self.inside.from_venues.items; senders = slice_set c.self.inside.to_subscribers.items x.1 c.push.new.self; spare = c.self.inside.spare_lanes.items }))
     (λ i. (c.self.view_is i, sym index i))
     (offer_full g.G.Genuine.carries g.G.Genuine.ends g.N.FeedName.lanes _ c.args.id goes.place c.self.invariant c.index_mut-sender.result.now from goes.cursor goes.at goes.next RisingNotices c.next_offer.new.self c.in-Some.notice c.push.new.self goes.found_is c.in-Err.ensures.1 c.in-Err.ensures.2)
+
+pub returns-in_default-clause-kept : goal.returns-in_default-clause-kept
+returns-in_default-clause-kept g c =
+    let goes = c.in_default.ensures.goes in
+    let new = c.next_offer.new.self in
+    subst (λ (x : HubState). KeepsButOffers x (record { journal = new; receivers = c.self.inside.from_venues.items; senders = c.self.inside.to_subscribers.items; spare = c.self.inside.spare_lanes.items }))
+    c.self.view_is (offer_keeps _ c.args.id goes.place goes.cursor new _ goes.at goes.moved)
+
+pub returns-in-Ok-clause-kept : goal.returns-in-Ok-clause-kept
+returns-in-Ok-clause-kept g c =
+    let goes = c.in-Some.ensures.goes in
+    let new = c.advance_cursor.new.self in
+    let past = goes_past c.self.inside.kept c.next_offer.new.self new c.args.id _ goes c.advance_cursor.ensures in
+    subst (λ (x : HubState). KeepsButOffers x (record { journal = new; receivers = c.self.inside.from_venues.items; senders = slice_set c.self.inside.to_subscribers.items c.index.result c.push.new.self; spare = c.self.inside.spare_lanes.items }))
+    c.self.view_is (offer_keeps _ c.args.id (goes.place + 1) goes.cursor new _ goes.at past)
+
+pub returns-in-Err-clause-kept : goal.returns-in-Err-clause-kept
+returns-in-Err-clause-kept g c =
+    let goes = c.in-Some.ensures.goes in
+    let new = c.next_offer.new.self in
+    subst (λ (x : HubState). KeepsButOffers x (record { journal = new; receivers = c.self.inside.from_venues.items; senders = slice_set c.self.inside.to_subscribers.items c.index.result c.push.new.self; spare = c.self.inside.spare_lanes.items }))
+    c.self.view_is (offer_keeps _ c.args.id goes.place goes.cursor new _ goes.at goes.moved)
