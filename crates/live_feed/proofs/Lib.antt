@@ -1,5 +1,6 @@
 pub mod Histories
 pub mod CellMoves
+pub mod Statuses
 pub mod CellAnswers
 pub mod HubMoves
 pub mod FeedMoves

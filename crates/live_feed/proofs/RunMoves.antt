@@ -27,7 +27,7 @@ pub seat_stays : (sessions : SessionNames) (carries : Carries) (ends : Ends) (la
 seat_stays sessions carries ends lanes bytes old (Err (faults.Packet fault)) new taken =
     (ap (λ s. s.venue) taken.1, ap (λ s. s.line) taken.1)
 seat_stays sessions carries ends lanes bytes old (Err (faults.Line fault)) new taken =
-    (ap (λ s. s.venue) taken.seat, ap (λ s. s.line) taken.seat)
+    (ap (λ s. s.venue) taken.1, ap (λ s. s.line) taken.1)
 seat_stays sessions carries ends lanes bytes old (Ok outcome) new taken =
     (ap (λ s. s.venue) taken.seat, ap (λ s. s.line) taken.seat)
 

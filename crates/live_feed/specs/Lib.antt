@@ -11,3 +11,6 @@ pub mod feed
 pub mod settle
 -- a run by threads
 pub mod run
+-- what clauses and proofs of a program say of its filters and strategies
+pub use Rattle.filter_terms.specs.Allowed
+pub use Rattle.filter_terms.specs.Boxed

@@ -2,3 +2,4 @@
 pub mod Hubs
 pub mod Sections
 pub mod Batches
+pub mod Nationals

@@ -7,6 +7,7 @@ ghost use Rattle.live_feed.specs.feed.Feeds.{AreNamed, HasItsLane};
 pub(crate) mod log_size;
 mod making;
 pub(crate) mod open_feed;
+mod reading;
 
 use crate::bells::Bells;
 use crate::feed::log_size::LogSize;
@@ -18,6 +19,7 @@ use crate::hub::journal_and_lanes::JournalAndLanes;
 use crate::hub::spare::SpareLane;
 use crate::venue::cell::VenueCell;
 use crate::venue::locks::{VenueLock, VenueLocks};
+use crate::venue::refusals::RefusedLines;
 use crate::venue::seated_lines::SeatedLines;
 use crate::venue::start::VenueStart;
 use crossbeam_utils::CachePadded;
@@ -76,6 +78,7 @@ fn locked<G: Genuine, N: FeedName>(
         venues.push_reserved(CachePadded::new(Mutex::new(Guarded {
             cell,
             seated: SeatedLines::none(),
+            refused: RefusedLines::none(),
         })));
     }
     venues

@@ -14,7 +14,7 @@ use Rattle.live_feed.specs.declared.run.source.SourceFault.{SourceFault}
 use Rattle.live_feed.specs.declared.faults.TakeFault.{TakeFault}
 use Rattle.live_feed.specs.declared.faults.TakeFault.TheVariants as faults
 use Rattle.live_feed.specs.Lanes.{FeedLanes}
-use Rattle.live_feed.specs.venue.Seats.{SeatState, seat_after}
+use Rattle.live_feed.specs.venue.Seats.{SeatState, seat_after, seat_refusing}
 use Rattle.live_feed.specs.venue.Sections.{IsAnsweredBy}
 
 abbrev pub bytes_of : Datagram → List ℕ
@@ -39,7 +39,7 @@ IsAnsweredAt sessions carries ends lanes seat p answer =
     IsAnsweredBy sessions carries ends lanes seat.venue seat.line p answer
     ⊎ (answer ≡ Err OtherSession)
 
--- The bytes are a packet, to which this is the venue's answer; the seat counts it where it was
+-- The bytes are a packet, to which this is the venue's answer; the seat counts it where it is
 -- accepted.
 pub record IsPacketTaken (sessions : SessionNames) (carries : Carries) (ends : Ends)
     (lanes : FeedLanes) (bytes : List ℕ) (old : SeatState) (answer : Result Outcome LineFault)
@@ -51,13 +51,14 @@ pub record IsPacketTaken (sessions : SessionNames) (carries : Carries) (ends : E
   pub seat : new ≡ seat_after old packet answer
 
 -- The answer to a datagram, and the seat then: the packet's fault exactly; or it is a packet, and
--- the answer is the venue's.
+-- the answer is the venue's. What is refused is counted as such, and changes nothing else.
 abbrev pub IsTakenBy : SessionNames → Carries → Ends → FeedLanes → List ℕ → SeatState
     → Result Outcome TakeFault → SeatState → Type 0
 IsTakenBy sessions carries ends lanes bytes old (Err (faults.Packet fault)) new =
-    HasFault bytes fault × (new ≡ old)
+    HasFault bytes fault × (new ≡ seat_refusing (faults.Packet fault) old)
 IsTakenBy sessions carries ends lanes bytes old (Err (faults.Line fault)) new =
-    IsPacketTaken sessions carries ends lanes bytes old (Err fault) new
+    IsPacketTaken sessions carries ends lanes bytes old (Err fault) old
+    × (new ≡ seat_refusing (faults.Line fault) old)
 IsTakenBy sessions carries ends lanes bytes old (Ok outcome) new =
     IsPacketTaken sessions carries ends lanes bytes old (Ok outcome) new
 

@@ -11,19 +11,28 @@ use Rattle.line_arbiter.specs.Counts.{shown}
 use Rattle.line_arbiter.specs.Streams.{is_same_line}
 use Rattle.live_feed.specs.declared.faults.FeedFault.{FeedFault}
 use Rattle.live_feed.specs.declared.faults.FeedFault.TheVariants.{UnknownVenue, UnknownSubscriber, SeatTaken}
+use Rattle.live_feed.specs.declared.faults.TakeFault.{TakeFault}
+use Rattle.live_feed.specs.venue.Refusals.{no_refusals, refusals_after}
 use Rattle.live_feed.specs.venue.Sums.{Sums, no_sums, sums_after}
 
--- the venue and line of a seat, how many numbers it brought first, and the sums of its accepted
--- packets
+-- the venue and line of a seat, how many numbers it brought first, the sums of its accepted packets,
+-- and how many of its datagrams were refused
 pub record SeatState : Type 0 where
   pub venue : ℕ
   pub line : LineId
   pub wins : ℕ
   pub accepted : Sums
+  pub refused : List ℕ
 
 -- a seat that brought nothing
 abbrev pub new_seat : ℕ → LineId → SeatState
-new_seat venue line = record { venue = venue; line = line; wins = 0; accepted = no_sums }
+new_seat venue line = record {
+  venue = venue;
+  line = line;
+  wins = 0;
+  accepted = no_sums;
+  refused = no_refusals;
+}
 
 abbrev pub wins_after : ℕ → Result Outcome LineFault → ℕ
 wins_after wins (Ok (Taken new repeated)) = shown (wins + new)
@@ -32,10 +41,15 @@ wins_after wins (Ok Ended) = wins
 wins_after wins (Ok Ahead) = wins
 wins_after wins (Err fault) = wins
 
--- the seat after a packet with this answer: a refused one changes nothing
+-- the seat after a packet with this answer, which was counted where it is accepted
 abbrev pub seat_after : SeatState → Content → Result Outcome LineFault → SeatState
 seat_after s p answer =
     record s { wins = wins_after s.wins answer; accepted = sums_after s.accepted p answer }
+
+-- the seat after a datagram that was refused with this fault: it is counted, and nothing else has
+-- changed
+abbrev pub seat_refusing : TakeFault → SeatState → SeatState
+seat_refusing fault s = record s { refused = refusals_after fault s.refused }
 
 abbrev pub is_seat_of : ℕ → LineId → SeatState → Bool
 is_seat_of venue line s = (s.venue == venue) && is_same_line s.line line

@@ -17,6 +17,7 @@ use crate::subscriber::log::SubscriberLog;
 use crate::venue::cell::VenueCell;
 use crate::venue::datagram::Datagram;
 use crate::venue::locks::VenueLocks;
+use crate::venue::refusals::RefusedLines;
 use crate::venue::seat::LineSeat;
 use crate::venue::seated_lines::SeatedLines;
 use crossbeam_utils::CachePadded;
@@ -28,11 +29,13 @@ use mold_packet::Request;
 use std::alloc::Global;
 use std::sync::{Mutex, Wait};
 
-/// The part that a venue's lock guards: the cell, and which lines have their seats.
+/// The part that a venue's lock guards: the cell, which lines have their seats, and what the lines
+/// were refused.
 #[derive(Drop)]
 pub(crate) struct Guarded<G: Genuine, N: FeedName> {
     pub(crate) cell: VenueCell<G, N>,
     pub(crate) seated: SeatedLines,
+    pub(crate) refused: RefusedLines,
 }
 
 impl<G: Genuine, N: FeedName> Guarded<G, N> {

@@ -2,7 +2,7 @@
 
 ghost use Rattle.std.specs.Prelude.{◌≡◌, ◌<◌, ◌≤◌, ◌+◌, length};
 ghost use Rattle.line_arbiter.specs.Genuine.{IsGenuine};
-ghost use Rattle.live_feed.specs.venue.Seats.{seat_after};
+ghost use Rattle.live_feed.specs.venue.Seats.{seat_after, seat_refusing};
 ghost use Rattle.live_feed.specs.venue.Sections.{AcceptsTheirPacket, IsFlushedBy, KeepsButSent};
 ghost use Rattle.live_feed.specs.venue.Datagrams.{AreGenuineBytes, AcceptsTheirs, IsAnsweredAt, IsTakenBy, bytes_of};
 
@@ -105,13 +105,28 @@ impl<G: Genuine, N: FeedName> VenueLocks<G, N> {
         match read_packet(datagram.bytes()) {
             Ok(packet) => match self.take_packet(rt, seat, &packet, gap) {
                 Ok(outcome) => Ok(outcome),
-                Err(fault) => Err(TakeFault::Line(fault)),
+                Err(fault) => {
+                    self.refuse(rt, seat, TakeFault::Line(fault));
+                    Err(TakeFault::Line(fault))
+                }
             },
             Err(fault) => {
                 let _pushed = self.flush_some(rt, seat.venue(), u64::MAX);
                 *gap = true;
+                self.refuse(rt, seat, TakeFault::Packet(fault));
                 Err(TakeFault::Packet(fault))
             }
+        }
+    }
+
+    /// Counts one more datagram of the seat that was refused with this fault, and has the venue's
+    /// status show it.
+    fn refuse<W: Wait>(&self, rt: &W, seat: &mut LineSeat<G, N>, fault: TakeFault)
+        ensures { seat.new ≡ seat_refusing fault seat.old }
+    {
+        seat.count_refusal(fault);
+        if let Some(lock) = self.get(seat.venue()) {
+            enter(rt, lock).refused.set(seat.line(), seat.refused());
         }
     }
 

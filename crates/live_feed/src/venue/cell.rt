@@ -116,6 +116,13 @@ impl<G: Genuine, N: FeedName> VenueCell<G, N> {
         let _ = &self.items;
     }
 
+    /// The venue's arbiter.
+    pub(crate) fn arbiter(&self) -> &Arbiter<G>
+        ensures { result.now ≡ self.now.arbiter }
+    {
+        &self.lines
+    }
+
     /// Which of the venue's sessions the present one is, counted from 1 to 64.
     pub fn ordinal(&self) -> u64
         ensures value { result ≡ ordinal_of self.now.arbiter }

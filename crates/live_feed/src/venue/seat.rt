@@ -2,8 +2,10 @@
 
 ghost use Rattle.std.specs.Prelude.{◌≡◌, Ok};
 ghost use Rattle.live_feed.specs.venue.Sums.{sums_list};
-ghost use Rattle.live_feed.specs.venue.Seats.{new_seat, seat_after};
+ghost use Rattle.live_feed.specs.venue.Seats.{new_seat, seat_after, seat_refusing};
 
+use crate::faults::TakeFault;
+use crate::venue::refusals::Refusals;
 use crate::venue::sums::PacketSums;
 use feed_types::{LineId, VenueId};
 use line_arbiter::Outcome;
@@ -17,6 +19,7 @@ pub struct LineSeat<G, N> {
     seat_line: LineId,
     won: u64,
     sums: PacketSums,
+    refused_so: Refusals,
     lines: PhantomData<G>,
     feed: PhantomData<N>,
 }
@@ -31,6 +34,7 @@ impl<G, N> Model for LineSeat<G, N> {
       line = s.seat_line;
       wins = s.won;
       accepted = s.sums;
+      refused = s.refused_so;
     } };
 }
 
@@ -43,6 +47,7 @@ impl<G, N> LineSeat<G, N> {
             seat_line: line,
             won: 0,
             sums: PacketSums::none(),
+            refused_so: Refusals::none(),
             lines: PhantomData,
             feed: PhantomData,
         }
@@ -82,6 +87,20 @@ impl<G, N> LineSeat<G, N> {
         ensures { result ≡ self.now.accepted }
     {
         self.sums
+    }
+
+    /// How many datagrams of this seat were refused, by the code of the fault.
+    pub fn refused(&self) -> Refusals
+        ensures { result ≡ self.now.refused }
+    {
+        self.refused_so
+    }
+
+    /// Counts one more datagram that was refused with this fault.
+    pub(crate) fn count_refusal(&mut self, fault: TakeFault)
+        ensures { self.new ≡ seat_refusing fault self.old }
+    {
+        self.refused_so.count(fault);
     }
 
     /// Counts one more packet, with its outcome.
