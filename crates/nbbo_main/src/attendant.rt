@@ -90,7 +90,7 @@ impl<C: Clock> Attendant<C> {
         S: Fn(VenueId) -> Option<VenueStatus>,
         W: TextOut,
         E: TextOut,
-        requires poll { P.IsAlwaysCallable poll.old }
+        requires poll { (f : _) → P.pre f }
         requires status { S.IsAlwaysCallable status.now }
     {
         if !self.await_begin(begun) {
