@@ -8,8 +8,8 @@ ghost use Rattle.live_feed.specs.Allowed.{IsAllowed};
 
 use live_feed::{
     Advice, Anything, Datagram, FeedConfig, FeedName, Filter, Limits, Line, LineId, LineSource,
-    LiveFeed, Notice, OpenFeed, Request, Settlement, SourceFault, StopHandle, Strategy,
-    SubscriberId, SymbolName, Terms, VenueId, VenueStatus,
+    LiveFeed, Notice, OpenFeed, Request, RunReport, Settlement, SourceFault, StopHandle, Strategy,
+    Subscriber, SubscriberId, SymbolName, Terms, VenueId, VenueStatus,
 };
 use std::alloc::{AllocError, Global};
 use std::collections::VecDeque;
@@ -53,6 +53,14 @@ fn datagram_of(alloc: Global, number: u64) -> Result<Datagram, AllocError> {
     bytes.extend_from_slice(&300_u32.to_be_bytes())?;
     bytes.extend_from_slice(&[3])?;
     Ok(Datagram::new(bytes))
+}
+
+/// Puts the messages that are asked for before those that are left.
+fn push_asked(left: &mut VecDeque<u64>, request: &Request) -> Result<(), AllocError> {
+    for place in 0..request.count {
+        left.push_front(request.number.saturating_add(u64::from(place)))?;
+    }
+    Ok(())
 }
 
 /// A line whose messages are a list of numbers. Like a socket it doesn't end by itself: a run ends
@@ -104,13 +112,10 @@ impl LineSource<Anything> for Listed {
     }
 
     fn request(&mut self, request: &Request) -> Result<(), SourceFault> {
-        for place in 0..request.count {
-            let number = request.number.saturating_add(u64::from(place));
-            if self.left.push_front(number).is_err() {
-                return Err(SourceFault::NoMemory);
-            }
+        match push_asked(&mut self.left, request) {
+            Ok(()) => Ok(()),
+            Err(AllocError) => Err(SourceFault::NoMemory),
         }
-        Ok(())
     }
 }
 
@@ -183,6 +188,34 @@ fn sold(notice: &Notice) -> Advice
     }
 }
 
+/// Runs the feed with both lines and these subscribers, in this thread, and the watcher beside it in
+/// another one. None where memory was refused.
+fn run_watched<N, R>(
+    rt: &R,
+    alloc: Global,
+    feed: &OpenFeed<Anything, N>,
+    subscribers: Vec<Subscriber<N>>,
+) -> Option<RunReport<Anything, N, Listed>>
+where
+    N: FeedName + Send + Sync,
+    R: Threads + Wait + Sync,
+{
+    let a = line_of(rt, alloc, feed, LineId::A, &ON_A)?;
+    let b = line_of(rt, alloc, feed, LineId::B, &ON_B)?;
+    let lines = Vec::from_array(alloc, [a, b]).ok()?;
+    let handle = feed.stop_handle().ok()?;
+    let (report, ()) = thread::join(
+        rt,
+        || {
+            let report = feed.run(rt, alloc, lines, subscribers);
+            handle.stop();
+            report
+        },
+        || watch(rt, feed, &handle),
+    );
+    report.ok()
+}
+
 /// What the venue had come to after a run, and the feed's settlement.
 #[derive(Drop)]
 struct Ended {
@@ -190,10 +223,27 @@ struct Ended {
     settlement: Settlement,
 }
 
-/// Runs the feed until its venue's session is over, and settles it. None where memory was refused.
+/// Settles the feed after this run. None where memory was refused.
+fn settled<N: FeedName, R: Wait>(
+    rt: &R,
+    alloc: Global,
+    feed: OpenFeed<Anything, N>,
+    report: RunReport<Anything, N, Listed>,
+) -> Option<Ended> {
+    let mut seats = Vec::with_capacity(alloc, 2).ok()?;
+    for end in report.lines {
+        seats.push(end.seat).ok()?;
+    }
+    let status = feed.status(rt, VenueId::default()).ok()?;
+    let settlement = feed.settle(rt, alloc, seats, report.subscribers).ok()?;
+    Some(Ended { status, settlement })
+}
+
+/// Opens the feed, whose lanes N names, runs it until its venue's session is over, and settles it.
+/// None where memory was refused.
 ///
-/// N names the feed's lanes. Stored closures are made where they are used, and the feed is opened
-/// there: no function hands one out.
+/// Stored closures are made where they are used, and the feed is opened there: no function hands one
+/// out.
 fn run_feed<N, R>(rt: &R, alloc: Global, closed: LiveFeed<Anything>) -> Option<Ended>
 where
     N: FeedName + Send + Sync,
@@ -220,28 +270,8 @@ where
     let all = feed.subscribe(rt, alloc, Filter::of(Terms::All), buyer);
     let large = feed.subscribe(rt, alloc, Filter::of(Terms::MinSize(300)), seller);
     let subscribers = Vec::from_array(alloc, [all.ok()?, large.ok()?]).ok()?;
-    let a = line_of(rt, alloc, &feed, LineId::A, &ON_A)?;
-    let b = line_of(rt, alloc, &feed, LineId::B, &ON_B)?;
-    let lines = Vec::from_array(alloc, [a, b]).ok()?;
-    // The run takes this thread, and the watcher another one beside it.
-    let handle = feed.stop_handle().ok()?;
-    let (report, ()) = thread::join(
-        rt,
-        || {
-            let report = feed.run(rt, alloc, lines, subscribers);
-            handle.stop();
-            report
-        },
-        || watch(rt, &feed, &handle),
-    );
-    let report = report.ok()?;
-    let mut seats = Vec::with_capacity(alloc, 2).ok()?;
-    for end in report.lines {
-        seats.push(end.seat).ok()?;
-    }
-    let status = feed.status(rt, VenueId::default()).ok()?;
-    let settlement = feed.settle(rt, alloc, seats, report.subscribers).ok()?;
-    Some(Ended { status, settlement })
+    let report = run_watched(rt, alloc, &feed, subscribers)?;
+    settled(rt, alloc, feed, report)
 }
 
 /// Makes the feed of one venue.

@@ -1,5 +1,5 @@
 -- What moving a subscriber's cursor does to what was offered.
-use Rattle.std.proofs.Common.{ℕ, zero, suc, ◌≡◌, ◌+◌, ◌<◌, ◌≤◌, List, [], ◌∷◌, ◌++◌, ap, ◌∙◌, sym, refl, subst, length, map, None, Some, Option, arith, length-append}
+use Rattle.std.proofs.Common.{ℕ, zero, suc, ◌≡◌, ◌+◌, ◌<◌, List, [], ◌∷◌, ap, ◌∙◌, sym, refl, subst, length, map, None, Some, Option, arith, length-append}
 use Rattle.std.specs.Prelude.{slice_get, slice_set, IsSome, IfSome, MatchOption, option_and_then}
 use Rattle.std.specs.Option.{option_map}
 use Rattle.feed_types.specs.declared.journal.Notice.{Notice}

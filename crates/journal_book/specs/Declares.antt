@@ -11,9 +11,9 @@ IsSo entries venue on = is_self_helped entries venue ≡ on
 
 -- The answer of a journal of this many venues, of this many entries at most and of these entries,
 -- by cases in the order in which they are tried. `stays` says that nothing has changed, `lacks` when
--- memory is refused, and `goes` that the entry was journaled at this position.
-abbrev pub DeclaresBy : ℕ → ℕ → List Entry → Type 0 → Type 0 → (ℕ → Type 0)
-    → ℕ → Bool → Result ℕ JournalFault → Type 0
+-- memory is refused, and `goes` what is answered where the declaration is taken.
+abbrev pub DeclaresBy : {T : Type 0} → ℕ → ℕ → List Entry → Type 0 → Type 0 → (T → Type 0)
+    → ℕ → Bool → Result T JournalFault → Type 0
 DeclaresBy venues limit entries stays lacks goes venue on (Err UnknownVenue) =
     (venues ≤ venue) × stays
 DeclaresBy venues limit entries stays lacks goes venue on (Err AlreadySo) =
@@ -22,5 +22,5 @@ DeclaresBy venues limit entries stays lacks goes venue on (Err JournalFull) =
     (venue < venues) × (¬ IsSo entries venue on) × (limit ≤ length entries) × stays
 DeclaresBy venues limit entries stays lacks goes venue on (Err NoMemory) = lacks
 DeclaresBy venues limit entries stays lacks goes venue on (Err TooManySubscribers) = ⊥
-DeclaresBy venues limit entries stays lacks goes venue on (Ok position) =
-    (venue < venues) × (¬ IsSo entries venue on) × (length entries < limit) × goes position
+DeclaresBy venues limit entries stays lacks goes venue on (Ok made) =
+    (venue < venues) × (¬ IsSo entries venue on) × (length entries < limit) × goes made

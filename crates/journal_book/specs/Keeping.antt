@@ -3,21 +3,26 @@ use Rattle.std.specs.Prelude.{◌≡◌, ℕ, ◌+◌, ◌*◌, ◌≤◌, nat_l
 use Rattle.std.specs.List.{AllByRecursion}
 use Rattle.feed_types.specs.declared.journal.Entry.{Entry}
 use Rattle.feed_types.specs.declared.journal.Notice.{Notice}
-use Rattle.nbbo_book.specs.declared.change.Change.{Change}
 use Rattle.nbbo_book.specs.Books.{BookState, FitsBook}
 use Rattle.journal_book.specs.declared.cursor.Cursor.{Cursor}
 use Rattle.journal_book.specs.Changes.{changes_of, notices_from}
+use Rattle.journal_book.specs.NumberedBooks.{NumberedState}
 use Rattle.journal_book.specs.Streaming.{before_last, latest_of}
 
--- the book and the notices are those of the entries, and no cursor is past the notices
-pub record Keeps (book : BookState) (venues limit scratch : ℕ)
-    (entries : List Entry) (notices : List Notice) (cursors : List Cursor) : Type 0 where
+-- of a numbered book: the entries were applied, each at its number, and there is room for the
+-- changes of one more
+pub record FitsEntries (book : BookState) (scratch : ℕ) (entries : List Entry) : Type 0 where
   pub fits : FitsBook book entries
   pub last : book.last ≡ length entries
-  pub venues_same : book.venues ≡ venues
-  pub all : notices ≡ changes_of book.symbols entries
-  pub within : length entries ≤ limit
+  pub few : length book.symbols ≤ 4096
   pub room : length book.symbols ≤ scratch
+
+-- of a journal: its entries and notices are those of the book, and no cursor is past the notices
+pub record Keeps (numbered : NumberedState) (entries : List Entry) (notices : List Notice)
+    (cursors : List Cursor) : Type 0 where
+  pub same : entries ≡ numbered.entries
+  pub within : length entries ≤ numbered.journal
+  pub all : notices ≡ changes_of numbered.symbols entries
   pub few : length cursors ≤ 32
   pub seen : AllByRecursion (λ cursor. cursor.seen ≤ length notices) cursors
 
@@ -31,16 +36,13 @@ abbrev pub CursorMoves : List Cursor → ℕ → ℕ → List Cursor → Type 0
 CursorMoves old index place new = MatchOption (slice_get old index) ⊥
     (λ cursor. new ≡ slice_set old index (record cursor { seen = place }))
 
--- of a streaming journal: book, counts and the last entry's changes are those of the entries
-pub record FitsEntries (book : BookState) (limit scratch earlier : ℕ) (latest : List Change)
-    (entries : List Entry) : Type 0 where
-  pub fits : FitsBook book entries
-  pub last : book.last ≡ length entries
-  pub within : length entries ≤ limit
-  pub limited : limit ≤ 4294967295
-  pub few : length book.symbols ≤ 4096
-  pub room : length book.symbols ≤ scratch
-  pub before : earlier ≡ length (changes_of book.symbols (before_last entries))
-  pub all : earlier + length latest ≡ length (changes_of book.symbols entries)
-  pub bounded : earlier + length latest ≤ length entries * 4096
-  pub made : notices_from (earlier + 1) latest ≡ latest_of book.symbols entries
+-- of a streaming journal: its counts and the last entry's changes are those of the entries
+pub record CountsChanges (numbered : NumberedState) (earlier : ℕ) : Type 0 where
+  pub within : length numbered.entries ≤ numbered.journal
+  pub limited : numbered.journal ≤ 4294967295
+  pub before : earlier ≡ length (changes_of numbered.symbols (before_last numbered.entries))
+  pub all : earlier + length numbered.latest
+      ≡ length (changes_of numbered.symbols numbered.entries)
+  pub bounded : earlier + length numbered.latest ≤ length numbered.entries * 4096
+  pub made : notices_from (earlier + 1) numbered.latest
+      ≡ latest_of numbered.symbols numbered.entries

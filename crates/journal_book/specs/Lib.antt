@@ -4,6 +4,7 @@ pub mod Wanted
 pub mod Prefixes
 pub mod Rising
 pub mod Declares
+pub mod NumberedBooks
 pub mod Journals
 pub mod Consolidators
 pub mod Keeping

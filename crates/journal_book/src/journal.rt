@@ -7,13 +7,14 @@ ghost use Rattle.journal_book.specs.Keeping.{Keeps, CursorMoves};
 use crate::cursor::Cursor;
 use crate::fault::JournalFault;
 use crate::notices::push_notices;
+use crate::numbered_book::NumberedBook;
 use crate::room::make_room;
 use crate::search::{next_wanted, notice_at};
 use feed_types::{
     Entry, Item, National, Notice, Numbered, Quote, SubscriberId, SymbolName, VenueId,
 };
 use filter_terms::{Filter, Terms};
-use nbbo_book::{Book, BookFault, Change};
+use nbbo_book::BookFault;
 use std::alloc::Global;
 use std::marker::Model;
 
@@ -29,12 +30,9 @@ const MAX_SUBSCRIBERS: usize = 32;
 /// later.
 #[derive(Drop)]
 pub struct Journal {
-    book: Book,
-    venue_count: usize,
-    limit: u32,
+    numbered: NumberedBook,
     entries: Vec<Entry>,
     notices: Vec<Notice>,
-    made: Vec<Change>,
     cursors: Vec<Cursor>,
 }
 
@@ -51,17 +49,16 @@ impl Model for Journal {
     ghost coded = { Prim.hlevel (codes, terms_type.the_row.coded) };
 
     ghost view = { λ j. record {
-      symbols = j.book.symbols;
-      venues = j.venue_count;
-      journal = j.limit;
+      symbols = j.numbered.symbols;
+      venues = j.numbered.venues;
+      journal = j.numbered.journal;
       entries = j.entries.items;
       cursors = j.cursors.items;
-      ready = has_room j.limit (length j.book.symbols) (vec_len j.entries) (vec_capacity j.entries)
-          (vec_len j.notices) (vec_capacity j.notices);
+      ready = has_room j.numbered.journal (length j.numbered.symbols) (vec_len j.entries)
+          (vec_capacity j.entries) (vec_len j.notices) (vec_capacity j.notices);
     } };
 
-    ghost invariant = { λ j. Keeps j.book j.venue_count j.limit (vec_capacity j.made)
-        j.entries.items j.notices.items j.cursors.items };
+    ghost invariant = { λ j. Keeps j.numbered j.entries.items j.notices.items j.cursors.items };
 }
 
 /// Appends the entry, for which there is room.
@@ -94,7 +91,7 @@ impl Journal {
     /// A journal of no entries and no subscribers, over `venue_count` venues, 1 to 16, and these
     /// symbols, at most 4,096 and each once. It holds at most `journal` entries.
     ///
-    /// The refusals are those of [`Book::new`], in its order.
+    /// The refusals are those of [`nbbo_book::Book::new`], in its order.
     pub fn new(
         alloc: Global,
         symbols: &[SymbolName],
@@ -104,17 +101,11 @@ impl Journal {
         ensures new { IfOk result (λ made. made ≡ new_journal symbols.now venue_count journal) }
         ensures answer { ConfiguresBook symbols.now venue_count result }
     {
-        let book = Book::new(alloc, symbols, venue_count)?;
-        let Ok(made) = Vec::with_capacity(alloc, symbols.len()) else {
-            return Err(BookFault::NoMemory);
-        };
+        let numbered = NumberedBook::new(alloc, symbols, venue_count, journal)?;
         Ok(Journal {
-            book,
-            venue_count,
-            limit: journal,
+            numbered,
             entries: Vec::new(alloc),
             notices: Vec::new(alloc),
-            made,
             cursors: Vec::new(alloc),
         })
     }
@@ -124,7 +115,7 @@ impl Journal {
     pub fn reserve_one(&mut self) -> Result<(), JournalFault>
         ensures { Reserves self.old result self.new }
     {
-        if self.entries.len() >= self.limit as usize {
+        if self.entries.len() >= self.numbered.limit() as usize {
             return Err(JournalFault::JournalFull);
         }
         if self.has_room() {
@@ -140,11 +131,12 @@ impl Journal {
         requires full { self.old.ready ≡ false }
         ensures { Reserves self.old result self.new }
     {
-        let enough = self.limit as usize;
+        let enough = self.numbered.limit() as usize;
         if make_room(&mut self.entries, 1, enough).is_err() {
             return Err(JournalFault::NoMemory);
         }
-        if make_room(&mut self.notices, self.book.symbol_count(), enough).is_err() {
+        let most = self.numbered.book().symbol_count();
+        if make_room(&mut self.notices, most, enough).is_err() {
             return Err(JournalFault::NoMemory);
         }
         Ok(())
@@ -154,9 +146,10 @@ impl Journal {
     pub fn has_room(&self) -> bool
         ensures { result ≡ self.now.ready }
     {
-        self.entries.len() < self.limit as usize
+        let most = self.numbered.book().symbol_count();
+        self.entries.len() < self.numbered.limit() as usize
             && self.entries.len() < self.entries.capacity()
-            && self.notices.len() + self.book.symbol_count() <= self.notices.capacity()
+            && self.notices.len() + most <= self.notices.capacity()
     }
 
     /// Journals the entry and its changes, and returns its position. The entry is written where it
@@ -170,12 +163,9 @@ impl Journal {
         ensures offered { subscriptions_of self.new ≡ subscriptions_of self.old }
     {
         let place = self.entries.len();
-        let position = place as u64 + 1;
-        self.made.clear();
         push_entry(&mut self.entries, entry);
-        self.book
-            .apply(position, &self.entries[place], &mut self.made);
-        push_notices(&mut self.notices, self.made.as_slice());
+        let position = self.numbered.take(&self.entries[place]);
+        push_notices(&mut self.notices, self.numbered.latest());
         position
     }
 
@@ -199,12 +189,7 @@ impl Journal {
         ensures declares { Declares self.old venue on result self.new }
         ensures offered { subscriptions_of self.new ≡ subscriptions_of self.old }
     {
-        if venue.index() >= self.venue_count {
-            return Err(JournalFault::UnknownVenue);
-        }
-        if self.book.is_self_helped(venue) == on {
-            return Err(JournalFault::AlreadySo);
-        }
+        self.numbered.may_declare(venue, on)?;
         self.reserve_one()?;
         Ok(self.add(Entry::SelfHelp { venue, on }))
     }
@@ -213,14 +198,14 @@ impl Journal {
     pub fn is_self_helped(&self, venue: VenueId) -> bool
         ensures { result ≡ is_self_helped self.now.entries venue }
     {
-        self.book.is_self_helped(venue)
+        self.numbered.book().is_self_helped(venue)
     }
 
     /// The number of venues: items and declarations are of venues below it.
     pub fn venue_count(&self) -> usize
         ensures { result ≡ self.now.venues }
     {
-        self.venue_count
+        self.numbered.book().venue_count()
     }
 
     /// The entries, each at its position less one.
@@ -244,7 +229,7 @@ impl Journal {
         ensures value { IfSome result
             (λ national. national ≡ national_of self.now.entries symbol.now) }
     {
-        self.book.national(symbol)
+        self.numbered.book().national(symbol)
     }
 
     /// Adds a subscriber of these terms, to which nothing was offered, and returns its id, the next

@@ -18,6 +18,7 @@ mod journal;
 mod journaled_entries;
 mod laws;
 mod notices;
+mod numbered_book;
 mod room;
 mod search;
 mod streaming;

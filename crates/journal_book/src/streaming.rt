@@ -1,16 +1,15 @@
 //! A journal that is shown while it runs, and not kept.
 
 ghost use Rattle.std.specs.Prelude.{◌≡◌, ◌+◌, ◌<◌, ◌≤◌, ◌↔◌, length, IsTrue, IfOk};
-ghost use Rattle.std.specs.Vec.{vec_capacity};
 ghost use Rattle.feed_types.specs.declared.journal.Entry.{Entry};
 ghost use Rattle.nbbo_book.specs.Books.{venue_of};
 ghost use Rattle.nbbo_book.specs.Refusals.{ConfiguresBook};
 ghost use Rattle.journal_book.specs.Changes.{changes_of, notices_from};
 
 use crate::fault::JournalFault;
-use crate::journaled_entries::JournaledEntries;
+use crate::numbered_book::NumberedBook;
 use feed_types::{Entry, Numbered, SymbolName, VenueId};
-use nbbo_book::{Book, BookFault, Change};
+use nbbo_book::{BookFault, Change};
 use std::alloc::Global;
 use std::marker::Model;
 
@@ -29,29 +28,24 @@ pub struct EntryChanges<'a> {
 /// memory when it is made, however many entries come.
 #[derive(Drop)]
 pub struct StreamingJournal {
-    book: Book,
-    limit: u32,
+    numbered: NumberedBook,
     earlier: u64,
-    latest: Vec<Change>,
-    past: JournaledEntries,
 }
 
 impl Model for StreamingJournal {
-    ghost use Rattle.std.specs.Vec.{vec_capacity};
-    ghost use Rattle.journal_book.specs.Keeping.{FitsEntries};
+    ghost use Rattle.journal_book.specs.Keeping.{CountsChanges};
     ghost use Rattle.journal_book.specs.Streaming.{StreamingState};
 
     ghost Value = { StreamingState };
 
     ghost view = { λ j. record {
-      symbols = j.book.symbols;
-      venues = j.book.venues;
-      journal = j.limit;
-      entries = j.past.entries;
+      symbols = j.numbered.symbols;
+      venues = j.numbered.venues;
+      journal = j.numbered.journal;
+      entries = j.numbered.entries;
     } };
 
-    ghost invariant = { λ j. FitsEntries j.book j.limit (vec_capacity j.latest) j.earlier
-        j.latest.items j.past.entries };
+    ghost invariant = { λ j. CountsChanges j.numbered j.earlier };
 }
 
 impl StreamingJournal {
@@ -60,7 +54,7 @@ impl StreamingJournal {
     /// A journal of no entries over `venue_count` venues, 1 to 16, and these symbols, at most 4,096
     /// and each once. It takes at most `journal` entries.
     ///
-    /// The refusals are those of [`Book::new`], in its order.
+    /// The refusals are those of [`nbbo_book::Book::new`], in its order.
     pub fn new(
         alloc: Global,
         symbols: &[SymbolName],
@@ -70,16 +64,10 @@ impl StreamingJournal {
         ensures new { IfOk result (λ made. made ≡ new_streaming symbols.now venue_count journal) }
         ensures answer { ConfiguresBook symbols.now venue_count result }
     {
-        let book = Book::new(alloc, symbols, venue_count)?;
-        let Ok(latest) = Vec::with_capacity(alloc, symbols.len()) else {
-            return Err(BookFault::NoMemory);
-        };
+        let numbered = NumberedBook::new(alloc, symbols, venue_count, journal)?;
         Ok(StreamingJournal {
-            book,
-            limit: journal,
+            numbered,
             earlier: 0,
-            latest,
-            past: JournaledEntries::new(),
         })
     }
 
@@ -88,7 +76,7 @@ impl StreamingJournal {
     pub fn has_room(&self) -> bool
         ensures { IsTrue result ↔ (length self.now.entries < self.now.journal) }
     {
-        self.book.last_position() < u64::from(self.limit)
+        self.numbered.has_room()
     }
 
     /// Journals the entry, and returns its position.
@@ -99,12 +87,8 @@ impl StreamingJournal {
         ensures goes_on { GoesOnBy self.old entry.now self.new }
         ensures position { result ≡ length self.new.entries }
     {
-        let position = self.book.last_position() + 1;
-        self.earlier += self.latest.len() as u64;
-        self.latest.clear();
-        self.book.apply(position, entry, &mut self.latest);
-        self.past = self.past.with(entry);
-        position
+        self.earlier += self.numbered.latest().len() as u64;
+        self.numbered.take(entry)
     }
 
     /// Journals the venue's item, and returns its position, which counts from 1. There is room, and
@@ -120,12 +104,13 @@ impl StreamingJournal {
     }
 
     /// Reads what the venue's quotation of a symbol will read of the book, where a message to come
-    /// has this field, as [`Book::prefetch`] does. It changes no answer. Returns whether that pays.
+    /// has this field, as [`nbbo_book::Book::prefetch`] does. It changes no answer. Returns whether
+    /// that pays.
     #[inline(always)]
     pub fn prefetch(&mut self, venue: VenueId, field: [u8; 8]) -> bool
         ensures { self.new ≡ self.old }
     {
-        self.book.prefetch(venue, field)
+        self.numbered.prefetch(venue, field)
     }
 
     /// Declares self-help on the venue, or withdraws it, and returns the entry's position. It is
@@ -134,15 +119,7 @@ impl StreamingJournal {
     pub fn declare(&mut self, venue: VenueId, on: bool) -> Result<u64, JournalFault>
         ensures { DeclaresNext self.old venue on result self.new }
     {
-        if venue.index() >= self.book.venue_count() {
-            return Err(JournalFault::UnknownVenue);
-        }
-        if self.book.is_self_helped(venue) == on {
-            return Err(JournalFault::AlreadySo);
-        }
-        if !self.has_room() {
-            return Err(JournalFault::JournalFull);
-        }
+        self.numbered.may_declare(venue, on)?;
         Ok(self.add(&Entry::SelfHelp { venue, on }))
     }
 
@@ -157,7 +134,7 @@ impl StreamingJournal {
     {
         EntryChanges {
             first: self.earlier + 1,
-            changes: self.latest.as_slice(),
+            changes: self.numbered.latest(),
         }
     }
 }
