@@ -120,11 +120,11 @@ fn given_count_of(options: &ArgMatches<'_>, name: &str) -> Option<u32>
     }
 }
 
-/// Whether gaps are printed.
-fn gaps_of(replay: &ArgMatches<'_>) -> bool
-    ensures { IsFlag (one_of (codes "gaps") (rows_of (found_of replay.now))) result }
+/// Whether the flag of this name is given.
+fn flag_of(options: &ArgMatches<'_>, name: &str) -> bool
+    ensures { IsFlag (one_of name.now (rows_of (found_of options.now))) result }
 {
-    replay.get_flag("gaps")
+    options.get_flag(name)
 }
 
 /// The lines that the option gives, two for each of `venues` venues.
@@ -165,7 +165,7 @@ pub fn settings_of(alloc: Global, replay: &ArgMatches<'_>) -> Result<ReplaySetti
         symbols: symbols_of(alloc, replay)?,
         window: window_of(replay),
         journal: count_of(replay, "journal"),
-        gaps: gaps_of(replay),
+        gaps: flag_of(replay, "gaps"),
     })
 }
 
@@ -186,6 +186,10 @@ fn listening_of(alloc: Global, listen: &ArgMatches<'_>) -> Result<ListenSettings
         journal: count_of(listen, "journal"),
         datagrams: count_of(listen, "datagrams"),
         buffer: given_count_of(listen, "buffer"),
+        seconds: given_count_of(listen, "seconds"),
+        until_input_ends: flag_of(listen, "until-input-ends"),
+        follow: flag_of(listen, "follow"),
+        stats: given_count_of(listen, "stats"),
     })
 }
 
