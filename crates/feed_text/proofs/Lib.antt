@@ -1,5 +1,4 @@
 pub mod Ranges
-pub mod Reading
 pub mod Calls
 pub mod Steps
 pub mod Rest

@@ -6,7 +6,7 @@ use Rattle.feed_text.specs.declared.fault.ReplayFault.{ReplayFault}
 use Rattle.feed_text.specs.declared.fault.ReplayFault.TheVariants.{ReadFailed, WriteFailed, BadRecord, ShortRecord, TooManyTurns, JournalFull, NoMemory}
 use Rattle.feed_text.specs.declared.replay.ReplayConfig.{ReplayConfig}
 use Rattle.feed_text.specs.Capture.{CaptureRecord, IsRecord, IsUnfinished, bytes_of_record}
-use Rattle.feed_text.specs.Devices.{Reading, Writing, HasGiven, HasGivenSome, Wrote, Moved}
+use Rattle.feed_text.specs.Devices.{Reading, Writing, HasGiven, HasGivenUpTo, Wrote, Moved}
 use Rattle.feed_text.specs.declared.report.PublishStop.{PublishStop}
 use Rattle.feed_text.specs.declared.report.PublishStop.TheVariants as stops
 use Rattle.feed_text.specs.ReplayStates.{ReplayState, Grows}
@@ -83,14 +83,14 @@ unwritten laws x kept part failed = (front_wrote laws x part, failed ∙ ap (λ 
 -- the reader failed, or no turn was left
 pub unfilled_by : {R W : Type 0} {reading : Reading R} {writing : Writing W} {config : ReplayConfig} {from mid to : R} {calls left : ℕ} {before after : W} {venues : VenueList} {rest longer : List ℕ} {t : ReplayState}
     (fault : ReplayFault) → Laws reading writing → SoFar reading writing config from calls mid before after venues rest t → t.text ≡ [] → calls + left ≡ config.turns → reading.failures mid ≡ reading.failures from
-    → (fault ≡ ReadFailed → HasGivenSome reading.gives mid rest longer × (reading.failures to ≡ reading.failures mid + 1))
+    → (fault ≡ ReadFailed → HasGivenUpTo reading.gives reading.fails mid to rest longer × (reading.failures to ≡ reading.failures mid + 1))
     → (fault ≡ TooManyTurns → HasGiven reading.gives mid to rest longer left)
     → (fault ≢ ReadFailed → fault ≡ TooManyTurns)
     → ((came : List ℕ) → longer ≡ rest ++ came → IsUnfinished (venues_in config) longer)
     → Replays reading writing config from to before after (Err fault)
 unfilled_by ReadFailed laws x none all kept failed stopped only unfinished =
     let f = failed refl in
-    (replays_until (so_far_read _ refl laws x f.0.came) none (unfinished f.0.came.bytes f.0.came.behind) tt, f.1 ∙ ap (λ (n : ℕ). n + 1) kept)
+    (replays_until (so_far_read _ refl laws x f.0.came) none (unfinished f.0.came.bytes f.0.came.behind) f.0.failed, f.1 ∙ ap (λ (n : ℕ). n + 1) kept)
 unfilled_by TooManyTurns laws x none all kept failed stopped only unfinished =
     let s = stopped refl in
     replays_to (so_far_read _ all laws x s) none (unfinished s.bytes s.behind)

@@ -49,12 +49,13 @@ pub record HasGivenAll {R : Type 0} (gives : R → ℕ → List ℕ → R → Ty
   pub came : HasGiven gives from mid old new calls
   pub end : ends mid to
 
--- The same by some calls, whatever the reader's state is then.
-pub record HasGivenSome {R : Type 0} (gives : R → ℕ → List ℕ → R → Type 0)
-    (from : R) (old new : List ℕ) : Type 0 where
+-- The same by some calls, and then one more call fails.
+pub record HasGivenUpTo {R : Type 0} (gives : R → ℕ → List ℕ → R → Type 0) (fails : R → R → Type 0)
+    (from to : R) (old new : List ℕ) : Type 0 where
   pub calls : ℕ
   pub mid : R
   pub came : HasGiven gives from mid old new calls
+  pub failed : fails mid to
 
 -- A writer took a prefix of the text.
 pub record Wrote {W : Type 0} (adds : W → List ℕ → W → Type 0)
@@ -71,12 +72,13 @@ pub record Moved {W : Type 0} (adds : W → List ℕ → W → Type 0)
 
 -- ---- what the traits say of their readers and writers
 
--- How readers of a type go on: calls that read these bytes, one call that shows the end, and the
--- number of calls that failed. These are the members of the trait CaptureIn.
+-- How readers of a type go on: calls that read these bytes, one call that shows the end, the number
+-- of calls that failed, and one call that fails. These are the members of the trait CaptureIn.
 pub record Reading (R : Type 0) : Type 1 where
   pub gives : R → ℕ → List ℕ → R → Type 0
   pub ends : R → R → Type 0
   pub failures : R → ℕ
+  pub fails : R → R → Type 0
 
 -- How writers of a type go on: calls that take this text, and the number of calls that failed.
 -- These are the members of the trait TextOut.

@@ -97,7 +97,7 @@ AnswersReplay reading writing config texts from to before after (Err JournalFull
     from before after
 AnswersReplay reading writing config texts from to before after (Err ReadFailed) =
     WroteLinesUntil reading writing config texts.AreLines (IsUnfinished (venues_in config))
-    (λ mid. ⊤) from before after
+    (λ mid. reading.fails mid to) from before after
     × (reading.failures to ≡ reading.failures from + 1)
 AnswersReplay reading writing config texts from to before after (Err WriteFailed) =
     WrotePrefix reading writing config texts from to before after

@@ -2,3 +2,4 @@
 pub mod Lists
 pub mod Entries
 pub mod VenueItemsLaw
+pub mod Readings

@@ -33,6 +33,9 @@ pub trait CaptureIn {
     /// The number of calls that failed.
     ghost failures: { Self → ℕ };
 
+    /// One call failed. A reader that doesn't say more of its failed calls leaves this out.
+    ghost fails: { Self → Self → Type 0 } = { λ _ _. Unit {0} };
+
     /// Reads some bytes into the front of `buf`, and returns how many. None mean the end.
     fn read(&mut self, buf: &mut [u8]) -> Result<usize, ReadStop>
         requires { 0 < length buf.old }
@@ -41,6 +44,7 @@ pub trait CaptureIn {
         ensures end { result ≡ Ok 0 → ends self.old self.new }
         ensures interrupted { result ≡ Err Interrupted → gives self.old 1 [] self.new }
         ensures failed { result ≡ Err Failed → failures self.new ≡ failures self.old + 1 }
+        ensures fails { result ≡ Err Failed → fails self.old self.new }
         ensures kept { (result ≡ Err Failed → ⊥) → failures self.new ≡ failures self.old };
 
     /// No calls read nothing.

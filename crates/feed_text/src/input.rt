@@ -1,6 +1,6 @@
 //! Calls of a reader, until enough bytes are there.
 ghost use Rattle.std.specs.Prelude.{◌≡◌, ◌≢◌, ◌+◌, ◌-◌, ◌<◌, ◌≤◌, Ok, Err, OnOk, IsErrOf, length, true, false};
-ghost use Rattle.feed_text.specs.Devices.{HasGiven, HasGivenAll, HasGivenSome};
+ghost use Rattle.feed_text.specs.Devices.{HasGiven, HasGivenAll, HasGivenUpTo};
 
 use crate::devices::CaptureIn;
 use crate::fault::ReplayFault;
@@ -23,7 +23,7 @@ pub fn fill<R: CaptureIn>(
         × (turns.new < turns.old) }
     ensures lacking { (result ≡ Ok true → ⊥) → length unread.new < wanted }
     ensures failed { IsErrOf result ReplayFault.ReadFailed
-        → HasGivenSome R.gives reader.old unread.old unread.new
+        → HasGivenUpTo R.gives R.fails reader.old reader.new unread.old unread.new
         × (R.failures reader.new ≡ R.failures reader.old + 1) }
     ensures stopped { IsErrOf result ReplayFault.TooManyTurns
         → HasGiven R.gives reader.old reader.new unread.old unread.new turns.old }

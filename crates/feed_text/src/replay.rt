@@ -126,7 +126,7 @@ pub fn replay<R: CaptureIn, W: TextOut>(
     requires symbols { length config.now.symbols.now ≤ 4096 }
     requires distinct { IsDistinct bytes_eq config.now.symbols.now }
     ensures { Replays
-        (record { gives = R.gives; ends = R.ends; failures = R.failures })
+        (record { gives = R.gives; ends = R.ends; failures = R.failures; fails = R.fails })
         (record { adds = W.adds; failures = W.failures })
         config.now reader.old reader.new writer.old writer.new result }
 {

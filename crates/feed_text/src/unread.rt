@@ -107,6 +107,7 @@ fn read_behind<R: CaptureIn>(
     ensures interrupted { result ≡ Err ReadStop.Interrupted → R.gives reader.old 1 [] reader.new }
     ensures failed { result ≡ Err ReadStop.Failed
         → R.failures reader.new ≡ R.failures reader.old + 1 }
+    ensures fails { result ≡ Err ReadStop.Failed → R.fails reader.old reader.new }
     ensures kept { (result ≡ Err ReadStop.Failed → ⊥)
         → R.failures reader.new ≡ R.failures reader.old }
 {
@@ -188,6 +189,7 @@ impl<const ROOM: usize> ReadBuffer<ROOM> {
         ensures ended { result ≡ ReadStep.Ended → R.ends reader.old reader.new × (self.new ≡ self.old) }
         ensures failed { result ≡ ReadStep.Failed
             → (R.failures reader.new ≡ R.failures reader.old + 1) × (self.new ≡ self.old) }
+        ensures fails { result ≡ ReadStep.Failed → R.fails reader.old reader.new }
         ensures kept { (result ≡ ReadStep.Failed → ⊥) → R.failures reader.new ≡ R.failures reader.old }
     {
         let (start, end) = make_room(&mut self.bytes, self.start, self.end);

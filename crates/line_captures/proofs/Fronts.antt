@@ -15,7 +15,7 @@ use Rattle.packet_capture.specs.Captures.{Context, PieceContent, IsBlockPiece, I
 use Rattle.feed_text.specs.Capture.{CaptureRecord}
 use Rattle.line_captures.specs.declared.captured_line.CapturedLine.{CapturedLine}
 use Rattle.line_captures.specs.Records.{AreOfFrame, AreOfFrames}
-use Rattle.line_captures.specs.Readers.{TakesPieces}
+use Rattle.line_captures.specs.Readers.{CapturePoint, TakesPieces}
 use Rattle.line_captures.specs.Steps.{TakesPiece}
 
 -- ---- pieces
@@ -85,13 +85,14 @@ pub one_frame : (lines : List CapturedLine) (f : FrameContent) (records : List C
 one_frame lines f records h = (records, [], h, refl, sym (append-nil records))
 
 -- a piece is pieces
-pub takes_one : ((before after : Context) (bytes more : List ℕ) (p : PieceContent) → IsPiece before bytes p after → IsPiece before (bytes ++ more) p after) → (lines : List CapturedLine) (a b : Context) (bytes p rest q : List ℕ) → TakesPiece lines a bytes p b rest q → TakesPieces lines a bytes p b rest q
+pub takes_one : ((before after : Context) (bytes more : List ℕ) (p : PieceContent) → IsPiece before bytes p after → IsPiece before (bytes ++ more) p after) → (lines : List CapturedLine) (a b : CapturePoint) (bytes p rest q : List ℕ) → TakesPiece lines a bytes p b rest q → TakesPieces lines a bytes p b rest q
 takes_one law lines a b bytes p rest q t =
     let left : (more : List ℕ) → rest ++ more ≡ drop t.piece.len (bytes ++ more) = λ more.
-    ap (λ (xs : List ℕ). xs ++ more) t.rest_is ∙ sym (drop-append-le t.piece.len bytes more (piece_len a bytes t.piece b t.is).1) in
+    ap (λ (xs : List ℕ). xs ++ more) t.rest_is ∙ sym (drop-append-le t.piece.len bytes more (piece_len a.context bytes t.piece b.context t.is).1) in
     record {
       pieces = t.piece ∷ [];
-      are = λ more. (b, law a b bytes more t.piece t.is, (refl, left more));
+      counts = t.counts;
+      are = λ more. (b.context, law a.context b.context bytes more t.piece t.is, (refl, left more));
       records = t.records;
       of_frames = t.of_frames;
       each = t.each;
@@ -99,9 +100,9 @@ takes_one law lines a b bytes p rest q t =
     }
 
 -- the same pieces, where what they leave goes by other names
-pub takes_same : (lines : List CapturedLine) (a b c : Context) (bytes p rest left q given : List ℕ) → c ≡ b → left ≡ rest → given ≡ q → TakesPieces lines a bytes p b rest q → TakesPieces lines a bytes p c left given
+pub takes_same : (lines : List CapturedLine) (a b c : CapturePoint) (bytes p rest left q given : List ℕ) → c ≡ b → left ≡ rest → given ≡ q → TakesPieces lines a bytes p b rest q → TakesPieces lines a bytes p c left given
 takes_same lines a b c bytes p rest left q given e f g t =
-    let P : Context → Type 0 = λ z. TakesPieces lines a bytes p z rest q in
+    let P : CapturePoint → Type 0 = λ z. TakesPieces lines a bytes p z rest q in
     let Q : List ℕ → Type 0 = λ z. TakesPieces lines a bytes p c z q in
     let S : List ℕ → Type 0 = λ z. TakesPieces lines a bytes p c left z in
     subst S (sym g) (subst Q (sym f) (subst P (sym e) t))

@@ -5,3 +5,5 @@ pub mod Listed
 pub mod ReadCalls
 pub mod TakingPieces
 pub mod Results
+pub mod Copying
+pub mod Converting

@@ -1,9 +1,10 @@
 -- The lines of a list of addresses, one address more.
-use Rattle.std.proofs.Common.{◌≡◌, ℕ, ◌+◌, ◌<◌, List, [], ◌∷◌, ◌++◌, length, take, slice_index_or, sym, ap, ◌∙◌, arith, length-take-le}
+use Rattle.std.proofs.Common.{◌≡◌, ℕ, zero, suc, ◌+◌, ◌*◌, ◌/◌, ◌<◌, ◌≤◌, List, [], ◌∷◌, ◌++◌, length, take, slice_index_or, refl, sym, ap, subst, ◌∙◌, arith, length-take-le}
 use Rattle.std.proofs.lemmas.List.{take_more}
+use Rattle.std.proofs.lemmas.Option.{same_Some, none-some}
 use Rattle.std.specs.declared.net.socket_addr.SocketAddr.{SocketAddr}
 use Rattle.line_captures.specs.declared.captured_line.CapturedLine.{CapturedLine}
-use Rattle.line_captures.specs.Lists.{captured_line_at, lines_from}
+use Rattle.line_captures.specs.Lists.{AreOfVenues, captured_line_at, lines_from}
 
 lines_then : (from n : ℕ) (xs : List SocketAddr) (x : SocketAddr) → n ≡ from + length xs → lines_from from (xs ++ x ∷ []) ≡ lines_from from xs ++ captured_line_at n x ∷ []
 lines_then from n [] x e =
@@ -23,3 +24,25 @@ listed_more xs place n d old new line same few front is more =
     more ∙ ap (λ (ls : List CapturedLine). ls ++ line ∷ []) front
     ∙ ap (λ (l : CapturedLine). lines_from 0 (take n xs) ++ l ∷ []) (is ∙ ap (λ k. captured_line_at k (slice_index_or xs n d)) same)
     ∙ sym (lines_more xs n d few)
+
+take_all : (n : ℕ) (xs : List SocketAddr) → length xs ≤ n → take n xs ≡ xs
+take_all zero [] most = refl
+take_all (suc n) [] most = refl
+take_all zero (x ∷ xs) most = absurd (omega arith)
+take_all (suc n) (x ∷ xs) most = let less : length xs ≤ n = omega arith in ap (λ (ys : List SocketAddr). x ∷ ys) (take_all n xs less)
+
+-- each line of a list is of one of its venues
+lines_of_venues : (from : ℕ) (xs : List SocketAddr) (venues : ℕ) → from + length xs ≤ 2 * venues → AreOfVenues venues (lines_from from xs)
+lines_of_venues from [] venues few place line e = absurd (none-some line (sym e))
+lines_of_venues from (x ∷ xs) venues few zero line e =
+    let at : line.venue ≡ from / 2 = ap (λ (l : CapturedLine). l.venue) (same_Some line (captured_line_at from x) e) in
+    let less : from / 2 < venues = omega arith in
+    omega (arith, at, less)
+lines_of_venues from (x ∷ xs) venues few (suc place) line e = let more : from + 1 + length xs ≤ 2 * venues = omega arith in lines_of_venues (from + 1) xs venues more place line e
+
+pub listed_venues : (xs : List SocketAddr) (n : ℕ) (items : List CapturedLine) → length xs ≤ n → items ≡ lines_from 0 (take n xs) → (venues : ℕ) → length xs ≤ 2 * venues → AreOfVenues venues items
+listed_venues xs n items most is venues few =
+    let all : items ≡ lines_from 0 xs = is ∙ ap (lines_from 0) (take_all n xs most) in
+    let P : List CapturedLine → Type 0 = λ ls. AreOfVenues venues ls in
+    let within : 0 + length xs ≤ 2 * venues = omega arith in
+    subst P (sym all) (lines_of_venues 0 xs venues within)

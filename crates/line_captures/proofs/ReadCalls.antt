@@ -8,15 +8,15 @@ use Rattle.packet_capture.specs.declared.stop.Stop.TheVariants.{Wants}
 use Rattle.packet_capture.specs.Captures.{Context, StopsReading}
 use Rattle.feed_text.specs.Devices.{HasGiven}
 use Rattle.line_captures.specs.declared.fault.InputFault.{InputFault}
-use Rattle.line_captures.specs.Readers.{LineReader, TakesPieces, GivesRecords, EndsRecords, EndsShort, IsFault, count_of, all_failures}
+use Rattle.line_captures.specs.Readers.{LineReader, TakesPieces, GivesRecords, EndsRecords, EndsShort, FailsBy, FailsRecords, IsFault, count_of, all_failures}
 use Rattle.line_captures.specs.ReaderLaws.{takes_none, takes_at}
 use Rattle.line_captures.proofs.Fronts.{few_unread}
 use Rattle.line_captures.proofs.Popped.{gives_popped}
 
-pub room : {R : Type 0} (v s : LineReader R) (n : ℕ) → v ≡ s → StopsReading s.context s.unread (Wants n) → length v.unread < 1179648
+pub room : {R : Type 0} (v s : LineReader R) (n : ℕ) → v ≡ s → StopsReading s.point.context s.unread (Wants n) → length v.unread < 1179648
 room {R} v s n e stops =
-    let P : LineReader R → Type 0 = λ x. StopsReading x.context x.unread (Wants n) in
-    let few = few_unread v.context v.unread n (subst P (sym e) stops) in
+    let P : LineReader R → Type 0 = λ x. StopsReading x.point.context x.unread (Wants n) in
+    let few = few_unread v.point.context v.unread n (subst P (sym e) stops) in
     omega (arith, few)
 
 pub no_fault : {R : Type 0} (v s : LineReader R) (context : Context) (unread : List ℕ) → v ≡ s → s.fault ≡ None → IsFault context unread v.fault
@@ -25,27 +25,27 @@ no_fault {R} v s context unread e none =
     let at : v.fault ≡ None = ap (λ (x : LineReader R). x.fault) e ∙ none in
     subst P (sym at) tt
 
-pub ends_short : {R : Type 0} (v s : LineReader R) (n : ℕ) (u : List ℕ) → v ≡ s → StopsReading s.context s.unread (Wants n) → u ≡ v.unread → ((u ≡ []) → v.context.format ≡ Start) → EndsShort v.context u
+pub ends_short : {R : Type 0} (v s : LineReader R) (n : ℕ) (u : List ℕ) → v ≡ s → StopsReading s.point.context s.unread (Wants n) → u ≡ v.unread → ((u ≡ []) → v.point.context.format ≡ Start) → EndsShort v.point.context u
 ends_short {R} v s n u e stops same cut =
-    let P : LineReader R → Type 0 = λ x. StopsReading x.context x.unread (Wants n) in
-    let Q : List ℕ → Type 0 = λ xs. StopsReading v.context xs (Wants n) in
+    let P : LineReader R → Type 0 = λ x. StopsReading x.point.context x.unread (Wants n) in
+    let Q : List ℕ → Type 0 = λ xs. StopsReading v.point.context xs (Wants n) in
     record { wanted = n; stops = subst Q (sym same) (subst P (sym e) stops); cut = cut }
 
 pub read_went : {R : Type 0} (gives : R → ℕ → List ℕ → R → Type 0) (v s : LineReader R) (r : R) (u : List ℕ) → v ≡ s → HasGiven gives v.inner r v.unread u 1 → GivesRecords gives s 1 [] (record v { inner = r; unread = u })
 read_went {R} gives v s r u e came =
     let P : LineReader R → Type 0 = λ x. GivesRecords gives x 1 [] (record v { inner = r; unread = u }) in
-    let Q : List ℕ → Type 0 = λ xs. TakesPieces v.lines v.context (v.unread ++ came.bytes) v.pending v.context xs v.pending in
+    let Q : List ℕ → Type 0 = λ xs. TakesPieces v.lines v.point (v.unread ++ came.bytes) v.pending v.point xs v.pending in
     subst P e (record {
       inner_calls = 1;
       few = omega arith;
       bytes = came.bytes;
       read = came.given;
-      takes = subst Q (sym came.behind) (takes_none v.lines v.context (v.unread ++ came.bytes) v.pending);
+      takes = subst Q (sym came.behind) (takes_none v.lines v.point (v.unread ++ came.bytes) v.pending);
       lines = refl;
       fault = refl;
     })
 
-pub read_ended : {R : Type 0} (ends : R → R → Type 0) (v s : LineReader R) (r : R) (u : List ℕ) → v ≡ s → s.pending ≡ [] → ends v.inner r → u ≡ v.unread → u ≡ [] → ((v.context.format ≡ Start) → ⊥) → EndsRecords ends s (record v { inner = r; unread = u })
+pub read_ended : {R : Type 0} (ends : R → R → Type 0) (v s : LineReader R) (r : R) (u : List ℕ) → v ≡ s → s.pending ≡ [] → ends v.inner r → u ≡ v.unread → u ≡ [] → ((v.point.context.format ≡ Start) → ⊥) → EndsRecords ends s (record v { inner = r; unread = u })
 read_ended {R} ends v s r u e none ended same empty begun =
     let P : LineReader R → Type 0 = λ x. EndsRecords ends x (record v { inner = r; unread = u }) in
     subst P e (record {
@@ -70,6 +70,37 @@ failed_fault {R} failures v s r u f e none same =
     let zero_before : count_of v.fault ≡ 0 = ap (λ (x : LineReader R). count_of x.fault) e ∙ ap count_of none in
     subst P e (omega (arith, same, zero_before))
 
+pub fails_inner : {R : Type 0} (ends fails : R → R → Type 0) (v s : LineReader R) (r : R) (u : List ℕ) (n : ℕ) → v ≡ s → StopsReading s.point.context s.unread (Wants n) → s.pending ≡ [] → s.fault ≡ None → fails v.inner r → u ≡ v.unread → FailsRecords ends fails s (record v { inner = r; unread = u })
+fails_inner {R} ends fails v s r u n e stops pending sound failed same =
+    let P : LineReader R → Type 0 = λ x. FailsRecords ends fails x (record v { inner = r; unread = u }) in
+    let Q : LineReader R → Type 0 = λ x. StopsReading x.point.context x.unread (Wants n) in
+    let none : v.fault ≡ None = ap (λ (x : LineReader R). x.fault) e ∙ sound in
+    let F : Option InputFault → Type 0 = λ f. FailsBy ends fails v.inner r f in
+    let I : Option InputFault → Type 0 = λ f. IsFault v.point.context v.unread f in
+    subst P e (record {
+      stop = Wants n;
+      stops = subst Q (sym e) stops;
+      pending = ap (λ (x : LineReader R). x.pending) e ∙ pending;
+      sound = none;
+      inner = subst F (sym none) failed;
+      is = subst I (sym none) tt;
+      same = ap (λ (xs : List ℕ). record v { inner = r; unread = xs }) same;
+    })
+
+pub fails_fault : {R : Type 0} (ends fails : R → R → Type 0) (v s : LineReader R) (r : R) (u : List ℕ) (f : InputFault) (stop : Stop) → v ≡ s → StopsReading s.point.context s.unread stop → s.pending ≡ [] → s.fault ≡ None → FailsBy ends fails v.inner r (Some f) → u ≡ v.unread → IsFault v.point.context u (Some f) → FailsRecords ends fails s (record v { inner = r; unread = u; fault = Some f })
+fails_fault {R} ends fails v s r u f stop e stops pending sound by same is =
+    let P : LineReader R → Type 0 = λ x. FailsRecords ends fails x (record v { inner = r; unread = u; fault = Some f }) in
+    let Q : LineReader R → Type 0 = λ x. StopsReading x.point.context x.unread stop in
+    subst P e (record {
+      stop = stop;
+      stops = subst Q (sym e) stops;
+      pending = ap (λ (x : LineReader R). x.pending) e ∙ pending;
+      sound = ap (λ (x : LineReader R). x.fault) e ∙ sound;
+      inner = by;
+      is = subst (λ (xs : List ℕ). IsFault v.point.context xs (Some f)) same is;
+      same = ap (λ (xs : List ℕ). record v { inner = r; unread = xs; fault = Some f }) same;
+    })
+
 -- ---- a call of the reader of records
 
 pub none_of : {X : Type 0} (o : Option X) → false ≡ is_some o → o ≡ None
@@ -82,10 +113,10 @@ fault_none v s e none = sym (ap (λ (x : LineReader _). x.fault) e) ∙ none_of 
 pub pending_none : {R : Type 0} (v s : LineReader R) → v ≡ s → v.pending ≡ [] → s.pending ≡ []
 pending_none v s e none = sym (ap (λ (x : LineReader _). x.pending) e) ∙ none
 
-pub stops_kept : {R : Type 0} (s m : LineReader R) (stop other : Stop) → m ≡ s → stop ≡ other → StopsReading s.context s.unread stop → StopsReading m.context m.unread other
+pub stops_kept : {R : Type 0} (s m : LineReader R) (stop other : Stop) → m ≡ s → stop ≡ other → StopsReading s.point.context s.unread stop → StopsReading m.point.context m.unread other
 stops_kept {R} s m stop other e same h =
-    let P : LineReader R → Type 0 = λ x. StopsReading x.context x.unread other in
-    let Q : Stop → Type 0 = λ x. StopsReading s.context s.unread x in
+    let P : LineReader R → Type 0 = λ x. StopsReading x.point.context x.unread other in
+    let Q : Stop → Type 0 = λ x. StopsReading s.point.context s.unread x in
     subst P (sym e) (subst Q same h)
 
 pub zero_within : {E : Type 0} (r : Result ℕ E) (most : ℕ) → IfOk r (λ n. n ≡ 0) → IfOk r (λ n. n ≤ most)
@@ -110,14 +141,14 @@ gives_still gives law s = record {
   few = omega arith;
   bytes = [];
   read = law s.inner;
-  takes = takes_at s.lines s.context s.context s.unread (s.unread ++ []) s.pending s.unread s.pending s.pending (sym (append-nil s.unread)) refl (takes_none s.lines s.context s.unread s.pending);
+  takes = takes_at s.lines s.point s.point s.unread (s.unread ++ []) s.pending s.unread s.pending s.pending (sym (append-nil s.unread)) refl (takes_none s.lines s.point s.unread s.pending);
   lines = refl;
   fault = refl;
 }
 
 -- what is pending is taken, and the bytes weren't read
 pub record Ready {R : Type 0} (s m : LineReader R) : Type 0 where
-  pub takes : TakesPieces s.lines s.context s.unread s.pending m.context m.unread m.pending
+  pub takes : TakesPieces s.lines s.point s.unread s.pending m.point m.unread m.pending
   pub inner : m.inner ≡ s.inner
   pub lines : m.lines ≡ s.lines
   pub fault : m.fault ≡ s.fault
@@ -125,11 +156,11 @@ pub record Ready {R : Type 0} (s m : LineReader R) : Type 0 where
 pub ready_same : {R : Type 0} (s m : LineReader R) → m ≡ s → Ready s m
 ready_same {R} s m e =
     let P : LineReader R → Type 0 = λ x. Ready s x in
-    subst P (sym e) (record { takes = takes_none s.lines s.context s.unread s.pending; inner = refl; lines = refl; fault = refl })
+    subst P (sym e) (record { takes = takes_none s.lines s.point s.unread s.pending; inner = refl; lines = refl; fault = refl })
 
-pub ready_taken : {R : Type 0} (s m : LineReader R) → s.pending ≡ [] → TakesPieces s.lines s.context s.unread [] m.context m.unread m.pending → m ≡ record s { context = m.context; unread = m.unread; pending = m.pending } → Ready s m
+pub ready_taken : {R : Type 0} (s m : LineReader R) → s.pending ≡ [] → TakesPieces s.lines s.point s.unread [] m.point m.unread m.pending → m ≡ record s { point = m.point; unread = m.unread; pending = m.pending } → Ready s m
 ready_taken {R} s m none t e =
-    let P : List ℕ → Type 0 = λ p. TakesPieces s.lines s.context s.unread p m.context m.unread m.pending in
+    let P : List ℕ → Type 0 = λ p. TakesPieces s.lines s.point s.unread p m.point m.unread m.pending in
     record {
       takes = subst P (sym none) t;
       inner = ap (λ (x : LineReader R). x.inner) e;

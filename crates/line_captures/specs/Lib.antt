@@ -4,3 +4,7 @@ pub mod Records
 pub mod Readers
 pub mod ReaderLaws
 pub mod Steps
+pub mod Reports
+pub mod Conversions
+pub mod Counts
+pub mod CountLaws

@@ -46,3 +46,8 @@ AreApart lines =
     (place earlier : ℕ) (line other : CapturedLine) → earlier < place
     → Some other ≡ slice_get lines earlier → Some line ≡ slice_get lines place
     → AreSame other line → ⊥
+
+-- each line is of one of the first `venues` venues
+abbrev pub AreOfVenues : ℕ → List CapturedLine → Type 0
+AreOfVenues venues lines =
+    (place : ℕ) (line : CapturedLine) → Some line ≡ slice_get lines place → line.venue < venues

@@ -3,7 +3,7 @@ ghost use Rattle.std.specs.Prelude.{◌≡◌, ◌≤◌, ◌++◌, [], ◌∷�
 ghost use Rattle.packet_capture.specs.Frames.{frame_of};
 ghost use Rattle.feed_text.specs.Capture.{bytes_of_record};
 ghost use Rattle.line_captures.specs.Records.{AreOfFrame, IsOfLine};
-ghost use Rattle.line_captures.specs.Steps.{datagram_record_of, PutsFrame};
+ghost use Rattle.line_captures.specs.Steps.{CountsFrame, PutsFrame, datagram_record_of};
 
 use crate::captured_line::{CapturedLine, line_to};
 use crate::passed_over::PassedOver;
@@ -29,18 +29,19 @@ fn datagram_in<'a>(
     ensures of_line { IfSome result (λ d. IsOfLine lines.now (datagram_record_of d)) }
     ensures short { IfSome result (λ d. length d.bytes.now ≤ 65527) }
     ensures none { IfNone result (AreOfFrame lines.now (frame_of frame.entry) []) }
+    ensures counts { CountsFrame lines.now (frame_of frame.entry) passed.old passed.new }
 {
     match read_datagram(frame.link, frame.bytes) {
         Ok(datagram) => match line_to(lines, &datagram) {
             Some(line) => {
-                passed.to_lines = passed.to_lines.saturating_add(1);
+                passed.add_to_line();
                 Some(LineDatagram {
                     line,
                     bytes: datagram.bytes,
                 })
             }
             None => {
-                passed.elsewhere = passed.elsewhere.saturating_add(1);
+                passed.add_elsewhere();
                 None
             }
         },
@@ -77,7 +78,8 @@ pub(crate) fn put_frame(
     passed: &mut PassedOver,
 )
     requires room { length pending.old ≤ 65536 }
-    ensures { PutsFrame lines.now (frame_of frame.entry) pending.old pending.new }
+    ensures puts { PutsFrame lines.now (frame_of frame.entry) pending.old pending.new }
+    ensures counts { CountsFrame lines.now (frame_of frame.entry) passed.old passed.new }
 {
     if let Some(datagram) = datagram_in(lines, frame, passed) {
         put_datagram(datagram, pending);

@@ -12,15 +12,19 @@
 #![tactic(auto)]
 
 mod captured_line;
+mod conversion;
 mod fault;
 mod frames;
 mod line_list;
 mod lines_in;
 mod passed_over;
 mod pieces;
+mod report;
 
 pub use captured_line::{CapturedLine, line_to};
+pub use conversion::convert;
 pub use fault::InputFault;
 pub use line_list::{are_apart, lines_at};
-pub use lines_in::LinesIn;
+pub use lines_in::{LineBuffers, LinesIn};
 pub use passed_over::PassedOver;
+pub use report::{CaptureReport, LinesFault};

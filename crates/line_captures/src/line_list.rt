@@ -1,6 +1,6 @@
 //! Lists of lines by their addresses.
-ghost use Rattle.std.specs.Prelude.{◌≡◌, ◌<◌, ◌≤◌, IfOk, IsTrue, ◌↔◌, length, true, false, vec_len};
-ghost use Rattle.line_captures.specs.Lists.{address_of, captured_line_at, lines_from, AreSame, HasSame, AreApart};
+ghost use Rattle.std.specs.Prelude.{◌≡◌, ℕ, ◌*◌, ◌<◌, ◌≤◌, IfOk, IsTrue, ◌↔◌, length, true, false, vec_len};
+ghost use Rattle.line_captures.specs.Lists.{address_of, captured_line_at, lines_from, AreSame, HasSame, AreApart, AreOfVenues};
 
 use crate::captured_line::CapturedLine;
 use feed_types::{LineId, VenueId};
@@ -37,7 +37,9 @@ fn captured_line_at(place: usize, address: SocketAddr) -> CapturedLine
 /// venue 0's first.
 pub fn lines_at(alloc: Global, addresses: &[SocketAddr]) -> Result<Vec<CapturedLine>, AllocError>
     requires { length addresses.now ≤ 32 }
-    ensures { IfOk result (λ lines. lines.items ≡ lines_from 0 addresses.now) }
+    ensures lines { IfOk result (λ lines. lines.items ≡ lines_from 0 addresses.now) }
+    ensures venues { IfOk result (λ lines. (venues : ℕ)
+        → length addresses.now ≤ 2 * venues → AreOfVenues venues lines.items) }
 {
     let mut lines = Vec::with_capacity(alloc, addresses.len())?;
     let mut place = 0;

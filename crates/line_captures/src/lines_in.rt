@@ -1,19 +1,41 @@
 //! A reader of the records of a packet capture for lines.
 ghost use Rattle.std.specs.Prelude.{◌≡◌, ◌+◌, [], IfOk, IfErr, Ok, Err, None, length, OnOk, OnErr};
-ghost use Rattle.packet_capture.specs.Captures.{StopsReading, new_context};
+ghost use Rattle.packet_capture.specs.Captures.{StopsReading};
 ghost use Rattle.packet_capture.specs.declared.stop.Stop.TheVariants.{Wants};
-ghost use Rattle.line_captures.specs.Readers.{GivesRecords, EndsRecords, TakesPieces, IsFault, count_of, all_failures};
+ghost use Rattle.line_captures.specs.Readers.{GivesRecords, EndsRecords, FailsRecords, TakesPieces, IsFault, count_of, all_failures, new_reader};
+ghost use Rattle.line_captures.specs.Reports.{ReportsPoint, outcome_by};
 ghost use Rattle.line_captures.specs.ReaderLaws.{gives_no_records, gives_more_records};
 
 use crate::captured_line::CapturedLine;
 use crate::fault::InputFault;
 use crate::passed_over::{PassedOver, Progress};
 use crate::pieces::{PIECES_ROOM, take_pieces};
+use crate::report::{CaptureReport, outcome_of};
 use feed_text::devices::{CaptureIn, ReadStop};
+use feed_text::fault::ReplayFault;
 use feed_text::unread::{RECORDS_ROOM, ReadBuffer, ReadStep};
 use packet_capture::{CaptureReader, Stop};
 use std::alloc::{AllocError, Global};
 use std::marker::Model;
+
+/// The memory of a [`LinesIn`], some 1.3 MB, without a byte.
+#[derive(Drop)]
+pub struct LineBuffers {
+    unread: ReadBuffer<PIECES_ROOM>,
+    pending: ReadBuffer<RECORDS_ROOM>,
+    ghost none_unread: { unread ≡ [] },
+    ghost none_pending: { pending ≡ [] },
+}
+
+impl LineBuffers {
+    /// Asks for the memory, which a reader asks for nowhere else.
+    pub fn new(alloc: Global) -> Result<LineBuffers, AllocError> {
+        Ok(LineBuffers {
+            unread: ReadBuffer::new(alloc)?,
+            pending: ReadBuffer::new(alloc)?,
+        })
+    }
+}
 
 /// A reader of the records of a packet capture for lines: it gives, in the project's own format, the
 /// records of the datagrams that go to its lines, in the order of the capture.
@@ -40,7 +62,7 @@ impl<'a, R> Model for LinesIn<'a, R> {
     ghost view = { λ s. record {
       inner = s.inner;
       lines = s.lines.now;
-      context = s.capture;
+      point = record { context = s.capture; progress = s.progress };
       unread = s.unread;
       pending = s.pending;
       fault = s.fault;
@@ -50,29 +72,56 @@ impl<'a, R> Model for LinesIn<'a, R> {
 }
 
 impl<'a, R: CaptureIn + Drop> LinesIn<'a, R> {
-    /// Reads what the reader gives from here on, as a packet capture. Its memory, some 1.3 MB, is asked
-    /// for here and never again.
-    pub fn new(
-        alloc: Global,
-        lines: &'a [CapturedLine],
-        inner: R,
-    ) -> Result<LinesIn<'a, R>, AllocError>
-        ensures inner { IfOk result (λ r. r.inner ≡ inner) }
-        ensures lines { IfOk result (λ r. r.lines ≡ lines.now) }
-        ensures context { IfOk result (λ r. r.context ≡ new_context) }
-        ensures unread { IfOk result (λ r. r.unread ≡ []) }
-        ensures pending { IfOk result (λ r. r.pending ≡ []) }
-        ensures fault { IfOk result (λ r. r.fault ≡ None) }
+    /// Reads what the reader gives from here on, as a packet capture.
+    pub fn new(buffers: LineBuffers, lines: &'a [CapturedLine], inner: R) -> LinesIn<'a, R>
+        ensures { result ≡ new_reader lines.now inner }
     {
-        Ok(LinesIn {
+        let LineBuffers { unread, pending } = buffers;
+        LinesIn {
             inner,
             lines,
             capture: CaptureReader::new(),
-            unread: ReadBuffer::new(alloc)?,
-            pending: ReadBuffer::new(alloc)?,
+            unread,
+            pending,
             fault: None,
             progress: Progress::default(),
-        })
+        }
+    }
+
+    /// Returns the reader of the bytes, as the last call left it.
+    pub fn into_inner(self) -> R
+        ensures { result ≡ self.entry.inner }
+    {
+        let LinesIn {
+            inner,
+            lines: _,
+            capture: _,
+            unread: _,
+            pending: _,
+            fault: _,
+            progress: _,
+        } = self;
+        inner
+    }
+}
+
+impl<'a, R: CaptureIn + Drop> LinesIn<'a, R> {
+    /// Ends with a report, after a use of the reader with this outcome.
+    pub fn into_report(self, outcome: Result<(), ReplayFault>) -> CaptureReport<R>
+        ensures input { result.input ≡ self.entry.inner }
+        ensures point { ReportsPoint self.entry.point result }
+        ensures outcome { result.outcome ≡ outcome_by self.entry.fault outcome }
+        ensures is { IsFault self.entry.point.context self.entry.unread self.entry.fault }
+    {
+        let outcome = outcome_of(self.fault, outcome);
+        let position = self.position();
+        let passed = self.passed_over();
+        CaptureReport {
+            outcome,
+            position,
+            passed,
+            input: self.into_inner(),
+        }
     }
 }
 
@@ -80,25 +129,29 @@ impl<'a, R: CaptureIn> LinesIn<'a, R> {
     /// Returns why there are no more records, if the capture is bad or ended short.
     pub fn fault(&self) -> Option<InputFault>
         ensures value { result ≡ self.now.fault }
-        ensures is { IsFault self.now.context self.now.unread result }
+        ensures is { IsFault self.now.point.context self.now.unread result }
     {
         self.fault
     }
 
     /// Returns how many frames were passed over so far.
-    pub fn passed_over(&self) -> PassedOver {
+    pub fn passed_over(&self) -> PassedOver
+        ensures { result ≡ self.now.point.progress.passed }
+    {
         self.progress.passed
     }
 
     /// Returns at which byte of the capture the next piece begins, counted from 0: where there is a
     /// fault, the one that is bad or cut.
-    pub fn position(&self) -> u64 {
+    pub fn position(&self) -> u64
+        ensures { result ≡ self.now.point.progress.position }
+    {
         self.progress.position
     }
 
     /// One call of the reader of the bytes, where more of them are wanted.
     fn read_bytes(&mut self, wanted: usize) -> Result<usize, ReadStop>
-        requires wants { StopsReading self.old.context self.old.unread (Wants wanted) }
+        requires wants { StopsReading self.old.point.context self.old.unread (Wants wanted) }
         requires fault { self.old.fault ≡ None }
         requires pending { self.old.pending ≡ [] }
         ensures zero { IfOk result (λ n. n ≡ 0) }
@@ -107,6 +160,7 @@ impl<'a, R: CaptureIn> LinesIn<'a, R> {
             → GivesRecords R.gives self.old 1 [] self.new }
         ensures failed { result ≡ Err ReadStop.Failed
             → all_failures R.failures self.new ≡ all_failures R.failures self.old + 1 }
+        ensures fails { result ≡ Err ReadStop.Failed → FailsRecords R.ends R.fails self.old self.new }
         ensures kept { (result ≡ Err ReadStop.Failed → ⊥)
             → all_failures R.failures self.new ≡ all_failures R.failures self.old }
     {
@@ -127,14 +181,14 @@ impl<'a, R: CaptureIn> LinesIn<'a, R> {
     fn take_more(&mut self) -> Result<(), Stop>
         requires fault { self.old.fault ≡ None }
         requires pending { self.old.pending ≡ [] }
-        ensures taken { OnOk result (TakesPieces self.old.lines self.old.context self.old.unread
-            [] self.new.context self.new.unread self.new.pending) }
+        ensures taken { OnOk result (TakesPieces self.old.lines self.old.point self.old.unread
+            [] self.new.point self.new.unread self.new.pending) }
         ensures same { OnOk result (self.new ≡ (record self.old {
-          context = self.new.context;
+          point = self.new.point;
           unread = self.new.unread;
           pending = self.new.pending;
         })) }
-        ensures stop { IfErr result (StopsReading self.old.context self.old.unread) }
+        ensures stop { IfErr result (StopsReading self.old.point.context self.old.unread) }
         ensures kept { OnErr result (self.new ≡ self.old) }
     {
         take_pieces(
@@ -153,6 +207,8 @@ impl<R: CaptureIn> CaptureIn for LinesIn<'_, R> {
     ghost ends = { EndsRecords R.ends };
 
     ghost failures = { all_failures R.failures };
+
+    ghost fails = { FailsRecords R.ends R.fails };
 
     ghost gives_none = { gives_no_records R.gives R.gives_none };
 

@@ -1,7 +1,7 @@
 //! The records of pieces.
 ghost use Rattle.std.specs.Prelude.{◌≡◌, ◌≤◌, [], IfErr, OnErr, OnOk, length};
 ghost use Rattle.packet_capture.specs.Captures.{StopsReading};
-ghost use Rattle.line_captures.specs.Readers.{TakesPieces};
+ghost use Rattle.line_captures.specs.Readers.{TakesPieces, point_of};
 ghost use Rattle.line_captures.specs.Steps.{TakesPiece};
 
 use crate::captured_line::CapturedLine;
@@ -14,7 +14,7 @@ use packet_capture::{CaptureReader, Stop, read_as_bytes_come};
 /// more.
 pub(crate) const PIECES_ROOM: usize = 1_179_648;
 
-/// With so many bytes pending there is room for one more record.
+/// Up to this many bytes may be pending when a record is added: it then has room.
 const MOST_PENDING: usize = 65_536;
 
 /// Takes the piece at the front of the bytes and adds the record of its frame, or returns why there is
@@ -27,12 +27,14 @@ fn take_piece(
     progress: &mut Progress,
 ) -> Result<(), Stop>
     requires room { length pending.old ≤ 65536 }
-    ensures taken { OnOk result (TakesPiece lines.now capture.old unread.old pending.old
-        capture.new unread.new pending.new) }
+    ensures taken { OnOk result (TakesPiece lines.now
+        (point_of capture.old progress.old) unread.old pending.old
+        (point_of capture.new progress.new) unread.new pending.new) }
     ensures stop { IfErr result (StopsReading capture.old unread.old) }
     ensures same_context { OnErr result (capture.new ≡ capture.old) }
     ensures same_bytes { OnErr result (unread.new ≡ unread.old) }
     ensures same_pending { OnErr result (pending.new ≡ pending.old) }
+    ensures same_progress { OnErr result (progress.new ≡ progress.old) }
 {
     let piece = match capture.next_piece(unread.bytes()) {
         Ok(piece) => piece,
@@ -58,12 +60,14 @@ pub(crate) fn take_pieces(
     progress: &mut Progress,
 ) -> Result<(), Stop>
     requires room { length pending.old ≤ 65536 }
-    ensures taken { OnOk result (TakesPieces lines.now capture.old unread.old pending.old
-        capture.new unread.new pending.new) }
+    ensures taken { OnOk result (TakesPieces lines.now
+        (point_of capture.old progress.old) unread.old pending.old
+        (point_of capture.new progress.new) unread.new pending.new) }
     ensures stop { IfErr result (StopsReading capture.old unread.old) }
     ensures same_context { OnErr result (capture.new ≡ capture.old) }
     ensures same_bytes { OnErr result (unread.new ≡ unread.old) }
     ensures same_pending { OnErr result (pending.new ≡ pending.old) }
+    ensures same_progress { OnErr result (progress.new ≡ progress.old) }
 {
     read_as_bytes_come();
     if let Err(stop) = take_piece(lines, capture, unread, pending, progress) {

@@ -38,6 +38,8 @@ impl<R: CaptureIn> CaptureIn for KeptStart<R> {
 
     ghost failures = { λ s. R.failures s.inner };
 
+    ghost fails = { λ s t. R.fails s.inner t.inner };
+
     ghost gives_none = { λ s. R.gives_none s.inner };
 
     ghost gives_more = { λ s t u m n xs ys a b.

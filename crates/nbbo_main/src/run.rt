@@ -70,7 +70,7 @@ fn run_replay<R: CaptureIn, W: TextOut, E: TextOut>(
     errors: &mut E,
 ) -> u8
     ensures { RunsReplay
-        (record { gives = R.gives; ends = R.ends; failures = R.failures })
+        (record { gives = R.gives; ends = R.ends; failures = R.failures; fails = R.fails })
         (record { adds = W.adds; failures = W.failures })
         (record { adds = E.adds; failures = E.failures })
         settings.now at_terminal
@@ -121,7 +121,7 @@ pub fn run<R: CaptureIn, W: TextOut, E: TextOut>(
     errors: &mut E,
 ) -> Next
     ensures { Leads
-        (record { gives = R.gives; ends = R.ends; failures = R.failures })
+        (record { gives = R.gives; ends = R.ends; failures = R.failures; fails = R.fails })
         (record { adds = W.adds; failures = W.failures })
         (record { adds = E.adds; failures = E.failures })
         (map (λ word. string_bytes word) words.now) at_terminal

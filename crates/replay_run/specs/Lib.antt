@@ -1,5 +1,6 @@
 pub mod Events
 pub mod Full
+pub mod LineReplays
 pub mod Moving
 pub mod Printed
 pub mod VenueItems

@@ -24,9 +24,12 @@ ghost use Rattle.replay_run.specs.Events.{IsReplayRun, replay_setting};
 ghost use Rattle.replay_run.specs.Moving.{ComesThrough, session_of};
 ghost use Rattle.replay_run.specs.Printed.{AreLinesOfRun, AreLinesOfRunToFull, IsTextOfRun, texts_of_run};
 
+mod lines;
+
 use feed_text::devices::{CaptureIn, TextOut};
 use feed_text::fault::ReplayFault;
 use feed_text::replay::ReplayConfig;
+pub use lines::replay_lines;
 use std::alloc::Global;
 
 /// The events that records emit are a run of the machine over the records as events, and the
@@ -78,11 +81,11 @@ pub fn replay<R: CaptureIn, W: TextOut>(
     requires symbols { length config.now.symbols.now ≤ 4096 }
     requires distinct { IsDistinct bytes_eq config.now.symbols.now }
     ensures replays { Replays
-        (record { gives = R.gives; ends = R.ends; failures = R.failures })
+        (record { gives = R.gives; ends = R.ends; failures = R.failures; fails = R.fails })
         (record { adds = W.adds; failures = W.failures })
         config.now reader.old reader.new writer.old writer.new result }
     ensures headline { AnswersReplay
-        (record { gives = R.gives; ends = R.ends; failures = R.failures })
+        (record { gives = R.gives; ends = R.ends; failures = R.failures; fails = R.fails })
         (record { adds = W.adds; failures = W.failures })
         config.now (texts_of_run config.now) reader.old reader.new writer.old writer.new result }
 {

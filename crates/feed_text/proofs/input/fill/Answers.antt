@@ -19,6 +19,7 @@ returns-in-Failed-clause-failed g c = λ _. (
     calls = c.args.turns.now - c.loop-wanted.turns;
     mid = c.loop-wanted.reader;
     came = rw (c.in-Failed.ensures.failed refl).1 c.loop-wanted.invariant.came;
+    failed = c.in-Failed.ensures.fails refl;
   },
   rw (← c.loop-wanted.invariant.kept) (c.in-Failed.ensures.failed refl).0,
 )

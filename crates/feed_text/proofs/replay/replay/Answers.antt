@@ -6,7 +6,7 @@ use Rattle.feed_text.proofs.Stopping.{only_fault, stopped_by, unwritten, unfille
 use Rattle.feed_text.proofs.replay.replay.Given.{Over}
 use Rattle.feed_text.proofs.replay.replay.Goals as goal
 
-laws_of : (g : Over) → Laws (record { gives = g.R.CaptureIn.gives; ends = g.R.CaptureIn.ends; failures = g.R.CaptureIn.failures }) (record { adds = g.W.TextOut.adds; failures = g.W.TextOut.failures })
+laws_of : (g : Over) → Laws (record { gives = g.R.CaptureIn.gives; ends = g.R.CaptureIn.ends; failures = g.R.CaptureIn.failures; fails = g.R.CaptureIn.fails }) (record { adds = g.W.TextOut.adds; failures = g.W.TextOut.failures })
 laws_of g = record {
   gives_none = g.met.R.CaptureIn.gives_none;
   gives_more = g.met.R.CaptureIn.gives_more;

@@ -5,7 +5,7 @@ use Rattle.feed_text.proofs.replay.replay.Given as goal
 
 abbrev pub invariant-records : goal.invariant-records
 invariant-records g l = record {
-  so_far : SoFar (record { gives = g.R.CaptureIn.gives; ends = g.R.CaptureIn.ends; failures = g.R.CaptureIn.failures }) (record { adds = g.W.TextOut.adds; failures = g.W.TextOut.failures }) l.config l.fn.reader (l.config.turns - l.turns) l.reader l.fn.writer l.writer l.venues l.unread (state_of_replay l.report);
+  so_far : SoFar (record { gives = g.R.CaptureIn.gives; ends = g.R.CaptureIn.ends; failures = g.R.CaptureIn.failures; fails = g.R.CaptureIn.fails }) (record { adds = g.W.TextOut.adds; failures = g.W.TextOut.failures }) l.config l.fn.reader (l.config.turns - l.turns) l.reader l.fn.writer l.writer l.venues l.unread (state_of_replay l.report);
   turns : l.turns ≤ l.config.turns;
   room : length l.unread < 131073;
   reads : g.R.CaptureIn.failures l.reader ≡ g.R.CaptureIn.failures l.fn.reader;

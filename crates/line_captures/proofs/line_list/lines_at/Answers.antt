@@ -1,5 +1,5 @@
 use Rattle.std.proofs.Common.{rules}
-use Rattle.line_captures.proofs.Listed.{listed_more}
+use Rattle.line_captures.proofs.Listed.{listed_more, listed_venues}
 use Rattle.line_captures.proofs.line_list.lines_at.Goals as goal
 
 pub loop-address-preserved : goal.loop-address-preserved
@@ -8,3 +8,6 @@ loop-address-preserved c = record {
   lines = listed_more c.args.addresses.now c.loop-address.place c.loop-address.address-index _ c.loop-address.lines.items c.push.new.self.items c.captured_line_at.result
       c.loop-address.invariant.place c.loop-address-test.true c.loop-address.invariant.lines c.captured_line_at.ensures c.in_ok-push.ensures.items;
 }
+
+pub returns-clause-venues : goal.returns-clause-venues
+returns-clause-venues c = listed_venues c.args.addresses.now c.loop-address.address-index c.loop-address.lines.items c.loop-address-test.false c.loop-address.invariant.lines

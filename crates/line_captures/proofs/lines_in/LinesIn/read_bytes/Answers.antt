@@ -1,6 +1,7 @@
 use Rattle.std.proofs.Common.{refl, arith}
+use Rattle.packet_capture.specs.declared.stop.Stop.TheVariants.{Wants}
 use Rattle.line_captures.specs.declared.fault.InputFault.TheVariants.{ShortCapture}
-use Rattle.line_captures.proofs.ReadCalls.{room, no_fault, ends_short, read_went, read_ended, failed_none, failed_inner, failed_fault}
+use Rattle.line_captures.proofs.ReadCalls.{room, no_fault, ends_short, read_went, read_ended, failed_none, failed_inner, failed_fault, fails_inner, fails_fault}
 use Rattle.line_captures.proofs.lines_in.LinesIn.read_bytes.Goals.{else-is_empty-via-then-is_empty+else-not-is_at_start, else-is_empty-via-else-is_empty}
 use Rattle.line_captures.proofs.lines_in.LinesIn.read_bytes.Goals as goal
 
@@ -79,3 +80,25 @@ returns-else-is_empty-clause-failed g c = λ _.
 
 pub returns-else-is_empty-clause-kept : goal.returns-else-is_empty-clause-kept
 returns-else-is_empty-clause-kept g c = λ other. absurd (other refl)
+
+pub returns-then-not-is_at_start-clause-fails : goal.returns-then-not-is_at_start-clause-fails
+returns-then-not-is_at_start-clause-fails g c = λ e. absurd cc
+
+pub returns-in-Went-clause-fails : goal.returns-in-Went-clause-fails
+returns-in-Went-clause-fails g c = λ e. absurd cc
+
+pub returns-in-Failed-clause-fails : goal.returns-in-Failed-clause-fails
+returns-in-Failed-clause-fails g c = λ _.
+    fails_inner g.R.CaptureIn.ends g.R.CaptureIn.fails _ c.args.self.now c.read_from.new.reader c.read_from.new.self c.args.wanted c.self.view_is c.requires.wants c.requires.pending c.requires.fault
+    (c.in-Failed.ensures.fails refl) ((c.in-Failed.ensures.failed refl).1)
+
+pub returns-else-is_empty-clause-fails : goal.returns-else-is_empty-clause-fails
+returns-else-is_empty-clause-fails g c = λ _.
+    let ended = c.in-Ended.ensures.ended refl in
+    fails_fault g.R.CaptureIn.ends g.R.CaptureIn.fails _ c.args.self.now c.read_from.new.reader c.read_from.new.self ShortCapture (Wants c.args.wanted) c.self.view_is c.requires.wants c.requires.pending c.requires.fault
+    ended.0 ended.1
+    (ends_short _ c.args.self.now c.args.wanted c.read_from.new.self c.self.view_is c.requires.wants ended.1
+    (λ empty. elim c.else-is_empty.branch [
+      | else-is_empty-via-then-is_empty+else-not-is_at_start w ↦ w.is_at_start.ensures.0 w.if-not-is_at_start.false
+      | else-is_empty-via-else-is_empty w ↦ let a = w.if-is_empty.ensures.1 empty in absurd cc
+    ]))

@@ -1,8 +1,8 @@
 use Rattle.std.proofs.Common.{◌+◌, [], take, arith, refl, ap, subst, ◌∙◌}
 use Rattle.packet_capture.specs.declared.stop.Stop.TheVariants.{Bad, Wants}
 use Rattle.line_captures.specs.declared.fault.InputFault.TheVariants.{BadCapture}
-use Rattle.line_captures.specs.Readers.{LineReader, GivesRecords, EndsRecords, all_failures}
-use Rattle.line_captures.proofs.ReadCalls.{fault_none, pending_none, stops_kept, zero_within, zero_none, failed_fault, gives_still, ready_same, ready_taken, ready_at, popped_some, popped_none, ready_failures, same_ok}
+use Rattle.line_captures.specs.Readers.{LineReader, GivesRecords, EndsRecords, FailsRecords, all_failures}
+use Rattle.line_captures.proofs.ReadCalls.{fault_none, pending_none, stops_kept, zero_within, zero_none, failed_fault, fails_fault, gives_still, ready_same, ready_taken, ready_at, popped_some, popped_none, ready_failures, same_ok}
 use Rattle.line_captures.proofs.lines_in.LinesInCaptureIn.read.Goals.{then-is_empty+in-Ok, else-is_empty}
 use Rattle.line_captures.proofs.lines_in.LinesInCaptureIn.read.Goals as goal
 
@@ -127,3 +127,22 @@ returns-clause-kept g c = λ _. ready_failures g.R.CaptureIn.failures c.args.sel
           (ready_taken c.args.self.now w.take_more.new.self (pending_none _ c.args.self.now c.self.view_is (w.if-is_empty.ensures.0 refl)) w.in-Ok.ensures.taken w.in-Ok.ensures.same)
       | else-is_empty w ↦ ready_same c.args.self.now c.if-is_empty.self w.self-is
     ]))
+
+pub returns-then-is_some-clause-fails : goal.returns-then-is_some-clause-fails
+returns-then-is_some-clause-fails g c = λ e. absurd cc
+
+pub returns-then-count-eq0-clause-fails : goal.returns-then-count-eq0-clause-fails
+returns-then-count-eq0-clause-fails g c = λ e. absurd cc
+
+pub returns-clause-fails : goal.returns-clause-fails
+returns-clause-fails g c = λ e. absurd cc
+
+pub returns-in-Err-Wants-clause-fails : goal.returns-in-Err-Wants-clause-fails
+returns-in-Err-Wants-clause-fails g c = λ h. subst (λ (x : LineReader _). FailsRecords g.R.CaptureIn.ends g.R.CaptureIn.fails x c.read_bytes.new.self) c.in-Err-Wants.ensures.kept (c.read_bytes.ensures.fails h)
+
+pub returns-in-Err-Bad-clause-fails : goal.returns-in-Err-Bad-clause-fails
+returns-in-Err-Bad-clause-fails g c = λ _.
+    let view = c.self-in-Err-Bad.view_is ∙ c.in-Err-Bad.ensures.kept in
+    let bad = stops_kept c.args.self.now _ c.in-Err-Bad.field-0 (Bad c.in-Err-Bad.fault) view c.in-Err-Bad.field-0-is c.in-Err-Bad.ensures.stop in
+    fails_fault g.R.CaptureIn.ends g.R.CaptureIn.fails _ c.args.self.now c.self-in-Err-Bad.inside.inner c.self-in-Err-Bad.inside.unread (BadCapture c.in-Err-Bad.fault) c.in-Err-Bad.field-0 view c.in-Err-Bad.ensures.stop
+    (pending_none _ c.args.self.now c.self.view_is (c.if-is_empty.ensures.0 refl)) (fault_none _ c.args.self.now c.self.view_is c.if-is_some.ensures) refl refl bad

@@ -64,7 +64,8 @@ same_parts p q a b n e =
     let front : p ≡ q = sym (take_at p a (length q) n) ∙ (ap (take (length q)) e ∙ take_at q b (length q) refl) in
     (front, append_cancel_left p a b (e ∙ ap (λ (xs : List ℕ). xs ++ b) (sym front)))
 
-same_front : (e f : CaptureRecord) (a b : List ℕ) → bytes_of_record e ++ a ≡ bytes_of_record f ++ b → (e ≡ f) × (a ≡ b)
+-- a record that begins the same bytes as another is that record
+pub same_front : (e f : CaptureRecord) (a b : List ℕ) → bytes_of_record e ++ a ≡ bytes_of_record f ++ b → (e ≡ f) × (a ≡ b)
 same_front e f a b h =
     let venue : record_venue e ≡ record_venue f = cc in
     let kind : kind_byte e ≡ kind_byte f = cc in
@@ -81,7 +82,7 @@ header_of venues e a i =
     let len : length (payload_of e) / 256 * 256 + length (payload_of e) % 256 ≡ length (payload_of e) = omega arith in
     (record { whole = omega arith; venue = i.venue; kind = subst (IsKind (kind_byte e)) (sym len) i.kind }, len)
 
-no_front : (venues : ℕ) (e : CaptureRecord) (a : List ℕ) → IsRecord venues e → NoRecord venues (bytes_of_record e ++ a) → ⊥
+pub no_front : (venues : ℕ) (e : CaptureRecord) (a : List ℕ) → IsRecord venues e → NoRecord venues (bytes_of_record e ++ a) → ⊥
 no_front venues e a i n =
     let long : length (payload_of e ++ a) ≡ length (payload_of e) + length a = length-append (payload_of e) a in
     let whole : length (bytes_of_record e ++ a) ≡ 4 + length (payload_of e ++ a) = omega arith in

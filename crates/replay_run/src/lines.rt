@@ -1,0 +1,45 @@
+//! The replay of a packet capture for lines.
+ghost use Rattle.std.specs.Prelude.{◌≤◌, length};
+ghost use Rattle.std.specs.List.{IsDistinct};
+ghost use Rattle.std.specs.Str.{bytes_eq};
+ghost use Rattle.line_captures.specs.Lists.{AreOfVenues};
+ghost use Rattle.replay_run.specs.LineReplays.{ReplaysLines};
+
+use crate::replay;
+use feed_text::devices::{CaptureIn, TextOut};
+use feed_text::replay::ReplayConfig;
+use line_captures::{CaptureReport, CapturedLine, LineBuffers, LinesIn};
+use std::alloc::Global;
+
+/// Reads a packet capture (pcap or pcapng) to its end, and writes the text of the records of its lines'
+/// datagrams, in the order of the capture: that of a run of the machine, of which the headline holds.
+/// Where the input is no whole capture, the lines of the datagrams before are written.
+///
+/// `config.turns` counts the calls of the reader of records. Beside the memory of a replay some 1.3 MB
+/// are asked for at the start.
+pub fn replay_lines<R: CaptureIn + Drop, W: TextOut>(
+    alloc: Global,
+    config: &ReplayConfig<'_>,
+    lines: &[CapturedLine],
+    input: R,
+    writer: &mut W,
+) -> CaptureReport<R>
+    requires some { 1 ≤ length config.now.sessions.now }
+    requires few { length config.now.sessions.now ≤ 16 }
+    requires least { 1 ≤ config.now.window }
+    requires most { config.now.window ≤ 65535 }
+    requires symbols { length config.now.symbols.now ≤ 4096 }
+    requires distinct { IsDistinct bytes_eq config.now.symbols.now }
+    requires venues { AreOfVenues (length config.now.sessions.now) lines.now }
+    ensures { ReplaysLines
+        (record { gives = R.gives; ends = R.ends; failures = R.failures; fails = R.fails })
+        (record { adds = W.adds; failures = W.failures })
+        config.now lines.now input result writer.old writer.new }
+{
+    let Ok(buffers) = LineBuffers::new(alloc) else {
+        return CaptureReport::without_memory(input);
+    };
+    let mut reader = LinesIn::new(buffers, lines, input);
+    let outcome = replay(alloc, config, &mut reader, writer);
+    reader.into_report(outcome)
+}
