@@ -22,6 +22,7 @@ ghost use Rattle.std.specs.Prelude.{◌≡◌, ◌≢◌, ◌<◌};
 ghost use Rattle.nbbo_main.specs.declared.refusal.Refusal.TheVariants.{NoMemory, NotText};
 
 mod addresses;
+mod captured_lines;
 mod command_line;
 mod commands;
 mod ending;
@@ -29,6 +30,9 @@ mod help_texts;
 mod hints;
 mod kept_start;
 mod lack;
+mod line_replay_settings;
+mod line_runs;
+mod line_tasks;
 mod listen;
 mod listen_lines;
 mod listen_settings;
@@ -48,7 +52,7 @@ use feed_text::count::Count;
 use feed_text::devices::{CaptureIn, TextOut};
 use feed_text::system::{StreamIn, StreamOut};
 use filter_terms::Terms;
-use hints::{format_hint, hint_at_file};
+use hints::{asks_for_packets, format_hint, hint_at_file};
 use kept_start::KeptStart;
 use listen::{NO_MEMORY, listen_with};
 use listen_settings::ListenSettings;
@@ -113,21 +117,15 @@ fn run_streams<H: Threads + Wait + Sync, C: Ledger, R: Ledger, W: Ledger, E: Led
     );
     let mut output: StreamOut<Stdout, W> = StreamOut::new(rt.stdout(), Count::new(of_writes));
     let mut errors: StreamOut<Stderr, E> = StreamOut::new(rt.stderr(), Count::new(of_errors));
-    run_words(
-        rt,
-        threads,
-        &mut KeptStart::new(input),
-        &mut output,
-        &mut errors,
-    )
+    run_words(rt, threads, KeptStart::new(input), &mut output, &mut errors)
 }
 
 /// Does what the words of the command line ask for, and gives the status of the program. Where standard error is a
 /// terminal it is also told what was probably meant.
-fn run_words<H: Threads + Wait + Sync, R: CaptureIn, W: TextOut, E: TextOut>(
+fn run_words<H: Threads + Wait + Sync, R: CaptureIn + Drop, W: TextOut, E: TextOut>(
     rt: &HostRuntime,
     threads: &H,
-    input: &mut KeptStart<R>,
+    input: KeptStart<R>,
     output: &mut W,
     errors: &mut E,
 ) -> u8 {
@@ -140,17 +138,18 @@ fn run_words<H: Threads + Wait + Sync, R: CaptureIn, W: TextOut, E: TextOut>(
         hint_at_file(rt, words.as_slice(), errors);
     }
     let at_terminal = rt.stdin().is_terminal();
-    match run(
+    let ran = run(
         rt.alloc(),
         words.as_slice(),
         at_terminal,
         input,
         output,
         errors,
-    ) {
+    );
+    match ran.next {
         Next::Ended(status) => {
-            if hints {
-                write_stderr(format_hint(input.start()), errors);
+            if hints && !asks_for_packets(words.as_slice()) {
+                write_stderr(format_hint(ran.input.start()), errors);
             }
             status
         }
