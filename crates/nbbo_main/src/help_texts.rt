@@ -55,7 +55,8 @@ and a port, as 239.1.1.1:26400 or [ff02::1]:26400. One of zeros, as 0.0.0.0:2640
 what goes to that port at any address; a datagram goes to the first line that takes it";
 
 /// `convert`, in one line.
-pub const CONVERT_ABOUT: &str = "Converts a packet capture into a capture of this project's own format";
+pub const CONVERT_ABOUT: &str =
+    "Converts a packet capture into a capture of this project's own format";
 
 pub const CONVERT_LONG_ABOUT: &str = "\
 Converts a packet capture (pcap or pcapng) from standard input into a capture as 'nbbo replay'

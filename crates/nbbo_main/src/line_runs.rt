@@ -1,5 +1,5 @@
 //! Runs of the program over packet captures.
-ghost use Rattle.std.specs.Prelude.{◌≡◌, ◌++◌};
+ghost use Rattle.std.specs.Prelude.{◌≡◌, ◌∷◌, [], codes, decimal};
 ghost use Rattle.feed_text.specs.Devices.{Writing};
 ghost use Rattle.nbbo_main.specs.LineRuns.{RunsConversion, RunsLineReplay, TellsCapture, capture_fault_text, capture_outcome_texts, capture_status, count_texts, input_texts, lost_texts, no_line_texts, other_texts, passed_texts};
 ghost use Rattle.nbbo_main.specs.Listening.{SaysEach};
@@ -23,16 +23,25 @@ pub struct EndedRun<R> {
     pub input: R,
 }
 
+/// Writes a line with a number.
+fn write_counted<E: TextOut>(label: &str, count: u64, errors: &mut E)
+    ensures { SaysEach (record { adds = E.adds; failures = E.failures })
+        (label.now ∷ decimal count ∷ codes "\n" ∷ []) errors.old errors.new }
+{
+    write_stderr(label, errors);
+    write_number(count, errors);
+    write_stderr("\n", errors);
+}
+
 /// Writes a line with a count, unless that is 0.
 fn write_count<E: TextOut>(label: &str, count: u64, errors: &mut E)
     ensures { SaysEach (record { adds = E.adds; failures = E.failures })
         (count_texts label.now count) errors.old errors.new }
 {
-    if count != 0 {
-        write_stderr(label, errors);
-        write_number(count, errors);
-        write_stderr("\n", errors);
+    if count == 0 {
+        return;
     }
+    write_counted(label, count, errors);
 }
 
 /// Writes what a line may have lost.
@@ -116,9 +125,10 @@ fn write_no_line<E: TextOut>(to_lines: u64, errors: &mut E)
     ensures { SaysEach (record { adds = E.adds; failures = E.failures })
         (no_line_texts to_lines) errors.old errors.new }
 {
-    if to_lines == 0 {
-        write_stderr("nbbo: no datagram goes to a line\n", errors);
+    if to_lines != 0 {
+        return;
     }
+    write_stderr("nbbo: no datagram goes to a line\n", errors);
 }
 
 /// Writes the line of an outcome, if it has one.
