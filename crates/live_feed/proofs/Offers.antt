@@ -10,7 +10,7 @@ use Rattle.journal_book.specs.declared.cursor.Cursor.{Cursor}
 use Rattle.journal_book.specs.Journals.{JournalState, terms_at}
 use Rattle.journal_book.specs.Wanted.{wanted_of}
 use Rattle.fifo_lane.specs.Lane.{LaneEnd, WasFull, with_items}
-use Rattle.feed_core.specs.laws.Lists.{get_within}
+use Rattle.feed_types.specs.ListLaws.{get_within}
 use Rattle.feed_core.specs.declared.event.Done.TheVariants as done
 use Rattle.feed_core.specs.Steps.{AppliesTo, offer_next}
 use Rattle.live_feed.specs.declared.unsent.Unsent.{Unsent}
