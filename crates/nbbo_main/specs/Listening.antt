@@ -193,3 +193,10 @@ Listens writing telling (Ok report) Off printed before after silent told status 
     PrintsReport writing telling report printed before after silent told status
 Listens writing telling (Err fault) following printed before after silent told status =
     (after ≡ before) × Says telling (listen_fault_text fault) silent told × (status ≡ 1)
+
+-- Listening where nobody is beside the run ends in one of these ways.
+pub record ListensAlone {W E : Type 0} (writing : Writing W) (telling : Writing E)
+    (following : Following) (printed : ℕ) (before after : W) (silent told : E) (status : ℕ)
+    : Type 0 where
+  pub outcome : Result ListenReport ListenFault
+  pub ends : Listens writing telling outcome following printed before after silent told status

@@ -56,7 +56,7 @@ impl<W: TextOut, E> Desk<W, E> {
         text: &mut LineBuffer,
         poll: &mut P,
     ) -> bool
-        requires { P.IsAlwaysCallable poll.old }
+        requires { (f : _) → P.pre f }
     {
         if self.following != Following::On {
             return false;

@@ -1,9 +1,7 @@
 //! `nbbo listen`.
-ghost use Rattle.std.specs.Prelude.{◌≡◌, Result, false};
-ghost use Rattle.nbbo_main.specs.declared.listening.ListenFault.{ListenFault};
-ghost use Rattle.nbbo_main.specs.declared.listening.ListenReport.{ListenReport};
+ghost use Rattle.std.specs.Prelude.{◌≡◌, false};
 ghost use Rattle.feed_text.specs.Devices.{Writing};
-ghost use Rattle.nbbo_main.specs.Listening.{Listens, PrintsFailedReport, PrintsReport, is_attended, listen_fault_text, report_status};
+ghost use Rattle.nbbo_main.specs.Listening.{Listens, ListensAlone, PrintsFailedReport, PrintsReport, is_attended, listen_fault_text, report_status};
 ghost use Rattle.nbbo_main.specs.Runs.{Says};
 
 use crate::attendant::Attendant;
@@ -141,11 +139,10 @@ where
     C: Clock + Clone + Drop + Send,
     W: TextOut + Drop,
     E: TextOut + Drop,
-    ensures { is_attended settings.now ≡ false → (outcome : Result ListenReport ListenFault)
-        × Listens
+    ensures { is_attended settings.now ≡ false → ListensAlone
         (record { adds = W.adds; failures = W.failures })
         (record { adds = E.adds; failures = E.failures })
-        outcome desk.following desk.printed
+        desk.following desk.printed
         desk.output result.1.output desk.errors result.1.errors result.0 }
 {
     let Ok(feed) = LiveFeed::<Anything>::new(alloc, &config_of(settings)) else {

@@ -5,8 +5,9 @@
 //! a capture is and what its lines are.
 //!
 //! `nbbo listen --sessions LIST --lines LIST [--request ADDR] [--window N] [--journal N]
-//! [--datagrams N] [--buffer BYTES] [SYMBOL]...` receives the lines of live venues by UDP, runs them as a live feed
-//! (`live_feed`), and prints what they came to once all have ended.
+//! [--datagrams N] [--buffer BYTES] [--seconds N] [--until-input-ends] [--follow] [--stats SECONDS] [SYMBOL]...`
+//! receives the lines of live venues by UDP, runs them as a live feed (`live_feed`), and prints what they came to: once
+//! all have ended, or with `--follow` as it comes.
 //!
 //! The contract here is that of `run::run`: of any words, over any input, output and standard error,
 //! it says what is read, what is written where, and the status, or that the words ask to listen
@@ -15,7 +16,7 @@
 //! and the exit; and listening itself (`listen.rt`), which tests show.
 //!
 //! Begin with `run.rt`, then `specs/CommandLine.antt` and `command_line.rt`; `listen.rt` and
-//! `listening.rt` for live lines. `ending.rt` has the texts of faults.
+//! `listening.rt` for live lines, and `attendant.rt` for what is done beside their run. `ending.rt` has the texts of faults.
 #![tactic(auto)]
 
 ghost use Rattle.std.specs.Prelude.{◌≡◌, ◌≢◌, ◌<◌};
