@@ -5,5 +5,3 @@ mod Naming
 pub mod Reporting
 pub mod Seeing
 mod Spelling
-pub mod CapturedLists
-pub mod CaptureCounts

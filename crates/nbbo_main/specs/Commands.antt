@@ -22,13 +22,6 @@ lines_rule = record (new_rule (codes "lines")) {
   required = true;
 }
 
--- --lines LIST, with which a replay is that of a packet capture
-abbrev pub captured_lines_rule : Rule
-captured_lines_rule = record (new_rule (codes "lines")) {
-  long = Some (codes "lines");
-  value_names = 1;
-}
-
 -- --request ADDR
 abbrev pub request_rule : Rule
 request_rule = record (new_rule (codes "request")) {
@@ -119,8 +112,7 @@ options_app =
     journal_rule
 
 abbrev pub replay_app : App
-replay_app =
-    with_rule (with_rule (with_rule options_app captured_lines_rule) gaps_rule) symbols_rule
+replay_app = with_rule (with_rule options_app gaps_rule) symbols_rule
 
 -- listen with its options that say where
 abbrev pub lines_app : App
@@ -154,12 +146,5 @@ program_app =
 abbrev pub replaying_app : App
 replaying_app = with_subcommand program_app replay_app.top
 
-abbrev pub listening_app : App
-listening_app = with_subcommand replaying_app listen_app.top
-
--- convert with its option
-abbrev pub convert_app : App
-convert_app = with_rule (new_app (codes "convert")) lines_rule
-
 abbrev pub nbbo_app : App
-nbbo_app = with_subcommand listening_app convert_app.top
+nbbo_app = with_subcommand replaying_app listen_app.top

@@ -11,7 +11,6 @@ ghost use Rattle.nbbo_main.specs.Symbols.{HasSymbolsFault, NameSymbols};
 
 use crate::addresses::{LinesFault, RequestFault, read_lines, read_request};
 use crate::commands::nbbo_command;
-use crate::line_tasks::{conversion_of, replay_task};
 use crate::listen_settings::ListenSettings;
 use crate::refusal::Refusal;
 use crate::replay_settings::ReplaySettings;
@@ -101,7 +100,7 @@ fn symbols_of(alloc: Global, options: &ArgMatches<'_>) -> Result<Vec<SymbolName>
 }
 
 /// The text of the option of this name, empty where it isn't given.
-pub fn text_of<'a>(options: &ArgMatches<'a>, name: &str) -> &'a str
+fn text_of<'a>(options: &ArgMatches<'a>, name: &str) -> &'a str
     ensures { result.now ≡ unwrap_or (first_of name.now (rows_of (found_of options.now))) [] }
 {
     match options.get_str(name) {
@@ -156,7 +155,7 @@ fn request_of(
 }
 
 /// The settings that the options of `replay` give.
-pub fn settings_of(alloc: Global, replay: &ArgMatches<'_>) -> Result<ReplaySettings, Refusal>
+fn settings_of(alloc: Global, replay: &ArgMatches<'_>) -> Result<ReplaySettings, Refusal>
     ensures ok { IfOk result (Gives (rows_of (found_of replay.now))) }
     ensures err { IfErr result (GivesNone (rows_of (found_of replay.now))) }
 {
@@ -203,11 +202,8 @@ pub fn settings(alloc: Global, words: &[String]) -> Result<Task, Refusal>
     if let Some(listen) = matches.subcommand_matches("listen") {
         return Ok(Task::Listen(listening_of(alloc, listen)?));
     }
-    if let Some(convert) = matches.subcommand_matches("convert") {
-        return Ok(Task::Convert(conversion_of(alloc, convert)?));
-    }
     match matches.subcommand_matches("replay") {
-        Some(replay) => Ok(replay_task(alloc, replay)?),
+        Some(replay) => Ok(Task::Replay(settings_of(alloc, replay)?)),
         // Without a command there is no list of sessions either.
         None => Err(Refusal::BadSession),
     }

@@ -3,14 +3,13 @@ ghost use Rattle.std.specs.Prelude.{◌≡◌, IfOk, false, codes};
 ghost use Rattle.clap.specs.Simple.{app_of, new_app};
 ghost use Rattle.clap.specs.Walk.{rule_of};
 ghost use Rattle.clap.specs.declared.builder.command.Command.TheViews.{out-Command as fields_of};
-ghost use Rattle.nbbo_main.specs.Commands.{buffer_rule, captured_lines_rule, convert_app, counts_app, datagrams_rule, ends_app, follow_rule, gaps_rule, journal_rule, lines_app, lines_rule, listen_app, listening_app, nbbo_app, options_app, program_app, replay_app, replaying_app, request_rule, seconds_rule, sessions_rule, stats_rule, symbols_rule, until_input_ends_rule, window_rule};
+ghost use Rattle.nbbo_main.specs.Commands.{buffer_rule, counts_app, datagrams_rule, ends_app, follow_rule, gaps_rule, journal_rule, lines_app, lines_rule, listen_app, nbbo_app, options_app, program_app, replay_app, replaying_app, request_rule, seconds_rule, sessions_rule, stats_rule, symbols_rule, until_input_ends_rule, window_rule};
 
 use crate::help_texts::{
-    ABOUT, BUFFER_HELP, CAPTURED_LINES_HELP, CONVERT_ABOUT, CONVERT_END, CONVERT_EXAMPLE,
-    CONVERT_LONG_ABOUT, CONVERT_USAGE, DATAGRAMS_HELP, EXAMPLE, GAPS_HELP, JOURNAL_HELP,
-    LINES_HELP, LISTEN_ABOUT, LISTEN_EXAMPLE, LISTEN_LINES, LISTEN_LONG_ABOUT, LISTEN_USAGE,
-    REPLAY_ABOUT, REPLAY_EXAMPLE, REPLAY_LINES, REPLAY_LONG_ABOUT, REPLAY_USAGE, REQUEST_HELP,
-    SESSIONS_HELP, SYMBOLS_HELP, VERSION, WINDOW_HELP,
+    ABOUT, BUFFER_HELP, DATAGRAMS_HELP, EXAMPLE, GAPS_HELP, JOURNAL_HELP, LINES_HELP, LISTEN_ABOUT,
+    LISTEN_EXAMPLE, LISTEN_LINES, LISTEN_LONG_ABOUT, LISTEN_USAGE, REPLAY_ABOUT, REPLAY_EXAMPLE,
+    REPLAY_LINES, REPLAY_LONG_ABOUT, REPLAY_USAGE, REQUEST_HELP, SESSIONS_HELP, SYMBOLS_HELP,
+    VERSION, WINDOW_HELP,
 };
 use crate::listen_help::{FOLLOW_HELP, SECONDS_HELP, STATS_HELP, UNTIL_INPUT_ENDS_HELP};
 use clap::{Arg, ArgAction, Command, value_parser};
@@ -40,20 +39,6 @@ fn lines_option<'a>(alloc: Global) -> Arg<'a>
         .long_help(LINES_HELP)
 }
 
-/// `--lines` of `replay`, which is not required.
-fn captured_lines_option<'a>(alloc: Global) -> Arg<'a>
-    ensures rule { rule_of result ≡ captured_lines_rule }
-    ensures local { result.global ≡ false }
-{
-    Arg::new(alloc, "lines")
-        .long("lines")
-        .value_name("LIST")
-        .help(
-            "Reads a packet capture (pcap or pcapng): two addresses for each venue, A's and then B's",
-        )
-        .long_help(CAPTURED_LINES_HELP)
-}
-
 fn request_option<'a>(alloc: Global) -> Arg<'a>
     ensures rule { rule_of result ≡ request_rule }
     ensures local { result.global ≡ false }
@@ -63,19 +48,6 @@ fn request_option<'a>(alloc: Global) -> Arg<'a>
         .value_name("ADDR")
         .help("Where messages that are missing are asked for")
         .long_help(REQUEST_HELP)
-}
-
-/// `--lines` of `convert`.
-fn converted_lines_option<'a>(alloc: Global) -> Arg<'a>
-    ensures rule { rule_of result ≡ lines_rule }
-    ensures local { result.global ≡ false }
-{
-    Arg::new(alloc, "lines")
-        .long("lines")
-        .value_name("LIST")
-        .required(true)
-        .help("Where the lines' datagrams go: an address for line A and one for B of each venue")
-        .long_help(CAPTURED_LINES_HELP)
 }
 
 fn window_option<'a>(alloc: Global) -> Arg<'a>
@@ -226,7 +198,6 @@ fn replay_command<'a>(alloc: Global) -> Result<Command<'a>, AllocError>
     ensures local { IfOk result (λ c. (fields_of c).has_globals ≡ false) }
 {
     options_command(alloc)?
-        .arg(captured_lines_option(alloc))?
         .arg(gaps_flag(alloc))?
         .arg(symbols_argument(alloc))
 }
@@ -311,38 +282,10 @@ fn replaying_command<'a>(alloc: Global) -> Result<Command<'a>, AllocError>
     program_texts(alloc)?.subcommand(replay_command(alloc)?)
 }
 
-/// The program with `replay` and `listen`.
-fn listening_command<'a>(alloc: Global) -> Result<Command<'a>, AllocError>
-    ensures app { IfOk result (λ c. app_of c ≡ listening_app) }
-    ensures local { IfOk result (λ c. (fields_of c).has_globals ≡ false) }
-{
-    replaying_command(alloc)?.subcommand(listen_command(alloc)?)
-}
-
-/// The texts of `convert`, without its option.
-fn convert_texts<'a>(alloc: Global) -> Command<'a>
-    ensures app { app_of result ≡ new_app (codes "convert") }
-    ensures local { (fields_of result).has_globals ≡ false }
-{
-    Command::new(alloc, "convert")
-        .about(CONVERT_ABOUT)
-        .long_about(CONVERT_LONG_ABOUT)
-        .override_usage(CONVERT_USAGE)
-        .after_help(CONVERT_EXAMPLE)
-        .after_long_help(CONVERT_END)
-}
-
-fn convert_command<'a>(alloc: Global) -> Result<Command<'a>, AllocError>
-    ensures app { IfOk result (λ c. app_of c ≡ convert_app) }
-    ensures local { IfOk result (λ c. (fields_of c).has_globals ≡ false) }
-{
-    convert_texts(alloc).arg(converted_lines_option(alloc))
-}
-
 /// The program, which does nothing without a subcommand.
 pub fn nbbo_command<'a>(alloc: Global) -> Result<Command<'a>, AllocError>
     ensures app { IfOk result (λ c. app_of c ≡ nbbo_app) }
     ensures local { IfOk result (λ c. (fields_of c).has_globals ≡ false) }
 {
-    listening_command(alloc)?.subcommand(convert_command(alloc)?)
+    replaying_command(alloc)?.subcommand(listen_command(alloc)?)
 }

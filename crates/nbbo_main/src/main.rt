@@ -24,7 +24,6 @@ ghost use Rattle.nbbo_main.specs.declared.refusal.Refusal.TheVariants.{NoMemory,
 
 mod addresses;
 mod attendant;
-mod captured_lines;
 mod command_line;
 mod commands;
 mod desk;
@@ -36,9 +35,6 @@ mod input_end;
 mod kept_start;
 mod lack;
 mod line_counts;
-mod line_replay_settings;
-mod line_runs;
-mod line_tasks;
 mod listen;
 mod listen_help;
 mod listen_lines;
@@ -64,7 +60,7 @@ use feed_text::count::Count;
 use feed_text::devices::{CaptureIn, TextOut};
 use feed_text::system::{StreamIn, StreamOut};
 use filter_terms::Terms;
-use hints::{asks_for_packets, format_hint, hint_at_file};
+use hints::{format_hint, hint_at_file};
 use kept_start::KeptStart;
 use listen::{NO_MEMORY, listen_with};
 use listen_settings::ListenSettings;
@@ -129,7 +125,7 @@ fn run_streams<H: Threads + Wait + Sync, C: Ledger, R: Ledger, W: Ledger, E: Led
     );
     let mut output: StreamOut<Stdout, W> = StreamOut::new(rt.stdout(), Count::new(of_writes));
     let mut errors: StreamOut<Stderr, E> = StreamOut::new(rt.stderr(), Count::new(of_errors));
-    match run_words(rt, KeptStart::new(input), &mut output, &mut errors) {
+    match run_words(rt, &mut KeptStart::new(input), &mut output, &mut errors) {
         Next::Ended(status) => status,
         Next::Listens(settings) => listen_live(rt, threads, &settings, output, errors),
     }
@@ -137,9 +133,9 @@ fn run_streams<H: Threads + Wait + Sync, C: Ledger, R: Ledger, W: Ledger, E: Led
 
 /// Does what the words of the command line ask for, but for listening. Where standard error is a terminal it is also
 /// told what was probably meant.
-fn run_words<R: CaptureIn + Drop, W: TextOut, E: TextOut>(
+fn run_words<R: CaptureIn, W: TextOut, E: TextOut>(
     rt: &HostRuntime,
-    input: KeptStart<R>,
+    input: &mut KeptStart<R>,
     output: &mut W,
     errors: &mut E,
 ) -> Next {
@@ -152,7 +148,7 @@ fn run_words<R: CaptureIn + Drop, W: TextOut, E: TextOut>(
         hint_at_file(rt, words.as_slice(), errors);
     }
     let at_terminal = rt.stdin().is_terminal();
-    let ran = run(
+    let next = run(
         rt.alloc(),
         words.as_slice(),
         at_terminal,
@@ -160,10 +156,10 @@ fn run_words<R: CaptureIn + Drop, W: TextOut, E: TextOut>(
         output,
         errors,
     );
-    if hints && matches!(ran.next, Next::Ended(_)) && !asks_for_packets(words.as_slice()) {
-        write_stderr(format_hint(ran.input.start()), errors);
+    if hints && matches!(next, Next::Ended(_)) {
+        write_stderr(format_hint(input.start()), errors);
     }
-    ran.next
+    next
 }
 
 /// Says where the sockets listen, and how large their buffers are where a size was asked for.
