@@ -94,17 +94,12 @@ pub record Gives (rows : List Row) (settings : ReplaySettings) : Type 0 where
 pub record GivesListening (rows : List Row) (settings : ListenSettings) : Type 0 where
   pub sessions : sessions_in (list_in rows) ≡ Ok settings.sessions.items
   pub lines : NameLines (lines_in rows) (length settings.sessions.items) settings.lines.items
-  pub request : NamesRequest settings.lines.items (first_of (codes "request") rows)
-      settings.request
+  pub request : NamesRequest (first_of (codes "request") rows) settings.request
   pub symbols : NameSymbols (symbol_words_in rows) settings.symbols.items
   pub window : IsWindowOf (one_of (codes "window") rows) settings.window
   pub journal : IsCount (one_of (codes "journal") rows) settings.journal
   pub datagrams : IsCount (one_of (codes "datagrams") rows) settings.datagrams
   pub buffer : IsGivenCount (one_of (codes "buffer") rows) settings.buffer
-  pub seconds : IsGivenCount (one_of (codes "seconds") rows) settings.seconds
-  pub until_input_ends : IsFlag (one_of (codes "until-input-ends") rows) settings.until_input_ends
-  pub follow : IsFlag (one_of (codes "follow") rows) settings.follow
-  pub stats : IsGivenCount (one_of (codes "stats") rows) settings.stats
 
 -- The symbols are wrong, where the list of sessions is right: that is looked at first.
 abbrev pub GivesNoSymbols : List Row → SymbolsFault → Type 0
@@ -132,17 +127,16 @@ abbrev pub GivesVenues : List Row → (ℕ → Type 0) → Type 0
 GivesVenues rows P =
     (sessions : List Text) × (sessions_in (list_in rows) ≡ Ok sessions) × P (length sessions)
 
--- The lists of sessions and of lines are right, and this holds of the lines.
-abbrev pub GivesLines : List Row → (List SocketAddr → Type 0) → Type 0
-GivesLines rows P =
-    GivesVenues rows
-    (λ venues. (lines : List SocketAddr) × NameLines (lines_in rows) venues lines × P lines)
+-- The lists of sessions and of lines are right.
+abbrev pub GivesLines : List Row → Type 0
+GivesLines rows =
+    GivesVenues rows (λ venues. (lines : List SocketAddr) × NameLines (lines_in rows) venues lines)
 
 -- The symbols are wrong, where the sessions, the lines and the address for requests are right.
 pub record ListensForNoSymbols (rows : List Row) (fault : SymbolsFault) : Type 0 where
   pub lines : GivesLines rows
-      (λ lines. (request : Option SocketAddr)
-      × NamesRequest lines (first_of (codes "request") rows) request)
+  pub request : Option SocketAddr
+  pub named : NamesRequest (first_of (codes "request") rows) request
   pub symbols : HasSymbolsFault (symbol_words_in rows) fault
 
 -- The values of the options of listen give no settings: the sessions are looked at first, then the
@@ -153,7 +147,7 @@ GivesNoListening rows TooManySessions = sessions_in (list_in rows) ≡ Err sessi
 GivesNoListening rows BadLines =
     GivesVenues rows (λ venues. HasLinesFault (lines_in rows) venues lines.BadLines)
 GivesNoListening rows BadRequest =
-    GivesLines rows (λ lines. NamesNoRequest lines (first_of (codes "request") rows))
+    GivesLines rows × NamesNoRequest (first_of (codes "request") rows)
 GivesNoListening rows BadSymbol = ListensForNoSymbols rows symbols.BadSymbol
 GivesNoListening rows TooManySymbols = ListensForNoSymbols rows symbols.TooManySymbols
 GivesNoListening rows DuplicateSymbol = ListensForNoSymbols rows symbols.DuplicateSymbol

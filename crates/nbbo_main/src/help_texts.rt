@@ -137,10 +137,9 @@ pub const REQUEST_HELP: &str = "\
 Where messages that are missing are asked for: the address of a retransmission server.
 A request goes there from the socket of the line that found the gap, at once, and again
 while the gap stands, with the venue's next datagram that comes 250 ms or more later,
-from the line that it came on. A reply is read on the line that asked. The port isn't 0,
-nor the IP address 0.0.0.0 or [::], and it is of each line's version of IP. A fault of the
-socket at a request, as where a firewall refuses it or there is no route, ends the line
-that asks. Without this option nothing is asked for";
+from the line that it came on. A reply is read on the line that asked. A fault of the
+socket at a request ends the line that asks, as where the port is 0 or the address is of
+another version of IP than the line. Without this option nothing is asked for";
 
 pub const DATAGRAMS_HELP: &str = "\
 How many datagrams a line reads at most: 0 to 4294967295. A line also ends after a
@@ -160,8 +159,8 @@ Listens on the lines of live venues and prints what they came to.
 Each venue sends the same MoldUDP64 packets on two lines, A and B. Each line is received by UDP,
 in a thread of its own. What either line brings is put into one sequence, and the national best
 bid and offer of each symbol is kept. A line ends after an end of session, or after as many
-datagrams as --datagrams says; --seconds and --until-input-ends end all lines. Once they have
-ended, what changed is printed; with --follow each change is printed as it comes.";
+datagrams as --datagrams says. Once all lines have ended, what changed is printed, and not
+before.";
 
 /// The usage of `listen`.
 pub const LISTEN_USAGE: &str = "nbbo listen [OPTIONS] --sessions <LIST> --lines <LIST> [SYMBOL]...";
@@ -175,7 +174,7 @@ Example, one venue whose lines are received on two ports:
 
 /// The part of the long help after the options.
 pub const LISTEN_LINES: &str = "\
-Printed lines, once all lines have ended, the best lines with --follow before:
+Printed lines, once all lines have ended:
   best NOTICE POSITION SYMBOL BID OFFER STATE
                                  the journal's entry at POSITION has changed the national best bid
                                  or offer of the symbol. BID and OFFER are none or V:PRICExSIZE;
@@ -207,10 +206,8 @@ more are dropped while its thread waits for a processor. --buffer asks for more 
 says that the system allows no more, as root, beforehand:
   sysctl -w net.core.rmem_max=4194304
 
-A first interrupt from the keyboard ends the program at once, and nothing more is printed: what
-was taken is not kept. To have it printed, send each line an end of session; or have the
-interrupt end what the program reads, and not the program:
-  cat | (trap '' INT; nbbo listen --until-input-ends --sessions .. > best.txt)
+A first interrupt from the keyboard ends the program at once, and nothing is printed: what
+was taken is not kept. To have it printed, send each line an end of session.
 
 Status:
   0  all lines ended and what they came to was printed, or help was shown. Standard error says
@@ -232,5 +229,4 @@ Status:
        no memory        memory was refused
   2  the command line was refused; standard error says why. 'bad session', 'too many sessions',
      'bad symbol', 'too many symbols' and 'duplicate symbol' as of 'nbbo replay'; 'bad lines': not
-     two addresses for each session; 'bad request address': it is none, or none that the lines
-     can send to (port 0, IP address 0.0.0.0 or [::], another version of IP than a line's)";
+     two addresses for each session; 'bad request address': it is no address";
