@@ -7,8 +7,8 @@
 //!
 //! Contract: what it gave, then what is pending, are the records of the frames of whole pieces, in file
 //! order, each frame's datagram for the first line that takes it, and nothing else
-//! (`specs/Readers.antt`, over `specs/Records.antt` and `specs/Lines.antt`). Begin at `lines_in.rt`. No
-//! crate calls it yet.
+//! (`specs/Readers.antt`, over `specs/Records.antt` and `specs/Lines.antt`). [`convert`] writes those
+//! records, and `replay_run::replay_lines` replays them. Begin at `lines_in.rt`.
 #![tactic(auto)]
 
 mod captured_line;
