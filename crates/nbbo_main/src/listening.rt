@@ -15,6 +15,7 @@ use feed_types::{Anything, FeedConfig, LineId, VenueId};
 use filter_terms::{Filter, Strategy, Terms};
 use live_feed::{
     FeedName, Line, LineEnd, LineSeat, LiveFeed, RunReport, SettleFault, Settlement, Stop,
+    Subscriber,
 };
 use std::alloc::{AllocError, Global};
 use std::net::UdpSocket;
@@ -217,6 +218,13 @@ fn fault_of(fault: SettleFault) -> ListenFault {
     }
 }
 
+/// The lines and the subscribers of a run, as its thread takes them.
+#[derive(Drop)]
+struct RunInput<N: FeedName, C: Clock + Drop> {
+    lines: Vec<Line<Anything, N, UdpLine<C>>>,
+    subscribers: Vec<Subscriber<N>>,
+}
+
 /// The end of listening: a report, or why there is none, and where the program prints.
 #[derive(Drop)]
 pub struct Listened<W, E> {
@@ -311,6 +319,10 @@ where
     let Ok(stats) = stats_of(alloc, settings, all_counts) else {
         return unreported(ListenFault::NoMemory, desk);
     };
+    let input = RunInput {
+        lines,
+        subscribers: given,
+    };
     let begun = AtomicBool::new(false);
     let over = AtomicBool::new(false);
     let (ran, aside, desk, alone) = if settings.is_attended() {
@@ -321,7 +333,8 @@ where
             rt,
             || {
                 begun.store(true, Ordering::SeqCst);
-                let ran = feed.run(rt, alloc, lines, given);
+                let RunInput { lines, subscribers } = input;
+                let ran = feed.run(rt, alloc, lines, subscribers).ok();
                 over.store(true, Ordering::SeqCst);
                 ran
             },
@@ -339,9 +352,11 @@ where
         );
         (ran, aside, desk, !joined)
     } else {
-        (feed.run(rt, alloc, lines, given), aside, desk, false)
+        let RunInput { lines, subscribers } = input;
+        let ran = feed.run(rt, alloc, lines, subscribers).ok();
+        (ran, aside, desk, false)
     };
-    let Ok(report) = ran else {
+    let Some(report) = ran else {
         return unreported(ListenFault::NoMemory, desk);
     };
     let RunReport {
