@@ -16,7 +16,7 @@ use Rattle.nbbo_main.specs.Symbols.{HasSymbolsFault}
 use Rattle.nbbo_main.specs.declared.symbols.SymbolsFault.{SymbolsFault}
 use Rattle.nbbo_main.specs.declared.symbols.SymbolsFault.TheVariants as symbols
 use Rattle.nbbo_main.specs.declared.refusal.Refusal.{Refusal}
-use Rattle.nbbo_main.specs.declared.refusal.Refusal.TheVariants.{Shown, Usage, NotText, BadSession, TooManySessions, BadLines, BadRequest, BadSymbol, TooManySymbols, DuplicateSymbol, NoMemory}
+use Rattle.nbbo_main.specs.declared.refusal.Refusal.TheVariants.{Shown, Usage, NotText, BadSession, TooManySessions, BadLines, BadRequest, BadFormat, BadSymbol, TooManySymbols, DuplicateSymbol, NoMemory}
 
 not_some : {A : Type 0} (x : A) → Some x ≡ None → ⊥
 not_some x e = let bad : true ≡ false = ap is_some e in absurd (cc)
@@ -90,6 +90,7 @@ IsRefused-by words kind BadSession is among = absurd is
 IsRefused-by words kind TooManySessions is among = absurd is
 IsRefused-by words kind BadLines is among = absurd is
 IsRefused-by words kind BadRequest is among = absurd is
+IsRefused-by words kind BadFormat is among = absurd is
 IsRefused-by words kind BadSymbol is among = absurd is
 IsRefused-by words kind TooManySymbols is among = absurd is
 IsRefused-by words kind DuplicateSymbol is among = absurd is

@@ -75,6 +75,20 @@ buffer_rule = record (new_rule (codes "buffer")) {
 abbrev pub gaps_rule : Rule
 gaps_rule = record (new_rule (codes "gaps")) { long = Some (codes "gaps"); action = Some SetTrue }
 
+-- --best-only
+abbrev pub best_only_rule : Rule
+best_only_rule = record (new_rule (codes "best-only")) {
+  long = Some (codes "best-only");
+  action = Some SetTrue;
+}
+
+-- --format FORMAT
+abbrev pub format_rule : Rule
+format_rule = record (new_rule (codes "format")) {
+  long = Some (codes "format");
+  value_names = 1;
+}
+
 -- SYMBOL.., any number of words that belong to no option
 abbrev pub symbols_rule : Rule
 symbols_rule = record (new_rule (codes "symbols")) {
@@ -90,7 +104,8 @@ options_app =
 
 abbrev pub replay_app : App
 replay_app =
-    with_rule (with_rule (with_rule options_app captured_lines_rule) gaps_rule) symbols_rule
+    with_rule (with_rule (with_rule (with_rule (with_rule options_app captured_lines_rule) gaps_rule)
+    best_only_rule) format_rule) symbols_rule
 
 -- listen with its options that say where
 abbrev pub lines_app : App

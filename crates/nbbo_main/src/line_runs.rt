@@ -1,14 +1,16 @@
 //! Runs of the program over packet captures.
 ghost use Rattle.std.specs.Prelude.{◌≡◌, ◌++◌};
 ghost use Rattle.feed_text.specs.Devices.{Writing};
-ghost use Rattle.nbbo_main.specs.LineRuns.{RunsConversion, RunsLineReplay, TellsCapture, capture_fault_text, capture_outcome_texts, capture_status, count_texts, input_texts, lost_texts, other_texts, passed_texts};
+ghost use Rattle.nbbo_main.specs.LineRuns.{ClosesLineBests, RunsConversion, RunsLineBests, RunsLineReplay, RunsLineSettings, TellsCapture, capture_fault_text, capture_outcome_texts, capture_status, count_texts, input_texts, lost_texts, other_texts, passed_texts};
 ghost use Rattle.nbbo_main.specs.Listening.{SaysEach};
 
 use crate::ending::fault_line;
 use crate::line_replay_settings::LineReplaySettings;
 use crate::listen_lines::write_number;
 use crate::run::{MAX_TURNS, config_of, hint, write_stderr};
+use best_lines::{BestsOut, Format};
 use feed_text::devices::{CaptureIn, TextOut};
+use feed_text::fault::ReplayFault;
 use line_captures::{CaptureReport, CapturedLine, InputFault, LinesFault, PassedOver, convert};
 use packet_capture::CaptureFault;
 use replay_run::replay_lines;
@@ -16,11 +18,13 @@ use std::alloc::Global;
 
 /// The end of a run over a packet capture.
 #[derive(Debug, Drop)]
-pub struct EndedRun<R> {
+pub struct EndedRun<R, W> {
     /// The status of the program.
     pub status: u8,
     /// The input, as the last call left it.
     pub input: R,
+    /// The output, as the last call left it.
+    pub output: W,
 }
 
 /// Writes a line with a count, unless that is 0.
@@ -158,20 +162,20 @@ fn tell_capture<R, E: TextOut>(report: &CaptureReport<R>, errors: &mut E) -> u8
 }
 
 /// Replays the packet capture that the input is onto the output.
-pub fn run_line_replay<R: CaptureIn + Drop, W: TextOut, E: TextOut>(
+fn run_line_replay<R: CaptureIn + Drop, W: TextOut, E: TextOut>(
     alloc: Global,
     settings: &LineReplaySettings,
     at_terminal: bool,
     input: R,
-    output: &mut W,
+    mut output: W,
     errors: &mut E,
-) -> EndedRun<R>
+) -> EndedRun<R, W>
     ensures { RunsLineReplay
         (record { gives = R.gives; ends = R.ends; failures = R.failures; fails = R.fails })
         (record { adds = W.adds; failures = W.failures })
         (record { adds = E.adds; failures = E.failures })
         settings.now at_terminal
-        input result.input output.old output.new errors.old errors.new result.status }
+        input result.input output result.output errors.old errors.new result.status }
 {
     write_stderr(hint(at_terminal), errors);
     let report = replay_lines(
@@ -179,12 +183,97 @@ pub fn run_line_replay<R: CaptureIn + Drop, W: TextOut, E: TextOut>(
         &config_of(&settings.replay),
         settings.lines.as_slice(),
         input,
-        output,
+        &mut output,
     );
     let status = tell_capture(&report, errors);
     EndedRun {
         status,
         input: report.input,
+        output,
+    }
+}
+
+/// Passes on what is pending, unless the writer has failed. Returns the outcome of the replay, or that
+/// the writer failed.
+fn close_line_bests<W: TextOut>(
+    outcome: Result<(), LinesFault>,
+    bests: &mut BestsOut<W>,
+) -> Result<(), LinesFault>
+    ensures { ClosesLineBests (record { adds = W.adds; failures = W.failures })
+        bests.old bests.new outcome result }
+{
+    if let Err(LinesFault::Run(ReplayFault::WriteFailed)) = outcome {
+        return outcome;
+    }
+    match bests.finish() {
+        Ok(()) => outcome,
+        Err(_) => Err(LinesFault::Run(ReplayFault::WriteFailed)),
+    }
+}
+
+/// Replays the packet capture that the input is, and passes on the best lines alone to the output.
+fn run_line_bests<R: CaptureIn + Drop, W: TextOut, E: TextOut>(
+    alloc: Global,
+    settings: &LineReplaySettings,
+    format: Format,
+    at_terminal: bool,
+    input: R,
+    output: W,
+    errors: &mut E,
+) -> EndedRun<R, W>
+    ensures { RunsLineBests
+        (record { gives = R.gives; ends = R.ends; failures = R.failures; fails = R.fails })
+        (record { adds = W.adds; failures = W.failures })
+        (record { adds = E.adds; failures = E.failures })
+        settings.now format at_terminal
+        input result.input output result.output errors.old errors.new result.status }
+{
+    write_stderr(hint(at_terminal), errors);
+    let mut bests = match BestsOut::new(alloc, output, format) {
+        Ok(bests) => bests,
+        Err(output) => {
+            let report = CaptureReport::without_memory(input);
+            let status = tell_capture(&report, errors);
+            return EndedRun {
+                status,
+                input: report.input,
+                output,
+            };
+        }
+    };
+    let config = config_of(&settings.replay);
+    let seen = replay_lines(alloc, &config, settings.lines.as_slice(), input, &mut bests);
+    let outcome = close_line_bests(seen.outcome, &mut bests);
+    let report = CaptureReport { outcome, ..seen };
+    let status = tell_capture(&report, errors);
+    EndedRun {
+        status,
+        input: report.input,
+        output: bests.into_inner(),
+    }
+}
+
+/// Replays the packet capture that the input is onto the output, all lines or the best ones alone.
+pub fn run_line_settings<R: CaptureIn + Drop, W: TextOut, E: TextOut>(
+    alloc: Global,
+    settings: &LineReplaySettings,
+    at_terminal: bool,
+    input: R,
+    output: W,
+    errors: &mut E,
+) -> EndedRun<R, W>
+    ensures { RunsLineSettings
+        (record { gives = R.gives; ends = R.ends; failures = R.failures; fails = R.fails })
+        (record { adds = W.adds; failures = W.failures })
+        (record { adds = E.adds; failures = E.failures })
+        settings.now at_terminal
+        input result.input output result.output errors.old errors.new result.status }
+{
+    match settings.replay.bests {
+        Some(format) => {
+            run_line_bests(alloc, settings, format, at_terminal, input, output, errors)
+        }
+        None => run_line_replay(alloc, settings, at_terminal, input, output, errors),
     }
 }
 
@@ -194,21 +283,22 @@ pub fn run_conversion<R: CaptureIn + Drop, W: TextOut, E: TextOut>(
     lines: &[CapturedLine],
     at_terminal: bool,
     input: R,
-    output: &mut W,
+    mut output: W,
     errors: &mut E,
-) -> EndedRun<R>
+) -> EndedRun<R, W>
     ensures { RunsConversion
         (record { gives = R.gives; ends = R.ends; failures = R.failures; fails = R.fails })
         (record { adds = W.adds; failures = W.failures })
         (record { adds = E.adds; failures = E.failures })
         lines.now at_terminal
-        input result.input output.old output.new errors.old errors.new result.status }
+        input result.input output result.output errors.old errors.new result.status }
 {
     write_stderr(hint(at_terminal), errors);
-    let report = convert(alloc, lines, MAX_TURNS, input, output);
+    let report = convert(alloc, lines, MAX_TURNS, input, &mut output);
     let status = tell_capture(&report, errors);
     EndedRun {
         status,
         input: report.input,
+        output,
     }
 }

@@ -1,7 +1,7 @@
 //! The program `nbbo`.
 //!
-//! `nbbo replay --sessions LIST [--window N] [--journal N] [--gaps] [SYMBOL]...` reads a capture
-//! from standard input and writes its lines to standard output. `feed_text` says, and proves, what
+//! `nbbo replay --sessions LIST [--window N] [--journal N] [--gaps] [--best-only [--format FORMAT]]
+//! [SYMBOL]...` reads a capture from standard input and writes its lines to standard output. `feed_text` says, and proves, what
 //! a capture is and what its lines are.
 //!
 //! `nbbo listen --sessions LIST --lines LIST [--request ADDR] [--window N] [--journal N]
@@ -22,6 +22,7 @@ ghost use Rattle.std.specs.Prelude.{◌≡◌, ◌≢◌, ◌<◌};
 ghost use Rattle.nbbo_main.specs.declared.refusal.Refusal.TheVariants.{NoMemory, NotText};
 
 mod addresses;
+mod best_format;
 mod captured_lines;
 mod command_line;
 mod commands;
@@ -115,30 +116,30 @@ fn run_streams<H: Threads + Wait + Sync, C: Ledger, R: Ledger, W: Ledger, E: Led
         Count::new(of_calls),
         Count::new(of_reads),
     );
-    let mut output: StreamOut<Stdout, W> = StreamOut::new(rt.stdout(), Count::new(of_writes));
+    let output: StreamOut<Stdout, W> = StreamOut::new(rt.stdout(), Count::new(of_writes));
     let mut errors: StreamOut<Stderr, E> = StreamOut::new(rt.stderr(), Count::new(of_errors));
-    run_words(rt, threads, KeptStart::new(input), &mut output, &mut errors)
+    run_words(rt, threads, KeptStart::new(input), output, &mut errors)
 }
 
 /// Does what the words of the command line ask for, and gives the status of the program. Where standard error is a
 /// terminal it is also told what was probably meant.
-fn run_words<H: Threads + Wait + Sync, R: CaptureIn + Drop, W: TextOut, E: TextOut>(
+fn run_words<H: Threads + Wait + Sync, R: CaptureIn + Drop, W: TextOut + Drop, E: TextOut>(
     rt: &HostRuntime,
     threads: &H,
     input: KeptStart<R>,
-    output: &mut W,
+    mut output: W,
     errors: &mut E,
 ) -> u8 {
     let words = match words_of(rt) {
         Ok(words) => words,
-        Err(error) => return refuse(&unread(error.kind()), output, errors),
+        Err(error) => return refuse(&unread(error.kind()), &mut output, errors),
     };
     let hints = rt.stderr().is_terminal();
     if hints {
         hint_at_file(rt, words.as_slice(), errors);
     }
     let at_terminal = rt.stdin().is_terminal();
-    let ran = run(
+    let mut ran = run(
         rt.alloc(),
         words.as_slice(),
         at_terminal,
@@ -153,7 +154,7 @@ fn run_words<H: Threads + Wait + Sync, R: CaptureIn + Drop, W: TextOut, E: TextO
             }
             status
         }
-        Next::Listens(settings) => listen_live(rt, threads, &settings, output, errors),
+        Next::Listens(settings) => listen_live(rt, threads, &settings, &mut ran.output, errors),
     }
 }
 

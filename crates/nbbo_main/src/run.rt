@@ -1,15 +1,16 @@
 //! A run of the program over any input, output and standard error.
 ghost use Rattle.std.specs.Prelude.{◌≡◌, map, string_bytes};
 ghost use Rattle.nbbo_main.specs.LineRuns.{Leads};
-ghost use Rattle.nbbo_main.specs.Runs.{IsConfigOf, RunsReplay, Says, TellsRefusal, hint_text};
+ghost use Rattle.nbbo_main.specs.Runs.{ClosesBests, IsConfigOf, RunsBests, RunsReplay, RunsSettings, Says, TellsRefusal, hint_text};
 
 use crate::command_line::settings;
 use crate::ending::ending;
-use crate::line_runs::{run_conversion, run_line_replay};
+use crate::line_runs::{run_conversion, run_line_settings};
 use crate::listen_settings::ListenSettings;
 use crate::refusal::Refusal;
 use crate::replay_settings::ReplaySettings;
 use crate::task::Task;
+use best_lines::{BestsOut, Format};
 use feed_text::devices::{CaptureIn, TextOut};
 use feed_text::fault::ReplayFault;
 use feed_text::output::write_all;
@@ -32,11 +33,12 @@ pub enum Next {
     Listens(ListenSettings),
 }
 
-/// The result of a run, and its input as the last call left it.
+/// The result of a run, and its input and output as the last calls left them.
 #[derive(Debug, Drop)]
-pub struct ProgramRun<R> {
+pub struct ProgramRun<R, W> {
     pub next: Next,
     pub input: R,
+    pub output: W,
 }
 
 /// The settings as the replay takes them.
@@ -92,6 +94,84 @@ fn run_replay<R: CaptureIn, W: TextOut, E: TextOut>(
     status
 }
 
+/// Passes on what is pending, unless the writer has failed. Returns the outcome of the replay, or that
+/// the writer failed.
+fn close_bests<W: TextOut>(
+    outcome: Result<(), ReplayFault>,
+    bests: &mut BestsOut<W>,
+) -> Result<(), ReplayFault>
+    ensures { ClosesBests (record { adds = W.adds; failures = W.failures })
+        bests.old bests.new outcome result }
+{
+    if let Err(ReplayFault::WriteFailed) = outcome {
+        return outcome;
+    }
+    match bests.finish() {
+        Ok(()) => outcome,
+        Err(_) => Err(ReplayFault::WriteFailed),
+    }
+}
+
+/// Replays the input, and passes on the best lines alone to the output. Returns the status of the
+/// program, and the output.
+fn run_bests<R: CaptureIn, W: TextOut, E: TextOut>(
+    alloc: Global,
+    settings: &ReplaySettings,
+    format: Format,
+    at_terminal: bool,
+    input: &mut R,
+    output: W,
+    errors: &mut E,
+) -> (u8, W)
+    ensures { RunsBests
+        (record { gives = R.gives; ends = R.ends; failures = R.failures; fails = R.fails })
+        (record { adds = W.adds; failures = W.failures })
+        (record { adds = E.adds; failures = E.failures })
+        settings.now format at_terminal
+        input.old input.new output result.1 errors.old errors.new result.0 }
+{
+    write_stderr(hint(at_terminal), errors);
+    let mut bests = match BestsOut::new(alloc, output, format) {
+        Ok(bests) => bests,
+        Err(output) => {
+            let (status, line) = ending(&Err(ReplayFault::NoMemory));
+            write_stderr(line, errors);
+            return (status, output);
+        }
+    };
+    let seen = replay(alloc, &config_of(settings), input, &mut bests);
+    let outcome = close_bests(seen, &mut bests);
+    let (status, line) = ending(&outcome);
+    write_stderr(line, errors);
+    (status, bests.into_inner())
+}
+
+/// Replays the input onto the output, all lines or the best ones alone. Returns the status of the
+/// program, and the output.
+fn run_settings<R: CaptureIn, W: TextOut, E: TextOut>(
+    alloc: Global,
+    settings: &ReplaySettings,
+    at_terminal: bool,
+    input: &mut R,
+    mut output: W,
+    errors: &mut E,
+) -> (u8, W)
+    ensures { RunsSettings
+        (record { gives = R.gives; ends = R.ends; failures = R.failures; fails = R.fails })
+        (record { adds = W.adds; failures = W.failures })
+        (record { adds = E.adds; failures = E.failures })
+        settings.now at_terminal
+        input.old input.new output result.1 errors.old errors.new result.0 }
+{
+    match settings.bests {
+        Some(format) => run_bests(alloc, settings, format, at_terminal, input, output, errors),
+        None => {
+            let status = run_replay(alloc, settings, at_terminal, input, &mut output, errors);
+            (status, output)
+        }
+    }
+}
+
 /// Prints why nothing is replayed: help and the version on the output, all else on standard error.
 /// A text that was asked for and can't be written is a fault of writing. Returns the status of the
 /// program.
@@ -119,61 +199,77 @@ pub fn refuse<W: TextOut, E: TextOut>(refusal: &Refusal, output: &mut W, errors:
 /// Does what the words ask for, of which the first is the program's name, except listening, which
 /// takes sockets and threads: then the settings for it are returned.
 ///
-/// The input is read only for a replay, and its lines are all that a replay writes on the output.
-/// Before a terminal is read, standard error says so.
+/// The input is read only for a replay or a conversion. The lines of a replay, or the best ones alone in
+/// the format that is asked for, are all that it writes on the output. Before a terminal is read,
+/// standard error says so. Input and output are returned beside the result.
 pub fn run<R: CaptureIn + Drop, W: TextOut, E: TextOut>(
     alloc: Global,
     words: &[String],
     at_terminal: bool,
     mut input: R,
-    output: &mut W,
+    mut output: W,
     errors: &mut E,
-) -> ProgramRun<R>
+) -> ProgramRun<R, W>
     ensures { Leads
         (record { gives = R.gives; ends = R.ends; failures = R.failures; fails = R.fails })
         (record { adds = W.adds; failures = W.failures })
         (record { adds = E.adds; failures = E.failures })
         (map (λ word. string_bytes word) words.now) at_terminal
-        input result.input output.old output.new errors.old errors.new result.next }
+        input result.input output result.output errors.old errors.new result.next }
 {
     match settings(alloc, words) {
         Ok(task) => match task {
             Task::Replay(settings) => {
-                let status = run_replay(alloc, &settings, at_terminal, &mut input, output, errors);
-                ProgramRun {
-                    next: Next::Ended(status),
-                    input,
-                }
-            }
-            Task::ReplayLines(settings) => {
-                let run = run_line_replay(alloc, &settings, at_terminal, input, output, errors);
-                ProgramRun {
-                    next: Next::Ended(run.status),
-                    input: run.input,
-                }
-            }
-            Task::Convert(lines) => {
-                let run = run_conversion(
+                let (status, output) = run_settings(
                     alloc,
-                    lines.as_slice(),
+                    &settings,
                     at_terminal,
-                    input,
+                    &mut input,
                     output,
                     errors,
                 );
+                let next = Next::Ended(status);
                 ProgramRun {
-                    next: Next::Ended(run.status),
-                    input: run.input,
+                    next,
+                    input,
+                    output,
                 }
             }
-            Task::Listen(settings) => ProgramRun {
-                next: Next::Listens(settings),
+            Task::ReplayLines(settings) => {
+                let run = run_line_settings(alloc, &settings, at_terminal, input, output, errors);
+                let next = Next::Ended(run.status);
+                ProgramRun {
+                    next,
+                    input: run.input,
+                    output: run.output,
+                }
+            }
+            Task::Convert(lines) => {
+                let lines = lines.as_slice();
+                let run = run_conversion(alloc, lines, at_terminal, input, output, errors);
+                let next = Next::Ended(run.status);
+                ProgramRun {
+                    next,
+                    input: run.input,
+                    output: run.output,
+                }
+            }
+            Task::Listen(settings) => {
+                let next = Next::Listens(settings);
+                ProgramRun {
+                    next,
+                    input,
+                    output,
+                }
+            }
+        },
+        Err(refusal) => {
+            let next = Next::Ended(refuse(&refusal, &mut output, errors));
+            ProgramRun {
+                next,
                 input,
-            },
-        },
-        Err(refusal) => ProgramRun {
-            next: Next::Ended(refuse(&refusal, output, errors)),
-            input,
-        },
+                output,
+            }
+        }
     }
 }
