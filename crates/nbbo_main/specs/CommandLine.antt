@@ -132,13 +132,6 @@ GivesTask rows (ReplayLines settings) = GivesLineReplay rows settings
 GivesTask rows (Convert lines) = ⊥
 GivesTask rows (Listen settings) = ⊥
 
--- The values of the options of replay give this task: with a list of lines that of a packet capture.
-abbrev pub GivesTask : List Row → Task → Type 0
-GivesTask rows (Replay settings) = Gives rows settings × (first_of (codes "lines") rows ≡ None)
-GivesTask rows (ReplayLines settings) = GivesLineReplay rows settings
-GivesTask rows (Convert lines) = ⊥
-GivesTask rows (Listen settings) = ⊥
-
 -- The symbols are wrong, where the list of sessions is right: that is looked at first.
 abbrev pub GivesNoSymbols : List Row → SymbolsFault → Type 0
 GivesNoSymbols rows fault =
