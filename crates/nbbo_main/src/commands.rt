@@ -6,10 +6,10 @@ ghost use Rattle.clap.specs.declared.builder.command.Command.TheViews.{out-Comma
 ghost use Rattle.nbbo_main.specs.Commands.{best_only_rule, buffer_rule, counts_app, datagrams_rule, format_rule, gaps_rule, journal_rule, lines_app, lines_rule, listen_app, nbbo_app, options_app, program_app, replay_app, replaying_app, request_rule, sessions_rule, symbols_rule, window_rule};
 
 use crate::help_texts::{
-    ABOUT, BEST_ONLY_HELP, BUFFER_HELP, DATAGRAMS_HELP, EXAMPLE, FORMAT_HELP, GAPS_HELP, JOURNAL_HELP, LINES_HELP, LISTEN_ABOUT,
-    LISTEN_EXAMPLE, LISTEN_LINES, LISTEN_LONG_ABOUT, LISTEN_USAGE, REPLAY_ABOUT, REPLAY_EXAMPLE,
-    REPLAY_LINES, REPLAY_LONG_ABOUT, REPLAY_USAGE, REQUEST_HELP, SESSIONS_HELP, SYMBOLS_HELP,
-    VERSION, WINDOW_HELP,
+    ABOUT, BEST_ONLY_HELP, BUFFER_HELP, DATAGRAMS_HELP, EXAMPLE, FORMAT_HELP, GAPS_HELP,
+    JOURNAL_HELP, LINES_HELP, LISTEN_ABOUT, LISTEN_EXAMPLE, LISTEN_LINES, LISTEN_LONG_ABOUT,
+    LISTEN_USAGE, REPLAY_ABOUT, REPLAY_EXAMPLE, REPLAY_LINES, REPLAY_LONG_ABOUT, REPLAY_USAGE,
+    REQUEST_HELP, SESSIONS_HELP, SYMBOLS_HELP, VERSION, WINDOW_HELP,
 };
 use clap::{Arg, ArgAction, Command, value_parser};
 use std::alloc::{AllocError, Global};

@@ -114,13 +114,7 @@ fn run_streams<H: Threads + Wait + Sync, C: Ledger, R: Ledger, W: Ledger, E: Led
     );
     let output: StreamOut<Stdout, W> = StreamOut::new(rt.stdout(), Count::new(of_writes));
     let mut errors: StreamOut<Stderr, E> = StreamOut::new(rt.stderr(), Count::new(of_errors));
-    run_words(
-        rt,
-        threads,
-        &mut KeptStart::new(input),
-        output,
-        &mut errors,
-    )
+    run_words(rt, threads, &mut KeptStart::new(input), output, &mut errors)
 }
 
 /// Does what the words of the command line ask for, and gives the status of the program. Where standard error is a

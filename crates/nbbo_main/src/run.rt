@@ -121,6 +121,7 @@ fn run_bests<R: CaptureIn, W: TextOut, E: TextOut>(
         input.old input.new output result.1 errors.old errors.new result.0 }
 {
     write_stderr(hint(at_terminal), errors);
+    let config = config_of(settings);
     let mut bests = match BestsOut::new(alloc, output, format) {
         Ok(bests) => bests,
         Err(output) => {
@@ -129,7 +130,7 @@ fn run_bests<R: CaptureIn, W: TextOut, E: TextOut>(
             return (status, output);
         }
     };
-    let seen = replay(alloc, &config_of(settings), input, &mut bests);
+    let seen = replay(alloc, &config, input, &mut bests);
     let outcome = close_bests(seen, &mut bests);
     let (status, line) = ending(&outcome);
     write_stderr(line, errors);
@@ -210,8 +211,14 @@ pub fn run<R: CaptureIn, W: TextOut, E: TextOut>(
     match settings(alloc, words) {
         Ok(task) => match task {
             Task::Replay(settings) => {
-                let (status, output) =
-                    run_settings(alloc, &settings, at_terminal, input, output, errors);
+                let (status, output) = run_settings(
+                    alloc,
+                    &settings,
+                    at_terminal,
+                    input,
+                    output,
+                    errors,
+                );
                 (Next::Ended(status), output)
             }
             Task::Listen(settings) => (Next::Listens(settings), output),

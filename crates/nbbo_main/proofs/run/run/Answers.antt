@@ -10,5 +10,5 @@ returns-in-Replay g c =
     inl (record {
       settings = c.in-Replay.settings;
       asked = subst (λ (task : Task). Asks words task) c.in-Replay.is c.in-Ok.ensures.ok;
-      runs = c.run_replay.ensures;
+      runs = c.run_settings-status.ensures;
     })
