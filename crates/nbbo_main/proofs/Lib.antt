@@ -5,3 +5,5 @@ mod Naming
 pub mod Reporting
 pub mod Seeing
 mod Spelling
+pub mod CapturedLists
+pub mod CaptureCounts

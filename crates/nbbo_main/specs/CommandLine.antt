@@ -13,6 +13,7 @@ use Rattle.clap.specs.Kinds.{IsAmong}
 use Rattle.clap.specs.declared.error.kind.ErrorKind.{ErrorKind}
 use Rattle.clap.specs.declared.error.kind.ErrorKind.TheVariants.{DisplayHelp, DisplayVersion, OutOfMemory}
 use Rattle.nbbo_main.specs.Addresses.{HasLinesFault, NameLines, NamesRequest, NamesNoRequest}
+use Rattle.nbbo_main.specs.CapturedLines.{HasAllLinesFault, HasCapturedLinesFault, NameAllLines, NameCapturedLines}
 use Rattle.nbbo_main.specs.Commands.{nbbo_app}
 use Rattle.nbbo_main.specs.Sessions.{sessions_in}
 use Rattle.nbbo_main.specs.declared.addresses.LinesFault.{LinesFault}
@@ -22,13 +23,15 @@ use Rattle.nbbo_main.specs.declared.sessions.SessionsFault.TheVariants as sessio
 use Rattle.nbbo_main.specs.Symbols.{HasSymbolsFault, NameSymbols}
 use Rattle.nbbo_main.specs.declared.symbols.SymbolsFault.{SymbolsFault}
 use Rattle.nbbo_main.specs.declared.symbols.SymbolsFault.TheVariants as symbols
+use Rattle.nbbo_main.specs.declared.line_replay_settings.LineReplaySettings.{LineReplaySettings}
 use Rattle.nbbo_main.specs.declared.listen_settings.ListenSettings.{ListenSettings}
 use Rattle.nbbo_main.specs.declared.replay_settings.ReplaySettings.{ReplaySettings}
 use Rattle.nbbo_main.specs.declared.task.Task.{Task}
-use Rattle.nbbo_main.specs.declared.task.Task.TheVariants.{Replay, Listen}
+use Rattle.nbbo_main.specs.declared.task.Task.TheVariants.{Replay, ReplayLines, Convert, Listen}
 use Rattle.nbbo_main.specs.declared.refusal.Refusal.{Refusal}
 use Rattle.nbbo_main.specs.declared.refusal.Refusal.TheVariants.{Shown, Usage, NotText, BadSession, TooManySessions, BadLines, BadRequest, BadSymbol, TooManySymbols, DuplicateSymbol, NoMemory}
 use Rattle.std.specs.declared.net.socket_addr.SocketAddr.{SocketAddr}
+use Rattle.line_captures.specs.declared.captured_line.CapturedLine.{CapturedLine}
 
 -- ---- the values that they have
 
@@ -41,6 +44,11 @@ replay_rows (Some (name, rows)) = if bytes_eq name (codes "replay") then rows el
 abbrev pub listen_rows : Option (Text × List Row) → List Row
 listen_rows None = []
 listen_rows (Some (name, rows)) = if bytes_eq name (codes "listen") then rows else []
+
+-- the values of the option of convert, where that is the subcommand
+abbrev pub convert_rows : Option (Text × List Row) → List Row
+convert_rows None = []
+convert_rows (Some (name, rows)) = if bytes_eq name (codes "convert") then rows else []
 
 -- the list of sessions, empty where none is given
 abbrev pub list_in : List Row → Text
@@ -90,16 +98,39 @@ pub record Gives (rows : List Row) (settings : ReplaySettings) : Type 0 where
   pub journal : IsCount (one_of (codes "journal") rows) settings.journal
   pub gaps : IsFlag (one_of (codes "gaps") rows) settings.gaps
 
+-- The values of the options of replay give these settings for a packet capture.
+pub record GivesLineReplay (rows : List Row) (settings : LineReplaySettings) : Type 0 where
+  pub replay : Gives rows settings.replay
+  pub list : Text
+  pub given : first_of (codes "lines") rows ≡ Some list
+  pub lines : NameCapturedLines list (length settings.replay.sessions.items) settings.lines.items
+
+-- The values of the option of convert give these lines.
+abbrev pub GivesConversion : List Row → List CapturedLine → Type 0
+GivesConversion rows lines = NameAllLines (lines_in rows) lines
+
 -- The values of the options of listen give these settings.
 pub record GivesListening (rows : List Row) (settings : ListenSettings) : Type 0 where
   pub sessions : sessions_in (list_in rows) ≡ Ok settings.sessions.items
   pub lines : NameLines (lines_in rows) (length settings.sessions.items) settings.lines.items
-  pub request : NamesRequest (first_of (codes "request") rows) settings.request
+  pub request : NamesRequest settings.lines.items (first_of (codes "request") rows)
+      settings.request
   pub symbols : NameSymbols (symbol_words_in rows) settings.symbols.items
   pub window : IsWindowOf (one_of (codes "window") rows) settings.window
   pub journal : IsCount (one_of (codes "journal") rows) settings.journal
   pub datagrams : IsCount (one_of (codes "datagrams") rows) settings.datagrams
   pub buffer : IsGivenCount (one_of (codes "buffer") rows) settings.buffer
+  pub seconds : IsGivenCount (one_of (codes "seconds") rows) settings.seconds
+  pub until_input_ends : IsFlag (one_of (codes "until-input-ends") rows) settings.until_input_ends
+  pub follow : IsFlag (one_of (codes "follow") rows) settings.follow
+  pub stats : IsGivenCount (one_of (codes "stats") rows) settings.stats
+
+-- The values of the options of replay give this task: with a list of lines that of a packet capture.
+abbrev pub GivesTask : List Row → Task → Type 0
+GivesTask rows (Replay settings) = Gives rows settings × (first_of (codes "lines") rows ≡ None)
+GivesTask rows (ReplayLines settings) = GivesLineReplay rows settings
+GivesTask rows (Convert lines) = ⊥
+GivesTask rows (Listen settings) = ⊥
 
 -- The symbols are wrong, where the list of sessions is right: that is looked at first.
 abbrev pub GivesNoSymbols : List Row → SymbolsFault → Type 0
@@ -107,8 +138,16 @@ GivesNoSymbols rows fault =
     (sessions : List Text) × (sessions_in (list_in rows) ≡ Ok sessions)
     × HasSymbolsFault (symbol_words_in rows) fault
 
--- The values of the options of replay give no settings, since the list of sessions or the symbols
--- are wrong, or memory was refused.
+-- The settings are right, and the list of lines is wrong: that is looked at last.
+pub record GivesNoCapturedLines (rows : List Row) : Type 0 where
+  pub settings : ReplaySettings
+  pub given : Gives rows settings
+  pub list : Text
+  pub listed : first_of (codes "lines") rows ≡ Some list
+  pub fault : HasCapturedLinesFault list (length settings.sessions.items) lines.BadLines
+
+-- The values of the options of replay give no settings, since the list of sessions, the symbols or the
+-- list of lines are wrong, or memory was refused.
 abbrev pub GivesNone : List Row → Refusal → Type 0
 GivesNone rows BadSession = sessions_in (list_in rows) ≡ Err sessions.BadSession
 GivesNone rows TooManySessions = sessions_in (list_in rows) ≡ Err sessions.TooManySessions
@@ -119,24 +158,39 @@ GivesNone rows NoMemory = Unit {0}
 GivesNone rows (Shown text) = ⊥
 GivesNone rows (Usage text) = ⊥
 GivesNone rows NotText = ⊥
-GivesNone rows BadLines = ⊥
+GivesNone rows BadLines = GivesNoCapturedLines rows
 GivesNone rows BadRequest = ⊥
+
+-- The values of the option of convert give no lines.
+abbrev pub GivesNoConversion : List Row → Refusal → Type 0
+GivesNoConversion rows BadLines = HasAllLinesFault (lines_in rows) lines.BadLines
+GivesNoConversion rows NoMemory = Unit {0}
+GivesNoConversion rows BadSession = ⊥
+GivesNoConversion rows TooManySessions = ⊥
+GivesNoConversion rows BadSymbol = ⊥
+GivesNoConversion rows TooManySymbols = ⊥
+GivesNoConversion rows DuplicateSymbol = ⊥
+GivesNoConversion rows (Shown text) = ⊥
+GivesNoConversion rows (Usage text) = ⊥
+GivesNoConversion rows NotText = ⊥
+GivesNoConversion rows BadRequest = ⊥
 
 -- The list of sessions is right, and this holds of its length.
 abbrev pub GivesVenues : List Row → (ℕ → Type 0) → Type 0
 GivesVenues rows P =
     (sessions : List Text) × (sessions_in (list_in rows) ≡ Ok sessions) × P (length sessions)
 
--- The lists of sessions and of lines are right.
-abbrev pub GivesLines : List Row → Type 0
-GivesLines rows =
-    GivesVenues rows (λ venues. (lines : List SocketAddr) × NameLines (lines_in rows) venues lines)
+-- The lists of sessions and of lines are right, and this holds of the lines.
+abbrev pub GivesLines : List Row → (List SocketAddr → Type 0) → Type 0
+GivesLines rows P =
+    GivesVenues rows
+    (λ venues. (lines : List SocketAddr) × NameLines (lines_in rows) venues lines × P lines)
 
 -- The symbols are wrong, where the sessions, the lines and the address for requests are right.
 pub record ListensForNoSymbols (rows : List Row) (fault : SymbolsFault) : Type 0 where
   pub lines : GivesLines rows
-  pub request : Option SocketAddr
-  pub named : NamesRequest (first_of (codes "request") rows) request
+      (λ lines. (request : Option SocketAddr)
+      × NamesRequest lines (first_of (codes "request") rows) request)
   pub symbols : HasSymbolsFault (symbol_words_in rows) fault
 
 -- The values of the options of listen give no settings: the sessions are looked at first, then the
@@ -147,7 +201,7 @@ GivesNoListening rows TooManySessions = sessions_in (list_in rows) ≡ Err sessi
 GivesNoListening rows BadLines =
     GivesVenues rows (λ venues. HasLinesFault (lines_in rows) venues lines.BadLines)
 GivesNoListening rows BadRequest =
-    GivesLines rows × NamesNoRequest (first_of (codes "request") rows)
+    GivesLines rows (λ lines. NamesNoRequest lines (first_of (codes "request") rows))
 GivesNoListening rows BadSymbol = ListensForNoSymbols rows symbols.BadSymbol
 GivesNoListening rows TooManySymbols = ListensForNoSymbols rows symbols.TooManySymbols
 GivesNoListening rows DuplicateSymbol = ListensForNoSymbols rows symbols.DuplicateSymbol
@@ -197,6 +251,14 @@ values_of words = replay_rows (subcommand_of nbbo_app words)
 abbrev pub listen_values_of : List Text → List Row
 listen_values_of words = listen_rows (subcommand_of nbbo_app words)
 
+abbrev pub convert_values_of : List Text → List Row
+convert_values_of words = convert_rows (subcommand_of nbbo_app words)
+
+-- the subcommand is convert
+abbrev pub IsConverting : List Text → Type 0
+IsConverting words =
+    option_map (λ found. found.0) (subcommand_of nbbo_app words) ≡ Some (codes "convert")
+
 -- the subcommand is listen
 abbrev pub IsListening : List Text → Type 0
 IsListening words =
@@ -206,27 +268,41 @@ IsListening words =
 abbrev pub IsAccepted : List Text → Type 0
 IsAccepted words = fault_of nbbo_app words ≡ []
 
--- The words ask for a replay with these settings.
+-- The words ask for a replay of a capture of the project's own format, with these settings.
 pub record AsksReplay (words : List Text) (settings : ReplaySettings) : Type 0 where
   pub taken : IsAccepted words
   pub given : Gives (values_of words) settings
+  pub own : first_of (codes "lines") (values_of words) ≡ None
+
+-- The words ask for a replay of a packet capture with these settings.
+pub record AsksLineReplay (words : List Text) (settings : LineReplaySettings) : Type 0 where
+  pub taken : IsAccepted words
+  pub given : GivesLineReplay (values_of words) settings
+
+-- The words ask to convert a packet capture for these lines.
+pub record AsksConversion (words : List Text) (lines : List CapturedLine) : Type 0 where
+  pub taken : IsAccepted words
+  pub given : GivesConversion (convert_values_of words) lines
 
 -- The words ask to listen with these settings.
 pub record AsksListening (words : List Text) (settings : ListenSettings) : Type 0 where
   pub taken : IsAccepted words
   pub given : GivesListening (listen_values_of words) settings
 
--- The words ask for this task. Each of the two needs values that the other's subcommand doesn't
--- have.
+-- The words ask for this task. Each needs values that the others' subcommands don't have.
 abbrev pub Asks : List Text → Task → Type 0
 Asks words (Replay settings) = AsksReplay words settings
+Asks words (ReplayLines settings) = AsksLineReplay words settings
+Asks words (Convert lines) = AsksConversion words lines.items
 Asks words (Listen settings) = AsksListening words settings
 
 -- clap takes the words, and the values of their options give no settings of the subcommand
 pub record GivesNoTask (words : List Text) (refusal : Refusal) : Type 0 where
   pub taken : IsAccepted words
   pub listening : IsListening words → GivesNoListening (listen_values_of words) refusal
-  pub replaying : (IsListening words → ⊥) → GivesNone (values_of words) refusal
+  pub converting : IsConverting words → GivesNoConversion (convert_values_of words) refusal
+  pub replaying : (IsListening words → ⊥) → (IsConverting words → ⊥)
+      → GivesNone (values_of words) refusal
 
 -- Why the words give no settings. Help and the version are among the faults that clap finds; memory
 -- may be refused at any time.

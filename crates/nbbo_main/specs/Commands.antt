@@ -22,6 +22,13 @@ lines_rule = record (new_rule (codes "lines")) {
   required = true;
 }
 
+-- --lines LIST, with which a replay is that of a packet capture
+abbrev pub captured_lines_rule : Rule
+captured_lines_rule = record (new_rule (codes "lines")) {
+  long = Some (codes "lines");
+  value_names = 1;
+}
+
 -- --request ADDR
 abbrev pub request_rule : Rule
 request_rule = record (new_rule (codes "request")) {
@@ -64,6 +71,36 @@ buffer_rule = record (new_rule (codes "buffer")) {
   parser = Some (Signed (pos 1) (pos 1073741823));
 }
 
+-- --seconds N, a number from 1 to 4294967295
+abbrev pub seconds_rule : Rule
+seconds_rule = record (new_rule (codes "seconds")) {
+  long = Some (codes "seconds");
+  value_names = 1;
+  parser = Some (Signed (pos 1) (pos 4294967295));
+}
+
+-- --until-input-ends
+abbrev pub until_input_ends_rule : Rule
+until_input_ends_rule = record (new_rule (codes "until-input-ends")) {
+  long = Some (codes "until-input-ends");
+  action = Some SetTrue;
+}
+
+-- --follow
+abbrev pub follow_rule : Rule
+follow_rule = record (new_rule (codes "follow")) {
+  long = Some (codes "follow");
+  action = Some SetTrue;
+}
+
+-- --stats SECONDS, a number from 1 to 4294967295
+abbrev pub stats_rule : Rule
+stats_rule = record (new_rule (codes "stats")) {
+  long = Some (codes "stats");
+  value_names = 1;
+  parser = Some (Signed (pos 1) (pos 4294967295));
+}
+
 -- --gaps
 abbrev pub gaps_rule : Rule
 gaps_rule = record (new_rule (codes "gaps")) { long = Some (codes "gaps"); action = Some SetTrue }
@@ -82,7 +119,8 @@ options_app =
     journal_rule
 
 abbrev pub replay_app : App
-replay_app = with_rule (with_rule options_app gaps_rule) symbols_rule
+replay_app =
+    with_rule (with_rule (with_rule options_app captured_lines_rule) gaps_rule) symbols_rule
 
 -- listen with its options that say where
 abbrev pub lines_app : App
@@ -94,8 +132,13 @@ lines_app =
 abbrev pub counts_app : App
 counts_app = with_rule (with_rule (with_rule lines_app window_rule) journal_rule) datagrams_rule
 
+-- and with those that say when it ends
+abbrev pub ends_app : App
+ends_app =
+    with_rule (with_rule (with_rule counts_app buffer_rule) seconds_rule) until_input_ends_rule
+
 abbrev pub listen_app : App
-listen_app = with_rule (with_rule counts_app buffer_rule) symbols_rule
+listen_app = with_rule (with_rule (with_rule ends_app follow_rule) stats_rule) symbols_rule
 
 -- the program without its subcommands, which then does nothing
 abbrev pub program_app : App
@@ -111,5 +154,12 @@ program_app =
 abbrev pub replaying_app : App
 replaying_app = with_subcommand program_app replay_app.top
 
+abbrev pub listening_app : App
+listening_app = with_subcommand replaying_app listen_app.top
+
+-- convert with its option
+abbrev pub convert_app : App
+convert_app = with_rule (new_app (codes "convert")) lines_rule
+
 abbrev pub nbbo_app : App
-nbbo_app = with_subcommand replaying_app listen_app.top
+nbbo_app = with_subcommand listening_app convert_app.top

@@ -1,8 +1,10 @@
 pub mod Addresses
+pub mod CapturedLines
 pub mod CommandLine
 pub mod Commands
 pub mod Ending
 pub mod Hints
+pub mod LineRuns
 pub mod Listening
 pub mod Runs
 pub mod Sessions

@@ -16,8 +16,6 @@ use Rattle.nbbo_main.specs.Ending.{ending_status, ending_text}
 use Rattle.nbbo_main.specs.declared.refusal.Refusal.{Refusal}
 use Rattle.nbbo_main.specs.declared.listen_settings.ListenSettings.{ListenSettings}
 use Rattle.nbbo_main.specs.declared.replay_settings.ReplaySettings.{ReplaySettings}
-use Rattle.nbbo_main.specs.declared.run.Next.{Next}
-use Rattle.nbbo_main.specs.declared.run.Next.TheVariants.{Ended, Listens}
 use Rattle.nbbo_main.specs.declared.task.Task.TheVariants.{Listen}
 
 -- The text was written, or a prefix of it, up to a call that failed. Of an empty text nothing is
@@ -119,14 +117,3 @@ pub record LeavesToListen {R W E : Type 0} (words : List Text) (settings : Liste
   pub unread : to ≡ from
   pub unwritten : after ≡ before
   pub untold : told ≡ silent
-
--- The result of a run: its end, or that it is left to listen.
-abbrev pub Leads : {R W E : Type 0}
-    (reading : Reading R) (writing : Writing W) (telling : Writing E)
-    (words : List Text) (at_terminal : Bool)
-    (from to : R) (before after : W) (silent told : E) → Next → Type 0
-Leads reading writing telling words at_terminal from to before after silent told (Ended status) =
-    Runs reading writing telling words at_terminal from to before after silent told status
-Leads reading writing telling words at_terminal from to before after silent told
-    (Listens settings) =
-    LeavesToListen words settings from to before after silent told

@@ -1,11 +1,11 @@
 //! The addresses on the command line.
-ghost use Rattle.std.specs.Prelude.{◌≡◌, ◌*◌, ◌≤◌, List, IfOk, IfErr, length, map, option_map, vec_len};
+ghost use Rattle.std.specs.Prelude.{◌≡◌, ◌*◌, ◌≤◌, ◌↔◌, List, IfOk, OnErr, IfErr, IsTrue, length, map, option_map, vec_len};
 ghost use Rattle.std.specs.declared.net.socket_addr.SocketAddr.{SocketAddr};
-ghost use Rattle.nbbo_main.specs.Addresses.{AreAddresses, HasLinesFault, NameLines, NamesNoRequest, NamesRequest};
+ghost use Rattle.nbbo_main.specs.Addresses.{AreAddresses, HasLinesFault, IsAskable, NameLines, NamesNoRequest, NamesRequest};
 ghost use Rattle.nbbo_main.specs.declared.addresses.LinesFault.TheVariants.{BadLines, NoMemory};
 
 use std::alloc::{AllocError, Global};
-use std::net::{AddrParseError, SocketAddr};
+use std::net::SocketAddr;
 
 /// Why a list of lines is refused.
 #[derive(Clone, Copy, Debug, PartialEq, Eq)]
@@ -61,16 +61,34 @@ pub fn read_lines(alloc: Global, list: &str, venues: usize) -> Result<Vec<Socket
     }
 }
 
-/// The address that requests are sent to, if a text is given for it.
-pub fn read_request(text: Option<&str>) -> Result<Option<SocketAddr>, AddrParseError>
-    ensures ok { IfOk result (NamesRequest (option_map (λ text. text.now) text.entry)) }
-    ensures err { IfErr result (λ _. NamesNoRequest (option_map (λ text. text.now) text.entry)) }
+/// The text for the address of requests is no address, or one to which no request can be sent.
+#[derive(Clone, Copy, Debug, PartialEq, Eq)]
+pub struct RequestFault;
+
+/// Whether a request can be sent to the address from each of the lines.
+fn is_askable(address: &SocketAddr, lines: &[SocketAddr]) -> bool
+    ensures { IsTrue result ↔ IsAskable lines.now address.now }
 {
-    match text {
-        Some(text) => match SocketAddr::parse_ascii(text.as_bytes()) {
-            Ok(address) => Ok(Some(address)),
-            Err(fault) => Err(fault),
-        },
-        None => Ok(None),
+    let version = address.is_ipv4();
+    address.port() != 0
+        && !address.ip().is_unspecified()
+        && lines.iter().all(|line| line.is_ipv4() == version)
+}
+
+/// The address that these lines' requests are sent to, if a text is given for it.
+pub fn read_request(
+    text: Option<&str>,
+    lines: &[SocketAddr],
+) -> Result<Option<SocketAddr>, RequestFault>
+    ensures ok { IfOk result (NamesRequest lines.now (option_map (λ text. text.now) text.entry)) }
+    ensures err { OnErr result (NamesNoRequest lines.now
+        (option_map (λ text. text.now) text.entry)) }
+{
+    let Some(text) = text else {
+        return Ok(None);
+    };
+    match SocketAddr::parse_ascii(text.as_bytes()) {
+        Ok(address) if is_askable(&address, lines) => Ok(Some(address)),
+        _ => Err(RequestFault),
     }
 }

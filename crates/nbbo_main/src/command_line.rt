@@ -1,5 +1,5 @@
 //! The requests of the words of the command line.
-ghost use Rattle.std.specs.Prelude.{◌≡◌, ◌*◌, ◌≤◌, [], IfOk, IfErr, OnOk, codes, map, string_bytes, unwrap_or, vec_len};
+ghost use Rattle.std.specs.Prelude.{◌≡◌, ◌*◌, ◌≤◌, [], IfOk, IfErr, OnErr, OnOk, codes, map, string_bytes, unwrap_or, vec_len};
 ghost use Rattle.clap.specs.Matches.{found_of};
 ghost use Rattle.clap.specs.Simple.{subcommand_of, subcommand_rows_of};
 ghost use Rattle.clap.specs.Values.{kind_of};
@@ -9,8 +9,9 @@ ghost use Rattle.nbbo_main.specs.CommandLine.{Asks, Gives, GivesListening, Gives
 ghost use Rattle.nbbo_main.specs.Commands.{nbbo_app};
 ghost use Rattle.nbbo_main.specs.Symbols.{HasSymbolsFault, NameSymbols};
 
-use crate::addresses::{LinesFault, read_lines, read_request};
+use crate::addresses::{LinesFault, RequestFault, read_lines, read_request};
 use crate::commands::nbbo_command;
+use crate::line_tasks::{conversion_of, replay_task};
 use crate::listen_settings::ListenSettings;
 use crate::refusal::Refusal;
 use crate::replay_settings::ReplaySettings;
@@ -21,7 +22,7 @@ use clap::error::ErrorKind;
 use clap::{ArgMatches, Error};
 use feed_types::SymbolName;
 use std::alloc::Global;
-use std::net::{AddrParseError, SocketAddr};
+use std::net::SocketAddr;
 
 /// The most messages that a window can have.
 const MAX_WINDOW: u32 = 65_535;
@@ -100,7 +101,7 @@ fn symbols_of(alloc: Global, options: &ArgMatches<'_>) -> Result<Vec<SymbolName>
 }
 
 /// The text of the option of this name, empty where it isn't given.
-fn text_of<'a>(options: &ArgMatches<'a>, name: &str) -> &'a str
+pub fn text_of<'a>(options: &ArgMatches<'a>, name: &str) -> &'a str
     ensures { result.now ≡ unwrap_or (first_of name.now (rows_of (found_of options.now))) [] }
 {
     match options.get_str(name) {
@@ -119,11 +120,11 @@ fn given_count_of(options: &ArgMatches<'_>, name: &str) -> Option<u32>
     }
 }
 
-/// Whether gaps are printed.
-fn gaps_of(replay: &ArgMatches<'_>) -> bool
-    ensures { IsFlag (one_of (codes "gaps") (rows_of (found_of replay.now))) result }
+/// Whether the flag of this name is given.
+fn flag_of(options: &ArgMatches<'_>, name: &str) -> bool
+    ensures { IsFlag (one_of name.now (rows_of (found_of options.now))) result }
 {
-    replay.get_flag("gaps")
+    options.get_flag(name)
 }
 
 /// The lines that the option gives, two for each of `venues` venues.
@@ -141,18 +142,21 @@ fn lines_of(
     read_lines(alloc, text_of(listen, "lines"), venues)
 }
 
-/// The address for requests that the option gives, if it is given.
-fn request_of(listen: &ArgMatches<'_>) -> Result<Option<SocketAddr>, AddrParseError>
-    ensures ok { IfOk result (NamesRequest
+/// The address for these lines' requests that the option gives, if it is given.
+fn request_of(
+    listen: &ArgMatches<'_>,
+    lines: &[SocketAddr],
+) -> Result<Option<SocketAddr>, RequestFault>
+    ensures ok { IfOk result (NamesRequest lines.now
         (first_of (codes "request") (rows_of (found_of listen.now)))) }
-    ensures err { IfErr result (λ _. NamesNoRequest
+    ensures err { OnErr result (NamesNoRequest lines.now
         (first_of (codes "request") (rows_of (found_of listen.now)))) }
 {
-    read_request(listen.get_str("request"))
+    read_request(listen.get_str("request"), lines)
 }
 
 /// The settings that the options of `replay` give.
-fn settings_of(alloc: Global, replay: &ArgMatches<'_>) -> Result<ReplaySettings, Refusal>
+pub fn settings_of(alloc: Global, replay: &ArgMatches<'_>) -> Result<ReplaySettings, Refusal>
     ensures ok { IfOk result (Gives (rows_of (found_of replay.now))) }
     ensures err { IfErr result (GivesNone (rows_of (found_of replay.now))) }
 {
@@ -161,7 +165,7 @@ fn settings_of(alloc: Global, replay: &ArgMatches<'_>) -> Result<ReplaySettings,
         symbols: symbols_of(alloc, replay)?,
         window: window_of(replay),
         journal: count_of(replay, "journal"),
-        gaps: gaps_of(replay),
+        gaps: flag_of(replay, "gaps"),
     })
 }
 
@@ -172,15 +176,20 @@ fn listening_of(alloc: Global, listen: &ArgMatches<'_>) -> Result<ListenSettings
 {
     let sessions = read_sessions(alloc, text_of(listen, "sessions"))?;
     let lines = lines_of(alloc, listen, sessions.len())?;
+    let request = request_of(listen, lines.as_slice())?;
     Ok(ListenSettings {
         sessions,
         lines,
-        request: request_of(listen)?,
+        request,
         symbols: symbols_of(alloc, listen)?,
         window: window_of(listen),
         journal: count_of(listen, "journal"),
         datagrams: count_of(listen, "datagrams"),
         buffer: given_count_of(listen, "buffer"),
+        seconds: given_count_of(listen, "seconds"),
+        until_input_ends: flag_of(listen, "until-input-ends"),
+        follow: flag_of(listen, "follow"),
+        stats: given_count_of(listen, "stats"),
     })
 }
 
@@ -194,8 +203,11 @@ pub fn settings(alloc: Global, words: &[String]) -> Result<Task, Refusal>
     if let Some(listen) = matches.subcommand_matches("listen") {
         return Ok(Task::Listen(listening_of(alloc, listen)?));
     }
+    if let Some(convert) = matches.subcommand_matches("convert") {
+        return Ok(Task::Convert(conversion_of(alloc, convert)?));
+    }
     match matches.subcommand_matches("replay") {
-        Some(replay) => Ok(Task::Replay(settings_of(alloc, replay)?)),
+        Some(replay) => Ok(replay_task(alloc, replay)?),
         // Without a command there is no list of sessions either.
         None => Err(Refusal::BadSession),
     }

@@ -1,8 +1,23 @@
 //! The end of the program after a replay.
 ghost use Rattle.std.specs.Prelude.{◌≡◌};
-ghost use Rattle.nbbo_main.specs.Ending.{ending_status, ending_text};
+ghost use Rattle.nbbo_main.specs.Ending.{ending_status, ending_text, fault_text};
 
 use feed_text::fault::ReplayFault;
+
+/// The line for a fault.
+pub fn fault_line(fault: ReplayFault) -> &'static str
+    ensures { result.now ≡ fault_text fault }
+{
+    match fault {
+        ReplayFault::ReadFailed => "nbbo: read failed\n",
+        ReplayFault::WriteFailed => "nbbo: write failed\n",
+        ReplayFault::BadRecord => "nbbo: bad record\n",
+        ReplayFault::ShortRecord => "nbbo: short record\n",
+        ReplayFault::TooManyTurns => "nbbo: too many turns\n",
+        ReplayFault::JournalFull => "nbbo: journal full; --journal gives it more room\n",
+        ReplayFault::NoMemory => "nbbo: no memory\n",
+    }
+}
 
 /// The status of the program, and the line for standard error, with its end: none after a replay
 /// without a fault.
@@ -12,12 +27,6 @@ pub fn ending(outcome: &Result<(), ReplayFault>) -> (u8, &'static str)
 {
     match outcome {
         Ok(()) => (0, ""),
-        Err(ReplayFault::ReadFailed) => (1, "nbbo: read failed\n"),
-        Err(ReplayFault::WriteFailed) => (1, "nbbo: write failed\n"),
-        Err(ReplayFault::BadRecord) => (1, "nbbo: bad record\n"),
-        Err(ReplayFault::ShortRecord) => (1, "nbbo: short record\n"),
-        Err(ReplayFault::TooManyTurns) => (1, "nbbo: too many turns\n"),
-        Err(ReplayFault::JournalFull) => (1, "nbbo: journal full; --journal gives it more room\n"),
-        Err(ReplayFault::NoMemory) => (1, "nbbo: no memory\n"),
+        Err(fault) => (1, fault_line(*fault)),
     }
 }

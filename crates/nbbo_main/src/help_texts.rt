@@ -14,6 +14,7 @@ pub const REPLAY_USAGE: &str = "nbbo replay [OPTIONS] --sessions <LIST> [SYMBOL]
 pub const EXAMPLE: &str = "\
 Example:
   nbbo replay --sessions NORTH,SOUTH ACME < capture
+  nbbo replay --sessions NORTH --lines 239.1.1.1:26400,239.1.1.2:26400 ACME < day.pcap
   nbbo listen --sessions 0000000001 --lines 127.0.0.1:7001,127.0.0.1:7002 ACME
 
 'nbbo replay --help' and 'nbbo listen --help' tell what is read and what is printed.";
@@ -28,7 +29,10 @@ A capture is a list of records, one after the other: the venue (1 byte, from 0),
 a length (2 bytes, big-endian) and that many bytes. Kind A, B or R is a MoldUDP64 datagram that
 came on line A, on line B or from recovery. Kind N has ten bytes, the name of the venue's next
 session. Kind H declares self-help on the venue, which takes its quotations out of the national
-best, and kind W withdraws it; both have length 0.";
+best, and kind W withdraws it; both have length 0.
+
+With --lines the input is a packet capture, pcap or pcapng, as tcpdump and dumpcap write it, and
+what is replayed are the datagrams of its lines, in the order of the capture.";
 
 pub const SESSIONS_HELP: &str = "\
 The first session of each venue, venue 0's first: 1 to 16 names parted by commas. A
@@ -42,6 +46,47 @@ between: 1 to 65535. A packet that goes further is 'ahead': it is known of, not 
 pub const JOURNAL_HELP: &str = "\
 How many items and declarations of self-help there is room for: 0 to 4294967295. A
 run that needs more ends there, with status 1";
+
+pub const CAPTURED_LINES_HELP: &str = "\
+Says that the input is a packet capture (pcap or pcapng), and where the lines' datagrams
+go in it: two addresses for each venue, line A's and then line B's, venue 0's first,
+parted by commas and each once. An address is an IP address, of a machine or a group,
+and a port, as 239.1.1.1:26400 or [ff02::1]:26400. One of zeros, as 0.0.0.0:26400, takes
+what goes to that port at any address; a datagram goes to the first line that takes it";
+
+/// `convert`, in one line.
+pub const CONVERT_ABOUT: &str =
+    "Converts a packet capture into a capture of this project's own format";
+
+pub const CONVERT_LONG_ABOUT: &str = "\
+Converts a packet capture (pcap or pcapng) from standard input into a capture as 'nbbo replay'
+reads it without --lines, and writes that to standard output: a record for each datagram that
+goes to a line, in the order of the capture. 'nbbo replay --help' says what a record is; those
+of kind N, H and W can be put between.";
+
+/// The usage of `convert`.
+pub const CONVERT_USAGE: &str = "nbbo convert --lines <LIST> < PCAP > CAPTURE";
+
+/// An example, for the short help.
+pub const CONVERT_EXAMPLE: &str = "\
+Example:
+  nbbo convert --lines 239.1.1.1:26400,239.1.1.2:26400 < day.pcap > day.capture";
+
+/// The part of the long help after the options.
+pub const CONVERT_END: &str = "\
+Example:
+  nbbo convert --lines 239.1.1.1:26400,239.1.1.2:26400 < day.pcap > day.capture
+  nbbo replay --sessions NORTH ACME < day.capture
+
+Status:
+  0  the packet capture was converted to its end, or help was shown
+  1  the input or the run was refused; the records of the datagrams before were written. Standard
+     error says why: 'bad capture at byte N', 'short record', 'read failed', 'write failed',
+     'too many turns' and 'no memory' as of 'nbbo replay --lines'
+  2  the command line was refused: 'bad lines' where the list isn't two addresses for each of 1 to
+     16 venues, or names one twice
+
+Standard error also counts what was passed over, as of 'nbbo replay --lines'.";
 
 pub const SYMBOLS_HELP: &str = "\
 The symbols whose national best bid and offer is printed: at most 4096 words, each
@@ -82,6 +127,11 @@ Printed lines, V a venue from 0, L a line (A, B or R for recovery):
   venue V sent SENT wins A B R   after the last record, for each venue: how many items were sent,
                                  and how many messages each line brought first
 
+With --lines standard error says at the end what a line may have lost, with a count: fragments of
+datagrams, frames that were cut when they were captured, malformed packets, frames that can't be
+read (of a link type or with an IPv6 extension header that this program doesn't know), frames out
+of time order, and whether no datagram goes to a line.
+
 Examples:
   $ nbbo replay --sessions NORTH,SOUTH ACME < capture
   packet 0 A taken 1 0
@@ -116,7 +166,10 @@ Status:
                        datagram that had room were printed, too
        bad record      a record's venue isn't below the number of sessions, its kind isn't A, B, R,
                        N, H or W, a record N hasn't ten bytes, or a record H or W has any
-       short record    the capture ends within a record
+       short record    the capture ends within a record; with --lines, within a header, a packet
+                       or a block, or before the first
+       bad capture at byte N
+                       with --lines: from that byte on it is no packet capture; how so follows
        read failed     standard input can't be read
        write failed    standard output can't be written, as where it is a pipe that 'head' has left
        too many turns  input was read 1,000,000,000 times and hasn't ended
@@ -124,7 +177,8 @@ Status:
   2  the command line was refused; standard error says why. 'bad session': a name is empty, has
      more than ten characters or one that isn't printable ASCII; 'too many sessions': more than 16;
      'bad symbol': a symbol is empty, has more than eight characters, or a space or one that isn't
-     printable ASCII; 'too many symbols': more than 4096; 'duplicate symbol': one is named twice";
+     printable ASCII; 'too many symbols': more than 4096; 'duplicate symbol': one is named twice;
+     'bad lines': --lines isn't two addresses for each session, or names one twice";
 
 pub const LINES_HELP: &str = "\
 Where the lines are received: two addresses for each venue, line A's and then line
@@ -137,9 +191,10 @@ pub const REQUEST_HELP: &str = "\
 Where messages that are missing are asked for: the address of a retransmission server.
 A request goes there from the socket of the line that found the gap, at once, and again
 while the gap stands, with the venue's next datagram that comes 250 ms or more later,
-from the line that it came on. A reply is read on the line that asked. A fault of the
-socket at a request ends the line that asks, as where the port is 0 or the address is of
-another version of IP than the line. Without this option nothing is asked for";
+from the line that it came on. A reply is read on the line that asked. The port isn't 0,
+nor the IP address 0.0.0.0 or [::], and it is of each line's version of IP. A fault of the
+socket at a request, as where a firewall refuses it or there is no route, ends the line
+that asks. Without this option nothing is asked for";
 
 pub const DATAGRAMS_HELP: &str = "\
 How many datagrams a line reads at most: 0 to 4294967295. A line also ends after a
@@ -159,8 +214,8 @@ Listens on the lines of live venues and prints what they came to.
 Each venue sends the same MoldUDP64 packets on two lines, A and B. Each line is received by UDP,
 in a thread of its own. What either line brings is put into one sequence, and the national best
 bid and offer of each symbol is kept. A line ends after an end of session, or after as many
-datagrams as --datagrams says. Once all lines have ended, what changed is printed, and not
-before.";
+datagrams as --datagrams says; --seconds and --until-input-ends end all lines. Once they have
+ended, what changed is printed; with --follow each change is printed as it comes.";
 
 /// The usage of `listen`.
 pub const LISTEN_USAGE: &str = "nbbo listen [OPTIONS] --sessions <LIST> --lines <LIST> [SYMBOL]...";
@@ -174,7 +229,7 @@ Example, one venue whose lines are received on two ports:
 
 /// The part of the long help after the options.
 pub const LISTEN_LINES: &str = "\
-Printed lines, once all lines have ended:
+Printed lines, once all lines have ended, the best lines with --follow before:
   best NOTICE POSITION SYMBOL BID OFFER STATE
                                  the journal's entry at POSITION has changed the national best bid
                                  or offer of the symbol. BID and OFFER are none or V:PRICExSIZE;
@@ -206,8 +261,10 @@ more are dropped while its thread waits for a processor. --buffer asks for more 
 says that the system allows no more, as root, beforehand:
   sysctl -w net.core.rmem_max=4194304
 
-A first interrupt from the keyboard ends the program at once, and nothing is printed: what
-was taken is not kept. To have it printed, send each line an end of session.
+A first interrupt from the keyboard ends the program at once, and nothing more is printed: what
+was taken is not kept. To have it printed, send each line an end of session; or have the
+interrupt end what the program reads, and not the program:
+  cat | (trap '' INT; nbbo listen --until-input-ends --sessions .. > best.txt)
 
 Status:
   0  all lines ended and what they came to was printed, or help was shown. Standard error says
@@ -229,4 +286,5 @@ Status:
        no memory        memory was refused
   2  the command line was refused; standard error says why. 'bad session', 'too many sessions',
      'bad symbol', 'too many symbols' and 'duplicate symbol' as of 'nbbo replay'; 'bad lines': not
-     two addresses for each session; 'bad request address': it is no address";
+     two addresses for each session; 'bad request address': it is none, or none that the lines
+     can send to (port 0, IP address 0.0.0.0 or [::], another version of IP than a line's)";

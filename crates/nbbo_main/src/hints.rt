@@ -37,12 +37,20 @@ pub fn format_hint(start: u32) -> &'static str
     ensures { result.now ≡ format_hint start }
 {
     if is_packets(start) {
-        "nbbo: the input is a packet capture (pcap or pcapng), not a capture as 'nbbo replay --help' tells of\n"
+        "nbbo: the input is a packet capture (pcap or pcapng); --lines LIST says which of its datagrams to replay\n"
     } else if start / 65_536 == GZIP {
         "nbbo: the input is in gzip; to unpack it write 'zcat FILE | nbbo replay ..'\n"
     } else {
         ""
     }
+}
+
+/// Whether the words ask to read a packet capture.
+pub fn asks_for_packets(words: &[String]) -> bool {
+    words.iter().any(|word| {
+        let word = word.as_str();
+        word == "convert" || word == "--lines" || word.starts_with("--lines=")
+    })
 }
 
 /// Whether the word names a file that can be read.

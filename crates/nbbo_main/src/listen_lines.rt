@@ -13,7 +13,7 @@ use itoa::Buffer;
 use live_feed::Stop;
 
 /// Writes a number in decimal.
-fn write_number<E: TextOut>(number: u64, errors: &mut E)
+pub fn write_number<E: TextOut>(number: u64, errors: &mut E)
     ensures { Says (record { adds = E.adds; failures = E.failures })
         (decimal number) errors.old errors.new }
 {

@@ -3,11 +3,10 @@ ghost use Rattle.std.specs.Prelude.{◌≡◌};
 ghost use Rattle.nbbo_main.specs.CommandLine.{lines_refusal_by, refusal_by, refusal_status, refusal_text, symbols_refusal_by};
 ghost use Rattle.nbbo_main.specs.declared.refusal.Refusal.TheVariants.{BadRequest, NoMemory};
 
-use crate::addresses::LinesFault;
+use crate::addresses::{LinesFault, RequestFault};
 use crate::sessions::SessionsFault;
 use crate::symbols::SymbolsFault;
 use std::alloc::AllocError;
-use std::net::AddrParseError;
 
 /// Why there are no settings.
 #[derive(Debug, Drop)]
@@ -24,7 +23,7 @@ pub enum Refusal {
     TooManySessions,
     /// The lines aren't two addresses for each session.
     BadLines,
-    /// The text for the address of requests is no address.
+    /// The text for the address of requests is no address, or one to which no request can be sent.
     BadRequest,
     /// A symbol is empty, has more than eight bytes, or has a byte outside of `21` to `7e`.
     BadSymbol,
@@ -102,10 +101,10 @@ impl From<LinesFault> for Refusal {
     }
 }
 
-impl From<AddrParseError> for Refusal {
+impl From<RequestFault> for Refusal {
     ghost from_gives = { λ _ refusal. refusal ≡ BadRequest };
 
-    fn from(_fault: AddrParseError) -> Refusal {
+    fn from(_fault: RequestFault) -> Refusal {
         Refusal::BadRequest
     }
 }

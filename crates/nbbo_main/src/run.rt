@@ -1,9 +1,11 @@
 //! A run of the program over any input, output and standard error.
 ghost use Rattle.std.specs.Prelude.{◌≡◌, map, string_bytes};
-ghost use Rattle.nbbo_main.specs.Runs.{IsConfigOf, Leads, RunsReplay, Says, TellsRefusal, hint_text};
+ghost use Rattle.nbbo_main.specs.LineRuns.{Leads};
+ghost use Rattle.nbbo_main.specs.Runs.{IsConfigOf, RunsReplay, Says, TellsRefusal, hint_text};
 
 use crate::command_line::settings;
 use crate::ending::ending;
+use crate::line_runs::{run_conversion, run_line_replay};
 use crate::listen_settings::ListenSettings;
 use crate::refusal::Refusal;
 use crate::replay_settings::ReplaySettings;
@@ -16,7 +18,7 @@ use replay_run::replay;
 use std::alloc::Global;
 
 /// The most calls of the reader that a replay makes.
-const MAX_TURNS: u64 = 1_000_000_000;
+pub const MAX_TURNS: u64 = 1_000_000_000;
 
 /// The hint on standard error before a terminal is read.
 const HINT: &str = "nbbo: reading a capture from the terminal ('nbbo replay --help' tells more)\n";
@@ -30,8 +32,15 @@ pub enum Next {
     Listens(ListenSettings),
 }
 
+/// The result of a run, and its input as the last call left it.
+#[derive(Debug, Drop)]
+pub struct ProgramRun<R> {
+    pub next: Next,
+    pub input: R,
+}
+
 /// The settings as the replay takes them.
-fn config_of(settings: &ReplaySettings) -> ReplayConfig<'_>
+pub fn config_of(settings: &ReplaySettings) -> ReplayConfig<'_>
     ensures { IsConfigOf settings.now result }
 {
     ReplayConfig {
@@ -54,7 +63,7 @@ pub fn write_stderr<E: TextOut>(text: &str, errors: &mut E)
     }
 }
 
-fn hint(at_terminal: bool) -> &'static str
+pub fn hint(at_terminal: bool) -> &'static str
     ensures { result.now ≡ hint_text at_terminal }
 {
     if at_terminal { HINT } else { "" }
@@ -112,33 +121,59 @@ pub fn refuse<W: TextOut, E: TextOut>(refusal: &Refusal, output: &mut W, errors:
 ///
 /// The input is read only for a replay, and its lines are all that a replay writes on the output.
 /// Before a terminal is read, standard error says so.
-pub fn run<R: CaptureIn, W: TextOut, E: TextOut>(
+pub fn run<R: CaptureIn + Drop, W: TextOut, E: TextOut>(
     alloc: Global,
     words: &[String],
     at_terminal: bool,
-    input: &mut R,
+    mut input: R,
     output: &mut W,
     errors: &mut E,
-) -> Next
+) -> ProgramRun<R>
     ensures { Leads
         (record { gives = R.gives; ends = R.ends; failures = R.failures; fails = R.fails })
         (record { adds = W.adds; failures = W.failures })
         (record { adds = E.adds; failures = E.failures })
         (map (λ word. string_bytes word) words.now) at_terminal
-        input.old input.new output.old output.new errors.old errors.new result }
+        input result.input output.old output.new errors.old errors.new result.next }
 {
     match settings(alloc, words) {
         Ok(task) => match task {
-            Task::Replay(settings) => Next::Ended(run_replay(
-                alloc,
-                &settings,
-                at_terminal,
+            Task::Replay(settings) => {
+                let status = run_replay(alloc, &settings, at_terminal, &mut input, output, errors);
+                ProgramRun {
+                    next: Next::Ended(status),
+                    input,
+                }
+            }
+            Task::ReplayLines(settings) => {
+                let run = run_line_replay(alloc, &settings, at_terminal, input, output, errors);
+                ProgramRun {
+                    next: Next::Ended(run.status),
+                    input: run.input,
+                }
+            }
+            Task::Convert(lines) => {
+                let run = run_conversion(
+                    alloc,
+                    lines.as_slice(),
+                    at_terminal,
+                    input,
+                    output,
+                    errors,
+                );
+                ProgramRun {
+                    next: Next::Ended(run.status),
+                    input: run.input,
+                }
+            }
+            Task::Listen(settings) => ProgramRun {
+                next: Next::Listens(settings),
                 input,
-                output,
-                errors,
-            )),
-            Task::Listen(settings) => Next::Listens(settings),
+            },
         },
-        Err(refusal) => Next::Ended(refuse(&refusal, output, errors)),
+        Err(refusal) => ProgramRun {
+            next: Next::Ended(refuse(&refusal, output, errors)),
+            input,
+        },
     }
 }

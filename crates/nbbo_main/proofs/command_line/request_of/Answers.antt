@@ -1,5 +1,5 @@
 use Rattle.std.proofs.Common.{Option, subst, codes, ◌∙◌}
-use Rattle.std.specs.Prelude.{IfOk, IfErr}
+use Rattle.std.specs.Prelude.{IfOk, OnErr}
 use Rattle.clap.proofs.WalkLemmas.{first_value-rows}
 use Rattle.clap.specs.Matches.{found_of}
 use Rattle.clap.specs.Walk.{Text}
@@ -7,7 +7,7 @@ use Rattle.nbbo_main.specs.Addresses.{NamesNoRequest, NamesRequest}
 use Rattle.nbbo_main.proofs.command_line.request_of.Goals as goal
 
 pub returns-clause-ok : goal.returns-clause-ok
-returns-clause-ok c = subst (λ (o : Option Text). IfOk c.read_request.result (NamesRequest o)) (c.get_str.ensures ∙ first_value-rows (found_of c.args.listen.now) (codes "request")) c.read_request.ensures.ok
+returns-clause-ok c = subst (λ (o : Option Text). IfOk c.read_request.result (NamesRequest c.args.lines.now o)) (c.get_str.ensures ∙ first_value-rows (found_of c.args.listen.now) (codes "request")) c.read_request.ensures.ok
 
 pub returns-clause-err : goal.returns-clause-err
-returns-clause-err c = subst (λ (o : Option Text). IfErr c.read_request.result (λ _. NamesNoRequest o)) (c.get_str.ensures ∙ first_value-rows (found_of c.args.listen.now) (codes "request")) c.read_request.ensures.err
+returns-clause-err c = subst (λ (o : Option Text). OnErr c.read_request.result (NamesNoRequest c.args.lines.now o)) (c.get_str.ensures ∙ first_value-rows (found_of c.args.listen.now) (codes "request")) c.read_request.ensures.err

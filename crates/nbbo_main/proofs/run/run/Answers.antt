@@ -1,5 +1,6 @@
-use Rattle.std.proofs.Common.{inl, subst, map}
+use Rattle.std.proofs.Common.{inl, inr, subst, map, List}
 use Rattle.std.specs.Prelude.{string_bytes}
+use Rattle.line_captures.specs.declared.captured_line.CapturedLine.{CapturedLine}
 use Rattle.nbbo_main.specs.CommandLine.{Asks}
 use Rattle.nbbo_main.specs.declared.task.Task.{Task}
 use Rattle.nbbo_main.proofs.run.run.Goals as goal
@@ -7,8 +8,26 @@ use Rattle.nbbo_main.proofs.run.run.Goals as goal
 pub returns-in-Replay : goal.returns-in-Replay
 returns-in-Replay g c =
     let words = map (λ word. string_bytes word) c.args.words.now in
-    inl (record {
+    inl (inl (record {
       settings = c.in-Replay.settings;
       asked = subst (λ (task : Task). Asks words task) c.in-Replay.is c.in-Ok.ensures.ok;
-      runs = c.run_replay.ensures;
-    })
+      runs = c.run_replay-status.ensures;
+    }))
+
+pub returns-in-ReplayLines : goal.returns-in-ReplayLines
+returns-in-ReplayLines g c =
+    let words = map (λ word. string_bytes word) c.args.words.now in
+    inr (inl (record {
+      settings = c.in-ReplayLines.settings;
+      asked = subst (λ (task : Task). Asks words task) c.in-ReplayLines.is c.in-Ok.ensures.ok;
+      runs = c.run_line_replay-run.ensures;
+    }))
+
+pub returns-in-Convert : goal.returns-in-Convert
+returns-in-Convert g c =
+    let words = map (λ word. string_bytes word) c.args.words.now in
+    inr (inr (record {
+      lines = c.in-Convert.lines.items;
+      asked = subst (λ (task : Task). Asks words task) c.in-Convert.is c.in-Ok.ensures.ok;
+      runs = ?;
+    }))

@@ -1,0 +1,159 @@
+-- Runs of the program over packet captures, and the result of any run.
+use Rattle.std.specs.Prelude.{◌≡◌, ◌⊎◌, ℕ, zero, suc, List, [], ◌∷◌, ◌++◌, Bool, codes, decimal, Result, Ok, Err}
+use Rattle.clap.specs.Walk.{Text}
+use Rattle.packet_capture.specs.declared.fault.CaptureFault.{CaptureFault}
+use Rattle.packet_capture.specs.declared.fault.CaptureFault.TheVariants.{NotCapture, UnknownVersion, TooLong, BadByteOrder, BadBlockLength, LengthsDiffer, ShortBlock, UnknownInterface, FramePastBlock, OptionPastBlock, TooManyInterfaces}
+use Rattle.feed_text.specs.declared.replay.ReplayConfig.{ReplayConfig}
+use Rattle.feed_text.specs.Devices.{Reading, Writing}
+use Rattle.line_captures.specs.declared.captured_line.CapturedLine.{CapturedLine}
+use Rattle.line_captures.specs.declared.fault.InputFault.{InputFault}
+use Rattle.line_captures.specs.declared.fault.InputFault.TheVariants.{BadCapture, ShortCapture}
+use Rattle.line_captures.specs.declared.passed_over.PassedOver.{PassedOver}
+use Rattle.line_captures.specs.declared.report.CaptureReport.{CaptureReport}
+use Rattle.line_captures.specs.declared.report.LinesFault.{LinesFault}
+use Rattle.line_captures.specs.declared.report.LinesFault.TheVariants.{Input, Run}
+use Rattle.line_captures.specs.Conversions.{Converts}
+use Rattle.replay_run.specs.LineReplays.{ReplaysLines}
+use Rattle.nbbo_main.specs.CommandLine.{AsksConversion, AsksLineReplay}
+use Rattle.nbbo_main.specs.Ending.{fault_text}
+use Rattle.nbbo_main.specs.Listening.{SaysEach}
+use Rattle.nbbo_main.specs.Runs.{IsConfigOf, LeavesToListen, Runs, Says, hint_text}
+use Rattle.nbbo_main.specs.declared.line_replay_settings.LineReplaySettings.{LineReplaySettings}
+use Rattle.nbbo_main.specs.declared.listen_settings.ListenSettings.{ListenSettings}
+use Rattle.nbbo_main.specs.declared.run.Next.{Next}
+use Rattle.nbbo_main.specs.declared.run.Next.TheVariants.{Ended, Listens}
+
+-- ---- what is said of a packet capture on standard error
+
+-- a line with a count, where that isn't 0
+abbrev pub count_texts : List ℕ → ℕ → List (List ℕ)
+count_texts label zero = []
+count_texts label (suc more) = label ∷ decimal (suc more) ∷ codes "\n" ∷ []
+
+-- what a line may have lost
+abbrev pub lost_texts : PassedOver → List (List ℕ)
+lost_texts passed =
+    count_texts (codes "nbbo: fragments passed over: ") passed.fragments
+    ++ (count_texts (codes "nbbo: cut frames passed over: ") passed.cut
+    ++ count_texts (codes "nbbo: malformed packets passed over: ") passed.malformed)
+
+-- and what else is to be known of the frames
+abbrev pub other_texts : PassedOver → List (List ℕ)
+other_texts passed =
+    count_texts (codes "nbbo: frames that can't be read passed over: ") passed.not_read
+    ++ count_texts (codes "nbbo: frames out of time order: ") passed.disordered
+
+abbrev pub passed_texts : PassedOver → List (List ℕ)
+passed_texts passed = lost_texts passed ++ other_texts passed
+
+-- why the bytes are no packet capture, or none that is read: the number of the refusal, and what it means
+abbrev pub capture_fault_text : CaptureFault → List ℕ
+capture_fault_text NotCapture = codes ": 40, neither pcap nor pcapng\n"
+capture_fault_text UnknownVersion = codes ": 41, a version of pcap or pcapng that is not known\n"
+capture_fault_text TooLong = codes ": 42, a frame or a block of more than 1048576 bytes\n"
+capture_fault_text BadByteOrder = codes ": 43, a section that does not show its byte order\n"
+capture_fault_text BadBlockLength = codes ": 44, a length of a block that is below 12 or no multiple of 4\n"
+capture_fault_text LengthsDiffer = codes ": 45, two lengths of a block that differ\n"
+capture_fault_text ShortBlock = codes ": 46, a block that is too short for its fields\n"
+capture_fault_text UnknownInterface = codes ": 47, a packet of an interface that is not described\n"
+capture_fault_text FramePastBlock = codes ": 48, a frame that runs past its block\n"
+capture_fault_text OptionPastBlock = codes ": 49, an option that runs past its block\n"
+capture_fault_text TooManyInterfaces = codes ": 50, more than 256 interfaces in a section\n"
+
+-- how the input is no whole capture; the position is that of the piece that is bad
+abbrev pub input_texts : InputFault → ℕ → List (List ℕ)
+input_texts (BadCapture fault) position =
+    codes "nbbo: bad capture at byte " ∷ decimal position ∷ capture_fault_text fault ∷ []
+input_texts ShortCapture position = codes "nbbo: short record\n" ∷ []
+
+-- that no datagram goes to a line, by how many do
+abbrev pub no_line_texts : ℕ → List (List ℕ)
+no_line_texts zero = codes "nbbo: no datagram goes to a line\n" ∷ []
+no_line_texts (suc more) = []
+
+-- the line of an outcome; of a whole capture, that no datagram goes to a line
+abbrev pub capture_outcome_texts : Result (Unit {0}) LinesFault → ℕ → ℕ → List (List ℕ)
+capture_outcome_texts (Ok done) position to_lines = no_line_texts to_lines
+capture_outcome_texts (Err (Input fault)) position to_lines = input_texts fault position
+capture_outcome_texts (Err (Run fault)) position to_lines = fault_text fault ∷ []
+
+abbrev pub capture_texts : {R : Type 0} → CaptureReport R → List (List ℕ)
+capture_texts report =
+    passed_texts report.passed
+    ++ capture_outcome_texts report.outcome report.position report.passed.to_lines
+
+-- 0 after a whole capture, else 1
+abbrev pub capture_status : Result (Unit {0}) LinesFault → ℕ
+capture_status (Ok done) = 0
+capture_status (Err fault) = 1
+
+-- The report is on standard error, and the status is that of its outcome.
+pub record TellsCapture {R E : Type 0} (telling : Writing E) (report : CaptureReport R)
+    (silent told : E) (status : ℕ) : Type 0 where
+  pub says : SaysEach telling (capture_texts report) silent told
+  pub ends : status ≡ capture_status report.outcome
+
+-- ---- runs
+
+-- A packet capture was replayed onto output, as the settings say, and what was written is that of a run
+-- of the machine over the records of its lines' datagrams, of which the headline holds. Standard error
+-- has the hint, and then the report.
+pub record RunsLineReplay {R W E : Type 0}
+    (reading : Reading R) (writing : Writing W) (telling : Writing E)
+    (settings : LineReplaySettings) (at_terminal : Bool)
+    (from to : R) (before after : W) (silent told : E) (status : ℕ) : Type 0 where
+  pub config : ReplayConfig
+  pub is : IsConfigOf settings.replay config
+  pub report : CaptureReport R
+  pub replays : ReplaysLines reading writing config settings.lines.items from report before after
+  pub left : to ≡ report.input
+  pub hinted : E
+  pub hint : Says telling (hint_text at_terminal) silent hinted
+  pub tells : TellsCapture telling report hinted told status
+
+-- A packet capture was converted onto output: what was written is the bytes of the records of its lines'
+-- datagrams. Standard error has the hint, and then the report.
+pub record RunsConversion {R W E : Type 0}
+    (reading : Reading R) (writing : Writing W) (telling : Writing E)
+    (lines : List CapturedLine) (at_terminal : Bool)
+    (from to : R) (before after : W) (silent told : E) (status : ℕ) : Type 0 where
+  pub report : CaptureReport R
+  pub converts : Converts reading writing lines from report before after
+  pub left : to ≡ report.input
+  pub hinted : E
+  pub hint : Says telling (hint_text at_terminal) silent hinted
+  pub tells : TellsCapture telling report hinted told status
+
+-- The words ask for a replay of a packet capture, and it was run.
+pub record ReplayedLines {R W E : Type 0}
+    (reading : Reading R) (writing : Writing W) (telling : Writing E)
+    (words : List Text) (at_terminal : Bool)
+    (from to : R) (before after : W) (silent told : E) (status : ℕ) : Type 0 where
+  pub settings : LineReplaySettings
+  pub asked : AsksLineReplay words settings
+  pub runs : RunsLineReplay reading writing telling settings at_terminal
+      from to before after silent told status
+
+-- The words ask to convert a packet capture, and it was converted.
+pub record Converted {R W E : Type 0}
+    (reading : Reading R) (writing : Writing W) (telling : Writing E)
+    (words : List Text) (at_terminal : Bool)
+    (from to : R) (before after : W) (silent told : E) (status : ℕ) : Type 0 where
+  pub lines : List CapturedLine
+  pub asked : AsksConversion words lines
+  pub runs : RunsConversion reading writing telling lines at_terminal
+      from to before after silent told status
+
+-- The result of a run: its end, or that it is left to listen.
+abbrev pub Leads : {R W E : Type 0}
+    (reading : Reading R) (writing : Writing W) (telling : Writing E)
+    (words : List Text) (at_terminal : Bool)
+    (from to : R) (before after : W) (silent told : E) → Next → Type 0
+Leads reading writing telling words at_terminal from to before after silent told (Ended status) =
+    Runs reading writing telling words at_terminal from to before after silent told status
+    ⊎ (ReplayedLines reading writing telling words at_terminal
+    from to before after silent told status
+    ⊎ Converted reading writing telling words at_terminal from to before after silent told status)
+Leads reading writing telling words at_terminal from to before after silent told
+    (Listens settings) =
+    LeavesToListen words settings from to before after silent told
