@@ -1,15 +1,19 @@
 -- The results of the options' values, and of an error of clap.
-use Rattle.std.proofs.Common.{rules, ◌≡◌, ◌^◌, ◌<◌, ◌⊎◌, inl, inr, ℕ, ◌∙◌, sym, ap, subst, List, Option, Some, None, Ok, Err, [], true, false, refl, arith}
+use Rattle.std.proofs.Common.{rules, codes, length, ◌≡◌, ◌^◌, ◌<◌, ◌⊎◌, inl, inr, ℕ, ◌∙◌, sym, ap, subst, List, Option, Some, None, Ok, Err, [], true, false, refl, arith}
 use Rattle.std.specs.Prelude.{◌≢◌, is_some, unwrap_or}
 use Rattle.std.specs.Str.Parse.{IsNumeral, digits_value, without_leading_plus}
 use Rattle.clap.specs.Kinds.{IsAmong}
-use Rattle.clap.specs.Walk.{Row, Text}
+use Rattle.clap.specs.Walk.{Row, Text, first_of}
 use Rattle.clap.specs.Faults.{fault_of}
 use Rattle.clap.specs.declared.error.kind.ErrorKind.{ErrorKind}
 use Rattle.clap.specs.declared.error.kind.ErrorKind.TheVariants.{DisplayHelp, DisplayVersion, OutOfMemory}
-use Rattle.nbbo_main.specs.CommandLine.{GivesNone, IsCount, IsGivenCount, IsRefused, IsWindowOf, RefusesBy, list_in, refusal_by, symbol_words_in, symbols_refusal_by}
+use Rattle.nbbo_main.specs.CapturedLines.{HasCapturedLinesFault}
+use Rattle.nbbo_main.specs.CommandLine.{Gives, GivesNoListening, GivesNoTask, GivesNone, IsAccepted, IsConverting, IsCount, IsGivenCount, IsListening, IsRefused, IsWindowOf, RefusesBy, lines_refusal_by, list_in, listen_values_of, refusal_by, symbol_words_in, symbols_refusal_by}
 use Rattle.nbbo_main.specs.Commands.{nbbo_app}
 use Rattle.nbbo_main.specs.Sessions.{sessions_in}
+use Rattle.nbbo_main.specs.declared.addresses.LinesFault.{LinesFault}
+use Rattle.nbbo_main.specs.declared.addresses.LinesFault.TheVariants as lines
+use Rattle.nbbo_main.specs.declared.replay_settings.ReplaySettings.{ReplaySettings}
 use Rattle.nbbo_main.specs.declared.sessions.SessionsFault.{SessionsFault}
 use Rattle.nbbo_main.specs.declared.sessions.SessionsFault.TheVariants as sessions
 use Rattle.nbbo_main.specs.Symbols.{HasSymbolsFault}
@@ -74,6 +78,37 @@ pub GivesNone-fault : (rows : List Row) (list : Text) (fault : SessionsFault) �
 GivesNone-fault rows list sessions.BadSession e told = ap sessions_in (sym e) ∙ told (search rules)
 GivesNone-fault rows list sessions.TooManySessions e told = ap sessions_in (sym e) ∙ told (search rules)
 GivesNone-fault rows list sessions.NoMemory e told = tt
+
+-- a fault of the list of lines is the refusal, where the settings are right
+pub GivesNone-lines : (rows : List Row) (settings : ReplaySettings) (list : Text) (fault : LinesFault) → Gives rows settings → first_of (codes "lines") rows ≡ Some list → HasCapturedLinesFault list (length settings.sessions.items) fault → GivesNone rows (lines_refusal_by fault)
+GivesNone-lines rows settings list lines.BadLines given listed fault = record { settings = settings; given = given; list = list; listed = listed; fault = fault }
+GivesNone-lines rows settings list lines.NoMemory given listed fault = tt
+
+-- one subcommand isn't another one
+not_both : (words : List Text) → IsListening words → IsConverting words → ⊥
+not_both words listens converts = let bad : Some (codes "listen") ≡ Some (codes "convert") = sym listens ∙ converts in absurd (cc)
+
+listens_for_none : (words : List Text) (refusal : Refusal) → IsAccepted words → IsListening words → GivesNoListening (listen_values_of words) refusal → GivesNoTask words refusal
+listens_for_none words refusal taken listens none = record {
+  taken = taken;
+  listening = λ again. none;
+  converting = λ converts. absurd (not_both words listens converts);
+  replaying = λ not_listening not_converting. absurd (not_listening listens);
+}
+
+-- the values of the options of listen are refused
+pub IsRefused-listening : (words : List Text) (refusal : Refusal) → IsAccepted words → IsListening words → GivesNoListening (listen_values_of words) refusal → IsRefused words refusal
+IsRefused-listening words (Shown text) taken listens none = absurd none
+IsRefused-listening words (Usage text) taken listens none = absurd none
+IsRefused-listening words NotText taken listens none = absurd none
+IsRefused-listening words NoMemory taken listens none = tt
+IsRefused-listening words BadSession taken listens none = listens_for_none words BadSession taken listens none
+IsRefused-listening words TooManySessions taken listens none = listens_for_none words TooManySessions taken listens none
+IsRefused-listening words BadLines taken listens none = listens_for_none words BadLines taken listens none
+IsRefused-listening words BadRequest taken listens none = listens_for_none words BadRequest taken listens none
+IsRefused-listening words BadSymbol taken listens none = listens_for_none words BadSymbol taken listens none
+IsRefused-listening words TooManySymbols taken listens none = listens_for_none words TooManySymbols taken listens none
+IsRefused-listening words DuplicateSymbol taken listens none = listens_for_none words DuplicateSymbol taken listens none
 
 -- an error of clap by one of its kinds is the refusal
 pub IsRefused-by : (words : List Text) (kind : ErrorKind) (refusal : Refusal) → RefusesBy kind refusal → (kind ≡ OutOfMemory) ⊎ IsAmong kind (fault_of nbbo_app words) → IsRefused words refusal

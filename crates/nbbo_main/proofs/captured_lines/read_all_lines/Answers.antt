@@ -1,5 +1,12 @@
+use Rattle.std.proofs.Common.{◌+◌, subst}
+use Rattle.nbbo_main.specs.CapturedLines.{HasCapturedLinesFault}
+use Rattle.nbbo_main.specs.declared.addresses.LinesFault.{LinesFault}
 use Rattle.nbbo_main.proofs.CapturedLists.{none_more}
 use Rattle.nbbo_main.proofs.captured_lines.read_all_lines.Goals as goal
 
 pub loop-fewer-preserved : goal.loop-fewer-preserved
-loop-fewer-preserved c = none_more c.args.list.now c.loop-fewer.fewer c.loop-fewer.invariant c.in-Err-BadLines.ensures.err
+loop-fewer-preserved c =
+    let list = c.args.list.now in
+    let venues = c.loop-fewer.fewer in
+    none_more list venues c.loop-fewer.invariant
+    (subst (λ (fault : LinesFault). HasCapturedLinesFault list (venues + 1) fault) c.in-Err-BadLines.field-0-is c.in-Err-BadLines.ensures.err)
