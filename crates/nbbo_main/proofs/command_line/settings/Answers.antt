@@ -1,5 +1,11 @@
+use Rattle.std.proofs.Common.{◌≡◌, ◌∙◌, ap, codes, rules, sym, map, Option, Some, List}
+use Rattle.std.specs.Prelude.{option_map, string_bytes}
+use Rattle.std.proofs.lemmas.Result.{err_from_is_err_and}
 use Rattle.nbbo_main.proofs.Asking.{IsRefused-listening}
 use Rattle.nbbo_main.proofs.command_line.settings.Goals as goal
 
 pub returns-in_err-listening_of-clause-err : goal.returns-in_err-listening_of-clause-err
-returns-in_err-listening_of-clause-err c = ?err
+returns-in_err-listening_of-clause-err c =
+    let words = map (λ word. string_bytes word) c.args.words.now in
+    let p = err_from_is_err_and c.from_residual-in_err-listening_of.result c.from_residual-in_err-listening_of.ensures.1 in
+    rw (p.1, p.2) (IsRefused-listening words c.in_err-listening_of.field-0.0 c.in_ok-matches.ensures.taken (search rules) (search rules))
