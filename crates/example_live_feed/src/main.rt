@@ -1,5 +1,5 @@
-//! An example of linking the crates, by threads: two venues' lines, and two subscribers with
-//! filters and strategies of their own. docs/LINKING.md goes through it.
+//! An example of linking the crates, by threads: a live feed of two venues, each with two lines, and
+//! two subscribers with filters and strategies of their own. docs/LINKING.md goes through it.
 #![tactic(auto)]
 
 ghost use Rattle.std.specs.Prelude.{◌≡◌};
@@ -19,12 +19,12 @@ use std::thread::Threads;
 
 const SESSION: [u8; 10] = *b"0000000001";
 
-/// The symbol that each venue quotes. No other venue quotes it, so that its notices are the same
-/// whichever thread comes first.
+/// The symbol that each venue quotes. It quotes it alone, so that the symbol's notices are the same
+/// whichever line's thread comes first.
 const SYMBOLS: [[u8; 8]; 2] = [*b"ACME    ", *b"BOLT    "];
 
-/// The messages of each venue: the number, bid and offer in ten-thousandths of a dollar, and the
-/// size of both in shares.
+/// The quotations of each venue: the message's number, the bid and the offer in ten-thousandths of a
+/// dollar, and the size of both in shares.
 const QUOTATIONS: [[(u64, u32, u32, u32); 4]; 2] = [
     [
         (1, 101_500, 101_700, 300),
@@ -40,7 +40,7 @@ const QUOTATIONS: [[(u64, u32, u32, u32); 4]; 2] = [
     ],
 ];
 
-/// Each venue's lines, and the message that is lost on each.
+/// The venue of each line, and the message that the line loses.
 const LINES: [(usize, LineId, u64); 4] = [
     (0, LineId::A, 2),
     (0, LineId::B, 3),
@@ -72,24 +72,29 @@ fn datagram_of(
 #[derive(Drop)]
 struct Recorded {
     place: VenueId,
-    line: LineId,
     datagrams: VecDeque<Datagram>,
 }
 
 impl LineSource<Anything> for Recorded {
-    ghost use Rattle.std.specs.Prelude.{refl, ◌≡◌};
-    ghost use Rattle.std.proofs.Common.{◌∙◌};
+    ghost use Rattle.std.specs.Prelude.{refl, ◌≡◌, ◌++◌, map};
+    ghost use Rattle.std.proofs.Common.{◌∙◌, ap, sym};
+    ghost use Rattle.std.proofs.lemmas.List.{append_assoc};
+    ghost use Rattle.live_feed.specs.venue.Datagrams.{bytes_of};
 
-    // A source stays at its venue. What it brings isn't said.
     ghost venue_of = { λ s. s.place };
 
     ghost failures = { λ s. 0 };
 
-    ghost brings = { λ s _ t. t.place ≡ s.place };
+    // A source stays at its venue, and brings its datagrams in order, each once.
+    ghost brings = { λ s brought t. (t.place ≡ s.place)
+        × (map bytes_of s.datagrams.items ≡ brought ++ map bytes_of t.datagrams.items) };
 
-    ghost brings_nothing = { λ s. refl };
+    ghost brings_nothing = { λ s. (refl, refl) };
 
-    ghost brings_more = { λ s t u _ _ a b. b ∙ a };
+    ghost brings_more = { λ s t u xs ys a b. (
+      b.0 ∙ a.0,
+      a.1 ∙ ap (λ rest. xs ++ rest) b.1 ∙ sym (append_assoc xs ys (map bytes_of u.datagrams.items)),
+    ) };
 
     fn venue(&self) -> VenueId {
         self.place
@@ -109,8 +114,9 @@ impl LineSource<Anything> for Recorded {
     }
 }
 
-/// The line of the venue that loses this message.
-fn source_of(alloc: Global, place: usize, line: LineId, lost: u64) -> Option<Recorded> {
+/// The source of a line: all quotations of its venue but the one that it loses. None where memory
+/// was refused.
+fn source_of(alloc: Global, place: usize, lost: u64) -> Option<Recorded> {
     let mut datagrams = VecDeque::new(alloc);
     for quotation in QUOTATIONS.get(place)? {
         if quotation.0 != lost {
@@ -120,13 +126,12 @@ fn source_of(alloc: Global, place: usize, line: LineId, lost: u64) -> Option<Rec
     }
     Some(Recorded {
         place: VenueId::from_index(place)?,
-        line,
         datagrams,
     })
 }
 
 /// Buys what is offered at 10.1600 or less, at most 200 shares.
-fn bought(notice: &Notice) -> Advice
+fn lift_offer(notice: &Notice) -> Advice
     ensures { IsAllowed (record { max_size = 200 }) notice.now result }
 {
     match notice.national.offer {
@@ -140,7 +145,7 @@ fn bought(notice: &Notice) -> Advice
 }
 
 /// Sells to who bids 25.0300 or more, at most 200 shares.
-fn sold(notice: &Notice) -> Advice
+fn hit_bid(notice: &Notice) -> Advice
     ensures { IsAllowed (record { max_size = 200 }) notice.now result }
 {
     match notice.national.bid {
@@ -167,6 +172,9 @@ fn seats_of<N: FeedName>(
 
 /// Opens the feed, whose lanes N names, runs it until all lines have ended, and settles it. None
 /// where memory was refused.
+///
+/// The closures are made where the feed is opened, and the feed goes nowhere else: docs/LINKING.md
+/// says why.
 fn run_feed<N, R>(rt: &R, alloc: Global, closed: LiveFeed<Anything>) -> Option<Settlement>
 where
     N: FeedName + Send + Sync,
@@ -174,31 +182,30 @@ where
     requires { closed ≡ N.lanes }
 {
     let feed = closed.open::<N>(alloc).ok()?;
-    // Stored closures are made where they are used: no function hands one out.
     let buy = Box::new(
         alloc,
         |notice: &Notice| -> Advice
             requires { Unit {0} }
             ensures { IsAllowed (record { max_size = 200 }) notice.now result }
-        { bought(notice) },
+        { lift_offer(notice) },
     );
     let sell = Box::new(
         alloc,
         |notice: &Notice| -> Advice
             requires { Unit {0} }
             ensures { IsAllowed (record { max_size = 200 }) notice.now result }
-        { sold(notice) },
+        { hit_bid(notice) },
     );
     let buyer = Strategy::new(Limits { max_size: 200 }, buy.ok()?);
     let seller = Strategy::new(Limits { max_size: 200 }, sell.ok()?);
-    let acme = Filter::of(Terms::Symbol(SymbolName::from_field(&SYMBOLS[0])?));
-    let large = Filter::of(Terms::MinSize(1_000));
-    let first = feed.subscribe(rt, alloc, acme, buyer).ok()?;
-    let second = feed.subscribe(rt, alloc, large, seller).ok()?;
+    let acme_only = Filter::of(Terms::Symbol(SymbolName::from_field(&SYMBOLS[0])?));
+    let large_only = Filter::of(Terms::MinSize(1_000));
+    let first = feed.subscribe(rt, alloc, acme_only, buyer).ok()?;
+    let second = feed.subscribe(rt, alloc, large_only, seller).ok()?;
     let subscribers = Vec::from_array(alloc, [first, second]).ok()?;
     let mut lines = Vec::with_capacity(alloc, LINES.len()).ok()?;
     for (place, line, lost) in LINES {
-        let source = source_of(alloc, place, line, lost)?;
+        let source = source_of(alloc, place, lost)?;
         let seat = feed.line_seat(rt, source.place, line).ok()?;
         lines.push(Line::new(seat, source).ok()?).ok()?;
     }
@@ -251,6 +258,8 @@ fn main(rt: HostRuntime) -> io::Result<()> {
     let Some(settlement) = run_feed::<Brand, HostRuntime>(&rt, alloc, closed) else {
         return println!(rt; "no memory for the run");
     };
-    print_log(&rt, &settlement, 0)?;
-    print_log(&rt, &settlement, 1)
+    for place in 0..2 {
+        print_log(&rt, &settlement, place)?;
+    }
+    Ok(())
 }
