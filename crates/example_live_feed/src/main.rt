@@ -2,8 +2,9 @@
 //! two subscribers with filters and strategies of their own. docs/LINKING.md goes through it.
 #![tactic(auto)]
 
-ghost use Rattle.std.specs.Prelude.{◌≡◌};
+ghost use Rattle.std.specs.Prelude.{◌≡◌, ℕ, IfSome, slice_get};
 ghost use Rattle.live_feed.specs.Allowed.{IsAllowed};
+ghost use Rattle.live_feed.specs.settle.Settlements.{IsServed};
 
 use live_feed::{
     Advice, Anything, Datagram, FeedConfig, FeedName, Filter, Limits, Line, LineEnd, LineId,
@@ -180,6 +181,8 @@ where
     N: FeedName + Send + Sync,
     R: Threads + Wait + Sync,
     requires { closed ≡ N.lanes }
+    ensures { IfSome result (λ settlement. (id : ℕ) → IfSome (slice_get settlement.subscribers id)
+        (λ end. IsServed settlement.journal id end.log end.queued end.unoffered)) }
 {
     let feed = closed.open::<N>(alloc).ok()?;
     let buy = Box::new(

@@ -1,6 +1,7 @@
 use Rattle.std.specs.Prelude.{◌⊎◌}
 use Rattle.std.proofs.Common.{rules, inl, inr}
 use Rattle.filter_terms.specs.Boxed.{boxed_allowed}
+use Rattle.example_live_feed.proofs.Serving.{each_served, at_ok}
 use Rattle.example_live_feed.proofs.run_feed.Goals as goal
 
 -- not the first, which there is none of
@@ -23,3 +24,6 @@ new-seller-requires-clause-right g c = boxed_allowed _ _ (elim [
   | inr (inl u) ↦ λ p q n r e. search (rules, e)
   | inr (inr z) ↦ λ p q n r e. absurd (past (past (past z)))
 ]) _
+
+pub returns : goal.returns
+returns g c = at_ok each_served c.settle.result c.ok-9.result c.ok-9.ensures.value c.settle.ensures.settled
