@@ -7,9 +7,7 @@ use Rattle.feed_types.specs.declared.item.Numbered.{Numbered}
 use Rattle.feed_types.specs.declared.line.LineId.{LineId}
 use Rattle.feed_types.specs.declared.line.LineId.TheVariants.{A, B, Recovery}
 use Rattle.feed_types.specs.Prefix.{IsPrefix}
-use Rattle.feed_types.specs.Sequence.{Carries, Ends, IsInSequence}
 use Rattle.feed_types.specs.SequenceLaws.{prefix_in_sequence}
-use Rattle.feed_types.specs.Sessions.{SessionNames}
 use Rattle.mold_packet.specs.Content.{Content, IsContent}
 use Rattle.line_arbiter.specs.Counts.{shown}
 use Rattle.line_arbiter.specs.declared.outcome.Outcome.{Outcome}
@@ -18,7 +16,6 @@ use Rattle.line_arbiter.specs.declared.outcome.LineFault.{LineFault}
 use Rattle.line_arbiter.specs.Packets.{Arrival, arrival_of}
 use Rattle.line_arbiter.specs.Streams.{IsComplete, is_same_line, stream_of}
 use Rattle.line_arbiter.specs.Outcomes.{IsOutcome}
-use Rattle.line_arbiter.specs.Genuine.{IsGenuine}
 use Rattle.line_arbiter.specs.declared.in_order.InOrder.{InOrder}
 use Rattle.line_arbiter.specs.declared.in_order.InOrder.TheVariants.{Next}
 use Rattle.line_arbiter.specs.InOrder.{BringsInOrder, IsOrder, outcome_in_order, sent_in_order}
@@ -31,6 +28,8 @@ use Rattle.line_arbiter.specs.Fits.{Fits}
 use Rattle.fifo_lane.specs.Lane.{LaneEnd, with_items, WasFull}
 use Rattle.line_arbiter.specs.laws.Histories.{items_push}
 use Rattle.line_arbiter.specs.laws.FitsHistory.{fits_new, fits_packet, fits_push, fits_renewal, keeps_session, ordinal_is, outcome_in, renewal_in}
+use Rattle.feed_types.specs.declared.genuine.Genuine.{Ghosts as Genuine}
+use Rattle.live_feed.specs.Premises.{AreInSequence, IsGenuinePacket}
 use Rattle.live_feed.specs.Lanes.{FeedLanes}
 use Rattle.live_feed.specs.venue.Sums.{Sums, no_sums, sums_after, accepted_on, sums_on, line_sums_after, LineSums}
 use Rattle.live_feed.specs.venue.Cells.{CellState, FitsCell, AreGivenFrom, VenueLockInvariant, arrivals_of, new_cell}
@@ -96,48 +95,48 @@ module _ (old new : CellState) (h : History) (line : LineId) (p : Content) (answ
   pub takes : IsOutcome old.arbiter.session old.arbiter.window old.arbiter.sent h.present.packets p answer → TakesPacket line p answer h old new
   takes o = record { after = after_arrival h a; taken = record { right = right_at o; is = refl }; fits = packet_fits }
 
-pub answered : (sessions : SessionNames) (carries : Carries) (ends : Ends) (lanes : FeedLanes) (old new : CellState) (venue : ℕ) (line : LineId) (p : Content) (answer : Result Outcome LineFault) (k : VenueLockInvariant sessions carries ends lanes old)
-    → old.arbiter.venue ≡ venue → TakesPacket line p answer k.history old new → IsAnsweredBy sessions carries ends lanes venue line p answer
-answered sessions carries ends lanes old new venue line p answer k venue_is takes = record { old = old; kept = k; venue_is = venue_is; new = new; takes = takes }
+pub answered : {S : Type 0} (premise : Genuine S) (lanes : FeedLanes) (old new : CellState) (venue : ℕ) (line : LineId) (p : Content) (answer : Result Outcome LineFault) (k : VenueLockInvariant premise lanes old)
+    → old.arbiter.venue ≡ venue → TakesPacket line p answer k.history old new → IsAnsweredBy premise lanes venue line p answer
+answered premise lanes old new venue line p answer k venue_is takes = record { old = old; kept = k; venue_is = venue_is; new = new; takes = takes }
 
 -- what was given, with one more packet
-pub given_after : (sessions : SessionNames) (carries : Carries) (ends : Ends) (lanes : FeedLanes) (old : CellState) (line : LineId) (p : Content) (answer : Result Outcome LineFault) (k : VenueLockInvariant sessions carries ends lanes old) → IsContent p
-    → IsOutcome old.arbiter.session old.arbiter.window old.arbiter.sent k.history.present.packets p answer → IsGenuine sessions carries ends old.arbiter.venue p
-    → AreGivenFrom carries ends old.arbiter.venue old.arbiter.window 1 k.history.earlier (after_arrival k.history (arrival_of line p answer)).present
-given_after sessions carries ends lanes old line p answer k content o genuine =
+pub given_after : {S : Type 0} (premise : Genuine S) (lanes : FeedLanes) (old : CellState) (line : LineId) (p : Content) (answer : Result Outcome LineFault) (k : VenueLockInvariant premise lanes old) → IsContent p
+    → IsOutcome old.arbiter.session old.arbiter.window old.arbiter.sent k.history.present.packets p answer → IsGenuinePacket premise old.arbiter.venue p
+    → AreGivenFrom premise old.arbiter.venue old.arbiter.window 1 k.history.earlier (after_arrival k.history (arrival_of line p answer)).present
+given_after premise lanes old line p answer k content o genuine =
     let h = k.history in
     let f = k.fits in
     let venue = old.arbiter.venue in
     let window = old.arbiter.window in
     let right = outcome_in h p answer f.history o in
     let ordinal : ordinal_of old.arbiter ≡ 1 + length h.earlier = ordinal_is h f.history in
-    let named : sessions venue (1 + length h.earlier) h.present.name = subst (λ (x : ℕ × List ℕ). sessions venue x.0 x.1) (λ i. (ordinal i, f.history.session i)) k.named in
-    present_more carries ends venue window 1 h.earlier h.present (after_arrival h (arrival_of line p answer)).present
-    (given_more carries ends venue window (1 + length h.earlier) h.present (arrival_of line p answer) (λ same. genuine (1 + length h.earlier) (subst (λ (n : List ℕ). sessions venue (1 + length h.earlier) n) (sym same) named)) (record { content = content; sent = old.arbiter.sent; outcome = right }))
+    let named : premise.sessions venue (1 + length h.earlier) h.present.name = subst (λ (x : ℕ × List ℕ). premise.sessions venue x.0 x.1) (λ i. (ordinal i, f.history.session i)) k.named in
+    present_more premise venue window 1 h.earlier h.present (after_arrival h (arrival_of line p answer)).present
+    (given_more premise venue window (1 + length h.earlier) h.present (arrival_of line p answer) (λ same. genuine (1 + length h.earlier) (subst (λ (n : List ℕ). premise.sessions venue (1 + length h.earlier) n) (sym same) named)) (record { content = content; sent = old.arbiter.sent; outcome = right }))
     k.given
 
 -- a cell of the same session, which was given one more packet
-module _ (sessions : SessionNames) (carries : Carries) (ends : Ends) (lanes : FeedLanes) (old new : CellState) (line : LineId) (p : Content) (answer : Result Outcome LineFault) (k : VenueLockInvariant sessions carries ends lanes old)
+module _ {S : Type 0} (premise : Genuine S) (lanes : FeedLanes) (old new : CellState) (line : LineId) (p : Content) (answer : Result Outcome LineFault) (k : VenueLockInvariant premise lanes old)
     (kept : KeepsItsSession old.arbiter new.arbiter) (tag : new.lane.tag ≡ old.lane.tag) (lane : new.lane.lane ≡ old.lane.lane) (capacity : new.lane.capacity ≡ old.lane.capacity) (fits : FitsCell new (after_arrival k.history (arrival_of line p answer))) (content : IsContent p)
-    (o : IsOutcome old.arbiter.session old.arbiter.window old.arbiter.sent k.history.present.packets p answer) (genuine : IsGenuine sessions carries ends old.arbiter.venue p) where
-  pub more_kept : VenueLockInvariant sessions carries ends lanes new
+    (o : IsOutcome old.arbiter.session old.arbiter.window old.arbiter.sent k.history.present.packets p answer) (genuine : IsGenuinePacket premise old.arbiter.venue p) where
+  pub more_kept : VenueLockInvariant premise lanes new
   more_kept = record {
     history = after_arrival k.history (arrival_of line p answer);
     fits = fits;
-    given = subst (λ (x : ℕ × ℕ). AreGivenFrom carries ends x.0 x.1 1 k.history.earlier (after_arrival k.history (arrival_of line p answer)).present) (λ i. (sym kept.venue i, sym kept.window i))
-        (given_after sessions carries ends lanes old line p answer k content o genuine);
-    named = subst (λ (x : ℕ × (List (List ℕ) × List ℕ)). sessions x.0 (length x.1.0) x.1.1) (λ i. (sym kept.venue i, (sym kept.sessions i, sym kept.session i))) k.named;
+    given = subst (λ (x : ℕ × ℕ). AreGivenFrom premise x.0 x.1 1 k.history.earlier (after_arrival k.history (arrival_of line p answer)).present) (λ i. (sym kept.venue i, sym kept.window i))
+        (given_after premise lanes old line p answer k content o genuine);
+    named = subst (λ (x : ℕ × (List (List ℕ) × List ℕ)). premise.sessions x.0 (length x.1.0) x.1.1) (λ i. (sym kept.venue i, (sym kept.sessions i, sym kept.session i))) k.named;
     tag = tag ∙ k.tag ∙ sym kept.venue;
     lane = ap (slice_get lanes.venues) kept.venue ∙ k.lane ∙ ap Some (sym lane);
     window = kept.window ∙ k.window;
     capacity = capacity ∙ k.capacity;
   }
 
-pub packet_kept : (sessions : SessionNames) (carries : Carries) (ends : Ends) (lanes : FeedLanes) (old new : CellState) (line : LineId) (p : Content) (answer : Result Outcome LineFault) (k : VenueLockInvariant sessions carries ends lanes old)
+pub packet_kept : {S : Type 0} (premise : Genuine S) (lanes : FeedLanes) (old new : CellState) (line : LineId) (p : Content) (answer : Result Outcome LineFault) (k : VenueLockInvariant premise lanes old)
     → new.lane ≡ old.lane → KeepsItsPlace old.arbiter new.arbiter → FitsCell new (after_arrival k.history (arrival_of line p answer)) → IsContent p
-    → IsOutcome old.arbiter.session old.arbiter.window old.arbiter.sent k.history.present.packets p answer → IsGenuine sessions carries ends old.arbiter.venue p → VenueLockInvariant sessions carries ends lanes new
-packet_kept sessions carries ends lanes old new line p answer k lane kept fits content o genuine =
-    more_kept sessions carries ends lanes old new line p answer k (keeps_session kept) (ap (λ (e : LaneEnd Numbered). e.tag) lane) (ap (λ (e : LaneEnd Numbered). e.lane) lane) (ap (λ (e : LaneEnd Numbered). e.capacity) lane) fits content o genuine
+    → IsOutcome old.arbiter.session old.arbiter.window old.arbiter.sent k.history.present.packets p answer → IsGenuinePacket premise old.arbiter.venue p → VenueLockInvariant premise lanes new
+packet_kept premise lanes old new line p answer k lane kept fits content o genuine =
+    more_kept premise lanes old new line p answer k (keeps_session kept) (ap (λ (e : LaneEnd Numbered). e.tag) lane) (ap (λ (e : LaneEnd Numbered). e.lane) lane) (ap (λ (e : LaneEnd Numbered). e.capacity) lane) fits content o genuine
 
 -- ---- a push
 
@@ -156,15 +155,15 @@ module _ (items : List Numbered) (sent : ℕ) (h : History) (is : items ≡ item
       ∙ ap (λ (xs : List Numbered). items_of h.earlier ++ xs) (sym (take_next (stream_of h.present.packets) sent n x one e))
 
   -- it may be sent
-  pub may_push : (carries : Carries) (ends : Ends) (venue window : ℕ) (x : Numbered) → AreGivenFrom carries ends venue window 1 h.earlier h.present → Some x ≡ slice_get (stream_of h.present.packets) sent → IsInSequence carries ends venue (items ++ x ∷ [])
-  may_push carries ends venue window x given e =
+  pub may_push : {S : Type 0} (premise : Genuine S) (venue window : ℕ) (x : Numbered) → AreGivenFrom premise venue window 1 h.earlier h.present → Some x ≡ slice_get (stream_of h.present.packets) sent → AreInSequence premise venue (items ++ x ∷ [])
+  may_push premise venue window x given e =
       let stream = stream_of h.present.packets in
       let n = sent + 1 in
       let whole : streams_of h ≡ (items_of h.earlier ++ take n stream) ++ drop n stream =
       items_push h.earlier h.present ∙ ap (λ (xs : List Numbered). items_of h.earlier ++ xs) (sym (take-append-drop n stream)) ∙ sym (append_assoc (items_of h.earlier) (take n stream) (drop n stream)) in
-      let all : IsInSequence carries ends venue ((items_of h.earlier ++ take n stream) ++ drop n stream) =
-      subst (λ (xs : List Numbered). IsInSequence carries ends venue xs) whole (streams_sequence carries ends venue window h given) in
-      subst (λ (xs : List Numbered). IsInSequence carries ends venue xs) (sym (sent_more x n refl e)) (prefix_in_sequence carries ends venue (items_of h.earlier ++ take n stream) (drop n stream) all)
+      let all : AreInSequence premise venue ((items_of h.earlier ++ take n stream) ++ drop n stream) =
+      subst (λ (xs : List Numbered). AreInSequence premise venue xs) whole (streams_sequence premise venue window h given) in
+      subst (λ (xs : List Numbered). AreInSequence premise venue xs) (sym (sent_more x n refl e)) (prefix_in_sequence premise.carries premise.ends venue (items_of h.earlier ++ take n stream) (drop n stream) all)
 
 module _ (c : CellState) (h : History) (f : FitsCell c h) where
   next_of_cell : slice_get (streams_of h) (length c.lane.items) ≡ slice_get (stream_of h.present.packets) c.arbiter.sent
@@ -203,13 +202,13 @@ module _ (c : CellState) (h : History) (f : FitsCell c h) where
     fits = f;
   }
 
-pub push_kept : (sessions : SessionNames) (carries : Carries) (ends : Ends) (lanes : FeedLanes) (old new : CellState) (x : Numbered) (k : VenueLockInvariant sessions carries ends lanes old)
-    → new.lane ≡ with_items old.lane (old.lane.items ++ x ∷ []) → IsAdvanced old.arbiter new.arbiter → FitsCell new k.history → VenueLockInvariant sessions carries ends lanes new
-push_kept sessions carries ends lanes old new x k lane advanced fits = record {
+pub push_kept : {S : Type 0} (premise : Genuine S) (lanes : FeedLanes) (old new : CellState) (x : Numbered) (k : VenueLockInvariant premise lanes old)
+    → new.lane ≡ with_items old.lane (old.lane.items ++ x ∷ []) → IsAdvanced old.arbiter new.arbiter → FitsCell new k.history → VenueLockInvariant premise lanes new
+push_kept premise lanes old new x k lane advanced fits = record {
   history = k.history;
   fits = fits;
-  given = subst (λ (x : ℕ × ℕ). AreGivenFrom carries ends x.0 x.1 1 k.history.earlier k.history.present) (λ i. (sym advanced.kept.venue i, sym advanced.kept.window i)) k.given;
-  named = subst (λ (x : ℕ × (List (List ℕ) × List ℕ)). sessions x.0 (length x.1.0) x.1.1) (λ i. (sym advanced.kept.venue i, (sym advanced.kept.sessions i, sym advanced.kept.session i))) k.named;
+  given = subst (λ (x : ℕ × ℕ). AreGivenFrom premise x.0 x.1 1 k.history.earlier k.history.present) (λ i. (sym advanced.kept.venue i, sym advanced.kept.window i)) k.given;
+  named = subst (λ (x : ℕ × (List (List ℕ) × List ℕ)). premise.sessions x.0 (length x.1.0) x.1.1) (λ i. (sym advanced.kept.venue i, (sym advanced.kept.sessions i, sym advanced.kept.session i))) k.named;
   tag = ap (λ (e : LaneEnd Numbered). e.tag) lane ∙ k.tag ∙ sym advanced.kept.venue;
   lane = ap (slice_get lanes.venues) advanced.kept.venue ∙ k.lane ∙ ap (λ (e : LaneEnd Numbered). Some e.lane) (sym lane);
   window = advanced.kept.window ∙ k.window;
@@ -286,8 +285,8 @@ module _ (old : CellState) (h : History) (line : LineId) (p : Content) (x : Numb
       let e : length more ≡ length (stream_of h.present.packets) + length brings.grows.rest = ap length brings.grows.is ∙ length-append (stream_of h.present.packets) brings.grows.rest in
       omega arith
 
-  pub may_pass : (carries : Carries) (ends : Ends) (venue window : ℕ) → AreGivenFrom carries ends venue window 1 h.earlier (after_arrival h passed).present → IsInSequence carries ends venue (old.lane.items ++ x ∷ [])
-  may_pass carries ends venue window given = may_push old.lane.items old.arbiter.sent (after_arrival h passed) sent_before carries ends venue window x given brings.item
+  pub may_pass : {S : Type 0} (premise : Genuine S) (venue window : ℕ) → AreGivenFrom premise venue window 1 h.earlier (after_arrival h passed).present → AreInSequence premise venue (old.lane.items ++ x ∷ [])
+  may_pass premise venue window given = may_push old.lane.items old.arbiter.sent (after_arrival h passed) sent_before premise venue window x given brings.item
 
   module _ (new : CellState) (outcome : Outcome) (one : outcome ≡ Taken 1 0) (lane : new.lane ≡ with_items old.lane (old.lane.items ++ x ∷ [])) (sent : new.arbiter.sent ≡ old.arbiter.sent + 1) (kept : KeepsItsSession old.arbiter new.arbiter)
       (fits : Fits new.arbiter (h.present.packets ++ arrival_of line p (Ok outcome) ∷ [])) (sums : new.accepted ≡ line_sums_after line p (Ok outcome) old.accepted) where
@@ -328,13 +327,13 @@ new_fits arbiter lane new fits empty = record {
   accepted = nothing;
 }
 
-pub new_kept : (sessions : SessionNames) (carries : Carries) (ends : Ends) (lanes : FeedLanes) (arbiter : State) (lane : LaneEnd Numbered) → IsNew arbiter lane.tag arbiter.session arbiter.window → Fits arbiter [] → lane.items ≡ []
-    → sessions lane.tag 1 arbiter.session → slice_get lanes.venues lane.tag ≡ Some lane.lane → (arbiter.window ≡ lanes.setting.window) × (lane.capacity ≡ lanes.setting.lane) → VenueLockInvariant sessions carries ends lanes (new_cell arbiter lane)
-new_kept sessions carries ends lanes arbiter lane new fits empty named at sized = record {
+pub new_kept : {S : Type 0} (premise : Genuine S) (lanes : FeedLanes) (arbiter : State) (lane : LaneEnd Numbered) → IsNew arbiter lane.tag arbiter.session arbiter.window → Fits arbiter [] → lane.items ≡ []
+    → premise.sessions lane.tag 1 arbiter.session → slice_get lanes.venues lane.tag ≡ Some lane.lane → (arbiter.window ≡ lanes.setting.window) × (lane.capacity ≡ lanes.setting.lane) → VenueLockInvariant premise lanes (new_cell arbiter lane)
+new_kept premise lanes arbiter lane new fits empty named at sized = record {
   history = new_history arbiter.session;
   fits = new_fits arbiter lane new fits empty;
   given = record { answered = tt; genuine = tt };
-  named = subst (λ (x : ℕ × ℕ). sessions x.0 x.1 arbiter.session) (λ i. (sym new.venue i, sym (ap length new.sessions) i)) named;
+  named = subst (λ (x : ℕ × ℕ). premise.sessions x.0 x.1 arbiter.session) (λ i. (sym new.venue i, sym (ap length new.sessions) i)) named;
   tag = sym new.venue;
   lane = ap (slice_get lanes.venues) new.venue ∙ at;
   window = sized.0;
@@ -365,16 +364,16 @@ module _ (old new : CellState) (h : History) (name : List ℕ) (f : FitsCell old
     accepted = λ l. ap (sums_on l) sums ∙ f.accepted l ∙ ap (accepted_on l) (sym (arrivals_push (all_begun h) (new_session name) ∙ append-nil (arrivals_of (all_begun h))));
   }
 
-  pub renewed_kept : (sessions : SessionNames) (carries : Carries) (ends : Ends) (lanes : FeedLanes) (k : VenueLockInvariant sessions carries ends lanes old) → k.history ≡ h → sessions old.arbiter.venue (ordinal_of old.arbiter + 1) name
-      → VenueLockInvariant sessions carries ends lanes new
-  renewed_kept sessions carries ends lanes k is named =
-      let given = subst (λ (x : History). AreGivenFrom carries ends old.arbiter.venue old.arbiter.window 1 x.earlier x.present) is k.given in
+  pub renewed_kept : {S : Type 0} (premise : Genuine S) (lanes : FeedLanes) (k : VenueLockInvariant premise lanes old) → k.history ≡ h → premise.sessions old.arbiter.venue (ordinal_of old.arbiter + 1) name
+      → VenueLockInvariant premise lanes new
+  renewed_kept premise lanes k is named =
+      let given = subst (λ (x : History). AreGivenFrom premise old.arbiter.venue old.arbiter.window 1 x.earlier x.present) is k.given in
       record {
         history = record { earlier = all_begun h; present = new_session name };
         fits = renewed_fits;
-        given = subst (λ (x : ℕ × ℕ). AreGivenFrom carries ends x.0 x.1 1 (all_begun h) (new_session name)) (λ i. (sym begun.venue i, sym begun.window i))
-            (next_given carries ends old.arbiter.venue old.arbiter.window 1 h.earlier h.present name whole.0 given);
-        named = subst (λ (x : ℕ × (ℕ × List ℕ)). sessions x.0 x.1.0 x.1.1) (λ i. (sym begun.venue i, (sym ordinal i, sym begun.begun.session i))) named;
+        given = subst (λ (x : ℕ × ℕ). AreGivenFrom premise x.0 x.1 1 (all_begun h) (new_session name)) (λ i. (sym begun.venue i, sym begun.window i))
+            (next_given premise old.arbiter.venue old.arbiter.window 1 h.earlier h.present name whole.0 given);
+        named = subst (λ (x : ℕ × (ℕ × List ℕ)). premise.sessions x.0 x.1.0 x.1.1) (λ i. (sym begun.venue i, (sym ordinal i, sym begun.begun.session i))) named;
         tag = ap (λ (e : LaneEnd Numbered). e.tag) lane ∙ k.tag ∙ sym begun.venue;
         lane = ap (slice_get lanes.venues) begun.venue ∙ k.lane ∙ ap (λ (e : LaneEnd Numbered). Some e.lane) (sym lane);
         window = begun.window ∙ k.window;
@@ -464,12 +463,12 @@ module _ (pushed : ℕ) (old between new : CellState) (r : PushesSoFar pushed ol
   pushed_most may_send = record { few = omega arith; sent = r.sent; others = r.others; over = inl refl }
 
   -- a push that was refused
-  pub push_refused : (sessions : SessionNames) (carries : Carries) (ends : Ends) (lanes : FeedLanes)
+  pub push_refused : {S : Type 0} (premise : Genuine S) (lanes : FeedLanes)
       (may_send : ℕ → List Numbered → Type 0) (most : ℕ) (why : Unsent) → pushed ≤ most
       → ((h : History) → FitsCell between h → PushesOne may_send (Err why) h between new)
-      → new ≡ between → VenueLockInvariant sessions carries ends lanes new
+      → new ≡ between → VenueLockInvariant premise lanes new
       → Pushes may_send most pushed old new
-  push_refused sessions carries ends lanes may_send most why few one same k =
+  push_refused premise lanes may_send most why few one same k =
       subst (λ (c : CellState). Pushes may_send most pushed old c) (sym same) (record {
         few = few;
         sent = r.sent;
@@ -491,18 +490,18 @@ module _ (pushed : ℕ) (old between new : CellState) (r : PushesSoFar pushed ol
           (slice_get (streams_of k.history) (length between.lane.items)) p.comes))
 
 -- nothing was pushed, where the lock was another venue's
-pub not_flushed : (sessions : SessionNames) (carries : Carries) (ends : Ends) (lanes : FeedLanes)
-    (venue most pushed : ℕ) (cell : CellState) → VenueLockInvariant sessions carries ends lanes cell
+pub not_flushed : {S : Type 0} (premise : Genuine S) (lanes : FeedLanes)
+    (venue most pushed : ℕ) (cell : CellState) → VenueLockInvariant premise lanes cell
     → cell.arbiter.venue ≢ venue → pushed ≡ 0
-    → IsFlushedBy sessions carries ends lanes venue most pushed
-not_flushed sessions carries ends lanes venue most pushed cell kept other none =
+    → IsFlushedBy premise lanes venue most pushed
+not_flushed premise lanes venue most pushed cell kept other none =
     inr (record { cell = cell; kept = kept; other = other }, none)
 
 -- what was pushed under a venue's lock
-pub flushed : (sessions : SessionNames) (carries : Carries) (ends : Ends) (lanes : FeedLanes)
-    (venue most pushed : ℕ) (old new : CellState) → VenueLockInvariant sessions carries ends lanes old
-    → old.arbiter.venue ≡ venue → VenueLockInvariant sessions carries ends lanes new
-    → Pushes (IsInSequence carries ends) most pushed old new
-    → IsFlushedBy sessions carries ends lanes venue most pushed
-flushed sessions carries ends lanes venue most pushed old new kept is keeps leads =
+pub flushed : {S : Type 0} (premise : Genuine S) (lanes : FeedLanes)
+    (venue most pushed : ℕ) (old new : CellState) → VenueLockInvariant premise lanes old
+    → old.arbiter.venue ≡ venue → VenueLockInvariant premise lanes new
+    → Pushes (AreInSequence premise) most pushed old new
+    → IsFlushedBy premise lanes venue most pushed
+flushed premise lanes venue most pushed old new kept is keeps leads =
     inl (record { old = old; kept = kept; venue_is = is; new = new; keeps = keeps; leads = leads })

@@ -6,8 +6,7 @@ use Rattle.std.proofs.lemmas.List.{length-map, take-append-drop}
 use Rattle.std.proofs.lemmas.List.FromFn.{length-range_with_len}
 use Rattle.feed_types.specs.declared.item.Numbered.{Numbered}
 use Rattle.feed_types.specs.declared.journal.Entry.{Entry}
-use Rattle.feed_types.specs.Sequence.{Carries, Ends}
-use Rattle.feed_types.specs.Sessions.{SessionNames, end_item}
+use Rattle.feed_types.specs.Sessions.{end_item}
 use Rattle.line_arbiter.specs.Packets.{Arrival, end_of}
 use Rattle.line_arbiter.specs.Streams.{end_at, front_of, item_numbered, stream_of}
 use Rattle.line_arbiter.specs.States.{State}
@@ -16,6 +15,7 @@ use Rattle.line_arbiter.specs.Counts.{Counts, count_on}
 use Rattle.line_arbiter.specs.Histories.{items_of}
 use Rattle.fifo_lane.specs.Lane.{Keeps}
 use Rattle.line_arbiter.specs.laws.Histories.{items_push}
+use Rattle.feed_types.specs.declared.genuine.Genuine.{Ghosts as Genuine}
 use Rattle.live_feed.specs.Lanes.{FeedLanes}
 use Rattle.live_feed.specs.venue.Cells.{AreGivenFrom, CellState, VenueLockInvariant}
 use Rattle.live_feed.specs.hub.Hubs.{item_by, items_in}
@@ -126,17 +126,17 @@ module _ (v : ℕ) (entries : List Entry) (place : ℕ) where
 
 -- ---- a closed lane
 
-pub settled : (sessions : SessionNames) (carries : Carries) (ends : Ends) (lanes : FeedLanes) (may_send : ℕ → List Numbered → Type 0) (c : CellState) (k : VenueLockInvariant sessions carries ends lanes c) (received inside ready : List Numbered) (won : Counts)
+pub settled : {S : Type 0} (premise : Genuine S) (lanes : FeedLanes) (may_send : ℕ → List Numbered → Type 0) (c : CellState) (k : VenueLockInvariant premise lanes c) (received inside ready : List Numbered) (won : Counts)
     → Keeps may_send c.lane.tag c.lane.capacity c.lane.items received inside → ready ≡ drop c.arbiter.sent (stream_of k.history.present.packets) → won ≡ c.arbiter.wins
-    → IsSettled carries ends c.arbiter.venue lanes.setting.window c.lane.items received inside ready won c.accepted
-settled sessions carries ends lanes may_send c k received inside ready won keeps rest same =
+    → IsSettled premise c.arbiter.venue lanes.setting.window c.lane.items received inside ready won c.accepted
+settled premise lanes may_send c k received inside ready won keeps rest same =
     let h = k.history in
     let f = k.fits in
     let stream = stream_of h.present.packets in
     record {
       sent_is = sym keeps.whole;
       history = h;
-      given = subst (λ (n : ℕ). AreGivenFrom carries ends c.arbiter.venue n 1 h.earlier h.present) k.window k.given;
+      given = subst (λ (n : ℕ). AreGivenFrom premise c.arbiter.venue n 1 h.earlier h.present) k.window k.given;
       whole =
           ap (λ (l : List Numbered). l ++ ready) f.sent
           ∙ ap (λ (l : List Numbered). (items_of h.earlier ++ take c.arbiter.sent stream) ++ l) rest

@@ -5,10 +5,11 @@ use Rattle.std.proofs.lemmas.Option.{slice_get-get_or}
 use Rattle.std.proofs.lemmas.List.{length-map}
 use Rattle.feed_types.specs.declared.item.Numbered.{Numbered}
 use Rattle.feed_types.specs.declared.journal.Entry.{Entry}
-use Rattle.feed_types.specs.Sequence.{Carries, Ends, IsInSequence}
 use Rattle.journal_book.specs.Journals.{JournalState}
 use Rattle.fifo_lane.specs.Lane.{LaneEnd}
 use Rattle.feed_core.specs.laws.Lists.{get_push}
+use Rattle.feed_types.specs.declared.genuine.Genuine.{Ghosts as Genuine}
+use Rattle.live_feed.specs.Premises.{AreInSequence}
 use Rattle.live_feed.specs.declared.hub.spare.SpareLane.{SpareLane}
 use Rattle.live_feed.specs.Lanes.{FeedLanes, FeedSetting}
 use Rattle.live_feed.specs.feed.Feeds.{StartState, AreStarts, IsUnused, AreUnused, lanes_of, IsClosed, HasItsLane}
@@ -79,8 +80,8 @@ module _ (starts : List StartState) (receivers : List (LaneEnd Numbered)) (journ
   starts_count = h.begun.count ∙ sym lanes_count
 
   -- an empty journal with these lanes
-  pub fresh : (carries : Carries) (ends : Ends) → HubLockInvariant carries ends lanes (record { journal = journal; receivers = receivers; senders = []; spare = spare })
-  fresh carries ends = record {
+  pub fresh : {S : Type 0} (premise : Genuine S) → HubLockInvariant premise lanes (record { journal = journal; receivers = receivers; senders = []; spare = spare })
+  fresh premise = record {
     venues = h.venues;
     count = lanes_count ∙ h.venues;
     few = h.few;
@@ -90,7 +91,7 @@ module _ (starts : List StartState) (receivers : List (LaneEnd Numbered)) (journ
     consumed = λ v r at.
         let none : items_in journal.entries v ≡ [] = ap (λ (es : List Entry). items_in es v) h.entries in
         let new = h.begun.new v r at in
-        record { tag = new.0; lane = lane_at v r at; items = new.1 ∙ sym none; sequence = subst (λ (l : List Numbered). IsInSequence carries ends v l) (sym none) tt };
+        record { tag = new.0; lane = lane_at v r at; items = new.1 ∙ sym none; sequence = subst (λ (l : List Numbered). AreInSequence premise v l) (sym none) tt };
     offered = λ id x at. absurd cc;
     many = (let none = no_cursors in let all = h.many in omega arith);
     spare = λ k x at.

@@ -11,7 +11,6 @@ use Rattle.feed_types.specs.declared.item.Numbered.{Numbered}
 use Rattle.feed_types.specs.declared.journal.Entry.{Entry}
 use Rattle.feed_types.specs.declared.journal.Entry.TheVariants as entry
 use Rattle.feed_types.specs.declared.journal.Notice.{Notice}
-use Rattle.feed_types.specs.Sequence.{Carries, Ends, IsInSequence}
 use Rattle.filter_terms.specs.declared.terms.Terms.{Terms}
 use Rattle.filter_terms.specs.Terms.{meets}
 use Rattle.journal_book.specs.declared.cursor.Cursor.{Cursor}
@@ -27,6 +26,8 @@ use Rattle.journal_book.specs.Rising.{wanted_rise, pairs_rise}
 use Rattle.fifo_lane.specs.Lane.{LaneEnd, with_items, WasEmpty, WasFull}
 use Rattle.fifo_lane.specs.Rising.{AllPairs-prefix}
 use Rattle.feed_core.specs.laws.Lists.{begins_len, get_push}
+use Rattle.feed_types.specs.declared.genuine.Genuine.{Ghosts as Genuine}
+use Rattle.live_feed.specs.Premises.{AreInSequence}
 use Rattle.live_feed.specs.declared.hub.spare.SpareLane.{SpareLane}
 use Rattle.live_feed.specs.Lanes.{FeedLanes}
 use Rattle.live_feed.specs.hub.Hubs.{HubState, IsConsumed, HubLockInvariant, IsOffered, IsSpare, UnderHubLock, item_by, items_in}
@@ -102,9 +103,9 @@ offered_still lanes j e ready id l o = record {
 }
 
 -- an entry of self-help changes no venue's items
-pub declares : (carries : Carries) (ends : Ends) (lanes : FeedLanes) (s : HubState) (k : ℕ) (on ready : Bool) → HubLockInvariant carries ends lanes s
-    → HubLockInvariant carries ends lanes (record s { journal = record s.journal { entries = s.journal.entries ++ entry.SelfHelp k on ∷ []; ready = ready } })
-declares carries ends lanes s k on ready h = record {
+pub declares : {S : Type 0} (premise : Genuine S) (lanes : FeedLanes) (s : HubState) (k : ℕ) (on ready : Bool) → HubLockInvariant premise lanes s
+    → HubLockInvariant premise lanes (record s { journal = record s.journal { entries = s.journal.entries ++ entry.SelfHelp k on ∷ []; ready = ready } })
+declares premise lanes s k on ready h = record {
   venues = h.venues;
   count = h.count;
   few = h.few;
@@ -115,15 +116,15 @@ declares carries ends lanes s k on ready h = record {
   consumed = λ v e at.
       let o = h.consumed v e at in
       let same : items_in (s.journal.entries ++ entry.SelfHelp k on ∷ []) v ≡ items_in s.journal.entries v = items_put v s.journal.entries (entry.SelfHelp k on) ∙ append-nil (items_in s.journal.entries v) in
-      record { tag = o.tag; lane = o.lane; items = o.items ∙ sym same; sequence = subst (λ (l : List Numbered). IsInSequence carries ends v l) (sym same) o.sequence };
+      record { tag = o.tag; lane = o.lane; items = o.items ∙ sym same; sequence = subst (λ (l : List Numbered). AreInSequence premise v l) (sym same) o.sequence };
   offered = λ id e at. offered_still lanes s.journal (entry.SelfHelp k on) ready id e (h.offered id e at);
   spare = h.spare;
 }
 
-pub consumes : (carries : Carries) (ends : Ends) (lanes : FeedLanes) (s : HubState) (k : ℕ) (r : LaneEnd Numbered) (x : Numbered) (ready : Bool) → HubLockInvariant carries ends lanes s → slice_get s.receivers k ≡ Some r
-    → IsInSequence carries ends r.tag (r.items ++ x ∷ [])
-    → HubLockInvariant carries ends lanes (record s { journal = record s.journal { entries = s.journal.entries ++ entry.Consumed k x ∷ []; ready = ready }; receivers = slice_set s.receivers k (with_items r (r.items ++ x ∷ [])) })
-consumes carries ends lanes s k r x ready h at may = record {
+pub consumes : {S : Type 0} (premise : Genuine S) (lanes : FeedLanes) (s : HubState) (k : ℕ) (r : LaneEnd Numbered) (x : Numbered) (ready : Bool) → HubLockInvariant premise lanes s → slice_get s.receivers k ≡ Some r
+    → AreInSequence premise r.tag (r.items ++ x ∷ [])
+    → HubLockInvariant premise lanes (record s { journal = record s.journal { entries = s.journal.entries ++ entry.Consumed k x ∷ []; ready = ready }; receivers = slice_set s.receivers k (with_items r (r.items ++ x ∷ [])) })
+consumes premise lanes s k r x ready h at may = record {
   venues = length_put s.receivers k w ∙ h.venues;
   count = h.count;
   few = h.few;
@@ -131,7 +132,7 @@ consumes carries ends lanes s k r x ready h at may = record {
   size = h.size;
   subscribers = h.subscribers;
   many = h.many;
-  consumed = λ v e got. elim (get_put s.receivers k v w e got) [ inl here ↦ subst (λ (y : ℕ × LaneEnd Numbered). IsConsumed carries ends lanes entries y.0 y.1) (λ i. (sym here.0 i, sym here.1 i)) this | inr there ↦ other v e there.0 there.1 ];
+  consumed = λ v e got. elim (get_put s.receivers k v w e got) [ inl here ↦ subst (λ (y : ℕ × LaneEnd Numbered). IsConsumed premise lanes entries y.0 y.1) (λ i. (sym here.0 i, sym here.1 i)) this | inr there ↦ other v e there.0 there.1 ];
   offered = λ id e got. offered_still lanes s.journal (entry.Consumed k x) ready id e (h.offered id e got);
   spare = h.spare;
 }
@@ -142,25 +143,25 @@ consumes carries ends lanes s k r x ready h at may = record {
     entries : List Entry
     entries = s.journal.entries ++ entry.Consumed k x ∷ []
 
-    this : IsConsumed carries ends lanes entries k w
+    this : IsConsumed premise lanes entries k w
     this =
         let mine = h.consumed k r at in
         let items : r.items ++ x ∷ [] ≡ items_in entries k = ap (λ (l : List Numbered). l ++ x ∷ []) mine.items ∙ sym (items_here k k s.journal.entries x refl) in
-        record { tag = mine.tag; lane = mine.lane; items = items; sequence = subst (λ (y : ℕ × List Numbered). IsInSequence carries ends y.0 y.1) (λ i. (mine.tag i, items i)) may }
+        record { tag = mine.tag; lane = mine.lane; items = items; sequence = subst (λ (y : ℕ × List Numbered). AreInSequence premise y.0 y.1) (λ i. (mine.tag i, items i)) may }
 
-    other : (v : ℕ) (e : LaneEnd Numbered) → v ≢ k → slice_get s.receivers v ≡ Some e → IsConsumed carries ends lanes entries v e
+    other : (v : ℕ) (e : LaneEnd Numbered) → v ≢ k → slice_get s.receivers v ≡ Some e → IsConsumed premise lanes entries v e
     other v e apart got =
         let o = h.consumed v e got in
         let same : items_in entries v ≡ items_in s.journal.entries v = items_there v k s.journal.entries x apart in
-        record { tag = o.tag; lane = o.lane; items = o.items ∙ sym same; sequence = subst (λ (l : List Numbered). IsInSequence carries ends v l) (sym same) o.sequence }
+        record { tag = o.tag; lane = o.lane; items = o.items ∙ sym same; sequence = subst (λ (l : List Numbered). AreInSequence premise v l) (sym same) o.sequence }
 
 -- ---- one more notice, or none
 
 -- the cursor is at a place, and what was sent is what was wanted up to there
-pub moves : (carries : Carries) (ends : Ends) (lanes : FeedLanes) (s : HubState) (id : ℕ) (c : Cursor) (l : LaneEnd Notice) (place : ℕ) (sent : List Notice) → HubLockInvariant carries ends lanes s
+pub moves : {S : Type 0} (premise : Genuine S) (lanes : FeedLanes) (s : HubState) (id : ℕ) (c : Cursor) (l : LaneEnd Notice) (place : ℕ) (sent : List Notice) → HubLockInvariant premise lanes s
     → slice_get s.journal.cursors id ≡ Some c → slice_get s.senders id ≡ Some l → place ≤ length (changes s.journal) → sent ≡ filter (meets c.terms) (take place (changes s.journal))
-    → HubLockInvariant carries ends lanes (record s { journal = record s.journal { cursors = slice_set s.journal.cursors id (record c { seen = place }) }; senders = slice_set s.senders id (with_items l sent) })
-moves carries ends lanes s id c l place sent h at from within is = record {
+    → HubLockInvariant premise lanes (record s { journal = record s.journal { cursors = slice_set s.journal.cursors id (record c { seen = place }) }; senders = slice_set s.senders id (with_items l sent) })
+moves premise lanes s id c l place sent h at from within is = record {
   venues = h.venues;
   count = h.count;
   few = h.few;
@@ -217,8 +218,8 @@ full_is m n h = grind (arith, nat_tests)
 room_is : (m n : ℕ) → n < m → nat_le m n ≡ false
 room_is m n h = grind (arith, nat_tests)
 
-pub ready_still : (carries : Carries) (ends : Ends) (lanes : FeedLanes) (s : HubState) (j : JournalState) → HubLockInvariant carries ends lanes s → j ≡ record s.journal { ready = true } → HubLockInvariant carries ends lanes (record s { journal = j })
-ready_still carries ends lanes s j h is = subst (λ (x : JournalState). HubLockInvariant carries ends lanes (record s { journal = x })) (sym is) (record {
+pub ready_still : {S : Type 0} (premise : Genuine S) (lanes : FeedLanes) (s : HubState) (j : JournalState) → HubLockInvariant premise lanes s → j ≡ record s.journal { ready = true } → HubLockInvariant premise lanes (record s { journal = j })
+ready_still premise lanes s j h is = subst (λ (x : JournalState). HubLockInvariant premise lanes (record s { journal = x })) (sym is) (record {
   venues = h.venues;
   count = h.count;
   few = h.few;
@@ -261,9 +262,9 @@ module _ (may_send : ℕ → List Numbered → Type 0) (venue : ℕ) (s : HubSta
       entries = ap (λ (x : JournalState). x.entries) is;
     }
 
-    pub consume_none_kept : (carries : Carries) (ends : Ends) (lanes : FeedLanes) → HubLockInvariant carries ends lanes s → w ≡ r → HubLockInvariant carries ends lanes (record s { journal = j; receivers = slice_set s.receivers venue w })
-    consume_none_kept carries ends lanes h same =
-        subst (λ (x : List (LaneEnd Numbered)). HubLockInvariant carries ends lanes (record s { journal = j; receivers = x })) (sym (ap (slice_set s.receivers venue) same ∙ put_same s.receivers venue r at)) (ready_still carries ends lanes s j h is)
+    pub consume_none_kept : {S : Type 0} (premise : Genuine S) (lanes : FeedLanes) → HubLockInvariant premise lanes s → w ≡ r → HubLockInvariant premise lanes (record s { journal = j; receivers = slice_set s.receivers venue w })
+    consume_none_kept premise lanes h same =
+        subst (λ (x : List (LaneEnd Numbered)). HubLockInvariant premise lanes (record s { journal = j; receivers = x })) (sym (ap (slice_set s.receivers venue) same ∙ put_same s.receivers venue r at)) (ready_still premise lanes s j h is)
 
     module _ (x : Numbered) (k : JournalState) (position : ℕ) (grown : w ≡ with_items r (r.items ++ x ∷ [])) (journals : Journals j (entry.Consumed venue x) k) where
       k_is : k ≡ record s.journal { entries = s.journal.entries ++ entry.Consumed venue x ∷ []; ready = k.ready }
@@ -284,11 +285,11 @@ module _ (may_send : ℕ → List Numbered → Type 0) (venue : ℕ) (s : HubSta
             entries = entries;
           }
 
-      pub consume_one_kept : (carries : Carries) (ends : Ends) (lanes : FeedLanes) → HubLockInvariant carries ends lanes s → IsInSequence carries ends r.tag w.items
-          → HubLockInvariant carries ends lanes (record s { journal = k; receivers = slice_set s.receivers venue w })
-      consume_one_kept carries ends lanes h may =
-          subst (λ (y : JournalState × LaneEnd Numbered). HubLockInvariant carries ends lanes (record s { journal = y.0; receivers = slice_set s.receivers venue y.1 })) (λ i. (sym k_is i, sym grown i))
-          (consumes carries ends lanes s venue r x k.ready h at (subst (λ (e : LaneEnd Numbered). IsInSequence carries ends r.tag e.items) grown may))
+      pub consume_one_kept : {S : Type 0} (premise : Genuine S) (lanes : FeedLanes) → HubLockInvariant premise lanes s → AreInSequence premise r.tag w.items
+          → HubLockInvariant premise lanes (record s { journal = k; receivers = slice_set s.receivers venue w })
+      consume_one_kept premise lanes h may =
+          subst (λ (y : JournalState × LaneEnd Numbered). HubLockInvariant premise lanes (record s { journal = y.0; receivers = slice_set s.receivers venue y.1 })) (λ i. (sym k_is i, sym grown i))
+          (consumes premise lanes s venue r x k.ready h at (subst (λ (e : LaneEnd Numbered). AreInSequence premise r.tag e.items) grown may))
 
 -- ---- offer
 
@@ -304,7 +305,7 @@ offer_keeps s id to c j senders at is = record {
   others = refl;
 }
 
-module _ (carries : Carries) (ends : Ends) (lanes : FeedLanes) (s : HubState) (id place : ℕ) (h : HubLockInvariant carries ends lanes s) (l : LaneEnd Notice) (from : slice_get s.senders id ≡ Some l)
+module _ {S : Type 0} (premise : Genuine S) (lanes : FeedLanes) (s : HubState) (id place : ℕ) (h : HubLockInvariant premise lanes s) (l : LaneEnd Notice) (from : slice_get s.senders id ≡ Some l)
     (c : Cursor) (at : slice_get s.journal.cursors id ≡ Some c) (found : IsNextPlace (meets c.terms) (changes s.journal) c.seen place) where
   items_are : l.items ≡ filter (meets c.terms) (take c.seen (changes s.journal))
   items_are = ((h.offered id l from).items c at).1
@@ -315,20 +316,20 @@ module _ (carries : Carries) (ends : Ends) (lanes : FeedLanes) (s : HubState) (i
   terms_here : terms_at s.journal id ≡ Some c.terms
   terms_here = ap (option_map (λ (x : Cursor). x.terms)) at
 
-  pub looks_kept : (j : JournalState) (w : LaneEnd Notice) → j ≡ record s.journal { cursors = slice_set s.journal.cursors id (record c { seen = place }) } → w ≡ l → HubLockInvariant carries ends lanes (record s { journal = j; senders = slice_set s.senders id w })
+  pub looks_kept : (j : JournalState) (w : LaneEnd Notice) → j ≡ record s.journal { cursors = slice_set s.journal.cursors id (record c { seen = place }) } → w ≡ l → HubLockInvariant premise lanes (record s { journal = j; senders = slice_set s.senders id w })
   looks_kept j w is same =
-      subst (λ (y : JournalState × LaneEnd Notice). HubLockInvariant carries ends lanes (record s { journal = y.0; senders = slice_set s.senders id y.1 })) (λ i. (sym is i, sym same i))
-      (moves carries ends lanes s id c l place l.items h at from found.within (items_are ∙ sym found.passed))
+      subst (λ (y : JournalState × LaneEnd Notice). HubLockInvariant premise lanes (record s { journal = y.0; senders = slice_set s.senders id y.1 })) (λ i. (sym is i, sym same i))
+      (moves premise lanes s id c l place l.items h at from found.within (items_are ∙ sym found.passed))
 
-  pub looks_only : (j : JournalState) → j ≡ record s.journal { cursors = slice_set s.journal.cursors id (record c { seen = place }) } → HubLockInvariant carries ends lanes (record s { journal = j })
-  looks_only j is = subst (λ (x : List (LaneEnd Notice)). HubLockInvariant carries ends lanes (record s { journal = j; senders = x })) (put_same s.senders id l from) (looks_kept j l is refl)
+  pub looks_only : (j : JournalState) → j ≡ record s.journal { cursors = slice_set s.journal.cursors id (record c { seen = place }) } → HubLockInvariant premise lanes (record s { journal = j })
+  looks_only j is = subst (λ (x : List (LaneEnd Notice)). HubLockInvariant premise lanes (record s { journal = j; senders = x })) (put_same s.senders id l from) (looks_kept j l is refl)
 
   pub offers_kept : (j : JournalState) (w : LaneEnd Notice) (n : Notice) → Some n ≡ slice_get (changes s.journal) place → j ≡ record s.journal { cursors = slice_set s.journal.cursors id (record c { seen = place + 1 }) }
-      → w ≡ with_items l (l.items ++ n ∷ []) → HubLockInvariant carries ends lanes (record s { journal = j; senders = slice_set s.senders id w })
+      → w ≡ with_items l (l.items ++ n ∷ []) → HubLockInvariant premise lanes (record s { journal = j; senders = slice_set s.senders id w })
   offers_kept j w n here is grown =
       let below = below_of (changes s.journal) place n here in
-      subst (λ (y : JournalState × LaneEnd Notice). HubLockInvariant carries ends lanes (record s { journal = y.0; senders = slice_set s.senders id y.1 })) (λ i. (sym is i, sym grown i))
-      (moves carries ends lanes s id c l (place + 1) (l.items ++ n ∷ []) h at from (omega arith)
+      subst (λ (y : JournalState × LaneEnd Notice). HubLockInvariant premise lanes (record s { journal = y.0; senders = slice_set s.senders id y.1 })) (λ i. (sym is i, sym grown i))
+      (moves premise lanes s id c l (place + 1) (l.items ++ n ∷ []) h at from (omega arith)
       (ap (λ (xs : List Notice). xs ++ n ∷ []) items_are ∙ sym (one_more_wanted (meets c.terms) (changes s.journal) c.seen place found n (sym here))))
 
   pub offer_may : (n : Notice) → Some n ≡ slice_get (changes s.journal) place → AllPairs (λ (x y : Notice). x.number < y.number) (l.items ++ n ∷ [])
@@ -380,29 +381,29 @@ module _ (carries : Carries) (ends : Ends) (lanes : FeedLanes) (s : HubState) (i
 
 -- ---- declare
 
-pub declare_kept : (carries : Carries) (ends : Ends) (lanes : FeedLanes) (s : HubState) (venue : ℕ) (on : Bool) (answer : Result ℕ JournalFault) (j : JournalState) → HubLockInvariant carries ends lanes s → Declares s.journal venue on answer j
-    → HubLockInvariant carries ends lanes (record s { journal = j })
-declare_kept carries ends lanes s venue on answer j h d = by_answer answer d
+pub declare_kept : {S : Type 0} (premise : Genuine S) (lanes : FeedLanes) (s : HubState) (venue : ℕ) (on : Bool) (answer : Result ℕ JournalFault) (j : JournalState) → HubLockInvariant premise lanes s → Declares s.journal venue on answer j
+    → HubLockInvariant premise lanes (record s { journal = j })
+declare_kept premise lanes s venue on answer j h d = by_answer answer d
   where
-    stays : j ≡ s.journal → HubLockInvariant carries ends lanes (record s { journal = j })
-    stays is = subst (λ (x : JournalState). HubLockInvariant carries ends lanes (record s { journal = x })) (sym is) h
+    stays : j ≡ s.journal → HubLockInvariant premise lanes (record s { journal = j })
+    stays is = subst (λ (x : JournalState). HubLockInvariant premise lanes (record s { journal = x })) (sym is) h
 
-    by_answer : (a : Result ℕ JournalFault) → Declares s.journal venue on a j → HubLockInvariant carries ends lanes (record s { journal = j })
+    by_answer : (a : Result ℕ JournalFault) → Declares s.journal venue on a j → HubLockInvariant premise lanes (record s { journal = j })
     by_answer (Err UnknownVenue) e = stays e.1
     by_answer (Err AlreadySo) e = stays e.2
     by_answer (Err JournalFull) e = stays e.3
     by_answer (Err NoMemory) e = stays e.3
     by_answer (Err TooManySubscribers) e = absurd e
-    by_answer (Ok position) e = subst (λ (x : JournalState). HubLockInvariant carries ends lanes (record s { journal = x })) (sym e.3.0) (declares carries ends lanes s venue on j.ready h)
+    by_answer (Ok position) e = subst (λ (x : JournalState). HubLockInvariant premise lanes (record s { journal = x })) (sym e.3.0) (declares premise lanes s venue on j.ready h)
 
 -- ---- subscribe
 
 -- one more subscriber, with the first of the lanes that were left
-pub subscribes : (carries : Carries) (ends : Ends) (lanes : FeedLanes) (s : HubState) (x : SpareLane) (rest : List SpareLane) (j : JournalState) (senders : List (LaneEnd Notice)) (terms : Terms) → HubLockInvariant carries ends lanes s
+pub subscribes : {S : Type 0} (premise : Genuine S) (lanes : FeedLanes) (s : HubState) (x : SpareLane) (rest : List SpareLane) (j : JournalState) (senders : List (LaneEnd Notice)) (terms : Terms) → HubLockInvariant premise lanes s
     → s.spare ≡ x ∷ rest → j ≡ record s.journal { cursors = s.journal.cursors ++ record { terms = terms; seen = 0 } ∷ [] } → senders ≡ s.senders ++ x.sender ∷ []
-    → HubLockInvariant carries ends lanes (record s { journal = j; senders = senders; spare = rest })
-subscribes carries ends lanes s x rest j senders terms h first is more =
-    subst (λ (y : JournalState × List (LaneEnd Notice)). HubLockInvariant carries ends lanes (record s { journal = y.0; senders = y.1; spare = rest })) (λ i. (sym is i, sym more i)) (record {
+    → HubLockInvariant premise lanes (record s { journal = j; senders = senders; spare = rest })
+subscribes premise lanes s x rest j senders terms h first is more =
+    subst (λ (y : JournalState × List (LaneEnd Notice)). HubLockInvariant premise lanes (record s { journal = y.0; senders = y.1; spare = rest })) (λ i. (sym is i, sym more i)) (record {
       venues = h.venues;
       count = h.count;
       few = h.few;
@@ -452,15 +453,15 @@ subscribes carries ends lanes s x rest j senders terms h first is more =
           items = λ cursor got. elim (get_push s.journal.cursors id (record { terms = terms; seen = 0 }) cursor got) [ inl here ↦ absurd (let k = here.0 in omega arith) | inr there ↦ o.items cursor there.1 ];
         }
 
-pub spare_end : (carries : Carries) (ends : Ends) (lanes : FeedLanes) (s : HubState) (x : SpareLane) (rest : List SpareLane) → HubLockInvariant carries ends lanes s → s.spare ≡ x ∷ rest
+pub spare_end : {S : Type 0} (premise : Genuine S) (lanes : FeedLanes) (s : HubState) (x : SpareLane) (rest : List SpareLane) → HubLockInvariant premise lanes s → s.spare ≡ x ∷ rest
     → (x.receiver ≡ x.sender) × (x.receiver.tag ≡ length s.journal.cursors) × (x.receiver.items ≡ []) × (slice_get lanes.subscribers (length s.journal.cursors) ≡ Some x.receiver.lane) × (x.receiver.capacity ≡ lanes.setting.lane)
-spare_end carries ends lanes s x rest h first =
+spare_end premise lanes s x rest h first =
     let i = h.spare 0 x (ap (λ (l : List SpareLane). slice_get l 0) first) in
     let zero_more : length s.journal.cursors + 0 ≡ length s.journal.cursors = omega arith in
     (i.same, ap (λ (e : LaneEnd Notice). e.tag) i.same ∙ i.tag ∙ zero_more, ap (λ (e : LaneEnd Notice). e.items) i.same ∙ i.items, ap (slice_get lanes.subscribers) (sym zero_more) ∙ i.lane ∙ ap (λ (e : LaneEnd Notice). Some e.lane) (sym i.same), ap (λ (e : LaneEnd Notice). e.capacity) i.same ∙ i.capacity)
 
 -- ---- a section
 
-pub under_hub_lock : (carries : Carries) (ends : Ends) (lanes : FeedLanes) (section : HubState → HubState → Type 0) (old new : HubState) → HubLockInvariant carries ends lanes old → HubLockInvariant carries ends lanes new → section old new
-    → UnderHubLock carries ends lanes section
-under_hub_lock carries ends lanes section old new kept keeps leads = record { old = old; kept = kept; new = new; keeps = keeps; leads = leads }
+pub under_hub_lock : {S : Type 0} (premise : Genuine S) (lanes : FeedLanes) (section : HubState → HubState → Type 0) (old new : HubState) → HubLockInvariant premise lanes old → HubLockInvariant premise lanes new → section old new
+    → UnderHubLock premise lanes section
+under_hub_lock premise lanes section old new kept keeps leads = record { old = old; kept = kept; new = new; keeps = keeps; leads = leads }

@@ -2,10 +2,9 @@
 use Rattle.std.proofs.Common.{◌≡◌, ℕ, ◌+◌, length, length-append, MatchOption, MatchResult, map, List, [], ◌∷◌, ◌++◌, Option, None, Some, Result, Ok, Err, refl, sym, ◌∙◌, ap, subst, append-nil, append_assoc}
 use Rattle.std.proofs.lemmas.List.{map-append}
 use Rattle.feed_types.specs.declared.journal.Notice.{Notice}
-use Rattle.feed_types.specs.Sequence.{Carries, Ends}
-use Rattle.feed_types.specs.Sessions.{SessionNames}
 use Rattle.filter_terms.specs.declared.advice.Advice.{Advice}
 use Rattle.line_arbiter.specs.declared.outcome.Outcome.{Outcome}
+use Rattle.feed_types.specs.declared.genuine.Genuine.{Ghosts as Genuine}
 use Rattle.live_feed.specs.declared.faults.TakeFault.{TakeFault}
 use Rattle.live_feed.specs.declared.faults.TakeFault.TheVariants as faults
 use Rattle.live_feed.specs.declared.run.source.SourceFault.{SourceFault}
@@ -20,44 +19,44 @@ use Rattle.live_feed.specs.run.Runs.{failures_after, Taking, AreTakenBy, HasTake
 use Rattle.live_feed.proofs.CellMoves.{shown_sum}
 
 -- a datagram leaves a seat where it is
-pub seat_stays : (sessions : SessionNames) (carries : Carries) (ends : Ends) (lanes : FeedLanes)
+pub seat_stays : {S : Type 0} (premise : Genuine S) (lanes : FeedLanes)
     (bytes : List ℕ) (old : SeatState) (answer : Result Outcome TakeFault) (new : SeatState)
-    → IsTakenBy sessions carries ends lanes bytes old answer new
+    → IsTakenBy premise lanes bytes old answer new
     → (new.venue ≡ old.venue) × (new.line ≡ old.line)
-seat_stays sessions carries ends lanes bytes old (Err (faults.Packet fault)) new taken =
+seat_stays premise lanes bytes old (Err (faults.Packet fault)) new taken =
     (ap (λ s. s.venue) taken.1, ap (λ s. s.line) taken.1)
-seat_stays sessions carries ends lanes bytes old (Err (faults.Line fault)) new taken =
+seat_stays premise lanes bytes old (Err (faults.Line fault)) new taken =
     (ap (λ s. s.venue) taken.1, ap (λ s. s.line) taken.1)
-seat_stays sessions carries ends lanes bytes old (Ok outcome) new taken =
+seat_stays premise lanes bytes old (Ok outcome) new taken =
     (ap (λ s. s.venue) taken.seat, ap (λ s. s.line) taken.seat)
 
-pub taken_itself : (sessions : SessionNames) (carries : Carries) (ends : Ends) (lanes : FeedLanes)
-    (s : SeatState) → HasTaken sessions carries ends lanes s [] s
-taken_itself sessions carries ends lanes s = record { takings = []; bytes = refl; taken = refl }
+pub taken_itself : {S : Type 0} (premise : Genuine S) (lanes : FeedLanes)
+    (s : SeatState) → HasTaken premise lanes s [] s
+taken_itself premise lanes s = record { takings = []; bytes = refl; taken = refl }
 
-taking_more : (sessions : SessionNames) (carries : Carries) (ends : Ends) (lanes : FeedLanes)
+taking_more : {S : Type 0} (premise : Genuine S) (lanes : FeedLanes)
     (takings : List Taking) (first old : SeatState) (t : Taking)
-    → AreTakenBy sessions carries ends lanes first takings old
-    → IsTakenBy sessions carries ends lanes t.bytes old t.answer t.seat
-    → AreTakenBy sessions carries ends lanes first (takings ++ t ∷ []) t.seat
-taking_more sessions carries ends lanes [] first old t same one =
-    let P : SeatState → Type 0 = λ s. IsTakenBy sessions carries ends lanes t.bytes s t.answer t.seat
+    → AreTakenBy premise lanes first takings old
+    → IsTakenBy premise lanes t.bytes old t.answer t.seat
+    → AreTakenBy premise lanes first (takings ++ t ∷ []) t.seat
+taking_more premise lanes [] first old t same one =
+    let P : SeatState → Type 0 = λ s. IsTakenBy premise lanes t.bytes s t.answer t.seat
     in (subst P same one, refl)
-taking_more sessions carries ends lanes (u ∷ more) first old t all one =
-    (all.0, taking_more sessions carries ends lanes more u.seat old t all.1 one)
+taking_more premise lanes (u ∷ more) first old t all one =
+    (all.0, taking_more premise lanes more u.seat old t all.1 one)
 
 -- one more datagram
-pub taken_more : (sessions : SessionNames) (carries : Carries) (ends : Ends) (lanes : FeedLanes)
+pub taken_more : {S : Type 0} (premise : Genuine S) (lanes : FeedLanes)
     (brought : List (List ℕ)) (bytes : List ℕ) (answer : Result Outcome TakeFault)
     (first old new : SeatState)
-    → HasTaken sessions carries ends lanes first brought old
-    → IsTakenBy sessions carries ends lanes bytes old answer new
-    → HasTaken sessions carries ends lanes first (brought ++ bytes ∷ []) new
-taken_more sessions carries ends lanes brought bytes answer first old new so_far one =
+    → HasTaken premise lanes first brought old
+    → IsTakenBy premise lanes bytes old answer new
+    → HasTaken premise lanes first (brought ++ bytes ∷ []) new
+taken_more premise lanes brought bytes answer first old new so_far one =
     let t : Taking = record { bytes = bytes; answer = answer; seat = new } in record {
       takings = so_far.takings ++ t ∷ [];
       bytes = map-append (λ u. u.bytes) so_far.takings (t ∷ []) ∙ ap (λ bs. bs ++ bytes ∷ []) so_far.bytes;
-      taken = taking_more sessions carries ends lanes so_far.takings first old t so_far.taken one;
+      taken = taking_more premise lanes so_far.takings first old t so_far.taken one;
     }
 
 -- a call that brings nothing more
@@ -91,11 +90,11 @@ line_ended takes brings failures more seat last_seat source between last_source 
     }
 
 -- what is genuine at a source's venue is so at its seat's
-pub genuine_at : (sessions : SessionNames) (carries : Carries) (ends : Ends) (v w : ℕ)
-    (bytes : List ℕ) → v ≡ w → AreGenuineBytes sessions carries ends v bytes
-    → AreGenuineBytes sessions carries ends w bytes
-genuine_at sessions carries ends v w bytes same genuine =
-    let P : ℕ → Type 0 = λ x. AreGenuineBytes sessions carries ends x bytes in
+pub genuine_at : {S : Type 0} (premise : Genuine S) (v w : ℕ)
+    (bytes : List ℕ) → v ≡ w → AreGenuineBytes premise v bytes
+    → AreGenuineBytes premise w bytes
+genuine_at premise v w bytes same genuine =
+    let P : ℕ → Type 0 = λ x. AreGenuineBytes premise x bytes in
     subst P same genuine
 
 pub polled_itself : (t : SubscriberLogState) → HasPolled t t

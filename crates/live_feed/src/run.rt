@@ -128,7 +128,7 @@ where
     requires logs { (log_lists.threads.items ≡ []) × (log_lists.back.items ≡ [])
         × (vec_len logs ≤ vec_capacity log_lists.threads)
         × (vec_len logs ≤ vec_capacity log_lists.back) }
-    ensures lines { Pairwise (λ line ended. LineHasEnded (HasTaken G.sessions G.carries G.ends
+    ensures lines { Pairwise (λ line ended. LineHasEnded (HasTaken G.Genuine
         N.lanes) S.brings S.failures line.seat line.source ended.seat ended.source
         ended.datagrams ended.fault) lines.items result.ends.items }
     ensures logs { Pairwise HasPolled logs.items result.logs.items }
@@ -207,7 +207,7 @@ impl<G: Genuine + Send + Sync, N: FeedName + Send + Sync> OpenFeed<G, N> {
     ) -> Result<RunReport<G, N, S>, (Vec<Line<G, N, S>>, Vec<Subscriber<N>>)>
         ensures back { IfErr result (λ back. (back.0 ≡ lines) × (back.1 ≡ subscribers)) }
         ensures lines { IfOk result (λ report. Pairwise (λ line ended.
-            LineHasEnded (HasTaken G.sessions G.carries G.ends N.lanes) S.brings S.failures
+            LineHasEnded (HasTaken G.Genuine N.lanes) S.brings S.failures
             line.seat line.source ended.seat ended.source ended.datagrams ended.fault)
             lines.items report.lines.items) }
         ensures subscribers { IfOk result (λ report. Pairwise (λ given back.
@@ -276,7 +276,7 @@ where
         × (log_lists.threads.items ≡ []) × (log_lists.back.items ≡ [])
         × (vec_len logs ≤ vec_capacity log_lists.threads)
         × (vec_len logs ≤ vec_capacity log_lists.back) }
-    ensures lines { Pairwise (λ line ended. LineHasEnded (HasTaken G.sessions G.carries G.ends
+    ensures lines { Pairwise (λ line ended. LineHasEnded (HasTaken G.Genuine
         N.lanes) S.brings S.failures line.seat line.source ended.seat ended.source
         ended.datagrams ended.fault) lines.items result.ends.items }
     ensures logs { Pairwise HasPolled logs.items result.logs.items }
@@ -293,8 +293,7 @@ where
                 × (log_lists.threads.items ≡ []) × (log_lists.back.items ≡ [])
                 × (vec_len logs ≤ vec_capacity log_lists.threads)
                 × (vec_len logs ≤ vec_capacity log_lists.back) }
-            ensures lines { Pairwise (λ line ended. LineHasEnded (HasTaken G.sessions G.carries
-                G.ends N.lanes) S.brings S.failures line.seat line.source ended.seat
+            ensures lines { Pairwise (λ line ended. LineHasEnded (HasTaken G.Genuine N.lanes) S.brings S.failures line.seat line.source ended.seat
                 ended.source ended.datagrams ended.fault) lines.items result.ends.items }
             ensures logs { Pairwise HasPolled logs.items result.logs.items }
             ensures count { vec_len result.logs ≡ vec_len logs }

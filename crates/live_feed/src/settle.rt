@@ -186,7 +186,7 @@ fn closed<G: Genuine, N: FeedName, W: Wait>(
     requires counts { (length unlocked.venues.items ≡ unlocked.hub.core.journal.venues)
         × (length subscribers.items ≡ length unlocked.hub.core.journal.cursors) }
     requires room { HasRoom (map (λ g. g.cell) unlocked.venues.items) unlocked.hub.core room }
-    ensures { IsClosedFeed G.sessions G.carries G.ends N.lanes
+    ensures { IsClosedFeed G.Genuine N.lanes
         (map (λ g. g.cell) unlocked.venues.items) unlocked.hub.core
         (map (λ s. s.log) subscribers.items) result }
 {
@@ -231,7 +231,7 @@ impl<G: Genuine, N: FeedName> OpenFeed<G, N> {
         seats: Vec<LineSeat<G, N>>,
         subscribers: Vec<Subscriber<N>>,
     ) -> Result<Settlement, Unsettled<G, N>>
-        ensures settled { IfOk result (IsSettlement G.sessions G.carries G.ends N.lanes seats.items
+        ensures settled { IfOk result (IsSettlement G.Genuine N.lanes seats.items
             (map (λ s. s.log) subscribers.items)) }
         ensures back { IfErr result (λ back. (back.seats.items ≡ seats.items)
             × (back.subscribers.items ≡ subscribers.items)) }

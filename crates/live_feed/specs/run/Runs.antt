@@ -1,10 +1,9 @@
 -- The report of a run of a feed.
 use Rattle.std.specs.Prelude.{◌≡◌, ℕ, ◌+◌, List, [], ◌∷◌, length, map, Option, MatchOption, Result}
 use Rattle.feed_types.specs.Prefix.{IsPrefix}
-use Rattle.feed_types.specs.Sequence.{Carries, Ends}
-use Rattle.feed_types.specs.Sessions.{SessionNames}
 use Rattle.line_arbiter.specs.declared.outcome.Outcome.{Outcome}
 use Rattle.line_arbiter.specs.Counts.{shown}
+use Rattle.feed_types.specs.declared.genuine.Genuine.{Ghosts as Genuine}
 use Rattle.live_feed.specs.declared.faults.TakeFault.{TakeFault}
 use Rattle.live_feed.specs.declared.run.source.SourceFault.{SourceFault}
 use Rattle.live_feed.specs.declared.run.source.SourceFault.TheVariants as faults
@@ -45,20 +44,20 @@ pub record Taking : Type 0 where
   pub seat : SeatState
 
 -- The seat took these datagrams, one after the other, and the last seat is the one then.
-abbrev pub AreTakenBy : SessionNames → Carries → Ends → FeedLanes → SeatState → List Taking
+abbrev pub AreTakenBy : {S : Type 0} → Genuine S → FeedLanes → SeatState → List Taking
     → SeatState → Type 0
-AreTakenBy sessions carries ends lanes old [] last = last ≡ old
-AreTakenBy sessions carries ends lanes old (t ∷ more) last =
-    IsTakenBy sessions carries ends lanes t.bytes old t.answer t.seat
-    × AreTakenBy sessions carries ends lanes t.seat more last
+AreTakenBy premise lanes old [] last = last ≡ old
+AreTakenBy premise lanes old (t ∷ more) last =
+    IsTakenBy premise lanes t.bytes old t.answer t.seat
+    × AreTakenBy premise lanes t.seat more last
 
 -- A seat, later on: it took the datagrams of these bytes, in order, and nothing else changed it.
-pub record HasTaken (sessions : SessionNames) (carries : Carries) (ends : Ends)
+pub record HasTaken {S : Type 0} (premise : Genuine S)
     (lanes : FeedLanes) (old : SeatState) (brought : List (List ℕ)) (last : SeatState)
     : Type 0 where
   pub takings : List Taking
   pub bytes : map (λ t. t.bytes) takings ≡ brought
-  pub taken : AreTakenBy sessions carries ends lanes old takings last
+  pub taken : AreTakenBy premise lanes old takings last
 
 -- A line that has ended: its seat took each datagram that its source brought, in order and once;
 -- the count of datagrams is how many these are, empty ones too, as a u64 shows it; and of the

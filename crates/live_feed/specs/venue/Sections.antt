@@ -3,8 +3,7 @@
 use Rattle.std.specs.Prelude.{◌≡◌, ◌⊎◌, ℕ, ◌+◌, ◌≤◌, Bool, true, false, List, length, slice_get, None, Result, Ok, Err, IsOk}
 use Rattle.feed_types.specs.declared.item.Numbered.{Numbered}
 use Rattle.feed_types.specs.declared.line.LineId.{LineId}
-use Rattle.feed_types.specs.Sequence.{Carries, Ends, IsInSequence}
-use Rattle.feed_types.specs.Sessions.{Session, SessionNames, IsSessionAt, Names}
+use Rattle.feed_types.specs.Sessions.{Session, IsSessionAt}
 use Rattle.mold_packet.specs.Content.{Content}
 use Rattle.line_arbiter.specs.declared.outcome.Outcome.{Outcome}
 use Rattle.line_arbiter.specs.declared.outcome.LineFault.{LineFault}
@@ -18,6 +17,8 @@ use Rattle.fifo_lane.specs.Lane.{WasFull, with_items}
 use Rattle.feed_core.specs.declared.event.Done.{Done}
 use Rattle.feed_core.specs.declared.event.Done.TheVariants as done
 use Rattle.feed_core.specs.Steps.{AddsArrival, AddsRenewal, push_next, AppliesTo}
+use Rattle.feed_types.specs.declared.genuine.Genuine.{Ghosts as Genuine}
+use Rattle.live_feed.specs.Premises.{AreInSequence, BringExactly}
 use Rattle.live_feed.specs.declared.unsent.Unsent.{Unsent}
 use Rattle.live_feed.specs.declared.unsent.Unsent.TheVariants as unsent
 use Rattle.live_feed.specs.Lanes.{FeedLanes}
@@ -32,20 +33,20 @@ pub record TakesPacket (line : LineId) (p : Content) (answer : Result Outcome Li
 
 -- Where the lines bring exactly these sessions, a packet of one of them is accepted, or is of
 -- another session than the present one.
-abbrev pub AcceptsTheirPacket : SessionNames → Carries → Ends → ℕ → Content
+abbrev pub AcceptsTheirPacket : {S : Type 0} → Genuine S → ℕ → Content
     → Result Outcome LineFault → Type 0
-AcceptsTheirPacket sessions carries ends venue p answer =
+AcceptsTheirPacket premise venue p answer =
     (all : List Session) (ordinal : ℕ) (session : Session)
-    → Names sessions carries ends venue all → IsSessionAt all ordinal session
+    → BringExactly premise venue all → IsSessionAt all ordinal session
     → IsOfSession session p → IsOk answer ⊎ (answer ≡ Err OtherSession)
 
 -- Packet, where the cell is known by what its lock keeps alone: there is such a cell of this venue,
 -- with this answer.
-pub record IsAnsweredBy (sessions : SessionNames) (carries : Carries) (ends : Ends)
+pub record IsAnsweredBy {S : Type 0} (premise : Genuine S)
     (lanes : FeedLanes) (venue : ℕ) (line : LineId) (p : Content)
     (answer : Result Outcome LineFault) : Type 0 where
   pub old : CellState
-  pub kept : VenueLockInvariant sessions carries ends lanes old
+  pub kept : VenueLockInvariant premise lanes old
   pub venue_is : old.arbiter.venue ≡ venue
   pub new : CellState
   pub takes : TakesPacket line p answer kept.history old new
@@ -114,11 +115,11 @@ pub record Pushes (may_send : ℕ → List Numbered → Type 0) (most pushed : �
 
 -- The answer to who asks to push what is ready of the venue, at most `most` items: how many items
 -- its lane was sent.
-abbrev pub IsFlushedBy : SessionNames → Carries → Ends → FeedLanes → ℕ → ℕ → ℕ → Type 0
-IsFlushedBy sessions carries ends lanes venue most pushed =
-    UnderVenueLock sessions carries ends lanes venue
-    (Pushes (IsInSequence carries ends) most pushed)
-    ⊎ (IsOthersLock sessions carries ends lanes venue × (pushed ≡ 0))
+abbrev pub IsFlushedBy : {S : Type 0} → Genuine S → FeedLanes → ℕ → ℕ → ℕ → Type 0
+IsFlushedBy premise lanes venue most pushed =
+    UnderVenueLock premise lanes venue
+    (Pushes (AreInSequence premise) most pushed)
+    ⊎ (IsOthersLock premise lanes venue × (pushed ≡ 0))
 
 -- A packet that isn't taken so: the lane was full at a moment of the call, or the packet doesn't go
 -- on where nothing is held, or hasn't one message.

@@ -52,7 +52,7 @@ impl<G: Genuine, N: FeedName> Model for JournalAndLanes<G, N> {
       spare = h.spare_lanes.items;
     } };
 
-    ghost invariant = { λ h. HubLockInvariant G.carries G.ends N.lanes (record {
+    ghost invariant = { λ h. HubLockInvariant G.Genuine N.lanes (record {
       journal = h.kept;
       receivers = h.from_venues.items;
       senders = h.to_subscribers.items;
@@ -69,7 +69,7 @@ impl<G: Genuine, N: FeedName> JournalAndLanes<G, N> {
         senders: Vec<Sender<Notice, RisingNotices>>,
         spare: VecDeque<SpareLane>,
     ) -> JournalAndLanes<G, N>
-        requires { HubLockInvariant G.carries G.ends N.lanes (record {
+        requires { HubLockInvariant G.Genuine N.lanes (record {
           journal = journal;
           receivers = receivers.items;
           senders = senders.items;
@@ -95,7 +95,7 @@ impl<G: Genuine, N: FeedName> JournalAndLanes<G, N> {
     pub(crate) fn into_parts(self) -> HubParts<G>
         ensures parts { (result.0 ≡ self.journal) × (result.1.items ≡ self.receivers)
             × (result.2.items ≡ self.senders) }
-        ensures hub { HubLockInvariant G.carries G.ends N.lanes self }
+        ensures hub { HubLockInvariant G.Genuine N.lanes self }
     {
         let JournalAndLanes {
             kept,
@@ -110,7 +110,7 @@ impl<G: Genuine, N: FeedName> JournalAndLanes<G, N> {
     /// Does nothing: it says what is so whenever the consolidator's lock is free.
     #[inline(always)]
     pub(crate) fn show_lock_invariant(&self)
-        ensures { HubLockInvariant G.carries G.ends N.lanes self.now }
+        ensures { HubLockInvariant G.Genuine N.lanes self.now }
     {
         // for the prover: the invariant is known where a field is used
         let _ = &self.kept;

@@ -34,7 +34,7 @@ where
     ensures { MatchResult result
         (λ handle. (handle.promise.seat.value ≡ line.seat)
         × (handle.promise.source.value ≡ line.source))
-        (λ ended. LineHasEnded (HasTaken G.sessions G.carries G.ends N.lanes) S.brings S.failures
+        (λ ended. LineHasEnded (HasTaken G.Genuine N.lanes) S.brings S.failures
         line.seat line.source ended.seat ended.source ended.datagrams ended.fault) }
 {
     let promise = LineOf {
@@ -42,7 +42,7 @@ where
         source: Snapshot::of(&line.source),
     };
     let job = move || -> LineEnd<G, N, S>
-        ensures { LineHasEnded (HasTaken G.sessions G.carries G.ends N.lanes) S.brings S.failures
+        ensures { LineHasEnded (HasTaken G.Genuine N.lanes) S.brings S.failures
             line.seat line.source result.seat result.source result.datagrams result.fault }
     { work_line(rt, venues, signals, line) };
     match scope.spawn_with(promise, job) {
@@ -75,7 +75,7 @@ where
     ensures threads { Pairwise (λ line thread. MatchResult thread
         (λ handle. (handle.promise.seat.value ≡ line.seat)
         × (handle.promise.source.value ≡ line.source))
-        (λ ended. LineHasEnded (HasTaken G.sessions G.carries G.ends N.lanes) S.brings S.failures
+        (λ ended. LineHasEnded (HasTaken G.Genuine N.lanes) S.brings S.failures
         line.seat line.source ended.seat ended.source ended.datagrams ended.fault))
         lines.items result.items }
 {

@@ -24,7 +24,7 @@ pub(crate) struct LineOf<G, N, S> {
 impl<G: Genuine, N: FeedName, S: LineSource<G>> Promise<LineEnd<G, N, S>> for LineOf<G, N, S> {
     ghost use Rattle.live_feed.specs.run.Runs.{HasTaken, LineHasEnded};
 
-    ghost kept_by = { λ p r. LineHasEnded (HasTaken G.sessions G.carries G.ends N.lanes) S.brings
+    ghost kept_by = { λ p r. LineHasEnded (HasTaken G.Genuine N.lanes) S.brings
         S.failures p.seat.value p.source.value r.seat r.source r.datagrams r.fault };
 }
 
@@ -84,7 +84,7 @@ pub(crate) fn work_line<G: Genuine, N: FeedName, S: LineSource<G>, W: Wait>(
     signals: &Signals,
     line: Line<G, N, S>,
 ) -> LineEnd<G, N, S>
-    ensures { LineHasEnded (HasTaken G.sessions G.carries G.ends N.lanes) S.brings S.failures
+    ensures { LineHasEnded (HasTaken G.Genuine N.lanes) S.brings S.failures
         line.seat line.source result.seat result.source result.datagrams result.fault }
 {
     let Line {

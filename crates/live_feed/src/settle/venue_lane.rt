@@ -119,9 +119,9 @@ pub(crate) fn settle_venue<G: Genuine, N: FeedName, W: Wait>(
     receiver: Receiver<Numbered, VenueItems<G>>,
     room: VenueRoom,
 ) -> VenueEnd
-    requires end { IsConsumed G.carries G.ends N.lanes entries.now cell.arbiter.venue receiver }
+    requires end { IsConsumed G.Genuine N.lanes entries.now cell.arbiter.venue receiver }
     requires room { HasVenueRoom entries.now cell room }
-    ensures { IsClosedVenue G.sessions G.carries G.ends N.lanes entries.now cell.arbiter.venue cell
+    ensures { IsClosedVenue G.Genuine N.lanes entries.now cell.arbiter.venue cell
         result }
 {
     let VenueRoom {

@@ -1,7 +1,7 @@
 //! The calls of a feed that take only a venue's lock.
 
 ghost use Rattle.std.specs.Prelude.{◌≡◌, ◌<◌, length};
-ghost use Rattle.line_arbiter.specs.Genuine.{IsGenuine};
+ghost use Rattle.live_feed.specs.Premises.{IsGenuinePacket};
 ghost use Rattle.live_feed.specs.venue.Seats.{seat_after, seat_refusing};
 ghost use Rattle.live_feed.specs.venue.Sections.{AcceptsTheirPacket, IsFlushedBy, Pushes};
 ghost use Rattle.live_feed.specs.venue.Datagrams.{AreGenuineBytes, AcceptsTheirs, IsAnsweredAt, IsTakenBy, bytes_of};
@@ -49,7 +49,7 @@ fn flush_cell<G: Genuine, N: FeedName, W: Wait>(
     venue: VenueId,
     most: u64,
 ) -> (u64, bool)
-    ensures { IsFlushedBy G.sessions G.carries G.ends N.lanes venue most result.0 }
+    ensures { IsFlushedBy G.Genuine N.lanes venue most result.0 }
 {
     cell.show_lock_invariant();
     if cell.venue() != venue {
@@ -72,10 +72,10 @@ fn take_in<G: Genuine, N: FeedName, W: Wait>(
     seat: &mut LineSeat<G, N>,
     packet: &Packet<'_>,
 ) -> Result<Outcome, LineFault>
-    requires { IsGenuine G.sessions G.carries G.ends seat.old.venue packet.now }
+    requires { IsGenuinePacket G.Genuine seat.old.venue packet.now }
     ensures seat { seat.new ≡ seat_after seat.old packet.now result }
-    ensures answer { IsAnsweredAt G.sessions G.carries G.ends N.lanes seat.old packet.now result }
-    ensures accepts { AcceptsTheirPacket G.sessions G.carries G.ends seat.old.venue packet.now
+    ensures answer { IsAnsweredAt G.Genuine N.lanes seat.old packet.now result }
+    ensures accepts { AcceptsTheirPacket G.Genuine seat.old.venue packet.now
         result }
 {
     if cell.venue() != seat.venue() {
@@ -97,11 +97,11 @@ impl<G: Genuine, N: FeedName> VenueLocks<G, N> {
         datagram: &Datagram,
         gap: &mut bool,
     ) -> Result<Outcome, TakeFault>
-        requires { AreGenuineBytes G.sessions G.carries G.ends seat.old.venue
+        requires { AreGenuineBytes G.Genuine seat.old.venue
             (bytes_of datagram.now) }
-        ensures taken { IsTakenBy G.sessions G.carries G.ends N.lanes (bytes_of datagram.now)
+        ensures taken { IsTakenBy G.Genuine N.lanes (bytes_of datagram.now)
             seat.old result seat.new }
-        ensures accepts { AcceptsTheirs G.sessions G.carries G.ends seat.old.venue
+        ensures accepts { AcceptsTheirs G.Genuine seat.old.venue
             (bytes_of datagram.now) result }
     {
         match read_packet(datagram.bytes()) {
@@ -141,11 +141,11 @@ impl<G: Genuine, N: FeedName> VenueLocks<G, N> {
         packet: &Packet<'_>,
         gap: &mut bool,
     ) -> Result<Outcome, LineFault>
-        requires { IsGenuine G.sessions G.carries G.ends seat.old.venue packet.now }
+        requires { IsGenuinePacket G.Genuine seat.old.venue packet.now }
         ensures seat { seat.new ≡ seat_after seat.old packet.now result }
-        ensures answer { IsAnsweredAt G.sessions G.carries G.ends N.lanes seat.old packet.now
+        ensures answer { IsAnsweredAt G.Genuine N.lanes seat.old packet.now
             result }
-        ensures accepts { AcceptsTheirPacket G.sessions G.carries G.ends seat.old.venue packet.now
+        ensures accepts { AcceptsTheirPacket G.Genuine seat.old.venue packet.now
             result }
     {
         let Some(lock) = self.get(seat.venue()) else {
@@ -168,7 +168,7 @@ impl<G: Genuine, N: FeedName> VenueLocks<G, N> {
     /// something may be ready still, the venue is held back.
     pub(crate) fn flush_some<W: Wait>(&self, rt: &W, venue: VenueId, most: u64) -> u64
         ensures { venue < length N.lanes.venues
-            → IsFlushedBy G.sessions G.carries G.ends N.lanes venue most result }
+            → IsFlushedBy G.Genuine N.lanes venue most result }
     {
         let Some(lock) = self.get(venue) else {
             return 0;

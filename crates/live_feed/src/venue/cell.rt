@@ -4,13 +4,13 @@ ghost use Rattle.std.specs.Prelude.{◌≡◌, ◌≤◌, ◌+◌, [], ◌∷◌
 ghost use Rattle.feed_types.specs.declared.item.Numbered.{Numbered};
 ghost use Rattle.feed_types.specs.Sessions.{numbered_from};
 ghost use Rattle.quote_payload.specs.Payload.{item_of};
-ghost use Rattle.line_arbiter.specs.Genuine.{IsGenuine};
 ghost use Rattle.line_arbiter.specs.Histories.{History};
 ghost use Rattle.line_arbiter.specs.Streams.{gap_of};
 ghost use Rattle.line_arbiter.specs.Pacing.{IsPaced};
 ghost use Rattle.line_arbiter.specs.Fits.{Fits};
 ghost use Rattle.line_arbiter.specs.States.{IsNew, ordinal_of};
 ghost use Rattle.line_arbiter.specs.Counts.{count_on};
+ghost use Rattle.live_feed.specs.Premises.{IsGenuinePacket};
 ghost use Rattle.live_feed.specs.venue.Seats.{seat_after};
 ghost use Rattle.live_feed.specs.venue.Sums.{sums_on};
 ghost use Rattle.live_feed.specs.venue.Cells.{FitsCell, VenueLockInvariant, new_cell};
@@ -56,7 +56,7 @@ impl<G: Genuine, N: FeedName> Model for VenueCell<G, N> {
       accepted = c.sums;
     } };
 
-    ghost invariant = { λ c. VenueLockInvariant G.sessions G.carries G.ends N.lanes (record {
+    ghost invariant = { λ c. VenueLockInvariant G.Genuine N.lanes (record {
       arbiter = c.lines;
       lane = c.items;
       pace = c.pacer;
@@ -110,7 +110,7 @@ impl<G: Genuine, N: FeedName> VenueCell<G, N> {
     /// Does nothing: it says what is so whenever the venue's lock is free.
     #[inline(always)]
     pub(crate) fn show_lock_invariant(&self)
-        ensures { VenueLockInvariant G.sessions G.carries G.ends N.lanes self.now }
+        ensures { VenueLockInvariant G.Genuine N.lanes self.now }
     {
         // for the prover: the invariant is known where a field is used
         let _ = &self.items;
@@ -167,7 +167,7 @@ impl<G: Genuine, N: FeedName> VenueCell<G, N> {
     pub(crate) fn into_parts(self) -> (Arbiter<G>, Sender<Numbered, VenueItems<G>>, VenueSums)
         ensures parts { (result.0 ≡ self.arbiter) × (result.1 ≡ self.lane)
             × (result.2 ≡ self.accepted) }
-        ensures kept { VenueLockInvariant G.sessions G.carries G.ends N.lanes self }
+        ensures kept { VenueLockInvariant G.Genuine N.lanes self }
     {
         let VenueCell {
             lines,
@@ -187,18 +187,18 @@ impl<G: Genuine, N: FeedName> VenueCell<G, N> {
         packet: &Packet<'_>,
     ) -> Result<Outcome, LineFault>
         requires venue { seat.old.venue ≡ self.old.arbiter.venue }
-        requires genuine { IsGenuine G.sessions G.carries G.ends seat.old.venue packet.now }
+        requires genuine { IsGenuinePacket G.Genuine seat.old.venue packet.now }
         ensures packet { (h : History) → FitsCell self.old h
             → TakesPacket seat.old.line packet.now result h self.old self.new }
         ensures kept { KeepsButPackets self.old self.new }
         ensures seat { seat.new ≡ seat_after seat.old packet.now result }
 
-        ensures answered { IsAnsweredBy G.sessions G.carries G.ends N.lanes seat.old.venue
+        ensures answered { IsAnsweredBy G.Genuine N.lanes seat.old.venue
             seat.old.line packet.now result }
 
         // Where it is known which sessions the lines bring, a packet of one of them is refused only
         // where it isn't of the present one.
-        ensures accepts { AcceptsTheirPacket G.sessions G.carries G.ends seat.old.venue packet.now
+        ensures accepts { AcceptsTheirPacket G.Genuine seat.old.venue packet.now
             result }
         ensures refused { OnErr result (self.new ≡ self.old) }
     {
@@ -224,14 +224,14 @@ impl<G: Genuine, N: FeedName> VenueCell<G, N> {
         packet: &Packet<'_>,
     ) -> Option<Outcome>
         requires venue { seat.old.venue ≡ self.old.arbiter.venue }
-        requires genuine { IsGenuine G.sessions G.carries G.ends seat.old.venue packet.now }
+        requires genuine { IsGenuinePacket G.Genuine seat.old.venue packet.now }
         ensures packet { (h : History) → FitsCell self.old h
             → IfSome result (λ outcome. TakesAndPushes seat.old.line packet.now outcome h
             self.old self.new) }
         ensures kept { IfSome result (λ _. KeepsButPushed self.old self.new) }
         ensures seat { IfSome result (λ outcome. seat.new
             ≡ seat_after seat.old packet.now (Ok outcome)) }
-        ensures answered { IfSome result (λ outcome. IsAnsweredBy G.sessions G.carries G.ends
+        ensures answered { IfSome result (λ outcome. IsAnsweredBy G.Genuine
             N.lanes seat.old.venue seat.old.line packet.now (Ok outcome)) }
         ensures left { IfNone result
             (IsLeft ⟦<VenueItems<G> as LaneRule<Numbered>>⟧.may_send packet.now self.old) }

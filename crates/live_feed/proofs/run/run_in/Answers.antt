@@ -5,7 +5,7 @@ use Rattle.live_feed.proofs.run.run_in.Goals as goal
 
 pub returns-clause-lines : goal.returns-clause-lines
 returns-clause-lines g c =
-    let takes = HasTaken g.G.Genuine.sessions g.G.Genuine.carries g.G.Genuine.ends
+    let takes = HasTaken g.G.Genuine
     g.N.FeedName.lanes in
     let brings = g.S.LineSource.brings in let failures = g.S.LineSource.failures in
     joined

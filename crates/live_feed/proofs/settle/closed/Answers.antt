@@ -16,8 +16,7 @@ use Rattle.live_feed.proofs.settle.closed.Goals as goal
 pub close_venues-venue_ends-requires-clause-ready :
     goal.close_venues-venue_ends-requires-clause-ready
 close_venues-venue_ends-requires-clause-ready g c =
-    let carries = g.G.Genuine.carries in
-    let ends = g.G.Genuine.ends in
+    let premise = g.G.Genuine in
     let lanes = g.N.FeedName.lanes in
     let made = c.into_parts-journal in
     let parts = made.ensures.parts in
@@ -29,10 +28,10 @@ close_venues-venue_ends-requires-clause-ready g c =
     let of_hub = hub.venues in
     let counted = c.requires.counts.0 in
     let rooms = c.requires.room.venue_count in
-    three_at_start (IsToClose carries ends lanes c.entries-entries.result.now) (map (λ v. v.cell) venues) made.result.1.items c.args.room.venues.items (omega arith) rooms
+    three_at_start (IsToClose premise lanes c.entries-entries.result.now) (map (λ v. v.cell) venues) made.result.1.items c.args.room.venues.items (omega arith) rooms
     (λ venue cell e r left mid right. record {
       venue_is = c.requires.venues venue cell left;
-      consumed = subst (λ (l : List Entry). IsConsumed carries ends lanes l venue e) (sym entries) (hub.consumed venue e (ap (λ (l : List (LaneEnd Numbered)). slice_get l venue) (sym parts.1) ∙ mid));
+      consumed = subst (λ (l : List Entry). IsConsumed premise lanes l venue e) (sym entries) (hub.consumed venue e (ap (λ (l : List (LaneEnd Numbered)). slice_get l venue) (sym parts.1) ∙ mid));
       room = subst (λ (l : List Entry). HasVenueRoom l cell r) (sym entries) (c.requires.room.venues venue cell r left right);
     })
 

@@ -9,7 +9,7 @@ invariant-loop-line g l =
     × Pairwise (λ line thread. MatchResult thread
     (λ handle. (handle.promise.seat.value ≡ line.seat)
     × (handle.promise.source.value ≡ line.source))
-    (λ ended. LineHasEnded (HasTaken g.G.Genuine.sessions g.G.Genuine.carries g.G.Genuine.ends
+    (λ ended. LineHasEnded (HasTaken g.G.Genuine
     g.N.FeedName.lanes) g.S.LineSource.brings g.S.LineSource.failures line.seat line.source
     ended.seat ended.source ended.datagrams ended.fault))
     l.yielded l.threads.items

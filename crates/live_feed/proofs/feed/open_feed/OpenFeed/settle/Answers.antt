@@ -22,4 +22,4 @@ returns-in-Ok-room_for-clause-settled g c =
     let many = ap length c.as_slice-4.ensures.value in
     let first = counts.0 in
     let second = counts.1 in
-    settlement g.G.Genuine.sessions g.G.Genuine.carries g.G.Genuine.ends g.N.FeedName.lanes c.args.seats.items cells c.in-Ok.unlocked.hub.core logs c.closed.result c.closed.ensures agree (omega arith) (omega arith)
+    settlement g.G.Genuine g.N.FeedName.lanes c.args.seats.items cells c.in-Ok.unlocked.hub.core logs c.closed.result c.closed.ensures agree (omega arith) (omega arith)

@@ -1,7 +1,7 @@
 use Rattle.std.proofs.Common.{◌<◌, ℕ, List, Ok, Err, Some, None, sym, subst, arith}
 use Rattle.std.specs.Prelude.{slice_set}
 use Rattle.feed_types.specs.declared.item.Numbered.{Numbered}
-use Rattle.feed_types.specs.Sequence.{IsInSequence}
+use Rattle.live_feed.specs.Premises.{AreInSequence}
 use Rattle.live_feed.proofs.HubMoves.{at_index}
 use Rattle.feed_types.specs.ListLaws.{get_within}
 use Rattle.live_feed.specs.hub.Hubs.{HubState}
@@ -11,7 +11,7 @@ use Rattle.live_feed.proofs.hub.journal_and_lanes.JournalAndLanes.consume.Goals 
 
 pub returns-in-Err-clause-consume : goal.returns-in-Err-clause-consume
 returns-in-Err-clause-consume g c =
-    let may : ℕ → List Numbered → Type 0 = λ venue items. IsInSequence g.G.Genuine.carries g.G.Genuine.ends venue items in
+    let may : ℕ → List Numbered → Type 0 = λ venue items. AreInSequence g.G.Genuine venue items in
     let known = subst (λ (s : HubState). c.args.venue < s.journal.venues) (sym c.self.view_is) c.requires in
     let count = c.self.invariant.venues in
     let there = get_within c.self.inside.from_venues.items c.args.venue (omega arith) in
@@ -24,9 +24,9 @@ invariant_of-self-in_default g c =
     let count = c.self.invariant.venues in
     let index = c.index.ensures.value in
     let at = at_index c.self.inside.from_venues.items c.index.result c.args.venue c.index_mut-receiver.result.now index (omega arith) c.index_mut-receiver.ensures.value in
-    let may : ℕ → List Numbered → Type 0 = λ venue items. IsInSequence g.G.Genuine.carries g.G.Genuine.ends venue items in
+    let may : ℕ → List Numbered → Type 0 = λ venue items. AreInSequence g.G.Genuine venue items in
     rw index (consume_none_kept may c.args.venue _ c.index_mut-receiver.result.now at c.reserve_one.new.self c.pop.new.self c.in-Ok.ensures.0 c.in-Ok.ensures.1
-    g.G.Genuine.carries g.G.Genuine.ends g.N.FeedName.lanes c.self.invariant c.in_default.ensures.popped.0)
+    g.G.Genuine g.N.FeedName.lanes c.self.invariant c.in_default.ensures.popped.0)
 
 pub returns-in_default-clause-consume : goal.returns-in_default-clause-consume
 returns-in_default-clause-consume g c =
@@ -34,7 +34,7 @@ returns-in_default-clause-consume g c =
     let count = c.self.invariant.venues in
     let index = c.index.ensures.value in
     let at = at_index c.self.inside.from_venues.items c.index.result c.args.venue c.index_mut-receiver.result.now index (omega arith) c.index_mut-receiver.ensures.value in
-    let may : ℕ → List Numbered → Type 0 = λ venue items. IsInSequence g.G.Genuine.carries g.G.Genuine.ends venue items in
+    let may : ℕ → List Numbered → Type 0 = λ venue items. AreInSequence g.G.Genuine venue items in
     subst (λ (x : HubState × ℕ). ConsumesOne may c.args.venue (Ok None) x.0 (record { journal = c.reserve_one.new.self; receivers = slice_set c.self.inside.from_venues.items x.1 c.pop.new.self; senders = c.self.inside.to_subscribers.items; spare = c.self.inside.spare_lanes.items }))
     (λ i. (c.self.view_is i, sym index i))
     (consume_none may c.args.venue _ c.index_mut-receiver.result.now at c.reserve_one.new.self c.pop.new.self c.in-Ok.ensures.0 c.in-Ok.ensures.1 c.in_default.ensures.popped.0 c.in_default.ensures.popped.1)
@@ -45,9 +45,9 @@ invariant_of-self-2 g c =
     let count = c.self.invariant.venues in
     let index = c.index.ensures.value in
     let at = at_index c.self.inside.from_venues.items c.index.result c.args.venue c.index_mut-receiver.result.now index (omega arith) c.index_mut-receiver.ensures.value in
-    let may : ℕ → List Numbered → Type 0 = λ venue items. IsInSequence g.G.Genuine.carries g.G.Genuine.ends venue items in
+    let may : ℕ → List Numbered → Type 0 = λ venue items. AreInSequence g.G.Genuine venue items in
     rw index (consume_one_kept may c.args.venue _ c.index_mut-receiver.result.now at c.reserve_one.new.self c.pop.new.self c.in-Ok.ensures.0 c.in-Ok.ensures.1 c.in-Some.numbered c.record.new.self c.record.result c.in-Some.ensures.popped c.record.ensures.journals
-    g.G.Genuine.carries g.G.Genuine.ends g.N.FeedName.lanes c.self.invariant c.in-Some.ensures.rule)
+    g.G.Genuine g.N.FeedName.lanes c.self.invariant c.in-Some.ensures.rule)
 
 pub returns-clause-consume : goal.returns-clause-consume
 returns-clause-consume g c =
@@ -55,7 +55,7 @@ returns-clause-consume g c =
     let count = c.self.invariant.venues in
     let index = c.index.ensures.value in
     let at = at_index c.self.inside.from_venues.items c.index.result c.args.venue c.index_mut-receiver.result.now index (omega arith) c.index_mut-receiver.ensures.value in
-    let may : ℕ → List Numbered → Type 0 = λ venue items. IsInSequence g.G.Genuine.carries g.G.Genuine.ends venue items in
+    let may : ℕ → List Numbered → Type 0 = λ venue items. AreInSequence g.G.Genuine venue items in
     subst (λ (x : HubState × ℕ). ConsumesOne may c.args.venue (Ok (Some c.record.result)) x.0 (record { journal = c.record.new.self; receivers = slice_set c.self.inside.from_venues.items x.1 c.pop.new.self; senders = c.self.inside.to_subscribers.items; spare = c.self.inside.spare_lanes.items }))
     (λ i. (c.self.view_is i, sym index i))
     (consume_one may c.args.venue _ c.index_mut-receiver.result.now at c.reserve_one.new.self c.pop.new.self c.in-Ok.ensures.0 c.in-Ok.ensures.1 c.in-Some.numbered c.record.new.self c.record.result c.in-Some.ensures.popped c.record.ensures.journals c.record.ensures.position)

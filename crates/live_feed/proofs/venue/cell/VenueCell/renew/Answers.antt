@@ -11,7 +11,7 @@ invariant_of-self g c =
     let e = c.in-Ok.ensures in
     let named = subst (λ (v : CellState). g.G.Genuine.sessions v.arbiter.venue (ordinal_of v.arbiter + 1) c.args.session) (sym c.self.view_is) c.requires in
     renewed_kept _ _ k.history c.args.session k.fits e.ok e.fits (e.complete k.history.present.packets k.fits.history.present) refl refl
-    g.G.Genuine.sessions g.G.Genuine.carries g.G.Genuine.ends g.N.FeedName.lanes k refl named
+    g.G.Genuine g.N.FeedName.lanes k refl named
 
 pub returns-in-Ok-clause-renew : goal.returns-in-Ok-clause-renew
 returns-in-Ok-clause-renew g c = λ h fits.

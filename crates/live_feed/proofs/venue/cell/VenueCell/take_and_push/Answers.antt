@@ -1,10 +1,9 @@
 use Rattle.std.proofs.Common.{◌≡◌, ℕ, ◌+◌, ◌++◌, ◌∷◌, [], Ok, sym, ap, subst, ◌∙◌}
 use Rattle.feed_types.specs.declared.line.LineId.{LineId}
-use Rattle.feed_types.specs.Sequence.{IsInSequence}
 use Rattle.feed_types.specs.declared.item.Numbered.{Numbered}
 use Rattle.fifo_lane.specs.Lane.{LaneEnd}
-use Rattle.line_arbiter.specs.Genuine.{IsGenuine}
 use Rattle.line_arbiter.specs.declared.outcome.Outcome.TheVariants.{Taken}
+use Rattle.live_feed.specs.Premises.{AreInSequence, IsGenuinePacket}
 use Rattle.live_feed.specs.venue.Cells.{CellState, FitsCell}
 use Rattle.live_feed.specs.venue.Sections.{IsAnsweredBy, TakesAndPushes}
 use Rattle.live_feed.proofs.CellMoves.{answered, brings_next, first_number, given_after, may_pass, more_kept, pass_fits, pass_takes, passes, sent_one, taken_one}
@@ -16,12 +15,12 @@ pub push-requires : goal.push-requires
 push-requires g c =
     let k = c.self.invariant in
     let venue = c.requires.venue ∙ ap (λ (v : CellState). v.arbiter.venue) (sym c.self.view_is) in
-    let genuine = subst (λ (n : ℕ). IsGenuine g.G.Genuine.sessions g.G.Genuine.carries g.G.Genuine.ends n c.args.packet.now) venue c.requires.genuine in
+    let genuine = subst (λ (n : ℕ). IsGenuinePacket g.G.Genuine n c.args.packet.now) venue c.requires.genuine in
     let line = c.args.seat.now.line in
     let brings = brings_next c.self.inside.lines k.history.present.packets c.args.packet.now c.in_ok-order.order c.in-Next.last c.in-Next.is c.in_ok-next.next c.in_ok-next.ensures.item line (c.in_ok-order.ensures.brings k.history.present.packets line k.fits.history.present) in
-    let given = given_after g.G.Genuine.sessions g.G.Genuine.carries g.G.Genuine.ends g.N.FeedName.lanes _ line c.args.packet.now (Ok (Taken 1 0)) k c.in_ok-order.ensures.content brings.answer genuine in
-    subst (λ (t : ℕ). IsInSequence g.G.Genuine.carries g.G.Genuine.ends t (c.self.inside.items.items ++ c.in_ok-next.next ∷ [])) (sym k.tag)
-    (may_pass _ k.history line c.args.packet.now c.in_ok-next.next k.fits brings g.G.Genuine.carries g.G.Genuine.ends c.self.inside.lines.venue c.self.inside.lines.window given)
+    let given = given_after g.G.Genuine g.N.FeedName.lanes _ line c.args.packet.now (Ok (Taken 1 0)) k c.in_ok-order.ensures.content brings.answer genuine in
+    subst (λ (t : ℕ). AreInSequence g.G.Genuine t (c.self.inside.items.items ++ c.in_ok-next.next ∷ [])) (sym k.tag)
+    (may_pass _ k.history line c.args.packet.now c.in_ok-next.next k.fits brings g.G.Genuine c.self.inside.lines.venue c.self.inside.lines.window given)
 
 module _ (g : Over) (c : After-count g) where
   abbrev new : CellState
@@ -39,10 +38,10 @@ invariant_of-self-2 g c =
     let e = c.take_in_order-outcome.ensures in
     let packets = k.history.present.packets in
     let venue = c.requires.venue ∙ ap (λ (v : CellState). v.arbiter.venue) (sym c.self.view_is) in
-    let genuine = subst (λ (n : ℕ). IsGenuine g.G.Genuine.sessions g.G.Genuine.carries g.G.Genuine.ends n c.args.packet.now) venue c.requires.genuine in
+    let genuine = subst (λ (n : ℕ). IsGenuinePacket g.G.Genuine n c.args.packet.now) venue c.requires.genuine in
     let line = c.line-line.result in
     let brings = brings_next c.self.inside.lines packets c.args.packet.now c.in_ok-order.order c.in-Next.last c.in-Next.is c.in_ok-next.next c.in_ok-next.ensures.item line (c.in_ok-order.ensures.brings packets line k.fits.history.present) in
-    more_kept g.G.Genuine.sessions g.G.Genuine.carries g.G.Genuine.ends g.N.FeedName.lanes _ (new g c) line c.args.packet.now (Ok (Taken 1 0)) k e.kept (ap (λ (e : LaneEnd Numbered). e.tag) c.in-Ok.ensures) (ap (λ (e : LaneEnd Numbered). e.lane) c.in-Ok.ensures) (ap (λ (e : LaneEnd Numbered). e.capacity) c.in-Ok.ensures)
+    more_kept g.G.Genuine g.N.FeedName.lanes _ (new g c) line c.args.packet.now (Ok (Taken 1 0)) k e.kept (ap (λ (e : LaneEnd Numbered). e.tag) c.in-Ok.ensures) (ap (λ (e : LaneEnd Numbered). e.lane) c.in-Ok.ensures) (ap (λ (e : LaneEnd Numbered). e.capacity) c.in-Ok.ensures)
     (pass_fits _ k.history line c.args.packet.now c.in_ok-next.next k.fits brings (new g c) c.take_in_order-outcome.result (answer g c) c.in-Ok.ensures (sent g c) e.kept (e.fits packets k.fits.history.present) c.add.ensures)
     c.in_ok-order.ensures.content brings.answer genuine
 
@@ -64,6 +63,6 @@ returns-clause-answered g c =
     let venue = c.requires.venue ∙ ap (λ (v : CellState). v.arbiter.venue) (sym c.self.view_is) in
     let line = c.line-line.result in
     let brings = brings_next c.self.inside.lines packets c.args.packet.now c.in_ok-order.order c.in-Next.last c.in-Next.is c.in_ok-next.next c.in_ok-next.ensures.item line (c.in_ok-order.ensures.brings packets line k.fits.history.present) in
-    subst (λ (l : LineId). IsAnsweredBy g.G.Genuine.sessions g.G.Genuine.carries g.G.Genuine.ends g.N.FeedName.lanes c.args.seat.now.venue l c.args.packet.now (Ok c.take_in_order-outcome.result)) c.line-line.ensures
-    (answered _ _ _ _ _ (new g c) _ line c.args.packet.now (Ok c.take_in_order-outcome.result) k (sym venue)
+    subst (λ (l : LineId). IsAnsweredBy g.G.Genuine g.N.FeedName.lanes c.args.seat.now.venue l c.args.packet.now (Ok c.take_in_order-outcome.result)) c.line-line.ensures
+    (answered _ _ _ (new g c) _ line c.args.packet.now (Ok c.take_in_order-outcome.result) k (sym venue)
     (pass_takes _ k.history line c.args.packet.now c.in_ok-next.next k.fits brings (new g c) c.take_in_order-outcome.result (answer g c) c.in-Ok.ensures (sent g c) e.kept (e.fits packets k.fits.history.present) c.add.ensures))
