@@ -32,8 +32,8 @@ use Rattle.feed_types.specs.declared.genuine.Genuine.{Ghosts as Genuine}
 use Rattle.live_feed.specs.Premises.{AreInSequence, IsGenuinePacket}
 use Rattle.live_feed.specs.Lanes.{FeedLanes}
 use Rattle.live_feed.specs.venue.Sums.{Sums, no_sums, sums_after, accepted_on, sums_on, line_sums_after, LineSums}
-use Rattle.live_feed.specs.venue.Cells.{CellState, FitsCell, AreGivenFrom, VenueLockInvariant, arrivals_of, new_cell}
-use Rattle.live_feed.specs.venue.Sections.{TakesPacket, IsAnsweredBy, IsFlushedBy, HasNoneReady, KeepsButSent, Pushes, TakesAndPushes, PushesOne, RenewsSession}
+use Rattle.live_feed.specs.venue.Cells.{CellState, FitsCell, AreGivenFrom, VenueLockInvariant, DoneAtVenue, arrivals_of, new_cell}
+use Rattle.live_feed.specs.venue.Sections.{TakesPacket, HasNoneReady, KeepsButSent, Pushes, TakesAndPushes, PushesOne, RenewsSession}
 use Rattle.feed_core.specs.declared.event.Done.TheVariants as done
 use Rattle.feed_core.specs.Steps.{AppliesTo, push_next}
 use Rattle.line_arbiter.specs.Renewals.{IsRenewal}
@@ -94,10 +94,6 @@ module _ (old new : CellState) (h : History) (line : LineId) (p : Content) (answ
 
   pub takes : IsOutcome old.arbiter.session old.arbiter.window old.arbiter.sent h.present.packets p answer → TakesPacket line p answer h old new
   takes o = record { after = after_arrival h a; taken = record { right = right_at o; is = refl }; fits = packet_fits }
-
-pub answered : {S : Type 0} (premise : Genuine S) (lanes : FeedLanes) (old new : CellState) (venue : ℕ) (line : LineId) (p : Content) (answer : Result Outcome LineFault) (k : VenueLockInvariant premise lanes old)
-    → old.arbiter.venue ≡ venue → TakesPacket line p answer k.history old new → IsAnsweredBy premise lanes venue line p answer
-answered premise lanes old new venue line p answer k venue_is takes = record { old = old; kept = k; venue_is = venue_is; new = new; takes = takes }
 
 -- what was given, with one more packet
 pub given_after : {S : Type 0} (premise : Genuine S) (lanes : FeedLanes) (old : CellState) (line : LineId) (p : Content) (answer : Result Outcome LineFault) (k : VenueLockInvariant premise lanes old) → IsContent p
@@ -489,19 +485,23 @@ module _ (pushed : ℕ) (old between new : CellState) (r : PushesSoFar pushed ol
           inl (p.was_full (was_refused between.lane.items new.lane.items p.full
           (slice_get (streams_of k.history) (length between.lane.items)) p.comes))
 
--- nothing was pushed, where the lock was another venue's
-pub not_flushed : {S : Type 0} (premise : Genuine S) (lanes : FeedLanes)
-    (venue most pushed : ℕ) (cell : CellState) → VenueLockInvariant premise lanes cell
-    → cell.arbiter.venue ≢ venue → pushed ≡ 0
-    → IsFlushedBy premise lanes venue most pushed
-not_flushed premise lanes venue most pushed cell kept other none =
-    inr (record { cell = cell; kept = kept; other = other }, none)
+-- ---- a section under a venue's lock
 
--- what was pushed under a venue's lock
-pub flushed : {S : Type 0} (premise : Genuine S) (lanes : FeedLanes)
-    (venue most pushed : ℕ) (old new : CellState) → VenueLockInvariant premise lanes old
-    → old.arbiter.venue ≡ venue → VenueLockInvariant premise lanes new
-    → Pushes (AreInSequence premise) most pushed old new
-    → IsFlushedBy premise lanes venue most pushed
-flushed premise lanes venue most pushed old new kept is keeps leads =
-    inl (record { old = old; kept = kept; venue_is = is; new = new; keeps = keeps; leads = leads })
+module _ {S : Type 0} (premise : Genuine S) (lanes : FeedLanes) (venue : ℕ)
+    (section : CellState → CellState → Type 0) (answer : Type 0) where
+  -- what was done under it
+  pub at_venue : (old new : CellState) → VenueLockInvariant premise lanes old
+      → old.arbiter.venue ≡ venue → VenueLockInvariant premise lanes new → section old new
+      → DoneAtVenue premise lanes venue section answer
+  at_venue old new kept is keeps leads =
+      inl (record { old = old; kept = kept; venue_is = is; new = new; keeps = keeps; leads = leads })
+
+  -- it was another venue's
+  pub at_another : (cell : CellState) → VenueLockInvariant premise lanes cell
+      → cell.arbiter.venue ≢ venue → answer → DoneAtVenue premise lanes venue section answer
+  at_another cell kept other is =
+      inr (inr (record { cell = cell; kept = kept; other = other }), is)
+
+  -- there was none
+  pub at_none : length lanes.venues ≤ venue → answer → DoneAtVenue premise lanes venue section answer
+  at_none none is = inr (inl none, is)

@@ -1,5 +1,5 @@
 -- What a venue's lock guards.
-use Rattle.std.specs.Prelude.{◌≡◌, ◌≢◌, ℕ, ◌+◌, List, [], ◌∷◌, ◌++◌, take, flat_map, Some, None, slice_get}
+use Rattle.std.specs.Prelude.{◌≡◌, ◌≢◌, ◌⊎◌, ℕ, ◌+◌, ◌≤◌, List, [], ◌∷◌, ◌++◌, take, flat_map, length, Some, None, slice_get}
 use Rattle.std.specs.List.{AllByRecursion}
 use Rattle.feed_types.specs.declared.item.Numbered.{Numbered}
 use Rattle.feed_types.specs.declared.line.LineId.{LineId}
@@ -95,3 +95,14 @@ pub record IsOthersLock {S : Type 0} (premise : Genuine S)
   pub cell : CellState
   pub kept : VenueLockInvariant premise lanes cell
   pub other : cell.arbiter.venue ≢ venue
+
+-- The call met no lock of this venue: the feed has no such venue, or the lock was another's.
+abbrev pub MeetsNoLock : {S : Type 0} → Genuine S → FeedLanes → ℕ → Type 0
+MeetsNoLock premise lanes venue =
+    (length lanes.venues ≤ venue) ⊎ IsOthersLock premise lanes venue
+
+-- The section was done under the venue's lock; or the call met none, and the answer is this.
+abbrev pub DoneAtVenue : {S : Type 0} → Genuine S → FeedLanes → ℕ
+    → (CellState → CellState → Type 0) → Type 0 → Type 0
+DoneAtVenue premise lanes venue section answer =
+    UnderVenueLock premise lanes venue section ⊎ (MeetsNoLock premise lanes venue × answer)

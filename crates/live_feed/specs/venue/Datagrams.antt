@@ -8,14 +8,15 @@ use Rattle.line_arbiter.specs.declared.outcome.LineFault.{LineFault}
 use Rattle.line_arbiter.specs.declared.outcome.LineFault.TheVariants.{OtherSession}
 use Rattle.line_arbiter.specs.OfSession.{IsOfSession}
 use Rattle.feed_types.specs.declared.genuine.Genuine.{Ghosts as Genuine}
-use Rattle.live_feed.specs.Premises.{BringExactly, IsGenuinePacket}
+use Rattle.live_feed.specs.Premises.{AreInSequence, BringExactly, IsGenuinePacket}
 use Rattle.live_feed.specs.declared.venue.datagram.Datagram.{Datagram}
 use Rattle.live_feed.specs.declared.run.source.SourceFault.{SourceFault}
 use Rattle.live_feed.specs.declared.faults.TakeFault.{TakeFault}
 use Rattle.live_feed.specs.declared.faults.TakeFault.TheVariants as faults
 use Rattle.live_feed.specs.Lanes.{FeedLanes}
+use Rattle.live_feed.specs.venue.Cells.{DoneAtVenue}
 use Rattle.live_feed.specs.venue.Seats.{SeatState, seat_after, seat_refusing}
-use Rattle.live_feed.specs.venue.Sections.{IsAnsweredBy}
+use Rattle.live_feed.specs.venue.Sections.{PushesReady, TakesAndPushesReady}
 
 abbrev pub bytes_of : Datagram → List ℕ
 bytes_of datagram = datagram.all.items
@@ -31,13 +32,13 @@ abbrev pub AreGenuineBytes : {S : Type 0} → Genuine S → ℕ → List ℕ →
 AreGenuineBytes premise venue bytes =
     (p : Content) (rest : List ℕ) → Spells bytes p rest → IsGenuinePacket premise venue p
 
--- A packet's answer: one that a cell of the seat's venue gives; or OtherSession, where the lock was
--- another venue's, which no run meets.
+-- A packet's answer: one that a cell of the seat's venue gives, which then pushes what is ready; or
+-- OtherSession, where the call met no lock of that venue.
 abbrev pub IsAnsweredAt : {S : Type 0} → Genuine S → FeedLanes → SeatState → Content
     → Result Outcome LineFault → Type 0
 IsAnsweredAt premise lanes seat p answer =
-    IsAnsweredBy premise lanes seat.venue seat.line p answer
-    ⊎ (answer ≡ Err OtherSession)
+    DoneAtVenue premise lanes seat.venue
+    (TakesAndPushesReady (AreInSequence premise) seat.line p answer) (answer ≡ Err OtherSession)
 
 -- The bytes are a packet, to which this is the venue's answer; the seat counts it where it is
 -- accepted.
@@ -51,11 +52,13 @@ pub record IsPacketTaken {S : Type 0} (premise : Genuine S)
   pub seat : new ≡ seat_after old packet answer
 
 -- The answer to a datagram, and the seat then: the packet's fault exactly; or it is a packet, and
--- the answer is the venue's. What is refused is counted as such, and changes nothing else.
+-- the answer is the venue's. What is ready then is pushed in each case. What is refused is counted
+-- as such, and changes nothing else.
 abbrev pub IsTakenBy : {S : Type 0} → Genuine S → FeedLanes → List ℕ → SeatState
     → Result Outcome TakeFault → SeatState → Type 0
 IsTakenBy premise lanes bytes old (Err (faults.Packet fault)) new =
     HasFault bytes fault × (new ≡ seat_refusing (faults.Packet fault) old)
+    × PushesReady premise lanes old.venue
 IsTakenBy premise lanes bytes old (Err (faults.Line fault)) new =
     IsPacketTaken premise lanes bytes old (Err fault) old
     × (new ≡ seat_refusing (faults.Line fault) old)

@@ -1,5 +1,5 @@
 -- What a venue's status shows.
-use Rattle.std.specs.Prelude.{◌≡◌, ◌≢◌, ◌⊎◌, ℕ, ◌≤◌, List, length, Result, Ok, Err}
+use Rattle.std.specs.Prelude.{◌≡◌, ℕ, length, Result, Ok, Err}
 use Rattle.feed_types.specs.declared.line.LineId.{LineId}
 use Rattle.feed_types.specs.declared.line.LineId.TheVariants.{A, B, Recovery}
 use Rattle.line_arbiter.specs.Counts.{shown}
@@ -13,7 +13,7 @@ use Rattle.live_feed.specs.declared.venue.status.LineStatus.{LineStatus}
 use Rattle.live_feed.specs.declared.venue.status.VenueStatus.{VenueStatus}
 use Rattle.live_feed.specs.Lanes.{FeedLanes}
 use Rattle.live_feed.specs.venue.Sums.{accepted_on, sums_list}
-use Rattle.live_feed.specs.venue.Cells.{CellState, VenueLockInvariant, arrivals_of}
+use Rattle.live_feed.specs.venue.Cells.{CellState, MeetsNoLock, VenueLockInvariant, arrivals_of}
 
 abbrev pub status_on : LineId → VenueStatus → LineStatus
 status_on A status = status.a
@@ -45,19 +45,12 @@ pub record ShowsUnderLock {S : Type 0} (premise : Genuine S)
   pub sent : status.cursors.sent ≡ cell.arbiter.sent
   pub shows : ShowsHistory lanes.setting.window kept.history status
 
--- The lock was another venue's, which no run meets.
-pub record LocksAnother {S : Type 0} (premise : Genuine S)
-    (lanes : FeedLanes) (venue : ℕ) : Type 0 where
-  pub cell : CellState
-  pub kept : VenueLockInvariant premise lanes cell
-  pub other : cell.arbiter.venue ≢ venue
-
 -- The answer to who asks for a venue's status, by cases.
 abbrev pub IsStatusOf : {S : Type 0} → Genuine S → FeedLanes → ℕ
     → Result VenueStatus FeedFault → Type 0
 IsStatusOf premise lanes venue (Ok status) =
     ShowsUnderLock premise lanes venue status
 IsStatusOf premise lanes venue (Err UnknownVenue) =
-    (length lanes.venues ≤ venue) ⊎ LocksAnother premise lanes venue
+    MeetsNoLock premise lanes venue
 IsStatusOf premise lanes venue (Err UnknownSubscriber) = ⊥
 IsStatusOf premise lanes venue (Err SeatTaken) = ⊥

@@ -8,7 +8,7 @@ ghost use Rattle.live_feed.specs.hub.Sections.{Consumes, DeclaresAt};
 ghost use Rattle.live_feed.specs.hub.Batches.{ConsumesBatch};
 ghost use Rattle.live_feed.specs.hub.Offers.{LacksSubscriber, Offers};
 ghost use Rattle.live_feed.specs.hub.Turns.{TakesTurn};
-ghost use Rattle.live_feed.specs.venue.Sections.{IsFlushedBy};
+ghost use Rattle.live_feed.specs.venue.Sections.{IsDueAt, IsFlushedBy, IsRenewedBy};
 ghost use Rattle.live_feed.specs.venue.Seats.{GivesSeat, new_seat};
 ghost use Rattle.live_feed.specs.venue.Datagrams.{AreGenuineBytes, AcceptsTheirs, IsTakenBy, bytes_of};
 
@@ -20,6 +20,7 @@ use crate::hub::cell::HubCell;
 use crate::hub::turn::{Consolidated, take_turn};
 use crate::subscriber::Subscriber;
 use crate::subscriber::log::SubscriberLog;
+use crate::venue::calls::renew_in;
 use crate::venue::cell::VenueCell;
 use crate::venue::datagram::Datagram;
 use crate::venue::locks::VenueLocks;
@@ -136,6 +137,7 @@ impl<G: Genuine, N: FeedName> OpenFeed<G, N> {
         now_ms: u64,
     ) -> Result<Option<Request>, FeedFault>
         ensures unknown { IsErrOf result FeedFault.UnknownVenue ↔ (length N.lanes.venues ≤ venue) }
+        ensures due { IfOk result (IsDueAt G.Genuine N.lanes venue now_ms) }
     {
         if venue.index() >= self.venues.len() {
             return Err(FeedFault::UnknownVenue);
@@ -154,20 +156,14 @@ impl<G: Genuine, N: FeedName> OpenFeed<G, N> {
     ) -> Result<u64, RenewalFault>
         requires { G.sessions venue ordinal session }
         ensures ordinal { IfOk result (λ begun. begun ≡ ordinal) }
+        ensures renewed { IsRenewedBy G.Genuine N.lanes venue ordinal session result }
         ensures unknown { IsErrOf result RenewalFault.UnknownVenue
             ↔ (length N.lanes.venues ≤ venue) }
     {
         let Some(lock) = self.venues.get(venue) else {
             return Err(RenewalFault::UnknownVenue);
         };
-        let mut guarded = lock.lock(rt);
-        if guarded.cell.venue() != venue || guarded.cell.ordinal() + 1 != ordinal {
-            return Err(RenewalFault::WrongOrdinal);
-        }
-        match guarded.cell.renew(session) {
-            Ok(begun) => Ok(begun),
-            Err(fault) => Err(RenewalFault::Venue(fault)),
-        }
+        renew_in(&mut lock.lock(rt).cell, venue, ordinal, session)
     }
 
     /// Journals the next item of the venue's lane, and returns its position; None where the lane

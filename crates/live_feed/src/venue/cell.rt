@@ -5,8 +5,6 @@ ghost use Rattle.feed_types.specs.declared.item.Numbered.{Numbered};
 ghost use Rattle.feed_types.specs.Sessions.{numbered_from};
 ghost use Rattle.quote_payload.specs.Payload.{item_of};
 ghost use Rattle.line_arbiter.specs.Histories.{History};
-ghost use Rattle.line_arbiter.specs.Streams.{gap_of};
-ghost use Rattle.line_arbiter.specs.Pacing.{IsPaced};
 ghost use Rattle.line_arbiter.specs.Fits.{Fits};
 ghost use Rattle.line_arbiter.specs.States.{IsNew, ordinal_of};
 ghost use Rattle.line_arbiter.specs.Counts.{count_on};
@@ -14,7 +12,7 @@ ghost use Rattle.live_feed.specs.Premises.{IsGenuinePacket};
 ghost use Rattle.live_feed.specs.venue.Seats.{seat_after};
 ghost use Rattle.live_feed.specs.venue.Sums.{sums_on};
 ghost use Rattle.live_feed.specs.venue.Cells.{FitsCell, VenueLockInvariant, new_cell};
-ghost use Rattle.live_feed.specs.venue.Sections.{TakesPacket, IsAnsweredBy, AcceptsTheirPacket, KeepsButPackets, TakesAndPushes, KeepsButPushed, IsLeft, PushesOne, KeepsButSent, RenewsSession, BeginsNext};
+ghost use Rattle.live_feed.specs.venue.Sections.{TakesPacket, AcceptsTheirPacket, KeepsButPackets, TakesAndPushes, KeepsButPushed, IsLeft, PushesOne, KeepsButSent, RenewsSession, BeginsNext, RequestsGap};
 
 use crate::feed_name::FeedName;
 use crate::unsent::Unsent;
@@ -193,9 +191,6 @@ impl<G: Genuine, N: FeedName> VenueCell<G, N> {
         ensures kept { KeepsButPackets self.old self.new }
         ensures seat { seat.new ≡ seat_after seat.old packet.now result }
 
-        ensures answered { IsAnsweredBy G.Genuine N.lanes seat.old.venue
-            seat.old.line packet.now result }
-
         // Where it is known which sessions the lines bring, a packet of one of them is refused only
         // where it isn't of the present one.
         ensures accepts { AcceptsTheirPacket G.Genuine seat.old.venue packet.now
@@ -231,8 +226,6 @@ impl<G: Genuine, N: FeedName> VenueCell<G, N> {
         ensures kept { IfSome result (λ _. KeepsButPushed self.old self.new) }
         ensures seat { IfSome result (λ outcome. seat.new
             ≡ seat_after seat.old packet.now (Ok outcome)) }
-        ensures answered { IfSome result (λ outcome. IsAnsweredBy G.Genuine
-            N.lanes seat.old.venue seat.old.line packet.now (Ok outcome)) }
         ensures left { IfNone result
             (IsLeft ⟦<VenueItems<G> as LaneRule<Numbered>>⟧.may_send packet.now self.old) }
         ensures none { IfNone result ((self.new ≡ self.old) × (seat.new ≡ seat.old)) }
@@ -302,10 +295,7 @@ impl<G: Genuine, N: FeedName> VenueCell<G, N> {
 
     /// Returns the request for the gap to send now, if any: see [`Pacer::due`].
     pub fn due(&mut self, now_ms: u64) -> Option<Request>
-        ensures due { (h : History) → FitsCell self.old h
-            → IsPaced self.old.pace (gap_of self.old.arbiter.session self.old.arbiter.window
-            self.old.arbiter.sent h.present.packets) now_ms result self.new.pace }
-        ensures kept { self.new ≡ record self.old { pace = self.new.pace } }
+        ensures { RequestsGap now_ms result self.old self.new }
     {
         let gap = self.lines.gap();
         self.pacer.due(gap, now_ms)

@@ -5,8 +5,8 @@ use Rattle.fifo_lane.specs.Lane.{LaneEnd}
 use Rattle.line_arbiter.specs.declared.outcome.Outcome.TheVariants.{Taken}
 use Rattle.live_feed.specs.Premises.{AreInSequence, IsGenuinePacket}
 use Rattle.live_feed.specs.venue.Cells.{CellState, FitsCell}
-use Rattle.live_feed.specs.venue.Sections.{IsAnsweredBy, TakesAndPushes}
-use Rattle.live_feed.proofs.CellMoves.{answered, brings_next, first_number, given_after, may_pass, more_kept, pass_fits, pass_takes, passes, sent_one, taken_one}
+use Rattle.live_feed.specs.venue.Sections.{TakesAndPushes}
+use Rattle.live_feed.proofs.CellMoves.{brings_next, first_number, given_after, may_pass, more_kept, pass_fits, passes, sent_one, taken_one}
 use Rattle.live_feed.proofs.venue.cell.VenueCell.take_and_push.Given.{Over}
 use Rattle.live_feed.proofs.venue.cell.VenueCell.take_and_push.Goals as goal
 use Rattle.live_feed.proofs.venue.cell.VenueCell.take_and_push.Goals.{After-count}
@@ -54,15 +54,3 @@ returns-clause-packet g c = λ h fits.
     let brings = brings_next c.self.inside.lines packets c.args.packet.now c.in_ok-order.order c.in-Next.last c.in-Next.is c.in_ok-next.next c.in_ok-next.ensures.item line (c.in_ok-order.ensures.brings packets line f.history.present) in
     subst (λ (x : LineId × CellState). TakesAndPushes x.0 c.args.packet.now c.take_in_order-outcome.result h x.1 (new g c)) (λ i. (c.line-line.ensures i, c.self.view_is i))
     (passes _ h line c.args.packet.now c.in_ok-next.next f brings (new g c) c.take_in_order-outcome.result (answer g c) c.in-Ok.ensures (sent g c) e.kept (e.fits packets f.history.present) c.add.ensures (first_number _ _ _ c.in_ok-next.ensures.item))
-
-pub returns-clause-answered : goal.returns-clause-answered
-returns-clause-answered g c =
-    let k = c.self.invariant in
-    let e = c.take_in_order-outcome.ensures in
-    let packets = k.history.present.packets in
-    let venue = c.requires.venue ∙ ap (λ (v : CellState). v.arbiter.venue) (sym c.self.view_is) in
-    let line = c.line-line.result in
-    let brings = brings_next c.self.inside.lines packets c.args.packet.now c.in_ok-order.order c.in-Next.last c.in-Next.is c.in_ok-next.next c.in_ok-next.ensures.item line (c.in_ok-order.ensures.brings packets line k.fits.history.present) in
-    subst (λ (l : LineId). IsAnsweredBy g.G.Genuine g.N.FeedName.lanes c.args.seat.now.venue l c.args.packet.now (Ok c.take_in_order-outcome.result)) c.line-line.ensures
-    (answered _ _ _ (new g c) _ line c.args.packet.now (Ok c.take_in_order-outcome.result) k (sym venue)
-    (pass_takes _ k.history line c.args.packet.now c.in_ok-next.next k.fits brings (new g c) c.take_in_order-outcome.result (answer g c) c.in-Ok.ensures (sent g c) e.kept (e.fits packets k.fits.history.present) c.add.ensures))
