@@ -29,7 +29,6 @@ mod feed;
 mod feed_name;
 mod hub;
 mod laws;
-mod places;
 mod run;
 mod settle;
 mod subscriber;

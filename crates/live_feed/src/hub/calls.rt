@@ -8,7 +8,6 @@ ghost use Rattle.live_feed.specs.hub.Offers.{LacksSubscriber, Offers, OffersAll}
 use crate::bells::Bells;
 use crate::feed_name::FeedName;
 use crate::hub::cell::HubCell;
-use crate::places::subscriber_at;
 use crate::unsent::Unsent;
 use feed_types::{Genuine, Numbered, SubscriberId, VenueId};
 use fifo_lane::{LaneRule, VenueItems};
@@ -107,7 +106,7 @@ pub(crate) fn offer_each<G: Genuine, N: FeedName, W: Wait>(
 {
     let mut offered: u64 = 0;
     for place in 0..hub.core.subscriber_count() {
-        let id = subscriber_at(place);
+        let id = SubscriberId::at(place);
         let Some(pushed) = offer_some(rt, hub, bells, id) else {
             unreachable!()
         };

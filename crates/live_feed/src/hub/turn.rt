@@ -7,7 +7,6 @@ use crate::bells::Bells;
 use crate::feed_name::FeedName;
 use crate::hub::calls::{consume_some, offer_each};
 use crate::hub::cell::HubCell;
-use crate::places::venue_at;
 use feed_types::{Genuine, VenueId};
 use journal_book::JournalFault;
 use std::sync::Wait;
@@ -54,9 +53,9 @@ fn venue_after(first: usize, step: usize, venues: usize) -> VenueId
 {
     let place = first + step;
     if place < venues {
-        venue_at(place)
+        VenueId::at(place)
     } else {
-        venue_at(place - venues)
+        VenueId::at(place - venues)
     }
 }
 
