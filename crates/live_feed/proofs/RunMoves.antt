@@ -7,6 +7,7 @@ use Rattle.line_arbiter.specs.declared.outcome.Outcome.{Outcome}
 use Rattle.feed_types.specs.declared.genuine.Genuine.{Ghosts as Genuine}
 use Rattle.live_feed.specs.declared.faults.TakeFault.{TakeFault}
 use Rattle.live_feed.specs.declared.faults.TakeFault.TheVariants as faults
+use Rattle.live_feed.specs.declared.run.line.LineEnd.{LineEnd}
 use Rattle.live_feed.specs.declared.run.source.SourceFault.{SourceFault}
 use Rattle.live_feed.specs.declared.subscriber.logged.PollFault.{PollFault}
 use Rattle.live_feed.specs.declared.subscriber.logged.PollFault.TheVariants.{NoMemory, LogFull}
@@ -68,7 +69,7 @@ brings_still brings more s t u brought so_far still =
     subst (λ xs. brings s xs u) (append-nil brought) (more s t u brought [] so_far still)
 
 -- a line's end after these datagrams, and a last call that brings nothing
-pub line_ended : {S : Type 0} (takes : SeatState → List (List ℕ) → SeatState → Type 0)
+pub line_ended : {G N S : Type 0} (takes : SeatState → List (List ℕ) → SeatState → Type 0)
     (brings : S → List (List ℕ) → S → Type 0) (failures : S → ℕ)
     → ((s t u : S) (xs ys : List (List ℕ)) → brings s xs t → brings t ys u → brings s (xs ++ ys) u)
     → (seat last_seat : SeatState) (source between last_source : S) (brought : List (List ℕ))
@@ -77,7 +78,8 @@ pub line_ended : {S : Type 0} (takes : SeatState → List (List ℕ) → SeatSta
     → takes seat brought last_seat → brings source brought between → brings between [] last_source
     → MatchOption fault (failures last_source ≡ failures source)
     (λ fault. failures last_source ≡ failures_after (failures source) fault)
-    → LineHasEnded takes brings failures seat source last_seat last_source datagrams fault
+    → LineHasEnded {G = G} {N = N} takes brings failures seat source
+    (record { seat = last_seat; source = last_source; datagrams = datagrams; fault = fault })
 line_ended takes brings failures more seat last_seat source between last_source brought datagrams fault
     venue line read taken later nothing counted = record {
       venue = venue;
@@ -151,18 +153,15 @@ read_more brought bytes count more so_far is =
     ∙ ap shown (sym (length-append brought (bytes ∷ [])))
 
 -- the same line's end, where its seat and source are known by another name
-pub ended_of : {S : Type 0} (takes : SeatState → List (List ℕ) → SeatState → Type 0)
-    (brings : S → List (List ℕ) → S → Type 0) (failures : S → ℕ) (seat given : SeatState) (source first : S) (last_seat : SeatState)
-    (last_source : S) (datagrams : ℕ) (fault : Option SourceFault) → seat ≡ given → source ≡ first
-    → LineHasEnded takes brings failures seat source last_seat last_source datagrams fault
-    → LineHasEnded takes brings failures given first last_seat last_source datagrams fault
-ended_of takes brings failures seat given source first last_seat last_source datagrams fault same_seat
-    same ended =
-    let P : SeatState → Type 0 = λ s. LineHasEnded takes brings failures s source last_seat last_source
-    datagrams fault in
-    let Q : _ → Type 0 = λ s. LineHasEnded takes brings failures given s last_seat last_source datagrams
-    fault in
-    subst Q same (subst P same_seat ended)
+pub ended_of : {G N S : Type 0} (takes : SeatState → List (List ℕ) → SeatState → Type 0)
+    (brings : S → List (List ℕ) → S → Type 0) (failures : S → ℕ) (seat given : SeatState)
+    (source first : S) (ended : LineEnd G N S) → seat ≡ given → source ≡ first
+    → LineHasEnded takes brings failures seat source ended
+    → LineHasEnded takes brings failures given first ended
+ended_of takes brings failures seat given source first ended same_seat same has_ended =
+    let P : SeatState → Type 0 = λ s. LineHasEnded takes brings failures s source ended in
+    let Q : _ → Type 0 = λ s. LineHasEnded takes brings failures given s ended in
+    subst Q same (subst P same_seat has_ended)
 
 -- what was started for each, and then joined or handed back
 pub joined : {A H C : Type 0} (made : A → H → Type 0) (ends : A → C → Type 0)

@@ -34,16 +34,15 @@ where
     ensures { MatchResult result
         (λ handle. (handle.promise.seat.value ≡ line.seat)
         × (handle.promise.source.value ≡ line.source))
-        (λ ended. LineHasEnded (HasTaken G.Genuine N.lanes) S.brings S.failures
-        line.seat line.source ended.seat ended.source ended.datagrams ended.fault) }
+        (LineHasEnded (HasTaken G.Genuine N.lanes) S.brings S.failures line.seat line.source) }
 {
     let promise = LineOf {
         seat: Snapshot::of(&line.seat),
         source: Snapshot::of(&line.source),
     };
     let job = move || -> LineEnd<G, N, S>
-        ensures { LineHasEnded (HasTaken G.Genuine N.lanes) S.brings S.failures
-            line.seat line.source result.seat result.source result.datagrams result.fault }
+        ensures { LineHasEnded (HasTaken G.Genuine N.lanes) S.brings S.failures line.seat
+            line.source result }
     { work_line(rt, venues, signals, line) };
     match scope.spawn_with(promise, job) {
         Ok(handle) => Ok(handle),
@@ -75,8 +74,7 @@ where
     ensures threads { Pairwise (λ line thread. MatchResult thread
         (λ handle. (handle.promise.seat.value ≡ line.seat)
         × (handle.promise.source.value ≡ line.source))
-        (λ ended. LineHasEnded (HasTaken G.Genuine N.lanes) S.brings S.failures
-        line.seat line.source ended.seat ended.source ended.datagrams ended.fault))
+        (LineHasEnded (HasTaken G.Genuine N.lanes) S.brings S.failures line.seat line.source))
         lines.items result.items }
 {
     for line in lines {

@@ -9,9 +9,8 @@ invariant-loop-line g l =
     × Pairwise (λ line thread. MatchResult thread
     (λ handle. (handle.promise.seat.value ≡ line.seat)
     × (handle.promise.source.value ≡ line.source))
-    (λ ended. LineHasEnded (HasTaken g.G.Genuine
-    g.N.FeedName.lanes) g.S.LineSource.brings g.S.LineSource.failures line.seat line.source
-    ended.seat ended.source ended.datagrams ended.fault))
+    (LineHasEnded (HasTaken g.G.Genuine g.N.FeedName.lanes) g.S.LineSource.brings g.S.LineSource.failures
+    line.seat line.source))
     l.yielded l.threads.items
     × (vec_len l.threads ≡ length l.yielded)
     × (vec_capacity l.threads ≡ vec_capacity l.fn.threads)
