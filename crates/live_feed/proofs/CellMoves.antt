@@ -501,7 +501,3 @@ module _ {S : Type 0} (premise : Genuine S) (lanes : FeedLanes) (venue : ℕ)
       → cell.arbiter.venue ≢ venue → answer → DoneAtVenue premise lanes venue section answer
   at_another cell kept other is =
       inr (inr (record { cell = cell; kept = kept; other = other }), is)
-
-  -- there was none
-  pub at_none : length lanes.venues ≤ venue → answer → DoneAtVenue premise lanes venue section answer
-  at_none none is = inr (inl none, is)

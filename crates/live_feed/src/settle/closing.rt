@@ -74,7 +74,8 @@ pub(crate) fn close_subscribers<N: FeedName, W: Wait>(
         let Some(room) = rooms.pop_front() else {
             unreachable!()
         };
-        ends.push_reserved(settle_subscriber(rt, journal, sender, subscriber.log, room));
+        let Subscriber { log, strategy: _ } = subscriber;
+        ends.push_reserved(settle_subscriber(rt, journal, sender, log, room));
     }
     ends
 }
