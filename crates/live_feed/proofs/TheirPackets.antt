@@ -19,7 +19,8 @@ as_taken (Ok outcome) = Ok outcome
 as_taken (Err fault) = Err (faults.Line fault)
 
 module _ {S : Type 0} (premise : Genuine S) (venue : ℕ) (bytes : List ℕ) where
-  pub faulty : (fault : PacketFault) → HasFault bytes fault → AcceptsTheirs premise venue bytes (Err (faults.Packet fault))
+  pub faulty : (fault : PacketFault) → HasFault bytes fault
+      → AcceptsTheirs premise venue bytes (Err (faults.Packet fault))
   faulty fault has all ordinal session p rest names at spells of = absurd (no_fault bytes p rest fault spells has)
 
   pub other : AcceptsTheirs premise venue bytes (Err (faults.Line OtherSession))
@@ -29,7 +30,8 @@ module _ {S : Type 0} (premise : Genuine S) (venue : ℕ) (bytes : List ℕ) whe
       → AcceptsTheirPacket premise venue q (Err fault)
       → AcceptsTheirs premise venue bytes (Err (faults.Line fault))
   theirs q more fault spelled accepts all ordinal session p rest names at spells of =
-      elim (accepts all ordinal session names at (subst (IsOfSession session) (same_packet bytes p q rest more spells spelled) of)) [
+      elim (accepts all ordinal session names at (subst (IsOfSession session)
+      (same_packet bytes p q rest more spells spelled) of)) [
         | inl ok ↦ absurd cc
         | inr same ↦ inr (ap as_taken same)
       ]

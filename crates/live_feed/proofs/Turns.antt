@@ -163,7 +163,8 @@ module _ {S : Type 0} (premise : Genuine S) (lanes : FeedLanes) (first : ℕ)
               elim (next_reached (length lanes.venues) first begins step venue v left known below is reached) [
                 | inl before ↦ still_asked premise lanes b consumed old between r.intake batch v
                     (r.asked v below before)
-                | inr same ↦ subst (λ (n : ℕ). Contains (map (λ (x : Batch). x.venue) (r.intake.batches ++ b ∷ [])) n) (sym same)
+                | inr same ↦ subst (λ (n : ℕ). Contains (map (λ (x : Batch). x.venue) (r.intake.batches ++ b ∷ [])) n)
+                    (sym same)
                     (now_asked premise lanes b consumed old between r.intake batch)
               ];
         }

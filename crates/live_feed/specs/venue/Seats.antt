@@ -15,8 +15,8 @@ use Rattle.live_feed.specs.declared.faults.TakeFault.{TakeFault}
 use Rattle.live_feed.specs.venue.Refusals.{no_refusals, refusals_after}
 use Rattle.live_feed.specs.venue.Sums.{Sums, no_sums, sums_after}
 
--- the venue and line of a seat, how many numbers it brought first, the sums of its accepted packets,
--- and how many of its datagrams were refused
+-- the venue and line of a seat, how many numbers it brought first, the sums of its accepted
+-- packets, and how many of its datagrams were refused
 pub record SeatState : Type 0 where
   pub venue : ℕ
   pub line : LineId

@@ -18,7 +18,8 @@ invariant_of-self g c =
     let known = subst (λ (s : HubState). c.args.id < length s.journal.cursors) (sym c.self.view_is) c.requires in
     let count = c.self.invariant.subscribers in
     let there = get_within c.self.inside.to_subscribers.items c.args.id (omega arith) in
-    looks_only g.G.Genuine g.N.FeedName.lanes _ c.args.id goes.place c.self.invariant there.0 there.1 goes.cursor goes.at goes.next c.next_offer.new.self goes.moved
+    looks_only g.G.Genuine g.N.FeedName.lanes _ c.args.id goes.place c.self.invariant there.0 there.1 goes.cursor
+    goes.at goes.next c.next_offer.new.self goes.moved
 
 pub returns-in_default-clause-offer : goal.returns-in_default-clause-offer
 returns-in_default-clause-offer g c =
@@ -26,8 +27,15 @@ returns-in_default-clause-offer g c =
     let known = subst (λ (s : HubState). c.args.id < length s.journal.cursors) (sym c.self.view_is) c.requires in
     let count = c.self.invariant.subscribers in
     let there = get_within c.self.inside.to_subscribers.items c.args.id (omega arith) in
-    subst (λ (x : HubState). HubOffersOne RisingNotices c.args.id (Err unsent.Nothing) x (record { journal = c.next_offer.new.self; receivers = c.self.inside.from_venues.items; senders = c.self.inside.to_subscribers.items; spare = c.self.inside.spare_lanes.items })) c.self.view_is
-    (offer_nothing g.G.Genuine g.N.FeedName.lanes _ c.args.id goes.place c.self.invariant there.0 there.1 goes.cursor goes.at goes.next RisingNotices c.next_offer.new.self goes.found_is)
+    subst (λ (x : HubState). HubOffersOne RisingNotices c.args.id (Err unsent.Nothing) x
+    (record {
+      journal = c.next_offer.new.self;
+      receivers = c.self.inside.from_venues.items;
+      senders = c.self.inside.to_subscribers.items;
+      spare = c.self.inside.spare_lanes.items;
+    })) c.self.view_is
+    (offer_nothing g.G.Genuine g.N.FeedName.lanes _ c.args.id goes.place c.self.invariant there.0 there.1 goes.cursor
+    goes.at goes.next RisingNotices c.next_offer.new.self goes.found_is)
 
 pub push-requires : goal.push-requires
 push-requires g c =
@@ -35,8 +43,10 @@ push-requires g c =
     let known = subst (λ (s : HubState). c.args.id < length s.journal.cursors) (sym c.self.view_is) c.requires in
     let count = c.self.invariant.subscribers in
     let index = c.index.ensures.value in
-    let from = at_index c.self.inside.to_subscribers.items c.index.result c.args.id c.index_mut-sender.result.now index (omega arith) c.index_mut-sender.ensures.value in
-    offer_may g.G.Genuine g.N.FeedName.lanes _ c.args.id goes.place c.self.invariant c.index_mut-sender.result.now from goes.cursor goes.at goes.next c.in-Some.notice goes.found_is
+    let from = at_index c.self.inside.to_subscribers.items c.index.result c.args.id c.index_mut-sender.result.now index
+    (omega arith) c.index_mut-sender.ensures.value in
+    offer_may g.G.Genuine g.N.FeedName.lanes _ c.args.id goes.place c.self.invariant c.index_mut-sender.result.now from
+    goes.cursor goes.at goes.next c.in-Some.notice goes.found_is
 
 pub invariant_of-self-in-Ok : goal.invariant_of-self-in-Ok
 invariant_of-self-in-Ok g c =
@@ -44,9 +54,13 @@ invariant_of-self-in-Ok g c =
     let known = subst (λ (s : HubState). c.args.id < length s.journal.cursors) (sym c.self.view_is) c.requires in
     let count = c.self.invariant.subscribers in
     let index = c.index.ensures.value in
-    let from = at_index c.self.inside.to_subscribers.items c.index.result c.args.id c.index_mut-sender.result.now index (omega arith) c.index_mut-sender.ensures.value in
-    rw index (offers_kept g.G.Genuine g.N.FeedName.lanes _ c.args.id goes.place c.self.invariant c.index_mut-sender.result.now from goes.cursor goes.at goes.next c.advance_cursor.new.self c.push.new.self c.in-Some.notice goes.found_is
-    (goes_past c.self.inside.kept c.next_offer.new.self c.advance_cursor.new.self c.args.id _ goes c.advance_cursor.ensures) c.in-Ok.ensures)
+    let from = at_index c.self.inside.to_subscribers.items c.index.result c.args.id c.index_mut-sender.result.now index
+    (omega arith) c.index_mut-sender.ensures.value in
+    rw index (offers_kept g.G.Genuine g.N.FeedName.lanes _ c.args.id goes.place c.self.invariant
+    c.index_mut-sender.result.now from goes.cursor goes.at goes.next c.advance_cursor.new.self c.push.new.self
+    c.in-Some.notice goes.found_is
+    (goes_past c.self.inside.kept c.next_offer.new.self c.advance_cursor.new.self c.args.id _ goes
+    c.advance_cursor.ensures) c.in-Ok.ensures)
 
 pub invariant_of-self-in-Err : goal.invariant_of-self-in-Err
 invariant_of-self-in-Err g c =
@@ -54,8 +68,11 @@ invariant_of-self-in-Err g c =
     let known = subst (λ (s : HubState). c.args.id < length s.journal.cursors) (sym c.self.view_is) c.requires in
     let count = c.self.invariant.subscribers in
     let index = c.index.ensures.value in
-    let from = at_index c.self.inside.to_subscribers.items c.index.result c.args.id c.index_mut-sender.result.now index (omega arith) c.index_mut-sender.ensures.value in
-    rw index (looks_kept g.G.Genuine g.N.FeedName.lanes _ c.args.id goes.place c.self.invariant c.index_mut-sender.result.now from goes.cursor goes.at goes.next c.next_offer.new.self c.push.new.self goes.moved c.in-Err.ensures.1)
+    let from = at_index c.self.inside.to_subscribers.items c.index.result c.args.id c.index_mut-sender.result.now index
+    (omega arith) c.index_mut-sender.ensures.value in
+    rw index (looks_kept g.G.Genuine g.N.FeedName.lanes _ c.args.id goes.place c.self.invariant
+    c.index_mut-sender.result.now from goes.cursor goes.at goes.next c.next_offer.new.self c.push.new.self
+    goes.moved c.in-Err.ensures.1)
 
 pub returns-in-Ok-clause-offer : goal.returns-in-Ok-clause-offer
 returns-in-Ok-clause-offer g c =
@@ -63,10 +80,19 @@ returns-in-Ok-clause-offer g c =
     let known = subst (λ (s : HubState). c.args.id < length s.journal.cursors) (sym c.self.view_is) c.requires in
     let count = c.self.invariant.subscribers in
     let index = c.index.ensures.value in
-    let from = at_index c.self.inside.to_subscribers.items c.index.result c.args.id c.index_mut-sender.result.now index (omega arith) c.index_mut-sender.ensures.value in
-    subst (λ (x : HubState × ℕ). HubOffersOne RisingNotices c.args.id (Ok c.in-Some.notice.number) x.0 (record { journal = c.advance_cursor.new.self; receivers = c.self.inside.from_venues.items; senders = slice_set c.self.inside.to_subscribers.items x.1 c.push.new.self; spare = c.self.inside.spare_lanes.items }))
+    let from = at_index c.self.inside.to_subscribers.items c.index.result c.args.id c.index_mut-sender.result.now index
+    (omega arith) c.index_mut-sender.ensures.value in
+    subst (λ (x : HubState × ℕ). HubOffersOne RisingNotices c.args.id (Ok c.in-Some.notice.number) x.0
+    (record {
+      journal = c.advance_cursor.new.self;
+      receivers = c.self.inside.from_venues.items;
+      senders = slice_set c.self.inside.to_subscribers.items x.1 c.push.new.self;
+      spare = c.self.inside.spare_lanes.items;
+    }))
     (λ i. (c.self.view_is i, sym index i))
-    (offer_one g.G.Genuine g.N.FeedName.lanes _ c.args.id goes.place c.self.invariant c.index_mut-sender.result.now from goes.cursor goes.at goes.next RisingNotices c.advance_cursor.new.self c.in-Some.notice c.push.new.self c.in-Some.notice.number goes.found_is refl c.in-Ok.ensures)
+    (offer_one g.G.Genuine g.N.FeedName.lanes _ c.args.id goes.place c.self.invariant c.index_mut-sender.result.now from
+    goes.cursor goes.at goes.next RisingNotices c.advance_cursor.new.self c.in-Some.notice c.push.new.self
+    c.in-Some.notice.number goes.found_is refl c.in-Ok.ensures)
 
 pub returns-in-Err-clause-offer : goal.returns-in-Err-clause-offer
 returns-in-Err-clause-offer g c =
@@ -74,16 +100,30 @@ returns-in-Err-clause-offer g c =
     let known = subst (λ (s : HubState). c.args.id < length s.journal.cursors) (sym c.self.view_is) c.requires in
     let count = c.self.invariant.subscribers in
     let index = c.index.ensures.value in
-    let from = at_index c.self.inside.to_subscribers.items c.index.result c.args.id c.index_mut-sender.result.now index (omega arith) c.index_mut-sender.ensures.value in
-    subst (λ (x : HubState × ℕ). HubOffersOne RisingNotices c.args.id (Err unsent.LaneFull) x.0 (record { journal = c.next_offer.new.self; receivers = c.self.inside.from_venues.items; senders = slice_set c.self.inside.to_subscribers.items x.1 c.push.new.self; spare = c.self.inside.spare_lanes.items }))
+    let from = at_index c.self.inside.to_subscribers.items c.index.result c.args.id c.index_mut-sender.result.now index
+    (omega arith) c.index_mut-sender.ensures.value in
+    subst (λ (x : HubState × ℕ). HubOffersOne RisingNotices c.args.id (Err unsent.LaneFull) x.0
+    (record {
+      journal = c.next_offer.new.self;
+      receivers = c.self.inside.from_venues.items;
+      senders = slice_set c.self.inside.to_subscribers.items x.1 c.push.new.self;
+      spare = c.self.inside.spare_lanes.items;
+    }))
     (λ i. (c.self.view_is i, sym index i))
-    (offer_full g.G.Genuine g.N.FeedName.lanes _ c.args.id goes.place c.self.invariant c.index_mut-sender.result.now from goes.cursor goes.at goes.next RisingNotices c.next_offer.new.self c.in-Some.notice c.push.new.self goes.found_is c.in-Err.ensures.1 c.in-Err.ensures.2)
+    (offer_full g.G.Genuine g.N.FeedName.lanes _ c.args.id goes.place c.self.invariant c.index_mut-sender.result.now
+    from goes.cursor goes.at goes.next RisingNotices c.next_offer.new.self c.in-Some.notice c.push.new.self
+    goes.found_is c.in-Err.ensures.1 c.in-Err.ensures.2)
 
 pub returns-in_default-clause-kept : goal.returns-in_default-clause-kept
 returns-in_default-clause-kept g c =
     let goes = c.in_default.ensures.goes in
     let new = c.next_offer.new.self in
-    subst (λ (x : HubState). KeepsButOffers x (record { journal = new; receivers = c.self.inside.from_venues.items; senders = c.self.inside.to_subscribers.items; spare = c.self.inside.spare_lanes.items }))
+    subst (λ (x : HubState). KeepsButOffers x (record {
+      journal = new;
+      receivers = c.self.inside.from_venues.items;
+      senders = c.self.inside.to_subscribers.items;
+      spare = c.self.inside.spare_lanes.items;
+    }))
     c.self.view_is (offer_keeps _ c.args.id goes.place goes.cursor new _ goes.at goes.moved)
 
 pub returns-in-Ok-clause-kept : goal.returns-in-Ok-clause-kept
@@ -91,12 +131,22 @@ returns-in-Ok-clause-kept g c =
     let goes = c.in-Some.ensures.goes in
     let new = c.advance_cursor.new.self in
     let past = goes_past c.self.inside.kept c.next_offer.new.self new c.args.id _ goes c.advance_cursor.ensures in
-    subst (λ (x : HubState). KeepsButOffers x (record { journal = new; receivers = c.self.inside.from_venues.items; senders = slice_set c.self.inside.to_subscribers.items c.index.result c.push.new.self; spare = c.self.inside.spare_lanes.items }))
+    subst (λ (x : HubState). KeepsButOffers x (record {
+      journal = new;
+      receivers = c.self.inside.from_venues.items;
+      senders = slice_set c.self.inside.to_subscribers.items c.index.result c.push.new.self;
+      spare = c.self.inside.spare_lanes.items;
+    }))
     c.self.view_is (offer_keeps _ c.args.id (goes.place + 1) goes.cursor new _ goes.at past)
 
 pub returns-in-Err-clause-kept : goal.returns-in-Err-clause-kept
 returns-in-Err-clause-kept g c =
     let goes = c.in-Some.ensures.goes in
     let new = c.next_offer.new.self in
-    subst (λ (x : HubState). KeepsButOffers x (record { journal = new; receivers = c.self.inside.from_venues.items; senders = slice_set c.self.inside.to_subscribers.items c.index.result c.push.new.self; spare = c.self.inside.spare_lanes.items }))
+    subst (λ (x : HubState). KeepsButOffers x (record {
+      journal = new;
+      receivers = c.self.inside.from_venues.items;
+      senders = slice_set c.self.inside.to_subscribers.items c.index.result c.push.new.self;
+      spare = c.self.inside.spare_lanes.items;
+    }))
     c.self.view_is (offer_keeps _ c.args.id goes.place goes.cursor new _ goes.at goes.moved)

@@ -15,9 +15,11 @@ invariant_of-self g c =
     let packets = k.history.present.packets in
     let venue = c.requires.venue ∙ ap (λ (v : CellState). v.arbiter.venue) (sym c.self.view_is) in
     let genuine = subst (λ (n : ℕ). IsGenuinePacket g.G.Genuine n c.args.packet.now) venue c.requires.genuine in
-    let sums = c.add.ensures ∙ ap (λ (l : LineId). line_sums_after l c.args.packet.now (Ok c.in-Ok.outcome) c.self.inside.sums) (c.line-in-Ok.ensures ∙ sym c.line.ensures) in
+    let sums = c.add.ensures ∙ ap (λ (l : LineId). line_sums_after l c.args.packet.now (Ok c.in-Ok.outcome)
+    c.self.inside.sums) (c.line-in-Ok.ensures ∙ sym c.line.ensures) in
     packet_kept g.G.Genuine g.N.FeedName.lanes _ _ c.line.result c.args.packet.now (Ok c.in-Ok.outcome) k refl e.kept
-    (packet_fits _ _ k.history c.line.result c.args.packet.now (Ok c.in-Ok.outcome) k.fits refl e.kept (e.fits packets k.fits.history.present) (e.grows packets k.fits.history.present) sums)
+    (packet_fits _ _ k.history c.line.result c.args.packet.now (Ok c.in-Ok.outcome) k.fits refl e.kept
+    (e.fits packets k.fits.history.present) (e.grows packets k.fits.history.present) sums)
     c.number-number.ensures.content (e.outcome packets k.fits.history.present) genuine
 
 pub returns-in-Ok-clause-packet : goal.returns-in-Ok-clause-packet
@@ -25,31 +27,49 @@ returns-in-Ok-clause-packet g c = λ h fits.
     let f = subst (λ (v : CellState). FitsCell v h) (sym c.self.view_is) fits in
     let e = c.in-Ok.ensures in
     let packets = h.present.packets in
-    let sums = c.add.ensures ∙ ap (λ (l : LineId). line_sums_after l c.args.packet.now (Ok c.in-Ok.outcome) c.self.inside.sums) (c.line-in-Ok.ensures ∙ sym c.line.ensures) in
-    let new : CellState = record { arbiter = c.take.new.self; lane = c.self.inside.items; pace = c.self.inside.pacer; accepted = c.add.new.self } in
-    subst (λ (x : LineId × CellState). TakesPacket x.0 c.args.packet.now (Ok c.in-Ok.outcome) h x.1 new) (λ i. (c.line.ensures i, c.self.view_is i))
-    (takes _ new h c.line.result c.args.packet.now (Ok c.in-Ok.outcome) f refl e.kept (e.fits packets f.history.present) (e.grows packets f.history.present) sums (e.outcome packets f.history.present))
+    let sums = c.add.ensures ∙ ap (λ (l : LineId). line_sums_after l c.args.packet.now (Ok c.in-Ok.outcome)
+    c.self.inside.sums) (c.line-in-Ok.ensures ∙ sym c.line.ensures) in
+    let new : CellState = record {
+      arbiter = c.take.new.self;
+      lane = c.self.inside.items;
+      pace = c.self.inside.pacer;
+      accepted = c.add.new.self;
+    } in
+    subst (λ (x : LineId × CellState). TakesPacket x.0 c.args.packet.now (Ok c.in-Ok.outcome) h x.1 new)
+    (λ i. (c.line.ensures i, c.self.view_is i))
+    (takes _ new h c.line.result c.args.packet.now (Ok c.in-Ok.outcome) f refl e.kept (e.fits packets f.history.present)
+    (e.grows packets f.history.present) sums (e.outcome packets f.history.present))
 
 pub returns-in-Err-clause-packet : goal.returns-in-Err-clause-packet
 returns-in-Err-clause-packet g c = λ h fits.
     let f = subst (λ (v : CellState). FitsCell v h) (sym c.self.view_is) fits in
     let e = c.in-Err.ensures in
     let packets = h.present.packets in
-    let new : CellState = record { arbiter = c.take.new.self; lane = c.self.inside.items; pace = c.self.inside.pacer; accepted = c.self.inside.sums } in
-    subst (λ (x : LineId × CellState). TakesPacket x.0 c.args.packet.now (Err c.in-Err.fault) h x.1 new) (λ i. (c.line.ensures i, c.self.view_is i))
-    (takes _ new h c.line.result c.args.packet.now (Err c.in-Err.fault) f refl e.kept (e.fits packets f.history.present) (e.grows packets f.history.present)
-    (sym (no_more c.line.result c.self.inside.sums c.args.packet.now c.in-Err.fault)) (e.outcome packets f.history.present))
+    let new : CellState = record {
+      arbiter = c.take.new.self;
+      lane = c.self.inside.items;
+      pace = c.self.inside.pacer;
+      accepted = c.self.inside.sums;
+    } in
+    subst (λ (x : LineId × CellState). TakesPacket x.0 c.args.packet.now (Err c.in-Err.fault) h x.1 new)
+    (λ i. (c.line.ensures i, c.self.view_is i))
+    (takes _ new h c.line.result c.args.packet.now (Err c.in-Err.fault) f refl e.kept (e.fits packets f.history.present)
+    (e.grows packets f.history.present)
+    (sym (no_more c.line.result c.self.inside.sums c.args.packet.now c.in-Err.fault))
+    (e.outcome packets f.history.present))
 
 pub returns-in-Ok-clause-accepts : goal.returns-in-Ok-clause-accepts
 returns-in-Ok-clause-accepts g c = λ all ordinal session names.
     let k = c.self.invariant in
     let venue = c.requires.venue ∙ ap (λ (v : CellState). v.arbiter.venue) (sym c.self.view_is) in
-    accepts g.G.Genuine g.N.FeedName.lanes _ k c.args.packet.now (Ok c.in-Ok.outcome) c.number-number.ensures.content (c.in-Ok.ensures.outcome k.history.present.packets k.fits.history.present)
+    accepts g.G.Genuine g.N.FeedName.lanes _ k c.args.packet.now (Ok c.in-Ok.outcome) c.number-number.ensures.content
+    (c.in-Ok.ensures.outcome k.history.present.packets k.fits.history.present)
     all ordinal session (subst (λ (n : ℕ). BringExactly g.G.Genuine n all) venue names)
 
 pub returns-in-Err-clause-accepts : goal.returns-in-Err-clause-accepts
 returns-in-Err-clause-accepts g c = λ all ordinal session names.
     let k = c.self.invariant in
     let venue = c.requires.venue ∙ ap (λ (v : CellState). v.arbiter.venue) (sym c.self.view_is) in
-    accepts g.G.Genuine g.N.FeedName.lanes _ k c.args.packet.now (Err c.in-Err.fault) c.number-number.ensures.content (c.in-Err.ensures.outcome k.history.present.packets k.fits.history.present)
+    accepts g.G.Genuine g.N.FeedName.lanes _ k c.args.packet.now (Err c.in-Err.fault) c.number-number.ensures.content
+    (c.in-Err.ensures.outcome k.history.present.packets k.fits.history.present)
     all ordinal session (subst (λ (n : ℕ). BringExactly g.G.Genuine n all) venue names)

@@ -17,20 +17,32 @@ push-requires g c =
     let venue = c.requires.venue ∙ ap (λ (v : CellState). v.arbiter.venue) (sym c.self.view_is) in
     let genuine = subst (λ (n : ℕ). IsGenuinePacket g.G.Genuine n c.args.packet.now) venue c.requires.genuine in
     let line = c.args.seat.now.line in
-    let brings = brings_next c.self.inside.lines k.history.present.packets c.args.packet.now c.in_ok-order.order c.in-Next.last c.in-Next.is c.in_ok-next.next c.in_ok-next.ensures.item line (c.in_ok-order.ensures.brings k.history.present.packets line k.fits.history.present) in
-    let given = given_after g.G.Genuine g.N.FeedName.lanes _ line c.args.packet.now (Ok (Taken 1 0)) k c.in_ok-order.ensures.content brings.answer genuine in
+    let brings = brings_next c.self.inside.lines k.history.present.packets c.args.packet.now c.in_ok-order.order
+    c.in-Next.last c.in-Next.is c.in_ok-next.next c.in_ok-next.ensures.item line
+    (c.in_ok-order.ensures.brings k.history.present.packets line k.fits.history.present) in
+    let given = given_after g.G.Genuine g.N.FeedName.lanes _ line c.args.packet.now (Ok (Taken 1 0)) k
+    c.in_ok-order.ensures.content brings.answer genuine in
     subst (λ (t : ℕ). AreInSequence g.G.Genuine t (c.self.inside.items.items ++ c.in_ok-next.next ∷ [])) (sym k.tag)
-    (may_pass _ k.history line c.args.packet.now c.in_ok-next.next k.fits brings g.G.Genuine c.self.inside.lines.venue c.self.inside.lines.window given)
+    (may_pass _ k.history line c.args.packet.now c.in_ok-next.next k.fits brings g.G.Genuine c.self.inside.lines.venue
+    c.self.inside.lines.window given)
 
 module _ (g : Over) (c : After-count g) where
   abbrev new : CellState
-  new = record { arbiter = c.take_in_order-outcome.new.self; lane = c.push.new.self; pace = c.self.inside.pacer; accepted = c.add.new.self }
+  new = record {
+    arbiter = c.take_in_order-outcome.new.self;
+    lane = c.push.new.self;
+    pace = c.self.inside.pacer;
+    accepted = c.add.new.self;
+  }
 
   answer : c.take_in_order-outcome.result ≡ Taken 1 0
-  answer = taken_one c.self.inside.lines [] c.args.packet.now c.in_ok-order.order c.in-Next.last c.in-Next.is c.in_ok-next.next c.in_ok-next.ensures.item _ c.take_in_order-outcome.ensures.answer
+  answer = taken_one c.self.inside.lines [] c.args.packet.now c.in_ok-order.order c.in-Next.last c.in-Next.is
+      c.in_ok-next.next c.in_ok-next.ensures.item _ c.take_in_order-outcome.ensures.answer
 
   sent : c.take_in_order-outcome.new.self.sent ≡ c.self.inside.lines.sent + 1
-  sent = sent_one c.self.inside.lines [] c.args.packet.now c.in_ok-order.order c.in-Next.last c.in-Next.is c.in_ok-next.next c.in_ok-next.ensures.item _ c.in_ok-order.ensures.in_order.order_is c.take_in_order-outcome.ensures.sent
+  sent = sent_one c.self.inside.lines [] c.args.packet.now c.in_ok-order.order c.in-Next.last c.in-Next.is
+      c.in_ok-next.next c.in_ok-next.ensures.item _ c.in_ok-order.ensures.in_order.order_is
+      c.take_in_order-outcome.ensures.sent
 
 pub invariant_of-self-2 : goal.invariant_of-self-2
 invariant_of-self-2 g c =
@@ -40,9 +52,15 @@ invariant_of-self-2 g c =
     let venue = c.requires.venue ∙ ap (λ (v : CellState). v.arbiter.venue) (sym c.self.view_is) in
     let genuine = subst (λ (n : ℕ). IsGenuinePacket g.G.Genuine n c.args.packet.now) venue c.requires.genuine in
     let line = c.line-line.result in
-    let brings = brings_next c.self.inside.lines packets c.args.packet.now c.in_ok-order.order c.in-Next.last c.in-Next.is c.in_ok-next.next c.in_ok-next.ensures.item line (c.in_ok-order.ensures.brings packets line k.fits.history.present) in
-    more_kept g.G.Genuine g.N.FeedName.lanes _ (new g c) line c.args.packet.now (Ok (Taken 1 0)) k e.kept (ap (λ (e : LaneEnd Numbered). e.tag) c.in-Ok.ensures) (ap (λ (e : LaneEnd Numbered). e.lane) c.in-Ok.ensures) (ap (λ (e : LaneEnd Numbered). e.capacity) c.in-Ok.ensures)
-    (pass_fits _ k.history line c.args.packet.now c.in_ok-next.next k.fits brings (new g c) c.take_in_order-outcome.result (answer g c) c.in-Ok.ensures (sent g c) e.kept (e.fits packets k.fits.history.present) c.add.ensures)
+    let brings = brings_next c.self.inside.lines packets c.args.packet.now c.in_ok-order.order c.in-Next.last
+    c.in-Next.is c.in_ok-next.next c.in_ok-next.ensures.item line
+    (c.in_ok-order.ensures.brings packets line k.fits.history.present) in
+    more_kept g.G.Genuine g.N.FeedName.lanes _ (new g c) line c.args.packet.now (Ok (Taken 1 0)) k e.kept
+    (ap (λ (e : LaneEnd Numbered). e.tag) c.in-Ok.ensures) (ap (λ (e : LaneEnd Numbered). e.lane) c.in-Ok.ensures)
+    (ap (λ (e : LaneEnd Numbered). e.capacity) c.in-Ok.ensures)
+    (pass_fits _ k.history line c.args.packet.now c.in_ok-next.next k.fits brings
+    (new g c) c.take_in_order-outcome.result (answer g c) c.in-Ok.ensures (sent g c) e.kept
+    (e.fits packets k.fits.history.present) c.add.ensures)
     c.in_ok-order.ensures.content brings.answer genuine
 
 pub returns-clause-packet : goal.returns-clause-packet
@@ -51,6 +69,11 @@ returns-clause-packet g c = λ h fits.
     let e = c.take_in_order-outcome.ensures in
     let packets = h.present.packets in
     let line = c.line-line.result in
-    let brings = brings_next c.self.inside.lines packets c.args.packet.now c.in_ok-order.order c.in-Next.last c.in-Next.is c.in_ok-next.next c.in_ok-next.ensures.item line (c.in_ok-order.ensures.brings packets line f.history.present) in
-    subst (λ (x : LineId × CellState). TakesAndPushes x.0 c.args.packet.now c.take_in_order-outcome.result h x.1 (new g c)) (λ i. (c.line-line.ensures i, c.self.view_is i))
-    (passes _ h line c.args.packet.now c.in_ok-next.next f brings (new g c) c.take_in_order-outcome.result (answer g c) c.in-Ok.ensures (sent g c) e.kept (e.fits packets f.history.present) c.add.ensures (first_number _ _ _ c.in_ok-next.ensures.item))
+    let brings = brings_next c.self.inside.lines packets c.args.packet.now c.in_ok-order.order c.in-Next.last
+    c.in-Next.is c.in_ok-next.next c.in_ok-next.ensures.item line
+    (c.in_ok-order.ensures.brings packets line f.history.present) in
+    subst (λ (x : LineId × CellState). TakesAndPushes x.0 c.args.packet.now c.take_in_order-outcome.result h x.1
+    (new g c)) (λ i. (c.line-line.ensures i, c.self.view_is i))
+    (passes _ h line c.args.packet.now c.in_ok-next.next f brings (new g c) c.take_in_order-outcome.result
+    (answer g c) c.in-Ok.ensures (sent g c) e.kept (e.fits packets f.history.present) c.add.ensures
+    (first_number _ _ _ c.in_ok-next.ensures.item))
