@@ -139,6 +139,14 @@ pairwise_more R (a ∷ xs) [] x y all one = absurd all
 pairwise_more R (a ∷ xs) (b ∷ ys) x y all one =
     (all.0, pairwise_more R xs ys x y all.1 one)
 
+-- a relation that says less
+pub pairwise_less : {A B : Type 0} (R S : A → B → Type 0) → ((x : A) (y : B) → R x y → S x y)
+    → (xs : List A) (ys : List B) → Pairwise R xs ys → Pairwise S xs ys
+pairwise_less R S f [] [] pairs = tt
+pairwise_less R S f [] (y ∷ ys) pairs = absurd pairs
+pairwise_less R S f (x ∷ xs) [] pairs = absurd pairs
+pairwise_less R S f (x ∷ xs) (y ∷ ys) pairs = (f x y pairs.0, pairwise_less R S f xs ys pairs.1)
+
 -- the relation of a list's items so far is that of the list, once these items are all
 pub pairwise_all : {A B : Type 0} (R : A → B → Type 0) (xs all : List A) (ys : List B)
     → Pairwise R xs ys → xs ≡ all → Pairwise R all ys

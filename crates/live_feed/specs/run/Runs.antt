@@ -53,9 +53,8 @@ AreTakenBy premise lanes old (t ∷ more) last =
     × AreTakenBy premise lanes t.seat more last
 
 -- A seat, later on: it took the datagrams of these bytes, in order, and nothing else changed it.
-pub record HasTaken {S : Type 0} (premise : Genuine S)
-    (lanes : FeedLanes) (old : SeatState) (brought : List (List ℕ)) (last : SeatState)
-    : Type 0 where
+pub record HasTaken {S : Type 0} (premise : Genuine S) (lanes : FeedLanes) (old : SeatState)
+    (brought : List (List ℕ)) (last : SeatState) : Type 0 where
   pub takings : List Taking
   pub bytes : map (λ t. t.bytes) takings ≡ brought
   pub taken : AreTakenBy premise lanes old takings last
@@ -63,8 +62,7 @@ pub record HasTaken {S : Type 0} (premise : Genuine S)
 -- A line that has ended: its seat took each datagram that its source brought, in order and once;
 -- the count of datagrams is how many these are, empty ones too, as a u64 shows it; and of the
 -- source's calls none failed but the last, where the line has a fault.
-pub record LineHasEnded {G N S : Type 0}
-    (takes : SeatState → List (List ℕ) → SeatState → Type 0)
+pub record LineHasEnded {G N S : Type 0} (takes : SeatState → List (List ℕ) → SeatState → Type 0)
     (brings : S → List (List ℕ) → S → Type 0) (failures : S → ℕ) (seat : SeatState) (source : S)
     (ended : LineEnd G N S) : Type 0 where
   pub venue : ended.seat.venue ≡ seat.venue

@@ -8,7 +8,7 @@ use crate::run::line::{Line, LineEnd};
 use crate::run::line_work::{LineOf, work_line};
 use crate::run::signals::Signals;
 use crate::run::source::LineSource;
-use crate::run::threads::ThreadOf;
+use crate::run::threads::{ThreadOf, made_of_each};
 use crate::venue::locks::VenueLocks;
 use feed_types::Genuine;
 use std::snapshot::Snapshot;
@@ -54,14 +54,13 @@ where
 }
 
 /// Starts a thread for each line, in order. Where one can't be started, the run stops early.
-#[tactic(auto, using(crate::proofs::RunMoves::pairwise_all))]
 pub(crate) fn start_lines<'s, E, G, N, S, R>(
     rt: &'s R,
     scope: &Scope<'s, E>,
     venues: &'s VenueLocks<G, N>,
     signals: &'s Signals,
     lines: Vec<Line<G, N, S>>,
-    mut threads: Vec<LineThread<G, N, S>>,
+    threads: Vec<LineThread<G, N, S>>,
 ) -> Vec<LineThread<G, N, S>>
 where
     G: Genuine + Send + Sync + 's,
@@ -77,9 +76,9 @@ where
         (LineHasEnded (HasTaken G.Genuine N.lanes) S.brings S.failures line.seat line.source))
         lines.items result.items }
 {
-    for line in lines {
-        let thread = start_line(rt, scope, venues, signals, line);
-        threads.push_reserved(thread);
-    }
-    threads
+    made_of_each(
+        lines,
+        threads,
+        &|_, line| start_line(rt, scope, venues, signals, line),
+    )
 }

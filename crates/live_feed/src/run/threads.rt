@@ -1,6 +1,6 @@
 //! The threads of a run, both of lines and of subscribers.
 
-ghost use Rattle.std.specs.Prelude.{◌≡◌, ◌≤◌, [], MatchResult, vec_len, vec_capacity};
+ghost use Rattle.std.specs.Prelude.{◌≡◌, ◌<◌, ◌≤◌, ℕ, [], MatchResult, vec_len, vec_capacity};
 ghost use Rattle.live_feed.specs.run.Runs.{Pairwise};
 
 use std::thread::{Promise, PromisedHandle, Threads};
@@ -21,13 +21,34 @@ fn join_one<T: Drop, P: Promise<T>, R: Threads>(rt: &R, thread: ThreadOf<T, P>) 
     }
 }
 
+/// Calls `make` with the place and the value of each item, in order, and returns the results, in the
+/// list `made`, which is empty and has room for all.
+#[tactic(auto, using(crate::proofs::RunMoves::pairwise_all))]
+pub(crate) fn made_of_each<A: Drop, B: Drop, F: Fn(usize, A) -> B>(
+    items: Vec<A>,
+    mut made: Vec<B>,
+    make: &F,
+) -> Vec<B>
+    requires empty { made.items ≡ [] }
+    requires room { vec_len items ≤ vec_capacity made }
+    requires callable { (place : ℕ) (item : A) → place < vec_len items → F.pre make.now place item }
+    ensures count { vec_len result ≡ vec_len items }
+    ensures each { Pairwise (λ item one. (place : ℕ) × F.post make.now place item one)
+        items.items result.items }
+{
+    for item in items {
+        let one = make(made.len(), item);
+        made.push_reserved(one);
+    }
+    made
+}
+
 /// Waits for each thread, in order, and returns their results, in the list `ends`, which is empty
 /// and has room for all.
-#[tactic(auto, using(crate::proofs::RunMoves::pairwise_all))]
 pub(crate) fn join_each<T: Drop, P: Promise<T>, R: Threads>(
     rt: &R,
     threads: Vec<ThreadOf<T, P>>,
-    mut ends: Vec<T>,
+    ends: Vec<T>,
 ) -> Vec<T>
     requires empty { ends.items ≡ [] }
     requires room { vec_len threads ≤ vec_capacity ends }
@@ -37,8 +58,5 @@ pub(crate) fn join_each<T: Drop, P: Promise<T>, R: Threads>(
         (λ here. end ≡ here))
         threads.items result.items }
 {
-    for thread in threads {
-        ends.push_reserved(join_one(rt, thread));
-    }
-    ends
+    made_of_each(threads, ends, &|_, thread| join_one(rt, thread))
 }
