@@ -186,9 +186,8 @@ fn closed<G: Genuine, N: FeedName, W: Wait>(
     requires counts { (length unlocked.venues.items ≡ unlocked.hub.core.journal.venues)
         × (length subscribers.items ≡ length unlocked.hub.core.journal.cursors) }
     requires room { HasRoom (map (λ g. g.cell) unlocked.venues.items) unlocked.hub.core room }
-    ensures { IsClosedFeed G.Genuine N.lanes
-        (map (λ g. g.cell) unlocked.venues.items) unlocked.hub.core
-        (map (λ s. s.log) subscribers.items) result }
+    ensures { IsClosedFeed G.Genuine N.lanes (map (λ g. g.cell) unlocked.venues.items)
+        unlocked.hub.core (map (λ s. s.log) subscribers.items) result }
 {
     let Unlocked {
         venues,

@@ -109,9 +109,8 @@ abbrev pub AreInOrder : List SubscriberLogState → Type 0
 AreInOrder logs = (id : ℕ) (t : SubscriberLogState) → slice_get logs id ≡ Some t → t.id ≡ id
 
 -- a venue's cell, which its lock kept last, and what is left of it once its lane is closed
-pub record IsClosedVenue {S : Type 0} (premise : Genuine S)
-    (lanes : FeedLanes) (entries : List Entry) (venue : ℕ) (c : CellState) (v : VenueEndState)
-    : Type 0 where
+pub record IsClosedVenue {S : Type 0} (premise : Genuine S) (lanes : FeedLanes)
+    (entries : List Entry) (venue : ℕ) (c : CellState) (v : VenueEndState) : Type 0 where
   pub kept : VenueLockInvariant premise lanes c
   pub settled : IsSettled premise venue lanes.setting.window c.lane.items v.consumed v.in_lane
       v.ready v.wins v.accepted
@@ -122,9 +121,8 @@ pub record IsClosedVenue {S : Type 0} (premise : Genuine S)
 -- A venue of a closed feed, whose lock kept this cell last: its lane, through which the cell's
 -- items were sent, is closed; what was consumed is its items in the entries; and what is counted
 -- per line is what the line's seats show, added up.
-pub record ShowsVenue {S : Type 0} (premise : Genuine S)
-    (lanes : FeedLanes) (entries : List Entry) (seats : List SeatState) (venue : ℕ)
-    (v : VenueEndState) : Type 0 where
+pub record ShowsVenue {S : Type 0} (premise : Genuine S) (lanes : FeedLanes)
+    (entries : List Entry) (seats : List SeatState) (venue : ℕ) (v : VenueEndState) : Type 0 where
   pub cell : CellState
   pub kept : VenueLockInvariant premise lanes cell
   pub venue_is : cell.arbiter.venue ≡ venue
@@ -143,9 +141,8 @@ pub record ShowsSubscriber (journal : JournalState) (id : ℕ) (t : SubscriberLo
 -- The settlement of a feed, once these seats and these subscribers were handed in: each of its
 -- venues and each of its subscribers is closed. The journal has the symbols and the capacity of the
 -- feed's setting.
-pub record IsSettlement {S : Type 0} (premise : Genuine S)
-    (lanes : FeedLanes) (seats : List SeatState) (logs : List SubscriberLogState)
-    (s : SettlementState) : Type 0 where
+pub record IsSettlement {S : Type 0} (premise : Genuine S) (lanes : FeedLanes)
+    (seats : List SeatState) (logs : List SubscriberLogState) (s : SettlementState) : Type 0 where
   pub symbols : s.journal.symbols ≡ lanes.setting.symbols
   pub size : s.journal.journal ≡ lanes.setting.journal
   pub venue_count : (length s.venues ≡ length lanes.venues)

@@ -42,9 +42,8 @@ IsAnsweredAt premise lanes seat p answer =
 
 -- The bytes are a packet, to which this is the venue's answer; the seat counts it where it is
 -- accepted.
-pub record IsPacketTaken {S : Type 0} (premise : Genuine S)
-    (lanes : FeedLanes) (bytes : List ℕ) (old : SeatState) (answer : Result Outcome LineFault)
-    (new : SeatState) : Type 0 where
+pub record IsPacketTaken {S : Type 0} (premise : Genuine S) (lanes : FeedLanes) (bytes : List ℕ)
+    (old : SeatState) (answer : Result Outcome LineFault) (new : SeatState) : Type 0 where
   pub packet : Content
   pub rest : List ℕ
   pub spells : Spells bytes packet rest
@@ -67,8 +66,7 @@ IsTakenBy premise lanes bytes old (Ok outcome) new =
 
 -- Whatever packet the bytes are: where the lines bring exactly these sessions, a packet of one of
 -- them is accepted, or is of another session than the present one.
-abbrev pub AcceptsTheirs : {S : Type 0} → Genuine S → ℕ → List ℕ
-    → Result Outcome TakeFault → Type 0
+abbrev pub AcceptsTheirs : {S : Type 0} → Genuine S → ℕ → List ℕ → Result Outcome TakeFault → Type 0
 AcceptsTheirs premise venue bytes answer =
     (all : List Session) (ordinal : ℕ) (session : Session) (p : Content) (rest : List ℕ)
     → BringExactly premise venue all → IsSessionAt all ordinal session

@@ -75,8 +75,7 @@ with_seat Recovery s = record s { recovery = true }
 
 -- The answer to who asks for a line's seat, by cases: SeatTaken exactly where it was handed out,
 -- and nothing changes then; else that line alone is marked.
-abbrev pub GivesSeat : {X : Type 0} → LineId → Result X FeedFault → SeatsGiven → SeatsGiven
-    → Type 0
+abbrev pub GivesSeat : {X : Type 0} → LineId → Result X FeedFault → SeatsGiven → SeatsGiven → Type 0
 GivesSeat line (Ok given) old new = (has_seat line old ≡ false) × (new ≡ with_seat line old)
 GivesSeat line (Err SeatTaken) old new = (has_seat line old ≡ true) × (new ≡ old)
 GivesSeat line (Err UnknownVenue) old new = ⊥

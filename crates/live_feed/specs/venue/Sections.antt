@@ -177,8 +177,7 @@ IsRenewedBy premise lanes venue ordinal name (Err renewal.UnknownVenue) =
     length lanes.venues ≤ venue
 
 -- The request for the gap to send now, if any; only the pace of requests has changed.
-pub record RequestsGap (now_ms : ℕ) (request : Option Request) (old new : CellState)
-    : Type 0 where
+pub record RequestsGap (now_ms : ℕ) (request : Option Request) (old new : CellState) : Type 0 where
   pub paced : (h : History) → FitsCell old h
       → IsPaced old.pace
       (gap_of old.arbiter.session old.arbiter.window old.arbiter.sent h.present.packets) now_ms

@@ -101,15 +101,13 @@ impl<G: Genuine, N: FeedName> OpenFeed<G, N> {
         seat: &mut LineSeat<G, N>,
         datagram: &Datagram,
     ) -> Result<Outcome, TakeFault>
-        requires { AreGenuineBytes G.Genuine seat.old.venue
-            (bytes_of datagram.now) }
+        requires { AreGenuineBytes G.Genuine seat.old.venue (bytes_of datagram.now) }
         ensures taken { IsTakenBy G.Genuine N.lanes (bytes_of datagram.now)
             seat.old result seat.new }
 
         // Where it is known which sessions the lines bring, a packet of one of them is refused only
         // where it isn't of the present one.
-        ensures accepts { AcceptsTheirs G.Genuine seat.old.venue
-            (bytes_of datagram.now) result }
+        ensures accepts { AcceptsTheirs G.Genuine seat.old.venue (bytes_of datagram.now) result }
     {
         let mut gap = false;
         self.venues.take_and_look(rt, seat, datagram, &mut gap)
@@ -119,8 +117,7 @@ impl<G: Genuine, N: FeedName> OpenFeed<G, N> {
     /// many items were pushed.
     pub fn flush<W: Wait>(&self, rt: &W, venue: VenueId) -> Result<u64, FeedFault>
         ensures unknown { IsErrOf result FeedFault.UnknownVenue ↔ (length N.lanes.venues ≤ venue) }
-        ensures pushed { IfOk result
-            (IsFlushedBy G.Genuine N.lanes venue (2 ^ 64 - 1)) }
+        ensures pushed { IfOk result (IsFlushedBy G.Genuine N.lanes venue (2 ^ 64 - 1)) }
     {
         if venue.index() >= self.venues.len() {
             return Err(FeedFault::UnknownVenue);
@@ -302,8 +299,7 @@ impl<G: Genuine, N: FeedName> OpenFeed<G, N> {
     /// fault.
     #[tactic(auto, using(crate::proofs::HubMoves::under_hub_lock))]
     pub fn offer<W: Wait>(&self, rt: &W, id: SubscriberId) -> Result<u64, FeedFault>
-        ensures offers { IfOk result (λ pushed.
-            UnderHubLock G.Genuine N.lanes (Offers id pushed)) }
+        ensures offers { IfOk result (λ pushed. UnderHubLock G.Genuine N.lanes (Offers id pushed)) }
         ensures unknown { IfErr result (λ fault. (fault ≡ FeedFault.UnknownSubscriber)
             × UnderHubLock G.Genuine N.lanes (LacksSubscriber id)) }
     {

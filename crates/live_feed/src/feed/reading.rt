@@ -19,8 +19,7 @@ fn national_in<G: Genuine, N: FeedName>(
     hub: &HubCell<G, N>,
     symbol: &SymbolName,
 ) -> Option<National>
-    ensures configured { IsSome result
-        ↔ IsTrue (is_configured N.lanes.setting.symbols symbol.now) }
+    ensures configured { IsSome result ↔ IsTrue (is_configured N.lanes.setting.symbols symbol.now) }
     ensures value { IfSome result (WasNational G.Genuine N.lanes symbol.now) }
 {
     hub.core.show_lock_invariant();

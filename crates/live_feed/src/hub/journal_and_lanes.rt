@@ -3,12 +3,14 @@
 ghost use Rattle.std.specs.Prelude.{◌≡◌, ◌≤◌, ◌<◌, ◌↔◌, length, OnErr, IsTrue};
 ghost use Rattle.live_feed.specs.hub.Hubs.{HubLockInvariant};
 ghost use Rattle.live_feed.specs.hub.Sections.{Consumes, DeclaresAt, KeepsButIntake, HubOffersOne, KeepsButOffers, HubSubscribes};
+ghost use Rattle.live_feed.specs.Premises.{AreInSequence};
+ghost use Rattle.live_feed.specs.hub.Offers.{AreRising};
 
 use crate::feed_name::FeedName;
 use crate::hub::spare::SpareLane;
 use crate::unsent::Unsent;
 use feed_types::{Genuine, Notice, Numbered, SubscriberId, VenueId};
-use fifo_lane::{LaneRule, Receiver, RisingNotices, Sender, VenueItems};
+use fifo_lane::{Receiver, RisingNotices, Sender, VenueItems};
 use filter_terms::{Filter, Terms};
 use journal_book::{Journal, JournalFault};
 use std::collections::VecDeque;
@@ -179,8 +181,7 @@ impl<G: Genuine, N: FeedName> JournalAndLanes<G, N> {
         venue: VenueId,
     ) -> Result<Option<u64>, JournalFault>
         requires { venue < self.old.journal.venues }
-        ensures consume { Consumes ⟦<VenueItems<G> as LaneRule<Numbered>>⟧.may_send venue result
-            self.old self.new }
+        ensures consume { Consumes (AreInSequence G.Genuine) venue result self.old self.new }
         ensures kept { KeepsButIntake self.old self.new }
         ensures refused { OnErr result (self.new ≡ self.old) }
     {
@@ -237,8 +238,7 @@ impl<G: Genuine, N: FeedName> JournalAndLanes<G, N> {
         filter: Option<&Filter>,
     ) -> Result<u64, Unsent>
         requires { id < length self.old.journal.cursors }
-        ensures offer { HubOffersOne ⟦<RisingNotices as LaneRule<Notice>>⟧.may_send id result
-            self.old self.new }
+        ensures offer { HubOffersOne AreRising id result self.old self.new }
         ensures kept { KeepsButOffers self.old self.new }
     {
         let Some(notice) = self.kept.next_offer(id, filter) else {

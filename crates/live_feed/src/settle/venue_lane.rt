@@ -85,8 +85,7 @@ pub(crate) fn consumed_of(
     venue: VenueId,
     mut room: Vec<Numbered>,
 ) -> Vec<Numbered>
-    requires { (length room.items ≡ 0)
-        × (length (items_in entries.now venue) ≤ vec_capacity room) }
+    requires { (length room.items ≡ 0) × (length (items_in entries.now venue) ≤ vec_capacity room) }
     ensures { result.items ≡ items_in entries.now venue }
 {
     for place in 0..entries.len() {
@@ -121,8 +120,7 @@ pub(crate) fn settle_venue<G: Genuine, N: FeedName, W: Wait>(
 ) -> VenueEnd
     requires end { IsConsumed G.Genuine N.lanes entries.now cell.arbiter.venue receiver }
     requires room { HasVenueRoom entries.now cell room }
-    ensures { IsClosedVenue G.Genuine N.lanes entries.now cell.arbiter.venue cell
-        result }
+    ensures { IsClosedVenue G.Genuine N.lanes entries.now cell.arbiter.venue cell result }
 {
     let VenueRoom {
         consumed,

@@ -2,7 +2,7 @@
 
 ghost use Rattle.std.specs.Prelude.{◌≡◌, IfOk, IsErrOf};
 ghost use Rattle.line_arbiter.specs.Histories.{History};
-ghost use Rattle.live_feed.specs.Premises.{IsGenuinePacket};
+ghost use Rattle.live_feed.specs.Premises.{AreInSequence, IsGenuinePacket};
 ghost use Rattle.live_feed.specs.venue.Seats.{seat_after, seat_refusing};
 ghost use Rattle.live_feed.specs.venue.Cells.{FitsCell};
 ghost use Rattle.live_feed.specs.venue.Sections.{AcceptsTheirPacket, IsDueAt, IsFlushedBy, IsRenewedBy, KeepsButPushed, Pushes, TakesPacket};
@@ -15,8 +15,7 @@ use crate::venue::cell::VenueCell;
 use crate::venue::datagram::Datagram;
 use crate::venue::locks::{VenueLocks, enter};
 use crate::venue::seat::LineSeat;
-use feed_types::{Genuine, Numbered, VenueId};
-use fifo_lane::{LaneRule, VenueItems};
+use feed_types::{Genuine, VenueId};
 use line_arbiter::{LineFault, Outcome};
 use mold_packet::{Packet, Request, read_packet};
 use std::sync::Wait;
@@ -28,8 +27,7 @@ fn push_ready<G: Genuine, N: FeedName, W: Wait>(
     cell: &mut VenueCell<G, N>,
     most: u64,
 ) -> (u64, bool)
-    ensures { Pushes ⟦<VenueItems<G> as LaneRule<Numbered>>⟧.may_send most result.0 cell.old
-        cell.new }
+    ensures { Pushes (AreInSequence G.Genuine) most result.0 cell.old cell.new }
 {
     for pushed in 0..most {
         match cell.push_one(rt) {
@@ -163,12 +161,10 @@ impl<G: Genuine, N: FeedName> VenueLocks<G, N> {
         datagram: &Datagram,
         gap: &mut bool,
     ) -> Result<Outcome, TakeFault>
-        requires { AreGenuineBytes G.Genuine seat.old.venue
-            (bytes_of datagram.now) }
+        requires { AreGenuineBytes G.Genuine seat.old.venue (bytes_of datagram.now) }
         ensures taken { IsTakenBy G.Genuine N.lanes (bytes_of datagram.now)
             seat.old result seat.new }
-        ensures accepts { AcceptsTheirs G.Genuine seat.old.venue
-            (bytes_of datagram.now) result }
+        ensures accepts { AcceptsTheirs G.Genuine seat.old.venue (bytes_of datagram.now) result }
     {
         match read_packet(datagram.bytes()) {
             Ok(packet) => match self.take_packet(rt, seat, &packet, gap) {
@@ -209,10 +205,8 @@ impl<G: Genuine, N: FeedName> VenueLocks<G, N> {
     ) -> Result<Outcome, LineFault>
         requires { IsGenuinePacket G.Genuine seat.old.venue packet.now }
         ensures seat { seat.new ≡ seat_after seat.old packet.now result }
-        ensures answer { IsAnsweredAt G.Genuine N.lanes seat.old packet.now
-            result }
-        ensures accepts { AcceptsTheirPacket G.Genuine seat.old.venue packet.now
-            result }
+        ensures answer { IsAnsweredAt G.Genuine N.lanes seat.old packet.now result }
+        ensures accepts { AcceptsTheirPacket G.Genuine seat.old.venue packet.now result }
     {
         let Some(lock) = self.get(seat.venue()) else {
             return Err(LineFault::OtherSession);

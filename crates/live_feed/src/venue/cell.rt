@@ -8,7 +8,7 @@ ghost use Rattle.line_arbiter.specs.Histories.{History};
 ghost use Rattle.line_arbiter.specs.Fits.{Fits};
 ghost use Rattle.line_arbiter.specs.States.{IsNew, ordinal_of};
 ghost use Rattle.line_arbiter.specs.Counts.{count_on};
-ghost use Rattle.live_feed.specs.Premises.{IsGenuinePacket};
+ghost use Rattle.live_feed.specs.Premises.{AreInSequence, IsGenuinePacket};
 ghost use Rattle.live_feed.specs.venue.Seats.{seat_after};
 ghost use Rattle.live_feed.specs.venue.Sums.{sums_on};
 ghost use Rattle.live_feed.specs.venue.Cells.{FitsCell, VenueLockInvariant, new_cell};
@@ -19,7 +19,7 @@ use crate::unsent::Unsent;
 use crate::venue::seat::LineSeat;
 use crate::venue::sums::{PacketSums, VenueSums};
 use feed_types::{Genuine, LineId, Numbered, VenueId};
-use fifo_lane::{LaneRule, Sender, VenueItems};
+use fifo_lane::{Sender, VenueItems};
 use line_arbiter::{Arbiter, InOrder, LineFault, Outcome, Pacer, RenewFault};
 use mold_packet::{Packet, Request};
 use quote_payload::read_item;
@@ -193,8 +193,7 @@ impl<G: Genuine, N: FeedName> VenueCell<G, N> {
 
         // Where it is known which sessions the lines bring, a packet of one of them is refused only
         // where it isn't of the present one.
-        ensures accepts { AcceptsTheirPacket G.Genuine seat.old.venue packet.now
-            result }
+        ensures accepts { AcceptsTheirPacket G.Genuine seat.old.venue packet.now result }
         ensures refused { OnErr result (self.new ≡ self.old) }
     {
         // for the prover: the packet's ranges
@@ -226,8 +225,7 @@ impl<G: Genuine, N: FeedName> VenueCell<G, N> {
         ensures kept { IfSome result (λ _. KeepsButPushed self.old self.new) }
         ensures seat { IfSome result (λ outcome. seat.new
             ≡ seat_after seat.old packet.now (Ok outcome)) }
-        ensures left { IfNone result
-            (IsLeft ⟦<VenueItems<G> as LaneRule<Numbered>>⟧.may_send packet.now self.old) }
+        ensures left { IfNone result (IsLeft (AreInSequence G.Genuine) packet.now self.old) }
         ensures none { IfNone result ((self.new ≡ self.old) × (seat.new ≡ seat.old)) }
     {
         let order = self.lines.peek_in_order(packet)?;
@@ -248,8 +246,7 @@ impl<G: Genuine, N: FeedName> VenueCell<G, N> {
     /// Pushes the next item of the venue, where one is ready and the lane has room.
     pub fn push_one<W: Wait>(&mut self, rt: &W) -> Result<u64, Unsent>
         ensures push { (h : History) → FitsCell self.old h
-            → PushesOne ⟦<VenueItems<G> as LaneRule<Numbered>>⟧.may_send result h
-            self.old self.new }
+            → PushesOne (AreInSequence G.Genuine) result h self.old self.new }
         ensures kept { KeepsButSent self.old self.new }
         ensures count { IfOk result (λ _. length self.new.lane.items
             ≡ length self.old.lane.items + 1) }
