@@ -29,6 +29,7 @@ mod feed;
 mod feed_name;
 mod hub;
 mod laws;
+mod lists;
 mod run;
 mod settle;
 mod subscriber;

@@ -4,11 +4,12 @@ ghost use Rattle.std.specs.Prelude.{◌≡◌, ◌≤◌, [], MatchResult, vec_l
 ghost use Rattle.live_feed.specs.run.Runs.{Pairwise, HasTaken, LineHasEnded};
 
 use crate::feed_name::FeedName;
+use crate::lists::made_of_each;
 use crate::run::line::{Line, LineEnd};
 use crate::run::line_work::{LineOf, work_line};
 use crate::run::signals::Signals;
 use crate::run::source::LineSource;
-use crate::run::threads::{ThreadOf, made_of_each};
+use crate::run::threads::ThreadOf;
 use crate::venue::locks::VenueLocks;
 use feed_types::Genuine;
 use std::snapshot::Snapshot;

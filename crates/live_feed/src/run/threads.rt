@@ -1,8 +1,9 @@
 //! The threads of a run, both of lines and of subscribers.
 
-ghost use Rattle.std.specs.Prelude.{◌≡◌, ◌<◌, ◌≤◌, ℕ, [], MatchResult, vec_len, vec_capacity};
+ghost use Rattle.std.specs.Prelude.{◌≡◌, ◌≤◌, [], MatchResult, vec_len, vec_capacity};
 ghost use Rattle.live_feed.specs.run.Runs.{Pairwise};
 
+use crate::lists::made_of_each;
 use std::thread::{Promise, PromisedHandle, Threads};
 
 /// A thread that returns what `P` promises, or where none could be started the value that it would
@@ -19,28 +20,6 @@ fn join_one<T: Drop, P: Promise<T>, R: Threads>(rt: &R, thread: ThreadOf<T, P>) 
         Ok(handle) => handle.join(rt),
         Err(here) => here,
     }
-}
-
-/// Calls `make` with the place and the value of each item, in order, and returns the results, in the
-/// list `made`, which is empty and has room for all.
-#[tactic(auto, using(crate::proofs::RunMoves::pairwise_all))]
-pub(crate) fn made_of_each<A: Drop, B: Drop, F: Fn(usize, A) -> B>(
-    items: Vec<A>,
-    mut made: Vec<B>,
-    make: &F,
-) -> Vec<B>
-    requires empty { made.items ≡ [] }
-    requires room { vec_len items ≤ vec_capacity made }
-    requires callable { (place : ℕ) (item : A) → place < vec_len items → F.pre make.now place item }
-    ensures count { vec_len result ≡ vec_len items }
-    ensures each { Pairwise (λ item one. (place : ℕ) × F.post make.now place item one)
-        items.items result.items }
-{
-    for item in items {
-        let one = make(made.len(), item);
-        made.push_reserved(one);
-    }
-    made
 }
 
 /// Waits for each thread, in order, and returns their results, in the list `ends`, which is empty

@@ -1,6 +1,6 @@
 use Rattle.std.proofs.Common.{◌≡◌, ℕ, length, vec_len, vec_capacity}
 use Rattle.live_feed.specs.run.Runs.{Pairwise}
-use Rattle.live_feed.proofs.run.threads.made_of_each.Given as goal
+use Rattle.live_feed.proofs.lists.made_of_each.Given as goal
 
 abbrev pub invariant-loop-item : goal.invariant-loop-item
 invariant-loop-item g l =

@@ -1,6 +1,6 @@
 use Rattle.std.proofs.Common.{◌∷◌, [], arith, length-append}
 use Rattle.live_feed.proofs.RunMoves.{pairwise_more}
-use Rattle.live_feed.proofs.run.threads.made_of_each.Goals as goal
+use Rattle.live_feed.proofs.lists.made_of_each.Goals as goal
 
 pub loop-item-preserved : goal.loop-item-preserved
 loop-item-preserved g c =
