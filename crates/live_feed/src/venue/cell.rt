@@ -107,7 +107,7 @@ impl<G: Genuine, N: FeedName> VenueCell<G, N> {
 
     /// Does nothing: it says what is so whenever the venue's lock is free.
     #[inline(always)]
-    pub(crate) fn show_lock_invariant(&self)
+    pub fn show_lock_invariant(&self)
         ensures { VenueLockInvariant G.Genuine N.lanes self.now }
     {
         // for the prover: the invariant is known where a field is used
