@@ -3,8 +3,8 @@
 ghost use Rattle.std.specs.Prelude.{◌≡◌, ◌<◌, ◌≤◌, ℕ, [], vec_len, vec_capacity};
 ghost use Rattle.live_feed.specs.run.Runs.{Pairwise};
 
-/// Calls `make` with the place and the value of each item, in order, and returns the results, in the
-/// list `made`, which is empty and has room for all.
+/// Calls `make` with the place and the value of each item, in order, and returns the results, in
+/// the list `made`, which is empty and has room for all.
 #[tactic(auto, using(crate::proofs::RunMoves::pairwise_all))]
 pub(crate) fn made_of_each<A: Drop, B: Drop, F: Fn(usize, A) -> B>(
     items: Vec<A>,

@@ -58,6 +58,24 @@ fn take_turn<G: Genuine, N: FeedName, W: Wait>(
     done
 }
 
+/// Takes a turn and then pushes, of each venue where `all` is true, and returns whether there was
+/// anything to do. Where journaling is refused, the run stops early, and `stopped` is why.
+fn work_once<G: Genuine, N: FeedName, W: Wait>(
+    rt: &W,
+    feed: &OpenFeed<G, N>,
+    signals: &Signals,
+    all: bool,
+    stopped: &mut Option<Stop>,
+) -> bool {
+    let done = take_turn(rt, feed, signals);
+    if let Some(fault) = done.refused {
+        signals.stop();
+        *stopped = Some(reason_of(fault));
+    }
+    let flushed = flush_each(rt, feed, &done, all);
+    done.consumed > 0 || done.offered > 0 || done.refused.is_some() || flushed
+}
+
 /// Returns whether a notice waits for room in a lane from which a thread of the run takes notices.
 fn is_room_wanted(signals: &Signals, bells: &Bells) -> bool {
     for place in 0..MAX_SUBSCRIBERS {
@@ -91,15 +109,9 @@ pub(crate) fn consolidate<G: Genuine, N: FeedName, W: Wait>(
             None
         };
         let last = signals.have_lines_ended();
-        let done = take_turn(rt, feed, signals);
-        if let Some(fault) = done.refused {
-            signals.stop();
-            stopped = Some(reason_of(fault));
-        }
-        let flushed = flush_each(rt, feed, &done, first || last);
+        let has_worked = work_once(rt, feed, signals, first || last, &mut stopped);
         first = false;
-        let moved = done.consumed > 0 || done.offered > 0;
-        if moved || done.refused.is_some() || flushed {
+        if has_worked {
             looks = 0;
             continue;
         }
