@@ -19,20 +19,28 @@ use Rattle.live_feed.proofs.LaneEnds.{end_grows}
 
 module _ (journal venue : ℕ) (old after : Intake) where
   -- an item was journaled
-  item_journaled : (b : Bool) (next : Option Numbered) (position : ℕ) → AppliesTo (if b then Refused journal_full else journal_item venue next old) old (done.Consumed position) after
-      → (x : Numbered) × (after ≡ record { received = old.received ++ x ∷ []; entries = old.entries ++ entry.Consumed venue x ∷ [] })
+  item_journaled : (b : Bool) (next : Option Numbered) (position : ℕ)
+      → AppliesTo (if b then Refused journal_full else journal_item venue next old) old (done.Consumed position) after
+      → (x : Numbered) × (after ≡ record {
+        received = old.received ++ x ∷ [];
+        entries = old.entries ++ entry.Consumed venue x ∷ [];
+      })
   item_journaled true next position e = absurd (let h = e.0 in cc)
   item_journaled false None position e = absurd (let h = e.0 in cc)
   item_journaled false (Some x) position e = (x, e.1)
 
   -- where there was no item, there was room
-  none_journaled : (b : Bool) (next : Option Numbered) → AppliesTo (if b then Refused journal_full else journal_item venue next old) old done.LaneEmpty after → (b ≡ false) × (after ≡ old)
+  none_journaled : (b : Bool) (next : Option Numbered)
+      → AppliesTo (if b then Refused journal_full else journal_item venue next old) old done.LaneEmpty after
+      → (b ≡ false) × (after ≡ old)
   none_journaled true next e = absurd (let h = e.0 in cc)
   none_journaled false None e = (refl, e.1)
   none_journaled false (Some x) e = absurd (let h = e.0 in cc)
 
   -- and where the journal was full, there was none
-  refused_full : (b : Bool) (next : Option Numbered) → AppliesTo (if b then Refused journal_full else journal_item venue next old) old (done.Refused 17) after → (b ≡ true) × (after ≡ old)
+  refused_full : (b : Bool) (next : Option Numbered) → AppliesTo
+      (if b then Refused journal_full else journal_item venue next old) old (done.Refused 17) after
+      → (b ≡ true) × (after ≡ old)
   refused_full true next e = (refl, e.1)
   refused_full false None e = absurd (let h = e.0 in cc)
   refused_full false (Some x) e = absurd (let h = e.0 in cc)
@@ -49,7 +57,8 @@ module _ (venue : ℕ) (old : HubState) where
   no_items lane at = record {
     lane = lane;
     at = at;
-    received = sym (ap (λ (l : List Numbered). slice_set old.receivers venue (with_items lane l)) (append-nil lane.items) ∙ put_same old.receivers venue lane at);
+    received = sym (ap (λ (l : List Numbered). slice_set old.receivers venue (with_items lane l))
+        (append-nil lane.items) ∙ put_same old.receivers venue lane at);
     entries = sym (append-nil old.journal.entries);
     kept = refl;
   }
@@ -58,7 +67,11 @@ module _ (venue : ℕ) (old : HubState) where
   pub start_count : (after : HubState) → after ≡ old → venue < length old.receivers → ConsumesCount venue 0 old after
   start_count after same below =
       let there = get_within old.receivers venue below in
-      subst (λ (s : HubState). ConsumesCount venue 0 old s) (sym same) (record { items = []; count_is = refl; consumes = no_items there.0 there.1 })
+      subst (λ (s : HubState). ConsumesCount venue 0 old s) (sym same) (record {
+        items = [];
+        count_is = refl;
+        consumes = no_items there.0 there.1;
+      })
 
 module _ (may_send : ℕ → List Numbered → Type 0) (venue : ℕ) (old : HubState) where
   module _ (between new : HubState) (kept : KeepsButIntake between new) where
@@ -113,20 +126,35 @@ module _ (may_send : ℕ → List Numbered → Type 0) (venue : ℕ) (old : HubS
         }
 
   -- one more was journaled
-  pub one_more_item : (count position : ℕ) (between new : HubState) → ConsumesCount venue count old between → ConsumesOne may_send venue (Ok (Some position)) between new → KeepsButIntake between new → ConsumesCount venue (count + 1) old new
+  pub one_more_item : (count position : ℕ) (between new : HubState) → ConsumesCount venue count old between
+      → ConsumesOne may_send venue (Ok (Some position)) between new → KeepsButIntake between new
+      → ConsumesCount venue (count + 1) old new
   one_more_item count position between new r one kept =
       let more = one_item between new kept r.items position r.consumes one in
-      record { items = r.items ++ more.0 ∷ []; count_is = length-append r.items (more.0 ∷ []) ∙ ap (λ (n : ℕ). n + 1) r.count_is; consumes = more.1 }
+      record {
+        items = r.items ++ more.0 ∷ [];
+        count_is = length-append r.items (more.0 ∷ [])
+            ∙ ap (λ (n : ℕ). n + 1) r.count_is;
+        consumes = more.1;
+      }
 
   -- there is no further one
-  pub none_more_item : (count : ℕ) (between new : HubState) → ConsumesCount venue count old between → ConsumesOne may_send venue (Ok None) between new → KeepsButIntake between new → ConsumesCount venue count old new
-  none_more_item count between new r one kept = record { items = r.items; count_is = r.count_is; consumes = no_item_more between new kept r.items r.consumes one }
+  pub none_more_item : (count : ℕ) (between new : HubState) → ConsumesCount venue count old between
+      → ConsumesOne may_send venue (Ok None) between new → KeepsButIntake between new
+      → ConsumesCount venue count old new
+  none_more_item count between new r one kept = record {
+    items = r.items;
+    count_is = r.count_is;
+    consumes = no_item_more between new kept r.items r.consumes one;
+  }
 
   -- the lane was empty, and the journal had room
-  pub had_no_item : (between new : HubState) → between ≡ old → ConsumesOne may_send venue (Ok None) between new → HadNoItem may_send venue old
+  pub had_no_item : (between new : HubState) → between ≡ old → ConsumesOne may_send venue (Ok None) between new
+      → HadNoItem may_send venue old
   had_no_item between new same later =
       let one = subst (λ (s : HubState). ConsumesOne may_send venue (Ok None) s new) same later in
-      let found = none_journaled old.journal.journal venue (hub_intake one.lane old.journal) one.after (nat_le old.journal.journal (length old.journal.entries)) one.next one.comes in
+      let found = none_journaled old.journal.journal venue (hub_intake one.lane old.journal) one.after
+      (nat_le old.journal.journal (length old.journal.entries)) one.next one.comes in
       record {
         room = room_of old.journal.journal (length old.journal.entries) found.0;
         lane = one.lane;
@@ -135,7 +163,9 @@ module _ (may_send : ℕ → List Numbered → Type 0) (venue : ℕ) (old : HubS
       }
 
   -- the journal was full
-  pub was_full : (new : HubState) → ConsumesOne may_send venue (Err JournalFull) old new → old.journal.journal ≤ length old.journal.entries
+  pub was_full : (new : HubState) → ConsumesOne may_send venue (Err JournalFull) old new
+      → old.journal.journal ≤ length old.journal.entries
   was_full new one =
-      let found = refused_full old.journal.journal venue (hub_intake one.lane old.journal) one.after (nat_le old.journal.journal (length old.journal.entries)) one.next one.comes in
+      let found = refused_full old.journal.journal venue (hub_intake one.lane old.journal) one.after
+      (nat_le old.journal.journal (length old.journal.entries)) one.next one.comes in
       full_of old.journal.journal (length old.journal.entries) found.0

@@ -7,9 +7,7 @@ use Rattle.feed_types.specs.declared.item.Numbered.{Numbered}
 use Rattle.feed_types.specs.declared.line.LineId.{LineId}
 use Rattle.feed_types.specs.declared.line.LineId.TheVariants.{A, B, Recovery}
 use Rattle.feed_types.specs.Prefix.{IsPrefix}
-use Rattle.feed_types.specs.Sequence.{Carries, Ends, IsInSequence}
 use Rattle.feed_types.specs.SequenceLaws.{prefix_in_sequence}
-use Rattle.feed_types.specs.Sessions.{SessionNames}
 use Rattle.mold_packet.specs.Content.{Content, IsContent}
 use Rattle.line_arbiter.specs.Counts.{shown}
 use Rattle.line_arbiter.specs.declared.outcome.Outcome.{Outcome}
@@ -18,7 +16,6 @@ use Rattle.line_arbiter.specs.declared.outcome.LineFault.{LineFault}
 use Rattle.line_arbiter.specs.Packets.{Arrival, arrival_of}
 use Rattle.line_arbiter.specs.Streams.{IsComplete, is_same_line, stream_of}
 use Rattle.line_arbiter.specs.Outcomes.{IsOutcome}
-use Rattle.line_arbiter.specs.Genuine.{IsGenuine}
 use Rattle.line_arbiter.specs.declared.in_order.InOrder.{InOrder}
 use Rattle.line_arbiter.specs.declared.in_order.InOrder.TheVariants.{Next}
 use Rattle.line_arbiter.specs.InOrder.{BringsInOrder, IsOrder, outcome_in_order, sent_in_order}
@@ -31,10 +28,12 @@ use Rattle.line_arbiter.specs.Fits.{Fits}
 use Rattle.fifo_lane.specs.Lane.{LaneEnd, with_items, WasFull}
 use Rattle.line_arbiter.specs.laws.Histories.{items_push}
 use Rattle.line_arbiter.specs.laws.FitsHistory.{fits_new, fits_packet, fits_push, fits_renewal, keeps_session, ordinal_is, outcome_in, renewal_in}
+use Rattle.feed_types.specs.declared.genuine.Genuine.{Ghosts as Genuine}
+use Rattle.live_feed.specs.Premises.{AreInSequence, IsGenuinePacket}
 use Rattle.live_feed.specs.Lanes.{FeedLanes}
 use Rattle.live_feed.specs.venue.Sums.{Sums, no_sums, sums_after, accepted_on, sums_on, line_sums_after, LineSums}
-use Rattle.live_feed.specs.venue.Cells.{CellState, FitsCell, AreGivenFrom, VenueLockInvariant, arrivals_of, new_cell}
-use Rattle.live_feed.specs.venue.Sections.{TakesPacket, IsAnsweredBy, IsFlushedBy, HasNoneReady, KeepsButSent, Pushes, TakesAndPushes, PushesOne, RenewsSession}
+use Rattle.live_feed.specs.venue.Cells.{CellState, FitsCell, AreGivenFrom, VenueLockInvariant, DoneAtVenue, arrivals_of, new_cell}
+use Rattle.live_feed.specs.venue.Sections.{TakesPacket, HasNoneReady, KeepsButSent, Pushes, TakesAndPushes, PushesOne, RenewsSession}
 use Rattle.feed_core.specs.declared.event.Done.TheVariants as done
 use Rattle.feed_core.specs.Steps.{AppliesTo, push_next}
 use Rattle.line_arbiter.specs.Renewals.{IsRenewal}
@@ -46,7 +45,8 @@ use Rattle.live_feed.proofs.Histories.{take_same, take_next, get_sent, arrivals_
 
 -- the sums of this line go on by the packet, those of others stay
 adds_on : (line l : LineId) (s : LineSums) (p : Content) (answer : Result Outcome LineFault)
-    → sums_on l (line_sums_after line p answer s) ≡ (if is_same_line line l then sums_after (sums_on l s) p answer else sums_on l s)
+    → sums_on l (line_sums_after line p answer s) ≡ (if is_same_line line l then sums_after (sums_on l s) p answer else
+    sums_on l s)
 adds_on A A s p answer = refl
 adds_on A B s p answer = refl
 adds_on A Recovery s p answer = refl
@@ -57,25 +57,31 @@ adds_on Recovery A s p answer = refl
 adds_on Recovery B s p answer = refl
 adds_on Recovery Recovery s p answer = refl
 
-pub no_more : (line : LineId) (s : LineSums) (p : Content) (fault : LineFault) → line_sums_after line p (Err fault) s ≡ s
+pub no_more : (line : LineId) (s : LineSums) (p : Content) (fault : LineFault)
+    → line_sums_after line p (Err fault) s ≡ s
 no_more A s p fault = refl
 no_more B s p fault = refl
 no_more Recovery s p fault = refl
 
 -- with one more packet they are those of all packets
-sums_more : (old : CellState) (sums : LineSums) (h : History) (line : LineId) (p : Content) (answer : Result Outcome LineFault) → FitsCell old h → sums ≡ line_sums_after line p answer old.accepted
-    → (l : LineId) → sums_on l sums ≡ accepted_on l (arrivals_of (all_begun (after_arrival h (arrival_of line p answer))))
+sums_more : (old : CellState) (sums : LineSums) (h : History) (line : LineId) (p : Content)
+    (answer : Result Outcome LineFault) → FitsCell old h → sums ≡ line_sums_after line p answer old.accepted
+    → (l : LineId) → sums_on l sums ≡ accepted_on l (arrivals_of
+    (all_begun (after_arrival h (arrival_of line p answer))))
 sums_more old sums h line p answer f is l =
     ap (sums_on l) is
     ∙ adds_on line l old.accepted p answer
     ∙ ap (λ (s : Sums). if is_same_line line l then sums_after s p answer else s) (f.accepted l)
-    ∙ sym (fold-append (λ (s : Sums) (x : Arrival). if is_same_line x.line l then sums_after s x.packet x.answer else s) no_sums (arrivals_of (all_begun h)) (arrival_of line p answer ∷ []))
+    ∙ sym (fold-append (λ (s : Sums) (x : Arrival). if is_same_line x.line l then sums_after s x.packet x.answer else s)
+    no_sums (arrivals_of (all_begun h)) (arrival_of line p answer ∷ []))
     ∙ ap (accepted_on l) (sym (arrivals_more h (arrival_of line p answer)))
 
 -- ---- a packet
 
-module _ (old new : CellState) (h : History) (line : LineId) (p : Content) (answer : Result Outcome LineFault) (f : FitsCell old h) (lane : new.lane ≡ old.lane) (kept : KeepsItsPlace old.arbiter new.arbiter)
-    (fits : Fits new.arbiter (h.present.packets ++ arrival_of line p answer ∷ [])) (grows : IsPrefix (stream_of h.present.packets) (stream_of (h.present.packets ++ arrival_of line p answer ∷ [])))
+module _ (old new : CellState) (h : History) (line : LineId) (p : Content) (answer : Result Outcome LineFault)
+    (f : FitsCell old h) (lane : new.lane ≡ old.lane) (kept : KeepsItsPlace old.arbiter new.arbiter)
+    (fits : Fits new.arbiter (h.present.packets ++ arrival_of line p answer ∷ []))
+    (grows : IsPrefix (stream_of h.present.packets) (stream_of (h.present.packets ++ arrival_of line p answer ∷ [])))
     (sums : new.accepted ≡ line_sums_after line p answer old.accepted) where
   abbrev a : Arrival
   a = arrival_of line p answer
@@ -86,99 +92,128 @@ module _ (old new : CellState) (h : History) (line : LineId) (p : Content) (answ
     sent =
         ap (λ (e : LaneEnd Numbered). e.items) lane ∙ f.sent
         ∙ ap (λ (xs : List Numbered). items_of h.earlier ++ xs)
-        (sym (take_same (stream_of h.present.packets) (stream_of (h.present.packets ++ a ∷ [])) old.arbiter.sent grows f.history.present.sent) ∙ ap (λ (n : ℕ). take n (stream_of (h.present.packets ++ a ∷ []))) (sym kept.sent));
+        (sym (take_same (stream_of h.present.packets) (stream_of (h.present.packets ++ a ∷ [])) old.arbiter.sent grows
+        f.history.present.sent) ∙ ap (λ (n : ℕ). take n (stream_of (h.present.packets ++ a ∷ []))) (sym kept.sent));
     accepted = sums_more old new.accepted h line p answer f sums;
   }
 
-  right_at : IsOutcome old.arbiter.session old.arbiter.window old.arbiter.sent h.present.packets p answer → IsOutcome h.present.name old.arbiter.window old.arbiter.sent h.present.packets p answer
+  right_at : IsOutcome old.arbiter.session old.arbiter.window old.arbiter.sent h.present.packets p answer
+      → IsOutcome h.present.name old.arbiter.window old.arbiter.sent h.present.packets p answer
   right_at o = outcome_in h p answer f.history o
 
-  pub takes : IsOutcome old.arbiter.session old.arbiter.window old.arbiter.sent h.present.packets p answer → TakesPacket line p answer h old new
+  pub takes : IsOutcome old.arbiter.session old.arbiter.window old.arbiter.sent h.present.packets p answer
+      → TakesPacket line p answer h old new
   takes o = record { after = after_arrival h a; taken = record { right = right_at o; is = refl }; fits = packet_fits }
 
-pub answered : (sessions : SessionNames) (carries : Carries) (ends : Ends) (lanes : FeedLanes) (old new : CellState) (venue : ℕ) (line : LineId) (p : Content) (answer : Result Outcome LineFault) (k : VenueLockInvariant sessions carries ends lanes old)
-    → old.arbiter.venue ≡ venue → TakesPacket line p answer k.history old new → IsAnsweredBy sessions carries ends lanes venue line p answer
-answered sessions carries ends lanes old new venue line p answer k venue_is takes = record { old = old; kept = k; venue_is = venue_is; new = new; takes = takes }
-
 -- what was given, with one more packet
-pub given_after : (sessions : SessionNames) (carries : Carries) (ends : Ends) (lanes : FeedLanes) (old : CellState) (line : LineId) (p : Content) (answer : Result Outcome LineFault) (k : VenueLockInvariant sessions carries ends lanes old) → IsContent p
-    → IsOutcome old.arbiter.session old.arbiter.window old.arbiter.sent k.history.present.packets p answer → IsGenuine sessions carries ends old.arbiter.venue p
-    → AreGivenFrom carries ends old.arbiter.venue old.arbiter.window 1 k.history.earlier (after_arrival k.history (arrival_of line p answer)).present
-given_after sessions carries ends lanes old line p answer k content o genuine =
+pub given_after : {S : Type 0} (premise : Genuine S) (lanes : FeedLanes) (old : CellState) (line : LineId) (p : Content)
+    (answer : Result Outcome LineFault) (k : VenueLockInvariant premise lanes old) → IsContent p
+    → IsOutcome old.arbiter.session old.arbiter.window old.arbiter.sent k.history.present.packets p answer
+    → IsGenuinePacket premise old.arbiter.venue p
+    → AreGivenFrom premise old.arbiter.venue old.arbiter.window 1 k.history.earlier
+    (after_arrival k.history (arrival_of line p answer)).present
+given_after premise lanes old line p answer k content o genuine =
     let h = k.history in
     let f = k.fits in
     let venue = old.arbiter.venue in
     let window = old.arbiter.window in
     let right = outcome_in h p answer f.history o in
     let ordinal : ordinal_of old.arbiter ≡ 1 + length h.earlier = ordinal_is h f.history in
-    let named : sessions venue (1 + length h.earlier) h.present.name = subst (λ (x : ℕ × List ℕ). sessions venue x.0 x.1) (λ i. (ordinal i, f.history.session i)) k.named in
-    present_more carries ends venue window 1 h.earlier h.present (after_arrival h (arrival_of line p answer)).present
-    (given_more carries ends venue window (1 + length h.earlier) h.present (arrival_of line p answer) (λ same. genuine (1 + length h.earlier) (subst (λ (n : List ℕ). sessions venue (1 + length h.earlier) n) (sym same) named)) (record { content = content; sent = old.arbiter.sent; outcome = right }))
+    let named : premise.sessions venue (1 + length h.earlier) h.present.name =
+    subst (λ (x : ℕ × List ℕ). premise.sessions venue x.0 x.1) (λ i. (ordinal i, f.history.session i)) k.named in
+    present_more premise venue window 1 h.earlier h.present (after_arrival h (arrival_of line p answer)).present
+    (given_more premise venue window (1 + length h.earlier) h.present (arrival_of line p answer)
+    (λ same. genuine (1 + length h.earlier) (subst (λ (n : List ℕ). premise.sessions venue (1 + length h.earlier) n)
+    (sym same) named)) (record { content = content; sent = old.arbiter.sent; outcome = right }))
     k.given
 
 -- a cell of the same session, which was given one more packet
-module _ (sessions : SessionNames) (carries : Carries) (ends : Ends) (lanes : FeedLanes) (old new : CellState) (line : LineId) (p : Content) (answer : Result Outcome LineFault) (k : VenueLockInvariant sessions carries ends lanes old)
-    (kept : KeepsItsSession old.arbiter new.arbiter) (tag : new.lane.tag ≡ old.lane.tag) (lane : new.lane.lane ≡ old.lane.lane) (capacity : new.lane.capacity ≡ old.lane.capacity) (fits : FitsCell new (after_arrival k.history (arrival_of line p answer))) (content : IsContent p)
-    (o : IsOutcome old.arbiter.session old.arbiter.window old.arbiter.sent k.history.present.packets p answer) (genuine : IsGenuine sessions carries ends old.arbiter.venue p) where
-  pub more_kept : VenueLockInvariant sessions carries ends lanes new
+module _ {S : Type 0} (premise : Genuine S) (lanes : FeedLanes) (old new : CellState) (line : LineId) (p : Content)
+    (answer : Result Outcome LineFault) (k : VenueLockInvariant premise lanes old)
+    (kept : KeepsItsSession old.arbiter new.arbiter) (tag : new.lane.tag ≡ old.lane.tag)
+    (lane : new.lane.lane ≡ old.lane.lane) (capacity : new.lane.capacity ≡ old.lane.capacity)
+    (fits : FitsCell new (after_arrival k.history (arrival_of line p answer))) (content : IsContent p)
+    (o : IsOutcome old.arbiter.session old.arbiter.window old.arbiter.sent k.history.present.packets p answer)
+    (genuine : IsGenuinePacket premise old.arbiter.venue p) where
+  pub more_kept : VenueLockInvariant premise lanes new
   more_kept = record {
     history = after_arrival k.history (arrival_of line p answer);
     fits = fits;
-    given = subst (λ (x : ℕ × ℕ). AreGivenFrom carries ends x.0 x.1 1 k.history.earlier (after_arrival k.history (arrival_of line p answer)).present) (λ i. (sym kept.venue i, sym kept.window i))
-        (given_after sessions carries ends lanes old line p answer k content o genuine);
-    named = subst (λ (x : ℕ × (List (List ℕ) × List ℕ)). sessions x.0 (length x.1.0) x.1.1) (λ i. (sym kept.venue i, (sym kept.sessions i, sym kept.session i))) k.named;
+    given = subst (λ (x : ℕ × ℕ). AreGivenFrom premise x.0 x.1 1 k.history.earlier
+        (after_arrival k.history (arrival_of line p answer)).present) (λ i. (sym kept.venue i, sym kept.window i))
+        (given_after premise lanes old line p answer k content o genuine);
+    named = subst (λ (x : ℕ × (List (List ℕ) × List ℕ)). premise.sessions x.0 (length x.1.0) x.1.1)
+        (λ i. (sym kept.venue i, (sym kept.sessions i, sym kept.session i))) k.named;
     tag = tag ∙ k.tag ∙ sym kept.venue;
     lane = ap (slice_get lanes.venues) kept.venue ∙ k.lane ∙ ap Some (sym lane);
     window = kept.window ∙ k.window;
     capacity = capacity ∙ k.capacity;
   }
 
-pub packet_kept : (sessions : SessionNames) (carries : Carries) (ends : Ends) (lanes : FeedLanes) (old new : CellState) (line : LineId) (p : Content) (answer : Result Outcome LineFault) (k : VenueLockInvariant sessions carries ends lanes old)
-    → new.lane ≡ old.lane → KeepsItsPlace old.arbiter new.arbiter → FitsCell new (after_arrival k.history (arrival_of line p answer)) → IsContent p
-    → IsOutcome old.arbiter.session old.arbiter.window old.arbiter.sent k.history.present.packets p answer → IsGenuine sessions carries ends old.arbiter.venue p → VenueLockInvariant sessions carries ends lanes new
-packet_kept sessions carries ends lanes old new line p answer k lane kept fits content o genuine =
-    more_kept sessions carries ends lanes old new line p answer k (keeps_session kept) (ap (λ (e : LaneEnd Numbered). e.tag) lane) (ap (λ (e : LaneEnd Numbered). e.lane) lane) (ap (λ (e : LaneEnd Numbered). e.capacity) lane) fits content o genuine
+pub packet_kept : {S : Type 0} (premise : Genuine S) (lanes : FeedLanes) (old new : CellState) (line : LineId)
+    (p : Content) (answer : Result Outcome LineFault) (k : VenueLockInvariant premise lanes old)
+    → new.lane ≡ old.lane → KeepsItsPlace old.arbiter new.arbiter
+    → FitsCell new (after_arrival k.history (arrival_of line p answer)) → IsContent p
+    → IsOutcome old.arbiter.session old.arbiter.window old.arbiter.sent k.history.present.packets p answer
+    → IsGenuinePacket premise old.arbiter.venue p → VenueLockInvariant premise lanes new
+packet_kept premise lanes old new line p answer k lane kept fits content o genuine =
+    more_kept premise lanes old new line p answer k (keeps_session kept) (ap (λ (e : LaneEnd Numbered). e.tag) lane)
+    (ap (λ (e : LaneEnd Numbered). e.lane) lane) (ap (λ (e : LaneEnd Numbered). e.capacity) lane) fits content o
+    genuine
 
 -- ---- a push
 
 -- the items that were sent are a prefix of the streams
-module _ (items : List Numbered) (sent : ℕ) (h : History) (is : items ≡ items_of h.earlier ++ take sent (stream_of h.present.packets)) where
+module _ (items : List Numbered) (sent : ℕ) (h : History)
+    (is : items ≡ items_of h.earlier ++ take sent (stream_of h.present.packets)) where
   -- the next item of all streams is that of the present one
-  pub next_is : sent ≤ length (stream_of h.present.packets) → slice_get (streams_of h) (length items) ≡ slice_get (stream_of h.present.packets) sent
+  pub next_is : sent ≤ length (stream_of h.present.packets)
+      → slice_get (streams_of h) (length items) ≡ slice_get (stream_of h.present.packets) sent
   next_is le =
       ap (λ (xs : List Numbered). slice_get xs (length items)) (items_push h.earlier h.present)
       ∙ get_sent (items_of h.earlier) (stream_of h.present.packets) items sent is le
 
-  sent_more : (x : Numbered) (n : ℕ) → n ≡ sent + 1 → Some x ≡ slice_get (stream_of h.present.packets) sent → items ++ x ∷ [] ≡ items_of h.earlier ++ take n (stream_of h.present.packets)
+  sent_more : (x : Numbered) (n : ℕ) → n ≡ sent + 1 → Some x ≡ slice_get (stream_of h.present.packets) sent
+      → items ++ x ∷ [] ≡ items_of h.earlier ++ take n (stream_of h.present.packets)
   sent_more x n one e =
       ap (λ (xs : List Numbered). xs ++ x ∷ []) is
       ∙ append_assoc (items_of h.earlier) (take sent (stream_of h.present.packets)) (x ∷ [])
-      ∙ ap (λ (xs : List Numbered). items_of h.earlier ++ xs) (sym (take_next (stream_of h.present.packets) sent n x one e))
+      ∙ ap (λ (xs : List Numbered). items_of h.earlier ++ xs)
+      (sym (take_next (stream_of h.present.packets) sent n x one e))
 
   -- it may be sent
-  pub may_push : (carries : Carries) (ends : Ends) (venue window : ℕ) (x : Numbered) → AreGivenFrom carries ends venue window 1 h.earlier h.present → Some x ≡ slice_get (stream_of h.present.packets) sent → IsInSequence carries ends venue (items ++ x ∷ [])
-  may_push carries ends venue window x given e =
+  pub may_push : {S : Type 0} (premise : Genuine S) (venue window : ℕ) (x : Numbered)
+      → AreGivenFrom premise venue window 1 h.earlier h.present → Some x ≡ slice_get (stream_of h.present.packets) sent
+      → AreInSequence premise venue (items ++ x ∷ [])
+  may_push premise venue window x given e =
       let stream = stream_of h.present.packets in
       let n = sent + 1 in
       let whole : streams_of h ≡ (items_of h.earlier ++ take n stream) ++ drop n stream =
-      items_push h.earlier h.present ∙ ap (λ (xs : List Numbered). items_of h.earlier ++ xs) (sym (take-append-drop n stream)) ∙ sym (append_assoc (items_of h.earlier) (take n stream) (drop n stream)) in
-      let all : IsInSequence carries ends venue ((items_of h.earlier ++ take n stream) ++ drop n stream) =
-      subst (λ (xs : List Numbered). IsInSequence carries ends venue xs) whole (streams_sequence carries ends venue window h given) in
-      subst (λ (xs : List Numbered). IsInSequence carries ends venue xs) (sym (sent_more x n refl e)) (prefix_in_sequence carries ends venue (items_of h.earlier ++ take n stream) (drop n stream) all)
+      items_push h.earlier h.present ∙ ap (λ (xs : List Numbered). items_of h.earlier ++ xs)
+      (sym (take-append-drop n stream)) ∙ sym (append_assoc (items_of h.earlier) (take n stream) (drop n stream)) in
+      let all : AreInSequence premise venue ((items_of h.earlier ++ take n stream) ++ drop n stream) =
+      subst (λ (xs : List Numbered). AreInSequence premise venue xs) whole
+      (streams_sequence premise venue window h given) in
+      subst (λ (xs : List Numbered). AreInSequence premise venue xs) (sym (sent_more x n refl e))
+      (prefix_in_sequence premise.carries premise.ends venue (items_of h.earlier ++ take n stream) (drop n stream)
+      all)
 
 module _ (c : CellState) (h : History) (f : FitsCell c h) where
   next_of_cell : slice_get (streams_of h) (length c.lane.items) ≡ slice_get (stream_of h.present.packets) c.arbiter.sent
   next_of_cell = next_is c.lane.items c.arbiter.sent h f.sent f.history.present.sent
 
-  pub push_fits : (new : CellState) (x : Numbered) → Some x ≡ slice_get (stream_of h.present.packets) c.arbiter.sent → new.lane ≡ with_items c.lane (c.lane.items ++ x ∷ []) → new.accepted ≡ c.accepted
+  pub push_fits : (new : CellState) (x : Numbered) → Some x ≡ slice_get (stream_of h.present.packets) c.arbiter.sent
+      → new.lane ≡ with_items c.lane (c.lane.items ++ x ∷ []) → new.accepted ≡ c.accepted
       → IsAdvanced c.arbiter new.arbiter → Fits new.arbiter h.present.packets → FitsCell new h
   push_fits new x e lane sums advanced fits = record {
     history = fits_push h f.history advanced.kept fits;
-    sent = ap (λ (e : LaneEnd Numbered). e.items) lane ∙ sent_more c.lane.items c.arbiter.sent h f.sent x new.arbiter.sent advanced.sent e;
+    sent = ap (λ (e : LaneEnd Numbered). e.items) lane
+        ∙ sent_more c.lane.items c.arbiter.sent h f.sent x new.arbiter.sent advanced.sent e;
     accepted = λ l. ap (sums_on l) sums ∙ f.accepted l;
   }
 
-  pub pushes : (may_send : ℕ → List Numbered → Type 0) (new : CellState) (x : Numbered) (number : ℕ) → Some x ≡ slice_get (stream_of h.present.packets) c.arbiter.sent → number ≡ x.number
+  pub pushes : (may_send : ℕ → List Numbered → Type 0) (new : CellState) (x : Numbered) (number : ℕ)
+      → Some x ≡ slice_get (stream_of h.present.packets) c.arbiter.sent → number ≡ x.number
       → new.lane ≡ with_items c.lane (c.lane.items ++ x ∷ []) → FitsCell new h → PushesOne may_send (Ok number) h c new
   pushes may_send new x number e is lane fits = record {
     full = false;
@@ -187,7 +222,8 @@ module _ (c : CellState) (h : History) (f : FitsCell c h) where
     fits = fits;
   }
 
-  pub push_nothing : (may_send : ℕ → List Numbered → Type 0) → None ≡ slice_get (stream_of h.present.packets) c.arbiter.sent → PushesOne may_send (Err unsent.Nothing) h c c
+  pub push_nothing : (may_send : ℕ → List Numbered → Type 0)
+      → None ≡ slice_get (stream_of h.present.packets) c.arbiter.sent → PushesOne may_send (Err unsent.Nothing) h c c
   push_nothing may_send e = record {
     full = false;
     was_full = λ t. absurd cc;
@@ -195,7 +231,9 @@ module _ (c : CellState) (h : History) (f : FitsCell c h) where
     fits = f;
   }
 
-  pub push_full : (may_send : ℕ → List Numbered → Type 0) (x : Numbered) → Some x ≡ slice_get (stream_of h.present.packets) c.arbiter.sent → WasFull may_send c.lane → PushesOne may_send (Err unsent.LaneFull) h c c
+  pub push_full : (may_send : ℕ → List Numbered → Type 0) (x : Numbered)
+      → Some x ≡ slice_get (stream_of h.present.packets) c.arbiter.sent → WasFull may_send c.lane
+      → PushesOne may_send (Err unsent.LaneFull) h c c
   push_full may_send x e was = record {
     full = true;
     was_full = λ t. was;
@@ -203,15 +241,20 @@ module _ (c : CellState) (h : History) (f : FitsCell c h) where
     fits = f;
   }
 
-pub push_kept : (sessions : SessionNames) (carries : Carries) (ends : Ends) (lanes : FeedLanes) (old new : CellState) (x : Numbered) (k : VenueLockInvariant sessions carries ends lanes old)
-    → new.lane ≡ with_items old.lane (old.lane.items ++ x ∷ []) → IsAdvanced old.arbiter new.arbiter → FitsCell new k.history → VenueLockInvariant sessions carries ends lanes new
-push_kept sessions carries ends lanes old new x k lane advanced fits = record {
+pub push_kept : {S : Type 0} (premise : Genuine S) (lanes : FeedLanes) (old new : CellState) (x : Numbered)
+    (k : VenueLockInvariant premise lanes old)
+    → new.lane ≡ with_items old.lane (old.lane.items ++ x ∷ []) → IsAdvanced old.arbiter new.arbiter
+    → FitsCell new k.history → VenueLockInvariant premise lanes new
+push_kept premise lanes old new x k lane advanced fits = record {
   history = k.history;
   fits = fits;
-  given = subst (λ (x : ℕ × ℕ). AreGivenFrom carries ends x.0 x.1 1 k.history.earlier k.history.present) (λ i. (sym advanced.kept.venue i, sym advanced.kept.window i)) k.given;
-  named = subst (λ (x : ℕ × (List (List ℕ) × List ℕ)). sessions x.0 (length x.1.0) x.1.1) (λ i. (sym advanced.kept.venue i, (sym advanced.kept.sessions i, sym advanced.kept.session i))) k.named;
+  given = subst (λ (x : ℕ × ℕ). AreGivenFrom premise x.0 x.1 1 k.history.earlier k.history.present)
+      (λ i. (sym advanced.kept.venue i, sym advanced.kept.window i)) k.given;
+  named = subst (λ (x : ℕ × (List (List ℕ) × List ℕ)). premise.sessions x.0 (length x.1.0) x.1.1)
+      (λ i. (sym advanced.kept.venue i, (sym advanced.kept.sessions i, sym advanced.kept.session i))) k.named;
   tag = ap (λ (e : LaneEnd Numbered). e.tag) lane ∙ k.tag ∙ sym advanced.kept.venue;
-  lane = ap (slice_get lanes.venues) advanced.kept.venue ∙ k.lane ∙ ap (λ (e : LaneEnd Numbered). Some e.lane) (sym lane);
+  lane = ap (slice_get lanes.venues) advanced.kept.venue ∙ k.lane
+      ∙ ap (λ (e : LaneEnd Numbered). Some e.lane) (sym lane);
   window = advanced.kept.window ∙ k.window;
   capacity = ap (λ (e : LaneEnd Numbered). e.capacity) lane ∙ k.capacity;
 }
@@ -220,7 +263,8 @@ push_kept sessions carries ends lanes old new x k lane advanced fits = record {
 
 -- What such a packet brings: it is answered as new, the stream stays as it is up to there, and its
 -- item is there.
-pub record BringsNext (session : List ℕ) (window sent : ℕ) (packets : List Arrival) (line : LineId) (p : Content) (x : Numbered) : Type 0 where
+pub record BringsNext (session : List ℕ) (window sent : ℕ) (packets : List Arrival) (line : LineId) (p : Content)
+    (x : Numbered) : Type 0 where
   pub answer : IsOutcome session window sent packets p (Ok (Taken 1 0))
   pub grows : IsPrefix (stream_of packets) (stream_of (packets ++ arrival_of line p (Ok (Taken 1 0)) ∷ []))
   pub item : Some x ≡ slice_get (stream_of (packets ++ arrival_of line p (Ok (Taken 1 0)) ∷ [])) sent
@@ -240,13 +284,16 @@ pub first_number : (n : ℕ) (x : Numbered) (xs : List Item) → x ∷ [] ≡ nu
 first_number n x [] e = absurd cc
 first_number n x (y ∷ ys) e = cc
 
-module _ (s : State) (packets : List Arrival) (p : Content) (order : InOrder) (last : ℕ) (is : order ≡ Next last) (x : Numbered) (item : x ∷ [] ≡ numbered_from p.number (map item_of p.messages)) where
+module _ (s : State) (packets : List Arrival) (p : Content) (order : InOrder) (last : ℕ) (is : order ≡ Next last)
+    (x : Numbered) (item : x ∷ [] ≡ numbered_from p.number (map item_of p.messages)) where
   one_message : length p.messages ≡ 1
   one_message = has_one p.number x p.messages item
 
-  pub brings_next : (line : LineId) → BringsInOrder s.session s.window s.sent packets line p order → BringsNext s.session s.window s.sent packets line p x
+  pub brings_next : (line : LineId) → BringsInOrder s.session s.window s.sent packets line p order
+      → BringsNext s.session s.window s.sent packets line p x
   brings_next line brings =
-      let b : BringsInOrder s.session s.window s.sent packets line p (Next last) = subst (λ (o : InOrder). BringsInOrder s.session s.window s.sent packets line p o) is brings in
+      let b : BringsInOrder s.session s.window s.sent packets line p (Next last) =
+      subst (λ (o : InOrder). BringsInOrder s.session s.window s.sent packets line p o) is brings in
       let one = one_message in
       let added : ℕ → List Arrival = λ n. packets ++ arrival_of line p (Ok (Taken n 0)) ∷ [] in
       let S = stream_of (added (length p.messages)) in
@@ -269,7 +316,8 @@ module _ (s : State) (packets : List Arrival) (p : Content) (order : InOrder) (l
       let there : to ≡ last = e ∙ ap (λ (o : InOrder). sent_in_order o s.sent) is in
       omega arith
 
-module _ (old : CellState) (h : History) (line : LineId) (p : Content) (x : Numbered) (f : FitsCell old h) (brings : BringsNext old.arbiter.session old.arbiter.window old.arbiter.sent h.present.packets line p x) where
+module _ (old : CellState) (h : History) (line : LineId) (p : Content) (x : Numbered) (f : FitsCell old h)
+    (brings : BringsNext old.arbiter.session old.arbiter.window old.arbiter.sent h.present.packets line p x) where
   abbrev passed : Arrival
   passed = arrival_of line p (Ok (Taken 1 0))
 
@@ -278,24 +326,36 @@ module _ (old : CellState) (h : History) (line : LineId) (p : Content) (x : Numb
 
   -- the items that were sent are a prefix with the packet, too
   sent_before : old.lane.items ≡ items_of h.earlier ++ take old.arbiter.sent more
-  sent_before = f.sent ∙ ap (λ (xs : List Numbered). items_of h.earlier ++ xs) (sym (take_same (stream_of h.present.packets) more old.arbiter.sent brings.grows f.history.present.sent))
+  sent_before = f.sent ∙ ap (λ (xs : List Numbered). items_of h.earlier ++ xs)
+      (sym (take_same (stream_of h.present.packets) more old.arbiter.sent brings.grows f.history.present.sent))
 
   is_there : old.arbiter.sent ≤ length more
   is_there =
       let le : old.arbiter.sent ≤ length (stream_of h.present.packets) = f.history.present.sent in
-      let e : length more ≡ length (stream_of h.present.packets) + length brings.grows.rest = ap length brings.grows.is ∙ length-append (stream_of h.present.packets) brings.grows.rest in
+      let e : length more ≡ length (stream_of h.present.packets) + length brings.grows.rest = ap length brings.grows.is
+      ∙ length-append (stream_of h.present.packets) brings.grows.rest in
       omega arith
 
-  pub may_pass : (carries : Carries) (ends : Ends) (venue window : ℕ) → AreGivenFrom carries ends venue window 1 h.earlier (after_arrival h passed).present → IsInSequence carries ends venue (old.lane.items ++ x ∷ [])
-  may_pass carries ends venue window given = may_push old.lane.items old.arbiter.sent (after_arrival h passed) sent_before carries ends venue window x given brings.item
+  pub may_pass : {S : Type 0} (premise : Genuine S) (venue window : ℕ)
+      → AreGivenFrom premise venue window 1 h.earlier (after_arrival h passed).present
+      → AreInSequence premise venue (old.lane.items ++ x ∷ [])
+  may_pass premise venue window given = may_push old.lane.items old.arbiter.sent (after_arrival h passed) sent_before
+      premise venue window x given brings.item
 
-  module _ (new : CellState) (outcome : Outcome) (one : outcome ≡ Taken 1 0) (lane : new.lane ≡ with_items old.lane (old.lane.items ++ x ∷ [])) (sent : new.arbiter.sent ≡ old.arbiter.sent + 1) (kept : KeepsItsSession old.arbiter new.arbiter)
-      (fits : Fits new.arbiter (h.present.packets ++ arrival_of line p (Ok outcome) ∷ [])) (sums : new.accepted ≡ line_sums_after line p (Ok outcome) old.accepted) where
+  module _ (new : CellState) (outcome : Outcome) (one : outcome ≡ Taken 1 0)
+      (lane : new.lane ≡ with_items old.lane (old.lane.items ++ x ∷ []))
+      (sent : new.arbiter.sent ≡ old.arbiter.sent + 1) (kept : KeepsItsSession old.arbiter new.arbiter)
+      (fits : Fits new.arbiter (h.present.packets ++ arrival_of line p (Ok outcome) ∷ []))
+      (sums : new.accepted ≡ line_sums_after line p (Ok outcome) old.accepted) where
     pub pass_fits : FitsCell new (after_arrival h passed)
     pass_fits = record {
-      history = fits_packet h passed f.history kept (subst (λ (o : Outcome). Fits new.arbiter (h.present.packets ++ arrival_of line p (Ok o) ∷ [])) one fits);
-      sent = ap (λ (e : LaneEnd Numbered). e.items) lane ∙ sent_more old.lane.items old.arbiter.sent (after_arrival h passed) sent_before x new.arbiter.sent sent brings.item;
-      accepted = sums_more old new.accepted h line p (Ok (Taken 1 0)) f (subst (λ (o : Outcome). new.accepted ≡ line_sums_after line p (Ok o) old.accepted) one sums);
+      history = fits_packet h passed f.history kept (subst
+          (λ (o : Outcome). Fits new.arbiter (h.present.packets ++ arrival_of line p (Ok o) ∷ [])) one fits);
+      sent = ap (λ (e : LaneEnd Numbered). e.items) lane
+          ∙ sent_more old.lane.items old.arbiter.sent (after_arrival h passed) sent_before x new.arbiter.sent sent
+          brings.item;
+      accepted = sums_more old new.accepted h line p (Ok (Taken 1 0)) f
+          (subst (λ (o : Outcome). new.accepted ≡ line_sums_after line p (Ok o) old.accepted) one sums);
     }
 
     abbrev takes_one : TakesPacket line p (Ok (Taken 1 0)) h old new
@@ -311,7 +371,11 @@ module _ (old : CellState) (h : History) (line : LineId) (p : Content) (x : Numb
     pub passes : x.number ≡ p.number → TakesAndPushes line p outcome h old new
     passes number = subst (λ (o : Outcome). TakesAndPushes line p o h old new) (sym one) (record {
       takes = takes_one;
-      comes = rw (next_is old.lane.items old.arbiter.sent (after_arrival h passed) sent_before is_there, ← brings.item, ← number) (refl, ap (λ (e : LaneEnd Numbered). e.items) lane);
+      comes = rw (
+        next_is old.lane.items old.arbiter.sent (after_arrival h passed) sent_before is_there,
+        ← brings.item,
+        ← number,
+      ) (refl, ap (λ (e : LaneEnd Numbered). e.items) lane);
     })
 
 -- ---- a cell where nothing came yet
@@ -321,20 +385,25 @@ nothing A = refl
 nothing B = refl
 nothing Recovery = refl
 
-pub new_fits : (arbiter : State) (lane : LaneEnd Numbered) → IsNew arbiter lane.tag arbiter.session arbiter.window → Fits arbiter [] → lane.items ≡ [] → FitsCell (new_cell arbiter lane) (new_history arbiter.session)
+pub new_fits : (arbiter : State) (lane : LaneEnd Numbered) → IsNew arbiter lane.tag arbiter.session arbiter.window
+    → Fits arbiter [] → lane.items ≡ [] → FitsCell (new_cell arbiter lane) (new_history arbiter.session)
 new_fits arbiter lane new fits empty = record {
   history = fits_new new fits;
   sent = empty ∙ sym (ap (λ (n : ℕ). take n (stream_of [])) new.begun.sent);
   accepted = nothing;
 }
 
-pub new_kept : (sessions : SessionNames) (carries : Carries) (ends : Ends) (lanes : FeedLanes) (arbiter : State) (lane : LaneEnd Numbered) → IsNew arbiter lane.tag arbiter.session arbiter.window → Fits arbiter [] → lane.items ≡ []
-    → sessions lane.tag 1 arbiter.session → slice_get lanes.venues lane.tag ≡ Some lane.lane → (arbiter.window ≡ lanes.setting.window) × (lane.capacity ≡ lanes.setting.lane) → VenueLockInvariant sessions carries ends lanes (new_cell arbiter lane)
-new_kept sessions carries ends lanes arbiter lane new fits empty named at sized = record {
+pub new_kept : {S : Type 0} (premise : Genuine S) (lanes : FeedLanes) (arbiter : State) (lane : LaneEnd Numbered)
+    → IsNew arbiter lane.tag arbiter.session arbiter.window → Fits arbiter [] → lane.items ≡ []
+    → premise.sessions lane.tag 1 arbiter.session → slice_get lanes.venues lane.tag ≡ Some lane.lane
+    → (arbiter.window ≡ lanes.setting.window) × (lane.capacity ≡ lanes.setting.lane)
+    → VenueLockInvariant premise lanes (new_cell arbiter lane)
+new_kept premise lanes arbiter lane new fits empty named at sized = record {
   history = new_history arbiter.session;
   fits = new_fits arbiter lane new fits empty;
   given = record { answered = tt; genuine = tt };
-  named = subst (λ (x : ℕ × ℕ). sessions x.0 x.1 arbiter.session) (λ i. (sym new.venue i, sym (ap length new.sessions) i)) named;
+  named = subst (λ (x : ℕ × ℕ). premise.sessions x.0 x.1 arbiter.session)
+      (λ i. (sym new.venue i, sym (ap length new.sessions) i)) named;
   tag = sym new.venue;
   lane = ap (slice_get lanes.venues) new.venue ∙ at;
   window = sized.0;
@@ -350,8 +419,10 @@ take_whole (x ∷ xs) = ap (λ (l : List _). x ∷ l) (take_whole xs)
 pub shown_sum : (m n : ℕ) → shown (shown m + n) ≡ shown (m + n)
 shown_sum m n = grind (arith)
 
-module _ (old new : CellState) (h : History) (name : List ℕ) (f : FitsCell old h) (begun : IsRenewed old.arbiter new.arbiter name) (fits : Fits new.arbiter [])
-    (whole : IsComplete h.present.packets × (old.arbiter.sent ≡ length (stream_of h.present.packets))) (lane : new.lane ≡ old.lane) (sums : new.accepted ≡ old.accepted) where
+module _ (old new : CellState) (h : History) (name : List ℕ) (f : FitsCell old h)
+    (begun : IsRenewed old.arbiter new.arbiter name) (fits : Fits new.arbiter [])
+    (whole : IsComplete h.present.packets × (old.arbiter.sent ≡ length (stream_of h.present.packets)))
+    (lane : new.lane ≡ old.lane) (sums : new.accepted ≡ old.accepted) where
   pub renewed_fits : FitsCell new (record { earlier = all_begun h; present = new_session name })
   renewed_fits = record {
     history = fits_renewal h name f.history begun fits;
@@ -362,19 +433,25 @@ module _ (old new : CellState) (h : History) (name : List ℕ) (f : FitsCell old
         ∙ sym (items_push h.earlier h.present)
         ∙ sym (append-nil (items_of (all_begun h)))
         ∙ ap (λ (n : ℕ). items_of (all_begun h) ++ take n (stream_of [])) (sym begun.begun.sent);
-    accepted = λ l. ap (sums_on l) sums ∙ f.accepted l ∙ ap (accepted_on l) (sym (arrivals_push (all_begun h) (new_session name) ∙ append-nil (arrivals_of (all_begun h))));
+    accepted = λ l. ap (sums_on l) sums ∙ f.accepted l
+        ∙ ap (accepted_on l) (sym (arrivals_push (all_begun h) (new_session name)
+        ∙ append-nil (arrivals_of (all_begun h))));
   }
 
-  pub renewed_kept : (sessions : SessionNames) (carries : Carries) (ends : Ends) (lanes : FeedLanes) (k : VenueLockInvariant sessions carries ends lanes old) → k.history ≡ h → sessions old.arbiter.venue (ordinal_of old.arbiter + 1) name
-      → VenueLockInvariant sessions carries ends lanes new
-  renewed_kept sessions carries ends lanes k is named =
-      let given = subst (λ (x : History). AreGivenFrom carries ends old.arbiter.venue old.arbiter.window 1 x.earlier x.present) is k.given in
+  pub renewed_kept : {S : Type 0} (premise : Genuine S) (lanes : FeedLanes) (k : VenueLockInvariant premise lanes old)
+      → k.history ≡ h → premise.sessions old.arbiter.venue (ordinal_of old.arbiter + 1) name
+      → VenueLockInvariant premise lanes new
+  renewed_kept premise lanes k is named =
+      let given = subst (λ (x : History). AreGivenFrom premise old.arbiter.venue old.arbiter.window 1 x.earlier
+      x.present) is k.given in
       record {
         history = record { earlier = all_begun h; present = new_session name };
         fits = renewed_fits;
-        given = subst (λ (x : ℕ × ℕ). AreGivenFrom carries ends x.0 x.1 1 (all_begun h) (new_session name)) (λ i. (sym begun.venue i, sym begun.window i))
-            (next_given carries ends old.arbiter.venue old.arbiter.window 1 h.earlier h.present name whole.0 given);
-        named = subst (λ (x : ℕ × (ℕ × List ℕ)). sessions x.0 x.1.0 x.1.1) (λ i. (sym begun.venue i, (sym ordinal i, sym begun.begun.session i))) named;
+        given = subst (λ (x : ℕ × ℕ). AreGivenFrom premise x.0 x.1 1 (all_begun h) (new_session name))
+            (λ i. (sym begun.venue i, sym begun.window i))
+            (next_given premise old.arbiter.venue old.arbiter.window 1 h.earlier h.present name whole.0 given);
+        named = subst (λ (x : ℕ × (ℕ × List ℕ)). premise.sessions x.0 x.1.0 x.1.1)
+            (λ i. (sym begun.venue i, (sym ordinal i, sym begun.begun.session i))) named;
         tag = ap (λ (e : LaneEnd Numbered). e.tag) lane ∙ k.tag ∙ sym begun.venue;
         lane = ap (slice_get lanes.venues) begun.venue ∙ k.lane ∙ ap (λ (e : LaneEnd Numbered). Some e.lane) (sym lane);
         window = begun.window ∙ k.window;
@@ -384,7 +461,8 @@ module _ (old new : CellState) (h : History) (name : List ℕ) (f : FitsCell old
       ordinal : ordinal_of new.arbiter ≡ ordinal_of old.arbiter + 1
       ordinal = ap length begun.sessions ∙ length-append old.arbiter.sessions (name ∷ [])
 
-  pub renews : (ordinal : ℕ) → IsRenewal old.arbiter.sessions old.arbiter.end old.arbiter.sent name (Ok ordinal) → RenewsSession name (Ok ordinal) h old new
+  pub renews : (ordinal : ℕ) → IsRenewal old.arbiter.sessions old.arbiter.end old.arbiter.sent name (Ok ordinal)
+      → RenewsSession name (Ok ordinal) h old new
   renews ordinal right = record {
     after = record { earlier = all_begun h; present = new_session name };
     renewed = record { right = renewal_in h name (Ok ordinal) f.history right; is = refl };
@@ -464,12 +542,12 @@ module _ (pushed : ℕ) (old between new : CellState) (r : PushesSoFar pushed ol
   pushed_most may_send = record { few = omega arith; sent = r.sent; others = r.others; over = inl refl }
 
   -- a push that was refused
-  pub push_refused : (sessions : SessionNames) (carries : Carries) (ends : Ends) (lanes : FeedLanes)
+  pub push_refused : {S : Type 0} (premise : Genuine S) (lanes : FeedLanes)
       (may_send : ℕ → List Numbered → Type 0) (most : ℕ) (why : Unsent) → pushed ≤ most
       → ((h : History) → FitsCell between h → PushesOne may_send (Err why) h between new)
-      → new ≡ between → VenueLockInvariant sessions carries ends lanes new
+      → new ≡ between → VenueLockInvariant premise lanes new
       → Pushes may_send most pushed old new
-  push_refused sessions carries ends lanes may_send most why few one same k =
+  push_refused premise lanes may_send most why few one same k =
       subst (λ (c : CellState). Pushes may_send most pushed old c) (sym same) (record {
         few = few;
         sent = r.sent;
@@ -490,19 +568,19 @@ module _ (pushed : ℕ) (old between new : CellState) (r : PushesSoFar pushed ol
           inl (p.was_full (was_refused between.lane.items new.lane.items p.full
           (slice_get (streams_of k.history) (length between.lane.items)) p.comes))
 
--- nothing was pushed, where the lock was another venue's
-pub not_flushed : (sessions : SessionNames) (carries : Carries) (ends : Ends) (lanes : FeedLanes)
-    (venue most pushed : ℕ) (cell : CellState) → VenueLockInvariant sessions carries ends lanes cell
-    → cell.arbiter.venue ≢ venue → pushed ≡ 0
-    → IsFlushedBy sessions carries ends lanes venue most pushed
-not_flushed sessions carries ends lanes venue most pushed cell kept other none =
-    inr (record { cell = cell; kept = kept; other = other }, none)
+-- ---- a section under a venue's lock
 
--- what was pushed under a venue's lock
-pub flushed : (sessions : SessionNames) (carries : Carries) (ends : Ends) (lanes : FeedLanes)
-    (venue most pushed : ℕ) (old new : CellState) → VenueLockInvariant sessions carries ends lanes old
-    → old.arbiter.venue ≡ venue → VenueLockInvariant sessions carries ends lanes new
-    → Pushes (IsInSequence carries ends) most pushed old new
-    → IsFlushedBy sessions carries ends lanes venue most pushed
-flushed sessions carries ends lanes venue most pushed old new kept is keeps leads =
-    inl (record { old = old; kept = kept; venue_is = is; new = new; keeps = keeps; leads = leads })
+module _ {S : Type 0} (premise : Genuine S) (lanes : FeedLanes) (venue : ℕ)
+    (section : CellState → CellState → Type 0) (answer : Type 0) where
+  -- what was done under it
+  pub at_venue : (old new : CellState) → VenueLockInvariant premise lanes old
+      → old.arbiter.venue ≡ venue → VenueLockInvariant premise lanes new → section old new
+      → DoneAtVenue premise lanes venue section answer
+  at_venue old new kept is keeps leads =
+      inl (record { old = old; kept = kept; venue_is = is; new = new; keeps = keeps; leads = leads })
+
+  -- it was another venue's
+  pub at_another : (cell : CellState) → VenueLockInvariant premise lanes cell
+      → cell.arbiter.venue ≢ venue → answer → DoneAtVenue premise lanes venue section answer
+  at_another cell kept other is =
+      inr (inr (record { cell = cell; kept = kept; other = other }), is)

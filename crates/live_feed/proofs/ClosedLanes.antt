@@ -6,8 +6,7 @@ use Rattle.std.proofs.lemmas.List.{length-map, take-append-drop}
 use Rattle.std.proofs.lemmas.List.FromFn.{length-range_with_len}
 use Rattle.feed_types.specs.declared.item.Numbered.{Numbered}
 use Rattle.feed_types.specs.declared.journal.Entry.{Entry}
-use Rattle.feed_types.specs.Sequence.{Carries, Ends}
-use Rattle.feed_types.specs.Sessions.{SessionNames, end_item}
+use Rattle.feed_types.specs.Sessions.{end_item}
 use Rattle.line_arbiter.specs.Packets.{Arrival, end_of}
 use Rattle.line_arbiter.specs.Streams.{end_at, front_of, item_numbered, stream_of}
 use Rattle.line_arbiter.specs.States.{State}
@@ -16,6 +15,7 @@ use Rattle.line_arbiter.specs.Counts.{Counts, count_on}
 use Rattle.line_arbiter.specs.Histories.{items_of}
 use Rattle.fifo_lane.specs.Lane.{Keeps}
 use Rattle.line_arbiter.specs.laws.Histories.{items_push}
+use Rattle.feed_types.specs.declared.genuine.Genuine.{Ghosts as Genuine}
 use Rattle.live_feed.specs.Lanes.{FeedLanes}
 use Rattle.live_feed.specs.venue.Cells.{AreGivenFrom, CellState, VenueLockInvariant}
 use Rattle.live_feed.specs.hub.Hubs.{item_by, items_in}
@@ -47,21 +47,25 @@ within (y ∷ ys) zero x e = omega arith
 within (y ∷ ys) (suc n) x e = let h = within ys n x e in omega arith
 
 -- where one more is ready, fewer were taken than there is room for
-pub fewer : (s : State) (packets : List Arrival) (n : ℕ) (x : Numbered) → Fits s packets → Some x ≡ slice_get (stream_of packets) n → n < s.front + 1
+pub fewer : (s : State) (packets : List Arrival) (n : ℕ) (x : Numbered) → Fits s packets
+    → Some x ≡ slice_get (stream_of packets) n → n < s.front + 1
 fewer s packets n x f e =
     let inside = within (stream_of packets) n x e in
     let most = stream_length packets in
     let front = f.front in
     omega arith
 
-pub next_drop : {X : Type 0} (xs : List X) (old new : ℕ) (x : X) → Some x ≡ slice_get xs old → new ≡ old + 1 → drop old xs ≡ x ∷ drop new xs
+pub next_drop : {X : Type 0} (xs : List X) (old new : ℕ) (x : X) → Some x ≡ slice_get xs old → new ≡ old + 1
+    → drop old xs ≡ x ∷ drop new xs
 next_drop [] old new x e is = absurd cc
 next_drop (y ∷ ys) zero zero x e is = absurd (omega arith)
-next_drop (y ∷ ys) zero (suc m) x e is = let none : m ≡ 0 = omega arith in ap (λ (k : ℕ). y ∷ drop k ys) (sym none) ∙ (let same : y ≡ x = cc in ap (λ (z : _). z ∷ drop m ys) same)
+next_drop (y ∷ ys) zero (suc m) x e is = let none : m ≡ 0 = omega arith in ap (λ (k : ℕ). y ∷ drop k ys) (sym none)
+    ∙ (let same : y ≡ x = cc in ap (λ (z : _). z ∷ drop m ys) same)
 next_drop (y ∷ ys) (suc n) zero x e is = absurd (omega arith)
 next_drop (y ∷ ys) (suc n) (suc m) x e is = next_drop ys n m x e (omega arith)
 
-pub ready_more : (old new : ℕ) (packets : List Arrival) (room more all : List Numbered) (x : Numbered) → Some x ≡ slice_get (stream_of packets) old → new ≡ old + 1 → more ≡ room ++ x ∷ []
+pub ready_more : (old new : ℕ) (packets : List Arrival) (room more all : List Numbered) (x : Numbered)
+    → Some x ≡ slice_get (stream_of packets) old → new ≡ old + 1 → more ≡ room ++ x ∷ []
     → room ++ drop old (stream_of packets) ≡ all → more ++ drop new (stream_of packets) ≡ all
 ready_more old new packets room more all x e is grown same =
     ap (λ (l : List Numbered). l ++ drop new (stream_of packets)) grown
@@ -75,8 +79,10 @@ none_left [] (suc n) e = refl
 none_left (y ∷ ys) zero e = absurd cc
 none_left (y ∷ ys) (suc n) e = none_left ys n e
 
-pub ready_all : (n : ℕ) (packets : List Arrival) (room all : List Numbered) → None ≡ slice_get (stream_of packets) n → room ++ drop n (stream_of packets) ≡ all → room ≡ all
-ready_all n packets room all e same = sym (append-nil room) ∙ ap (λ (l : List Numbered). room ++ l) (sym (none_left (stream_of packets) n e)) ∙ same
+pub ready_all : (n : ℕ) (packets : List Arrival) (room all : List Numbered) → None ≡ slice_get (stream_of packets) n
+    → room ++ drop n (stream_of packets) ≡ all → room ≡ all
+ready_all n packets room all e same = sym (append-nil room)
+    ∙ ap (λ (l : List Numbered). room ++ l) (sym (none_left (stream_of packets) n e)) ∙ same
 
 pub drop_past : {X : Type 0} (xs : List X) (n : ℕ) → length xs ≤ n → drop n xs ≡ []
 drop_past [] zero h = refl
@@ -88,7 +94,9 @@ drop_past (y ∷ ys) (suc n) h = drop_past ys n (omega arith)
 
 module _ (v : ℕ) (entries : List Entry) (place : ℕ) where
   -- one entry was looked at
-  pub items_more : (x : Entry) (room more all : List Numbered) → slice_get entries place ≡ Some x → more ≡ room ++ item_by v x → room ++ items_in (drop place entries) v ≡ all → more ++ items_in (drop (place + 1) entries) v ≡ all
+  pub items_more : (x : Entry) (room more all : List Numbered) → slice_get entries place ≡ Some x
+      → more ≡ room ++ item_by v x → room ++ items_in (drop place entries) v ≡ all
+      → more ++ items_in (drop (place + 1) entries) v ≡ all
   items_more x room more all at grown same =
       let rest = items_in (drop (place + 1) entries) v in
       ap (λ (l : List Numbered). l ++ rest) grown
@@ -97,28 +105,37 @@ module _ (v : ℕ) (entries : List Entry) (place : ℕ) where
       ∙ same
 
   -- all were looked at
-  pub items_all : (room all : List Numbered) → length entries ≤ place → room ++ items_in (drop place entries) v ≡ all → room ≡ all
-  items_all room all past same = sym (append-nil room) ∙ ap (λ (l : List Entry). room ++ items_in l v) (sym (drop_past entries place past)) ∙ same
+  pub items_all : (room all : List Numbered) → length entries ≤ place → room ++ items_in (drop place entries) v ≡ all
+      → room ≡ all
+  items_all room all past same = sym (append-nil room)
+      ∙ ap (λ (l : List Entry). room ++ items_in l v) (sym (drop_past entries place past)) ∙ same
 
   -- one entry was counted
-  pub count_more : (x : Entry) (count one all : ℕ) → slice_get entries place ≡ Some x → one ≡ length (item_by v x) → count + length (items_in (drop place entries) v) ≡ all → (count + one) + length (items_in (drop (place + 1) entries) v) ≡ all
+  pub count_more : (x : Entry) (count one all : ℕ) → slice_get entries place ≡ Some x → one ≡ length (item_by v x)
+      → count + length (items_in (drop place entries) v) ≡ all
+      → (count + one) + length (items_in (drop (place + 1) entries) v) ≡ all
   count_more x count one all at is same =
       let rest = items_in (drop (place + 1) entries) v in
-      let here : length (items_in (drop place entries) v) ≡ length (item_by v x ++ rest) = ap (λ (l : List Entry). length (items_in l v)) (next_drop entries place (place + 1) x (sym at) refl) in
+      let here : length (items_in (drop place entries) v) ≡ length (item_by v x ++ rest) =
+      ap (λ (l : List Entry). length (items_in l v)) (next_drop entries place (place + 1) x (sym at) refl) in
       let both = length-append (item_by v x) rest in
       omega arith
 
   -- all were counted
-  pub count_all : (count all : ℕ) → length entries ≤ place → count + length (items_in (drop place entries) v) ≡ all → count ≡ all
+  pub count_all : (count all : ℕ) → length entries ≤ place → count + length (items_in (drop place entries) v) ≡ all
+      → count ≡ all
   count_all count all past same =
-      let none : length (items_in (drop place entries) v) ≡ 0 = ap (λ (l : List Entry). length (items_in l v)) (drop_past entries place past) in
+      let none : length (items_in (drop place entries) v) ≡ 0 =
+      ap (λ (l : List Entry). length (items_in l v)) (drop_past entries place past) in
       omega arith
 
   -- there is room for the next item
-  pub room_more : (x : Entry) (room all : List Numbered) (most : ℕ) → slice_get entries place ≡ Some x → room ++ items_in (drop place entries) v ≡ all → length all ≤ most → length room + length (item_by v x) ≤ most
+  pub room_more : (x : Entry) (room all : List Numbered) (most : ℕ) → slice_get entries place ≡ Some x
+      → room ++ items_in (drop place entries) v ≡ all → length all ≤ most → length room + length (item_by v x) ≤ most
   room_more x room all most at same few =
       let rest = items_in (drop (place + 1) entries) v in
-      let here : length (items_in (drop place entries) v) ≡ length (item_by v x ++ rest) = ap (λ (l : List Entry). length (items_in l v)) (next_drop entries place (place + 1) x (sym at) refl) in
+      let here : length (items_in (drop place entries) v) ≡ length (item_by v x ++ rest) =
+      ap (λ (l : List Entry). length (items_in l v)) (next_drop entries place (place + 1) x (sym at) refl) in
       let both = length-append (item_by v x) rest in
       let whole = length-append room (items_in (drop place entries) v) in
       let long = ap length same in
@@ -126,17 +143,19 @@ module _ (v : ℕ) (entries : List Entry) (place : ℕ) where
 
 -- ---- a closed lane
 
-pub settled : (sessions : SessionNames) (carries : Carries) (ends : Ends) (lanes : FeedLanes) (may_send : ℕ → List Numbered → Type 0) (c : CellState) (k : VenueLockInvariant sessions carries ends lanes c) (received inside ready : List Numbered) (won : Counts)
-    → Keeps may_send c.lane.tag c.lane.capacity c.lane.items received inside → ready ≡ drop c.arbiter.sent (stream_of k.history.present.packets) → won ≡ c.arbiter.wins
-    → IsSettled carries ends c.arbiter.venue lanes.setting.window c.lane.items received inside ready won c.accepted
-settled sessions carries ends lanes may_send c k received inside ready won keeps rest same =
+pub settled : {S : Type 0} (premise : Genuine S) (lanes : FeedLanes) (may_send : ℕ → List Numbered → Type 0)
+    (c : CellState) (k : VenueLockInvariant premise lanes c) (received inside ready : List Numbered) (won : Counts)
+    → Keeps may_send c.lane.tag c.lane.capacity c.lane.items received inside
+    → ready ≡ drop c.arbiter.sent (stream_of k.history.present.packets) → won ≡ c.arbiter.wins
+    → IsSettled premise c.arbiter.venue lanes.setting.window c.lane.items received inside ready won c.accepted
+settled premise lanes may_send c k received inside ready won keeps rest same =
     let h = k.history in
     let f = k.fits in
     let stream = stream_of h.present.packets in
     record {
       sent_is = sym keeps.whole;
       history = h;
-      given = subst (λ (n : ℕ). AreGivenFrom carries ends c.arbiter.venue n 1 h.earlier h.present) k.window k.given;
+      given = subst (λ (n : ℕ). AreGivenFrom premise c.arbiter.venue n 1 h.earlier h.present) k.window k.given;
       whole =
           ap (λ (l : List Numbered). l ++ ready) f.sent
           ∙ ap (λ (l : List Numbered). (items_of h.earlier ++ take c.arbiter.sent stream) ++ l) rest

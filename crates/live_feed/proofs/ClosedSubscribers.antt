@@ -26,29 +26,41 @@ drop_past (y ∷ ys) (suc n) h = drop_past ys n (omega arith)
 
 module _ (wants : Notice → Bool) (xs : List Notice) (place : ℕ) where
   -- one notice was looked at
-  pub wanted_more : (x : Notice) (room more all : List Notice) → slice_get xs place ≡ Some x → more ≡ room ++ filter wants (x ∷ []) → room ++ filter wants (drop place xs) ≡ all → more ++ filter wants (drop (place + 1) xs) ≡ all
+  pub wanted_more : (x : Notice) (room more all : List Notice) → slice_get xs place ≡ Some x
+      → more ≡ room ++ filter wants (x ∷ []) → room ++ filter wants (drop place xs) ≡ all
+      → more ++ filter wants (drop (place + 1) xs) ≡ all
   wanted_more x room more all at grown same =
       let rest = drop (place + 1) xs in
       ap (λ (l : List Notice). l ++ filter wants rest) grown
       ∙ append_assoc room (filter wants (x ∷ [])) (filter wants rest)
-      ∙ ap (λ (l : List Notice). room ++ l) (sym (filter-append wants (x ∷ []) rest) ∙ ap (filter wants) (sym (next_drop xs place (place + 1) x (sym at) refl)))
+      ∙ ap (λ (l : List Notice). room ++ l) (sym (filter-append wants (x ∷ []) rest)
+      ∙ ap (filter wants) (sym (next_drop xs place (place + 1) x (sym at) refl)))
       ∙ same
 
   -- all were looked at
-  pub wanted_all : (room all : List Notice) → length xs ≤ place → room ++ filter wants (drop place xs) ≡ all → room ≡ all
-  wanted_all room all past same = sym (append-nil room) ∙ ap (λ (l : List Notice). room ++ filter wants l) (sym (drop_past xs place past)) ∙ same
+  pub wanted_all : (room all : List Notice) → length xs ≤ place → room ++ filter wants (drop place xs) ≡ all
+      → room ≡ all
+  wanted_all room all past same = sym (append-nil room)
+      ∙ ap (λ (l : List Notice). room ++ filter wants l) (sym (drop_past xs place past)) ∙ same
 
-pub served : (lanes : FeedLanes) (may_send : ℕ → List Notice → Type 0) (journal : JournalState) (id : ℕ) (sender : LaneEnd Notice) (terms : Terms) (seen : ℕ) (log : List Logged) (received inside unoffered : List Notice)
-    → IsOffered lanes journal id sender → id < length journal.cursors → terms_at journal id ≡ Some terms → cursor_at journal id ≡ Some seen → map (λ (line : Logged). line.notice) log ≡ received
-    → Keeps may_send sender.tag sender.capacity sender.items received inside → unoffered ≡ filter (meets terms) (drop seen (changes journal)) → IsServed journal id log inside unoffered
-served lanes may_send journal id sender terms seen log received inside unoffered offered known terms_is seen_is notices keeps rest =
+pub served : (lanes : FeedLanes) (may_send : ℕ → List Notice → Type 0) (journal : JournalState) (id : ℕ)
+    (sender : LaneEnd Notice) (terms : Terms) (seen : ℕ) (log : List Logged) (received inside unoffered : List Notice)
+    → IsOffered lanes journal id sender → id < length journal.cursors → terms_at journal id ≡ Some terms
+    → cursor_at journal id ≡ Some seen → map (λ (line : Logged). line.notice) log ≡ received
+    → Keeps may_send sender.tag sender.capacity sender.items received inside
+    → unoffered ≡ filter (meets terms) (drop seen (changes journal)) → IsServed journal id log inside unoffered
+served lanes may_send journal id sender terms seen log received inside unoffered offered known terms_is seen_is notices
+    keeps rest =
     let there = get_within journal.cursors id known in
     let cursor = there.0 in
     let at = there.1 in
     let xs = changes journal in
-    let t : cursor.terms ≡ terms = one_there (terms_at journal id) cursor.terms terms (ap (option_map (λ (c : Cursor). c.terms)) at) terms_is in
-    let s : cursor.seen ≡ seen = one_there (cursor_at journal id) cursor.seen seen (ap (option_map (λ (c : Cursor). c.seen)) at) seen_is in
-    let sent : sender.items ≡ filter (meets terms) (take seen xs) = (offered.items cursor at).1 ∙ (λ i. filter (meets (t i)) (take (s i) xs)) in
+    let t : cursor.terms ≡ terms = one_there (terms_at journal id) cursor.terms terms
+    (ap (option_map (λ (c : Cursor). c.terms)) at) terms_is in
+    let s : cursor.seen ≡ seen = one_there (cursor_at journal id) cursor.seen seen
+    (ap (option_map (λ (c : Cursor). c.seen)) at) seen_is in
+    let sent : sender.items ≡ filter (meets terms) (take seen xs) = (offered.items cursor at).1
+    ∙ (λ i. filter (meets (t i)) (take (s i) xs)) in
     record {
       terms = terms;
       terms_is = terms_is;

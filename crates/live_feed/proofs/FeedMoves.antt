@@ -5,10 +5,11 @@ use Rattle.std.proofs.lemmas.Option.{slice_get-get_or}
 use Rattle.std.proofs.lemmas.List.{length-map}
 use Rattle.feed_types.specs.declared.item.Numbered.{Numbered}
 use Rattle.feed_types.specs.declared.journal.Entry.{Entry}
-use Rattle.feed_types.specs.Sequence.{Carries, Ends, IsInSequence}
 use Rattle.journal_book.specs.Journals.{JournalState}
 use Rattle.fifo_lane.specs.Lane.{LaneEnd}
 use Rattle.feed_core.specs.laws.Lists.{get_push}
+use Rattle.feed_types.specs.declared.genuine.Genuine.{Ghosts as Genuine}
+use Rattle.live_feed.specs.Premises.{AreInSequence}
 use Rattle.live_feed.specs.declared.hub.spare.SpareLane.{SpareLane}
 use Rattle.live_feed.specs.Lanes.{FeedLanes, FeedSetting}
 use Rattle.live_feed.specs.feed.Feeds.{StartState, AreStarts, IsUnused, AreUnused, lanes_of, IsClosed, HasItsLane}
@@ -23,36 +24,44 @@ get_more [] ys k x e = absurd cc
 get_more (z ∷ xs) ys zero x e = e
 get_more (z ∷ xs) ys (suc k) x e = get_more xs ys k x e
 
-get_map : {X Y : Type 0} (f : X → Y) (xs : List X) (k : ℕ) (x : X) → slice_get xs k ≡ Some x → slice_get (map f xs) k ≡ Some (f x)
+get_map : {X Y : Type 0} (f : X → Y) (xs : List X) (k : ℕ) (x : X) → slice_get xs k ≡ Some x
+    → slice_get (map f xs) k ≡ Some (f x)
 get_map f [] k x e = absurd cc
 get_map f (z ∷ xs) zero x e = let same : z ≡ x = cc in ap (λ (y : _). Some (f y)) same
 get_map f (z ∷ xs) (suc k) x e = get_map f xs k x e
 
 -- one more lane
-pub unused_more : (capacity : ℕ) (xs : List SpareLane) (x : SpareLane) → AreUnused capacity xs → IsUnused capacity (length xs) x → AreUnused capacity (xs ++ x ∷ [])
+pub unused_more : (capacity : ℕ) (xs : List SpareLane) (x : SpareLane) → AreUnused capacity xs
+    → IsUnused capacity (length xs) x → AreUnused capacity (xs ++ x ∷ [])
 unused_more capacity xs x all new = λ id y at. elim (get_push xs id x y at) [
   | inl here ↦ subst (λ (p : ℕ × SpareLane). IsUnused capacity p.0 p.1) (λ i. (sym here.0 i, sym here.1 i)) new
   | inr there ↦ all id y there.1
 ]
 
 -- one more lane for a subscriber
-pub spares_more : (capacity : ℕ) (spare : List SpareLane) (s : SpareLane) → AreUnused capacity spare → IsUnused capacity (length spare) s → AreUnused capacity (spare ++ s ∷ [])
+pub spares_more : (capacity : ℕ) (spare : List SpareLane) (s : SpareLane) → AreUnused capacity spare
+    → IsUnused capacity (length spare) s → AreUnused capacity (spare ++ s ∷ [])
 spares_more capacity spare s before unused id x at = elim (get_push spare id s x at) [
   | inl here ↦ subst (λ (p : ℕ × SpareLane). IsUnused capacity p.0 p.1) (λ i. (sym here.0 i, sym here.1 i)) unused
   | inr there ↦ before id x there.1
 ]
 
 -- one more venue
-pub starts_more : (window lane : ℕ) (starts : List StartState) (receivers : List (LaneEnd Numbered)) (s : StartState) (e : LaneEnd Numbered) → AreStarts window lane starts receivers → e ≡ s.lane → e.tag ≡ length receivers → e.items ≡ []
-    → (s.arbiter.window ≡ window) × (s.lane.capacity ≡ lane) → AreStarts window lane (starts ++ s ∷ []) (receivers ++ e ∷ [])
+pub starts_more : (window lane : ℕ) (starts : List StartState) (receivers : List (LaneEnd Numbered)) (s : StartState)
+    (e : LaneEnd Numbered) → AreStarts window lane starts receivers → e ≡ s.lane → e.tag ≡ length receivers
+    → e.items ≡ []
+    → (s.arbiter.window ≡ window) × (s.lane.capacity ≡ lane)
+    → AreStarts window lane (starts ++ s ∷ []) (receivers ++ e ∷ [])
 starts_more window lane starts receivers s e h same tag empty sized = record {
   count = length-append starts (s ∷ []) ∙ ap (λ (n : ℕ). n + 1) h.count ∙ sym (length-append receivers (e ∷ []));
   same = λ k y at. elim (get_push starts k s y at) [
-    | inl here ↦ ap (slice_get (receivers ++ e ∷ [])) (here.0 ∙ h.count) ∙ get_last receivers e ∙ ap Some (same ∙ sym (ap (λ (x : StartState). x.lane) here.1))
+    | inl here ↦ ap (slice_get (receivers ++ e ∷ [])) (here.0 ∙ h.count) ∙ get_last receivers e
+        ∙ ap Some (same ∙ sym (ap (λ (x : StartState). x.lane) here.1))
     | inr there ↦ get_more receivers (e ∷ []) k y.lane (h.same k y there.1)
   ];
   new = λ k y at. elim (get_push receivers k e y at) [
-    | inl here ↦ subst (λ (p : ℕ × LaneEnd Numbered). (p.1.tag ≡ p.0) × (p.1.items ≡ [])) (λ i. (sym here.0 i, sym here.1 i)) (tag, empty)
+    | inl here ↦ subst (λ (p : ℕ × LaneEnd Numbered). (p.1.tag ≡ p.0) × (p.1.items ≡ []))
+        (λ i. (sym here.0 i, sym here.1 i)) (tag, empty)
     | inr there ↦ h.new k y there.1
   ];
   sized = λ k y at. elim (get_push starts k s y at) [
@@ -61,26 +70,35 @@ starts_more window lane starts receivers s e h same tag empty sized = record {
   ];
 }
 
-module _ (starts : List StartState) (receivers : List (LaneEnd Numbered)) (journal : JournalState) (spare : List SpareLane) (setting : FeedSetting) (lanes : FeedLanes) (h : IsClosed setting starts receivers journal spare) (e : lanes_of receivers spare setting ≡ lanes) where
+module _ (starts : List StartState) (receivers : List (LaneEnd Numbered)) (journal : JournalState)
+    (spare : List SpareLane) (setting : FeedSetting) (lanes : FeedLanes)
+    (h : IsClosed setting starts receivers journal spare) (e : lanes_of receivers spare setting ≡ lanes) where
   setting_is : setting ≡ lanes.setting
   setting_is = ap (λ (l : FeedLanes). l.setting) e
 
   lane_at : (k : ℕ) (r : LaneEnd Numbered) → slice_get receivers k ≡ Some r → slice_get lanes.venues k ≡ Some r.lane
-  lane_at k r at = ap (λ (l : FeedLanes). slice_get l.venues k) (sym e) ∙ get_map (λ (x : LaneEnd Numbered). x.lane) receivers k r at
+  lane_at k r at = ap (λ (l : FeedLanes). slice_get l.venues k) (sym e)
+      ∙ get_map (λ (x : LaneEnd Numbered). x.lane) receivers k r at
 
   no_cursors : length journal.cursors ≡ 0
   no_cursors = ap length h.cursors
 
   lanes_count : length lanes.venues ≡ length receivers
-  lanes_count = ap (λ (l : FeedLanes). length l.venues) (sym e) ∙ length-map receivers (λ (x : LaneEnd Numbered). x.lane)
+  lanes_count = ap (λ (l : FeedLanes). length l.venues) (sym e)
+      ∙ length-map receivers (λ (x : LaneEnd Numbered). x.lane)
 
   -- there are as many venues as lanes for them
   pub starts_count : length starts ≡ length lanes.venues
   starts_count = h.begun.count ∙ sym lanes_count
 
   -- an empty journal with these lanes
-  pub fresh : (carries : Carries) (ends : Ends) → HubLockInvariant carries ends lanes (record { journal = journal; receivers = receivers; senders = []; spare = spare })
-  fresh carries ends = record {
+  pub fresh : {S : Type 0} (premise : Genuine S) → HubLockInvariant premise lanes (record {
+    journal = journal;
+    receivers = receivers;
+    senders = [];
+    spare = spare;
+  })
+  fresh premise = record {
     venues = h.venues;
     count = lanes_count ∙ h.venues;
     few = h.few;
@@ -90,7 +108,12 @@ module _ (starts : List StartState) (receivers : List (LaneEnd Numbered)) (journ
     consumed = λ v r at.
         let none : items_in journal.entries v ≡ [] = ap (λ (es : List Entry). items_in es v) h.entries in
         let new = h.begun.new v r at in
-        record { tag = new.0; lane = lane_at v r at; items = new.1 ∙ sym none; sequence = subst (λ (l : List Numbered). IsInSequence carries ends v l) (sym none) tt };
+        record {
+          tag = new.0;
+          lane = lane_at v r at;
+          items = new.1 ∙ sym none;
+          sequence = subst (λ (l : List Numbered). AreInSequence premise v l) (sym none) tt;
+        };
     offered = λ id x at. absurd cc;
     many = (let none = no_cursors in let all = h.many in omega arith);
     spare = λ k x at.
@@ -98,7 +121,8 @@ module _ (starts : List StartState) (receivers : List (LaneEnd Numbered)) (journ
         let none : k ≡ length journal.cursors + k = (let count = no_cursors in omega arith) in
         record {
           tag = u.tag ∙ none;
-          lane = ap (slice_get lanes.subscribers) (sym none) ∙ ap (λ (l : FeedLanes). slice_get l.subscribers k) (sym e) ∙ get_map (λ (s : SpareLane). s.sender.lane) spare k x at;
+          lane = ap (slice_get lanes.subscribers) (sym none) ∙ ap (λ (l : FeedLanes). slice_get l.subscribers k) (sym e)
+              ∙ get_map (λ (s : SpareLane). s.sender.lane) spare k x at;
           capacity = u.capacity_is ∙ ap (λ (s : FeedSetting). s.lane) setting_is;
           items = u.items;
           same = u.same;

@@ -5,7 +5,6 @@ use Rattle.std.specs.List.{AllByRecursion}
 use Rattle.std.proofs.lemmas.Grind.{flat_map-append}
 use Rattle.std.proofs.lemmas.List.{take-append-le}
 use Rattle.feed_types.specs.Prefix.{IsPrefix}
-use Rattle.feed_types.specs.Sequence.{Carries, Ends, IsInSequence}
 use Rattle.line_arbiter.specs.Packets.{Arrival}
 use Rattle.line_arbiter.specs.Streams.{IsComplete}
 use Rattle.line_arbiter.specs.Answered.{IsAnswered, AreAnsweredAfter}
@@ -14,6 +13,8 @@ use Rattle.line_arbiter.specs.Histories.{Begun, History, all_begun, streams_of, 
 use Rattle.line_arbiter.specs.laws.Below.{answered_more}
 use Rattle.line_arbiter.specs.laws.Arrivals.{all_push, genuine_grows}
 use Rattle.line_arbiter.specs.laws.InSequence.{streams_in_sequence}
+use Rattle.feed_types.specs.declared.genuine.Genuine.{Ghosts as Genuine}
+use Rattle.live_feed.specs.Premises.{AreInSequence}
 use Rattle.live_feed.specs.venue.Cells.{AreGiven, AreGivenFrom, arrivals_of}
 
 -- ---- lists
@@ -21,7 +22,8 @@ use Rattle.live_feed.specs.venue.Cells.{AreGiven, AreGivenFrom, arrivals_of}
 pub take_same : {X : Type 0} (xs ys : List X) (n : ℕ) → IsPrefix xs ys → n ≤ length xs → take n ys ≡ take n xs
 take_same xs ys n g le = ap (take n) g.is ∙ take-append-le n xs g.rest le
 
-pub take_next : {X : Type 0} (xs : List X) (n m : ℕ) (x : X) → m ≡ n + 1 → Some x ≡ slice_get xs n → take m xs ≡ take n xs ++ x ∷ []
+pub take_next : {X : Type 0} (xs : List X) (n m : ℕ) (x : X) → m ≡ n + 1 → Some x ≡ slice_get xs n
+    → take m xs ≡ take n xs ++ x ∷ []
 take_next [] n m x is e = absurd cc
 take_next (y ∷ ys) zero zero x is e = absurd (omega arith)
 take_next (y ∷ ys) zero (suc m) x is e =
@@ -43,9 +45,11 @@ length_take (x ∷ xs) zero le = refl
 length_take (x ∷ xs) (suc n) le = ap suc (length_take xs n (omega arith))
 
 -- the item after this prefix of the second list
-pub get_sent : {X : Type 0} (xs ys sent : List X) (n : ℕ) → sent ≡ xs ++ take n ys → n ≤ length ys → slice_get (xs ++ ys) (length sent) ≡ slice_get ys n
+pub get_sent : {X : Type 0} (xs ys sent : List X) (n : ℕ) → sent ≡ xs ++ take n ys → n ≤ length ys
+    → slice_get (xs ++ ys) (length sent) ≡ slice_get ys n
 get_sent xs ys sent n is le =
-    get_after xs ys n (length sent) (ap length is ∙ length-append xs (take n ys) ∙ ap (λ (k : ℕ). length xs + k) (length_take ys n le))
+    get_after xs ys n (length sent) (ap length is ∙ length-append xs (take n ys)
+    ∙ ap (λ (k : ℕ). length xs + k) (length_take ys n le))
 
 -- ---- one more packet
 
@@ -54,7 +58,8 @@ arrivals_push bs b =
     flat_map-append (λ (x : Begun). x.packets) bs (b ∷ [])
     ∙ ap (λ (xs : List Arrival). arrivals_of bs ++ xs) (append-nil b.packets)
 
-pub arrivals_more : (h : History) (a : Arrival) → arrivals_of (all_begun (after_arrival h a)) ≡ arrivals_of (all_begun h) ++ a ∷ []
+pub arrivals_more : (h : History) (a : Arrival) → arrivals_of (all_begun (after_arrival h a))
+    ≡ arrivals_of (all_begun h) ++ a ∷ []
 arrivals_more h a =
     arrivals_push h.earlier (after_arrival h a).present
     ∙ sym (append_assoc (arrivals_of h.earlier) h.present.packets (a ∷ []))
@@ -62,48 +67,72 @@ arrivals_more h a =
 
 -- ---- what was given
 
-module _ (carries : Carries) (ends : Ends) (venue window : ℕ) where
-  pub given_more : (ordinal : ℕ) (b : Begun) (a : Arrival) → (a.packet.session ≡ b.name → IsGenuineAt carries ends venue ordinal a.packet) → IsAnswered b.name window b.packets a
-      → AreGiven carries ends venue window ordinal b → AreGiven carries ends venue window ordinal (record b { packets = b.packets ++ a ∷ [] })
+module _ {S : Type 0} (premise : Genuine S) (venue window : ℕ) where
+  pub given_more : (ordinal : ℕ) (b : Begun) (a : Arrival)
+      → (a.packet.session ≡ b.name → IsGenuineAt premise.carries premise.ends venue ordinal a.packet)
+      → IsAnswered b.name window b.packets a
+      → AreGiven premise venue window ordinal b → AreGiven premise venue window ordinal
+      (record b { packets = b.packets ++ a ∷ [] })
   given_more ordinal b a genuine right g = record {
     answered = answered_more b.name window b.packets a g.answered right;
-    genuine = all_push (λ (x : Arrival). x.packet.session ≡ b.name → IsGenuineAt carries ends venue ordinal x.packet) b.packets a g.genuine genuine;
+    genuine = all_push (λ (x : Arrival). x.packet.session ≡ b.name
+        → IsGenuineAt premise.carries premise.ends venue ordinal x.packet) b.packets a g.genuine genuine;
   }
 
-  pub present_given : (ordinal : ℕ) (bs : List Begun) (b : Begun) → AreGivenFrom carries ends venue window ordinal bs b → AreGiven carries ends venue window (ordinal + length bs) b
-  present_given ordinal [] b g = subst (λ (n : ℕ). AreGiven carries ends venue window n b) (omega arith) g
-  present_given ordinal (x ∷ bs) b g = subst (λ (n : ℕ). AreGiven carries ends venue window n b) (omega arith) (present_given (ordinal + 1) bs b g.2)
+  pub present_given : (ordinal : ℕ) (bs : List Begun) (b : Begun) → AreGivenFrom premise venue window ordinal bs b
+      → AreGiven premise venue window (ordinal + length bs) b
+  present_given ordinal [] b g = subst (λ (n : ℕ). AreGiven premise venue window n b) (omega arith) g
+  present_given ordinal (x ∷ bs) b g = subst (λ (n : ℕ). AreGiven premise venue window n b) (omega arith)
+      (present_given (ordinal + 1) bs b g.2)
 
-  pub present_more : (ordinal : ℕ) (bs : List Begun) (b c : Begun) → (AreGiven carries ends venue window (ordinal + length bs) b → AreGiven carries ends venue window (ordinal + length bs) c)
-      → AreGivenFrom carries ends venue window ordinal bs b → AreGivenFrom carries ends venue window ordinal bs c
+  pub present_more : (ordinal : ℕ) (bs : List Begun) (b c : Begun)
+      → (AreGiven premise venue window (ordinal + length bs) b → AreGiven premise venue window (ordinal + length bs) c)
+      → AreGivenFrom premise venue window ordinal bs b → AreGivenFrom premise venue window ordinal bs c
   present_more ordinal [] b c f g =
       let same : ordinal + 0 ≡ ordinal = omega arith in
-      subst (λ (n : ℕ). AreGiven carries ends venue window n c) same (f (subst (λ (n : ℕ). AreGiven carries ends venue window n b) (sym same) g))
+      subst (λ (n : ℕ). AreGiven premise venue window n c) same
+      (f (subst (λ (n : ℕ). AreGiven premise venue window n b) (sym same) g))
   present_more ordinal (x ∷ bs) b c f g =
-      let same : (ordinal + 1) + length bs ≡ ordinal + length (x ∷ bs) = omega arith in
-      (g.0, g.1, present_more (ordinal + 1) bs b c (λ h. subst (λ (n : ℕ). AreGiven carries ends venue window n c) (sym same) (f (subst (λ (n : ℕ). AreGiven carries ends venue window n b) same h))) g.2)
+      let same : (ordinal + 1) + length bs ≡ ordinal + length (x ∷ bs) = omega arith in (
+        g.0,
+        g.1,
+        present_more (ordinal + 1) bs b c (λ h. subst (λ (n : ℕ). AreGiven premise venue window n c) (sym same)
+            (f (subst (λ (n : ℕ). AreGiven premise venue window n b) same h))) g.2,
+      )
 
   -- the present session is over, and another begins, of which nothing came
-  pub next_given : (ordinal : ℕ) (bs : List Begun) (b : Begun) (name : List ℕ) → IsComplete b.packets → AreGivenFrom carries ends venue window ordinal bs b
-      → AreGivenFrom carries ends venue window ordinal (bs ++ b ∷ []) (record { name = name; packets = [] })
+  pub next_given : (ordinal : ℕ) (bs : List Begun) (b : Begun) (name : List ℕ) → IsComplete b.packets
+      → AreGivenFrom premise venue window ordinal bs b
+      → AreGivenFrom premise venue window ordinal (bs ++ b ∷ []) (record { name = name; packets = [] })
   next_given ordinal [] b name over g = (g, over, record { answered = tt; genuine = tt })
   next_given ordinal (x ∷ bs) b name over g = (g.0, g.1, next_given (ordinal + 1) bs b name over g.2)
 
-  genuine_after : (ordinal : ℕ) (session : List ℕ) (before packets : List Arrival) → AreGenuine carries ends venue ordinal before → AreAnsweredAfter session window before packets
-      → AllByRecursion (λ (a : Arrival). a.packet.session ≡ session → IsGenuineAt carries ends venue ordinal a.packet) packets → AreGenuine carries ends venue ordinal (before ++ packets)
-  genuine_after ordinal session before [] all answered given = subst (λ (l : List Arrival). AreGenuine carries ends venue ordinal l) (sym (append-nil before)) all
+  genuine_after : (ordinal : ℕ) (session : List ℕ) (before packets : List Arrival)
+      → AreGenuine premise.carries premise.ends venue ordinal before → AreAnsweredAfter session window before packets
+      → AllByRecursion (λ (a : Arrival). a.packet.session ≡ session
+      → IsGenuineAt premise.carries premise.ends venue ordinal a.packet) packets
+      → AreGenuine premise.carries premise.ends venue ordinal (before ++ packets)
+  genuine_after ordinal session before [] all answered given =
+      subst (λ (l : List Arrival). AreGenuine premise.carries premise.ends venue ordinal l) (sym (append-nil before))
+      all
   genuine_after ordinal session before (a ∷ packets) all answered given =
-      let more : AreGenuine carries ends venue ordinal (before ++ a ∷ []) = genuine_grows carries ends venue ordinal window session before a all given.0 answered.0 in
-      subst (λ (l : List Arrival). AreGenuine carries ends venue ordinal l) (append_assoc before (a ∷ []) packets) (genuine_after ordinal session (before ++ a ∷ []) packets more answered.1 given.1)
+      let more : AreGenuine premise.carries premise.ends venue ordinal (before ++ a ∷ []) =
+      genuine_grows premise.carries premise.ends venue ordinal window session before a all given.0 answered.0 in
+      subst (λ (l : List Arrival). AreGenuine premise.carries premise.ends venue ordinal l)
+      (append_assoc before (a ∷ []) packets) (genuine_after ordinal session (before ++ a ∷ []) packets more
+      answered.1 given.1)
 
   -- what was taken of given packets is genuine
-  pub given_genuine : (ordinal : ℕ) (b : Begun) → AreGiven carries ends venue window ordinal b → AreGenuine carries ends venue ordinal b.packets
+  pub given_genuine : (ordinal : ℕ) (b : Begun) → AreGiven premise venue window ordinal b
+      → AreGenuine premise.carries premise.ends venue ordinal b.packets
   given_genuine ordinal b g = genuine_after ordinal b.name [] b.packets tt g.answered g.genuine
 
-  pub given_from : (ordinal : ℕ) (bs : List Begun) (b : Begun) → AreGivenFrom carries ends venue window ordinal bs b → AreGenuineFrom carries ends venue ordinal (bs ++ b ∷ [])
+  pub given_from : (ordinal : ℕ) (bs : List Begun) (b : Begun) → AreGivenFrom premise venue window ordinal bs b
+      → AreGenuineFrom premise.carries premise.ends venue ordinal (bs ++ b ∷ [])
   given_from ordinal [] b g = given_genuine ordinal b g
   given_from ordinal (x ∷ []) b g = (given_genuine ordinal x g.0, g.1, given_from (ordinal + 1) [] b g.2)
   given_from ordinal (x ∷ y ∷ bs) b g = (given_genuine ordinal x g.0, g.1, given_from (ordinal + 1) (y ∷ bs) b g.2)
 
-  pub streams_sequence : (h : History) → AreGivenFrom carries ends venue window 1 h.earlier h.present → IsInSequence carries ends venue (streams_of h)
-  streams_sequence h g = streams_in_sequence carries ends venue h (given_from 1 h.earlier h.present g)
+  pub streams_sequence : (h : History) → AreGivenFrom premise venue window 1 h.earlier h.present
+      → AreInSequence premise venue (streams_of h)
+  streams_sequence h g = streams_in_sequence premise.carries premise.ends venue h (given_from 1 h.earlier h.present g)

@@ -11,7 +11,6 @@ use Rattle.feed_types.specs.declared.item.Numbered.{Numbered}
 use Rattle.feed_types.specs.declared.journal.Entry.{Entry}
 use Rattle.feed_types.specs.declared.journal.Entry.TheVariants as entry
 use Rattle.feed_types.specs.declared.journal.Notice.{Notice}
-use Rattle.feed_types.specs.Sequence.{Carries, Ends, IsInSequence}
 use Rattle.filter_terms.specs.declared.terms.Terms.{Terms}
 use Rattle.filter_terms.specs.Terms.{meets}
 use Rattle.journal_book.specs.declared.cursor.Cursor.{Cursor}
@@ -27,6 +26,8 @@ use Rattle.journal_book.specs.Rising.{wanted_rise, pairs_rise}
 use Rattle.fifo_lane.specs.Lane.{LaneEnd, with_items, WasEmpty, WasFull}
 use Rattle.fifo_lane.specs.Rising.{AllPairs-prefix}
 use Rattle.feed_core.specs.laws.Lists.{begins_len, get_push}
+use Rattle.feed_types.specs.declared.genuine.Genuine.{Ghosts as Genuine}
+use Rattle.live_feed.specs.Premises.{AreInSequence}
 use Rattle.live_feed.specs.declared.hub.spare.SpareLane.{SpareLane}
 use Rattle.live_feed.specs.Lanes.{FeedLanes}
 use Rattle.live_feed.specs.hub.Hubs.{HubState, IsConsumed, HubLockInvariant, IsOffered, IsSpare, UnderHubLock, item_by, items_in}
@@ -37,7 +38,8 @@ use Rattle.live_feed.proofs.Histories.{take_same}
 -- ---- lists
 
 -- the item at an index is got there
-pub at_index : {X : Type 0} (xs : List X) (i k : ℕ) (x : X) → i ≡ k → i < length xs → x ≡ get_or xs i x → slice_get xs k ≡ Some x
+pub at_index : {X : Type 0} (xs : List X) (i k : ℕ) (x : X) → i ≡ k → i < length xs → x ≡ get_or xs i x
+    → slice_get xs k ≡ Some x
 at_index xs i k x e lt h = ap (slice_get xs) (sym e) ∙ slice_get_read xs (length xs) i x refl lt h
 
 pub length_put : {X : Type 0} (xs : List X) (i : ℕ) (x : X) → length (slice_set xs i x) ≡ length xs
@@ -46,12 +48,14 @@ length_put (y ∷ ys) zero x = refl
 length_put (y ∷ ys) (suc i) x = ap suc (length_put ys i x)
 
 -- what is read after a write: what was written at its place, and what was there elsewhere
-pub get_put : {X : Type 0} (xs : List X) (i j : ℕ) (x y : X) → slice_get (slice_set xs i x) j ≡ Some y → ((j ≡ i) × (y ≡ x)) ⊎ ((j ≢ i) × (slice_get xs j ≡ Some y))
+pub get_put : {X : Type 0} (xs : List X) (i j : ℕ) (x y : X) → slice_get (slice_set xs i x) j ≡ Some y
+    → ((j ≡ i) × (y ≡ x)) ⊎ ((j ≢ i) × (slice_get xs j ≡ Some y))
 get_put [] i j x y e = absurd cc
 get_put (z ∷ xs) zero zero x y e = inl (refl, cc)
 get_put (z ∷ xs) zero (suc j) x y e = inr ((λ h. omega arith), e)
 get_put (z ∷ xs) (suc i) zero x y e = inr ((λ h. omega arith), e)
-get_put (z ∷ xs) (suc i) (suc j) x y e = elim (get_put xs i j x y e) [ inl here ↦ inl (ap suc here.0, here.1) | inr there ↦ inr ((λ h. there.0 (omega arith)), there.1) ]
+get_put (z ∷ xs) (suc i) (suc j) x y e = elim (get_put xs i j x y e)
+    [ inl here ↦ inl (ap suc here.0, here.1) | inr there ↦ inr ((λ h. there.0 (omega arith)), there.1) ]
 
 -- an item written over itself
 pub put_same : {X : Type 0} (xs : List X) (i : ℕ) (x : X) → slice_get xs i ≡ Some x → slice_set xs i x ≡ xs
@@ -66,28 +70,34 @@ one_there o x y e f = cc
 terms_put : (xs : List Cursor) (i to : ℕ) (c : Cursor) → slice_get xs i ≡ Some c
     → map (λ (x : Cursor). x.terms) (slice_set xs i (record c { seen = to })) ≡ map (λ (x : Cursor). x.terms) xs
 terms_put [] i to c e = refl
-terms_put (x ∷ xs) zero to c e = let same : x ≡ c = cc in ap (λ (y : Cursor). y.terms ∷ map (λ (z : Cursor). z.terms) xs) (sym same)
+terms_put (x ∷ xs) zero to c e = let same : x ≡ c = cc in
+    ap (λ (y : Cursor). y.terms ∷ map (λ (z : Cursor). z.terms) xs) (sym same)
 terms_put (x ∷ xs) (suc i) to c e = ap (λ (l : List Terms). x.terms ∷ l) (terms_put xs i to c e)
 
 -- ---- a venue's items
 
 items_put : (v : ℕ) (es : List Entry) (e : Entry) → items_in (es ++ e ∷ []) v ≡ items_in es v ++ item_by v e
-items_put v es e = flat_map-append (item_by v) es (e ∷ []) ∙ ap (λ (xs : List Numbered). items_in es v ++ xs) (append-nil (item_by v e))
+items_put v es e = flat_map-append (item_by v) es (e ∷ [])
+    ∙ ap (λ (xs : List Numbered). items_in es v ++ xs) (append-nil (item_by v e))
 
-items_here : (v k : ℕ) (es : List Entry) (x : Numbered) → v ≡ k → items_in (es ++ entry.Consumed k x ∷ []) v ≡ items_in es v ++ x ∷ []
+items_here : (v k : ℕ) (es : List Entry) (x : Numbered) → v ≡ k
+    → items_in (es ++ entry.Consumed k x ∷ []) v ≡ items_in es v ++ x ∷ []
 items_here v k es x e =
     let t : (k == v) ≡ true = grind (arith, nat_tests) in
     items_put v es (entry.Consumed k x) ∙ ap (λ (b : Bool). items_in es v ++ (if b then x ∷ [] else [])) t
 
-items_there : (v k : ℕ) (es : List Entry) (x : Numbered) → v ≢ k → items_in (es ++ entry.Consumed k x ∷ []) v ≡ items_in es v
+items_there : (v k : ℕ) (es : List Entry) (x : Numbered) → v ≢ k
+    → items_in (es ++ entry.Consumed k x ∷ []) v ≡ items_in es v
 items_there v k es x e =
     let t : (k == v) ≡ false = grind (arith, nat_tests) in
-    items_put v es (entry.Consumed k x) ∙ ap (λ (b : Bool). items_in es v ++ (if b then x ∷ [] else [])) t ∙ append-nil (items_in es v)
+    items_put v es (entry.Consumed k x) ∙ ap (λ (b : Bool). items_in es v ++ (if b then x ∷ [] else [])) t
+    ∙ append-nil (items_in es v)
 
 -- ---- one more entry
 
 -- what was sent to a subscriber stays what it was offered
-offered_still : (lanes : FeedLanes) (j : JournalState) (e : Entry) (ready : Bool) (id : ℕ) (l : LaneEnd Notice) → IsOffered lanes j id l
+offered_still : (lanes : FeedLanes) (j : JournalState) (e : Entry) (ready : Bool) (id : ℕ) (l : LaneEnd Notice)
+    → IsOffered lanes j id l
     → IsOffered lanes (record j { entries = j.entries ++ e ∷ []; ready = ready }) id l
 offered_still lanes j e ready id l o = record {
   tag = o.tag;
@@ -97,14 +107,22 @@ offered_still lanes j e ready id l o = record {
       let grows = changes_begin j.symbols j.entries (e ∷ []) in
       let were = o.items cursor at in
       let more = begins_len grows in
-      let seen = were.0 in
-      (omega arith, were.1 ∙ ap (filter (meets cursor.terms)) (sym (take_same (changes_of j.symbols j.entries) (changes_of j.symbols (j.entries ++ e ∷ [])) cursor.seen grows were.0)));
+      let seen = were.0 in (
+        omega arith,
+        were.1 ∙ ap (filter (meets cursor.terms))
+            (sym (take_same (changes_of j.symbols j.entries) (changes_of j.symbols (j.entries ++ e ∷ []))
+            cursor.seen grows were.0)),
+      );
 }
 
 -- an entry of self-help changes no venue's items
-pub declares : (carries : Carries) (ends : Ends) (lanes : FeedLanes) (s : HubState) (k : ℕ) (on ready : Bool) → HubLockInvariant carries ends lanes s
-    → HubLockInvariant carries ends lanes (record s { journal = record s.journal { entries = s.journal.entries ++ entry.SelfHelp k on ∷ []; ready = ready } })
-declares carries ends lanes s k on ready h = record {
+pub declares : {S : Type 0} (premise : Genuine S) (lanes : FeedLanes) (s : HubState) (k : ℕ) (on ready : Bool)
+    → HubLockInvariant premise lanes s
+    → HubLockInvariant premise lanes (record s {
+      journal =
+          record s.journal { entries = s.journal.entries ++ entry.SelfHelp k on ∷ []; ready = ready };
+    })
+declares premise lanes s k on ready h = record {
   venues = h.venues;
   count = h.count;
   few = h.few;
@@ -114,16 +132,27 @@ declares carries ends lanes s k on ready h = record {
   many = h.many;
   consumed = λ v e at.
       let o = h.consumed v e at in
-      let same : items_in (s.journal.entries ++ entry.SelfHelp k on ∷ []) v ≡ items_in s.journal.entries v = items_put v s.journal.entries (entry.SelfHelp k on) ∙ append-nil (items_in s.journal.entries v) in
-      record { tag = o.tag; lane = o.lane; items = o.items ∙ sym same; sequence = subst (λ (l : List Numbered). IsInSequence carries ends v l) (sym same) o.sequence };
+      let same : items_in (s.journal.entries ++ entry.SelfHelp k on ∷ []) v ≡ items_in s.journal.entries v =
+      items_put v s.journal.entries (entry.SelfHelp k on) ∙ append-nil (items_in s.journal.entries v) in
+      record {
+        tag = o.tag;
+        lane = o.lane;
+        items = o.items ∙ sym same;
+        sequence = subst (λ (l : List Numbered). AreInSequence premise v l) (sym same) o.sequence;
+      };
   offered = λ id e at. offered_still lanes s.journal (entry.SelfHelp k on) ready id e (h.offered id e at);
   spare = h.spare;
 }
 
-pub consumes : (carries : Carries) (ends : Ends) (lanes : FeedLanes) (s : HubState) (k : ℕ) (r : LaneEnd Numbered) (x : Numbered) (ready : Bool) → HubLockInvariant carries ends lanes s → slice_get s.receivers k ≡ Some r
-    → IsInSequence carries ends r.tag (r.items ++ x ∷ [])
-    → HubLockInvariant carries ends lanes (record s { journal = record s.journal { entries = s.journal.entries ++ entry.Consumed k x ∷ []; ready = ready }; receivers = slice_set s.receivers k (with_items r (r.items ++ x ∷ [])) })
-consumes carries ends lanes s k r x ready h at may = record {
+pub consumes : {S : Type 0} (premise : Genuine S) (lanes : FeedLanes) (s : HubState) (k : ℕ) (r : LaneEnd Numbered)
+    (x : Numbered) (ready : Bool) → HubLockInvariant premise lanes s → slice_get s.receivers k ≡ Some r
+    → AreInSequence premise r.tag (r.items ++ x ∷ [])
+    → HubLockInvariant premise lanes (record s {
+      journal =
+          record s.journal { entries = s.journal.entries ++ entry.Consumed k x ∷ []; ready = ready };
+      receivers = slice_set s.receivers k (with_items r (r.items ++ x ∷ []));
+    })
+consumes premise lanes s k r x ready h at may = record {
   venues = length_put s.receivers k w ∙ h.venues;
   count = h.count;
   few = h.few;
@@ -131,7 +160,11 @@ consumes carries ends lanes s k r x ready h at may = record {
   size = h.size;
   subscribers = h.subscribers;
   many = h.many;
-  consumed = λ v e got. elim (get_put s.receivers k v w e got) [ inl here ↦ subst (λ (y : ℕ × LaneEnd Numbered). IsConsumed carries ends lanes entries y.0 y.1) (λ i. (sym here.0 i, sym here.1 i)) this | inr there ↦ other v e there.0 there.1 ];
+  consumed = λ v e got. elim (get_put s.receivers k v w e got) [
+    | inl here ↦ subst (λ (y : ℕ × LaneEnd Numbered). IsConsumed premise lanes entries y.0 y.1)
+        (λ i. (sym here.0 i, sym here.1 i)) this
+    | inr there ↦ other v e there.0 there.1
+  ];
   offered = λ id e got. offered_still lanes s.journal (entry.Consumed k x) ready id e (h.offered id e got);
   spare = h.spare;
 }
@@ -142,48 +175,81 @@ consumes carries ends lanes s k r x ready h at may = record {
     entries : List Entry
     entries = s.journal.entries ++ entry.Consumed k x ∷ []
 
-    this : IsConsumed carries ends lanes entries k w
+    this : IsConsumed premise lanes entries k w
     this =
         let mine = h.consumed k r at in
-        let items : r.items ++ x ∷ [] ≡ items_in entries k = ap (λ (l : List Numbered). l ++ x ∷ []) mine.items ∙ sym (items_here k k s.journal.entries x refl) in
-        record { tag = mine.tag; lane = mine.lane; items = items; sequence = subst (λ (y : ℕ × List Numbered). IsInSequence carries ends y.0 y.1) (λ i. (mine.tag i, items i)) may }
+        let items : r.items ++ x ∷ [] ≡ items_in entries k = ap (λ (l : List Numbered). l ++ x ∷ []) mine.items
+        ∙ sym (items_here k k s.journal.entries x refl) in
+        record {
+          tag = mine.tag;
+          lane = mine.lane;
+          items = items;
+          sequence = subst (λ (y : ℕ × List Numbered). AreInSequence premise y.0 y.1) (λ i. (mine.tag i, items i)) may;
+        }
 
-    other : (v : ℕ) (e : LaneEnd Numbered) → v ≢ k → slice_get s.receivers v ≡ Some e → IsConsumed carries ends lanes entries v e
+    other : (v : ℕ) (e : LaneEnd Numbered) → v ≢ k → slice_get s.receivers v ≡ Some e
+        → IsConsumed premise lanes entries v e
     other v e apart got =
         let o = h.consumed v e got in
         let same : items_in entries v ≡ items_in s.journal.entries v = items_there v k s.journal.entries x apart in
-        record { tag = o.tag; lane = o.lane; items = o.items ∙ sym same; sequence = subst (λ (l : List Numbered). IsInSequence carries ends v l) (sym same) o.sequence }
+        record {
+          tag = o.tag;
+          lane = o.lane;
+          items = o.items ∙ sym same;
+          sequence = subst (λ (l : List Numbered). AreInSequence premise v l) (sym same) o.sequence;
+        }
 
 -- ---- one more notice, or none
 
 -- the cursor is at a place, and what was sent is what was wanted up to there
-pub moves : (carries : Carries) (ends : Ends) (lanes : FeedLanes) (s : HubState) (id : ℕ) (c : Cursor) (l : LaneEnd Notice) (place : ℕ) (sent : List Notice) → HubLockInvariant carries ends lanes s
-    → slice_get s.journal.cursors id ≡ Some c → slice_get s.senders id ≡ Some l → place ≤ length (changes s.journal) → sent ≡ filter (meets c.terms) (take place (changes s.journal))
-    → HubLockInvariant carries ends lanes (record s { journal = record s.journal { cursors = slice_set s.journal.cursors id (record c { seen = place }) }; senders = slice_set s.senders id (with_items l sent) })
-moves carries ends lanes s id c l place sent h at from within is = record {
+pub moves : {S : Type 0} (premise : Genuine S) (lanes : FeedLanes) (s : HubState) (id : ℕ) (c : Cursor)
+    (l : LaneEnd Notice) (place : ℕ) (sent : List Notice) → HubLockInvariant premise lanes s
+    → slice_get s.journal.cursors id ≡ Some c → slice_get s.senders id ≡ Some l → place ≤ length (changes s.journal)
+    → sent ≡ filter (meets c.terms) (take place (changes s.journal))
+    → HubLockInvariant premise lanes (record s {
+      journal =
+          record s.journal { cursors = slice_set s.journal.cursors id (record c { seen = place }) };
+      senders = slice_set s.senders id (with_items l sent);
+    })
+moves premise lanes s id c l place sent h at from within is = record {
   venues = h.venues;
   count = h.count;
   few = h.few;
   symbols = h.symbols;
   size = h.size;
   many = ap (λ (n : ℕ). n + length s.spare) (length_put s.journal.cursors id (record c { seen = place })) ∙ h.many;
-  subscribers = length_put s.senders id (with_items l sent) ∙ h.subscribers ∙ sym (length_put s.journal.cursors id (record c { seen = place }));
+  subscribers = length_put s.senders id (with_items l sent) ∙ h.subscribers
+      ∙ sym (length_put s.journal.cursors id (record c { seen = place }));
   consumed = h.consumed;
-  offered = λ j e got. elim (get_put s.senders id j (with_items l sent) e got) [ inl here ↦ subst (λ (y : ℕ × LaneEnd Notice). IsOffered lanes after y.0 y.1) (λ i. (sym here.0 i, sym here.1 i)) this | inr there ↦ other j e there.0 there.1 ];
-  spare = λ k x got. subst (λ (n : ℕ). IsSpare lanes (n + k) x) (sym (length_put s.journal.cursors id (record c { seen = place }))) (h.spare k x got);
+  offered = λ j e got. elim (get_put s.senders id j (with_items l sent) e got) [
+    | inl here ↦ subst (λ (y : ℕ × LaneEnd Notice). IsOffered lanes after y.0 y.1) (λ i. (sym here.0 i, sym here.1 i))
+        this
+    | inr there ↦ other j e there.0 there.1
+  ];
+  spare = λ k x got. subst (λ (n : ℕ). IsSpare lanes (n + k) x)
+      (sym (length_put s.journal.cursors id (record c { seen = place }))) (h.spare k x got);
 }
   where
     after : JournalState
     after = record s.journal { cursors = slice_set s.journal.cursors id (record c { seen = place }) }
 
-    here_items : (cursor : Cursor) → ((id ≡ id) × (cursor ≡ record c { seen = place })) ⊎ ((id ≢ id) × (slice_get s.journal.cursors id ≡ Some cursor)) → (cursor.seen ≤ length (changes s.journal)) × (sent ≡ offered_of (changes s.journal) cursor)
-    here_items cursor (inl here) = subst (λ (y : Cursor). (y.seen ≤ length (changes s.journal)) × (sent ≡ offered_of (changes s.journal) y)) (sym here.1) (within, is)
+    here_items : (cursor : Cursor) → ((id ≡ id) × (cursor ≡ record c { seen = place }))
+        ⊎ ((id ≢ id) × (slice_get s.journal.cursors id ≡ Some cursor)) → (cursor.seen ≤ length (changes s.journal))
+        × (sent ≡ offered_of (changes s.journal) cursor)
+    here_items cursor (inl here) = subst (λ (y : Cursor). (y.seen ≤ length (changes s.journal))
+        × (sent ≡ offered_of (changes s.journal) y)) (sym here.1) (within, is)
     here_items cursor (inr there) = absurd (there.0 refl)
 
     this : IsOffered lanes after id (with_items l sent)
     this =
         let mine = h.offered id l from in
-        record { tag = mine.tag; lane = mine.lane; capacity = mine.capacity; items = λ cursor got. here_items cursor (get_put s.journal.cursors id id (record c { seen = place }) cursor got) }
+        record {
+          tag = mine.tag;
+          lane = mine.lane;
+          capacity = mine.capacity;
+          items = λ cursor got. here_items cursor (get_put s.journal.cursors id id (record c { seen = place }) cursor
+              got);
+        }
 
     other : (j : ℕ) (e : LaneEnd Notice) → j ≢ id → slice_get s.senders j ≡ Some e → IsOffered lanes after j e
     other j e apart got =
@@ -192,7 +258,8 @@ moves carries ends lanes s id c l place sent h at from within is = record {
           tag = o.tag;
           lane = o.lane;
           capacity = o.capacity;
-          items = λ cursor here. elim (get_put s.journal.cursors id j (record c { seen = place }) cursor here) [ inl same ↦ absurd (apart same.0) | inr there ↦ o.items cursor there.1 ];
+          items = λ cursor here. elim (get_put s.journal.cursors id j (record c { seen = place }) cursor here)
+              [ inl same ↦ absurd (apart same.0) | inr there ↦ o.items cursor there.1 ];
         }
 
 pub below_of : {X : Type 0} (xs : List X) (i : ℕ) (x : X) → Some x ≡ slice_get xs i → i < length xs
@@ -201,13 +268,18 @@ below_of (y ∷ ys) zero x e = omega arith
 below_of (y ∷ ys) (suc i) x e = let h = below_of ys i x e in omega arith
 
 -- what was wanted up to a place, and more of it, are numbered rising
-pub may_offer : (symbols : List (List ℕ)) (terms : Terms) (es : List Entry) (place : ℕ) → AllPairs (λ (x y : Notice). x.number < y.number) (filter (meets terms) (take place (changes_of symbols es)))
+pub may_offer : (symbols : List (List ℕ)) (terms : Terms) (es : List Entry) (place : ℕ)
+    → AllPairs (λ (x y : Notice). x.number < y.number) (filter (meets terms) (take place (changes_of symbols es)))
 may_offer symbols terms es place =
     let notices = changes_of symbols es in
-    let whole : filter (meets terms) notices ≡ filter (meets terms) (take place notices) ++ filter (meets terms) (drop place notices) =
-    ap (filter (meets terms)) (sym (take-append-drop place notices)) ∙ filter-append (meets terms) (take place notices) (drop place notices) in
-    AllPairs-prefix (λ (x y : Notice). x.number < y.number) (filter (meets terms) (take place notices)) (filter (meets terms) (drop place notices))
-    (subst (λ (l : List Notice). AllPairs (λ (x y : Notice). x.number < y.number) l) whole (pairs_rise 0 (wanted_of symbols terms es) (wanted_rise symbols terms es)))
+    let whole : filter (meets terms) notices ≡ filter (meets terms) (take place notices) ++ filter (meets terms)
+    (drop place notices) =
+    ap (filter (meets terms)) (sym (take-append-drop place notices))
+    ∙ filter-append (meets terms) (take place notices) (drop place notices) in
+    AllPairs-prefix (λ (x y : Notice). x.number < y.number) (filter (meets terms) (take place notices))
+    (filter (meets terms) (drop place notices))
+    (subst (λ (l : List Notice). AllPairs (λ (x y : Notice). x.number < y.number) l) whole
+    (pairs_rise 0 (wanted_of symbols terms es) (wanted_rise symbols terms es)))
 
 -- ---- consume
 
@@ -217,22 +289,32 @@ full_is m n h = grind (arith, nat_tests)
 room_is : (m n : ℕ) → n < m → nat_le m n ≡ false
 room_is m n h = grind (arith, nat_tests)
 
-pub ready_still : (carries : Carries) (ends : Ends) (lanes : FeedLanes) (s : HubState) (j : JournalState) → HubLockInvariant carries ends lanes s → j ≡ record s.journal { ready = true } → HubLockInvariant carries ends lanes (record s { journal = j })
-ready_still carries ends lanes s j h is = subst (λ (x : JournalState). HubLockInvariant carries ends lanes (record s { journal = x })) (sym is) (record {
-  venues = h.venues;
-  count = h.count;
-  few = h.few;
-  symbols = h.symbols;
-  size = h.size;
-  subscribers = h.subscribers;
-  many = h.many;
-  consumed = h.consumed;
-  offered = λ id e at. (let o = h.offered id e at in record { tag = o.tag; lane = o.lane; capacity = o.capacity; items = o.items });
-  spare = h.spare;
-})
+pub ready_still : {S : Type 0} (premise : Genuine S) (lanes : FeedLanes) (s : HubState) (j : JournalState)
+    → HubLockInvariant premise lanes s → j ≡ record s.journal { ready = true }
+    → HubLockInvariant premise lanes (record s { journal = j })
+ready_still premise lanes s j h is = subst (λ (x : JournalState). HubLockInvariant premise lanes
+    (record s { journal = x })) (sym is) (record {
+      venues = h.venues;
+      count = h.count;
+      few = h.few;
+      symbols = h.symbols;
+      size = h.size;
+      subscribers = h.subscribers;
+      many = h.many;
+      consumed = h.consumed;
+      offered = λ id e at. (let o = h.offered id e at in record {
+        tag = o.tag;
+        lane = o.lane;
+        capacity = o.capacity;
+        items = o.items;
+      });
+      spare = h.spare;
+    })
 
-module _ (may_send : ℕ → List Numbered → Type 0) (venue : ℕ) (s : HubState) (r : LaneEnd Numbered) (at : slice_get s.receivers venue ≡ Some r) where
-  pub consume_refused : (fault : JournalFault) (j : JournalState) → Reserves s.journal (Err fault) j → Consumes may_send venue (Err fault) s (record s { journal = j })
+module _ (may_send : ℕ → List Numbered → Type 0) (venue : ℕ) (s : HubState) (r : LaneEnd Numbered)
+    (at : slice_get s.receivers venue ≡ Some r) where
+  pub consume_refused : (fault : JournalFault) (j : JournalState) → Reserves s.journal (Err fault) j
+      → Consumes may_send venue (Err fault) s (record s { journal = j })
   consume_refused JournalFull j e = record {
     lane = r;
     at = at;
@@ -248,8 +330,10 @@ module _ (may_send : ℕ → List Numbered → Type 0) (venue : ℕ) (s : HubSta
   consume_refused AlreadySo j e = absurd e
   consume_refused TooManySubscribers j e = absurd e
 
-  module _ (j : JournalState) (w : LaneEnd Numbered) (room : length s.journal.entries < s.journal.journal) (is : j ≡ record s.journal { ready = true }) where
-    pub consume_none : w ≡ r → WasEmpty may_send r → ConsumesOne may_send venue (Ok None) s (record s { journal = j; receivers = slice_set s.receivers venue w })
+  module _ (j : JournalState) (w : LaneEnd Numbered) (room : length s.journal.entries < s.journal.journal)
+      (is : j ≡ record s.journal { ready = true }) where
+    pub consume_none : w ≡ r → WasEmpty may_send r → ConsumesOne may_send venue (Ok None) s
+        (record s { journal = j; receivers = slice_set s.receivers venue w })
     consume_none same was = record {
       lane = r;
       at = at;
@@ -261,18 +345,28 @@ module _ (may_send : ℕ → List Numbered → Type 0) (venue : ℕ) (s : HubSta
       entries = ap (λ (x : JournalState). x.entries) is;
     }
 
-    pub consume_none_kept : (carries : Carries) (ends : Ends) (lanes : FeedLanes) → HubLockInvariant carries ends lanes s → w ≡ r → HubLockInvariant carries ends lanes (record s { journal = j; receivers = slice_set s.receivers venue w })
-    consume_none_kept carries ends lanes h same =
-        subst (λ (x : List (LaneEnd Numbered)). HubLockInvariant carries ends lanes (record s { journal = j; receivers = x })) (sym (ap (slice_set s.receivers venue) same ∙ put_same s.receivers venue r at)) (ready_still carries ends lanes s j h is)
+    pub consume_none_kept : {S : Type 0} (premise : Genuine S) (lanes : FeedLanes) → HubLockInvariant premise lanes s
+        → w ≡ r → HubLockInvariant premise lanes (record s { journal = j; receivers = slice_set s.receivers venue w })
+    consume_none_kept premise lanes h same =
+        subst (λ (x : List (LaneEnd Numbered)). HubLockInvariant premise lanes
+        (record s { journal = j; receivers = x }))
+        (sym (ap (slice_set s.receivers venue) same ∙ put_same s.receivers venue r at))
+        (ready_still premise lanes s j h is)
 
-    module _ (x : Numbered) (k : JournalState) (position : ℕ) (grown : w ≡ with_items r (r.items ++ x ∷ [])) (journals : Journals j (entry.Consumed venue x) k) where
+    module _ (x : Numbered) (k : JournalState) (position : ℕ) (grown : w ≡ with_items r (r.items ++ x ∷ []))
+        (journals : Journals j (entry.Consumed venue x) k) where
       k_is : k ≡ record s.journal { entries = s.journal.entries ++ entry.Consumed venue x ∷ []; ready = k.ready }
-      k_is = journals ∙ ap (λ (y : JournalState). record y { entries = y.entries ++ entry.Consumed venue x ∷ []; ready = k.ready }) is
+      k_is = journals ∙ ap (λ (y : JournalState). record y {
+        entries = y.entries ++ entry.Consumed venue x ∷ [];
+        ready = k.ready;
+      }) is
 
-      pub consume_one : position ≡ length k.entries → ConsumesOne may_send venue (Ok (Some position)) s (record s { journal = k; receivers = slice_set s.receivers venue w })
+      pub consume_one : position ≡ length k.entries → ConsumesOne may_send venue (Ok (Some position)) s
+          (record s { journal = k; receivers = slice_set s.receivers venue w })
       consume_one counted =
           let entries = ap (λ (y : JournalState). y.entries) k_is in
-          let number : position ≡ length s.journal.entries + 1 = counted ∙ ap length entries ∙ length-append s.journal.entries (entry.Consumed venue x ∷ []) in
+          let number : position ≡ length s.journal.entries + 1 = counted ∙ ap length entries
+          ∙ length-append s.journal.entries (entry.Consumed venue x ∷ []) in
           record {
             lane = r;
             at = at;
@@ -284,11 +378,15 @@ module _ (may_send : ℕ → List Numbered → Type 0) (venue : ℕ) (s : HubSta
             entries = entries;
           }
 
-      pub consume_one_kept : (carries : Carries) (ends : Ends) (lanes : FeedLanes) → HubLockInvariant carries ends lanes s → IsInSequence carries ends r.tag w.items
-          → HubLockInvariant carries ends lanes (record s { journal = k; receivers = slice_set s.receivers venue w })
-      consume_one_kept carries ends lanes h may =
-          subst (λ (y : JournalState × LaneEnd Numbered). HubLockInvariant carries ends lanes (record s { journal = y.0; receivers = slice_set s.receivers venue y.1 })) (λ i. (sym k_is i, sym grown i))
-          (consumes carries ends lanes s venue r x k.ready h at (subst (λ (e : LaneEnd Numbered). IsInSequence carries ends r.tag e.items) grown may))
+      pub consume_one_kept : {S : Type 0} (premise : Genuine S) (lanes : FeedLanes) → HubLockInvariant premise lanes s
+          → AreInSequence premise r.tag w.items
+          → HubLockInvariant premise lanes (record s { journal = k; receivers = slice_set s.receivers venue w })
+      consume_one_kept premise lanes h may =
+          subst (λ (y : JournalState × LaneEnd Numbered). HubLockInvariant premise lanes
+          (record s { journal = y.0; receivers = slice_set s.receivers venue y.1 }))
+          (λ i. (sym k_is i, sym grown i))
+          (consumes premise lanes s venue r x k.ready h at
+          (subst (λ (e : LaneEnd Numbered). AreInSequence premise r.tag e.items) grown may))
 
 -- ---- offer
 
@@ -304,41 +402,58 @@ offer_keeps s id to c j senders at is = record {
   others = refl;
 }
 
-module _ (carries : Carries) (ends : Ends) (lanes : FeedLanes) (s : HubState) (id place : ℕ) (h : HubLockInvariant carries ends lanes s) (l : LaneEnd Notice) (from : slice_get s.senders id ≡ Some l)
-    (c : Cursor) (at : slice_get s.journal.cursors id ≡ Some c) (found : IsNextPlace (meets c.terms) (changes s.journal) c.seen place) where
+module _ {S : Type 0} (premise : Genuine S) (lanes : FeedLanes) (s : HubState) (id place : ℕ)
+    (h : HubLockInvariant premise lanes s) (l : LaneEnd Notice) (from : slice_get s.senders id ≡ Some l)
+    (c : Cursor) (at : slice_get s.journal.cursors id ≡ Some c)
+    (found : IsNextPlace (meets c.terms) (changes s.journal) c.seen place) where
   items_are : l.items ≡ filter (meets c.terms) (take c.seen (changes s.journal))
   items_are = ((h.offered id l from).items c at).1
 
-  wanted_next : slice_get (wanted_of s.journal.symbols c.terms s.journal.entries) (length l.items) ≡ slice_get (changes s.journal) place
-  wanted_next = ap (λ (xs : List Notice). slice_get (wanted_of s.journal.symbols c.terms s.journal.entries) (length xs)) items_are ∙ sym (next_of_wanted (meets c.terms) (changes s.journal) c.seen place found)
+  wanted_next : slice_get (wanted_of s.journal.symbols c.terms s.journal.entries) (length l.items)
+      ≡ slice_get (changes s.journal) place
+  wanted_next = ap (λ (xs : List Notice). slice_get (wanted_of s.journal.symbols c.terms s.journal.entries) (length xs))
+      items_are ∙ sym (next_of_wanted (meets c.terms) (changes s.journal) c.seen place found)
 
   terms_here : terms_at s.journal id ≡ Some c.terms
   terms_here = ap (option_map (λ (x : Cursor). x.terms)) at
 
-  pub looks_kept : (j : JournalState) (w : LaneEnd Notice) → j ≡ record s.journal { cursors = slice_set s.journal.cursors id (record c { seen = place }) } → w ≡ l → HubLockInvariant carries ends lanes (record s { journal = j; senders = slice_set s.senders id w })
+  pub looks_kept : (j : JournalState) (w : LaneEnd Notice)
+      → j ≡ record s.journal { cursors = slice_set s.journal.cursors id (record c { seen = place }) } → w ≡ l
+      → HubLockInvariant premise lanes (record s { journal = j; senders = slice_set s.senders id w })
   looks_kept j w is same =
-      subst (λ (y : JournalState × LaneEnd Notice). HubLockInvariant carries ends lanes (record s { journal = y.0; senders = slice_set s.senders id y.1 })) (λ i. (sym is i, sym same i))
-      (moves carries ends lanes s id c l place l.items h at from found.within (items_are ∙ sym found.passed))
+      subst (λ (y : JournalState × LaneEnd Notice). HubLockInvariant premise lanes
+      (record s { journal = y.0; senders = slice_set s.senders id y.1 })) (λ i. (sym is i, sym same i))
+      (moves premise lanes s id c l place l.items h at from found.within (items_are ∙ sym found.passed))
 
-  pub looks_only : (j : JournalState) → j ≡ record s.journal { cursors = slice_set s.journal.cursors id (record c { seen = place }) } → HubLockInvariant carries ends lanes (record s { journal = j })
-  looks_only j is = subst (λ (x : List (LaneEnd Notice)). HubLockInvariant carries ends lanes (record s { journal = j; senders = x })) (put_same s.senders id l from) (looks_kept j l is refl)
+  pub looks_only : (j : JournalState) → j ≡ record s.journal
+      { cursors = slice_set s.journal.cursors id (record c { seen = place }) }
+      → HubLockInvariant premise lanes (record s { journal = j })
+  looks_only j is = subst (λ (x : List (LaneEnd Notice)). HubLockInvariant premise lanes
+      (record s { journal = j; senders = x })) (put_same s.senders id l from) (looks_kept j l is refl)
 
-  pub offers_kept : (j : JournalState) (w : LaneEnd Notice) (n : Notice) → Some n ≡ slice_get (changes s.journal) place → j ≡ record s.journal { cursors = slice_set s.journal.cursors id (record c { seen = place + 1 }) }
-      → w ≡ with_items l (l.items ++ n ∷ []) → HubLockInvariant carries ends lanes (record s { journal = j; senders = slice_set s.senders id w })
+  pub offers_kept : (j : JournalState) (w : LaneEnd Notice) (n : Notice) → Some n ≡ slice_get (changes s.journal) place
+      → j ≡ record s.journal { cursors = slice_set s.journal.cursors id (record c { seen = place + 1 }) }
+      → w ≡ with_items l (l.items ++ n ∷ []) → HubLockInvariant premise lanes
+      (record s { journal = j; senders = slice_set s.senders id w })
   offers_kept j w n here is grown =
       let below = below_of (changes s.journal) place n here in
-      subst (λ (y : JournalState × LaneEnd Notice). HubLockInvariant carries ends lanes (record s { journal = y.0; senders = slice_set s.senders id y.1 })) (λ i. (sym is i, sym grown i))
-      (moves carries ends lanes s id c l (place + 1) (l.items ++ n ∷ []) h at from (omega arith)
-      (ap (λ (xs : List Notice). xs ++ n ∷ []) items_are ∙ sym (one_more_wanted (meets c.terms) (changes s.journal) c.seen place found n (sym here))))
+      subst (λ (y : JournalState × LaneEnd Notice). HubLockInvariant premise lanes
+      (record s { journal = y.0; senders = slice_set s.senders id y.1 })) (λ i. (sym is i, sym grown i))
+      (moves premise lanes s id c l (place + 1) (l.items ++ n ∷ []) h at from (omega arith)
+      (ap (λ (xs : List Notice). xs ++ n ∷ []) items_are
+      ∙ sym (one_more_wanted (meets c.terms) (changes s.journal) c.seen place found n (sym here))))
 
-  pub offer_may : (n : Notice) → Some n ≡ slice_get (changes s.journal) place → AllPairs (λ (x y : Notice). x.number < y.number) (l.items ++ n ∷ [])
+  pub offer_may : (n : Notice) → Some n ≡ slice_get (changes s.journal) place
+      → AllPairs (λ (x y : Notice). x.number < y.number) (l.items ++ n ∷ [])
   offer_may n here =
       subst (λ (xs : List Notice). AllPairs (λ (x y : Notice). x.number < y.number) xs)
-      (one_more_wanted (meets c.terms) (changes s.journal) c.seen place found n (sym here) ∙ ap (λ (xs : List Notice). xs ++ n ∷ []) (sym items_are))
+      (one_more_wanted (meets c.terms) (changes s.journal) c.seen place found n (sym here)
+      ∙ ap (λ (xs : List Notice). xs ++ n ∷ []) (sym items_are))
       (may_offer s.journal.symbols c.terms s.journal.entries (place + 1))
 
   module _ (may_send : ℕ → List Notice → Type 0) (j : JournalState) where
-    pub offer_nothing : None ≡ slice_get (changes s.journal) place → HubOffersOne may_send id (Err unsent.Nothing) s (record s { journal = j })
+    pub offer_nothing : None ≡ slice_get (changes s.journal) place
+        → HubOffersOne may_send id (Err unsent.Nothing) s (record s { journal = j })
     offer_nothing none = record {
       lane = l;
       at = from;
@@ -351,7 +466,9 @@ module _ (carries : Carries) (ends : Ends) (lanes : FeedLanes) (s : HubState) (i
       sent_is = sym (put_same s.senders id l from);
     }
 
-    pub offer_full : (n : Notice) (w : LaneEnd Notice) → Some n ≡ slice_get (changes s.journal) place → w ≡ l → WasFull may_send l → HubOffersOne may_send id (Err unsent.LaneFull) s (record s { journal = j; senders = slice_set s.senders id w })
+    pub offer_full : (n : Notice) (w : LaneEnd Notice) → Some n ≡ slice_get (changes s.journal) place → w ≡ l
+        → WasFull may_send l → HubOffersOne may_send id (Err unsent.LaneFull) s
+        (record s { journal = j; senders = slice_set s.senders id w })
     offer_full n w here same was = record {
       lane = l;
       at = from;
@@ -364,7 +481,8 @@ module _ (carries : Carries) (ends : Ends) (lanes : FeedLanes) (s : HubState) (i
       sent_is = ap (slice_set s.senders id) same;
     }
 
-    pub offer_one : (n : Notice) (w : LaneEnd Notice) (number : ℕ) → Some n ≡ slice_get (changes s.journal) place → number ≡ n.number → w ≡ with_items l (l.items ++ n ∷ [])
+    pub offer_one : (n : Notice) (w : LaneEnd Notice) (number : ℕ) → Some n ≡ slice_get (changes s.journal) place
+        → number ≡ n.number → w ≡ with_items l (l.items ++ n ∷ [])
         → HubOffersOne may_send id (Ok number) s (record s { journal = j; senders = slice_set s.senders id w })
     offer_one n w number here is grown = record {
       lane = l;
@@ -380,29 +498,41 @@ module _ (carries : Carries) (ends : Ends) (lanes : FeedLanes) (s : HubState) (i
 
 -- ---- declare
 
-pub declare_kept : (carries : Carries) (ends : Ends) (lanes : FeedLanes) (s : HubState) (venue : ℕ) (on : Bool) (answer : Result ℕ JournalFault) (j : JournalState) → HubLockInvariant carries ends lanes s → Declares s.journal venue on answer j
-    → HubLockInvariant carries ends lanes (record s { journal = j })
-declare_kept carries ends lanes s venue on answer j h d = by_answer answer d
+pub declare_kept : {S : Type 0} (premise : Genuine S) (lanes : FeedLanes) (s : HubState) (venue : ℕ) (on : Bool)
+    (answer : Result ℕ JournalFault) (j : JournalState) → HubLockInvariant premise lanes s
+    → Declares s.journal venue on answer j
+    → HubLockInvariant premise lanes (record s { journal = j })
+declare_kept premise lanes s venue on answer j h d = by_answer answer d
   where
-    stays : j ≡ s.journal → HubLockInvariant carries ends lanes (record s { journal = j })
-    stays is = subst (λ (x : JournalState). HubLockInvariant carries ends lanes (record s { journal = x })) (sym is) h
+    stays : j ≡ s.journal → HubLockInvariant premise lanes (record s { journal = j })
+    stays is = subst (λ (x : JournalState). HubLockInvariant premise lanes (record s { journal = x })) (sym is) h
 
-    by_answer : (a : Result ℕ JournalFault) → Declares s.journal venue on a j → HubLockInvariant carries ends lanes (record s { journal = j })
+    by_answer : (a : Result ℕ JournalFault) → Declares s.journal venue on a j
+        → HubLockInvariant premise lanes (record s { journal = j })
     by_answer (Err UnknownVenue) e = stays e.1
     by_answer (Err AlreadySo) e = stays e.2
     by_answer (Err JournalFull) e = stays e.3
     by_answer (Err NoMemory) e = stays e.3
     by_answer (Err TooManySubscribers) e = absurd e
-    by_answer (Ok position) e = subst (λ (x : JournalState). HubLockInvariant carries ends lanes (record s { journal = x })) (sym e.3.0) (declares carries ends lanes s venue on j.ready h)
+    by_answer (Ok position) e = subst (λ (x : JournalState). HubLockInvariant premise lanes (record s { journal = x }))
+        (sym e.3.0) (declares premise lanes s venue on j.ready h)
 
 -- ---- subscribe
 
 -- one more subscriber, with the first of the lanes that were left
-pub subscribes : (carries : Carries) (ends : Ends) (lanes : FeedLanes) (s : HubState) (x : SpareLane) (rest : List SpareLane) (j : JournalState) (senders : List (LaneEnd Notice)) (terms : Terms) → HubLockInvariant carries ends lanes s
-    → s.spare ≡ x ∷ rest → j ≡ record s.journal { cursors = s.journal.cursors ++ record { terms = terms; seen = 0 } ∷ [] } → senders ≡ s.senders ++ x.sender ∷ []
-    → HubLockInvariant carries ends lanes (record s { journal = j; senders = senders; spare = rest })
-subscribes carries ends lanes s x rest j senders terms h first is more =
-    subst (λ (y : JournalState × List (LaneEnd Notice)). HubLockInvariant carries ends lanes (record s { journal = y.0; senders = y.1; spare = rest })) (λ i. (sym is i, sym more i)) (record {
+pub subscribes : {S : Type 0} (premise : Genuine S) (lanes : FeedLanes) (s : HubState) (x : SpareLane)
+    (rest : List SpareLane) (j : JournalState) (senders : List (LaneEnd Notice)) (terms : Terms)
+    → HubLockInvariant premise lanes s
+    → s.spare ≡ x ∷ rest → j ≡ record s.journal {
+      cursors = s.journal.cursors ++ record {
+        terms = terms;
+        seen = 0;
+      } ∷ [];
+    } → senders ≡ s.senders ++ x.sender ∷ []
+    → HubLockInvariant premise lanes (record s { journal = j; senders = senders; spare = rest })
+subscribes premise lanes s x rest j senders terms h first is more =
+    subst (λ (y : JournalState × List (LaneEnd Notice)). HubLockInvariant premise lanes
+    (record s { journal = y.0; senders = y.1; spare = rest })) (λ i. (sym is i, sym more i)) (record {
       venues = h.venues;
       count = h.count;
       few = h.few;
@@ -411,8 +541,13 @@ subscribes carries ends lanes s x rest j senders terms h first is more =
       subscribers = length-append s.senders (x.sender ∷ []) ∙ ap (λ (n : ℕ). n + 1) h.subscribers ∙ sym count;
       many = (let m = h.many in let f = ap length first in let n = count in omega arith);
       consumed = h.consumed;
-      offered = λ id e at. elim (get_push s.senders id x.sender e at) [ inl here ↦ subst (λ (y : ℕ × LaneEnd Notice). IsOffered lanes after y.0 y.1) (λ i. (sym (here.0 ∙ h.subscribers) i, sym here.1 i)) this | inr there ↦ other id e there.0 there.1 ];
-      spare = λ k y at. subst (λ (n : ℕ). IsSpare lanes n y) (let n = count in omega arith) (h.spare (suc k) y (ap (λ (l : List SpareLane). slice_get l (suc k)) first ∙ at));
+      offered = λ id e at. elim (get_push s.senders id x.sender e at) [
+        | inl here ↦ subst (λ (y : ℕ × LaneEnd Notice). IsOffered lanes after y.0 y.1)
+            (λ i. (sym (here.0 ∙ h.subscribers) i, sym here.1 i)) this
+        | inr there ↦ other id e there.0 there.1
+      ];
+      spare = λ k y at. subst (λ (n : ℕ). IsSpare lanes n y) (let n = count in omega arith)
+          (h.spare (suc k) y (ap (λ (l : List SpareLane). slice_get l (suc k)) first ∙ at));
     })
   where
     new : Cursor
@@ -427,8 +562,13 @@ subscribes carries ends lanes s x rest j senders terms h first is more =
     spare_is : IsSpare lanes (length s.journal.cursors + 0) x
     spare_is = h.spare 0 x (ap (λ (l : List SpareLane). slice_get l 0) first)
 
-    here_items : (cursor : Cursor) → ((length s.journal.cursors ≡ length s.journal.cursors) × (cursor ≡ record { terms = terms; seen = 0 })) ⊎ ((length s.journal.cursors < length s.journal.cursors) × (slice_get s.journal.cursors (length s.journal.cursors) ≡ Some cursor)) → (cursor.seen ≤ length (changes s.journal)) × (x.sender.items ≡ offered_of (changes s.journal) cursor)
-    here_items cursor (inl here) = subst (λ (y : Cursor). (y.seen ≤ length (changes s.journal)) × (x.sender.items ≡ offered_of (changes s.journal) y)) (sym here.1) (omega arith, spare_is.items)
+    here_items : (cursor : Cursor) → ((length s.journal.cursors ≡ length s.journal.cursors)
+        × (cursor ≡ record { terms = terms; seen = 0 }))
+        ⊎ ((length s.journal.cursors < length s.journal.cursors)
+        × (slice_get s.journal.cursors (length s.journal.cursors) ≡ Some cursor))
+        → (cursor.seen ≤ length (changes s.journal)) × (x.sender.items ≡ offered_of (changes s.journal) cursor)
+    here_items cursor (inl here) = subst (λ (y : Cursor). (y.seen ≤ length (changes s.journal))
+        × (x.sender.items ≡ offered_of (changes s.journal) y)) (sym here.1) (omega arith, spare_is.items)
     here_items cursor (inr there) = absurd (let h = there.0 in omega arith)
 
     this : IsOffered lanes after (length s.journal.cursors) x.sender
@@ -438,10 +578,12 @@ subscribes carries ends lanes s x rest j senders terms h first is more =
           tag = spare_is.tag ∙ zero_more;
           lane = ap (slice_get lanes.subscribers) (sym zero_more) ∙ spare_is.lane;
           capacity = spare_is.capacity;
-          items = λ cursor at. here_items cursor (get_push s.journal.cursors (length s.journal.cursors) (record { terms = terms; seen = 0 }) cursor at);
+          items = λ cursor at. here_items cursor (get_push s.journal.cursors (length s.journal.cursors)
+              (record { terms = terms; seen = 0 }) cursor at);
         }
 
-    other : (id : ℕ) (e : LaneEnd Notice) → id < length s.senders → slice_get s.senders id ≡ Some e → IsOffered lanes after id e
+    other : (id : ℕ) (e : LaneEnd Notice) → id < length s.senders → slice_get s.senders id ≡ Some e
+        → IsOffered lanes after id e
     other id e below at =
         let o = h.offered id e at in
         let same = h.subscribers in
@@ -449,18 +591,37 @@ subscribes carries ends lanes s x rest j senders terms h first is more =
           tag = o.tag;
           lane = o.lane;
           capacity = o.capacity;
-          items = λ cursor got. elim (get_push s.journal.cursors id (record { terms = terms; seen = 0 }) cursor got) [ inl here ↦ absurd (let k = here.0 in omega arith) | inr there ↦ o.items cursor there.1 ];
+          items = λ cursor got. elim (get_push s.journal.cursors id (record { terms = terms; seen = 0 }) cursor got)
+              [ inl here ↦ absurd (let k = here.0 in omega arith) | inr there ↦ o.items cursor there.1 ];
         }
 
-pub spare_end : (carries : Carries) (ends : Ends) (lanes : FeedLanes) (s : HubState) (x : SpareLane) (rest : List SpareLane) → HubLockInvariant carries ends lanes s → s.spare ≡ x ∷ rest
-    → (x.receiver ≡ x.sender) × (x.receiver.tag ≡ length s.journal.cursors) × (x.receiver.items ≡ []) × (slice_get lanes.subscribers (length s.journal.cursors) ≡ Some x.receiver.lane) × (x.receiver.capacity ≡ lanes.setting.lane)
-spare_end carries ends lanes s x rest h first =
+pub spare_end : {S : Type 0} (premise : Genuine S) (lanes : FeedLanes) (s : HubState) (x : SpareLane)
+    (rest : List SpareLane) → HubLockInvariant premise lanes s → s.spare ≡ x ∷ rest
+    → (x.receiver ≡ x.sender) × (x.receiver.tag ≡ length s.journal.cursors) × (x.receiver.items ≡ [])
+    × (slice_get lanes.subscribers (length s.journal.cursors) ≡ Some x.receiver.lane)
+    × (x.receiver.capacity ≡ lanes.setting.lane)
+spare_end premise lanes s x rest h first =
     let i = h.spare 0 x (ap (λ (l : List SpareLane). slice_get l 0) first) in
-    let zero_more : length s.journal.cursors + 0 ≡ length s.journal.cursors = omega arith in
-    (i.same, ap (λ (e : LaneEnd Notice). e.tag) i.same ∙ i.tag ∙ zero_more, ap (λ (e : LaneEnd Notice). e.items) i.same ∙ i.items, ap (slice_get lanes.subscribers) (sym zero_more) ∙ i.lane ∙ ap (λ (e : LaneEnd Notice). Some e.lane) (sym i.same), ap (λ (e : LaneEnd Notice). e.capacity) i.same ∙ i.capacity)
+    let zero_more : length s.journal.cursors + 0 ≡ length s.journal.cursors = omega arith in (
+      i.same,
+      ap (λ (e : LaneEnd Notice). e.tag) i.same ∙ i.tag ∙ zero_more,
+      ap (λ (e : LaneEnd Notice). e.items) i.same
+          ∙ i.items,
+      ap (slice_get lanes.subscribers) (sym zero_more) ∙ i.lane
+          ∙ ap (λ (e : LaneEnd Notice). Some e.lane) (sym i.same),
+      ap (λ (e : LaneEnd Notice). e.capacity) i.same
+          ∙ i.capacity,
+    )
 
 -- ---- a section
 
-pub under_hub_lock : (carries : Carries) (ends : Ends) (lanes : FeedLanes) (section : HubState → HubState → Type 0) (old new : HubState) → HubLockInvariant carries ends lanes old → HubLockInvariant carries ends lanes new → section old new
-    → UnderHubLock carries ends lanes section
-under_hub_lock carries ends lanes section old new kept keeps leads = record { old = old; kept = kept; new = new; keeps = keeps; leads = leads }
+pub under_hub_lock : {S : Type 0} (premise : Genuine S) (lanes : FeedLanes) (section : HubState → HubState → Type 0)
+    (old new : HubState) → HubLockInvariant premise lanes old → HubLockInvariant premise lanes new → section old new
+    → UnderHubLock premise lanes section
+under_hub_lock premise lanes section old new kept keeps leads = record {
+  old = old;
+  kept = kept;
+  new = new;
+  keeps = keeps;
+  leads = leads;
+}

@@ -2,12 +2,12 @@
 use Rattle.std.proofs.Common.{◌≡◌, ℕ, ◌+◌, length, length-append, MatchOption, MatchResult, map, List, [], ◌∷◌, ◌++◌, Option, None, Some, Result, Ok, Err, refl, sym, ◌∙◌, ap, subst, append-nil, append_assoc}
 use Rattle.std.proofs.lemmas.List.{map-append}
 use Rattle.feed_types.specs.declared.journal.Notice.{Notice}
-use Rattle.feed_types.specs.Sequence.{Carries, Ends}
-use Rattle.feed_types.specs.Sessions.{SessionNames}
 use Rattle.filter_terms.specs.declared.advice.Advice.{Advice}
 use Rattle.line_arbiter.specs.declared.outcome.Outcome.{Outcome}
+use Rattle.feed_types.specs.declared.genuine.Genuine.{Ghosts as Genuine}
 use Rattle.live_feed.specs.declared.faults.TakeFault.{TakeFault}
 use Rattle.live_feed.specs.declared.faults.TakeFault.TheVariants as faults
+use Rattle.live_feed.specs.declared.run.line.LineEnd.{LineEnd}
 use Rattle.live_feed.specs.declared.run.source.SourceFault.{SourceFault}
 use Rattle.live_feed.specs.declared.subscriber.logged.PollFault.{PollFault}
 use Rattle.live_feed.specs.declared.subscriber.logged.PollFault.TheVariants.{NoMemory, LogFull}
@@ -20,44 +20,44 @@ use Rattle.live_feed.specs.run.Runs.{failures_after, Taking, AreTakenBy, HasTake
 use Rattle.live_feed.proofs.CellMoves.{shown_sum}
 
 -- a datagram leaves a seat where it is
-pub seat_stays : (sessions : SessionNames) (carries : Carries) (ends : Ends) (lanes : FeedLanes)
+pub seat_stays : {S : Type 0} (premise : Genuine S) (lanes : FeedLanes)
     (bytes : List ℕ) (old : SeatState) (answer : Result Outcome TakeFault) (new : SeatState)
-    → IsTakenBy sessions carries ends lanes bytes old answer new
+    → IsTakenBy premise lanes bytes old answer new
     → (new.venue ≡ old.venue) × (new.line ≡ old.line)
-seat_stays sessions carries ends lanes bytes old (Err (faults.Packet fault)) new taken =
+seat_stays premise lanes bytes old (Err (faults.Packet fault)) new taken =
     (ap (λ s. s.venue) taken.1, ap (λ s. s.line) taken.1)
-seat_stays sessions carries ends lanes bytes old (Err (faults.Line fault)) new taken =
+seat_stays premise lanes bytes old (Err (faults.Line fault)) new taken =
     (ap (λ s. s.venue) taken.1, ap (λ s. s.line) taken.1)
-seat_stays sessions carries ends lanes bytes old (Ok outcome) new taken =
+seat_stays premise lanes bytes old (Ok outcome) new taken =
     (ap (λ s. s.venue) taken.seat, ap (λ s. s.line) taken.seat)
 
-pub taken_itself : (sessions : SessionNames) (carries : Carries) (ends : Ends) (lanes : FeedLanes)
-    (s : SeatState) → HasTaken sessions carries ends lanes s [] s
-taken_itself sessions carries ends lanes s = record { takings = []; bytes = refl; taken = refl }
+pub taken_itself : {S : Type 0} (premise : Genuine S) (lanes : FeedLanes)
+    (s : SeatState) → HasTaken premise lanes s [] s
+taken_itself premise lanes s = record { takings = []; bytes = refl; taken = refl }
 
-taking_more : (sessions : SessionNames) (carries : Carries) (ends : Ends) (lanes : FeedLanes)
+taking_more : {S : Type 0} (premise : Genuine S) (lanes : FeedLanes)
     (takings : List Taking) (first old : SeatState) (t : Taking)
-    → AreTakenBy sessions carries ends lanes first takings old
-    → IsTakenBy sessions carries ends lanes t.bytes old t.answer t.seat
-    → AreTakenBy sessions carries ends lanes first (takings ++ t ∷ []) t.seat
-taking_more sessions carries ends lanes [] first old t same one =
-    let P : SeatState → Type 0 = λ s. IsTakenBy sessions carries ends lanes t.bytes s t.answer t.seat
+    → AreTakenBy premise lanes first takings old
+    → IsTakenBy premise lanes t.bytes old t.answer t.seat
+    → AreTakenBy premise lanes first (takings ++ t ∷ []) t.seat
+taking_more premise lanes [] first old t same one =
+    let P : SeatState → Type 0 = λ s. IsTakenBy premise lanes t.bytes s t.answer t.seat
     in (subst P same one, refl)
-taking_more sessions carries ends lanes (u ∷ more) first old t all one =
-    (all.0, taking_more sessions carries ends lanes more u.seat old t all.1 one)
+taking_more premise lanes (u ∷ more) first old t all one =
+    (all.0, taking_more premise lanes more u.seat old t all.1 one)
 
 -- one more datagram
-pub taken_more : (sessions : SessionNames) (carries : Carries) (ends : Ends) (lanes : FeedLanes)
+pub taken_more : {S : Type 0} (premise : Genuine S) (lanes : FeedLanes)
     (brought : List (List ℕ)) (bytes : List ℕ) (answer : Result Outcome TakeFault)
     (first old new : SeatState)
-    → HasTaken sessions carries ends lanes first brought old
-    → IsTakenBy sessions carries ends lanes bytes old answer new
-    → HasTaken sessions carries ends lanes first (brought ++ bytes ∷ []) new
-taken_more sessions carries ends lanes brought bytes answer first old new so_far one =
+    → HasTaken premise lanes first brought old
+    → IsTakenBy premise lanes bytes old answer new
+    → HasTaken premise lanes first (brought ++ bytes ∷ []) new
+taken_more premise lanes brought bytes answer first old new so_far one =
     let t : Taking = record { bytes = bytes; answer = answer; seat = new } in record {
       takings = so_far.takings ++ t ∷ [];
       bytes = map-append (λ u. u.bytes) so_far.takings (t ∷ []) ∙ ap (λ bs. bs ++ bytes ∷ []) so_far.bytes;
-      taken = taking_more sessions carries ends lanes so_far.takings first old t so_far.taken one;
+      taken = taking_more premise lanes so_far.takings first old t so_far.taken one;
     }
 
 -- a call that brings nothing more
@@ -69,7 +69,7 @@ brings_still brings more s t u brought so_far still =
     subst (λ xs. brings s xs u) (append-nil brought) (more s t u brought [] so_far still)
 
 -- a line's end after these datagrams, and a last call that brings nothing
-pub line_ended : {S : Type 0} (takes : SeatState → List (List ℕ) → SeatState → Type 0)
+pub line_ended : {G N S : Type 0} (takes : SeatState → List (List ℕ) → SeatState → Type 0)
     (brings : S → List (List ℕ) → S → Type 0) (failures : S → ℕ)
     → ((s t u : S) (xs ys : List (List ℕ)) → brings s xs t → brings t ys u → brings s (xs ++ ys) u)
     → (seat last_seat : SeatState) (source between last_source : S) (brought : List (List ℕ))
@@ -78,7 +78,8 @@ pub line_ended : {S : Type 0} (takes : SeatState → List (List ℕ) → SeatSta
     → takes seat brought last_seat → brings source brought between → brings between [] last_source
     → MatchOption fault (failures last_source ≡ failures source)
     (λ fault. failures last_source ≡ failures_after (failures source) fault)
-    → LineHasEnded takes brings failures seat source last_seat last_source datagrams fault
+    → LineHasEnded {G = G} {N = N} takes brings failures seat source
+    (record { seat = last_seat; source = last_source; datagrams = datagrams; fault = fault })
 line_ended takes brings failures more seat last_seat source between last_source brought datagrams fault
     venue line read taken later nothing counted = record {
       venue = venue;
@@ -91,11 +92,11 @@ line_ended takes brings failures more seat last_seat source between last_source 
     }
 
 -- what is genuine at a source's venue is so at its seat's
-pub genuine_at : (sessions : SessionNames) (carries : Carries) (ends : Ends) (v w : ℕ)
-    (bytes : List ℕ) → v ≡ w → AreGenuineBytes sessions carries ends v bytes
-    → AreGenuineBytes sessions carries ends w bytes
-genuine_at sessions carries ends v w bytes same genuine =
-    let P : ℕ → Type 0 = λ x. AreGenuineBytes sessions carries ends x bytes in
+pub genuine_at : {S : Type 0} (premise : Genuine S) (v w : ℕ)
+    (bytes : List ℕ) → v ≡ w → AreGenuineBytes premise v bytes
+    → AreGenuineBytes premise w bytes
+genuine_at premise v w bytes same genuine =
+    let P : ℕ → Type 0 = λ x. AreGenuineBytes premise x bytes in
     subst P same genuine
 
 pub polled_itself : (t : SubscriberLogState) → HasPolled t t
@@ -138,6 +139,14 @@ pairwise_more R (a ∷ xs) [] x y all one = absurd all
 pairwise_more R (a ∷ xs) (b ∷ ys) x y all one =
     (all.0, pairwise_more R xs ys x y all.1 one)
 
+-- a relation that says less
+pub pairwise_less : {A B : Type 0} (R S : A → B → Type 0) → ((x : A) (y : B) → R x y → S x y)
+    → (xs : List A) (ys : List B) → Pairwise R xs ys → Pairwise S xs ys
+pairwise_less R S f [] [] pairs = tt
+pairwise_less R S f [] (y ∷ ys) pairs = absurd pairs
+pairwise_less R S f (x ∷ xs) [] pairs = absurd pairs
+pairwise_less R S f (x ∷ xs) (y ∷ ys) pairs = (f x y pairs.0, pairwise_less R S f xs ys pairs.1)
+
 -- the relation of a list's items so far is that of the list, once these items are all
 pub pairwise_all : {A B : Type 0} (R : A → B → Type 0) (xs all : List A) (ys : List B)
     → Pairwise R xs ys → xs ≡ all → Pairwise R all ys
@@ -152,18 +161,15 @@ read_more brought bytes count more so_far is =
     ∙ ap shown (sym (length-append brought (bytes ∷ [])))
 
 -- the same line's end, where its seat and source are known by another name
-pub ended_of : {S : Type 0} (takes : SeatState → List (List ℕ) → SeatState → Type 0)
-    (brings : S → List (List ℕ) → S → Type 0) (failures : S → ℕ) (seat given : SeatState) (source first : S) (last_seat : SeatState)
-    (last_source : S) (datagrams : ℕ) (fault : Option SourceFault) → seat ≡ given → source ≡ first
-    → LineHasEnded takes brings failures seat source last_seat last_source datagrams fault
-    → LineHasEnded takes brings failures given first last_seat last_source datagrams fault
-ended_of takes brings failures seat given source first last_seat last_source datagrams fault same_seat
-    same ended =
-    let P : SeatState → Type 0 = λ s. LineHasEnded takes brings failures s source last_seat last_source
-    datagrams fault in
-    let Q : _ → Type 0 = λ s. LineHasEnded takes brings failures given s last_seat last_source datagrams
-    fault in
-    subst Q same (subst P same_seat ended)
+pub ended_of : {G N S : Type 0} (takes : SeatState → List (List ℕ) → SeatState → Type 0)
+    (brings : S → List (List ℕ) → S → Type 0) (failures : S → ℕ) (seat given : SeatState)
+    (source first : S) (ended : LineEnd G N S) → seat ≡ given → source ≡ first
+    → LineHasEnded takes brings failures seat source ended
+    → LineHasEnded takes brings failures given first ended
+ended_of takes brings failures seat given source first ended same_seat same has_ended =
+    let P : SeatState → Type 0 = λ s. LineHasEnded takes brings failures s source ended in
+    let Q : _ → Type 0 = λ s. LineHasEnded takes brings failures given s ended in
+    subst Q same (subst P same_seat has_ended)
 
 -- what was started for each, and then joined or handed back
 pub joined : {A H C : Type 0} (made : A → H → Type 0) (ends : A → C → Type 0)

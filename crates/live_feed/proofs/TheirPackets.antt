@@ -1,7 +1,5 @@
 -- The answers to bytes that are a packet of a known session.
 use Rattle.std.proofs.Common.{ℕ, List, Result, Ok, Err, refl, ap, subst, inl, inr}
-use Rattle.feed_types.specs.Sequence.{Carries, Ends}
-use Rattle.feed_types.specs.Sessions.{SessionNames}
 use Rattle.mold_packet.specs.Content.{Content, Spells}
 use Rattle.mold_packet.specs.Faults.{HasFault}
 use Rattle.mold_packet.specs.declared.fault.PacketFault.{PacketFault}
@@ -10,6 +8,7 @@ use Rattle.line_arbiter.specs.declared.outcome.Outcome.{Outcome}
 use Rattle.line_arbiter.specs.declared.outcome.LineFault.{LineFault}
 use Rattle.line_arbiter.specs.declared.outcome.LineFault.TheVariants.{OtherSession}
 use Rattle.line_arbiter.specs.OfSession.{IsOfSession}
+use Rattle.feed_types.specs.declared.genuine.Genuine.{Ghosts as Genuine}
 use Rattle.live_feed.specs.declared.faults.TakeFault.{TakeFault}
 use Rattle.live_feed.specs.declared.faults.TakeFault.TheVariants as faults
 use Rattle.live_feed.specs.venue.Sections.{AcceptsTheirPacket}
@@ -19,18 +18,20 @@ abbrev as_taken : Result Outcome LineFault → Result Outcome TakeFault
 as_taken (Ok outcome) = Ok outcome
 as_taken (Err fault) = Err (faults.Line fault)
 
-module _ (sessions : SessionNames) (carries : Carries) (ends : Ends) (venue : ℕ) (bytes : List ℕ) where
-  pub faulty : (fault : PacketFault) → HasFault bytes fault → AcceptsTheirs sessions carries ends venue bytes (Err (faults.Packet fault))
+module _ {S : Type 0} (premise : Genuine S) (venue : ℕ) (bytes : List ℕ) where
+  pub faulty : (fault : PacketFault) → HasFault bytes fault
+      → AcceptsTheirs premise venue bytes (Err (faults.Packet fault))
   faulty fault has all ordinal session p rest names at spells of = absurd (no_fault bytes p rest fault spells has)
 
-  pub other : AcceptsTheirs sessions carries ends venue bytes (Err (faults.Line OtherSession))
+  pub other : AcceptsTheirs premise venue bytes (Err (faults.Line OtherSession))
   other all ordinal session p rest names at spells of = inr refl
 
   pub theirs : (q : Content) (more : List ℕ) (fault : LineFault) → Spells bytes q more
-      → AcceptsTheirPacket sessions carries ends venue q (Err fault)
-      → AcceptsTheirs sessions carries ends venue bytes (Err (faults.Line fault))
+      → AcceptsTheirPacket premise venue q (Err fault)
+      → AcceptsTheirs premise venue bytes (Err (faults.Line fault))
   theirs q more fault spelled accepts all ordinal session p rest names at spells of =
-      elim (accepts all ordinal session names at (subst (IsOfSession session) (same_packet bytes p q rest more spells spelled) of)) [
+      elim (accepts all ordinal session names at (subst (IsOfSession session)
+      (same_packet bytes p q rest more spells spelled) of)) [
         | inl ok ↦ absurd cc
         | inr same ↦ inr (ap as_taken same)
       ]

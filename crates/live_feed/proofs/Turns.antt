@@ -4,11 +4,12 @@ use Rattle.std.specs.Prelude.{◌⊎◌, Contains}
 use Rattle.std.proofs.lemmas.List.{length-map, map-append}
 use Rattle.std.proofs.lemmas.List.Elements.{Contains-append_left, Contains-push}
 use Rattle.std.proofs.lemmas.List.Sums.{fold-append}
-use Rattle.feed_types.specs.Sequence.{Carries, Ends, IsInSequence}
 use Rattle.feed_types.specs.declared.journal.Entry.TheVariants as entry
 use Rattle.journal_book.specs.declared.fault.JournalFault.{JournalFault}
 use Rattle.journal_book.specs.declared.fault.JournalFault.TheVariants.{NoMemory, JournalFull, UnknownVenue, AlreadySo, TooManySubscribers}
 use Rattle.journal_book.specs.Journals.{JournalState}
+use Rattle.feed_types.specs.declared.genuine.Genuine.{Ghosts as Genuine}
+use Rattle.live_feed.specs.Premises.{AreInSequence}
 use Rattle.live_feed.specs.Lanes.{FeedLanes}
 use Rattle.live_feed.specs.hub.Hubs.{HubState}
 use Rattle.live_feed.specs.hub.Batches.{ConsumesBatch}
@@ -66,10 +67,10 @@ grows_not old new same =
     let kept = ap (λ (s : HubState). length s.journal.entries) same in
     omega (arith, kept)
 
-module _ (carries : Carries) (ends : Ends) (lanes : FeedLanes) where
+module _ {S : Type 0} (premise : Genuine S) (lanes : FeedLanes) where
   -- a call's items are as many entries more
   batch_grows : (venue most : ℕ) (answer : Result ℕ JournalFault) (old new : HubState)
-      → ConsumesBatch (IsInSequence carries ends) lanes venue most answer old new
+      → ConsumesBatch (AreInSequence premise) lanes venue most answer old new
       → length new.journal.entries ≡ length old.journal.entries + count_in answer
   batch_grows venue most (Ok count) old new r =
       let items = r.1.items in
@@ -85,17 +86,17 @@ module _ (carries : Carries) (ends : Ends) (lanes : FeedLanes) where
   batch_grows venue most (Err TooManySubscribers) old new r = absurd r
 
   batches_more : (batches : List Batch) (b : Batch) (old between : HubState)
-      → AreBatches carries ends lanes batches old between → IsBatch carries ends lanes b between
-      → AreBatches carries ends lanes (batches ++ b ∷ []) old b.after
+      → AreBatches premise lanes batches old between → IsBatch premise lanes b between
+      → AreBatches premise lanes (batches ++ b ∷ []) old b.after
   batches_more [] b old between same one =
-      (subst (λ (s : HubState). IsBatch carries ends lanes b s) same one, refl)
+      (subst (λ (s : HubState). IsBatch premise lanes b s) same one, refl)
   batches_more (x ∷ batches) b old between all one =
       (all.0, batches_more batches b x.after between all.1 one)
 
   module _ (b : Batch) (consumed : ℕ) (old between : HubState)
-      (r : ConsumesBatches carries ends lanes consumed None old between)
-      (one : IsBatch carries ends lanes b between) where
-    abbrev one_batch : ConsumesBatches carries ends lanes (consumed + count_in b.answer)
+      (r : ConsumesBatches premise lanes consumed None old between)
+      (one : IsBatch premise lanes b between) where
+    abbrev one_batch : ConsumesBatches premise lanes (consumed + count_in b.answer)
         (fault_in b.answer) old b.after
     one_batch =
         let before = r.grown in
@@ -124,15 +125,15 @@ module _ (carries : Carries) (ends : Ends) (lanes : FeedLanes) where
         (Contains-push (map (λ (x : Batch). x.venue) r.batches) b.venue)
 
 -- A round that begins at the venue `first`, after `step` calls, none of which was refused.
-pub record RoundUpTo (carries : Carries) (ends : Ends) (lanes : FeedLanes)
+pub record RoundUpTo {S : Type 0} (premise : Genuine S) (lanes : FeedLanes)
     (first step consumed : ℕ) (old new : HubState) : Type 0 where
-  pub intake : ConsumesBatches carries ends lanes consumed None old new
+  pub intake : ConsumesBatches premise lanes consumed None old new
   pub asked : (v : ℕ) → v < length lanes.venues → IsReached (length lanes.venues) first step v
       → Contains (map (λ b. b.venue) intake.batches) v
 
-module _ (carries : Carries) (ends : Ends) (lanes : FeedLanes) (first : ℕ)
+module _ {S : Type 0} (premise : Genuine S) (lanes : FeedLanes) (first : ℕ)
     (begins : (first ≡ 0) ⊎ (first < length lanes.venues)) where
-  pub no_call : (s : HubState) → RoundUpTo carries ends lanes first 0 0 s s
+  pub no_call : (s : HubState) → RoundUpTo premise lanes first 0 0 s s
   no_call s = record {
     intake = record {
       batches = [];
@@ -146,61 +147,62 @@ module _ (carries : Carries) (ends : Ends) (lanes : FeedLanes) (first : ℕ)
   }
 
   module _ (step consumed : ℕ) (old between : HubState)
-      (r : RoundUpTo carries ends lanes first step consumed old between) where
+      (r : RoundUpTo premise lanes first step consumed old between) where
     -- one call more
     pub one_call : (venue most count : ℕ) (new : HubState) → step < length lanes.venues
         → venue < length lanes.venues
         → (venue ≡ first + step) ⊎ (venue + length lanes.venues ≡ first + step) → 0 < most
-        → ConsumesBatch (IsInSequence carries ends) lanes venue most (Ok count) between new
-        → RoundUpTo carries ends lanes first (step + 1) (consumed + count) old new
+        → ConsumesBatch (AreInSequence premise) lanes venue most (Ok count) between new
+        → RoundUpTo premise lanes first (step + 1) (consumed + count) old new
     one_call venue most count new left known is some one =
         let b : Batch = record { venue = venue; most = most; answer = Ok count; after = new } in
-        let batch : IsBatch carries ends lanes b between = record { known = known; asked = some; consumes = one } in
+        let batch : IsBatch premise lanes b between = record { known = known; asked = some; consumes = one } in
         record {
-          intake = one_batch carries ends lanes b consumed old between r.intake batch;
+          intake = one_batch premise lanes b consumed old between r.intake batch;
           asked = λ v below reached.
               elim (next_reached (length lanes.venues) first begins step venue v left known below is reached) [
-                | inl before ↦ still_asked carries ends lanes b consumed old between r.intake batch v
+                | inl before ↦ still_asked premise lanes b consumed old between r.intake batch v
                     (r.asked v below before)
-                | inr same ↦ subst (λ (n : ℕ). Contains (map (λ (x : Batch). x.venue) (r.intake.batches ++ b ∷ [])) n) (sym same)
-                    (now_asked carries ends lanes b consumed old between r.intake batch)
+                | inr same ↦ subst (λ (n : ℕ). Contains (map (λ (x : Batch). x.venue) (r.intake.batches ++ b ∷ [])) n)
+                    (sym same)
+                    (now_asked premise lanes b consumed old between r.intake batch)
               ];
         }
 
     -- one call more, which was refused
     pub refused_call : (venue most : ℕ) (fault : JournalFault) (new : HubState)
         → venue < length lanes.venues → 0 < most
-        → ConsumesBatch (IsInSequence carries ends) lanes venue most (Err fault) between new
-        → ConsumesRound carries ends lanes consumed (Some fault) old new
+        → ConsumesBatch (AreInSequence premise) lanes venue most (Err fault) between new
+        → ConsumesRound premise lanes consumed (Some fault) old new
     refused_call venue most fault new known some one =
         let b : Batch = record { venue = venue; most = most; answer = Err fault; after = new } in
         let none : consumed + 0 ≡ consumed = omega arith in
         record {
-          intake = subst (λ (n : ℕ). ConsumesBatches carries ends lanes n (Some fault) old new) none
-              (one_batch carries ends lanes b consumed old between r.intake
+          intake = subst (λ (n : ℕ). ConsumesBatches premise lanes n (Some fault) old new) none
+              (one_batch premise lanes b consumed old between r.intake
               (record { known = known; asked = some; consumes = one }));
           over = inr (inr (λ e. absurd cc));
         }
 
     -- each venue was asked
     pub round_over : (refused : Option JournalFault) → refused ≡ None → length lanes.venues ≤ step
-        → ConsumesRound carries ends lanes consumed refused old between
+        → ConsumesRound premise lanes consumed refused old between
     round_over refused none all =
-        let asked : AskEach carries ends lanes r.intake.batches = λ v below. r.asked v below
+        let asked : AskEach premise lanes r.intake.batches = λ v below. r.asked v below
         (elim (all_reached (length lanes.venues) first begins v below) [
           | inl there ↦ inl (there.0, (let h = there.1 in omega arith))
           | inr past ↦ inr (omega arith)
         ]) in
-        subst (λ (f : Option JournalFault). ConsumesRound carries ends lanes consumed f old between)
+        subst (λ (f : Option JournalFault). ConsumesRound premise lanes consumed f old between)
         (sym none) (record { intake = r.intake; over = inl asked })
 
 -- and then notices were offered
-pub turn_taken : (carries : Carries) (ends : Ends) (lanes : FeedLanes) (consumed pushed : ℕ)
+pub turn_taken : {S : Type 0} (premise : Genuine S) (lanes : FeedLanes) (consumed pushed : ℕ)
     (refused : Option JournalFault) (old between new : HubState)
-    → ConsumesRound carries ends lanes consumed refused old between
+    → ConsumesRound premise lanes consumed refused old between
     → OffersAll pushed between new
-    → TakesTurn carries ends lanes consumed pushed refused old new
-turn_taken carries ends lanes consumed pushed refused old between new r next = record {
+    → TakesTurn premise lanes consumed pushed refused old new
+turn_taken premise lanes consumed pushed refused old between new r next = record {
   between = between;
   consumes = r;
   offers = next;

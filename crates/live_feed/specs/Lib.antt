@@ -1,4 +1,5 @@
--- the lanes of a feed, and the numbers of faults in logs
+-- what the lines may carry, the lanes of a feed, and the numbers of faults in logs
+pub mod Premises
 pub mod Lanes
 pub mod Codes
 -- a venue, the consolidator and a subscriber: what each keeps, and the sections under the locks

@@ -24,16 +24,13 @@ use crate::venue::seated_lines::SeatedLines;
 use crate::venue::start::VenueStart;
 use crossbeam_utils::CachePadded;
 use feed_core::{CoreFault, new_journal};
-use feed_types::{FeedConfig, Genuine, Numbered};
+use feed_types::{FeedConfig, Genuine, MAX_SUBSCRIBERS, Numbered};
 use fifo_lane::{Receiver, VenueItems};
 use journal_book::Journal;
 use std::alloc::Global;
 use std::collections::VecDeque;
 use std::marker::Model;
 use std::sync::{Arc, Mutex};
-
-/// The most subscribers of a feed.
-const MAX_SUBSCRIBERS: usize = 32;
 
 /// A feed that isn't open yet, to which nothing came. Contracts see it as its lanes and its
 /// setting.

@@ -2,7 +2,8 @@
 
 ghost use Rattle.std.specs.Prelude.{◌≡◌, ◌<◌, ◌++◌, ℕ, List, length, Some, slice_get};
 ghost use Rattle.feed_types.specs.Prefix.{IsPrefix};
-ghost use Rattle.feed_types.specs.Sessions.{Session, Names, whole_sessions};
+ghost use Rattle.feed_types.specs.Sessions.{Session, whole_sessions};
+ghost use Rattle.live_feed.specs.Premises.{BringExactly};
 ghost use Rattle.live_feed.specs.venue.Cells.{CellState, VenueLockInvariant};
 ghost use Rattle.live_feed.specs.hub.Hubs.{HubState, HubLockInvariant, items_in};
 ghost use Rattle.live_feed.specs.venue.Seats.{SeatState};
@@ -17,8 +18,8 @@ use feed_types::{Genuine, sequence_is_of_the_sessions};
 /// End after its last item.
 pub fn sent_items_are_the_sessions<G: Genuine, N: FeedName>()
     ensures { (c : CellState) (all : List Session)
-        → VenueLockInvariant G.sessions G.carries G.ends N.lanes c
-        → Names G.sessions G.carries G.ends c.arbiter.venue all
+        → VenueLockInvariant G.Genuine N.lanes c
+        → BringExactly G.Genuine c.arbiter.venue all
         → IsPrefix c.lane.items (whole_sessions all) }
 {
     sequence_is_of_the_sessions::<G>();
@@ -28,8 +29,8 @@ pub fn sent_items_are_the_sessions<G: Genuine, N: FeedName>()
 /// entries.
 pub fn journaled_items_are_the_sessions<G: Genuine, N: FeedName>()
     ensures { (s : HubState) (venue : ℕ) (all : List Session)
-        → HubLockInvariant G.carries G.ends N.lanes s → venue < length N.lanes.venues
-        → Names G.sessions G.carries G.ends venue all
+        → HubLockInvariant G.Genuine N.lanes s → venue < length N.lanes.venues
+        → BringExactly G.Genuine venue all
         → IsPrefix (items_in s.journal.entries venue) (whole_sessions all) }
 {
     sequence_is_of_the_sessions::<G>();
@@ -40,9 +41,9 @@ pub fn journaled_items_are_the_sessions<G: Genuine, N: FeedName>()
 pub fn settled_items_are_the_sessions<G: Genuine, N: FeedName>()
     ensures { (seats : List SeatState) (logs : List SubscriberLogState) (s : SettlementState)
         (venue : ℕ) (v : VenueEndState) (all : List Session)
-        → IsSettlement G.sessions G.carries G.ends N.lanes seats logs s
+        → IsSettlement G.Genuine N.lanes seats logs s
         → slice_get s.venues venue ≡ Some v
-        → Names G.sessions G.carries G.ends venue all
+        → BringExactly G.Genuine venue all
         → IsPrefix (v.consumed ++ (v.in_lane ++ v.ready)) (whole_sessions all) }
 {
     sequence_is_of_the_sessions::<G>();

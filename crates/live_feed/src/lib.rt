@@ -29,7 +29,7 @@ mod feed;
 mod feed_name;
 mod hub;
 mod laws;
-mod places;
+mod lists;
 mod run;
 mod settle;
 mod subscriber;

@@ -38,18 +38,24 @@ use std::sync::{Mutex, Wait};
 use std::thread;
 use std::thread::{Scope, Threads};
 
-/// Empty lists with room for the lines of a run.
+/// The lines of a run, with room for their threads and for the lines once they have ended.
 #[derive(Drop)]
-struct LineLists<G: Genuine, N: FeedName, S: LineSource<G>> {
+struct LinesToRun<G: Genuine, N: FeedName, S: LineSource<G>> {
+    lines: Vec<Line<G, N, S>>,
     threads: Vec<LineThread<G, N, S>>,
     ends: Vec<LineEnd<G, N, S>>,
+    ghost empty: { (threads.items ≡ []) × (ends.items ≡ []) },
+    ghost room: { (vec_len lines ≤ vec_capacity threads) × (vec_len lines ≤ vec_capacity ends) },
 }
 
-/// Empty lists with room for the logs of a run's subscribers.
+/// The logs of a run's subscribers, with room for their threads and for the logs that come back.
 #[derive(Drop)]
-struct LogLists<N: FeedName> {
+struct LogsToRun<N: FeedName> {
+    logs: Vec<SubscriberLog<N>>,
     threads: Vec<LogThread<N>>,
     back: Vec<SubscriberLog<N>>,
+    ghost empty: { (threads.items ≡ []) × (back.items ≡ []) },
+    ghost room: { (vec_len logs ≤ vec_capacity threads) × (vec_len logs ≤ vec_capacity back) },
 }
 
 /// What the threads of a run return.
@@ -58,29 +64,6 @@ struct Joined<G: Genuine, N: FeedName, S: LineSource<G>> {
     ends: Vec<LineEnd<G, N, S>>,
     logs: Vec<SubscriberLog<N>>,
     stopped: Option<Stop>,
-}
-
-fn line_lists<G: Genuine, N: FeedName, S: LineSource<G>>(
-    alloc: Global,
-    count: usize,
-) -> Result<LineLists<G, N, S>, AllocError>
-    ensures empty { IfOk result (λ lists. (lists.threads.items ≡ []) × (lists.ends.items ≡ [])) }
-    ensures room { IfOk result (λ lists. (vec_capacity lists.threads ≡ count)
-        × (vec_capacity lists.ends ≡ count)) }
-{
-    let threads = Vec::with_capacity(alloc, count)?;
-    let ends = Vec::with_capacity(alloc, count)?;
-    Ok(LineLists { threads, ends })
-}
-
-fn log_lists<N: FeedName>(alloc: Global, count: usize) -> Result<LogLists<N>, AllocError>
-    ensures empty { IfOk result (λ lists. (lists.threads.items ≡ []) × (lists.back.items ≡ [])) }
-    ensures room { IfOk result (λ lists. (vec_capacity lists.threads ≡ count)
-        × (vec_capacity lists.back ≡ count)) }
-{
-    let threads = Vec::with_capacity(alloc, count)?;
-    let back = Vec::with_capacity(alloc, count)?;
-    Ok(LogLists { threads, back })
 }
 
 /// Takes the subscribers apart, in order.
@@ -110,43 +93,37 @@ fn run_in<'s, E, G, N, S, R>(
     scope: &Scope<'s, E>,
     feed: &'s OpenFeed<G, N>,
     signals: &'s Signals,
-    lines: Vec<Line<G, N, S>>,
-    line_lists: LineLists<G, N, S>,
-    logs: Vec<SubscriberLog<N>>,
+    lines: LinesToRun<G, N, S>,
+    logs: LogsToRun<N>,
     strategies: &'s Vec<Mutex<Strategy>>,
-    log_lists: LogLists<N>,
 ) -> Joined<G, N, S>
 where
     G: Genuine + Send + Sync + 's,
     N: FeedName + Send + Sync + 's,
     S: LineSource<G> + Send + 's,
     R: Threads + Wait + Sync,
-    requires strategies { vec_len logs ≤ vec_len strategies.now }
-    requires lines { (line_lists.threads.items ≡ []) × (line_lists.ends.items ≡ [])
-        × (vec_len lines ≤ vec_capacity line_lists.threads)
-        × (vec_len lines ≤ vec_capacity line_lists.ends) }
-    requires logs { (log_lists.threads.items ≡ []) × (log_lists.back.items ≡ [])
-        × (vec_len logs ≤ vec_capacity log_lists.threads)
-        × (vec_len logs ≤ vec_capacity log_lists.back) }
-    ensures lines { Pairwise (λ line ended. LineHasEnded (HasTaken G.sessions G.carries G.ends
-        N.lanes) S.brings S.failures line.seat line.source ended.seat ended.source
-        ended.datagrams ended.fault) lines.items result.ends.items }
-    ensures logs { Pairwise HasPolled logs.items result.logs.items }
-    ensures count { vec_len result.logs ≡ vec_len logs }
+    requires { vec_len logs.logs ≤ vec_len strategies.now }
+    ensures lines { Pairwise (λ line. LineHasEnded (HasTaken G.Genuine N.lanes) S.brings S.failures
+        line.seat line.source) lines.lines.items result.ends.items }
+    ensures logs { Pairwise HasPolled logs.logs.items result.logs.items }
+    ensures count { vec_len result.logs ≡ vec_len logs.logs }
 {
-    let log_threads = start_subscribers(
-        rt,
-        scope,
-        signals,
-        feed.venues.bells(),
+    let LinesToRun {
+        lines,
+        threads: line_threads,
+        ends,
+    } = lines;
+    let LogsToRun {
         logs,
-        strategies,
-        log_lists.threads,
-    );
-    let line_threads = start_lines(rt, scope, &feed.venues, signals, lines, line_lists.threads);
+        threads: log_threads,
+        back,
+    } = logs;
+    let bells = feed.venues.bells();
+    let log_threads = start_subscribers(rt, scope, signals, bells, logs, strategies, log_threads);
+    let line_threads = start_lines(rt, scope, &feed.venues, signals, lines, line_threads);
     let stopped = consolidate(rt, feed, signals);
-    let ends = join_each(rt, line_threads, line_lists.ends);
-    let logs = join_each(rt, log_threads, log_lists.back);
+    let ends = join_each(rt, line_threads, ends);
+    let logs = join_each(rt, log_threads, back);
     let stopped = if signals.lacks_thread() {
         Some(Stop::NoThread)
     } else {
@@ -206,44 +183,45 @@ impl<G: Genuine + Send + Sync, N: FeedName + Send + Sync> OpenFeed<G, N> {
         subscribers: Vec<Subscriber<N>>,
     ) -> Result<RunReport<G, N, S>, (Vec<Line<G, N, S>>, Vec<Subscriber<N>>)>
         ensures back { IfErr result (λ back. (back.0 ≡ lines) × (back.1 ≡ subscribers)) }
-        ensures lines { IfOk result (λ report. Pairwise (λ line ended.
-            LineHasEnded (HasTaken G.sessions G.carries G.ends N.lanes) S.brings S.failures
-            line.seat line.source ended.seat ended.source ended.datagrams ended.fault)
-            lines.items report.lines.items) }
+        ensures lines { IfOk result (λ report. Pairwise (λ line. LineHasEnded
+            (HasTaken G.Genuine N.lanes) S.brings S.failures line.seat line.source) lines.items
+            report.lines.items) }
         ensures subscribers { IfOk result (λ report. Pairwise (λ given back.
             HasPolled given.log back.log) subscribers.items report.subscribers.items) }
     {
-        let Ok(line_lists) = line_lists(alloc, lines.len()) else {
+        let (lines_count, count) = (lines.len(), subscribers.len());
+        let (Ok(line_threads), Ok(ends), Ok(log_threads), Ok(logs), Ok(logs_back)) = (
+            Vec::with_capacity(alloc, lines_count),
+            Vec::with_capacity(alloc, lines_count),
+            Vec::with_capacity(alloc, count),
+            Vec::with_capacity(alloc, count),
+            Vec::with_capacity(alloc, count),
+        ) else {
             return Err((lines, subscribers));
         };
-        let Ok(log_lists) = log_lists(alloc, subscribers.len()) else {
+        let (Ok(strategies), Ok(back)) = (
+            Vec::with_capacity(alloc, count),
+            Vec::with_capacity(alloc, count),
+        ) else {
             return Err((lines, subscribers));
         };
-        let Ok(logs) = Vec::with_capacity(alloc, subscribers.len()) else {
-            return Err((lines, subscribers));
-        };
-        let Ok(strategies) = Vec::with_capacity(alloc, subscribers.len()) else {
-            return Err((lines, subscribers));
-        };
-        let Ok(back) = Vec::with_capacity(alloc, subscribers.len()) else {
-            return Err((lines, subscribers));
-        };
-        let signals = Signals::new(lines.len() as u64);
+        let signals = Signals::new(lines_count as u64);
         let (logs, strategies) = apart(subscribers, logs, strategies);
+        let lines = LinesToRun {
+            lines,
+            threads: line_threads,
+            ends,
+        };
+        let logs = LogsToRun {
+            logs,
+            threads: log_threads,
+            back: logs_back,
+        };
         let Joined {
             ends,
             logs,
             stopped,
-        } = run_scoped(
-            rt,
-            self,
-            &signals,
-            lines,
-            line_lists,
-            logs,
-            &strategies,
-            log_lists,
-        );
+        } = run_scoped(rt, self, &signals, lines, logs, &strategies);
         let subscribers = reassembled(logs, strategies, back);
         Ok(RunReport {
             lines: ends,
@@ -258,50 +236,30 @@ fn run_scoped<G, N, S, R>(
     rt: &R,
     feed: &OpenFeed<G, N>,
     signals: &Signals,
-    lines: Vec<Line<G, N, S>>,
-    line_lists: LineLists<G, N, S>,
-    logs: Vec<SubscriberLog<N>>,
+    lines: LinesToRun<G, N, S>,
+    logs: LogsToRun<N>,
     strategies: &Vec<Mutex<Strategy>>,
-    log_lists: LogLists<N>,
 ) -> Joined<G, N, S>
 where
     G: Genuine + Send + Sync,
     N: FeedName + Send + Sync,
     S: LineSource<G> + Send,
     R: Threads + Wait + Sync,
-    requires { (vec_len logs ≤ vec_len strategies.now)
-        × (line_lists.threads.items ≡ []) × (line_lists.ends.items ≡ [])
-        × (vec_len lines ≤ vec_capacity line_lists.threads)
-        × (vec_len lines ≤ vec_capacity line_lists.ends)
-        × (log_lists.threads.items ≡ []) × (log_lists.back.items ≡ [])
-        × (vec_len logs ≤ vec_capacity log_lists.threads)
-        × (vec_len logs ≤ vec_capacity log_lists.back) }
-    ensures lines { Pairwise (λ line ended. LineHasEnded (HasTaken G.sessions G.carries G.ends
-        N.lanes) S.brings S.failures line.seat line.source ended.seat ended.source
-        ended.datagrams ended.fault) lines.items result.ends.items }
-    ensures logs { Pairwise HasPolled logs.items result.logs.items }
-    ensures count { vec_len result.logs ≡ vec_len logs }
+    requires { vec_len logs.logs ≤ vec_len strategies.now }
+    ensures lines { Pairwise (λ line. LineHasEnded (HasTaken G.Genuine N.lanes) S.brings S.failures
+        line.seat line.source) lines.lines.items result.ends.items }
+    ensures logs { Pairwise HasPolled logs.logs.items result.logs.items }
+    ensures count { vec_len result.logs ≡ vec_len logs.logs }
 {
     thread::scope(
         thread::scope_env(),
         rt,
         move |scope| -> Joined<G, N, S>
-            requires { (vec_len logs ≤ vec_len strategies.now)
-                × (line_lists.threads.items ≡ []) × (line_lists.ends.items ≡ [])
-                × (vec_len lines ≤ vec_capacity line_lists.threads)
-                × (vec_len lines ≤ vec_capacity line_lists.ends)
-                × (log_lists.threads.items ≡ []) × (log_lists.back.items ≡ [])
-                × (vec_len logs ≤ vec_capacity log_lists.threads)
-                × (vec_len logs ≤ vec_capacity log_lists.back) }
-            ensures lines { Pairwise (λ line ended. LineHasEnded (HasTaken G.sessions G.carries
-                G.ends N.lanes) S.brings S.failures line.seat line.source ended.seat
-                ended.source ended.datagrams ended.fault) lines.items result.ends.items }
-            ensures logs { Pairwise HasPolled logs.items result.logs.items }
-            ensures count { vec_len result.logs ≡ vec_len logs }
-        {
-            run_in(
-                rt, scope, feed, signals, lines, line_lists, logs, strategies, log_lists,
-            )
-        },
+            requires { vec_len logs.logs ≤ vec_len strategies.now }
+            ensures lines { Pairwise (λ line. LineHasEnded (HasTaken G.Genuine N.lanes) S.brings
+                S.failures line.seat line.source) lines.lines.items result.ends.items }
+            ensures logs { Pairwise HasPolled logs.logs.items result.logs.items }
+            ensures count { vec_len result.logs ≡ vec_len logs.logs }
+        { run_in(rt, scope, feed, signals, lines, logs, strategies) },
     )
 }

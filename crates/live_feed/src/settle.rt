@@ -1,6 +1,6 @@
 //! The settlement of a feed.
 
-ghost use Rattle.std.specs.Prelude.{◌≡◌, ◌≤◌, length, map, vec_len, vec_capacity, IfOk, IfErr, OnOk};
+ghost use Rattle.std.specs.Prelude.{◌≡◌, ◌≤◌, [], length, map, vec_len, vec_capacity, IfOk, IfErr, OnOk};
 ghost use Rattle.live_feed.specs.settle.Settlements.{AllAgree, AreInOrder, AreVenues, IsSettlement};
 ghost use Rattle.live_feed.specs.settle.Closings.{HasRoom, IsClosedFeed};
 
@@ -21,6 +21,7 @@ use crate::feed::log_size::LogSize;
 use crate::feed::open_feed::{Guarded, OpenFeed};
 use crate::feed_name::FeedName;
 use crate::hub::cell::HubCell;
+use crate::lists::made_of_each;
 use crate::settle::agreeing::{all_agree, are_in_order, has_its_seats};
 use crate::settle::closing::{close_subscribers, close_venues};
 use crate::settle::rooms::{FeedRoom, feed_room};
@@ -44,40 +45,12 @@ struct Unlocked<G: Genuine, N: FeedName> {
     log_size: LogSize<N>,
 }
 
-/// Takes each venue out of its lock. There is room for all.
-fn out_of_locks<G: Genuine, N: FeedName>(
-    locks: Vec<VenueLock<G, N>>,
-    mut venues: Vec<Guarded<G, N>>,
-) -> Vec<Guarded<G, N>>
-    requires { (length venues.items ≡ 0) × (vec_len locks ≤ vec_capacity venues) }
-    ensures { length result.items ≡ length locks.items }
-{
-    for lock in locks {
-        venues.push_reserved(lock.into_inner().into_inner());
-    }
-    venues
-}
-
-/// Puts each venue under a lock. There is room for all.
-fn behind_locks<G: Genuine, N: FeedName>(
-    venues: Vec<Guarded<G, N>>,
-    mut locks: Vec<VenueLock<G, N>>,
-) -> Vec<VenueLock<G, N>>
-    requires { (length locks.items ≡ 0) × (vec_len venues ≤ vec_capacity locks) }
-    ensures { length result.items ≡ length venues.items }
-{
-    for venue in venues {
-        locks.push_reserved(CachePadded::new(Mutex::new(venue)));
-    }
-    locks
-}
-
 /// Takes the feed out of its locks. Where memory was refused, it is handed back.
 fn unlock<G: Genuine, N: FeedName>(
     alloc: Global,
     feed: OpenFeed<G, N>,
 ) -> Result<Unlocked<G, N>, OpenFeed<G, N>>
-    ensures room { IfOk result (λ u. (length u.locks.items ≡ 0)
+    ensures room { IfOk result (λ u. (u.locks.items ≡ [])
         × (vec_len u.venues ≤ vec_capacity u.locks)) }
     ensures count { IfOk result (λ u. length u.venues.items ≡ length N.lanes.venues) }
 {
@@ -95,7 +68,7 @@ fn unlock<G: Genuine, N: FeedName>(
     } = feed;
     let (behind, bells) = behind.into_parts();
     Ok(Unlocked {
-        venues: out_of_locks(behind, venues),
+        venues: made_of_each(behind, venues, &|_, lock| lock.into_inner().into_inner()),
         hub: hub.into_inner().into_inner(),
         locks,
         bells,
@@ -105,7 +78,7 @@ fn unlock<G: Genuine, N: FeedName>(
 
 /// Puts the feed under locks again.
 fn locked<G: Genuine, N: FeedName>(unlocked: Unlocked<G, N>) -> OpenFeed<G, N>
-    requires room { (length unlocked.locks.items ≡ 0)
+    requires room { (unlocked.locks.items ≡ [])
         × (vec_len unlocked.venues ≤ vec_capacity unlocked.locks) }
     requires count { length unlocked.venues.items ≡ length N.lanes.venues }
 {
@@ -116,8 +89,13 @@ fn locked<G: Genuine, N: FeedName>(unlocked: Unlocked<G, N>) -> OpenFeed<G, N>
         bells,
         log_size,
     } = unlocked;
+    let locks = made_of_each(
+        venues,
+        locks,
+        &|_, venue| CachePadded::new(Mutex::new(venue)),
+    );
     OpenFeed {
-        venues: VenueLocks::new(behind_locks(venues, locks), bells),
+        venues: VenueLocks::new(locks, bells),
         hub: CachePadded::new(Mutex::new(hub)),
         log_size,
     }
@@ -186,9 +164,8 @@ fn closed<G: Genuine, N: FeedName, W: Wait>(
     requires counts { (length unlocked.venues.items ≡ unlocked.hub.core.journal.venues)
         × (length subscribers.items ≡ length unlocked.hub.core.journal.cursors) }
     requires room { HasRoom (map (λ g. g.cell) unlocked.venues.items) unlocked.hub.core room }
-    ensures { IsClosedFeed G.sessions G.carries G.ends N.lanes
-        (map (λ g. g.cell) unlocked.venues.items) unlocked.hub.core
-        (map (λ s. s.log) subscribers.items) result }
+    ensures { IsClosedFeed G.Genuine N.lanes (map (λ g. g.cell) unlocked.venues.items)
+        unlocked.hub.core (map (λ s. s.log) subscribers.items) result }
 {
     let Unlocked {
         venues,
@@ -231,7 +208,7 @@ impl<G: Genuine, N: FeedName> OpenFeed<G, N> {
         seats: Vec<LineSeat<G, N>>,
         subscribers: Vec<Subscriber<N>>,
     ) -> Result<Settlement, Unsettled<G, N>>
-        ensures settled { IfOk result (IsSettlement G.sessions G.carries G.ends N.lanes seats.items
+        ensures settled { IfOk result (IsSettlement G.Genuine N.lanes seats.items
             (map (λ s. s.log) subscribers.items)) }
         ensures back { IfErr result (λ back. (back.seats.items ≡ seats.items)
             × (back.subscribers.items ≡ subscribers.items)) }

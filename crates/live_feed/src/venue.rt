@@ -1,6 +1,6 @@
 //! A venue: what its lock guards, the sections under that lock, and what its lines show.
 
-mod calls;
+pub(crate) mod calls;
 pub(crate) mod cell;
 pub(crate) mod datagram;
 pub(crate) mod locks;

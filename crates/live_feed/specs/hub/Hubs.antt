@@ -4,10 +4,11 @@ use Rattle.feed_types.specs.declared.item.Numbered.{Numbered}
 use Rattle.feed_types.specs.declared.journal.Entry.{Entry}
 use Rattle.feed_types.specs.declared.journal.Entry.TheVariants as entry
 use Rattle.feed_types.specs.declared.journal.Notice.{Notice}
-use Rattle.feed_types.specs.Sequence.{Carries, Ends, IsInSequence}
 use Rattle.journal_book.specs.declared.cursor.Cursor.{Cursor}
 use Rattle.journal_book.specs.Journals.{JournalState, changes, offered_of}
 use Rattle.fifo_lane.specs.Lane.{LaneEnd}
+use Rattle.feed_types.specs.declared.genuine.Genuine.{Ghosts as Genuine}
+use Rattle.live_feed.specs.Premises.{AreInSequence}
 use Rattle.live_feed.specs.Lanes.{FeedLanes}
 use Rattle.live_feed.specs.declared.hub.spare.SpareLane.{SpareLane}
 
@@ -29,12 +30,12 @@ items_in entries venue = flat_map (item_by venue) entries
 
 -- The venue's lane: what was received is the venue's items in the entries, and they obey the rule
 -- of a venue's items.
-pub record IsConsumed (carries : Carries) (ends : Ends) (lanes : FeedLanes) (entries : List Entry)
+pub record IsConsumed {S : Type 0} (premise : Genuine S) (lanes : FeedLanes) (entries : List Entry)
     (venue : ℕ) (e : LaneEnd Numbered) : Type 0 where
   pub tag : e.tag ≡ venue
   pub lane : slice_get lanes.venues venue ≡ Some e.lane
   pub items : e.items ≡ items_in entries venue
-  pub sequence : IsInSequence carries ends venue (items_in entries venue)
+  pub sequence : AreInSequence premise venue (items_in entries venue)
 
 -- The subscriber's lane: what was sent is what the journal counts as offered to it, the changes
 -- that were looked at and meet its terms.
@@ -57,7 +58,7 @@ pub record IsSpare (lanes : FeedLanes) (id : ℕ) (s : SpareLane) : Type 0 where
 -- What is so whenever the consolidator's lock is free. The journal has the symbols and holds as
 -- many entries as the feed is set up with. (Its changes are those of its entries, by its own
 -- contract.)
-pub record HubLockInvariant (carries : Carries) (ends : Ends) (lanes : FeedLanes) (s : HubState)
+pub record HubLockInvariant {S : Type 0} (premise : Genuine S) (lanes : FeedLanes) (s : HubState)
     : Type 0 where
   pub venues : length s.receivers ≡ s.journal.venues
   pub count : length lanes.venues ≡ s.journal.venues
@@ -66,7 +67,7 @@ pub record HubLockInvariant (carries : Carries) (ends : Ends) (lanes : FeedLanes
   pub size : s.journal.journal ≡ lanes.setting.journal
   pub subscribers : length s.senders ≡ length s.journal.cursors
   pub consumed : (venue : ℕ) (e : LaneEnd Numbered) → slice_get s.receivers venue ≡ Some e
-      → IsConsumed carries ends lanes s.journal.entries venue e
+      → IsConsumed premise lanes s.journal.entries venue e
   pub offered : (id : ℕ) (e : LaneEnd Notice) → slice_get s.senders id ≡ Some e
       → IsOffered lanes s.journal id e
   pub many : length s.journal.cursors + length s.spare ≡ 32
@@ -75,10 +76,10 @@ pub record HubLockInvariant (carries : Carries) (ends : Ends) (lanes : FeedLanes
 
 -- What was done in a section under the consolidator's lock, of which a caller knows nothing else
 -- than what it keeps: there are two such states, and the section leads from the one to the other.
-pub record UnderHubLock (carries : Carries) (ends : Ends) (lanes : FeedLanes)
+pub record UnderHubLock {S : Type 0} (premise : Genuine S) (lanes : FeedLanes)
     (section : HubState → HubState → Type 0) : Type 0 where
   pub old : HubState
-  pub kept : HubLockInvariant carries ends lanes old
+  pub kept : HubLockInvariant premise lanes old
   pub new : HubState
-  pub keeps : HubLockInvariant carries ends lanes new
+  pub keeps : HubLockInvariant premise lanes new
   pub leads : section old new

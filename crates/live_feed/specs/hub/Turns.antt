@@ -1,7 +1,8 @@
 -- A turn of the consolidator: what is journaled and then offered under its lock taken once.
 use Rattle.std.specs.Prelude.{◌≡◌, ◌≢◌, ◌⊎◌, ℕ, ◌+◌, ◌<◌, Contains, List, [], ◌∷◌, fold, length, map, Option, None, Some, Result, Ok, Err}
-use Rattle.feed_types.specs.Sequence.{Carries, Ends, IsInSequence}
 use Rattle.journal_book.specs.declared.fault.JournalFault.{JournalFault}
+use Rattle.feed_types.specs.declared.genuine.Genuine.{Ghosts as Genuine}
+use Rattle.live_feed.specs.Premises.{AreInSequence}
 use Rattle.live_feed.specs.Lanes.{FeedLanes}
 use Rattle.live_feed.specs.hub.Hubs.{HubState}
 use Rattle.live_feed.specs.hub.Batches.{ConsumesBatch}
@@ -23,12 +24,12 @@ abbrev pub fault_in : Result ℕ JournalFault → Option JournalFault
 fault_in (Ok count) = None
 fault_in (Err fault) = Some fault
 
-module _ (carries : Carries) (ends : Ends) (lanes : FeedLanes) where
+module _ {S : Type 0} (premise : Genuine S) (lanes : FeedLanes) where
   -- such a call, for an item or more of one of the feed's venues
   pub record IsBatch (b : Batch) (old : HubState) : Type 0 where
     pub known : b.venue < length lanes.venues
     pub asked : 0 < b.most
-    pub consumes : ConsumesBatch (IsInSequence carries ends) lanes b.venue b.most b.answer old
+    pub consumes : ConsumesBatch (AreInSequence premise) lanes b.venue b.most b.answer old
         b.after
 
   -- such calls, one after the other

@@ -1,11 +1,11 @@
 -- The report of a run of a feed.
-use Rattle.std.specs.Prelude.{◌≡◌, ℕ, ◌+◌, List, [], ◌∷◌, length, map, Option, MatchOption, Result}
+use Rattle.std.specs.Prelude.{◌≡◌, ℕ, ◌+◌, List, [], ◌∷◌, length, map, MatchOption, Result}
 use Rattle.feed_types.specs.Prefix.{IsPrefix}
-use Rattle.feed_types.specs.Sequence.{Carries, Ends}
-use Rattle.feed_types.specs.Sessions.{SessionNames}
 use Rattle.line_arbiter.specs.declared.outcome.Outcome.{Outcome}
 use Rattle.line_arbiter.specs.Counts.{shown}
+use Rattle.feed_types.specs.declared.genuine.Genuine.{Ghosts as Genuine}
 use Rattle.live_feed.specs.declared.faults.TakeFault.{TakeFault}
+use Rattle.live_feed.specs.declared.run.line.LineEnd.{LineEnd}
 use Rattle.live_feed.specs.declared.run.source.SourceFault.{SourceFault}
 use Rattle.live_feed.specs.declared.run.source.SourceFault.TheVariants as faults
 use Rattle.live_feed.specs.declared.run.report.Stop.{Stop}
@@ -45,36 +45,34 @@ pub record Taking : Type 0 where
   pub seat : SeatState
 
 -- The seat took these datagrams, one after the other, and the last seat is the one then.
-abbrev pub AreTakenBy : SessionNames → Carries → Ends → FeedLanes → SeatState → List Taking
+abbrev pub AreTakenBy : {S : Type 0} → Genuine S → FeedLanes → SeatState → List Taking
     → SeatState → Type 0
-AreTakenBy sessions carries ends lanes old [] last = last ≡ old
-AreTakenBy sessions carries ends lanes old (t ∷ more) last =
-    IsTakenBy sessions carries ends lanes t.bytes old t.answer t.seat
-    × AreTakenBy sessions carries ends lanes t.seat more last
+AreTakenBy premise lanes old [] last = last ≡ old
+AreTakenBy premise lanes old (t ∷ more) last =
+    IsTakenBy premise lanes t.bytes old t.answer t.seat
+    × AreTakenBy premise lanes t.seat more last
 
 -- A seat, later on: it took the datagrams of these bytes, in order, and nothing else changed it.
-pub record HasTaken (sessions : SessionNames) (carries : Carries) (ends : Ends)
-    (lanes : FeedLanes) (old : SeatState) (brought : List (List ℕ)) (last : SeatState)
-    : Type 0 where
+pub record HasTaken {S : Type 0} (premise : Genuine S) (lanes : FeedLanes) (old : SeatState)
+    (brought : List (List ℕ)) (last : SeatState) : Type 0 where
   pub takings : List Taking
   pub bytes : map (λ t. t.bytes) takings ≡ brought
-  pub taken : AreTakenBy sessions carries ends lanes old takings last
+  pub taken : AreTakenBy premise lanes old takings last
 
 -- A line that has ended: its seat took each datagram that its source brought, in order and once;
 -- the count of datagrams is how many these are, empty ones too, as a u64 shows it; and of the
 -- source's calls none failed but the last, where the line has a fault.
-pub record LineHasEnded {S : Type 0} (takes : SeatState → List (List ℕ) → SeatState → Type 0)
-    (brings : S → List (List ℕ) → S → Type 0) (failures : S → ℕ)
-    (seat : SeatState) (source : S) (last_seat : SeatState) (last_source : S) (datagrams : ℕ)
-    (fault : Option SourceFault) : Type 0 where
-  pub venue : last_seat.venue ≡ seat.venue
-  pub line : last_seat.line ≡ seat.line
+pub record LineHasEnded {G N S : Type 0} (takes : SeatState → List (List ℕ) → SeatState → Type 0)
+    (brings : S → List (List ℕ) → S → Type 0) (failures : S → ℕ) (seat : SeatState) (source : S)
+    (ended : LineEnd G N S) : Type 0 where
+  pub venue : ended.seat.venue ≡ seat.venue
+  pub line : ended.seat.line ≡ seat.line
   pub brought : List (List ℕ)
-  pub read : datagrams ≡ shown (length brought)
-  pub taken : takes seat brought last_seat
-  pub later : brings source brought last_source
-  pub counted : MatchOption fault (failures last_source ≡ failures source)
-      (λ fault. failures last_source ≡ failures_after (failures source) fault)
+  pub read : ended.datagrams ≡ shown (length brought)
+  pub taken : takes seat brought ended.seat
+  pub later : brings source brought ended.source
+  pub counted : MatchOption ended.fault (failures ended.source ≡ failures source)
+      (λ fault. failures ended.source ≡ failures_after (failures source) fault)
 
 -- A subscriber that took notices: it is the same one, and its log has grown at its end.
 pub record HasPolled (old new : SubscriberLogState) : Type 0 where

@@ -3,10 +3,9 @@ use Rattle.std.specs.Prelude.{◌≡◌, ℕ, ◌≤◌, ◌<◌, List, length, 
 use Rattle.feed_types.specs.declared.item.Numbered.{Numbered}
 use Rattle.feed_types.specs.declared.journal.Entry.{Entry}
 use Rattle.feed_types.specs.declared.journal.Notice.{Notice}
-use Rattle.feed_types.specs.Sequence.{Carries, Ends}
-use Rattle.feed_types.specs.Sessions.{SessionNames}
 use Rattle.journal_book.specs.Journals.{JournalState}
 use Rattle.fifo_lane.specs.Lane.{LaneEnd}
+use Rattle.feed_types.specs.declared.genuine.Genuine.{Ghosts as Genuine}
 use Rattle.live_feed.specs.Lanes.{FeedLanes}
 use Rattle.live_feed.specs.venue.Cells.{CellState}
 use Rattle.live_feed.specs.hub.Hubs.{HubState, IsConsumed, HubLockInvariant, IsOffered}
@@ -19,10 +18,10 @@ use Rattle.live_feed.specs.declared.settle.rooms.SubscriberRoom.{SubscriberRoom}
 use Rattle.live_feed.specs.declared.settle.rooms.FeedRoom.{FeedRoom}
 
 -- the venue's cell, the receiving end of its lane, and room for what is left of it
-pub record IsToClose (carries : Carries) (ends : Ends) (lanes : FeedLanes) (entries : List Entry)
+pub record IsToClose {S : Type 0} (premise : Genuine S) (lanes : FeedLanes) (entries : List Entry)
     (venue : ℕ) (c : CellState) (e : LaneEnd Numbered) (r : VenueRoom) : Type 0 where
   pub venue_is : c.arbiter.venue ≡ venue
-  pub consumed : IsConsumed carries ends lanes entries venue e
+  pub consumed : IsConsumed premise lanes entries venue e
   pub room : HasVenueRoom entries c r
 
 -- what the subscriber keeps, the sending end of its lane, and room for what is left of it
@@ -43,10 +42,10 @@ pub record HasRoom (cells : List CellState) (hub : HubState) (r : FeedRoom) : Ty
       × (length hub.senders ≤ vec_capacity r.subscriber_ends)
 
 -- the closed feed of these cells, this consolidator's part and these subscribers
-pub record IsClosedFeed (sessions : SessionNames) (carries : Carries) (ends : Ends)
+pub record IsClosedFeed {S : Type 0} (premise : Genuine S)
     (lanes : FeedLanes) (cells : List CellState) (hub : HubState) (logs : List SubscriberLogState)
     (s : SettlementState) : Type 0 where
-  pub kept : HubLockInvariant carries ends lanes hub
+  pub kept : HubLockInvariant premise lanes hub
   pub journal : s.journal ≡ hub.journal
-  pub venues : Zip2 (IsClosedVenue sessions carries ends lanes s.journal.entries) 0 cells s.venues
+  pub venues : Zip2 (IsClosedVenue premise lanes s.journal.entries) 0 cells s.venues
   pub subscribers : Zip2 (ShowsSubscriber s.journal) 0 logs s.subscribers

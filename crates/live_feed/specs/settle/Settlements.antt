@@ -4,13 +4,12 @@ use Rattle.feed_types.specs.declared.item.Numbered.{Numbered}
 use Rattle.feed_types.specs.declared.journal.Entry.{Entry}
 use Rattle.feed_types.specs.declared.journal.Notice.{Notice}
 use Rattle.feed_types.specs.declared.line.LineId.{LineId}
-use Rattle.feed_types.specs.Sequence.{Carries, Ends}
-use Rattle.feed_types.specs.Sessions.{SessionNames}
 use Rattle.line_arbiter.specs.Histories.{History, all_begun, streams_of, wins_in}
 use Rattle.line_arbiter.specs.Counts.{Counts, count_on, shown}
 use Rattle.filter_terms.specs.declared.terms.Terms.{Terms}
 use Rattle.journal_book.specs.Journals.{JournalState, terms_at}
 use Rattle.journal_book.specs.Wanted.{wanted_of}
+use Rattle.feed_types.specs.declared.genuine.Genuine.{Ghosts as Genuine}
 use Rattle.live_feed.specs.declared.subscriber.logged.Logged.{Logged}
 use Rattle.live_feed.specs.Lanes.{FeedLanes}
 use Rattle.live_feed.specs.venue.Cells.{AreGivenFrom, CellState, VenueLockInvariant, arrivals_of}
@@ -23,11 +22,11 @@ use Rattle.live_feed.specs.subscriber.Logs.{SubscriberLogState}
 -- is in the lane, is what was sent. There are packets that the venue was given, session by session,
 -- each answered as it should be and genuine; what was sent, then what is ready, are the sessions'
 -- streams; and what is counted per line is that of these packets.
-pub record IsSettled (carries : Carries) (ends : Ends) (venue window : ℕ)
+pub record IsSettled {S : Type 0} (premise : Genuine S) (venue window : ℕ)
     (sent consumed in_lane ready : List Numbered) (won : Counts) (sums : LineSums) : Type 0 where
   pub sent_is : consumed ++ in_lane ≡ sent
   pub history : History
-  pub given : AreGivenFrom carries ends venue window 1 history.earlier history.present
+  pub given : AreGivenFrom premise venue window 1 history.earlier history.present
   pub whole : sent ++ ready ≡ streams_of history
   pub wins : (line : LineId) → count_on line won ≡ shown (wins_in (all_begun history) line)
   pub accepted : (line : LineId)
@@ -110,11 +109,10 @@ abbrev pub AreInOrder : List SubscriberLogState → Type 0
 AreInOrder logs = (id : ℕ) (t : SubscriberLogState) → slice_get logs id ≡ Some t → t.id ≡ id
 
 -- a venue's cell, which its lock kept last, and what is left of it once its lane is closed
-pub record IsClosedVenue (sessions : SessionNames) (carries : Carries) (ends : Ends)
-    (lanes : FeedLanes) (entries : List Entry) (venue : ℕ) (c : CellState) (v : VenueEndState)
-    : Type 0 where
-  pub kept : VenueLockInvariant sessions carries ends lanes c
-  pub settled : IsSettled carries ends venue lanes.setting.window c.lane.items v.consumed v.in_lane
+pub record IsClosedVenue {S : Type 0} (premise : Genuine S) (lanes : FeedLanes)
+    (entries : List Entry) (venue : ℕ) (c : CellState) (v : VenueEndState) : Type 0 where
+  pub kept : VenueLockInvariant premise lanes c
+  pub settled : IsSettled premise venue lanes.setting.window c.lane.items v.consumed v.in_lane
       v.ready v.wins v.accepted
   pub consumed : v.consumed ≡ items_in entries venue
   pub wins : v.wins ≡ c.arbiter.wins
@@ -123,13 +121,12 @@ pub record IsClosedVenue (sessions : SessionNames) (carries : Carries) (ends : E
 -- A venue of a closed feed, whose lock kept this cell last: its lane, through which the cell's
 -- items were sent, is closed; what was consumed is its items in the entries; and what is counted
 -- per line is what the line's seats show, added up.
-pub record ShowsVenue (sessions : SessionNames) (carries : Carries) (ends : Ends)
-    (lanes : FeedLanes) (entries : List Entry) (seats : List SeatState) (venue : ℕ)
-    (v : VenueEndState) : Type 0 where
+pub record ShowsVenue {S : Type 0} (premise : Genuine S) (lanes : FeedLanes)
+    (entries : List Entry) (seats : List SeatState) (venue : ℕ) (v : VenueEndState) : Type 0 where
   pub cell : CellState
-  pub kept : VenueLockInvariant sessions carries ends lanes cell
+  pub kept : VenueLockInvariant premise lanes cell
   pub venue_is : cell.arbiter.venue ≡ venue
-  pub settled : IsSettled carries ends venue lanes.setting.window cell.lane.items v.consumed
+  pub settled : IsSettled premise venue lanes.setting.window cell.lane.items v.consumed
       v.in_lane v.ready v.wins v.accepted
   pub consumed : v.consumed ≡ items_in entries venue
   pub wins : (line : LineId) → count_on line v.wins ≡ (tally_of venue line seats).wins
@@ -144,15 +141,14 @@ pub record ShowsSubscriber (journal : JournalState) (id : ℕ) (t : SubscriberLo
 -- The settlement of a feed, once these seats and these subscribers were handed in: each of its
 -- venues and each of its subscribers is closed. The journal has the symbols and the capacity of the
 -- feed's setting.
-pub record IsSettlement (sessions : SessionNames) (carries : Carries) (ends : Ends)
-    (lanes : FeedLanes) (seats : List SeatState) (logs : List SubscriberLogState)
-    (s : SettlementState) : Type 0 where
+pub record IsSettlement {S : Type 0} (premise : Genuine S) (lanes : FeedLanes)
+    (seats : List SeatState) (logs : List SubscriberLogState) (s : SettlementState) : Type 0 where
   pub symbols : s.journal.symbols ≡ lanes.setting.symbols
   pub size : s.journal.journal ≡ lanes.setting.journal
   pub venue_count : (length s.venues ≡ length lanes.venues)
       × (s.journal.venues ≡ length lanes.venues)
   pub venues : (venue : ℕ) (v : VenueEndState) → slice_get s.venues venue ≡ Some v
-      → ShowsVenue sessions carries ends lanes s.journal.entries seats venue v
+      → ShowsVenue premise lanes s.journal.entries seats venue v
   pub subscriber_count : length s.subscribers ≡ length s.journal.cursors
   pub all : length s.subscribers ≡ length logs
   pub subscribers : (id : ℕ) (t : SubscriberLogState) (x : SubscriberEndState)

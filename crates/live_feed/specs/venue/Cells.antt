@@ -1,10 +1,8 @@
 -- What a venue's lock guards.
-use Rattle.std.specs.Prelude.{◌≡◌, ◌≢◌, ℕ, ◌+◌, List, [], ◌∷◌, ◌++◌, take, flat_map, Some, None, slice_get}
+use Rattle.std.specs.Prelude.{◌≡◌, ◌≢◌, ◌⊎◌, ℕ, ◌+◌, ◌≤◌, List, [], ◌∷◌, ◌++◌, take, flat_map, length, Some, None, slice_get}
 use Rattle.std.specs.List.{AllByRecursion}
 use Rattle.feed_types.specs.declared.item.Numbered.{Numbered}
 use Rattle.feed_types.specs.declared.line.LineId.{LineId}
-use Rattle.feed_types.specs.Sequence.{Carries, Ends}
-use Rattle.feed_types.specs.Sessions.{SessionNames}
 use Rattle.line_arbiter.specs.Packets.{Arrival}
 use Rattle.line_arbiter.specs.Streams.{IsComplete, stream_of}
 use Rattle.line_arbiter.specs.Answered.{AreAnswered}
@@ -14,6 +12,7 @@ use Rattle.line_arbiter.specs.States.{State, ordinal_of}
 use Rattle.line_arbiter.specs.Fits.{FitsHistory}
 use Rattle.line_arbiter.specs.Pacing.{Pace}
 use Rattle.fifo_lane.specs.Lane.{LaneEnd}
+use Rattle.feed_types.specs.declared.genuine.Genuine.{Ghosts as Genuine}
 use Rattle.live_feed.specs.Lanes.{FeedLanes}
 use Rattle.live_feed.specs.venue.Sums.{LineSums, accepted_on, no_line_sums, sums_on}
 
@@ -48,13 +47,14 @@ pub record FitsCell (c : CellState) (h : History) : Type 0 where
   pub accepted : (line : LineId)
       → sums_on line c.accepted ≡ accepted_on line (arrivals_of (all_begun h))
 
-module _ (carries : Carries) (ends : Ends) (venue window : ℕ) where
+module _ {S : Type 0} (premise : Genuine S) (venue window : ℕ) where
   -- The packets of a session: each was answered by the definitions (so one with an outcome is of
   -- the session), and each that is of the session is genuine.
   pub record AreGiven (ordinal : ℕ) (b : Begun) : Type 0 where
     pub answered : AreAnswered b.name window b.packets
     pub genuine : AllByRecursion
-        (λ a. a.packet.session ≡ b.name → IsGenuineAt carries ends venue ordinal a.packet) b.packets
+        (λ a. a.packet.session ≡ b.name
+        → IsGenuineAt premise.carries premise.ends venue ordinal a.packet) b.packets
 
   -- the same of the sessions from this ordinal on, and all but the present one are over
   abbrev pub AreGivenFrom : ℕ → List Begun → Begun → Type 0
@@ -66,13 +66,13 @@ module _ (carries : Carries) (ends : Ends) (venue window : ℕ) where
 -- by session, and the cell represents them; each was answered by the definitions and is genuine;
 -- the present session has a name that the lines may use; the lane is the one that the feed has for
 -- the venue; and window and lane have the sizes of the feed's setting.
-pub record VenueLockInvariant (sessions : SessionNames) (carries : Carries) (ends : Ends)
+pub record VenueLockInvariant {S : Type 0} (premise : Genuine S)
     (lanes : FeedLanes) (c : CellState) : Type 0 where
   pub history : History
   pub fits : FitsCell c history
-  pub given : AreGivenFrom carries ends c.arbiter.venue c.arbiter.window 1
+  pub given : AreGivenFrom premise c.arbiter.venue c.arbiter.window 1
       history.earlier history.present
-  pub named : sessions c.arbiter.venue (ordinal_of c.arbiter) c.arbiter.session
+  pub named : premise.sessions c.arbiter.venue (ordinal_of c.arbiter) c.arbiter.session
   pub tag : c.lane.tag ≡ c.arbiter.venue
   pub lane : slice_get lanes.venues c.arbiter.venue ≡ Some c.lane.lane
   pub window : c.arbiter.window ≡ lanes.setting.window
@@ -80,18 +80,29 @@ pub record VenueLockInvariant (sessions : SessionNames) (carries : Carries) (end
 
 -- What was done in a section under the venue's lock, of which a caller knows nothing else than what
 -- it keeps: there are two such cells of the venue, and the section leads from the one to the other.
-pub record UnderVenueLock (sessions : SessionNames) (carries : Carries) (ends : Ends)
+pub record UnderVenueLock {S : Type 0} (premise : Genuine S)
     (lanes : FeedLanes) (venue : ℕ) (section : CellState → CellState → Type 0) : Type 0 where
   pub old : CellState
-  pub kept : VenueLockInvariant sessions carries ends lanes old
+  pub kept : VenueLockInvariant premise lanes old
   pub venue_is : old.arbiter.venue ≡ venue
   pub new : CellState
-  pub keeps : VenueLockInvariant sessions carries ends lanes new
+  pub keeps : VenueLockInvariant premise lanes new
   pub leads : section old new
 
 -- The lock was another venue's, which no run meets.
-pub record IsOthersLock (sessions : SessionNames) (carries : Carries) (ends : Ends)
+pub record IsOthersLock {S : Type 0} (premise : Genuine S)
     (lanes : FeedLanes) (venue : ℕ) : Type 0 where
   pub cell : CellState
-  pub kept : VenueLockInvariant sessions carries ends lanes cell
+  pub kept : VenueLockInvariant premise lanes cell
   pub other : cell.arbiter.venue ≢ venue
+
+-- The call met no lock of this venue: the feed has no such venue, or the lock was another's.
+abbrev pub MeetsNoLock : {S : Type 0} → Genuine S → FeedLanes → ℕ → Type 0
+MeetsNoLock premise lanes venue =
+    (length lanes.venues ≤ venue) ⊎ IsOthersLock premise lanes venue
+
+-- The section was done under the venue's lock; or the call met none, and the answer is this.
+abbrev pub DoneAtVenue : {S : Type 0} → Genuine S → FeedLanes → ℕ
+    → (CellState → CellState → Type 0) → Type 0 → Type 0
+DoneAtVenue premise lanes venue section answer =
+    UnderVenueLock premise lanes venue section ⊎ (MeetsNoLock premise lanes venue × answer)

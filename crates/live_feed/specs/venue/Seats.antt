@@ -15,8 +15,8 @@ use Rattle.live_feed.specs.declared.faults.TakeFault.{TakeFault}
 use Rattle.live_feed.specs.venue.Refusals.{no_refusals, refusals_after}
 use Rattle.live_feed.specs.venue.Sums.{Sums, no_sums, sums_after}
 
--- the venue and line of a seat, how many numbers it brought first, the sums of its accepted packets,
--- and how many of its datagrams were refused
+-- the venue and line of a seat, how many numbers it brought first, the sums of its accepted
+-- packets, and how many of its datagrams were refused
 pub record SeatState : Type 0 where
   pub venue : ℕ
   pub line : LineId
@@ -75,8 +75,7 @@ with_seat Recovery s = record s { recovery = true }
 
 -- The answer to who asks for a line's seat, by cases: SeatTaken exactly where it was handed out,
 -- and nothing changes then; else that line alone is marked.
-abbrev pub GivesSeat : {X : Type 0} → LineId → Result X FeedFault → SeatsGiven → SeatsGiven
-    → Type 0
+abbrev pub GivesSeat : {X : Type 0} → LineId → Result X FeedFault → SeatsGiven → SeatsGiven → Type 0
 GivesSeat line (Ok given) old new = (has_seat line old ≡ false) × (new ≡ with_seat line old)
 GivesSeat line (Err SeatTaken) old new = (has_seat line old ≡ true) × (new ≡ old)
 GivesSeat line (Err UnknownVenue) old new = ⊥

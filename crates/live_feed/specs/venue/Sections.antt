@@ -1,10 +1,9 @@
 -- Each section under a lock is one event of the machine (feed_core), on the part that the lock
 -- keeps.
-use Rattle.std.specs.Prelude.{◌≡◌, ◌⊎◌, ℕ, ◌+◌, ◌≤◌, Bool, true, false, List, length, slice_get, None, Result, Ok, Err, IsOk}
+use Rattle.std.specs.Prelude.{◌≡◌, ◌≢◌, ◌⊎◌, ℕ, ◌+◌, ◌-◌, ◌^◌, ◌≤◌, Bool, true, false, List, length, slice_get, Option, None, Result, Ok, Err, IsOk, OnOk, OnErr}
 use Rattle.feed_types.specs.declared.item.Numbered.{Numbered}
 use Rattle.feed_types.specs.declared.line.LineId.{LineId}
-use Rattle.feed_types.specs.Sequence.{Carries, Ends, IsInSequence}
-use Rattle.feed_types.specs.Sessions.{Session, SessionNames, IsSessionAt, Names}
+use Rattle.feed_types.specs.Sessions.{Session, IsSessionAt}
 use Rattle.mold_packet.specs.Content.{Content}
 use Rattle.line_arbiter.specs.declared.outcome.Outcome.{Outcome}
 use Rattle.line_arbiter.specs.declared.outcome.LineFault.{LineFault}
@@ -13,15 +12,22 @@ use Rattle.line_arbiter.specs.declared.faults.RenewFault.{RenewFault}
 use Rattle.line_arbiter.specs.Histories.{History, streams_of}
 use Rattle.line_arbiter.specs.OfSession.{IsOfSession}
 use Rattle.line_arbiter.specs.InOrder.{IsNextPacket}
-use Rattle.line_arbiter.specs.States.{KeepsItsPlace, KeepsItsSession, KeepsAllButSent}
+use Rattle.mold_packet.specs.declared.request.Request.{Request}
+use Rattle.line_arbiter.specs.Pacing.{IsPaced}
+use Rattle.line_arbiter.specs.Streams.{gap_of}
+use Rattle.line_arbiter.specs.States.{KeepsItsPlace, KeepsItsSession, KeepsAllButSent, ordinal_of}
 use Rattle.fifo_lane.specs.Lane.{WasFull, with_items}
 use Rattle.feed_core.specs.declared.event.Done.{Done}
 use Rattle.feed_core.specs.declared.event.Done.TheVariants as done
 use Rattle.feed_core.specs.Steps.{AddsArrival, AddsRenewal, push_next, AppliesTo}
+use Rattle.feed_types.specs.declared.genuine.Genuine.{Ghosts as Genuine}
+use Rattle.live_feed.specs.Premises.{AreInSequence, BringExactly}
+use Rattle.live_feed.specs.declared.faults.RenewalFault.{RenewalFault}
+use Rattle.live_feed.specs.declared.faults.RenewalFault.TheVariants as renewal
 use Rattle.live_feed.specs.declared.unsent.Unsent.{Unsent}
 use Rattle.live_feed.specs.declared.unsent.Unsent.TheVariants as unsent
 use Rattle.live_feed.specs.Lanes.{FeedLanes}
-use Rattle.live_feed.specs.venue.Cells.{CellState, FitsCell, IsOthersLock, UnderVenueLock, VenueLockInvariant, new_pace}
+use Rattle.live_feed.specs.venue.Cells.{DoneAtVenue, CellState, FitsCell, IsOthersLock, UnderVenueLock, new_pace}
 
 -- Packet: the venue's history has grown by the packet, and the cell represents it.
 pub record TakesPacket (line : LineId) (p : Content) (answer : Result Outcome LineFault)
@@ -32,23 +38,12 @@ pub record TakesPacket (line : LineId) (p : Content) (answer : Result Outcome Li
 
 -- Where the lines bring exactly these sessions, a packet of one of them is accepted, or is of
 -- another session than the present one.
-abbrev pub AcceptsTheirPacket : SessionNames → Carries → Ends → ℕ → Content
+abbrev pub AcceptsTheirPacket : {S : Type 0} → Genuine S → ℕ → Content
     → Result Outcome LineFault → Type 0
-AcceptsTheirPacket sessions carries ends venue p answer =
+AcceptsTheirPacket premise venue p answer =
     (all : List Session) (ordinal : ℕ) (session : Session)
-    → Names sessions carries ends venue all → IsSessionAt all ordinal session
+    → BringExactly premise venue all → IsSessionAt all ordinal session
     → IsOfSession session p → IsOk answer ⊎ (answer ≡ Err OtherSession)
-
--- Packet, where the cell is known by what its lock keeps alone: there is such a cell of this venue,
--- with this answer.
-pub record IsAnsweredBy (sessions : SessionNames) (carries : Carries) (ends : Ends)
-    (lanes : FeedLanes) (venue : ℕ) (line : LineId) (p : Content)
-    (answer : Result Outcome LineFault) : Type 0 where
-  pub old : CellState
-  pub kept : VenueLockInvariant sessions carries ends lanes old
-  pub venue_is : old.arbiter.venue ≡ venue
-  pub new : CellState
-  pub takes : TakesPacket line p answer kept.history old new
 
 -- nothing else has changed
 pub record KeepsButPackets (old new : CellState) : Type 0 where
@@ -114,11 +109,26 @@ pub record Pushes (may_send : ℕ → List Numbered → Type 0) (most pushed : �
 
 -- The answer to who asks to push what is ready of the venue, at most `most` items: how many items
 -- its lane was sent.
-abbrev pub IsFlushedBy : SessionNames → Carries → Ends → FeedLanes → ℕ → ℕ → ℕ → Type 0
-IsFlushedBy sessions carries ends lanes venue most pushed =
-    UnderVenueLock sessions carries ends lanes venue
-    (Pushes (IsInSequence carries ends) most pushed)
-    ⊎ (IsOthersLock sessions carries ends lanes venue × (pushed ≡ 0))
+abbrev pub IsFlushedBy : {S : Type 0} → Genuine S → FeedLanes → ℕ → ℕ → ℕ → Type 0
+IsFlushedBy premise lanes venue most pushed =
+    DoneAtVenue premise lanes venue (Pushes (AreInSequence premise) most pushed) (pushed ≡ 0)
+
+-- What was ready of the venue was pushed, until nothing was or the lane was full.
+pub record PushesReady {S : Type 0} (premise : Genuine S) (lanes : FeedLanes) (venue : ℕ)
+    : Type 0 where
+  pub pushed : ℕ
+  pub flushed : IsFlushedBy premise lanes venue (2 ^ 64 - 1) pushed
+
+-- Packet and then Push, again and again, in one section: what came to the venue has grown by the
+-- packet, and what is ready then was pushed, until nothing was or the lane was full. (The first
+-- item is pushed with the packet where nothing is held.)
+pub record TakesAndPushesReady (may_send : ℕ → List Numbered → Type 0) (line : LineId)
+    (p : Content) (answer : Result Outcome LineFault) (old new : CellState) : Type 0 where
+  pub between : CellState
+  pub takes : (h : History) → FitsCell old h → TakesPacket line p answer h old between
+  pub kept : KeepsButPushed old between
+  pub pushed : ℕ
+  pub pushes : Pushes may_send (2 ^ 64 - 1) pushed between new
 
 -- A packet that isn't taken so: the lane was full at a moment of the call, or the packet doesn't go
 -- on where nothing is held, or hasn't one message.
@@ -141,3 +151,40 @@ pub record BeginsNext (old new : CellState) : Type 0 where
   pub venue : new.arbiter.venue ≡ old.arbiter.venue
   pub window : new.arbiter.window ≡ old.arbiter.window
   pub others : new ≡ record old { arbiter = new.arbiter; pace = new_pace }
+
+-- Renew, as who asks for the session of this ordinal; a refused one changes nothing.
+pub record RenewsInTurn (ordinal : ℕ) (name : List ℕ) (answer : Result ℕ RenewFault)
+    (old new : CellState) : Type 0 where
+  pub next : ordinal ≡ ordinal_of old.arbiter + 1
+  pub renews : (h : History) → FitsCell old h → RenewsSession name answer h old new
+  pub begun : OnOk answer (BeginsNext old new)
+  pub refused : OnErr answer (new ≡ old)
+
+-- the ordinal isn't the next session's, and nothing has changed
+abbrev pub IsOutOfTurn : ℕ → CellState → CellState → Type 0
+IsOutOfTurn ordinal old new = (ordinal ≢ ordinal_of old.arbiter + 1) × (new ≡ old)
+
+-- The answer to who begins the venue's session of this ordinal and name, by cases.
+abbrev pub IsRenewedBy : {S : Type 0} → Genuine S → FeedLanes → ℕ → ℕ → List ℕ
+    → Result ℕ RenewalFault → Type 0
+IsRenewedBy premise lanes venue ordinal name (Ok begun) =
+    UnderVenueLock premise lanes venue (RenewsInTurn ordinal name (Ok begun))
+IsRenewedBy premise lanes venue ordinal name (Err (renewal.Venue fault)) =
+    UnderVenueLock premise lanes venue (RenewsInTurn ordinal name (Err fault))
+IsRenewedBy premise lanes venue ordinal name (Err renewal.WrongOrdinal) =
+    UnderVenueLock premise lanes venue (IsOutOfTurn ordinal) ⊎ IsOthersLock premise lanes venue
+IsRenewedBy premise lanes venue ordinal name (Err renewal.UnknownVenue) =
+    length lanes.venues ≤ venue
+
+-- The request for the gap to send now, if any; only the pace of requests has changed.
+pub record RequestsGap (now_ms : ℕ) (request : Option Request) (old new : CellState) : Type 0 where
+  pub paced : (h : History) → FitsCell old h
+      → IsPaced old.pace
+      (gap_of old.arbiter.session old.arbiter.window old.arbiter.sent h.present.packets) now_ms
+      request new.pace
+  pub kept : new ≡ record old { pace = new.pace }
+
+-- The answer to who asks for the request to send now.
+abbrev pub IsDueAt : {S : Type 0} → Genuine S → FeedLanes → ℕ → ℕ → Option Request → Type 0
+IsDueAt premise lanes venue now_ms request =
+    DoneAtVenue premise lanes venue (RequestsGap now_ms request) (request ≡ None)

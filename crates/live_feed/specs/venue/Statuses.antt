@@ -1,20 +1,19 @@
 -- What a venue's status shows.
-use Rattle.std.specs.Prelude.{◌≡◌, ◌≢◌, ◌⊎◌, ℕ, ◌≤◌, List, length, Result, Ok, Err}
+use Rattle.std.specs.Prelude.{◌≡◌, ℕ, length, Result, Ok, Err}
 use Rattle.feed_types.specs.declared.line.LineId.{LineId}
 use Rattle.feed_types.specs.declared.line.LineId.TheVariants.{A, B, Recovery}
-use Rattle.feed_types.specs.Sequence.{Carries, Ends}
-use Rattle.feed_types.specs.Sessions.{SessionNames}
 use Rattle.line_arbiter.specs.Counts.{shown}
 use Rattle.line_arbiter.specs.Histories.{History, all_begun, names_of, wins_in}
 use Rattle.line_arbiter.specs.Streams.{gap_of}
 use Rattle.line_arbiter.specs.Fits.{cursors_of}
+use Rattle.feed_types.specs.declared.genuine.Genuine.{Ghosts as Genuine}
 use Rattle.live_feed.specs.declared.faults.FeedFault.{FeedFault}
 use Rattle.live_feed.specs.declared.faults.FeedFault.TheVariants.{UnknownVenue, UnknownSubscriber, SeatTaken}
 use Rattle.live_feed.specs.declared.venue.status.LineStatus.{LineStatus}
 use Rattle.live_feed.specs.declared.venue.status.VenueStatus.{VenueStatus}
 use Rattle.live_feed.specs.Lanes.{FeedLanes}
 use Rattle.live_feed.specs.venue.Sums.{accepted_on, sums_list}
-use Rattle.live_feed.specs.venue.Cells.{CellState, VenueLockInvariant, arrivals_of}
+use Rattle.live_feed.specs.venue.Cells.{CellState, MeetsNoLock, VenueLockInvariant, arrivals_of}
 
 abbrev pub status_on : LineId → VenueStatus → LineStatus
 status_on A status = status.a
@@ -38,27 +37,20 @@ pub record ShowsHistory (window : ℕ) (h : History) (status : VenueStatus) : Ty
 
 -- What was read under a venue's lock, of which nothing else is known than what it keeps: there is
 -- such a cell of this venue, and the status is that of the cell's history.
-pub record ShowsUnderLock (sessions : SessionNames) (carries : Carries) (ends : Ends)
+pub record ShowsUnderLock {S : Type 0} (premise : Genuine S)
     (lanes : FeedLanes) (venue : ℕ) (status : VenueStatus) : Type 0 where
   pub cell : CellState
-  pub kept : VenueLockInvariant sessions carries ends lanes cell
+  pub kept : VenueLockInvariant premise lanes cell
   pub venue_is : cell.arbiter.venue ≡ venue
   pub sent : status.cursors.sent ≡ cell.arbiter.sent
   pub shows : ShowsHistory lanes.setting.window kept.history status
 
--- The lock was another venue's, which no run meets.
-pub record LocksAnother (sessions : SessionNames) (carries : Carries) (ends : Ends)
-    (lanes : FeedLanes) (venue : ℕ) : Type 0 where
-  pub cell : CellState
-  pub kept : VenueLockInvariant sessions carries ends lanes cell
-  pub other : cell.arbiter.venue ≢ venue
-
 -- The answer to who asks for a venue's status, by cases.
-abbrev pub IsStatusOf : SessionNames → Carries → Ends → FeedLanes → ℕ
+abbrev pub IsStatusOf : {S : Type 0} → Genuine S → FeedLanes → ℕ
     → Result VenueStatus FeedFault → Type 0
-IsStatusOf sessions carries ends lanes venue (Ok status) =
-    ShowsUnderLock sessions carries ends lanes venue status
-IsStatusOf sessions carries ends lanes venue (Err UnknownVenue) =
-    (length lanes.venues ≤ venue) ⊎ LocksAnother sessions carries ends lanes venue
-IsStatusOf sessions carries ends lanes venue (Err UnknownSubscriber) = ⊥
-IsStatusOf sessions carries ends lanes venue (Err SeatTaken) = ⊥
+IsStatusOf premise lanes venue (Ok status) =
+    ShowsUnderLock premise lanes venue status
+IsStatusOf premise lanes venue (Err UnknownVenue) =
+    MeetsNoLock premise lanes venue
+IsStatusOf premise lanes venue (Err UnknownSubscriber) = ⊥
+IsStatusOf premise lanes venue (Err SeatTaken) = ⊥

@@ -4,7 +4,6 @@ ghost use Rattle.std.specs.Prelude.{◌≡◌, ◌≤◌, ◌<◌, [], length, I
 ghost use Rattle.live_feed.specs.feed.Feeds.{AreNamed, AreStarts, AreUnused};
 
 use crate::hub::spare::SpareLane;
-use crate::places::venue_at;
 use crate::venue::start::VenueStart;
 use feed_types::{FeedConfig, Genuine, Numbered, VenueId};
 use fifo_lane::{Receiver, VenueItems, lane};
@@ -48,7 +47,7 @@ pub(crate) fn new_starts<G: Genuine>(
     let mut starts = Vec::new(alloc);
     let mut receivers = Vec::new(alloc);
     for (place, session) in config.sessions.iter().enumerate() {
-        let (start, receiver) = new_start(alloc, venue_at(place), *session, config)?;
+        let (start, receiver) = new_start(alloc, VenueId::at(place), *session, config)?;
         starts.push(start)?;
         receivers.push(receiver)?;
     }

@@ -1,14 +1,14 @@
 //! An open feed: its venues and its journal, under locks.
 
 ghost use Rattle.std.specs.Prelude.{◌≡◌, ◌<◌, ◌≤◌, ◌↔◌, ◌-◌, ◌^◌, [], length, IfOk, IfErr, IsErrOf};
-ghost use Rattle.feed_types.specs.Sequence.{IsInSequence};
 ghost use Rattle.journal_book.specs.Journals.{Declares};
+ghost use Rattle.live_feed.specs.Premises.{AreInSequence};
 ghost use Rattle.live_feed.specs.hub.Hubs.{UnderHubLock};
 ghost use Rattle.live_feed.specs.hub.Sections.{Consumes, DeclaresAt};
 ghost use Rattle.live_feed.specs.hub.Batches.{ConsumesBatch};
 ghost use Rattle.live_feed.specs.hub.Offers.{LacksSubscriber, Offers};
 ghost use Rattle.live_feed.specs.hub.Turns.{TakesTurn};
-ghost use Rattle.live_feed.specs.venue.Sections.{IsFlushedBy};
+ghost use Rattle.live_feed.specs.venue.Sections.{IsDueAt, IsFlushedBy, IsRenewedBy};
 ghost use Rattle.live_feed.specs.venue.Seats.{GivesSeat, new_seat};
 ghost use Rattle.live_feed.specs.venue.Datagrams.{AreGenuineBytes, AcceptsTheirs, IsTakenBy, bytes_of};
 
@@ -20,6 +20,7 @@ use crate::hub::cell::HubCell;
 use crate::hub::turn::{Consolidated, take_turn};
 use crate::subscriber::Subscriber;
 use crate::subscriber::log::SubscriberLog;
+use crate::venue::calls::renew_in;
 use crate::venue::cell::VenueCell;
 use crate::venue::datagram::Datagram;
 use crate::venue::locks::VenueLocks;
@@ -100,15 +101,13 @@ impl<G: Genuine, N: FeedName> OpenFeed<G, N> {
         seat: &mut LineSeat<G, N>,
         datagram: &Datagram,
     ) -> Result<Outcome, TakeFault>
-        requires { AreGenuineBytes G.sessions G.carries G.ends seat.old.venue
-            (bytes_of datagram.now) }
-        ensures taken { IsTakenBy G.sessions G.carries G.ends N.lanes (bytes_of datagram.now)
+        requires { AreGenuineBytes G.Genuine seat.old.venue (bytes_of datagram.now) }
+        ensures taken { IsTakenBy G.Genuine N.lanes (bytes_of datagram.now)
             seat.old result seat.new }
 
         // Where it is known which sessions the lines bring, a packet of one of them is refused only
         // where it isn't of the present one.
-        ensures accepts { AcceptsTheirs G.sessions G.carries G.ends seat.old.venue
-            (bytes_of datagram.now) result }
+        ensures accepts { AcceptsTheirs G.Genuine seat.old.venue (bytes_of datagram.now) result }
     {
         let mut gap = false;
         self.venues.take_and_look(rt, seat, datagram, &mut gap)
@@ -118,8 +117,7 @@ impl<G: Genuine, N: FeedName> OpenFeed<G, N> {
     /// many items were pushed.
     pub fn flush<W: Wait>(&self, rt: &W, venue: VenueId) -> Result<u64, FeedFault>
         ensures unknown { IsErrOf result FeedFault.UnknownVenue ↔ (length N.lanes.venues ≤ venue) }
-        ensures pushed { IfOk result
-            (IsFlushedBy G.sessions G.carries G.ends N.lanes venue (2 ^ 64 - 1)) }
+        ensures pushed { IfOk result (IsFlushedBy G.Genuine N.lanes venue (2 ^ 64 - 1)) }
     {
         if venue.index() >= self.venues.len() {
             return Err(FeedFault::UnknownVenue);
@@ -136,6 +134,7 @@ impl<G: Genuine, N: FeedName> OpenFeed<G, N> {
         now_ms: u64,
     ) -> Result<Option<Request>, FeedFault>
         ensures unknown { IsErrOf result FeedFault.UnknownVenue ↔ (length N.lanes.venues ≤ venue) }
+        ensures due { IfOk result (IsDueAt G.Genuine N.lanes venue now_ms) }
     {
         if venue.index() >= self.venues.len() {
             return Err(FeedFault::UnknownVenue);
@@ -154,20 +153,14 @@ impl<G: Genuine, N: FeedName> OpenFeed<G, N> {
     ) -> Result<u64, RenewalFault>
         requires { G.sessions venue ordinal session }
         ensures ordinal { IfOk result (λ begun. begun ≡ ordinal) }
+        ensures renewed { IsRenewedBy G.Genuine N.lanes venue ordinal session result }
         ensures unknown { IsErrOf result RenewalFault.UnknownVenue
             ↔ (length N.lanes.venues ≤ venue) }
     {
         let Some(lock) = self.venues.get(venue) else {
             return Err(RenewalFault::UnknownVenue);
         };
-        let mut guarded = lock.lock(rt);
-        if guarded.cell.venue() != venue || guarded.cell.ordinal() + 1 != ordinal {
-            return Err(RenewalFault::WrongOrdinal);
-        }
-        match guarded.cell.renew(session) {
-            Ok(begun) => Ok(begun),
-            Err(fault) => Err(RenewalFault::Venue(fault)),
-        }
+        renew_in(&mut lock.lock(rt).cell, venue, ordinal, session)
     }
 
     /// Journals the next item of the venue's lane, and returns its position; None where the lane
@@ -177,8 +170,8 @@ impl<G: Genuine, N: FeedName> OpenFeed<G, N> {
     pub fn consume<W: Wait>(&self, rt: &W, venue: VenueId) -> Result<Option<u64>, JournalFault>
         ensures unknown { IsErrOf result JournalFault.UnknownVenue
             ↔ (length N.lanes.venues ≤ venue) }
-        ensures consumes { venue < length N.lanes.venues → UnderHubLock G.carries G.ends N.lanes
-            (Consumes (IsInSequence G.carries G.ends) venue result) }
+        ensures consumes { venue < length N.lanes.venues → UnderHubLock G.Genuine N.lanes
+            (Consumes (AreInSequence G.Genuine) venue result) }
     {
         let mut hub = self.hub.lock(rt);
         hub.core.show_lock_invariant();
@@ -204,8 +197,8 @@ impl<G: Genuine, N: FeedName> OpenFeed<G, N> {
         ensures unknown { IsErrOf result JournalFault.UnknownVenue
             ↔ (length N.lanes.venues ≤ venue) }
         ensures most { IfOk result (λ count. count ≤ most) }
-        ensures batch { UnderHubLock G.carries G.ends N.lanes
-            (ConsumesBatch (IsInSequence G.carries G.ends) N.lanes venue most result) }
+        ensures batch { UnderHubLock G.Genuine N.lanes
+            (ConsumesBatch (AreInSequence G.Genuine) N.lanes venue most result) }
     {
         let mut hub = self.hub.lock(rt);
         hub.core.show_lock_invariant();
@@ -227,7 +220,7 @@ impl<G: Genuine, N: FeedName> OpenFeed<G, N> {
     #[tactic(auto, using(crate::proofs::HubMoves::under_hub_lock))]
     pub fn consolidate<W: Wait>(&self, rt: &W) -> Consolidated
         ensures most { result.consumed ≤ 64 }
-        ensures turn { UnderHubLock G.carries G.ends N.lanes (TakesTurn G.carries G.ends N.lanes
+        ensures turn { UnderHubLock G.Genuine N.lanes (TakesTurn G.Genuine N.lanes
             result.consumed result.offered result.refused) }
     {
         let bells = self.venues.bells();
@@ -249,7 +242,7 @@ impl<G: Genuine, N: FeedName> OpenFeed<G, N> {
     pub fn declare<W: Wait>(&self, rt: &W, venue: VenueId, on: bool) -> Result<u64, JournalFault>
         ensures unknown { IsErrOf result JournalFault.UnknownVenue
             ↔ (length N.lanes.venues ≤ venue) }
-        ensures declares { UnderHubLock G.carries G.ends N.lanes (DeclaresAt venue on result) }
+        ensures declares { UnderHubLock G.Genuine N.lanes (DeclaresAt venue on result) }
     {
         let mut hub = self.hub.lock(rt);
         hub.core.show_lock_invariant();
@@ -306,10 +299,9 @@ impl<G: Genuine, N: FeedName> OpenFeed<G, N> {
     /// fault.
     #[tactic(auto, using(crate::proofs::HubMoves::under_hub_lock))]
     pub fn offer<W: Wait>(&self, rt: &W, id: SubscriberId) -> Result<u64, FeedFault>
-        ensures offers { IfOk result (λ pushed.
-            UnderHubLock G.carries G.ends N.lanes (Offers id pushed)) }
+        ensures offers { IfOk result (λ pushed. UnderHubLock G.Genuine N.lanes (Offers id pushed)) }
         ensures unknown { IfErr result (λ fault. (fault ≡ FeedFault.UnknownSubscriber)
-            × UnderHubLock G.carries G.ends N.lanes (LacksSubscriber id)) }
+            × UnderHubLock G.Genuine N.lanes (LacksSubscriber id)) }
     {
         let mut hub = self.hub.lock(rt);
         hub.core.show_lock_invariant();

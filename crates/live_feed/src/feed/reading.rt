@@ -19,9 +19,8 @@ fn national_in<G: Genuine, N: FeedName>(
     hub: &HubCell<G, N>,
     symbol: &SymbolName,
 ) -> Option<National>
-    ensures configured { IsSome result
-        ↔ IsTrue (is_configured N.lanes.setting.symbols symbol.now) }
-    ensures value { IfSome result (WasNational G.carries G.ends N.lanes symbol.now) }
+    ensures configured { IsSome result ↔ IsTrue (is_configured N.lanes.setting.symbols symbol.now) }
+    ensures value { IfSome result (WasNational G.Genuine N.lanes symbol.now) }
 {
     hub.core.show_lock_invariant();
     hub.core.journal().national(symbol)
@@ -32,7 +31,7 @@ fn status_in<G: Genuine, N: FeedName>(
     guarded: &Guarded<G, N>,
     venue: VenueId,
 ) -> Result<VenueStatus, FeedFault>
-    ensures { IsStatusOf G.sessions G.carries G.ends N.lanes venue result }
+    ensures { IsStatusOf G.Genuine N.lanes venue result }
 {
     guarded.cell.show_lock_invariant();
     if guarded.cell.venue() != venue {
@@ -48,7 +47,7 @@ impl<G: Genuine, N: FeedName> OpenFeed<G, N> {
     pub fn national<W: Wait>(&self, rt: &W, symbol: &SymbolName) -> Option<National>
         ensures configured { IsSome result
             ↔ IsTrue (is_configured N.lanes.setting.symbols symbol.now) }
-        ensures value { IfSome result (WasNational G.carries G.ends N.lanes symbol.now) }
+        ensures value { IfSome result (WasNational G.Genuine N.lanes symbol.now) }
     {
         national_in(&self.hub.lock(rt), symbol)
     }
@@ -56,7 +55,7 @@ impl<G: Genuine, N: FeedName> OpenFeed<G, N> {
     /// Returns what the venue has come to at a moment of the call, all read under its lock taken
     /// once; UnknownVenue where there is no such venue. Any thread may call it while the feed runs.
     pub fn status<W: Wait>(&self, rt: &W, venue: VenueId) -> Result<VenueStatus, FeedFault>
-        ensures status { IsStatusOf G.sessions G.carries G.ends N.lanes venue result }
+        ensures status { IsStatusOf G.Genuine N.lanes venue result }
         ensures unknown { length N.lanes.venues ≤ venue → result ≡ Err FeedFault.UnknownVenue }
     {
         let Some(lock) = self.venues.get(venue) else {

@@ -4,14 +4,13 @@ ghost use Rattle.std.specs.Prelude.{◌≡◌, ◌<◌, ◌≤◌, ◌↔◌, le
 ghost use Rattle.live_feed.specs.hub.Sections.{Consumes};
 ghost use Rattle.live_feed.specs.hub.Batches.{ConsumesBatch};
 ghost use Rattle.live_feed.specs.hub.Offers.{LacksSubscriber, Offers, OffersAll};
+ghost use Rattle.live_feed.specs.Premises.{AreInSequence};
 
 use crate::bells::Bells;
 use crate::feed_name::FeedName;
 use crate::hub::cell::HubCell;
-use crate::places::subscriber_at;
 use crate::unsent::Unsent;
-use feed_types::{Genuine, Numbered, SubscriberId, VenueId};
-use fifo_lane::{LaneRule, VenueItems};
+use feed_types::{Genuine, SubscriberId, VenueId};
 use journal_book::JournalFault;
 use std::sync::Wait;
 
@@ -24,8 +23,7 @@ pub(crate) fn consume_next<G: Genuine, N: FeedName, W: Wait>(
 ) -> Result<Option<u64>, JournalFault>
     ensures unknown { IsErrOf result JournalFault.UnknownVenue ↔ (length N.lanes.venues ≤ venue) }
     ensures consumes { venue < length N.lanes.venues
-        → Consumes ⟦<VenueItems<G> as LaneRule<Numbered>>⟧.may_send venue result hub.old.core
-        hub.new.core }
+        → Consumes (AreInSequence G.Genuine) venue result hub.old.core hub.new.core }
 {
     if venue.index() >= hub.core.venue_count() {
         return Err(JournalFault::UnknownVenue);
@@ -44,7 +42,7 @@ pub(crate) fn consume_some<G: Genuine, N: FeedName, W: Wait>(
 ) -> Result<u32, JournalFault>
     ensures unknown { IsErrOf result JournalFault.UnknownVenue ↔ (length N.lanes.venues ≤ venue) }
     ensures most { IfOk result (λ count. count ≤ most) }
-    ensures batch { ConsumesBatch ⟦<VenueItems<G> as LaneRule<Numbered>>⟧.may_send N.lanes venue
+    ensures batch { ConsumesBatch (AreInSequence G.Genuine) N.lanes venue
         most result hub.old.core hub.new.core }
 {
     if venue.index() >= hub.core.venue_count() {
@@ -107,7 +105,7 @@ pub(crate) fn offer_each<G: Genuine, N: FeedName, W: Wait>(
 {
     let mut offered: u64 = 0;
     for place in 0..hub.core.subscriber_count() {
-        let id = subscriber_at(place);
+        let id = SubscriberId::at(place);
         let Some(pushed) = offer_some(rt, hub, bells, id) else {
             unreachable!()
         };

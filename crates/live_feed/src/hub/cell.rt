@@ -5,12 +5,14 @@ ghost use Rattle.live_feed.specs.hub.Sections.{Consumes, DeclaresAt, KeepsButInt
 ghost use Rattle.filter_terms.specs.declared.terms.Terms.{Terms};
 ghost use Rattle.filter_terms.specs.Copies.{IsCopy};
 ghost use Rattle.filter_terms.specs.Filters.{terms_of};
+ghost use Rattle.live_feed.specs.Premises.{AreInSequence};
+ghost use Rattle.live_feed.specs.hub.Offers.{AreRising};
 
 use crate::feed_name::FeedName;
 use crate::hub::journal_and_lanes::JournalAndLanes;
 use crate::unsent::Unsent;
-use feed_types::{Genuine, Notice, Numbered, SubscriberId, VenueId};
-use fifo_lane::{LaneRule, Receiver, RisingNotices, VenueItems};
+use feed_types::{Genuine, Notice, SubscriberId, VenueId};
+use fifo_lane::{Receiver, RisingNotices};
 use filter_terms::Filter;
 use journal_book::JournalFault;
 use std::sync::Wait;
@@ -43,7 +45,7 @@ impl<G: Genuine, N: FeedName> HubCell<G, N> {
     /// taken out of the lane, and change nothing.
     pub fn consume<W: Wait>(&mut self, rt: &W, venue: VenueId) -> Result<Option<u64>, JournalFault>
         requires { venue < self.old.core.journal.venues }
-        ensures consume { Consumes ⟦<VenueItems<G> as LaneRule<Numbered>>⟧.may_send venue result
+        ensures consume { Consumes (AreInSequence G.Genuine) venue result
             self.old.core self.new.core }
         ensures kept { KeepsButIntake self.old.core self.new.core }
         ensures refused { OnErr result (self.new.core ≡ self.old.core) }
@@ -96,8 +98,7 @@ impl<G: Genuine, N: FeedName> HubCell<G, N> {
     #[inline(always)]
     pub fn offer_one<W: Wait>(&mut self, rt: &W, id: SubscriberId) -> Result<u64, Unsent>
         requires { id < length self.old.core.journal.cursors }
-        ensures offer { HubOffersOne ⟦<RisingNotices as LaneRule<Notice>>⟧.may_send id result
-            self.old.core self.new.core }
+        ensures offer { HubOffersOne AreRising id result self.old.core self.new.core }
         ensures kept { KeepsButOffers self.old.core self.new.core }
     {
         let filter = self.filters.get(id.index());

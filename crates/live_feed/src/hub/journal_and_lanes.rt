@@ -3,12 +3,14 @@
 ghost use Rattle.std.specs.Prelude.{◌≡◌, ◌≤◌, ◌<◌, ◌↔◌, length, OnErr, IsTrue};
 ghost use Rattle.live_feed.specs.hub.Hubs.{HubLockInvariant};
 ghost use Rattle.live_feed.specs.hub.Sections.{Consumes, DeclaresAt, KeepsButIntake, HubOffersOne, KeepsButOffers, HubSubscribes};
+ghost use Rattle.live_feed.specs.Premises.{AreInSequence};
+ghost use Rattle.live_feed.specs.hub.Offers.{AreRising};
 
 use crate::feed_name::FeedName;
 use crate::hub::spare::SpareLane;
 use crate::unsent::Unsent;
 use feed_types::{Genuine, Notice, Numbered, SubscriberId, VenueId};
-use fifo_lane::{LaneRule, Receiver, RisingNotices, Sender, VenueItems};
+use fifo_lane::{Receiver, RisingNotices, Sender, VenueItems};
 use filter_terms::{Filter, Terms};
 use journal_book::{Journal, JournalFault};
 use std::collections::VecDeque;
@@ -52,7 +54,7 @@ impl<G: Genuine, N: FeedName> Model for JournalAndLanes<G, N> {
       spare = h.spare_lanes.items;
     } };
 
-    ghost invariant = { λ h. HubLockInvariant G.carries G.ends N.lanes (record {
+    ghost invariant = { λ h. HubLockInvariant G.Genuine N.lanes (record {
       journal = h.kept;
       receivers = h.from_venues.items;
       senders = h.to_subscribers.items;
@@ -69,7 +71,7 @@ impl<G: Genuine, N: FeedName> JournalAndLanes<G, N> {
         senders: Vec<Sender<Notice, RisingNotices>>,
         spare: VecDeque<SpareLane>,
     ) -> JournalAndLanes<G, N>
-        requires { HubLockInvariant G.carries G.ends N.lanes (record {
+        requires { HubLockInvariant G.Genuine N.lanes (record {
           journal = journal;
           receivers = receivers.items;
           senders = senders.items;
@@ -95,7 +97,7 @@ impl<G: Genuine, N: FeedName> JournalAndLanes<G, N> {
     pub(crate) fn into_parts(self) -> HubParts<G>
         ensures parts { (result.0 ≡ self.journal) × (result.1.items ≡ self.receivers)
             × (result.2.items ≡ self.senders) }
-        ensures hub { HubLockInvariant G.carries G.ends N.lanes self }
+        ensures hub { HubLockInvariant G.Genuine N.lanes self }
     {
         let JournalAndLanes {
             kept,
@@ -110,7 +112,7 @@ impl<G: Genuine, N: FeedName> JournalAndLanes<G, N> {
     /// Does nothing: it says what is so whenever the consolidator's lock is free.
     #[inline(always)]
     pub(crate) fn show_lock_invariant(&self)
-        ensures { HubLockInvariant G.carries G.ends N.lanes self.now }
+        ensures { HubLockInvariant G.Genuine N.lanes self.now }
     {
         // for the prover: the invariant is known where a field is used
         let _ = &self.kept;
@@ -179,8 +181,7 @@ impl<G: Genuine, N: FeedName> JournalAndLanes<G, N> {
         venue: VenueId,
     ) -> Result<Option<u64>, JournalFault>
         requires { venue < self.old.journal.venues }
-        ensures consume { Consumes ⟦<VenueItems<G> as LaneRule<Numbered>>⟧.may_send venue result
-            self.old self.new }
+        ensures consume { Consumes (AreInSequence G.Genuine) venue result self.old self.new }
         ensures kept { KeepsButIntake self.old self.new }
         ensures refused { OnErr result (self.new ≡ self.old) }
     {
@@ -237,8 +238,7 @@ impl<G: Genuine, N: FeedName> JournalAndLanes<G, N> {
         filter: Option<&Filter>,
     ) -> Result<u64, Unsent>
         requires { id < length self.old.journal.cursors }
-        ensures offer { HubOffersOne ⟦<RisingNotices as LaneRule<Notice>>⟧.may_send id result
-            self.old self.new }
+        ensures offer { HubOffersOne AreRising id result self.old self.new }
         ensures kept { KeepsButOffers self.old self.new }
     {
         let Some(notice) = self.kept.next_offer(id, filter) else {

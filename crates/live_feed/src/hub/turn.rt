@@ -7,7 +7,6 @@ use crate::bells::Bells;
 use crate::feed_name::FeedName;
 use crate::hub::calls::{consume_some, offer_each};
 use crate::hub::cell::HubCell;
-use crate::places::venue_at;
 use feed_types::{Genuine, VenueId};
 use journal_book::JournalFault;
 use std::sync::Wait;
@@ -54,9 +53,9 @@ fn venue_after(first: usize, step: usize, venues: usize) -> VenueId
 {
     let place = first + step;
     if place < venues {
-        venue_at(place)
+        VenueId::at(place)
     } else {
-        venue_at(place - venues)
+        VenueId::at(place - venues)
     }
 }
 
@@ -64,7 +63,7 @@ fn venue_after(first: usize, step: usize, venues: usize) -> VenueId
 /// the venue after the last one of the turn before, so that no venue waits for ever.
 fn consume_round<G: Genuine, N: FeedName, W: Wait>(rt: &W, hub: &mut HubCell<G, N>) -> Consolidated
     ensures most { result.consumed ≤ 64 }
-    ensures round { ConsumesRound G.carries G.ends N.lanes result.consumed result.refused
+    ensures round { ConsumesRound G.Genuine N.lanes result.consumed result.refused
         hub.old.core hub.new.core }
 {
     let mut done = Consolidated::nothing();
@@ -100,7 +99,7 @@ pub(crate) fn take_turn<G: Genuine, N: FeedName, W: Wait>(
     bells: &Bells,
 ) -> Consolidated
     ensures most { result.consumed ≤ 64 }
-    ensures turn { TakesTurn G.carries G.ends N.lanes result.consumed result.offered result.refused
+    ensures turn { TakesTurn G.Genuine N.lanes result.consumed result.offered result.refused
         hub.old.core hub.new.core }
 {
     let mut done = consume_round(rt, hub);

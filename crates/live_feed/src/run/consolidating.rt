@@ -8,21 +8,13 @@ use crate::hub::turn::Consolidated;
 use crate::run::idle::{is_tired, rest};
 use crate::run::report::Stop;
 use crate::run::signals::Signals;
-use feed_types::{Genuine, SubscriberId, VenueId};
+use feed_types::{Genuine, MAX_SUBSCRIBERS, MAX_VENUES, SubscriberId, VenueId};
 use journal_book::JournalFault;
 use std::sync::Wait;
 
 /// The most items of a venue that the consolidator pushes in one section: a line that brings
 /// something waits no longer.
 const ITEMS_A_SECTION: u64 = 64;
-
-/// Returns the feed's venue of this number, if there is one.
-fn feed_venue<G: Genuine, N: FeedName>(feed: &OpenFeed<G, N>, place: u8) -> Option<VenueId> {
-    if usize::from(place) >= feed.venues.len() {
-        return None;
-    }
-    VenueId::new(place)
-}
 
 /// Pushes what is ready of the venues, and returns whether anything was pushed: of each venue where
 /// `all` is true, else of those where something was left before and the lane has run empty.
@@ -33,10 +25,8 @@ fn flush_each<G: Genuine, N: FeedName, W: Wait>(
     all: bool,
 ) -> bool {
     let mut moved = false;
-    for place in 0..16u8 {
-        let Some(venue) = feed_venue(feed, place) else {
-            break;
-        };
+    for place in 0..feed.venues.len().min(MAX_VENUES) {
+        let venue = VenueId::at(place);
         if all || (!done.venues[venue.index()] && feed.venues.is_held_back(venue)) {
             let pushed = feed.venues.flush_some(rt, venue, ITEMS_A_SECTION);
             moved = moved || pushed > 0;
@@ -68,12 +58,28 @@ fn take_turn<G: Genuine, N: FeedName, W: Wait>(
     done
 }
 
+/// Takes a turn and then pushes, of each venue where `all` is true, and returns whether there was
+/// anything to do. Where journaling is refused, the run stops early, and `stopped` is why.
+fn work_once<G: Genuine, N: FeedName, W: Wait>(
+    rt: &W,
+    feed: &OpenFeed<G, N>,
+    signals: &Signals,
+    all: bool,
+    stopped: &mut Option<Stop>,
+) -> bool {
+    let done = take_turn(rt, feed, signals);
+    if let Some(fault) = done.refused {
+        signals.stop();
+        *stopped = Some(reason_of(fault));
+    }
+    let flushed = flush_each(rt, feed, &done, all);
+    done.consumed > 0 || done.offered > 0 || done.refused.is_some() || flushed
+}
+
 /// Returns whether a notice waits for room in a lane from which a thread of the run takes notices.
 fn is_room_wanted(signals: &Signals, bells: &Bells) -> bool {
-    for place in 0..32u8 {
-        let Some(id) = SubscriberId::new(place) else {
-            break;
-        };
+    for place in 0..MAX_SUBSCRIBERS {
+        let id = SubscriberId::at(place);
         if signals.is_polling(id) && bells.is_room_wanted(id) {
             return true;
         }
@@ -103,15 +109,9 @@ pub(crate) fn consolidate<G: Genuine, N: FeedName, W: Wait>(
             None
         };
         let last = signals.have_lines_ended();
-        let done = take_turn(rt, feed, signals);
-        if let Some(fault) = done.refused {
-            signals.stop();
-            stopped = Some(reason_of(fault));
-        }
-        let flushed = flush_each(rt, feed, &done, first || last);
+        let has_worked = work_once(rt, feed, signals, first || last, &mut stopped);
         first = false;
-        let moved = done.consumed > 0 || done.offered > 0;
-        if moved || done.refused.is_some() || flushed {
+        if has_worked {
             looks = 0;
             continue;
         }

@@ -4,6 +4,7 @@ ghost use Rattle.std.specs.Prelude.{◌≡◌, ◌≤◌, [], MatchResult, vec_l
 ghost use Rattle.live_feed.specs.run.Runs.{Pairwise, HasTaken, LineHasEnded};
 
 use crate::feed_name::FeedName;
+use crate::lists::made_of_each;
 use crate::run::line::{Line, LineEnd};
 use crate::run::line_work::{LineOf, work_line};
 use crate::run::signals::Signals;
@@ -34,16 +35,15 @@ where
     ensures { MatchResult result
         (λ handle. (handle.promise.seat.value ≡ line.seat)
         × (handle.promise.source.value ≡ line.source))
-        (λ ended. LineHasEnded (HasTaken G.sessions G.carries G.ends N.lanes) S.brings S.failures
-        line.seat line.source ended.seat ended.source ended.datagrams ended.fault) }
+        (LineHasEnded (HasTaken G.Genuine N.lanes) S.brings S.failures line.seat line.source) }
 {
     let promise = LineOf {
         seat: Snapshot::of(&line.seat),
         source: Snapshot::of(&line.source),
     };
     let job = move || -> LineEnd<G, N, S>
-        ensures { LineHasEnded (HasTaken G.sessions G.carries G.ends N.lanes) S.brings S.failures
-            line.seat line.source result.seat result.source result.datagrams result.fault }
+        ensures { LineHasEnded (HasTaken G.Genuine N.lanes) S.brings S.failures line.seat
+            line.source result }
     { work_line(rt, venues, signals, line) };
     match scope.spawn_with(promise, job) {
         Ok(handle) => Ok(handle),
@@ -55,14 +55,13 @@ where
 }
 
 /// Starts a thread for each line, in order. Where one can't be started, the run stops early.
-#[tactic(auto, using(crate::proofs::RunMoves::pairwise_all))]
 pub(crate) fn start_lines<'s, E, G, N, S, R>(
     rt: &'s R,
     scope: &Scope<'s, E>,
     venues: &'s VenueLocks<G, N>,
     signals: &'s Signals,
     lines: Vec<Line<G, N, S>>,
-    mut threads: Vec<LineThread<G, N, S>>,
+    threads: Vec<LineThread<G, N, S>>,
 ) -> Vec<LineThread<G, N, S>>
 where
     G: Genuine + Send + Sync + 's,
@@ -75,13 +74,12 @@ where
     ensures threads { Pairwise (λ line thread. MatchResult thread
         (λ handle. (handle.promise.seat.value ≡ line.seat)
         × (handle.promise.source.value ≡ line.source))
-        (λ ended. LineHasEnded (HasTaken G.sessions G.carries G.ends N.lanes) S.brings S.failures
-        line.seat line.source ended.seat ended.source ended.datagrams ended.fault))
+        (LineHasEnded (HasTaken G.Genuine N.lanes) S.brings S.failures line.seat line.source))
         lines.items result.items }
 {
-    for line in lines {
-        let thread = start_line(rt, scope, venues, signals, line);
-        threads.push_reserved(thread);
-    }
-    threads
+    made_of_each(
+        lines,
+        threads,
+        &|_, line| start_line(rt, scope, venues, signals, line),
+    )
 }

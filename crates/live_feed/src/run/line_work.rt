@@ -24,8 +24,8 @@ pub(crate) struct LineOf<G, N, S> {
 impl<G: Genuine, N: FeedName, S: LineSource<G>> Promise<LineEnd<G, N, S>> for LineOf<G, N, S> {
     ghost use Rattle.live_feed.specs.run.Runs.{HasTaken, LineHasEnded};
 
-    ghost kept_by = { λ p r. LineHasEnded (HasTaken G.sessions G.carries G.ends N.lanes) S.brings
-        S.failures p.seat.value p.source.value r.seat r.source r.datagrams r.fault };
+    ghost kept_by = { λ p r. LineHasEnded (HasTaken G.Genuine N.lanes) S.brings
+        S.failures p.seat.value p.source.value r };
 }
 
 /// Has the source send the request for the venue's gap that is due, if any. Where there is no gap,
@@ -84,8 +84,8 @@ pub(crate) fn work_line<G: Genuine, N: FeedName, S: LineSource<G>, W: Wait>(
     signals: &Signals,
     line: Line<G, N, S>,
 ) -> LineEnd<G, N, S>
-    ensures { LineHasEnded (HasTaken G.sessions G.carries G.ends N.lanes) S.brings S.failures
-        line.seat line.source result.seat result.source result.datagrams result.fault }
+    ensures { LineHasEnded (HasTaken G.Genuine N.lanes) S.brings S.failures
+        line.seat line.source result }
 {
     let Line {
         mut seat,

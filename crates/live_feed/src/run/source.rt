@@ -79,7 +79,7 @@ pub trait LineSource<G: Genuine>: Drop {
         ensures venue { venue_of self.new ≡ venue_of self.old }
         ensures brings { brings self.old (brought_by result) self.new }
         ensures genuine { (datagram : Datagram) → result ≡ Ok (Some datagram)
-            → AreGenuineBytes G.sessions G.carries G.ends (venue_of self.old) (bytes_of datagram) }
+            → AreGenuineBytes G.Genuine (venue_of self.old) (bytes_of datagram) }
         ensures sound { IfOk result (λ _. failures self.new ≡ failures self.old) }
         ensures failed { IfErr result (λ fault. failures self.new
             ≡ failures_after (failures self.old) fault) };

@@ -1,10 +1,11 @@
 //! The threads of a run's subscribers.
 
-ghost use Rattle.std.specs.Prelude.{◌≡◌, ◌≤◌, [], MatchResult, vec_len, vec_capacity};
+ghost use Rattle.std.specs.Prelude.{◌≡◌, ◌<◌, ◌≤◌, [], MatchResult, vec_len, vec_capacity};
 ghost use Rattle.live_feed.specs.run.Runs.{Pairwise, HasPolled};
 
 use crate::bells::Bells;
 use crate::feed_name::FeedName;
+use crate::lists::made_of_each;
 use crate::run::signals::Signals;
 use crate::run::subscriber_work::{LogOf, work_subscriber};
 use crate::run::threads::ThreadOf;
@@ -53,7 +54,6 @@ where
 
 /// Starts a thread for each subscriber, in order. Where one can't be started, the run stops early.
 /// Each has a strategy at its place.
-#[tactic(auto, using(crate::proofs::RunMoves::pairwise_all))]
 pub(crate) fn start_subscribers<'s, E, N, R>(
     rt: &'s R,
     scope: &Scope<'s, E>,
@@ -61,7 +61,7 @@ pub(crate) fn start_subscribers<'s, E, N, R>(
     bells: &'s Bells,
     logs: Vec<SubscriberLog<N>>,
     strategies: &'s Vec<Mutex<Strategy>>,
-    mut threads: Vec<LogThread<N>>,
+    threads: Vec<LogThread<N>>,
 ) -> Vec<LogThread<N>>
 where
     N: FeedName + Send + Sync + 's,
@@ -75,10 +75,14 @@ where
         (λ back. HasPolled log back))
         logs.items result.items }
 {
-    for log in logs {
-        let strategy = &strategies[threads.len()];
-        let thread = start_subscriber(rt, scope, signals, bells, log, strategy);
-        threads.push_reserved(thread);
-    }
-    threads
+    made_of_each(
+        logs,
+        threads,
+        &|place: usize, log: SubscriberLog<N>| -> LogThread<N>
+            requires { place < vec_len strategies.now }
+            ensures { MatchResult result
+                (λ handle. handle.promise.log.value ≡ log)
+                (λ back. HasPolled log back) }
+        { start_subscriber(rt, scope, signals, bells, log, &strategies[place]) },
+    )
 }

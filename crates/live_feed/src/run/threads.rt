@@ -3,6 +3,7 @@
 ghost use Rattle.std.specs.Prelude.{◌≡◌, ◌≤◌, [], MatchResult, vec_len, vec_capacity};
 ghost use Rattle.live_feed.specs.run.Runs.{Pairwise};
 
+use crate::lists::made_of_each;
 use std::thread::{Promise, PromisedHandle, Threads};
 
 /// A thread that returns what `P` promises, or where none could be started the value that it would
@@ -23,11 +24,10 @@ fn join_one<T: Drop, P: Promise<T>, R: Threads>(rt: &R, thread: ThreadOf<T, P>) 
 
 /// Waits for each thread, in order, and returns their results, in the list `ends`, which is empty
 /// and has room for all.
-#[tactic(auto, using(crate::proofs::RunMoves::pairwise_all))]
 pub(crate) fn join_each<T: Drop, P: Promise<T>, R: Threads>(
     rt: &R,
     threads: Vec<ThreadOf<T, P>>,
-    mut ends: Vec<T>,
+    ends: Vec<T>,
 ) -> Vec<T>
     requires empty { ends.items ≡ [] }
     requires room { vec_len threads ≤ vec_capacity ends }
@@ -37,8 +37,5 @@ pub(crate) fn join_each<T: Drop, P: Promise<T>, R: Threads>(
         (λ here. end ≡ here))
         threads.items result.items }
 {
-    for thread in threads {
-        ends.push_reserved(join_one(rt, thread));
-    }
-    ends
+    made_of_each(threads, ends, &|_, thread| join_one(rt, thread))
 }

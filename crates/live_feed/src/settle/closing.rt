@@ -28,10 +28,10 @@ pub(crate) fn close_venues<G: Genuine, N: FeedName, W: Wait>(
     rooms: Vec<VenueRoom>,
     mut ends: Vec<VenueEnd>,
 ) -> Vec<VenueEnd>
-    requires ready { Zip3 (IsToClose G.carries G.ends N.lanes entries.now) 0
+    requires ready { Zip3 (IsToClose G.Genuine N.lanes entries.now) 0
         (map (λ g. g.cell) venues.items) receivers.items rooms.items }
     requires room { (length ends.items ≡ 0) × (length venues.items ≤ vec_capacity ends) }
-    ensures { Zip2 (IsClosedVenue G.sessions G.carries G.ends N.lanes entries.now) 0
+    ensures { Zip2 (IsClosedVenue G.Genuine N.lanes entries.now) 0
         (map (λ g. g.cell) venues.items) result.items }
 {
     let mut venues = VecDeque::from_vec(venues);
@@ -74,7 +74,8 @@ pub(crate) fn close_subscribers<N: FeedName, W: Wait>(
         let Some(room) = rooms.pop_front() else {
             unreachable!()
         };
-        ends.push_reserved(settle_subscriber(rt, journal, sender, subscriber.log, room));
+        let Subscriber { log, strategy: _ } = subscriber;
+        ends.push_reserved(settle_subscriber(rt, journal, sender, log, room));
     }
     ends
 }

@@ -7,7 +7,6 @@ ghost use Rattle.live_feed.specs.settle.Closings.{HasRoom};
 use crate::feed::open_feed::Guarded;
 use crate::feed_name::FeedName;
 use crate::hub::journal_and_lanes::JournalAndLanes;
-use crate::places::subscriber_at;
 use crate::settle::subscriber_end::SubscriberEnd;
 use crate::settle::venue_end::VenueEnd;
 use crate::settle::venue_lane::count_items;
@@ -106,7 +105,7 @@ fn subscriber_rooms(
 {
     let mut rooms = Vec::new(alloc);
     for place in 0..journal.subscriber_count() {
-        let room = subscriber_room(alloc, journal, subscriber_at(place), &senders[place])?;
+        let room = subscriber_room(alloc, journal, SubscriberId::at(place), &senders[place])?;
         rooms.push(room)?;
     }
     Ok(rooms)

@@ -85,8 +85,7 @@ pub(crate) fn consumed_of(
     venue: VenueId,
     mut room: Vec<Numbered>,
 ) -> Vec<Numbered>
-    requires { (length room.items ≡ 0)
-        × (length (items_in entries.now venue) ≤ vec_capacity room) }
+    requires { (length room.items ≡ 0) × (length (items_in entries.now venue) ≤ vec_capacity room) }
     ensures { result.items ≡ items_in entries.now venue }
 {
     for place in 0..entries.len() {
@@ -119,10 +118,9 @@ pub(crate) fn settle_venue<G: Genuine, N: FeedName, W: Wait>(
     receiver: Receiver<Numbered, VenueItems<G>>,
     room: VenueRoom,
 ) -> VenueEnd
-    requires end { IsConsumed G.carries G.ends N.lanes entries.now cell.arbiter.venue receiver }
+    requires end { IsConsumed G.Genuine N.lanes entries.now cell.arbiter.venue receiver }
     requires room { HasVenueRoom entries.now cell room }
-    ensures { IsClosedVenue G.sessions G.carries G.ends N.lanes entries.now cell.arbiter.venue cell
-        result }
+    ensures { IsClosedVenue G.Genuine N.lanes entries.now cell.arbiter.venue cell result }
 {
     let VenueRoom {
         consumed,

@@ -4,13 +4,14 @@ ghost use Rattle.std.specs.Prelude.{◌≡◌, ◌<◌, [], ◌∷◌, ◌++◌,
 ghost use Rattle.filter_terms.specs.Allowed.{IsAllowed};
 ghost use Rattle.live_feed.specs.subscriber.Logs.{SubscriberLogInvariant, Polls, logged};
 ghost use Rattle.live_feed.specs.subscriber.Asking.{AsksForAdvice, AsksOnce};
+ghost use Rattle.live_feed.specs.hub.Offers.{AreRising};
 
 use crate::bells::Bells;
 use crate::feed_name::FeedName;
 use crate::subscriber::advising::advise;
 use crate::subscriber::logged::{Logged, PollFault};
 use feed_types::{Best, National, Notice, SubscriberId, SymbolName, VenueId};
-use fifo_lane::{LaneRule, Receiver, RisingNotices};
+use fifo_lane::{Receiver, RisingNotices};
 use filter_terms::{Advice, Limits, Strategy};
 use std::alloc::Global;
 use std::marker::{Model, PhantomData};
@@ -160,8 +161,7 @@ impl<N: FeedName> SubscriberLog<N> {
         rt: &W,
         strategy: &mut Strategy,
     ) -> Result<Option<Advice>, PollFault>
-        ensures polls { Polls ⟦<RisingNotices as LaneRule<Notice>>⟧.may_send result self.old
-            self.new }
+        ensures polls { Polls AreRising result self.old self.new }
         ensures asks { AsksForAdvice result self.old self.new strategy.old strategy.new }
     {
         if self.lines.len() >= self.most_lines as usize {

@@ -1,20 +1,21 @@
 //! The calls of a feed that take only a venue's lock.
 
-ghost use Rattle.std.specs.Prelude.{◌≡◌, ◌<◌, length};
-ghost use Rattle.line_arbiter.specs.Genuine.{IsGenuine};
+ghost use Rattle.std.specs.Prelude.{◌≡◌, IfOk, IsErrOf};
+ghost use Rattle.line_arbiter.specs.Histories.{History};
+ghost use Rattle.live_feed.specs.Premises.{AreInSequence, IsGenuinePacket};
 ghost use Rattle.live_feed.specs.venue.Seats.{seat_after, seat_refusing};
-ghost use Rattle.live_feed.specs.venue.Sections.{AcceptsTheirPacket, IsFlushedBy, Pushes};
+ghost use Rattle.live_feed.specs.venue.Cells.{FitsCell};
+ghost use Rattle.live_feed.specs.venue.Sections.{AcceptsTheirPacket, IsDueAt, IsFlushedBy, IsRenewedBy, KeepsButPushed, Pushes, TakesPacket};
 ghost use Rattle.live_feed.specs.venue.Datagrams.{AreGenuineBytes, AcceptsTheirs, IsAnsweredAt, IsTakenBy, bytes_of};
 
-use crate::faults::TakeFault;
+use crate::faults::{RenewalFault, TakeFault};
 use crate::feed_name::FeedName;
 use crate::unsent::Unsent;
 use crate::venue::cell::VenueCell;
 use crate::venue::datagram::Datagram;
 use crate::venue::locks::{VenueLocks, enter};
 use crate::venue::seat::LineSeat;
-use feed_types::{Genuine, Numbered, VenueId};
-use fifo_lane::{LaneRule, VenueItems};
+use feed_types::{Genuine, VenueId};
 use line_arbiter::{LineFault, Outcome};
 use mold_packet::{Packet, Request, read_packet};
 use std::sync::Wait;
@@ -26,8 +27,7 @@ fn push_ready<G: Genuine, N: FeedName, W: Wait>(
     cell: &mut VenueCell<G, N>,
     most: u64,
 ) -> (u64, bool)
-    ensures { Pushes ⟦<VenueItems<G> as LaneRule<Numbered>>⟧.may_send most result.0 cell.old
-        cell.new }
+    ensures { Pushes (AreInSequence G.Genuine) most result.0 cell.old cell.new }
 {
     for pushed in 0..most {
         match cell.push_one(rt) {
@@ -42,14 +42,14 @@ fn push_ready<G: Genuine, N: FeedName, W: Wait>(
 }
 
 /// Pushes what is ready as `push_ready` does, where the cell is of this venue; else nothing.
-#[tactic(auto, using(crate::proofs::CellMoves::flushed, crate::proofs::CellMoves::not_flushed))]
+#[tactic(auto, using(crate::proofs::CellMoves::at_venue, crate::proofs::CellMoves::at_another))]
 fn flush_cell<G: Genuine, N: FeedName, W: Wait>(
     rt: &W,
     cell: &mut VenueCell<G, N>,
     venue: VenueId,
     most: u64,
 ) -> (u64, bool)
-    ensures { IsFlushedBy G.sessions G.carries G.ends N.lanes venue most result.0 }
+    ensures { IsFlushedBy G.Genuine N.lanes venue most result.0 }
 {
     cell.show_lock_invariant();
     if cell.venue() != venue {
@@ -65,26 +65,90 @@ fn is_repeat(answer: &Result<Outcome, LineFault>) -> bool {
     matches!(answer, Ok(Outcome::Taken { new: 0, .. }))
 }
 
-/// Takes the packet where the cell is of the seat's venue. Most bring the next message alone.
-fn take_in<G: Genuine, N: FeedName, W: Wait>(
+/// Takes a packet of the cell's venue. Most bring the next message alone.
+fn take_one<G: Genuine, N: FeedName, W: Wait>(
     rt: &W,
     cell: &mut VenueCell<G, N>,
     seat: &mut LineSeat<G, N>,
     packet: &Packet<'_>,
 ) -> Result<Outcome, LineFault>
-    requires { IsGenuine G.sessions G.carries G.ends seat.old.venue packet.now }
+    requires venue { seat.old.venue ≡ cell.old.arbiter.venue }
+    requires genuine { IsGenuinePacket G.Genuine seat.old.venue packet.now }
+    ensures takes { (h : History) → FitsCell cell.old h
+        → TakesPacket seat.old.line packet.now result h cell.old cell.new }
+    ensures kept { KeepsButPushed cell.old cell.new }
     ensures seat { seat.new ≡ seat_after seat.old packet.now result }
-    ensures answer { IsAnsweredAt G.sessions G.carries G.ends N.lanes seat.old packet.now result }
-    ensures accepts { AcceptsTheirPacket G.sessions G.carries G.ends seat.old.venue packet.now
-        result }
+    ensures accepts { AcceptsTheirPacket G.Genuine seat.old.venue packet.now result }
 {
-    if cell.venue() != seat.venue() {
-        return Err(LineFault::OtherSession);
-    }
     if let Some(outcome) = cell.take_and_push(rt, seat, packet) {
         return Ok(outcome);
     }
     cell.take(seat, packet)
+}
+
+/// Takes the packet where the cell is of the seat's venue, and pushes what is ready then. Returns
+/// the answer, and what `push_ready` returned.
+fn take_in<G: Genuine, N: FeedName, W: Wait>(
+    rt: &W,
+    cell: &mut VenueCell<G, N>,
+    seat: &mut LineSeat<G, N>,
+    packet: &Packet<'_>,
+) -> (Result<Outcome, LineFault>, (u64, bool))
+    requires { IsGenuinePacket G.Genuine seat.old.venue packet.now }
+    ensures seat { seat.new ≡ seat_after seat.old packet.now result.0 }
+    ensures answer { IsAnsweredAt G.Genuine N.lanes seat.old packet.now result.0 }
+    ensures accepts { AcceptsTheirPacket G.Genuine seat.old.venue packet.now result.0 }
+{
+    cell.show_lock_invariant();
+    if cell.venue() != seat.venue() {
+        return (Err(LineFault::OtherSession), (0, false));
+    }
+    let answer = take_one(rt, cell, seat, packet);
+    let pushed = push_ready(rt, cell, u64::MAX);
+    cell.show_lock_invariant();
+    (answer, pushed)
+}
+
+/// Returns the request for the gap to send now, where the cell is of this venue.
+#[tactic(auto, using(crate::proofs::CellMoves::at_venue, crate::proofs::CellMoves::at_another))]
+fn due_in<G: Genuine, N: FeedName>(
+    cell: &mut VenueCell<G, N>,
+    venue: VenueId,
+    now_ms: u64,
+) -> Option<Request>
+    ensures { IsDueAt G.Genuine N.lanes venue now_ms result }
+{
+    cell.show_lock_invariant();
+    if cell.venue() != venue {
+        return None;
+    }
+    let request = cell.due(now_ms);
+    cell.show_lock_invariant();
+    request
+}
+
+/// Begins the session of this ordinal and name, where the cell is of this venue.
+pub(crate) fn renew_in<G: Genuine, N: FeedName>(
+    cell: &mut VenueCell<G, N>,
+    venue: VenueId,
+    ordinal: u64,
+    session: [u8; 10],
+) -> Result<u64, RenewalFault>
+    requires { G.sessions venue ordinal session }
+    ensures ordinal { IfOk result (λ begun. begun ≡ ordinal) }
+    ensures known { IsErrOf result RenewalFault.UnknownVenue → ⊥ }
+    ensures renewed { IsRenewedBy G.Genuine N.lanes venue ordinal session result }
+{
+    cell.show_lock_invariant();
+    if cell.venue() != venue || cell.ordinal() + 1 != ordinal {
+        return Err(RenewalFault::WrongOrdinal);
+    }
+    let begun = cell.renew(session);
+    cell.show_lock_invariant();
+    match begun {
+        Ok(begun) => Ok(begun),
+        Err(fault) => Err(RenewalFault::Venue(fault)),
+    }
 }
 
 impl<G: Genuine, N: FeedName> VenueLocks<G, N> {
@@ -97,12 +161,10 @@ impl<G: Genuine, N: FeedName> VenueLocks<G, N> {
         datagram: &Datagram,
         gap: &mut bool,
     ) -> Result<Outcome, TakeFault>
-        requires { AreGenuineBytes G.sessions G.carries G.ends seat.old.venue
-            (bytes_of datagram.now) }
-        ensures taken { IsTakenBy G.sessions G.carries G.ends N.lanes (bytes_of datagram.now)
+        requires { AreGenuineBytes G.Genuine seat.old.venue (bytes_of datagram.now) }
+        ensures taken { IsTakenBy G.Genuine N.lanes (bytes_of datagram.now)
             seat.old result seat.new }
-        ensures accepts { AcceptsTheirs G.sessions G.carries G.ends seat.old.venue
-            (bytes_of datagram.now) result }
+        ensures accepts { AcceptsTheirs G.Genuine seat.old.venue (bytes_of datagram.now) result }
     {
         match read_packet(datagram.bytes()) {
             Ok(packet) => match self.take_packet(rt, seat, &packet, gap) {
@@ -141,19 +203,16 @@ impl<G: Genuine, N: FeedName> VenueLocks<G, N> {
         packet: &Packet<'_>,
         gap: &mut bool,
     ) -> Result<Outcome, LineFault>
-        requires { IsGenuine G.sessions G.carries G.ends seat.old.venue packet.now }
+        requires { IsGenuinePacket G.Genuine seat.old.venue packet.now }
         ensures seat { seat.new ≡ seat_after seat.old packet.now result }
-        ensures answer { IsAnsweredAt G.sessions G.carries G.ends N.lanes seat.old packet.now
-            result }
-        ensures accepts { AcceptsTheirPacket G.sessions G.carries G.ends seat.old.venue packet.now
-            result }
+        ensures answer { IsAnsweredAt G.Genuine N.lanes seat.old packet.now result }
+        ensures accepts { AcceptsTheirPacket G.Genuine seat.old.venue packet.now result }
     {
         let Some(lock) = self.get(seat.venue()) else {
             return Err(LineFault::OtherSession);
         };
         let mut guarded = enter(rt, lock);
-        let answer = take_in(rt, &mut guarded.cell, seat, packet);
-        let (pushed, is_held_back) = push_ready(rt, &mut guarded.cell, u64::MAX);
+        let (answer, (pushed, is_held_back)) = take_in(rt, &mut guarded.cell, seat, packet);
         self.set_held_back(seat.venue(), is_held_back);
         *gap = guarded.cell.has_gap();
         drop(guarded);
@@ -167,8 +226,7 @@ impl<G: Genuine, N: FeedName> VenueLocks<G, N> {
     /// full, and returns how many items were pushed: none where there is no such venue. Where
     /// something may be ready still, the venue is held back.
     pub(crate) fn flush_some<W: Wait>(&self, rt: &W, venue: VenueId, most: u64) -> u64
-        ensures { venue < length N.lanes.venues
-            → IsFlushedBy G.sessions G.carries G.ends N.lanes venue most result }
+        ensures { IsFlushedBy G.Genuine N.lanes venue most result }
     {
         let Some(lock) = self.get(venue) else {
             return 0;
@@ -184,14 +242,12 @@ impl<G: Genuine, N: FeedName> VenueLocks<G, N> {
     }
 
     /// The request for the venue's gap to send now, if any; None where there is no such venue.
-    pub(crate) fn due<W: Wait>(&self, rt: &W, venue: VenueId, now_ms: u64) -> Option<Request> {
+    pub(crate) fn due<W: Wait>(&self, rt: &W, venue: VenueId, now_ms: u64) -> Option<Request>
+        ensures { IsDueAt G.Genuine N.lanes venue now_ms result }
+    {
         let Some(lock) = self.get(venue) else {
             return None;
         };
-        let mut guarded = enter(rt, lock);
-        if guarded.cell.venue() != venue {
-            return None;
-        }
-        guarded.cell.due(now_ms)
+        due_in(&mut enter(rt, lock).cell, venue, now_ms)
     }
 }

@@ -4,24 +4,22 @@ ghost use Rattle.std.specs.Prelude.{◌≡◌, ◌≤◌, ◌+◌, [], ◌∷◌
 ghost use Rattle.feed_types.specs.declared.item.Numbered.{Numbered};
 ghost use Rattle.feed_types.specs.Sessions.{numbered_from};
 ghost use Rattle.quote_payload.specs.Payload.{item_of};
-ghost use Rattle.line_arbiter.specs.Genuine.{IsGenuine};
 ghost use Rattle.line_arbiter.specs.Histories.{History};
-ghost use Rattle.line_arbiter.specs.Streams.{gap_of};
-ghost use Rattle.line_arbiter.specs.Pacing.{IsPaced};
 ghost use Rattle.line_arbiter.specs.Fits.{Fits};
 ghost use Rattle.line_arbiter.specs.States.{IsNew, ordinal_of};
 ghost use Rattle.line_arbiter.specs.Counts.{count_on};
+ghost use Rattle.live_feed.specs.Premises.{AreInSequence, IsGenuinePacket};
 ghost use Rattle.live_feed.specs.venue.Seats.{seat_after};
 ghost use Rattle.live_feed.specs.venue.Sums.{sums_on};
 ghost use Rattle.live_feed.specs.venue.Cells.{FitsCell, VenueLockInvariant, new_cell};
-ghost use Rattle.live_feed.specs.venue.Sections.{TakesPacket, IsAnsweredBy, AcceptsTheirPacket, KeepsButPackets, TakesAndPushes, KeepsButPushed, IsLeft, PushesOne, KeepsButSent, RenewsSession, BeginsNext};
+ghost use Rattle.live_feed.specs.venue.Sections.{TakesPacket, AcceptsTheirPacket, KeepsButPackets, TakesAndPushes, KeepsButPushed, IsLeft, PushesOne, KeepsButSent, RenewsSession, BeginsNext, RequestsGap};
 
 use crate::feed_name::FeedName;
 use crate::unsent::Unsent;
 use crate::venue::seat::LineSeat;
 use crate::venue::sums::{PacketSums, VenueSums};
 use feed_types::{Genuine, LineId, Numbered, VenueId};
-use fifo_lane::{LaneRule, Sender, VenueItems};
+use fifo_lane::{Sender, VenueItems};
 use line_arbiter::{Arbiter, InOrder, LineFault, Outcome, Pacer, RenewFault};
 use mold_packet::{Packet, Request};
 use quote_payload::read_item;
@@ -56,7 +54,7 @@ impl<G: Genuine, N: FeedName> Model for VenueCell<G, N> {
       accepted = c.sums;
     } };
 
-    ghost invariant = { λ c. VenueLockInvariant G.sessions G.carries G.ends N.lanes (record {
+    ghost invariant = { λ c. VenueLockInvariant G.Genuine N.lanes (record {
       arbiter = c.lines;
       lane = c.items;
       pace = c.pacer;
@@ -109,8 +107,8 @@ impl<G: Genuine, N: FeedName> VenueCell<G, N> {
 
     /// Does nothing: it says what is so whenever the venue's lock is free.
     #[inline(always)]
-    pub(crate) fn show_lock_invariant(&self)
-        ensures { VenueLockInvariant G.sessions G.carries G.ends N.lanes self.now }
+    pub fn show_lock_invariant(&self)
+        ensures { VenueLockInvariant G.Genuine N.lanes self.now }
     {
         // for the prover: the invariant is known where a field is used
         let _ = &self.items;
@@ -167,7 +165,7 @@ impl<G: Genuine, N: FeedName> VenueCell<G, N> {
     pub(crate) fn into_parts(self) -> (Arbiter<G>, Sender<Numbered, VenueItems<G>>, VenueSums)
         ensures parts { (result.0 ≡ self.arbiter) × (result.1 ≡ self.lane)
             × (result.2 ≡ self.accepted) }
-        ensures kept { VenueLockInvariant G.sessions G.carries G.ends N.lanes self }
+        ensures kept { VenueLockInvariant G.Genuine N.lanes self }
     {
         let VenueCell {
             lines,
@@ -187,19 +185,15 @@ impl<G: Genuine, N: FeedName> VenueCell<G, N> {
         packet: &Packet<'_>,
     ) -> Result<Outcome, LineFault>
         requires venue { seat.old.venue ≡ self.old.arbiter.venue }
-        requires genuine { IsGenuine G.sessions G.carries G.ends seat.old.venue packet.now }
+        requires genuine { IsGenuinePacket G.Genuine seat.old.venue packet.now }
         ensures packet { (h : History) → FitsCell self.old h
             → TakesPacket seat.old.line packet.now result h self.old self.new }
         ensures kept { KeepsButPackets self.old self.new }
         ensures seat { seat.new ≡ seat_after seat.old packet.now result }
 
-        ensures answered { IsAnsweredBy G.sessions G.carries G.ends N.lanes seat.old.venue
-            seat.old.line packet.now result }
-
         // Where it is known which sessions the lines bring, a packet of one of them is refused only
         // where it isn't of the present one.
-        ensures accepts { AcceptsTheirPacket G.sessions G.carries G.ends seat.old.venue packet.now
-            result }
+        ensures accepts { AcceptsTheirPacket G.Genuine seat.old.venue packet.now result }
         ensures refused { OnErr result (self.new ≡ self.old) }
     {
         // for the prover: the packet's ranges
@@ -224,17 +218,14 @@ impl<G: Genuine, N: FeedName> VenueCell<G, N> {
         packet: &Packet<'_>,
     ) -> Option<Outcome>
         requires venue { seat.old.venue ≡ self.old.arbiter.venue }
-        requires genuine { IsGenuine G.sessions G.carries G.ends seat.old.venue packet.now }
+        requires genuine { IsGenuinePacket G.Genuine seat.old.venue packet.now }
         ensures packet { (h : History) → FitsCell self.old h
             → IfSome result (λ outcome. TakesAndPushes seat.old.line packet.now outcome h
             self.old self.new) }
         ensures kept { IfSome result (λ _. KeepsButPushed self.old self.new) }
         ensures seat { IfSome result (λ outcome. seat.new
             ≡ seat_after seat.old packet.now (Ok outcome)) }
-        ensures answered { IfSome result (λ outcome. IsAnsweredBy G.sessions G.carries G.ends
-            N.lanes seat.old.venue seat.old.line packet.now (Ok outcome)) }
-        ensures left { IfNone result
-            (IsLeft ⟦<VenueItems<G> as LaneRule<Numbered>>⟧.may_send packet.now self.old) }
+        ensures left { IfNone result (IsLeft (AreInSequence G.Genuine) packet.now self.old) }
         ensures none { IfNone result ((self.new ≡ self.old) × (seat.new ≡ seat.old)) }
     {
         let order = self.lines.peek_in_order(packet)?;
@@ -255,8 +246,7 @@ impl<G: Genuine, N: FeedName> VenueCell<G, N> {
     /// Pushes the next item of the venue, where one is ready and the lane has room.
     pub fn push_one<W: Wait>(&mut self, rt: &W) -> Result<u64, Unsent>
         ensures push { (h : History) → FitsCell self.old h
-            → PushesOne ⟦<VenueItems<G> as LaneRule<Numbered>>⟧.may_send result h
-            self.old self.new }
+            → PushesOne (AreInSequence G.Genuine) result h self.old self.new }
         ensures kept { KeepsButSent self.old self.new }
         ensures count { IfOk result (λ _. length self.new.lane.items
             ≡ length self.old.lane.items + 1) }
@@ -302,10 +292,7 @@ impl<G: Genuine, N: FeedName> VenueCell<G, N> {
 
     /// Returns the request for the gap to send now, if any: see [`Pacer::due`].
     pub fn due(&mut self, now_ms: u64) -> Option<Request>
-        ensures due { (h : History) → FitsCell self.old h
-            → IsPaced self.old.pace (gap_of self.old.arbiter.session self.old.arbiter.window
-            self.old.arbiter.sent h.present.packets) now_ms result self.new.pace }
-        ensures kept { self.new ≡ record self.old { pace = self.new.pace } }
+        ensures { RequestsGap now_ms result self.old self.new }
     {
         let gap = self.lines.gap();
         self.pacer.due(gap, now_ms)

@@ -3,5 +3,5 @@ use Rattle.live_feed.proofs.laws.settled_items_are_the_sessions.Goals as goal
 
 pub returns : goal.returns
 returns g c = λ seats logs s venue v all settlement at names.
-    settled_of_sessions g.G.Genuine.sessions g.G.Genuine.carries g.G.Genuine.ends
+    settled_of_sessions g.G.Genuine
     c.sequence_is_of_the_sessions.ensures g.N.FeedName.lanes seats logs s venue v all settlement at names

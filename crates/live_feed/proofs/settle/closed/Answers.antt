@@ -16,8 +16,7 @@ use Rattle.live_feed.proofs.settle.closed.Goals as goal
 pub close_venues-venue_ends-requires-clause-ready :
     goal.close_venues-venue_ends-requires-clause-ready
 close_venues-venue_ends-requires-clause-ready g c =
-    let carries = g.G.Genuine.carries in
-    let ends = g.G.Genuine.ends in
+    let premise = g.G.Genuine in
     let lanes = g.N.FeedName.lanes in
     let made = c.into_parts-journal in
     let parts = made.ensures.parts in
@@ -29,11 +28,14 @@ close_venues-venue_ends-requires-clause-ready g c =
     let of_hub = hub.venues in
     let counted = c.requires.counts.0 in
     let rooms = c.requires.room.venue_count in
-    three_at_start (IsToClose carries ends lanes c.entries-entries.result.now) (map (λ v. v.cell) venues) made.result.1.items c.args.room.venues.items (omega arith) rooms
+    three_at_start (IsToClose premise lanes c.entries-entries.result.now) (map (λ v. v.cell) venues) made.result.1.items
+    c.args.room.venues.items (omega arith) rooms
     (λ venue cell e r left mid right. record {
       venue_is = c.requires.venues venue cell left;
-      consumed = subst (λ (l : List Entry). IsConsumed carries ends lanes l venue e) (sym entries) (hub.consumed venue e (ap (λ (l : List (LaneEnd Numbered)). slice_get l venue) (sym parts.1) ∙ mid));
-      room = subst (λ (l : List Entry). HasVenueRoom l cell r) (sym entries) (c.requires.room.venues venue cell r left right);
+      consumed = subst (λ (l : List Entry). IsConsumed premise lanes l venue e) (sym entries)
+          (hub.consumed venue e (ap (λ (l : List (LaneEnd Numbered)). slice_get l venue) (sym parts.1) ∙ mid));
+      room = subst (λ (l : List Entry). HasVenueRoom l cell r) (sym entries)
+          (c.requires.room.venues venue cell r left right);
     })
 
 pub close_subscribers-subscriber_ends-requires-clause-ready :
@@ -50,12 +52,18 @@ close_subscribers-subscriber_ends-requires-clause-ready g c =
     let of_hub = hub.subscribers in
     let counted = c.requires.counts.1 in
     let rooms = c.requires.room.subscriber_count in
-    three_at_start (IsToServe lanes made.result.0) logs made.result.2.items c.args.room.subscribers.items (omega arith) (omega arith)
+    three_at_start (IsToServe lanes made.result.0) logs made.result.2.items c.args.room.subscribers.items (omega arith)
+    (omega arith)
     (λ id t e r left mid right.
     (let below = below_of logs id t (sym left) in
     let at = ap (λ (l : List (LaneEnd Notice)). slice_get l id) (sym parts.2) ∙ mid in
     record {
-      known = (c.requires.order id t left, (let cursors = ap (λ (j : JournalState). length j.cursors) parts.0 in omega arith));
+      known = (
+        c.requires.order id t left,
+        (let cursors = ap (λ (j : JournalState). length j.cursors) parts.0 in
+            omega arith),
+      );
       offered = subst (λ (j : JournalState). IsOffered lanes j id e) (sym parts.0) (hub.offered id e at);
-      room = subst (λ (j : JournalState). HasSubscriberRoom j id e r) (sym parts.0) (c.requires.room.subscribers id e r at right);
+      room = subst (λ (j : JournalState). HasSubscriberRoom j id e r) (sym parts.0)
+          (c.requires.room.subscribers id e r at right);
     }))

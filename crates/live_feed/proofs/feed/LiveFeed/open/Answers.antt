@@ -9,20 +9,28 @@ use Rattle.live_feed.proofs.feed.LiveFeed.open.Goals as goal
 pub new-core-requires : goal.new-core-requires
 new-core-requires g c =
     let inside = c.self.inside in
-    let carries = g.G.Genuine.carries in
-    let ends = g.G.Genuine.ends in
+    let premise = g.G.Genuine in
     let lanes = g.N.FeedName.lanes in
-    subst (λ (l : List (LaneEnd Notice)). HubLockInvariant carries ends lanes (record { journal = inside.kept; receivers = inside.from_venues.items; senders = l; spare = inside.spare_lanes.items })) (sym c.in-Ok-Ok-Ok-Ok.ensures'.items)
-    (fresh inside.starts.items inside.from_venues.items inside.kept inside.spare_lanes.items _ lanes c.self.invariant (c.self.view_is ∙ c.requires) carries ends)
+    subst (λ (l : List (LaneEnd Notice)). HubLockInvariant premise lanes (record {
+      journal = inside.kept;
+      receivers = inside.from_venues.items;
+      senders = l;
+      spare = inside.spare_lanes.items;
+    }))
+    (sym c.in-Ok-Ok-Ok-Ok.ensures'.items)
+    (fresh inside.starts.items inside.from_venues.items inside.kept inside.spare_lanes.items _ lanes c.self.invariant
+    (c.self.view_is ∙ c.requires) premise)
 
 pub locked-requires-clause-lanes : goal.locked-requires-clause-lanes
 locked-requires-clause-lanes g c =
-    have_lanes c.self.inside.starts.items c.self.inside.from_venues.items c.self.inside.kept c.self.inside.spare_lanes.items _ g.N.FeedName.lanes c.self.invariant (c.self.view_is ∙ c.requires)
+    have_lanes c.self.inside.starts.items c.self.inside.from_venues.items c.self.inside.kept
+    c.self.inside.spare_lanes.items _ g.N.FeedName.lanes c.self.invariant (c.self.view_is ∙ c.requires)
 
 pub new-venues-requires : goal.new-venues-requires
 new-venues-requires g c =
     c.locked.ensures
-    ∙ starts_count c.self.inside.starts.items c.self.inside.from_venues.items c.self.inside.kept c.self.inside.spare_lanes.items _ g.N.FeedName.lanes c.self.invariant (c.self.view_is ∙ c.requires)
+    ∙ starts_count c.self.inside.starts.items c.self.inside.from_venues.items c.self.inside.kept
+    c.self.inside.spare_lanes.items _ g.N.FeedName.lanes c.self.invariant (c.self.view_is ∙ c.requires)
 
 pub new-log_size-requires : goal.new-log_size-requires
 new-log_size-requires g c = ap (λ (l : FeedLanes). l.setting.log) (c.self.view_is ∙ c.requires)

@@ -7,5 +7,7 @@ use Rattle.live_feed.proofs.feed.reading.national_in.Goals as goal
 
 pub returns-clause-value : goal.returns-clause-value
 returns-clause-value g c =
-    was_national g.G.Genuine.carries g.G.Genuine.ends g.N.FeedName.lanes c.args.symbol.now c.args.hub.now.core c.national.result c.show_lock_invariant.ensures
-    (subst (λ (j : JournalState). IfSome c.national.result (λ (n : National). n ≡ national_of j.entries c.args.symbol.now)) c.journal.ensures c.national.ensures.value)
+    was_national g.G.Genuine g.N.FeedName.lanes c.args.symbol.now c.args.hub.now.core c.national.result
+    c.show_lock_invariant.ensures
+    (subst (λ (j : JournalState). IfSome c.national.result
+    (λ (n : National). n ≡ national_of j.entries c.args.symbol.now)) c.journal.ensures c.national.ensures.value)

@@ -6,4 +6,5 @@ pub returns : goal.returns
 returns g c =
     let same = same_venue c.venue.result c.args.venue c.ne.result c.ne.ensures c.if-ne.false in
     let here : c.args.guarded.now.cell.arbiter.venue ≡ c.args.venue = sym c.venue.ensures ∙ same in
-    shows_under_lock g.G.Genuine.sessions g.G.Genuine.carries g.G.Genuine.ends g.N.FeedName.lanes c.args.venue c.args.guarded.now.cell c.of.result c.show_lock_invariant.ensures here c.of.ensures.sent c.of.ensures.shows
+    shows_under_lock g.G.Genuine g.N.FeedName.lanes c.args.venue c.args.guarded.now.cell c.of.result
+    c.show_lock_invariant.ensures here c.of.ensures.sent c.of.ensures.shows

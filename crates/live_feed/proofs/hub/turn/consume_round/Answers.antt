@@ -5,16 +5,15 @@ use Rattle.live_feed.proofs.hub.turn.consume_round.Goals as goal
 
 pub loop-step-init : goal.loop-step-init
 loop-step-init g c =
-    let carries = g.G.Genuine.carries in
-    let ends = g.G.Genuine.ends in
+    let premise = g.G.Genuine in
     let lanes = g.N.FeedName.lanes in
     let first = c.first_place-first in
     let old = c.args.hub.now.core in
     let nothing = c.nothing-done.ensures in (
       omega (arith, nothing.none),
       nothing.sound,
-      subst (λ (n : ℕ). RoundUpTo carries ends lanes first.result 0 n old old) (sym nothing.none)
-          (no_call carries ends lanes first.result first.ensures old),
+      subst (λ (n : ℕ). RoundUpTo premise lanes first.result 0 n old old) (sym nothing.none)
+          (no_call premise lanes first.result first.ensures old),
     )
 
 pub loop-step-preserved : goal.loop-step-preserved
@@ -28,7 +27,7 @@ loop-step-preserved g c =
     c.venue_count-venues.ensures.lanes venue.ensures.place in (
       search (rules, arith),
       i.1,
-      one_call g.G.Genuine.carries g.G.Genuine.ends g.N.FeedName.lanes first.result first.ensures step consumed
+      one_call g.G.Genuine g.N.FeedName.lanes first.result first.ensures step consumed
           c.args.hub.now.core c.loop-step.hub.core i.2 venue.result (64 - consumed) c.in-Ok.count
           c.consume_some.new.hub.core (search (rules, arith)) (search (rules, arith)) place
           (search (rules, arith)) c.in-Ok.ensures.batch,
@@ -38,7 +37,7 @@ pub returns-in-Err-clause-round : goal.returns-in-Err-clause-round
 returns-in-Err-clause-round g c =
     let first = c.first_place-first in
     let consumed = c.loop-step.done.consumed in
-    refused_call g.G.Genuine.carries g.G.Genuine.ends g.N.FeedName.lanes first.result first.ensures
+    refused_call g.G.Genuine g.N.FeedName.lanes first.result first.ensures
     c.loop-step.step consumed c.args.hub.now.core c.loop-step.hub.core c.loop-step.invariant.2
     c.venue_after-venue.result (64 - consumed) c.in-Err.fault c.consume_some.new.hub.core
     (search (rules, arith)) (search (rules, arith)) c.in-Err.ensures.batch
@@ -48,6 +47,6 @@ returns-after-loop-step-clause-round g c =
     let i = c.loop-step.invariant in
     let first = c.first_place-first in
     let done = c.loop-step.done in
-    round_over g.G.Genuine.carries g.G.Genuine.ends g.N.FeedName.lanes first.result first.ensures
+    round_over g.G.Genuine g.N.FeedName.lanes first.result first.ensures
     c.loop-step.step done.consumed c.args.hub.now.core c.loop-step.hub.core i.2 done.refused i.1
     (search (rules, arith))

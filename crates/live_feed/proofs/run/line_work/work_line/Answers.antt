@@ -8,7 +8,7 @@ use Rattle.live_feed.proofs.run.line_work.work_line.Goals.{in-None, in-Some+then
 pub take_and_look-answer-requires : goal.take_and_look-answer-requires
 take_and_look-answer-requires g c =
     let datagram = c.in-Ok-Some.datagram in
-    genuine_at g.G.Genuine.sessions g.G.Genuine.carries g.G.Genuine.ends
+    genuine_at g.G.Genuine
     (g.S.LineSource.venue_of c.is_next_there.new.source) c.loop.seat.venue (bytes_of datagram)
     (c.is_next_there.ensures.venue ∙ c.loop.invariant.2) (c.in-Ok-Some.ensures.genuine datagram
     (ap (λ found. Ok found) c.in-Ok-Some.field-0-is))
@@ -22,7 +22,7 @@ loop-preserved g c =
     let so_far = c.loop.invariant.5 in
     let bytes = bytes_of c.in-Ok-Some.datagram in
     let took =
-    taken_more g.G.Genuine.sessions g.G.Genuine.carries g.G.Genuine.ends g.N.FeedName.lanes
+    taken_more g.G.Genuine g.N.FeedName.lanes
     so_far.0 bytes c.take_and_look-answer.result c.args.line.seat c.loop.seat
     c.take_and_look-answer.new.seat so_far.1 c.take_and_look-answer.ensures.taken in
     let one = subst (λ found. g.S.LineSource.brings waited (brought_by (Ok found))
@@ -49,7 +49,7 @@ pub returns : goal.returns
 returns g c =
     let laws = g.met.S.LineSource in
     let brings = g.S.LineSource.brings in
-    let takes = HasTaken g.G.Genuine.sessions g.G.Genuine.carries g.G.Genuine.ends g.N.FeedName.lanes in
+    let takes = HasTaken g.G.Genuine g.N.FeedName.lanes in
     let ended = line_ended takes brings g.S.LineSource.failures laws.brings_more c.args.line.seat in
     let still = brings_still brings laws.brings_more in
     let first = c.args.line.source in
@@ -85,9 +85,9 @@ returns g c =
           let waits = still first before waited so_far.0 so_far.2 w.is_next_there.ensures.brings in
           let bytes = bytes_of w.in-Ok-Some.datagram in
           let answer = w.take_and_look-answer in
-          let stays = seat_stays g.G.Genuine.sessions g.G.Genuine.carries g.G.Genuine.ends
+          let stays = seat_stays g.G.Genuine
           g.N.FeedName.lanes bytes old answer.result answer.new.seat answer.ensures.taken in
-          let took = taken_more g.G.Genuine.sessions g.G.Genuine.carries g.G.Genuine.ends
+          let took = taken_more g.G.Genuine
           g.N.FeedName.lanes so_far.0 bytes answer.result c.args.line.seat old answer.new.seat so_far.1
           answer.ensures.taken in
           let one = subst (λ found. brings waited (brought_by (Ok found)) w.next-in-loop.new.self)

@@ -11,8 +11,10 @@ loop-place-preserved g c =
     let place = c.loop-place.place in
     let x = c.index-venues-place.result in
     let at = at_index all place place x refl c.loop-place-test.true c.index-venues-place.is in
-    let here = subst (λ v. AgreesWithSeats c.args.seats.now place v.cell) (sym c.index-venues-place.is) (c.if-not-agrees.ensures refl) in
-    one_more (AgreesWithSeats c.args.seats.now) place (map (λ v. v.cell) all) x.cell (at_map (λ v. v.cell) all place x at) here c.loop-place.invariant
+    let here = subst (λ v. AgreesWithSeats c.args.seats.now place v.cell) (sym c.index-venues-place.is)
+    (c.if-not-agrees.ensures refl) in
+    one_more (AgreesWithSeats c.args.seats.now) place (map (λ v. v.cell) all) x.cell
+    (at_map (λ v. v.cell) all place x at) here c.loop-place.invariant
 
 pub returns : goal.returns
 returns g c = λ yes.

@@ -14,7 +14,8 @@ loop-place-preserved g c =
     let id = c.id.ensures in
     let index = c.index.ensures.value in
     let same = c.if-index-place.false in
-    one_more (λ (id : ℕ) (t : SubscriberLogState). t.id ≡ id) place (map (λ s. s.log) all) x.log (at_map (λ s. s.log) all place x at) (omega arith) c.loop-place.invariant
+    one_more (λ (id : ℕ) (t : SubscriberLogState). t.id ≡ id) place (map (λ s. s.log) all) x.log
+    (at_map (λ s. s.log) all place x at) (omega arith) c.loop-place.invariant
 
 pub returns : goal.returns
 returns g c = λ yes.
@@ -22,4 +23,5 @@ returns g c = λ yes.
     let place = c.loop-place.place in
     let past = c.loop-place-test.false in
     let long = length-map all (λ s. s.log) in
-    all_places (λ (id : ℕ) (t : SubscriberLogState). t.id ≡ id) place (map (λ s. s.log) all) (omega arith) c.loop-place.invariant)
+    all_places (λ (id : ℕ) (t : SubscriberLogState). t.id ≡ id) place (map (λ s. s.log) all)
+    (omega arith) c.loop-place.invariant)

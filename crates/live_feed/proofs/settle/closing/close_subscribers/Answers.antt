@@ -61,33 +61,6 @@ loop-subscriber-init g c =
       fits = omega arith;
     }
 
-pub loop-subscriber-preserved-in-Some-pop_front-2 : goal.loop-subscriber-preserved-in-Some-pop_front-2
-loop-subscriber-preserved-in-Some-pop_front-2 g c =
-    let i = c.loop-subscriber.invariant in
-    let second = c.in-Some-pop_front.ensures in
-    let third = c.in-Some-pop_front-2.ensures in
-    let grown = c.push_reserved.ensures.items in
-    let longer = ap length grown in
-    let by_one = length-append c.loop-subscriber.ends.items (c.settle_subscriber.result ∷ []) in
-    let subscribers = c.in-Some.ensures.cases in
-    let senders = second.cases in
-    let rooms = third.cases in
-    let were_senders = i.senders in
-    let were_rooms = i.rooms in
-    let fits = i.fits in
-    let capacity = c.push_reserved.ensures.capacity in
-    record {
-      closes = one_served g.N.FeedName.lanes c.args.journal.now (map (λ v. v.log) c.args.subscribers.items) _
-          (map (λ v. v.log) c.pop_front.new.self.items) c.loop-subscriber.ends.items _
-          c.pop_front-in-Some.new.self.items _ c.pop_front-in-Some-2.new.self.items c.in-Some.subscriber.log
-          c.in-Some-pop_front.sender c.in-Some-pop_front-2.room (ap (map (λ v. v.log)) c.in-Some.ensures.items)
-          second.items third.items i.closes c.push_reserved.new.self.items c.settle_subscriber.result grown
-          c.settle_subscriber.ensures.served c.settle_subscriber.ensures.log;
-      senders = omega arith;
-      rooms = omega arith;
-      fits = omega arith;
-    }
-
 pub loop-subscriber-preserved : goal.loop-subscriber-preserved
 loop-subscriber-preserved g c =
     let i = c.loop-subscriber.invariant in

@@ -8,11 +8,10 @@ use Rattle.live_feed.proofs.settle.closing.close_venues.Goals as goal
 
 pub loop-guarded-init : goal.loop-guarded-init
 loop-guarded-init g c =
-    let carries = g.G.Genuine.carries in
-    let ends = g.G.Genuine.ends in
+    let premise = g.G.Genuine in
     let entries = c.args.entries.now in
-    let R = IsToClose carries ends g.N.FeedName.lanes entries in
-    let S = IsClosedVenue g.G.Genuine.sessions carries ends g.N.FeedName.lanes entries in
+    let R = IsToClose premise g.N.FeedName.lanes entries in
+    let S = IsClosedVenue g.G.Genuine g.N.FeedName.lanes entries in
     let venues = c.from_vec-venues in
     let receivers = c.from_vec-receivers in
     let rooms = c.from_vec-rooms in
@@ -41,27 +40,25 @@ loop-guarded-init g c =
 
 pub settle_venue-requires-clause-end : goal.settle_venue-requires-clause-end
 settle_venue-requires-clause-end g c =
-    let carries = g.G.Genuine.carries in
-    let ends = g.G.Genuine.ends in
+    let premise = g.G.Genuine in
     let lanes = g.N.FeedName.lanes in
     let entries = c.args.entries.now in
     let receiver = c.in-Some-pop_front.receiver in
-    let next = next_closes (IsToClose carries ends lanes entries)
-    (IsClosedVenue g.G.Genuine.sessions carries ends lanes entries) (map (λ v. v.cell) c.args.venues.items) _
+    let next = next_closes (IsToClose premise lanes entries)
+    (IsClosedVenue g.G.Genuine lanes entries) (map (λ v. v.cell) c.args.venues.items) _
     (map (λ v. v.cell) c.pop_front.new.self.items) c.loop-guarded.ends.items _
     c.pop_front-in-Some.new.self.items _ c.pop_front-in-Some-2.new.self.items c.in-Some.guarded.cell receiver
     c.in-Some-pop_front-2.room (ap (map (λ v. v.cell)) c.in-Some.ensures.items)
     c.in-Some-pop_front.ensures.items c.in-Some-pop_front-2.ensures.items c.loop-guarded.invariant.closes in
-    subst (λ (venue : ℕ). IsConsumed carries ends lanes entries venue receiver) (sym next.venue_is)
+    subst (λ (venue : ℕ). IsConsumed premise lanes entries venue receiver) (sym next.venue_is)
     next.consumed
 
 pub loop-guarded-preserved : goal.loop-guarded-preserved
 loop-guarded-preserved g c =
-    let carries = g.G.Genuine.carries in
-    let ends = g.G.Genuine.ends in
+    let premise = g.G.Genuine in
     let entries = c.args.entries.now in
-    let R = IsToClose carries ends g.N.FeedName.lanes entries in
-    let S = IsClosedVenue g.G.Genuine.sessions carries ends g.N.FeedName.lanes entries in
+    let R = IsToClose premise g.N.FeedName.lanes entries in
+    let S = IsClosedVenue g.G.Genuine g.N.FeedName.lanes entries in
     let i = c.loop-guarded.invariant in
     let old = c.loop-guarded.ends.items in
     let more = c.push_reserved.new.self.items in
@@ -97,7 +94,7 @@ loop-guarded-preserved g c =
 
 pub returns : goal.returns
 returns g c =
-    let S = IsClosedVenue g.G.Genuine.sessions g.G.Genuine.carries g.G.Genuine.ends g.N.FeedName.lanes
+    let S = IsClosedVenue g.G.Genuine g.N.FeedName.lanes
     c.args.entries.now in
     let none = c.in_default.ensures.cases.0 in
     let long = c.loop-guarded.venues.ok.0 in

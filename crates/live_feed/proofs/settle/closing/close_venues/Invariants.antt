@@ -6,8 +6,8 @@ use Rattle.live_feed.proofs.settle.closing.close_venues.Given as goal
 
 abbrev pub invariant-loop-guarded : goal.invariant-loop-guarded
 invariant-loop-guarded g l = record {
-  closes : Closes (IsToClose g.G.Genuine.carries g.G.Genuine.ends g.N.FeedName.lanes l.entries)
-      (IsClosedVenue g.G.Genuine.sessions g.G.Genuine.carries g.G.Genuine.ends g.N.FeedName.lanes l.entries)
+  closes : Closes (IsToClose g.G.Genuine g.N.FeedName.lanes l.entries)
+      (IsClosedVenue g.G.Genuine g.N.FeedName.lanes l.entries)
       (map (λ x. x.cell) l.fn.venues.items) l.ends.items (map (λ x. x.cell) l.venues.items) l.receivers.items
       l.rooms.items;
   receivers : deque_len l.receivers ≡ deque_len l.venues;

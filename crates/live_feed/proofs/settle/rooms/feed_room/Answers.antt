@@ -15,10 +15,21 @@ returns g c =
     let entries = c.entries.ensures.value ∙ ap (λ (j : JournalState). j.entries) c.journal.ensures in
     let senders = c.senders.ensures.value in
     record {
-      venue_count = (let count = venues.ensures.count in let long = length-map c.args.venues.now (λ v. v.cell) in omega arith);
-      venues = subst (λ (es : List Entry). HaveVenueRooms es cells venues.venue_lists.items) entries venues.ensures.rooms;
-      venue_ends = (ap length c.in_ok-venue_ends.ensures.items, (let room = c.in_ok-venue_ends.ensures.capacity in let long = length-map c.args.venues.now (λ v. v.cell) in omega arith));
+      venue_count = (let count = venues.ensures.count in let long = length-map c.args.venues.now (λ v. v.cell) in
+          omega arith);
+      venues = subst (λ (es : List Entry). HaveVenueRooms es cells venues.venue_lists.items) entries
+          venues.ensures.rooms;
+      venue_ends = (
+        ap length c.in_ok-venue_ends.ensures.items,
+        (let room = c.in_ok-venue_ends.ensures.capacity in let long = length-map c.args.venues.now (λ v. v.cell) in
+            omega arith),
+      );
       subscriber_count = subscribers.ensures.count ∙ ap length senders;
-      subscribers = subst (λ (x : JournalState × List (LaneEnd Notice)). HaveSubscriberRooms x.0 x.1 subscribers.subscriber_lists.items) (λ i. (c.journal-2.ensures i, senders i)) subscribers.ensures.rooms;
-      subscriber_ends = (ap length c.in_ok-subscriber_ends.ensures.items, (let room = c.in_ok-subscriber_ends.ensures.capacity in let long = ap length c.senders-2.ensures.value in omega arith));
+      subscribers = subst (λ (x : JournalState × List (LaneEnd Notice)). HaveSubscriberRooms x.0 x.1
+          subscribers.subscriber_lists.items) (λ i. (c.journal-2.ensures i, senders i)) subscribers.ensures.rooms;
+      subscriber_ends = (
+        ap length c.in_ok-subscriber_ends.ensures.items,
+        (let room = c.in_ok-subscriber_ends.ensures.capacity in let long = ap length c.senders-2.ensures.value in
+            omega arith),
+      );
     }

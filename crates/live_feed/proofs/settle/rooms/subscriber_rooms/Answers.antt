@@ -19,8 +19,11 @@ loop-place-preserved c =
     let old = c.loop-place.rooms.items in
     let room = c.in_ok-room.room in
     let grown = c.in_ok-push.ensures.items in
-    let here = subst (λ (id : ℕ). HasSubscriberRoom journal id x room) (c.subscriber_at.ensures ∙ sym i.count) c.in_ok-room.ensures in
+    let here = subst (λ (id : ℕ). HasSubscriberRoom journal id x room) (c.at.ensures ∙ sym i.count)
+    c.in_ok-room.ensures in
     record {
-      count = (let long = ap length grown in let both = length-append old (room ∷ []) in let count = i.count in omega arith);
-      rooms = match_more (HasSubscriberRoom journal) all old c.push.new.self.items x room (ap (slice_get all) i.count ∙ at) grown here i.rooms;
+      count = (let long = ap length grown in let both = length-append old (room ∷ []) in let count = i.count in
+          omega arith);
+      rooms = match_more (HasSubscriberRoom journal) all old c.push.new.self.items x room
+          (ap (slice_get all) i.count ∙ at) grown here i.rooms;
     }

@@ -21,7 +21,9 @@ loop-place-preserved g c =
     let grown = c.in_ok-push.ensures.items in
     let here = subst (λ v. HasVenueRoom entries v.cell room) (sym c.index-venues-place.is) c.in_ok-room.ensures in
     record {
-      count = (let long = ap length grown in let both = length-append old (room ∷ []) in let count = i.count in omega arith);
-      rooms = match_more (λ (venue : ℕ) (cell : CellState) (r : VenueRoom). HasVenueRoom entries cell r) cells old c.push.new.self.items x.cell room
+      count = (let long = ap length grown in let both = length-append old (room ∷ []) in let count = i.count in
+          omega arith);
+      rooms = match_more (λ (venue : ℕ) (cell : CellState) (r : VenueRoom). HasVenueRoom entries cell r) cells old
+          c.push.new.self.items x.cell room
           (ap (slice_get cells) i.count ∙ at_map (λ v. v.cell) all place x at) grown here i.rooms;
     }

@@ -14,7 +14,8 @@ pub settle-inside-requires : goal.settle-inside-requires
 settle-inside-requires g c =
     let parts = c.into_parts-lines.ensures.parts in
     let log = c.args.log in
-    one_there (slice_get g.N.FeedName.lanes.subscribers log.id) c.args.sender.lane log.lane.lane c.requires.offered.lane c.into_parts-lines.ensures.log.lane
+    one_there (slice_get g.N.FeedName.lanes.subscribers log.id) c.args.sender.lane log.lane.lane c.requires.offered.lane
+    c.into_parts-lines.ensures.log.lane
     ∙ ap (λ (e : LaneEnd Notice). e.lane) (sym parts.1)
 
 pub returns-clause-served : goal.returns-clause-served
@@ -28,13 +29,18 @@ returns-clause-served g c =
     let received = log.lane.items in
     let terms = c.terms-terms.result.now in
     let unoffered = c.wanted_past-unoffered.result.items in
-    let keeps = subst (λ (e : LaneEnd Notice). Keeps may sender.tag sender.capacity sender.items e.items inside) parts.1 c.settle-inside.ensures in
+    let keeps = subst (λ (e : LaneEnd Notice). Keeps may sender.tag sender.capacity sender.items e.items inside) parts.1
+    c.settle-inside.ensures in
     let own = sym c.id-id.ensures in
-    let whole = served g.N.FeedName.lanes may journal log.id sender terms c.cursor-from.result log.lines received inside unoffered
-    c.requires.offered c.requires.known (ap (terms_at journal) own ∙ c.terms-terms.ensures) (ap (cursor_at journal) own ∙ c.cursor-from.ensures.value)
-    c.into_parts-lines.ensures.log.notices keeps (c.wanted_past-unoffered.ensures ∙ (λ i. filter (meets terms) (drop c.cursor-from.result (c.changes.ensures i)))) in
+    let whole = served g.N.FeedName.lanes may journal log.id sender terms c.cursor-from.result log.lines received inside
+    unoffered
+    c.requires.offered c.requires.known (ap (terms_at journal) own ∙ c.terms-terms.ensures)
+    (ap (cursor_at journal) own ∙ c.cursor-from.ensures.value)
+    c.into_parts-lines.ensures.log.notices keeps (c.wanted_past-unoffered.ensures
+    ∙ (λ i. filter (meets terms) (drop c.cursor-from.result (c.changes.ensures i)))) in
     subst (λ (x : SubscriberEndState). IsServed journal log.id x.log x.queued x.unoffered) (sym c.new.ensures)
-    (subst (λ (x : List Logged × List Notice). IsServed journal log.id x.0 x.1 unoffered) (λ i. (sym parts.0 i, sym c.drained-queued.ensures i)) whole)
+    (subst (λ (x : List Logged × List Notice). IsServed journal log.id x.0 x.1 unoffered)
+    (λ i. (sym parts.0 i, sym c.drained-queued.ensures i)) whole)
 
 pub returns-clause-log : goal.returns-clause-log
 returns-clause-log g c = ap (λ (x : SubscriberEndState). x.log) c.new.ensures ∙ c.into_parts-lines.ensures.parts.0

@@ -1,12 +1,12 @@
 use Rattle.std.proofs.Common.{ℕ, List, drop, ◌∙◌, sym, subst, ap}
 use Rattle.std.specs.Prelude.{slice_get}
 use Rattle.feed_types.specs.declared.item.Numbered.{Numbered}
-use Rattle.feed_types.specs.Sequence.{IsInSequence}
 use Rattle.line_arbiter.specs.Packets.{Arrival}
 use Rattle.line_arbiter.specs.Streams.{stream_of}
 use Rattle.line_arbiter.specs.Fits.{Fits}
 use Rattle.line_arbiter.specs.States.{State}
 use Rattle.fifo_lane.specs.Lane.{Keeps, LaneEnd}
+use Rattle.live_feed.specs.Premises.{AreInSequence}
 use Rattle.live_feed.specs.venue.Sums.{LineSums}
 use Rattle.live_feed.specs.hub.Hubs.{items_in}
 use Rattle.live_feed.specs.settle.Settlements.{IsClosedVenue, IsSettled, VenueEndState}
@@ -18,20 +18,21 @@ pub take_ready-ready-requires-clause-fits : goal.take_ready-ready-requires-claus
 take_ready-ready-requires-clause-fits g c =
     let parts = c.into_parts-lines.ensures.parts in
     let k = c.into_parts-lines.ensures.kept in
-    subst (λ (a : State). (packets : List Arrival) × Fits a packets) (sym parts.0) (k.history.present.packets, k.fits.history.present)
+    subst (λ (a : State). (packets : List Arrival) × Fits a packets) (sym parts.0)
+    (k.history.present.packets, k.fits.history.present)
 
 pub settle-inside-requires : goal.settle-inside-requires
 settle-inside-requires g c =
     let parts = c.into_parts-lines.ensures.parts in
     let k = c.into_parts-lines.ensures.kept in
     let cell = c.args.cell in
-    ap (λ (e : LaneEnd Numbered). e.lane) parts.1 ∙ one_there (slice_get g.N.FeedName.lanes.venues cell.arbiter.venue) cell.lane.lane c.args.receiver.lane k.lane c.requires.end.lane
+    ap (λ (e : LaneEnd Numbered). e.lane) parts.1 ∙ one_there (slice_get g.N.FeedName.lanes.venues cell.arbiter.venue)
+    cell.lane.lane c.args.receiver.lane k.lane c.requires.end.lane
 
 pub returns : goal.returns
 returns g c =
-    let may : ℕ → List Numbered → Type 0 = λ venue items. IsInSequence g.G.Genuine.carries g.G.Genuine.ends venue items in
-    let carries = g.G.Genuine.carries in
-    let ends = g.G.Genuine.ends in
+    let may : ℕ → List Numbered → Type 0 = λ venue items. AreInSequence g.G.Genuine venue items in
+    let premise = g.G.Genuine in
     let cell = c.args.cell in
     let entries = c.args.entries.now in
     let parts = c.into_parts-lines.ensures.parts in
@@ -41,14 +42,20 @@ returns g c =
     let received = c.args.receiver.items in
     let consumed = c.consumed_of-consumed.ensures ∙ ap (items_in entries) c.venue.ensures in
     let same = c.requires.end.items ∙ sym consumed in
-    let keeps = subst (λ (e : LaneEnd Numbered). Keeps may e.tag e.capacity e.items received inside) parts.1 c.settle-inside.ensures in
-    let ready = c.take_ready-ready.ensures.ready packets (subst (λ (a : State). Fits a packets) (sym parts.0) k.fits.history.present) in
+    let keeps = subst (λ (e : LaneEnd Numbered). Keeps may e.tag e.capacity e.items received inside) parts.1
+    c.settle-inside.ensures in
+    let ready = c.take_ready-ready.ensures.ready packets
+    (subst (λ (a : State). Fits a packets) (sym parts.0) k.fits.history.present) in
     let wins = c.counted-wins.ensures ∙ c.take_ready-ready.ensures.wins ∙ (λ i. (parts.0 i).wins) in
-    let whole = settled g.G.Genuine.sessions carries ends g.N.FeedName.lanes may cell k received inside c.take_ready-ready.result.items c.counted-wins.result keeps
+    let whole = settled g.G.Genuine g.N.FeedName.lanes may cell k received inside c.take_ready-ready.result.items
+    c.counted-wins.result keeps
     (ready ∙ (λ i. drop (parts.0 i).sent (stream_of packets))) wins in
-    subst (λ (v : VenueEndState). IsClosedVenue g.G.Genuine.sessions carries ends g.N.FeedName.lanes entries cell.arbiter.venue cell v) (sym c.new.ensures) (record {
+    subst (λ (v : VenueEndState). IsClosedVenue g.G.Genuine g.N.FeedName.lanes entries cell.arbiter.venue cell v)
+    (sym c.new.ensures) (record {
       kept = k;
-      settled = subst (λ (x : List Numbered × (List Numbered × LineSums)). IsSettled carries ends cell.arbiter.venue g.N.FeedName.lanes.setting.window cell.lane.items x.0 x.1.0 c.take_ready-ready.result.items c.counted-wins.result x.1.1)
+      settled = subst (λ (x : List Numbered × (List Numbered × LineSums)). IsSettled premise cell.arbiter.venue
+          g.N.FeedName.lanes.setting.window cell.lane.items x.0 x.1.0 c.take_ready-ready.result.items
+          c.counted-wins.result x.1.1)
           (λ i. (same i, (sym c.drained-in_lane.ensures i, sym parts.2 i))) whole;
       consumed = consumed;
       wins = wins;

@@ -7,7 +7,8 @@ use Rattle.live_feed.proofs.settle.venue_lane.take_ready.Given as goal
 abbrev pub invariant-loop-next : goal.invariant-loop-next
 invariant-loop-next g l = record {
   fits : (packets : List Arrival) → Fits l.fn.lines packets → Fits l.lines packets;
-  items : (packets : List Arrival) → Fits l.fn.lines packets → l.room.items ++ drop l.lines.sent (stream_of packets) ≡ drop l.fn.lines.sent (stream_of packets);
+  items : (packets : List Arrival) → Fits l.fn.lines packets
+      → l.room.items ++ drop l.lines.sent (stream_of packets) ≡ drop l.fn.lines.sent (stream_of packets);
   count : vec_len l.room + l.fn.lines.sent ≡ l.lines.sent;
   wins : l.lines.wins ≡ l.fn.lines.wins;
   room : vec_capacity l.room ≡ vec_capacity l.fn.room;

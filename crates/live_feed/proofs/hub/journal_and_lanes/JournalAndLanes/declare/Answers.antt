@@ -3,4 +3,5 @@ use Rattle.live_feed.proofs.hub.journal_and_lanes.JournalAndLanes.declare.Goals 
 
 pub invariant_of-self : goal.invariant_of-self
 invariant_of-self g c =
-    declare_kept g.G.Genuine.carries g.G.Genuine.ends g.N.FeedName.lanes _ c.args.venue c.args.on c.declare.result c.declare.new.self c.self.invariant c.declare.ensures.declares
+    declare_kept g.G.Genuine g.N.FeedName.lanes _ c.args.venue c.args.on c.declare.result c.declare.new.self
+    c.self.invariant c.declare.ensures.declares

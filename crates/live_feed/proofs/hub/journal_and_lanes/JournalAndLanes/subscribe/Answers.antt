@@ -9,17 +9,27 @@ use Rattle.live_feed.proofs.hub.journal_and_lanes.JournalAndLanes.subscribe.Goal
 
 pub invariant_of-self-2 : goal.invariant_of-self-2
 invariant_of-self-2 g c =
-    let senders = c.push_reserved.ensures.items ∙ ap (λ (l : List (LaneEnd Notice)). l ++ c.in-Some.spare.sender ∷ []) c.reserve.ensures.items in
-    subscribes g.G.Genuine.carries g.G.Genuine.ends g.N.FeedName.lanes _ c.in-Some.spare c.pop_front.new.self.items c.subscribe.new.self c.push_reserved.new.self.items c.args.terms c.self.invariant
+    let senders = c.push_reserved.ensures.items ∙ ap (λ (l : List (LaneEnd Notice)). l ++ c.in-Some.spare.sender ∷ [])
+    c.reserve.ensures.items in
+    subscribes g.G.Genuine g.N.FeedName.lanes _ c.in-Some.spare c.pop_front.new.self.items c.subscribe.new.self
+    c.push_reserved.new.self.items c.args.terms c.self.invariant
     c.in-Some.ensures.items c.in-Ok.ensures.2 senders
 
 pub returns : goal.returns
 returns g c =
-    let senders = c.push_reserved.ensures.items ∙ ap (λ (l : List (LaneEnd Notice)). l ++ c.in-Some.spare.sender ∷ []) c.reserve.ensures.items in
-    let spare = spare_end g.G.Genuine.carries g.G.Genuine.ends g.N.FeedName.lanes _ c.in-Some.spare c.pop_front.new.self.items c.self.invariant c.in-Some.ensures.items in
+    let senders = c.push_reserved.ensures.items ∙ ap (λ (l : List (LaneEnd Notice)). l ++ c.in-Some.spare.sender ∷ [])
+    c.reserve.ensures.items in
+    let spare = spare_end g.G.Genuine g.N.FeedName.lanes _ c.in-Some.spare c.pop_front.new.self.items c.self.invariant
+    c.in-Some.ensures.items in
     let id_is = c.in-Ok.ensures.0 in
-    let new : HubState = record { journal = c.subscribe.new.self; receivers = c.self.inside.from_venues.items; senders = c.push_reserved.new.self.items; spare = c.pop_front.new.self.items } in
-    subst (λ (s : HubState). AddsSubscriber g.N.FeedName.lanes c.args.terms c.in-Ok.id c.in-Some.spare.receiver s new) c.self.view_is (record {
+    let new : HubState = record {
+      journal = c.subscribe.new.self;
+      receivers = c.self.inside.from_venues.items;
+      senders = c.push_reserved.new.self.items;
+      spare = c.pop_front.new.self.items;
+    } in
+    subst (λ (s : HubState). AddsSubscriber g.N.FeedName.lanes c.args.terms c.in-Ok.id c.in-Some.spare.receiver s new)
+    c.self.view_is (record {
       few = c.in-Ok.ensures.1;
       id_is = id_is;
       tag = spare.1 ∙ sym id_is;

@@ -1,7 +1,7 @@
 use Rattle.std.proofs.Common.{ℕ, ◌++◌, ◌∷◌, [], List, Ok, Err, refl, sym, subst, ◌∙◌}
 use Rattle.feed_types.specs.declared.item.Numbered.{Numbered}
-use Rattle.feed_types.specs.Sequence.{IsInSequence}
 use Rattle.fifo_lane.specs.Lane.{LaneEnd}
+use Rattle.live_feed.specs.Premises.{AreInSequence}
 use Rattle.live_feed.specs.venue.Cells.{CellState, FitsCell}
 use Rattle.live_feed.specs.venue.Sections.{PushesOne}
 use Rattle.live_feed.specs.declared.unsent.Unsent.TheVariants as unsent
@@ -11,39 +11,54 @@ use Rattle.live_feed.proofs.venue.cell.VenueCell.push_one.Goals as goal
 pub returns-in_default-clause-push : goal.returns-in_default-clause-push
 returns-in_default-clause-push g c = λ h fits.
     let f = subst (λ (v : CellState). FitsCell v h) (sym c.self.view_is) fits in
-    let may : ℕ → List Numbered → Type 0 = λ venue items. IsInSequence g.G.Genuine.carries g.G.Genuine.ends venue items in
+    let may : ℕ → List Numbered → Type 0 = λ venue items. AreInSequence g.G.Genuine venue items in
     subst (λ (v : CellState). PushesOne may (Err unsent.Nothing) h v v) c.self.view_is
     (push_nothing _ h f may (sym c.in_default.is ∙ c.next_ready.ensures.stream h.present.packets f.history.present))
 
 pub push-requires : goal.push-requires
 push-requires g c =
     let k = c.self.invariant in
-    subst (λ (t : ℕ). IsInSequence g.G.Genuine.carries g.G.Genuine.ends t (c.self.inside.items.items ++ c.in-Some.ready ∷ [])) (sym k.tag)
-    (may_push c.self.inside.items.items c.self.inside.lines.sent k.history k.fits.sent g.G.Genuine.carries g.G.Genuine.ends c.self.inside.lines.venue c.self.inside.lines.window c.in-Some.ready k.given
+    subst (λ (t : ℕ). AreInSequence g.G.Genuine t (c.self.inside.items.items ++ c.in-Some.ready ∷ [])) (sym k.tag)
+    (may_push c.self.inside.items.items c.self.inside.lines.sent k.history k.fits.sent g.G.Genuine
+    c.self.inside.lines.venue c.self.inside.lines.window c.in-Some.ready k.given
     (c.in-Some.ensures.stream k.history.present.packets k.fits.history.present))
 
 pub invariant_of-self : goal.invariant_of-self
 invariant_of-self g c =
     let k = c.self.invariant in
     let packets = k.history.present.packets in
-    push_kept g.G.Genuine.sessions g.G.Genuine.carries g.G.Genuine.ends g.N.FeedName.lanes _ _ c.in-Some.ready k c.in-Ok.ensures c.advance.ensures.after
-    (push_fits _ k.history k.fits _ c.in-Some.ready (c.in-Some.ensures.stream packets k.fits.history.present) c.in-Ok.ensures refl c.advance.ensures.after (c.advance.ensures.fits packets k.fits.history.present))
+    push_kept g.G.Genuine g.N.FeedName.lanes _ _ c.in-Some.ready k c.in-Ok.ensures c.advance.ensures.after
+    (push_fits _ k.history k.fits _ c.in-Some.ready (c.in-Some.ensures.stream packets k.fits.history.present)
+    c.in-Ok.ensures refl c.advance.ensures.after (c.advance.ensures.fits packets k.fits.history.present))
 
 pub returns-in-Ok-clause-push : goal.returns-in-Ok-clause-push
 returns-in-Ok-clause-push g c = λ h fits.
     let f = subst (λ (v : CellState). FitsCell v h) (sym c.self.view_is) fits in
     let packets = h.present.packets in
-    let may : ℕ → List Numbered → Type 0 = λ venue items. IsInSequence g.G.Genuine.carries g.G.Genuine.ends venue items in
-    let new : CellState = record { arbiter = c.advance.new.self; lane = c.push.new.self; pace = c.self.inside.pacer; accepted = c.self.inside.sums } in
+    let may : ℕ → List Numbered → Type 0 = λ venue items. AreInSequence g.G.Genuine venue items in
+    let new : CellState = record {
+      arbiter = c.advance.new.self;
+      lane = c.push.new.self;
+      pace = c.self.inside.pacer;
+      accepted = c.self.inside.sums;
+    } in
     let stream = c.in-Some.ensures.stream packets f.history.present in
     subst (λ (v : CellState). PushesOne may (Ok c.in-Some.ready.number) h v new) c.self.view_is
     (pushes _ h f may new c.in-Some.ready c.in-Some.ready.number stream refl c.in-Ok.ensures
-    (push_fits _ h f new c.in-Some.ready stream c.in-Ok.ensures refl c.advance.ensures.after (c.advance.ensures.fits packets f.history.present)))
+    (push_fits _ h f new c.in-Some.ready stream c.in-Ok.ensures refl c.advance.ensures.after
+    (c.advance.ensures.fits packets f.history.present)))
 
 pub returns-in-Err-clause-push : goal.returns-in-Err-clause-push
 returns-in-Err-clause-push g c = λ h fits.
     let f = subst (λ (v : CellState). FitsCell v h) (sym c.self.view_is) fits in
-    let may : ℕ → List Numbered → Type 0 = λ venue items. IsInSequence g.G.Genuine.carries g.G.Genuine.ends venue items in
-    let left : LaneEnd Numbered → CellState = λ e. record { arbiter = c.self.inside.lines; lane = e; pace = c.self.inside.pacer; accepted = c.self.inside.sums } in
-    subst (λ (x : CellState × LaneEnd Numbered). PushesOne may (Err unsent.LaneFull) h x.0 (left x.1)) (λ i. (c.self.view_is i, sym c.in-Err.ensures.1 i))
-    (push_full _ h f may c.in-Some.ready (c.in-Some.ensures.stream h.present.packets f.history.present) c.in-Err.ensures.2)
+    let may : ℕ → List Numbered → Type 0 = λ venue items. AreInSequence g.G.Genuine venue items in
+    let left : LaneEnd Numbered → CellState = λ e. record {
+      arbiter = c.self.inside.lines;
+      lane = e;
+      pace = c.self.inside.pacer;
+      accepted = c.self.inside.sums;
+    } in
+    subst (λ (x : CellState × LaneEnd Numbered). PushesOne may (Err unsent.LaneFull) h x.0 (left x.1))
+    (λ i. (c.self.view_is i, sym c.in-Err.ensures.1 i))
+    (push_full _ h f may c.in-Some.ready (c.in-Some.ensures.stream h.present.packets f.history.present)
+    c.in-Err.ensures.2)

@@ -1,12 +1,11 @@
 use Rattle.std.proofs.Common.{ℕ, Ok, Err, refl, sym, ap, subst, ◌∙◌}
 use Rattle.feed_types.specs.declared.line.LineId.{LineId}
-use Rattle.line_arbiter.specs.Genuine.{IsGenuine}
+use Rattle.live_feed.specs.Premises.{BringExactly, IsGenuinePacket}
 use Rattle.live_feed.specs.venue.Sums.{line_sums_after}
 use Rattle.live_feed.specs.venue.Cells.{CellState, FitsCell}
-use Rattle.live_feed.specs.venue.Sections.{TakesPacket, IsAnsweredBy}
-use Rattle.feed_types.specs.Sessions.{Names}
+use Rattle.live_feed.specs.venue.Sections.{TakesPacket}
 use Rattle.live_feed.proofs.CellAnswers.{accepts}
-use Rattle.live_feed.proofs.CellMoves.{answered, no_more, packet_fits, packet_kept, takes}
+use Rattle.live_feed.proofs.CellMoves.{no_more, packet_fits, packet_kept, takes}
 use Rattle.live_feed.proofs.venue.cell.VenueCell.take.Goals as goal
 
 pub invariant_of-self : goal.invariant_of-self
@@ -15,10 +14,12 @@ invariant_of-self g c =
     let e = c.in-Ok.ensures in
     let packets = k.history.present.packets in
     let venue = c.requires.venue ∙ ap (λ (v : CellState). v.arbiter.venue) (sym c.self.view_is) in
-    let genuine = subst (λ (n : ℕ). IsGenuine g.G.Genuine.sessions g.G.Genuine.carries g.G.Genuine.ends n c.args.packet.now) venue c.requires.genuine in
-    let sums = c.add.ensures ∙ ap (λ (l : LineId). line_sums_after l c.args.packet.now (Ok c.in-Ok.outcome) c.self.inside.sums) (c.line-in-Ok.ensures ∙ sym c.line.ensures) in
-    packet_kept g.G.Genuine.sessions g.G.Genuine.carries g.G.Genuine.ends g.N.FeedName.lanes _ _ c.line.result c.args.packet.now (Ok c.in-Ok.outcome) k refl e.kept
-    (packet_fits _ _ k.history c.line.result c.args.packet.now (Ok c.in-Ok.outcome) k.fits refl e.kept (e.fits packets k.fits.history.present) (e.grows packets k.fits.history.present) sums)
+    let genuine = subst (λ (n : ℕ). IsGenuinePacket g.G.Genuine n c.args.packet.now) venue c.requires.genuine in
+    let sums = c.add.ensures ∙ ap (λ (l : LineId). line_sums_after l c.args.packet.now (Ok c.in-Ok.outcome)
+    c.self.inside.sums) (c.line-in-Ok.ensures ∙ sym c.line.ensures) in
+    packet_kept g.G.Genuine g.N.FeedName.lanes _ _ c.line.result c.args.packet.now (Ok c.in-Ok.outcome) k refl e.kept
+    (packet_fits _ _ k.history c.line.result c.args.packet.now (Ok c.in-Ok.outcome) k.fits refl e.kept
+    (e.fits packets k.fits.history.present) (e.grows packets k.fits.history.present) sums)
     c.number-number.ensures.content (e.outcome packets k.fits.history.present) genuine
 
 pub returns-in-Ok-clause-packet : goal.returns-in-Ok-clause-packet
@@ -26,55 +27,49 @@ returns-in-Ok-clause-packet g c = λ h fits.
     let f = subst (λ (v : CellState). FitsCell v h) (sym c.self.view_is) fits in
     let e = c.in-Ok.ensures in
     let packets = h.present.packets in
-    let sums = c.add.ensures ∙ ap (λ (l : LineId). line_sums_after l c.args.packet.now (Ok c.in-Ok.outcome) c.self.inside.sums) (c.line-in-Ok.ensures ∙ sym c.line.ensures) in
-    let new : CellState = record { arbiter = c.take.new.self; lane = c.self.inside.items; pace = c.self.inside.pacer; accepted = c.add.new.self } in
-    subst (λ (x : LineId × CellState). TakesPacket x.0 c.args.packet.now (Ok c.in-Ok.outcome) h x.1 new) (λ i. (c.line.ensures i, c.self.view_is i))
-    (takes _ new h c.line.result c.args.packet.now (Ok c.in-Ok.outcome) f refl e.kept (e.fits packets f.history.present) (e.grows packets f.history.present) sums (e.outcome packets f.history.present))
+    let sums = c.add.ensures ∙ ap (λ (l : LineId). line_sums_after l c.args.packet.now (Ok c.in-Ok.outcome)
+    c.self.inside.sums) (c.line-in-Ok.ensures ∙ sym c.line.ensures) in
+    let new : CellState = record {
+      arbiter = c.take.new.self;
+      lane = c.self.inside.items;
+      pace = c.self.inside.pacer;
+      accepted = c.add.new.self;
+    } in
+    subst (λ (x : LineId × CellState). TakesPacket x.0 c.args.packet.now (Ok c.in-Ok.outcome) h x.1 new)
+    (λ i. (c.line.ensures i, c.self.view_is i))
+    (takes _ new h c.line.result c.args.packet.now (Ok c.in-Ok.outcome) f refl e.kept (e.fits packets f.history.present)
+    (e.grows packets f.history.present) sums (e.outcome packets f.history.present))
 
 pub returns-in-Err-clause-packet : goal.returns-in-Err-clause-packet
 returns-in-Err-clause-packet g c = λ h fits.
     let f = subst (λ (v : CellState). FitsCell v h) (sym c.self.view_is) fits in
     let e = c.in-Err.ensures in
     let packets = h.present.packets in
-    let new : CellState = record { arbiter = c.take.new.self; lane = c.self.inside.items; pace = c.self.inside.pacer; accepted = c.self.inside.sums } in
-    subst (λ (x : LineId × CellState). TakesPacket x.0 c.args.packet.now (Err c.in-Err.fault) h x.1 new) (λ i. (c.line.ensures i, c.self.view_is i))
-    (takes _ new h c.line.result c.args.packet.now (Err c.in-Err.fault) f refl e.kept (e.fits packets f.history.present) (e.grows packets f.history.present)
-    (sym (no_more c.line.result c.self.inside.sums c.args.packet.now c.in-Err.fault)) (e.outcome packets f.history.present))
+    let new : CellState = record {
+      arbiter = c.take.new.self;
+      lane = c.self.inside.items;
+      pace = c.self.inside.pacer;
+      accepted = c.self.inside.sums;
+    } in
+    subst (λ (x : LineId × CellState). TakesPacket x.0 c.args.packet.now (Err c.in-Err.fault) h x.1 new)
+    (λ i. (c.line.ensures i, c.self.view_is i))
+    (takes _ new h c.line.result c.args.packet.now (Err c.in-Err.fault) f refl e.kept (e.fits packets f.history.present)
+    (e.grows packets f.history.present)
+    (sym (no_more c.line.result c.self.inside.sums c.args.packet.now c.in-Err.fault))
+    (e.outcome packets f.history.present))
 
 pub returns-in-Ok-clause-accepts : goal.returns-in-Ok-clause-accepts
 returns-in-Ok-clause-accepts g c = λ all ordinal session names.
     let k = c.self.invariant in
     let venue = c.requires.venue ∙ ap (λ (v : CellState). v.arbiter.venue) (sym c.self.view_is) in
-    accepts g.G.Genuine.sessions g.G.Genuine.carries g.G.Genuine.ends g.N.FeedName.lanes _ k c.args.packet.now (Ok c.in-Ok.outcome) c.number-number.ensures.content (c.in-Ok.ensures.outcome k.history.present.packets k.fits.history.present)
-    all ordinal session (subst (λ (n : ℕ). Names g.G.Genuine.sessions g.G.Genuine.carries g.G.Genuine.ends n all) venue names)
+    accepts g.G.Genuine g.N.FeedName.lanes _ k c.args.packet.now (Ok c.in-Ok.outcome) c.number-number.ensures.content
+    (c.in-Ok.ensures.outcome k.history.present.packets k.fits.history.present)
+    all ordinal session (subst (λ (n : ℕ). BringExactly g.G.Genuine n all) venue names)
 
 pub returns-in-Err-clause-accepts : goal.returns-in-Err-clause-accepts
 returns-in-Err-clause-accepts g c = λ all ordinal session names.
     let k = c.self.invariant in
     let venue = c.requires.venue ∙ ap (λ (v : CellState). v.arbiter.venue) (sym c.self.view_is) in
-    accepts g.G.Genuine.sessions g.G.Genuine.carries g.G.Genuine.ends g.N.FeedName.lanes _ k c.args.packet.now (Err c.in-Err.fault) c.number-number.ensures.content (c.in-Err.ensures.outcome k.history.present.packets k.fits.history.present)
-    all ordinal session (subst (λ (n : ℕ). Names g.G.Genuine.sessions g.G.Genuine.carries g.G.Genuine.ends n all) venue names)
-
-pub returns-in-Ok-clause-answered : goal.returns-in-Ok-clause-answered
-returns-in-Ok-clause-answered g c =
-    let k = c.self.invariant in
-    let e = c.in-Ok.ensures in
-    let packets = k.history.present.packets in
-    let venue = c.requires.venue ∙ ap (λ (v : CellState). v.arbiter.venue) (sym c.self.view_is) in
-    let sums = c.add.ensures ∙ ap (λ (l : LineId). line_sums_after l c.args.packet.now (Ok c.in-Ok.outcome) c.self.inside.sums) (c.line-in-Ok.ensures ∙ sym c.line.ensures) in
-    let new : CellState = record { arbiter = c.take.new.self; lane = c.self.inside.items; pace = c.self.inside.pacer; accepted = c.add.new.self } in
-    subst (λ (l : LineId). IsAnsweredBy g.G.Genuine.sessions g.G.Genuine.carries g.G.Genuine.ends g.N.FeedName.lanes c.args.seat.now.venue l c.args.packet.now (Ok c.in-Ok.outcome)) c.line.ensures
-    (answered _ _ _ _ _ new _ c.line.result c.args.packet.now (Ok c.in-Ok.outcome) k (sym venue)
-    (takes _ new k.history c.line.result c.args.packet.now (Ok c.in-Ok.outcome) k.fits refl e.kept (e.fits packets k.fits.history.present) (e.grows packets k.fits.history.present) sums (e.outcome packets k.fits.history.present)))
-
-pub returns-in-Err-clause-answered : goal.returns-in-Err-clause-answered
-returns-in-Err-clause-answered g c =
-    let k = c.self.invariant in
-    let e = c.in-Err.ensures in
-    let packets = k.history.present.packets in
-    let venue = c.requires.venue ∙ ap (λ (v : CellState). v.arbiter.venue) (sym c.self.view_is) in
-    let new : CellState = record { arbiter = c.take.new.self; lane = c.self.inside.items; pace = c.self.inside.pacer; accepted = c.self.inside.sums } in
-    subst (λ (l : LineId). IsAnsweredBy g.G.Genuine.sessions g.G.Genuine.carries g.G.Genuine.ends g.N.FeedName.lanes c.args.seat.now.venue l c.args.packet.now (Err c.in-Err.fault)) c.line.ensures
-    (answered _ _ _ _ _ new _ c.line.result c.args.packet.now (Err c.in-Err.fault) k (sym venue)
-    (takes _ new k.history c.line.result c.args.packet.now (Err c.in-Err.fault) k.fits refl e.kept (e.fits packets k.fits.history.present) (e.grows packets k.fits.history.present)
-    (sym (no_more c.line.result c.self.inside.sums c.args.packet.now c.in-Err.fault)) (e.outcome packets k.fits.history.present)))
+    accepts g.G.Genuine g.N.FeedName.lanes _ k c.args.packet.now (Err c.in-Err.fault) c.number-number.ensures.content
+    (c.in-Err.ensures.outcome k.history.present.packets k.fits.history.present)
+    all ordinal session (subst (λ (n : ℕ). BringExactly g.G.Genuine n all) venue names)

@@ -1,13 +1,12 @@
 use Rattle.std.proofs.Common.{◌≡◌, ℕ, ◌+◌, ◌++◌, ◌∷◌, [], Ok, sym, ap, subst, ◌∙◌}
 use Rattle.feed_types.specs.declared.line.LineId.{LineId}
-use Rattle.feed_types.specs.Sequence.{IsInSequence}
 use Rattle.feed_types.specs.declared.item.Numbered.{Numbered}
 use Rattle.fifo_lane.specs.Lane.{LaneEnd}
-use Rattle.line_arbiter.specs.Genuine.{IsGenuine}
 use Rattle.line_arbiter.specs.declared.outcome.Outcome.TheVariants.{Taken}
+use Rattle.live_feed.specs.Premises.{AreInSequence, IsGenuinePacket}
 use Rattle.live_feed.specs.venue.Cells.{CellState, FitsCell}
-use Rattle.live_feed.specs.venue.Sections.{IsAnsweredBy, TakesAndPushes}
-use Rattle.live_feed.proofs.CellMoves.{answered, brings_next, first_number, given_after, may_pass, more_kept, pass_fits, pass_takes, passes, sent_one, taken_one}
+use Rattle.live_feed.specs.venue.Sections.{TakesAndPushes}
+use Rattle.live_feed.proofs.CellMoves.{brings_next, first_number, given_after, may_pass, more_kept, pass_fits, passes, sent_one, taken_one}
 use Rattle.live_feed.proofs.venue.cell.VenueCell.take_and_push.Given.{Over}
 use Rattle.live_feed.proofs.venue.cell.VenueCell.take_and_push.Goals as goal
 use Rattle.live_feed.proofs.venue.cell.VenueCell.take_and_push.Goals.{After-count}
@@ -16,22 +15,34 @@ pub push-requires : goal.push-requires
 push-requires g c =
     let k = c.self.invariant in
     let venue = c.requires.venue ∙ ap (λ (v : CellState). v.arbiter.venue) (sym c.self.view_is) in
-    let genuine = subst (λ (n : ℕ). IsGenuine g.G.Genuine.sessions g.G.Genuine.carries g.G.Genuine.ends n c.args.packet.now) venue c.requires.genuine in
+    let genuine = subst (λ (n : ℕ). IsGenuinePacket g.G.Genuine n c.args.packet.now) venue c.requires.genuine in
     let line = c.args.seat.now.line in
-    let brings = brings_next c.self.inside.lines k.history.present.packets c.args.packet.now c.in_ok-order.order c.in-Next.last c.in-Next.is c.in_ok-next.next c.in_ok-next.ensures.item line (c.in_ok-order.ensures.brings k.history.present.packets line k.fits.history.present) in
-    let given = given_after g.G.Genuine.sessions g.G.Genuine.carries g.G.Genuine.ends g.N.FeedName.lanes _ line c.args.packet.now (Ok (Taken 1 0)) k c.in_ok-order.ensures.content brings.answer genuine in
-    subst (λ (t : ℕ). IsInSequence g.G.Genuine.carries g.G.Genuine.ends t (c.self.inside.items.items ++ c.in_ok-next.next ∷ [])) (sym k.tag)
-    (may_pass _ k.history line c.args.packet.now c.in_ok-next.next k.fits brings g.G.Genuine.carries g.G.Genuine.ends c.self.inside.lines.venue c.self.inside.lines.window given)
+    let brings = brings_next c.self.inside.lines k.history.present.packets c.args.packet.now c.in_ok-order.order
+    c.in-Next.last c.in-Next.is c.in_ok-next.next c.in_ok-next.ensures.item line
+    (c.in_ok-order.ensures.brings k.history.present.packets line k.fits.history.present) in
+    let given = given_after g.G.Genuine g.N.FeedName.lanes _ line c.args.packet.now (Ok (Taken 1 0)) k
+    c.in_ok-order.ensures.content brings.answer genuine in
+    subst (λ (t : ℕ). AreInSequence g.G.Genuine t (c.self.inside.items.items ++ c.in_ok-next.next ∷ [])) (sym k.tag)
+    (may_pass _ k.history line c.args.packet.now c.in_ok-next.next k.fits brings g.G.Genuine c.self.inside.lines.venue
+    c.self.inside.lines.window given)
 
 module _ (g : Over) (c : After-count g) where
   abbrev new : CellState
-  new = record { arbiter = c.take_in_order-outcome.new.self; lane = c.push.new.self; pace = c.self.inside.pacer; accepted = c.add.new.self }
+  new = record {
+    arbiter = c.take_in_order-outcome.new.self;
+    lane = c.push.new.self;
+    pace = c.self.inside.pacer;
+    accepted = c.add.new.self;
+  }
 
   answer : c.take_in_order-outcome.result ≡ Taken 1 0
-  answer = taken_one c.self.inside.lines [] c.args.packet.now c.in_ok-order.order c.in-Next.last c.in-Next.is c.in_ok-next.next c.in_ok-next.ensures.item _ c.take_in_order-outcome.ensures.answer
+  answer = taken_one c.self.inside.lines [] c.args.packet.now c.in_ok-order.order c.in-Next.last c.in-Next.is
+      c.in_ok-next.next c.in_ok-next.ensures.item _ c.take_in_order-outcome.ensures.answer
 
   sent : c.take_in_order-outcome.new.self.sent ≡ c.self.inside.lines.sent + 1
-  sent = sent_one c.self.inside.lines [] c.args.packet.now c.in_ok-order.order c.in-Next.last c.in-Next.is c.in_ok-next.next c.in_ok-next.ensures.item _ c.in_ok-order.ensures.in_order.order_is c.take_in_order-outcome.ensures.sent
+  sent = sent_one c.self.inside.lines [] c.args.packet.now c.in_ok-order.order c.in-Next.last c.in-Next.is
+      c.in_ok-next.next c.in_ok-next.ensures.item _ c.in_ok-order.ensures.in_order.order_is
+      c.take_in_order-outcome.ensures.sent
 
 pub invariant_of-self-2 : goal.invariant_of-self-2
 invariant_of-self-2 g c =
@@ -39,11 +50,17 @@ invariant_of-self-2 g c =
     let e = c.take_in_order-outcome.ensures in
     let packets = k.history.present.packets in
     let venue = c.requires.venue ∙ ap (λ (v : CellState). v.arbiter.venue) (sym c.self.view_is) in
-    let genuine = subst (λ (n : ℕ). IsGenuine g.G.Genuine.sessions g.G.Genuine.carries g.G.Genuine.ends n c.args.packet.now) venue c.requires.genuine in
+    let genuine = subst (λ (n : ℕ). IsGenuinePacket g.G.Genuine n c.args.packet.now) venue c.requires.genuine in
     let line = c.line-line.result in
-    let brings = brings_next c.self.inside.lines packets c.args.packet.now c.in_ok-order.order c.in-Next.last c.in-Next.is c.in_ok-next.next c.in_ok-next.ensures.item line (c.in_ok-order.ensures.brings packets line k.fits.history.present) in
-    more_kept g.G.Genuine.sessions g.G.Genuine.carries g.G.Genuine.ends g.N.FeedName.lanes _ (new g c) line c.args.packet.now (Ok (Taken 1 0)) k e.kept (ap (λ (e : LaneEnd Numbered). e.tag) c.in-Ok.ensures) (ap (λ (e : LaneEnd Numbered). e.lane) c.in-Ok.ensures) (ap (λ (e : LaneEnd Numbered). e.capacity) c.in-Ok.ensures)
-    (pass_fits _ k.history line c.args.packet.now c.in_ok-next.next k.fits brings (new g c) c.take_in_order-outcome.result (answer g c) c.in-Ok.ensures (sent g c) e.kept (e.fits packets k.fits.history.present) c.add.ensures)
+    let brings = brings_next c.self.inside.lines packets c.args.packet.now c.in_ok-order.order c.in-Next.last
+    c.in-Next.is c.in_ok-next.next c.in_ok-next.ensures.item line
+    (c.in_ok-order.ensures.brings packets line k.fits.history.present) in
+    more_kept g.G.Genuine g.N.FeedName.lanes _ (new g c) line c.args.packet.now (Ok (Taken 1 0)) k e.kept
+    (ap (λ (e : LaneEnd Numbered). e.tag) c.in-Ok.ensures) (ap (λ (e : LaneEnd Numbered). e.lane) c.in-Ok.ensures)
+    (ap (λ (e : LaneEnd Numbered). e.capacity) c.in-Ok.ensures)
+    (pass_fits _ k.history line c.args.packet.now c.in_ok-next.next k.fits brings
+    (new g c) c.take_in_order-outcome.result (answer g c) c.in-Ok.ensures (sent g c) e.kept
+    (e.fits packets k.fits.history.present) c.add.ensures)
     c.in_ok-order.ensures.content brings.answer genuine
 
 pub returns-clause-packet : goal.returns-clause-packet
@@ -52,18 +69,11 @@ returns-clause-packet g c = λ h fits.
     let e = c.take_in_order-outcome.ensures in
     let packets = h.present.packets in
     let line = c.line-line.result in
-    let brings = brings_next c.self.inside.lines packets c.args.packet.now c.in_ok-order.order c.in-Next.last c.in-Next.is c.in_ok-next.next c.in_ok-next.ensures.item line (c.in_ok-order.ensures.brings packets line f.history.present) in
-    subst (λ (x : LineId × CellState). TakesAndPushes x.0 c.args.packet.now c.take_in_order-outcome.result h x.1 (new g c)) (λ i. (c.line-line.ensures i, c.self.view_is i))
-    (passes _ h line c.args.packet.now c.in_ok-next.next f brings (new g c) c.take_in_order-outcome.result (answer g c) c.in-Ok.ensures (sent g c) e.kept (e.fits packets f.history.present) c.add.ensures (first_number _ _ _ c.in_ok-next.ensures.item))
-
-pub returns-clause-answered : goal.returns-clause-answered
-returns-clause-answered g c =
-    let k = c.self.invariant in
-    let e = c.take_in_order-outcome.ensures in
-    let packets = k.history.present.packets in
-    let venue = c.requires.venue ∙ ap (λ (v : CellState). v.arbiter.venue) (sym c.self.view_is) in
-    let line = c.line-line.result in
-    let brings = brings_next c.self.inside.lines packets c.args.packet.now c.in_ok-order.order c.in-Next.last c.in-Next.is c.in_ok-next.next c.in_ok-next.ensures.item line (c.in_ok-order.ensures.brings packets line k.fits.history.present) in
-    subst (λ (l : LineId). IsAnsweredBy g.G.Genuine.sessions g.G.Genuine.carries g.G.Genuine.ends g.N.FeedName.lanes c.args.seat.now.venue l c.args.packet.now (Ok c.take_in_order-outcome.result)) c.line-line.ensures
-    (answered _ _ _ _ _ (new g c) _ line c.args.packet.now (Ok c.take_in_order-outcome.result) k (sym venue)
-    (pass_takes _ k.history line c.args.packet.now c.in_ok-next.next k.fits brings (new g c) c.take_in_order-outcome.result (answer g c) c.in-Ok.ensures (sent g c) e.kept (e.fits packets k.fits.history.present) c.add.ensures))
+    let brings = brings_next c.self.inside.lines packets c.args.packet.now c.in_ok-order.order c.in-Next.last
+    c.in-Next.is c.in_ok-next.next c.in_ok-next.ensures.item line
+    (c.in_ok-order.ensures.brings packets line f.history.present) in
+    subst (λ (x : LineId × CellState). TakesAndPushes x.0 c.args.packet.now c.take_in_order-outcome.result h x.1
+    (new g c)) (λ i. (c.line-line.ensures i, c.self.view_is i))
+    (passes _ h line c.args.packet.now c.in_ok-next.next f brings (new g c) c.take_in_order-outcome.result
+    (answer g c) c.in-Ok.ensures (sent g c) e.kept (e.fits packets f.history.present) c.add.ensures
+    (first_number _ _ _ c.in_ok-next.ensures.item))

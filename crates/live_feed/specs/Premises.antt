@@ -1,0 +1,21 @@
+-- What the lines may carry is one premise, `Genuine`: the words of the crates below, of all of it.
+use Rattle.std.specs.Prelude.{ℕ, List}
+use Rattle.feed_types.specs.declared.item.Numbered.{Numbered}
+use Rattle.feed_types.specs.declared.genuine.Genuine.{Ghosts as Genuine}
+use Rattle.feed_types.specs.Sequence.{IsInSequence}
+use Rattle.feed_types.specs.Sessions.{Session, Names}
+use Rattle.mold_packet.specs.Content.{Content}
+use Rattle.line_arbiter.specs.Genuine.{IsGenuine}
+
+module _ {S : Type 0} (premise : Genuine S) where
+  -- the packet is genuine at the venue
+  abbrev pub IsGenuinePacket : ℕ → Content → Type 0
+  IsGenuinePacket venue p = IsGenuine premise.sessions premise.carries premise.ends venue p
+
+  -- the items obey the rule of the venue's items
+  abbrev pub AreInSequence : ℕ → List Numbered → Type 0
+  AreInSequence venue items = IsInSequence premise.carries premise.ends venue items
+
+  -- the lines bring exactly these sessions at the venue
+  abbrev pub BringExactly : ℕ → List Session → Type 0
+  BringExactly venue all = Names premise.sessions premise.carries premise.ends venue all
