@@ -1,14 +1,17 @@
 -- The results of the options' values, and of an error of clap.
 use Rattle.std.proofs.Common.{rules, codes, length, ◌≡◌, ◌^◌, ◌<◌, ◌⊎◌, inl, inr, ℕ, ◌∙◌, sym, ap, subst, List, Option, Some, None, Ok, Err, [], true, false, refl, arith}
-use Rattle.std.specs.Prelude.{◌≢◌, is_some, unwrap_or}
+use Rattle.std.specs.Prelude.{◌≢◌, Bool, IfErr, IfOk, Result, is_some, unwrap_or}
 use Rattle.std.specs.Str.Parse.{IsNumeral, digits_value, without_leading_plus}
 use Rattle.clap.specs.Kinds.{IsAmong}
-use Rattle.clap.specs.Walk.{Row, Text, first_of}
+use Rattle.clap.specs.Walk.{Row, Text, first_of, one_of}
 use Rattle.clap.specs.Faults.{fault_of}
 use Rattle.clap.specs.declared.error.kind.ErrorKind.{ErrorKind}
 use Rattle.clap.specs.declared.error.kind.ErrorKind.TheVariants.{DisplayHelp, DisplayVersion, OutOfMemory}
 use Rattle.nbbo_main.specs.CapturedLines.{HasCapturedLinesFault}
-use Rattle.nbbo_main.specs.CommandLine.{Gives, GivesNoListening, GivesNoTask, GivesNone, IsAccepted, IsConverting, IsCount, IsGivenCount, IsListening, IsRefused, IsWindowOf, RefusesBy, lines_refusal_by, list_in, listen_values_of, refusal_by, symbol_words_in, symbols_refusal_by}
+use Rattle.nbbo_main.specs.CommandLine.{Gives, GivesBadFormat, GivesBests, GivesNoListening, GivesNoTask, GivesNone, IsAccepted, IsConverting, IsCount, IsFlag, IsGivenCount, IsListening, IsRefused, IsWindowOf, RefusesBy, lines_refusal_by, list_in, listen_values_of, refusal_by, symbol_words_in, symbols_refusal_by}
+use Rattle.best_lines.specs.declared.format.Format.{Format}
+use Rattle.nbbo_main.specs.BestFormats.{HasFormatFault, NamesFormat}
+use Rattle.nbbo_main.specs.declared.best_format.FormatFault.{FormatFault}
 use Rattle.nbbo_main.specs.Commands.{nbbo_app}
 use Rattle.nbbo_main.specs.Sessions.{sessions_in}
 use Rattle.nbbo_main.specs.declared.addresses.LinesFault.{LinesFault}
@@ -20,7 +23,7 @@ use Rattle.nbbo_main.specs.Symbols.{HasSymbolsFault}
 use Rattle.nbbo_main.specs.declared.symbols.SymbolsFault.{SymbolsFault}
 use Rattle.nbbo_main.specs.declared.symbols.SymbolsFault.TheVariants as symbols
 use Rattle.nbbo_main.specs.declared.refusal.Refusal.{Refusal}
-use Rattle.nbbo_main.specs.declared.refusal.Refusal.TheVariants.{Shown, Usage, NotText, BadSession, TooManySessions, BadLines, BadRequest, BadSymbol, TooManySymbols, DuplicateSymbol, NoMemory}
+use Rattle.nbbo_main.specs.declared.refusal.Refusal.TheVariants.{Shown, Usage, NotText, BadSession, TooManySessions, BadLines, BadRequest, BadFormat, BadSymbol, TooManySymbols, DuplicateSymbol, NoMemory}
 
 not_some : {A : Type 0} (x : A) → Some x ≡ None → ⊥
 not_some x e = let bad : true ≡ false = ap is_some e in absurd (cc)
@@ -73,6 +76,15 @@ GivesNone-symbols rows words sessions symbols.TooManySymbols e right told = (ses
 GivesNone-symbols rows words sessions symbols.DuplicateSymbol e right told = (sessions, right, subst (λ (ws : List Text). HasSymbolsFault ws symbols.DuplicateSymbol) e told)
 GivesNone-symbols rows words sessions symbols.NoMemory e right told = tt
 
+-- the format that the options give, and that they give none
+pub gives_bests : (rows : List Row) (flag : Bool) (text : Option Text) (r : Result (Option Format) FormatFault) → IsFlag (one_of (codes "best-only") rows) flag → text ≡ first_of (codes "format") rows → IfOk r (NamesFormat flag text) → IfOk r (GivesBests rows)
+gives_bests rows flag text (Ok bests) given e told = record { best_only = flag; flag = given; format = subst (λ (t : Option Text). NamesFormat flag t bests) e told }
+gives_bests rows flag text (Err fault) given e told = tt
+
+pub gives_bad_format : (rows : List Row) (flag : Bool) (text : Option Text) (r : Result (Option Format) FormatFault) → IsFlag (one_of (codes "best-only") rows) flag → text ≡ first_of (codes "format") rows → IfErr r (λ _. HasFormatFault flag text) → IfErr r (λ _. GivesBadFormat rows)
+gives_bad_format rows flag text (Ok bests) given e told = tt
+gives_bad_format rows flag text (Err fault) given e told = record { best_only = flag; flag = given; fault = subst (λ (t : Option Text). HasFormatFault flag t) e told }
+
 -- a fault of the list is the refusal
 pub GivesNone-fault : (rows : List Row) (list : Text) (fault : SessionsFault) → list ≡ list_in rows → (fault ≢ sessions.NoMemory → sessions_in list ≡ Err fault) → GivesNone rows (refusal_by fault)
 GivesNone-fault rows list sessions.BadSession e told = ap sessions_in (sym e) ∙ told (search rules)
@@ -106,6 +118,7 @@ IsRefused-listening words BadSession taken listens none = listens_for_none words
 IsRefused-listening words TooManySessions taken listens none = listens_for_none words TooManySessions taken listens none
 IsRefused-listening words BadLines taken listens none = listens_for_none words BadLines taken listens none
 IsRefused-listening words BadRequest taken listens none = listens_for_none words BadRequest taken listens none
+IsRefused-listening words BadFormat taken listens none = absurd none
 IsRefused-listening words BadSymbol taken listens none = listens_for_none words BadSymbol taken listens none
 IsRefused-listening words TooManySymbols taken listens none = listens_for_none words TooManySymbols taken listens none
 IsRefused-listening words DuplicateSymbol taken listens none = listens_for_none words DuplicateSymbol taken listens none
@@ -125,6 +138,7 @@ IsRefused-by words kind BadSession is among = absurd is
 IsRefused-by words kind TooManySessions is among = absurd is
 IsRefused-by words kind BadLines is among = absurd is
 IsRefused-by words kind BadRequest is among = absurd is
+IsRefused-by words kind BadFormat is among = absurd is
 IsRefused-by words kind BadSymbol is among = absurd is
 IsRefused-by words kind TooManySymbols is among = absurd is
 IsRefused-by words kind DuplicateSymbol is among = absurd is

@@ -14,6 +14,8 @@ use Rattle.clap.specs.declared.error.kind.ErrorKind.{ErrorKind}
 use Rattle.clap.specs.declared.error.kind.ErrorKind.TheVariants.{DisplayHelp, DisplayVersion, OutOfMemory}
 use Rattle.nbbo_main.specs.Addresses.{HasLinesFault, NameLines, NamesRequest, NamesNoRequest}
 use Rattle.nbbo_main.specs.CapturedLines.{HasAllLinesFault, HasCapturedLinesFault, NameAllLines, NameCapturedLines}
+use Rattle.best_lines.specs.declared.format.Format.{Format}
+use Rattle.nbbo_main.specs.BestFormats.{HasFormatFault, NamesFormat}
 use Rattle.nbbo_main.specs.Commands.{nbbo_app}
 use Rattle.nbbo_main.specs.Sessions.{sessions_in}
 use Rattle.nbbo_main.specs.declared.addresses.LinesFault.{LinesFault}
@@ -29,7 +31,7 @@ use Rattle.nbbo_main.specs.declared.replay_settings.ReplaySettings.{ReplaySettin
 use Rattle.nbbo_main.specs.declared.task.Task.{Task}
 use Rattle.nbbo_main.specs.declared.task.Task.TheVariants.{Replay, ReplayLines, Convert, Listen}
 use Rattle.nbbo_main.specs.declared.refusal.Refusal.{Refusal}
-use Rattle.nbbo_main.specs.declared.refusal.Refusal.TheVariants.{Shown, Usage, NotText, BadSession, TooManySessions, BadLines, BadRequest, BadSymbol, TooManySymbols, DuplicateSymbol, NoMemory}
+use Rattle.nbbo_main.specs.declared.refusal.Refusal.TheVariants.{Shown, Usage, NotText, BadSession, TooManySessions, BadLines, BadRequest, BadFormat, BadSymbol, TooManySymbols, DuplicateSymbol, NoMemory}
 use Rattle.std.specs.declared.net.socket_addr.SocketAddr.{SocketAddr}
 use Rattle.line_captures.specs.declared.captured_line.CapturedLine.{CapturedLine}
 
@@ -90,6 +92,18 @@ pub record IsFlag (text : Option Text) (flag : Bool) : Type 0 where
   pub absent : text ≡ Some (codes "false") → flag ≡ false
   pub unknown : text ≡ None → flag ≡ false
 
+-- The values of the options of replay ask for the best lines alone in this format, or for all lines.
+pub record GivesBests (rows : List Row) (bests : Option Format) : Type 0 where
+  pub best_only : Bool
+  pub flag : IsFlag (one_of (codes "best-only") rows) best_only
+  pub format : NamesFormat best_only (first_of (codes "format") rows) bests
+
+-- They name a format that there isn't, or one where all lines are asked for.
+pub record GivesBadFormat (rows : List Row) : Type 0 where
+  pub best_only : Bool
+  pub flag : IsFlag (one_of (codes "best-only") rows) best_only
+  pub fault : HasFormatFault best_only (first_of (codes "format") rows)
+
 -- The values of the options of replay give these settings.
 pub record Gives (rows : List Row) (settings : ReplaySettings) : Type 0 where
   pub sessions : sessions_in (list_in rows) ≡ Ok settings.sessions.items
@@ -97,6 +111,7 @@ pub record Gives (rows : List Row) (settings : ReplaySettings) : Type 0 where
   pub window : IsWindowOf (one_of (codes "window") rows) settings.window
   pub journal : IsCount (one_of (codes "journal") rows) settings.journal
   pub gaps : IsFlag (one_of (codes "gaps") rows) settings.gaps
+  pub bests : GivesBests rows settings.bests
 
 -- The values of the options of replay give these settings for a packet capture.
 pub record GivesLineReplay (rows : List Row) (settings : LineReplaySettings) : Type 0 where
@@ -134,6 +149,14 @@ GivesNoSymbols rows fault =
     (sessions : List Text) × (sessions_in (list_in rows) ≡ Ok sessions)
     × HasSymbolsFault (symbol_words_in rows) fault
 
+-- The format is wrong, where the list of sessions and the symbols are right.
+pub record ReplaysInNoFormat (rows : List Row) : Type 0 where
+  pub sessions : List Text
+  pub listed : sessions_in (list_in rows) ≡ Ok sessions
+  pub symbols : List Text
+  pub named : NameSymbols (symbol_words_in rows) symbols
+  pub fault : GivesBadFormat rows
+
 -- The settings are right, and the list of lines is wrong: that is looked at last.
 pub record GivesNoCapturedLines (rows : List Row) : Type 0 where
   pub settings : ReplaySettings
@@ -142,14 +165,15 @@ pub record GivesNoCapturedLines (rows : List Row) : Type 0 where
   pub listed : first_of (codes "lines") rows ≡ Some list
   pub fault : HasCapturedLinesFault list (length settings.sessions.items) lines.BadLines
 
--- The values of the options of replay give no settings, since the list of sessions, the symbols or the
--- list of lines are wrong, or memory was refused.
+-- The values of the options of replay give no settings, since the list of sessions, the symbols, the
+-- format or the list of lines are wrong, which are looked at in that order, or memory was refused.
 abbrev pub GivesNone : List Row → Refusal → Type 0
 GivesNone rows BadSession = sessions_in (list_in rows) ≡ Err sessions.BadSession
 GivesNone rows TooManySessions = sessions_in (list_in rows) ≡ Err sessions.TooManySessions
 GivesNone rows BadSymbol = GivesNoSymbols rows symbols.BadSymbol
 GivesNone rows TooManySymbols = GivesNoSymbols rows symbols.TooManySymbols
 GivesNone rows DuplicateSymbol = GivesNoSymbols rows symbols.DuplicateSymbol
+GivesNone rows BadFormat = ReplaysInNoFormat rows
 GivesNone rows NoMemory = Unit {0}
 GivesNone rows (Shown text) = ⊥
 GivesNone rows (Usage text) = ⊥
@@ -170,6 +194,7 @@ GivesNoConversion rows (Shown text) = ⊥
 GivesNoConversion rows (Usage text) = ⊥
 GivesNoConversion rows NotText = ⊥
 GivesNoConversion rows BadRequest = ⊥
+GivesNoConversion rows BadFormat = ⊥
 
 -- The list of sessions is right, and this holds of its length.
 abbrev pub GivesVenues : List Row → (ℕ → Type 0) → Type 0
@@ -201,6 +226,7 @@ GivesNoListening rows BadRequest =
 GivesNoListening rows BadSymbol = ListensForNoSymbols rows symbols.BadSymbol
 GivesNoListening rows TooManySymbols = ListensForNoSymbols rows symbols.TooManySymbols
 GivesNoListening rows DuplicateSymbol = ListensForNoSymbols rows symbols.DuplicateSymbol
+GivesNoListening rows BadFormat = ⊥
 GivesNoListening rows NoMemory = Unit {0}
 GivesNoListening rows (Shown text) = ⊥
 GivesNoListening rows (Usage text) = ⊥
@@ -235,6 +261,7 @@ RefusesBy kind BadSession = ⊥
 RefusesBy kind TooManySessions = ⊥
 RefusesBy kind BadLines = ⊥
 RefusesBy kind BadRequest = ⊥
+RefusesBy kind BadFormat = ⊥
 RefusesBy kind BadSymbol = ⊥
 RefusesBy kind TooManySymbols = ⊥
 RefusesBy kind DuplicateSymbol = ⊥
@@ -312,6 +339,7 @@ IsRefused words BadSession = GivesNoTask words BadSession
 IsRefused words TooManySessions = GivesNoTask words TooManySessions
 IsRefused words BadLines = GivesNoTask words BadLines
 IsRefused words BadRequest = GivesNoTask words BadRequest
+IsRefused words BadFormat = GivesNoTask words BadFormat
 IsRefused words BadSymbol = GivesNoTask words BadSymbol
 IsRefused words TooManySymbols = GivesNoTask words TooManySymbols
 IsRefused words DuplicateSymbol = GivesNoTask words DuplicateSymbol
@@ -328,6 +356,7 @@ refusal_status BadSession = 2
 refusal_status TooManySessions = 2
 refusal_status BadLines = 2
 refusal_status BadRequest = 2
+refusal_status BadFormat = 2
 refusal_status BadSymbol = 2
 refusal_status TooManySymbols = 2
 refusal_status DuplicateSymbol = 2
@@ -342,6 +371,7 @@ refusal_text BadSession = codes "nbbo: bad session\n"
 refusal_text TooManySessions = codes "nbbo: too many sessions\n"
 refusal_text BadLines = codes "nbbo: bad lines\n"
 refusal_text BadRequest = codes "nbbo: bad request address\n"
+refusal_text BadFormat = codes "nbbo: bad format\n"
 refusal_text BadSymbol = codes "nbbo: bad symbol\n"
 refusal_text TooManySymbols = codes "nbbo: too many symbols\n"
 refusal_text DuplicateSymbol = codes "nbbo: duplicate symbol\n"

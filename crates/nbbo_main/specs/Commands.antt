@@ -75,6 +75,20 @@ buffer_rule = record (new_rule (codes "buffer")) {
 abbrev pub gaps_rule : Rule
 gaps_rule = record (new_rule (codes "gaps")) { long = Some (codes "gaps"); action = Some SetTrue }
 
+-- --best-only
+abbrev pub best_only_rule : Rule
+best_only_rule = record (new_rule (codes "best-only")) {
+  long = Some (codes "best-only");
+  action = Some SetTrue;
+}
+
+-- --format FORMAT
+abbrev pub format_rule : Rule
+format_rule = record (new_rule (codes "format")) {
+  long = Some (codes "format");
+  value_names = 1;
+}
+
 -- SYMBOL.., any number of words that belong to no option
 abbrev pub symbols_rule : Rule
 symbols_rule = record (new_rule (codes "symbols")) {
@@ -88,9 +102,13 @@ options_app =
     with_rule (with_rule (with_rule (new_app (codes "replay")) sessions_rule) window_rule)
     journal_rule
 
+-- and with those that say what is read, and which lines are printed
+abbrev pub choices_app : App
+choices_app =
+    with_rule (with_rule (with_rule options_app captured_lines_rule) gaps_rule) best_only_rule
+
 abbrev pub replay_app : App
-replay_app =
-    with_rule (with_rule (with_rule options_app captured_lines_rule) gaps_rule) symbols_rule
+replay_app = with_rule (with_rule choices_app format_rule) symbols_rule
 
 -- listen with its options that say where
 abbrev pub lines_app : App

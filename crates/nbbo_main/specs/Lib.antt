@@ -1,4 +1,5 @@
 pub mod Addresses
+pub mod BestFormats
 pub mod CapturedLines
 pub mod CommandLine
 pub mod Commands

@@ -1,10 +1,14 @@
 -- Runs of the program over packet captures, and the result of any run.
-use Rattle.std.specs.Prelude.{◌≡◌, ◌⊎◌, ℕ, zero, suc, List, [], ◌∷◌, ◌++◌, Bool, codes, decimal, Result, Ok, Err}
+use Rattle.std.specs.Prelude.{◌≡◌, ◌⊎◌, ℕ, zero, suc, List, [], ◌∷◌, ◌++◌, Bool, codes, decimal, Option, Some, None, Result, Ok, Err}
 use Rattle.clap.specs.Walk.{Text}
 use Rattle.packet_capture.specs.declared.fault.CaptureFault.{CaptureFault}
 use Rattle.packet_capture.specs.declared.fault.CaptureFault.TheVariants.{NotCapture, UnknownVersion, TooLong, BadByteOrder, BadBlockLength, LengthsDiffer, ShortBlock, UnknownInterface, FramePastBlock, OptionPastBlock, TooManyInterfaces}
 use Rattle.feed_text.specs.declared.replay.ReplayConfig.{ReplayConfig}
+use Rattle.feed_text.specs.declared.fault.ReplayFault.TheVariants as replay
 use Rattle.feed_text.specs.Devices.{Reading, Writing}
+use Rattle.best_lines.specs.Writers.{IsNewOver, below}
+use Rattle.best_lines.specs.declared.bests_out.BestsOut.{BestsOut}
+use Rattle.best_lines.specs.declared.format.Format.{Format}
 use Rattle.line_captures.specs.declared.captured_line.CapturedLine.{CapturedLine}
 use Rattle.line_captures.specs.declared.fault.InputFault.{InputFault}
 use Rattle.line_captures.specs.declared.fault.InputFault.TheVariants.{BadCapture, ShortCapture}
@@ -17,9 +21,8 @@ use Rattle.replay_run.specs.LineReplays.{ReplaysLines}
 use Rattle.nbbo_main.specs.CommandLine.{AsksConversion, AsksLineReplay}
 use Rattle.nbbo_main.specs.Ending.{fault_text}
 use Rattle.nbbo_main.specs.Listening.{SaysEach}
-use Rattle.nbbo_main.specs.Runs.{IsConfigOf, LeavesToListen, Runs, Says, hint_text}
+use Rattle.nbbo_main.specs.Runs.{ClosesBests, IsConfigOf, LeavesToListen, Runs, Says, bests_writing, hint_text}
 use Rattle.nbbo_main.specs.declared.line_replay_settings.LineReplaySettings.{LineReplaySettings}
-use Rattle.nbbo_main.specs.declared.listen_settings.ListenSettings.{ListenSettings}
 use Rattle.nbbo_main.specs.declared.run.Next.{Next}
 use Rattle.nbbo_main.specs.declared.run.Next.TheVariants.{Ended, Listens}
 
@@ -111,6 +114,58 @@ pub record RunsLineReplay {R W E : Type 0}
   pub hint : Says telling (hint_text at_terminal) silent hinted
   pub tells : TellsCapture telling report hinted told status
 
+-- A packet capture was replayed onto a writer of best lines over output, and what that had pending at
+-- the end was written. The report is that of the replay, but for its outcome.
+pub record PassesLineBests {R W : Type 0} (reading : Reading R) (writing : Writing W)
+    (config : ReplayConfig) (lines : List CapturedLine) (format : Format)
+    (from : R) (report : CaptureReport R) (before after : W) : Type 0 where
+  pub start : BestsOut W
+  pub new : IsNewOver before format start
+  pub seen : CaptureReport R
+  pub mid : BestsOut W
+  pub replays : ReplaysLines reading (bests_writing writing) config lines from seen start mid
+  pub end : BestsOut W
+  pub closes : ClosesBests writing (Run replay.WriteFailed) mid end seen.outcome report.outcome
+  pub same : report ≡ record seen { outcome = report.outcome }
+  pub output : after ≡ below end
+
+-- Memory was refused before anything was read or written.
+pub record PassesNoLine {R W : Type 0} (from : R) (report : CaptureReport R) (before after : W)
+    : Type 0 where
+  pub refused : report.outcome ≡ Err (Run replay.NoMemory)
+  pub unread : report.input ≡ from
+  pub unwritten : after ≡ before
+
+-- A packet capture was replayed, and its best lines alone are on output.
+pub record RunsLineBests {R W E : Type 0}
+    (reading : Reading R) (writing : Writing W) (telling : Writing E)
+    (settings : LineReplaySettings) (format : Format) (at_terminal : Bool)
+    (from to : R) (before after : W) (silent told : E) (status : ℕ) : Type 0 where
+  pub config : ReplayConfig
+  pub is : IsConfigOf settings.replay config
+  pub report : CaptureReport R
+  pub passes : PassesLineBests reading writing config settings.lines.items format
+      from report before after
+      ⊎ PassesNoLine from report before after
+  pub left : to ≡ report.input
+  pub hinted : E
+  pub hint : Says telling (hint_text at_terminal) silent hinted
+  pub tells : TellsCapture telling report hinted told status
+
+-- a replay of a packet capture that prints the best lines alone, or all lines
+abbrev pub RunsLinesBy : {R W E : Type 0}
+    (reading : Reading R) (writing : Writing W) (telling : Writing E)
+    (bests : Option Format) (settings : LineReplaySettings) (at_terminal : Bool)
+    (from to : R) (before after : W) (silent told : E) (status : ℕ) → Type 0
+RunsLinesBy reading writing telling None settings at_terminal from to before after
+    silent told status =
+    RunsLineReplay reading writing telling settings at_terminal
+    from to before after silent told status
+RunsLinesBy reading writing telling (Some format) settings at_terminal from to before after
+    silent told status =
+    RunsLineBests reading writing telling settings format at_terminal
+    from to before after silent told status
+
 -- A packet capture was converted onto output: what was written is the bytes of the records of its lines'
 -- datagrams. Standard error has the hint, and then the report.
 pub record RunsConversion {R W E : Type 0}
@@ -131,7 +186,7 @@ pub record ReplayedLines {R W E : Type 0}
     (from to : R) (before after : W) (silent told : E) (status : ℕ) : Type 0 where
   pub settings : LineReplaySettings
   pub asked : AsksLineReplay words settings
-  pub runs : RunsLineReplay reading writing telling settings at_terminal
+  pub runs : RunsLinesBy reading writing telling settings.replay.bests settings at_terminal
       from to before after silent told status
 
 -- The words ask to convert a packet capture, and it was converted.

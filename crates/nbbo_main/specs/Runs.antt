@@ -3,13 +3,16 @@
 --
 -- Standard input, output and error are seen by the members of the traits CaptureIn and TextOut
 -- (Reading, Writing).
-use Rattle.std.specs.Prelude.{◌≡◌, ◌≢◌, ◌⊎◌, ℕ, ◌+◌, List, [], Bool, codes, if◌then◌else◌, Result, Err}
+use Rattle.std.specs.Prelude.{◌≡◌, ◌≢◌, ◌⊎◌, ℕ, ◌+◌, List, [], Bool, codes, if◌then◌else◌, Option, Some, None, Result, Err}
 use Rattle.clap.specs.Walk.{Text}
 use Rattle.feed_text.specs.declared.fault.ReplayFault.{ReplayFault}
-use Rattle.feed_text.specs.declared.fault.ReplayFault.TheVariants.{WriteFailed}
+use Rattle.feed_text.specs.declared.fault.ReplayFault.TheVariants.{NoMemory, WriteFailed}
 use Rattle.feed_text.specs.declared.replay.ReplayConfig.{ReplayConfig}
 use Rattle.feed_text.specs.Devices.{Reading, Writing, Wrote}
 use Rattle.feed_text.specs.Replays.{Replays, AnswersReplay}
+use Rattle.best_lines.specs.Writers.{AddsBests, IsNewOver, PassedOn, below, pending_of}
+use Rattle.best_lines.specs.declared.bests_out.BestsOut.{BestsOut}
+use Rattle.best_lines.specs.declared.format.Format.{Format}
 use Rattle.replay_run.specs.Printed.{texts_of_run}
 use Rattle.nbbo_main.specs.CommandLine.{Asks, AsksReplay, IsRefused, refusal_status, refusal_text}
 use Rattle.nbbo_main.specs.Ending.{ending_status, ending_text}
@@ -59,6 +62,87 @@ pub record RunsReplay {R W E : Type 0}
   pub line : Says telling (ending_text outcome) hinted told
   pub ends : status ≡ ending_status outcome
 
+-- ---- the best lines alone
+
+-- a writer that passes on best lines, over a writer
+abbrev pub bests_writing : {W : Type 0} → Writing W → Writing (BestsOut W)
+bests_writing writing = record {
+  adds = AddsBests writing.adds;
+  failures = λ bests. writing.failures (below bests);
+}
+
+-- All that was pending is written. So if the writer of best lines was new over some writer, that one
+-- took the format's header and the rows of the best lines of the text since then, and nothing else.
+pub record WritesPending {W : Type 0} (writing : Writing W) (from to : BestsOut W) : Type 0 where
+  pub taken : writing.adds (below from) (pending_of from) (below to)
+  pub passed : (format : Format) (before : W) (start : BestsOut W) (text : List ℕ)
+      → IsNewOver before format start → AddsBests writing.adds start text from
+      → PassedOn writing.adds format text before (below to)
+
+-- The end of a writer of best lines after a replay with the outcome `seen`: where the writer below
+-- failed that is the outcome; else what was pending is written, or the writer below fails then.
+abbrev pub ClosesBests : {W F : Type 0} (writing : Writing W) (failed : F) (from to : BestsOut W)
+    (seen outcome : Result (Unit {0}) F) → Type 0
+ClosesBests writing failed from to seen outcome =
+    ((seen ≡ Err failed) × (outcome ≡ Err failed) × (to ≡ from))
+    ⊎ ((seen ≢ Err failed) × (outcome ≡ seen) × WritesPending writing from to)
+    ⊎ ((outcome ≡ Err failed)
+    × Wrote writing.adds (below from) (pending_of from) (below to)
+    × (writing.failures (below to) ≡ writing.failures (below from) + 1))
+
+-- Input was replayed onto a writer of best lines over output, and what that had pending at the end
+-- was written.
+pub record PassesBests {R W : Type 0} (reading : Reading R) (writing : Writing W)
+    (config : ReplayConfig) (format : Format) (from to : R) (before after : W)
+    (outcome : Result (Unit {0}) ReplayFault) : Type 0 where
+  pub start : BestsOut W
+  pub new : IsNewOver before format start
+  pub seen : Result (Unit {0}) ReplayFault
+  pub mid : BestsOut W
+  pub replays : Replays reading (bests_writing writing) config from to start mid seen
+  pub run : AnswersReplay reading (bests_writing writing) config (texts_of_run config)
+      from to start mid seen
+  pub end : BestsOut W
+  pub closes : ClosesBests writing WriteFailed mid end seen outcome
+  pub output : after ≡ below end
+
+-- memory was refused before anything was read or written
+pub record PassesNothing {R W : Type 0} (from to : R) (before after : W)
+    (outcome : Result (Unit {0}) ReplayFault) : Type 0 where
+  pub refused : outcome ≡ Err NoMemory
+  pub unread : to ≡ from
+  pub unwritten : after ≡ before
+
+-- Input was replayed, and its best lines alone are on output. Standard error and the status are those
+-- of the outcome, as where all lines are printed.
+pub record RunsBests {R W E : Type 0}
+    (reading : Reading R) (writing : Writing W) (telling : Writing E)
+    (settings : ReplaySettings) (format : Format) (at_terminal : Bool)
+    (from to : R) (before after : W) (silent told : E) (status : ℕ) : Type 0 where
+  pub config : ReplayConfig
+  pub is : IsConfigOf settings config
+  pub outcome : Result (Unit {0}) ReplayFault
+  pub passes : PassesBests reading writing config format from to before after outcome
+      ⊎ PassesNothing from to before after outcome
+  pub hinted : E
+  pub hint : Says telling (hint_text at_terminal) silent hinted
+  pub line : Says telling (ending_text outcome) hinted told
+  pub ends : status ≡ ending_status outcome
+
+-- a replay that prints the best lines alone, or all lines
+abbrev pub RunsBy : {R W E : Type 0}
+    (reading : Reading R) (writing : Writing W) (telling : Writing E)
+    (bests : Option Format) (settings : ReplaySettings) (at_terminal : Bool)
+    (from to : R) (before after : W) (silent told : E) (status : ℕ) → Type 0
+RunsBy reading writing telling None settings at_terminal from to before after silent told status =
+    RunsReplay reading writing telling settings at_terminal from to before after silent told status
+RunsBy reading writing telling (Some format) settings at_terminal from to before after
+    silent told status =
+    RunsBests reading writing telling settings format at_terminal
+    from to before after silent told status
+
+-- ---- refusals, and the whole
+
 -- A text that was asked for is on output, and nothing on standard error, with status 0. Where it
 -- couldn't be written whole, that is the run's fault.
 abbrev pub Shows : {W E : Type 0} (writing : Writing W) (telling : Writing E) (text : List ℕ)
@@ -91,7 +175,7 @@ pub record Replayed {R W E : Type 0}
     (from to : R) (before after : W) (silent told : E) (status : ℕ) : Type 0 where
   pub settings : ReplaySettings
   pub asked : AsksReplay words settings
-  pub runs : RunsReplay reading writing telling settings at_terminal
+  pub runs : RunsBy reading writing telling settings.bests settings at_terminal
       from to before after silent told status
 
 -- The words are refused, and nothing was read.

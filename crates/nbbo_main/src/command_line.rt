@@ -5,11 +5,12 @@ ghost use Rattle.clap.specs.Simple.{subcommand_of, subcommand_rows_of};
 ghost use Rattle.clap.specs.Values.{kind_of};
 ghost use Rattle.clap.specs.Walk.{first_of, one_of, rows_of};
 ghost use Rattle.nbbo_main.specs.Addresses.{HasLinesFault, NameLines, NamesNoRequest, NamesRequest};
-ghost use Rattle.nbbo_main.specs.CommandLine.{Asks, Gives, GivesListening, GivesNoListening, GivesNone, IsCount, IsFlag, IsGivenCount, IsRefused, IsAccepted, IsWindowOf, RefusesBy, lines_in, symbol_words_in};
+ghost use Rattle.nbbo_main.specs.CommandLine.{Asks, Gives, GivesBadFormat, GivesBests, GivesListening, GivesNoListening, GivesNone, IsCount, IsFlag, IsGivenCount, IsRefused, IsAccepted, IsWindowOf, RefusesBy, lines_in, symbol_words_in};
 ghost use Rattle.nbbo_main.specs.Commands.{nbbo_app};
 ghost use Rattle.nbbo_main.specs.Symbols.{HasSymbolsFault, NameSymbols};
 
 use crate::addresses::{LinesFault, RequestFault, read_lines, read_request};
+use crate::best_format::{FormatFault, read_format};
 use crate::commands::nbbo_command;
 use crate::line_tasks::{conversion_of, replay_task};
 use crate::listen_settings::ListenSettings;
@@ -18,6 +19,7 @@ use crate::replay_settings::ReplaySettings;
 use crate::sessions::read_sessions;
 use crate::symbols::{SymbolsFault, read_symbols};
 use crate::task::Task;
+use best_lines::Format;
 use clap::error::ErrorKind;
 use clap::{ArgMatches, Error};
 use feed_types::SymbolName;
@@ -127,6 +129,14 @@ fn flag_of(options: &ArgMatches<'_>, name: &str) -> bool
     options.get_flag(name)
 }
 
+/// The format in which the best lines alone are printed, or `None` where all lines are.
+fn bests_of(replay: &ArgMatches<'_>) -> Result<Option<Format>, FormatFault>
+    ensures ok { IfOk result (GivesBests (rows_of (found_of replay.now))) }
+    ensures err { IfErr result (λ _. GivesBadFormat (rows_of (found_of replay.now))) }
+{
+    read_format(flag_of(replay, "best-only"), replay.get_str("format"))
+}
+
 /// The lines that the option gives, two for each of `venues` venues.
 fn lines_of(
     alloc: Global,
@@ -166,6 +176,7 @@ pub fn settings_of(alloc: Global, replay: &ArgMatches<'_>) -> Result<ReplaySetti
         window: window_of(replay),
         journal: count_of(replay, "journal"),
         gaps: flag_of(replay, "gaps"),
+        bests: bests_of(replay)?,
     })
 }
 

@@ -3,14 +3,14 @@ ghost use Rattle.std.specs.Prelude.{◌≡◌, IfOk, false, codes};
 ghost use Rattle.clap.specs.Simple.{app_of, new_app};
 ghost use Rattle.clap.specs.Walk.{rule_of};
 ghost use Rattle.clap.specs.declared.builder.command.Command.TheViews.{out-Command as fields_of};
-ghost use Rattle.nbbo_main.specs.Commands.{buffer_rule, captured_lines_rule, convert_app, counts_app, datagrams_rule, gaps_rule, journal_rule, lines_app, lines_rule, listen_app, listening_app, nbbo_app, options_app, program_app, replay_app, replaying_app, request_rule, sessions_rule, symbols_rule, window_rule};
+ghost use Rattle.nbbo_main.specs.Commands.{best_only_rule, buffer_rule, captured_lines_rule, choices_app, convert_app, counts_app, datagrams_rule, format_rule, gaps_rule, journal_rule, lines_app, lines_rule, listen_app, listening_app, nbbo_app, options_app, program_app, replay_app, replaying_app, request_rule, sessions_rule, symbols_rule, window_rule};
 
 use crate::help_texts::{
-    ABOUT, BUFFER_HELP, CAPTURED_LINES_HELP, CONVERT_ABOUT, CONVERT_END, CONVERT_EXAMPLE,
-    CONVERT_LONG_ABOUT, CONVERT_USAGE, DATAGRAMS_HELP, EXAMPLE, GAPS_HELP, JOURNAL_HELP,
-    LINES_HELP, LISTEN_ABOUT, LISTEN_EXAMPLE, LISTEN_LINES, LISTEN_LONG_ABOUT, LISTEN_USAGE,
-    REPLAY_ABOUT, REPLAY_EXAMPLE, REPLAY_LINES, REPLAY_LONG_ABOUT, REPLAY_USAGE, REQUEST_HELP,
-    SESSIONS_HELP, SYMBOLS_HELP, VERSION, WINDOW_HELP,
+    ABOUT, BEST_ONLY_HELP, BUFFER_HELP, CAPTURED_LINES_HELP, CONVERT_ABOUT, CONVERT_END,
+    CONVERT_EXAMPLE, CONVERT_LONG_ABOUT, CONVERT_USAGE, DATAGRAMS_HELP, EXAMPLE, FORMAT_HELP,
+    GAPS_HELP, JOURNAL_HELP, LINES_HELP, LISTEN_ABOUT, LISTEN_EXAMPLE, LISTEN_LINES,
+    LISTEN_LONG_ABOUT, LISTEN_USAGE, REPLAY_ABOUT, REPLAY_EXAMPLE, REPLAY_LINES, REPLAY_LONG_ABOUT,
+    REPLAY_USAGE, REQUEST_HELP, SESSIONS_HELP, SYMBOLS_HELP, VERSION, WINDOW_HELP,
 };
 use clap::{Arg, ArgAction, Command, value_parser};
 use std::alloc::{AllocError, Global};
@@ -139,6 +139,28 @@ fn gaps_flag<'a>(alloc: Global) -> Arg<'a>
         .long_help(GAPS_HELP)
 }
 
+fn best_only_flag<'a>(alloc: Global) -> Arg<'a>
+    ensures rule { rule_of result ≡ best_only_rule }
+    ensures local { result.global ≡ false }
+{
+    Arg::new(alloc, "best-only")
+        .long("best-only")
+        .action(ArgAction::SetTrue)
+        .help("Prints the best lines alone")
+        .long_help(BEST_ONLY_HELP)
+}
+
+fn format_option<'a>(alloc: Global) -> Arg<'a>
+    ensures rule { rule_of result ≡ format_rule }
+    ensures local { result.global ≡ false }
+{
+    Arg::new(alloc, "format")
+        .long("format")
+        .value_name("FORMAT")
+        .help("The format of the best lines with --best-only: text, csv or json")
+        .long_help(FORMAT_HELP)
+}
+
 fn symbols_argument<'a>(alloc: Global) -> Arg<'a>
     ensures rule { rule_of result ≡ symbols_rule }
     ensures local { result.global ≡ false }
@@ -174,13 +196,23 @@ fn options_command<'a>(alloc: Global) -> Result<Command<'a>, AllocError>
         .arg(journal_option(alloc))
 }
 
-fn replay_command<'a>(alloc: Global) -> Result<Command<'a>, AllocError>
-    ensures app { IfOk result (λ c. app_of c ≡ replay_app) }
+/// `replay` with its options that say what is read, and which lines are printed, too.
+fn choices_command<'a>(alloc: Global) -> Result<Command<'a>, AllocError>
+    ensures app { IfOk result (λ c. app_of c ≡ choices_app) }
     ensures local { IfOk result (λ c. (fields_of c).has_globals ≡ false) }
 {
     options_command(alloc)?
         .arg(captured_lines_option(alloc))?
         .arg(gaps_flag(alloc))?
+        .arg(best_only_flag(alloc))
+}
+
+fn replay_command<'a>(alloc: Global) -> Result<Command<'a>, AllocError>
+    ensures app { IfOk result (λ c. app_of c ≡ replay_app) }
+    ensures local { IfOk result (λ c. (fields_of c).has_globals ≡ false) }
+{
+    choices_command(alloc)?
+        .arg(format_option(alloc))?
         .arg(symbols_argument(alloc))
 }
 

@@ -96,11 +96,20 @@ once, of 1 to 8 characters of printable ASCII without a space (bytes 21 to 7e). 
 pub const GAPS_HELP: &str = "\
 Prints after each datagram, if messages are then missing, which ones to ask for first";
 
+pub const BEST_ONLY_HELP: &str = "\
+Prints the best lines alone: the changes of the national best bid and offer";
+
+pub const FORMAT_HELP: &str = "\
+The format of the best lines with --best-only: 'text', as without this option; 'csv', a
+line with the columns' names and then a row each; or 'json', an object on a line each. A
+side that there isn't is three empty values in csv and null in json. Prices have four
+places. Without --best-only no format can be given";
+
 /// Examples, for the short help.
 pub const REPLAY_EXAMPLE: &str = "\
 Examples:
   nbbo replay --sessions NORTH,SOUTH ACME < capture
-  zcat day.capture.gz | nbbo replay --sessions NORTH,SOUTH ACME | grep '^best '
+  zcat day.capture.gz | nbbo replay --sessions NORTH,SOUTH --best-only --format csv ACME
 
 '--help' also tells what a capture is and what is printed.";
 
@@ -141,8 +150,16 @@ Examples:
   venue 0 sent 1 wins 1 0 0
   venue 1 sent 0 wins 0 0 0
 
-  $ zcat day.capture.gz | nbbo replay --sessions NORTH,SOUTH ACME | grep '^best '
+  $ zcat day.capture.gz | nbbo replay --sessions NORTH,SOUTH --best-only ACME
   best 1 1 ACME 0:10.1500x300 0:10.1700x200 normal
+
+  $ zcat day.capture.gz | nbbo replay --sessions NORTH,SOUTH --best-only --format csv ACME
+  notice,position,symbol,bid_venue,bid_price,bid_size,offer_venue,offer_price,offer_size,state
+  1,1,ACME,0,10.1500,300,0,10.1700,200,normal
+
+  $ zcat day.capture.gz | nbbo replay --sessions NORTH,SOUTH --best-only --format json ACME
+  {\"notice\":1,\"position\":1,\"symbol\":\"ACME\",\"bid\":{\"venue\":0,\"price\":10.1500,\"size\":300},
+   \"offer\":{\"venue\":0,\"price\":10.1700,\"size\":200},\"state\":\"normal\"}           (on one line)
 
 Refusals:
    1  fewer than the 20 bytes of a packet's header
@@ -178,6 +195,7 @@ Status:
      more than ten characters or one that isn't printable ASCII; 'too many sessions': more than 16;
      'bad symbol': a symbol is empty, has more than eight characters, or a space or one that isn't
      printable ASCII; 'too many symbols': more than 4096; 'duplicate symbol': one is named twice;
+     'bad format': --format isn't text, csv or json, or --best-only isn't given;
      'bad lines': --lines isn't two addresses for each session, or names one twice";
 
 pub const LINES_HELP: &str = "\

@@ -63,7 +63,7 @@ fn is_file<F: Files>(files: &F, word: &str) -> bool {
 
 /// Whether a word after this one may be a symbol: an option may take it as its value.
 fn is_no_option(before: &str) -> bool {
-    !before.starts_with('-') || before == "--" || before == "--gaps"
+    !before.starts_with('-') || before == "--" || before == "--gaps" || before == "--best-only"
 }
 
 /// Writes a line for the first word that names a file where a symbol is expected, if there is one: of the words of

@@ -159,7 +159,7 @@ fn status_of(outcome: &Result<(), LinesFault>) -> u8
 }
 
 /// Writes the report on standard error, and returns the status of the program.
-fn tell_capture<R, E: TextOut>(report: &CaptureReport<R>, errors: &mut E) -> u8
+pub fn tell_capture<R, E: TextOut>(report: &CaptureReport<R>, errors: &mut E) -> u8
     ensures { TellsCapture (record { adds = E.adds; failures = E.failures })
         report.now errors.old errors.new result }
 {

@@ -1,8 +1,8 @@
 //! The program `nbbo`.
 //!
-//! `nbbo replay --sessions LIST [--window N] [--journal N] [--gaps] [SYMBOL]...` reads a capture
-//! from standard input and writes its lines to standard output. `feed_text` says, and proves, what
-//! a capture is and what its lines are.
+//! `nbbo replay --sessions LIST [--window N] [--journal N] [--gaps] [--best-only [--format FORMAT]]
+//! [SYMBOL]...` reads a capture from standard input and writes its lines to standard output, or the
+//! best ones alone. `feed_text` says, and proves, what a capture is and what its lines are.
 //!
 //! `nbbo listen --sessions LIST --lines LIST [--request ADDR] [--window N] [--journal N]
 //! [--datagrams N] [--buffer BYTES] [SYMBOL]...` receives the lines of live venues by UDP, runs them as a live feed
@@ -22,6 +22,8 @@ ghost use Rattle.std.specs.Prelude.{◌≡◌, ◌≢◌, ◌<◌};
 ghost use Rattle.nbbo_main.specs.declared.refusal.Refusal.TheVariants.{NoMemory, NotText};
 
 mod addresses;
+mod best_format;
+mod best_runs;
 mod captured_lines;
 mod command_line;
 mod commands;
@@ -115,9 +117,10 @@ fn run_streams<H: Threads + Wait + Sync, C: Ledger, R: Ledger, W: Ledger, E: Led
         Count::new(of_calls),
         Count::new(of_reads),
     );
-    let mut output: StreamOut<Stdout, W> = StreamOut::new(rt.stdout(), Count::new(of_writes));
+    let output: StreamOut<Stdout, W> = StreamOut::new(rt.stdout(), Count::new(of_writes));
     let mut errors: StreamOut<Stderr, E> = StreamOut::new(rt.stderr(), Count::new(of_errors));
-    match run_words(rt, KeptStart::new(input), &mut output, &mut errors) {
+    let (next, mut output) = run_words(rt, KeptStart::new(input), output, &mut errors);
+    match next {
         Next::Ended(status) => status,
         Next::Listens(settings) => { listen_live(rt, threads, &settings, &mut output, &mut errors) }
     }
@@ -128,12 +131,15 @@ fn run_streams<H: Threads + Wait + Sync, C: Ledger, R: Ledger, W: Ledger, E: Led
 fn run_words<R: CaptureIn + Drop, W: TextOut, E: TextOut>(
     rt: &HostRuntime,
     input: KeptStart<R>,
-    output: &mut W,
+    mut output: W,
     errors: &mut E,
-) -> Next {
+) -> (Next, W) {
     let words = match words_of(rt) {
         Ok(words) => words,
-        Err(error) => return Next::Ended(refuse(&unread(error.kind()), output, errors)),
+        Err(error) => {
+            let status = refuse(&unread(error.kind()), &mut output, errors);
+            return (Next::Ended(status), output);
+        }
     };
     let hints = rt.stderr().is_terminal();
     if hints {
@@ -151,7 +157,7 @@ fn run_words<R: CaptureIn + Drop, W: TextOut, E: TextOut>(
     if hints && matches!(ran.next, Next::Ended(_)) && !asks_for_packets(words.as_slice()) {
         write_stderr(format_hint(ran.input.start()), errors);
     }
-    ran.next
+    (ran.next, ran.output)
 }
 
 /// Says where the sockets listen, and how large their buffers are where a size was asked for.

@@ -1,9 +1,10 @@
 //! The reasons why the program has no settings.
 ghost use Rattle.std.specs.Prelude.{◌≡◌};
 ghost use Rattle.nbbo_main.specs.CommandLine.{lines_refusal_by, refusal_by, refusal_status, refusal_text, symbols_refusal_by};
-ghost use Rattle.nbbo_main.specs.declared.refusal.Refusal.TheVariants.{BadRequest, NoMemory};
+ghost use Rattle.nbbo_main.specs.declared.refusal.Refusal.TheVariants.{BadFormat, BadRequest, NoMemory};
 
 use crate::addresses::{LinesFault, RequestFault};
+use crate::best_format::FormatFault;
 use crate::sessions::SessionsFault;
 use crate::symbols::SymbolsFault;
 use std::alloc::AllocError;
@@ -25,6 +26,9 @@ pub enum Refusal {
     BadLines,
     /// The text for the address of requests is no address, or one to which no request can be sent.
     BadRequest,
+    /// The format of the best lines is none of those that there are, or is given where all lines are
+    /// printed.
+    BadFormat,
     /// A symbol is empty, has more than eight bytes, or has a byte outside of `21` to `7e`.
     BadSymbol,
     /// More than 4,096 symbols are named.
@@ -45,7 +49,7 @@ impl Refusal {
             Refusal::NoMemory => 1,
             Refusal::Usage(_) | Refusal::NotText => 2,
             Refusal::BadSession | Refusal::TooManySessions => 2,
-            Refusal::BadLines | Refusal::BadRequest => 2,
+            Refusal::BadLines | Refusal::BadRequest | Refusal::BadFormat => 2,
             Refusal::BadSymbol | Refusal::TooManySymbols | Refusal::DuplicateSymbol => 2,
         }
     }
@@ -62,6 +66,7 @@ impl Refusal {
             Refusal::TooManySessions => "nbbo: too many sessions\n",
             Refusal::BadLines => "nbbo: bad lines\n",
             Refusal::BadRequest => "nbbo: bad request address\n",
+            Refusal::BadFormat => "nbbo: bad format\n",
             Refusal::BadSymbol => "nbbo: bad symbol\n",
             Refusal::TooManySymbols => "nbbo: too many symbols\n",
             Refusal::DuplicateSymbol => "nbbo: duplicate symbol\n",
@@ -106,6 +111,14 @@ impl From<RequestFault> for Refusal {
 
     fn from(_fault: RequestFault) -> Refusal {
         Refusal::BadRequest
+    }
+}
+
+impl From<FormatFault> for Refusal {
+    ghost from_gives = { λ _ refusal. refusal ≡ BadFormat };
+
+    fn from(_fault: FormatFault) -> Refusal {
+        Refusal::BadFormat
     }
 }
 

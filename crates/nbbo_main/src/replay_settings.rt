@@ -3,6 +3,7 @@ ghost use Rattle.std.specs.Prelude.{◌≤◌, vec_len};
 ghost use Rattle.std.specs.List.{IsDistinct, IsDistinct-prop};
 ghost use Rattle.std.specs.Str.{bytes_eq};
 
+use best_lines::Format;
 use feed_types::SymbolName;
 
 /// The settings of `nbbo replay`.
@@ -18,6 +19,8 @@ pub struct ReplaySettings {
     pub journal: u32,
     /// Whether gaps are printed.
     pub gaps: bool,
+    /// The format of the best lines where they alone are printed.
+    pub bests: Option<Format>,
     ghost some_venues: { 1 ≤ vec_len sessions },
     ghost few_venues: { vec_len sessions ≤ 16 },
     ghost few_symbols: { vec_len symbols ≤ 4096 },

@@ -3,9 +3,10 @@ ghost use Rattle.std.specs.Prelude.{◌≡◌, map, string_bytes};
 ghost use Rattle.nbbo_main.specs.LineRuns.{Leads};
 ghost use Rattle.nbbo_main.specs.Runs.{IsConfigOf, RunsReplay, Says, TellsRefusal, hint_text};
 
+use crate::best_runs::{run_lines, run_settings};
 use crate::command_line::settings;
 use crate::ending::ending;
-use crate::line_runs::{run_conversion, run_line_replay};
+use crate::line_runs::run_conversion;
 use crate::listen_settings::ListenSettings;
 use crate::refusal::Refusal;
 use crate::replay_settings::ReplaySettings;
@@ -32,11 +33,12 @@ pub enum Next {
     Listens(ListenSettings),
 }
 
-/// The result of a run, and its input as the last call left it.
+/// The result of a run, and its input and output as the last calls left them.
 #[derive(Debug, Drop)]
-pub struct ProgramRun<R> {
+pub struct ProgramRun<R, W> {
     pub next: Next,
     pub input: R,
+    pub output: W,
 }
 
 /// The settings as the replay takes them.
@@ -70,7 +72,7 @@ pub fn hint(at_terminal: bool) -> &'static str
 }
 
 /// Replays the input onto the output, and returns the status of the program.
-fn run_replay<R: CaptureIn, W: TextOut, E: TextOut>(
+pub fn run_replay<R: CaptureIn, W: TextOut, E: TextOut>(
     alloc: Global,
     settings: &ReplaySettings,
     at_terminal: bool,
@@ -116,64 +118,69 @@ pub fn refuse<W: TextOut, E: TextOut>(refusal: &Refusal, output: &mut W, errors:
     }
 }
 
+/// The result of a run that is over.
+fn ended<R, W>(status: u8, input: R, output: W) -> ProgramRun<R, W>
+    ensures { result ≡ record { next = Next.Ended status; input = input; output = output } }
+{
+    ProgramRun {
+        next: Next::Ended(status),
+        input,
+        output,
+    }
+}
+
 /// Does what the words ask for, of which the first is the program's name, except listening, which
 /// takes sockets and threads: then the settings for it are returned.
 ///
-/// The input is read only for a replay, and its lines are all that a replay writes on the output.
-/// Before a terminal is read, standard error says so.
+/// The input is read only for a replay or a conversion. The lines of a replay, or the best ones alone in
+/// the format that is asked for, are all that it writes on the output. Before a terminal is read,
+/// standard error says so.
 pub fn run<R: CaptureIn + Drop, W: TextOut, E: TextOut>(
     alloc: Global,
     words: &[String],
     at_terminal: bool,
     mut input: R,
-    output: &mut W,
+    mut output: W,
     errors: &mut E,
-) -> ProgramRun<R>
+) -> ProgramRun<R, W>
     ensures { Leads
         (record { gives = R.gives; ends = R.ends; failures = R.failures; fails = R.fails })
         (record { adds = W.adds; failures = W.failures })
         (record { adds = E.adds; failures = E.failures })
         (map (λ word. string_bytes word) words.now) at_terminal
-        input result.input output.old output.new errors.old errors.new result.next }
+        input result.input output result.output errors.old errors.new result.next }
 {
     match settings(alloc, words) {
         Ok(task) => match task {
             Task::Replay(settings) => {
-                let status = run_replay(alloc, &settings, at_terminal, &mut input, output, errors);
-                ProgramRun {
-                    next: Next::Ended(status),
-                    input,
-                }
-            }
-            Task::ReplayLines(settings) => {
-                let run = run_line_replay(alloc, &settings, at_terminal, input, output, errors);
-                ProgramRun {
-                    next: Next::Ended(run.status),
-                    input: run.input,
-                }
-            }
-            Task::Convert(lines) => {
-                let run = run_conversion(
+                let (status, output) = run_settings(
                     alloc,
-                    lines.as_slice(),
+                    &settings,
                     at_terminal,
-                    input,
+                    &mut input,
                     output,
                     errors,
                 );
-                ProgramRun {
-                    next: Next::Ended(run.status),
-                    input: run.input,
-                }
+                ended(status, input, output)
+            }
+            Task::ReplayLines(settings) => {
+                let (run, output) = run_lines(alloc, &settings, at_terminal, input, output, errors);
+                ended(run.status, run.input, output)
+            }
+            Task::Convert(lines) => {
+                let lines = lines.as_slice();
+                let run = run_conversion(alloc, lines, at_terminal, input, &mut output, errors);
+                ended(run.status, run.input, output)
             }
             Task::Listen(settings) => ProgramRun {
                 next: Next::Listens(settings),
                 input,
+                output,
             },
         },
-        Err(refusal) => ProgramRun {
-            next: Next::Ended(refuse(&refusal, output, errors)),
-            input,
-        },
+        Err(refusal) => {
+            let status = refuse(&refusal, &mut output, errors);
+            ended(status, input, output)
+        }
     }
 }

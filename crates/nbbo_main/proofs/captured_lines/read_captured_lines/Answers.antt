@@ -1,4 +1,4 @@
-use Rattle.std.proofs.Common.{arith, ap, ◌∙◌}
+use Rattle.std.proofs.Common.{arith}
 use Rattle.nbbo_main.proofs.captured_lines.read_captured_lines.Goals as goal
 
 pub returns-clause-venues : goal.returns-clause-venues

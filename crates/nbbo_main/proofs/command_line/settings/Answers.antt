@@ -1,5 +1,5 @@
-use Rattle.std.proofs.Common.{◌≡◌, ◌∙◌, ap, codes, rules, sym, map, Option, Some, List}
-use Rattle.std.specs.Prelude.{option_map, string_bytes}
+use Rattle.std.proofs.Common.{rules, map}
+use Rattle.std.specs.Prelude.{string_bytes}
 use Rattle.std.proofs.lemmas.Result.{err_from_is_err_and}
 use Rattle.nbbo_main.proofs.Asking.{IsRefused-listening}
 use Rattle.nbbo_main.proofs.command_line.settings.Goals as goal

@@ -1,11 +1,10 @@
-use Rattle.std.proofs.Common.{◌≡◌, ◌∙◌, ◌*◌, ap, codes, rules, sym, subst, ℕ, Option, Some, None}
+use Rattle.std.proofs.Common.{◌≡◌, ◌∙◌, ap, codes, rules, sym, Option, Some}
 use Rattle.std.specs.Prelude.{option_map}
 use Rattle.std.specs.Borrow.{Bor}
 use Rattle.std.proofs.lemmas.Result.{err_from_is_err_and}
 use Rattle.clap.proofs.WalkLemmas.{first_value-rows}
 use Rattle.clap.specs.Matches.{found_of}
 use Rattle.clap.specs.Walk.{Text, first_of, rows_of}
-use Rattle.nbbo_main.specs.CapturedLines.{HasCapturedLinesFault}
 use Rattle.nbbo_main.proofs.Asking.{GivesNone-lines}
 use Rattle.nbbo_main.proofs.line_tasks.replay_task.Goals as goal
 

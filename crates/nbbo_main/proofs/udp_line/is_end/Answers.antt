@@ -1,4 +1,4 @@
-use Rattle.std.proofs.Common.{rules, refl}
+use Rattle.std.proofs.Common.{rules}
 use Rattle.nbbo_main.proofs.Seeing.{end_of_one}
 use Rattle.nbbo_main.proofs.udp_line.is_end.Goals as goal
 

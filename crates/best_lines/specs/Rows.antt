@@ -1,0 +1,115 @@
+-- How best lines are passed on: of the lines the best ones, each as a row.
+use Rattle.std.specs.Prelude.{ℕ, Bool, ◌==◌, ◌||◌, List, [], ◌∷◌, ◌++◌, codes, flat_map, filter, suc, zero, if◌then◌else◌}
+use Rattle.std.specs.List.{before_first, after_first, list_any}
+use Rattle.std.specs.Str.{bytes_eq}
+use Rattle.best_lines.specs.declared.format.Format.{Format}
+use Rattle.best_lines.specs.declared.format.Format.TheVariants.{Text, Csv, Json}
+use Rattle.best_lines.specs.Lines.{ended, is_best}
+
+-- the bytes before the first of this code, and those after it
+unfoldable pub part_before : ℕ → List ℕ → List ℕ
+part_before code bytes = before_first (λ b. b == code) bytes
+
+unfoldable pub part_after : ℕ → List ℕ → List ℕ
+part_after code bytes = after_first (λ b. b == code) bytes
+
+-- the words of a best line behind its first, which are parted by spaces
+pub record Words : Type 0 where
+  pub notice : List ℕ
+  pub position : List ℕ
+  pub symbol : List ℕ
+  pub bid : List ℕ
+  pub offer : List ℕ
+  pub state : List ℕ
+
+-- what is left of a line after this number of words
+abbrev pub words_from : ℕ → List ℕ → List ℕ
+words_from zero line = line
+words_from (suc n) line = part_after 32 (words_from n line)
+
+abbrev pub words_of : List ℕ → Words
+words_of line = record {
+  notice = part_before 32 (words_from 1 line);
+  position = part_before 32 (words_from 2 line);
+  symbol = part_before 32 (words_from 3 line);
+  bid = part_before 32 (words_from 4 line);
+  offer = part_before 32 (words_from 5 line);
+  state = words_from 6 line;
+}
+
+-- a side as the word VENUE:PRICExSIZE: its venue, its price and its size
+abbrev pub venue_in : List ℕ → List ℕ
+venue_in side = part_before 58 side
+
+abbrev pub price_in : List ℕ → List ℕ
+price_in side = part_before 120 (part_after 58 side)
+
+abbrev pub size_in : List ℕ → List ℕ
+size_in side = part_after 120 (part_after 58 side)
+
+-- there is no side
+abbrev pub is_none_word : List ℕ → Bool
+is_none_word side = bytes_eq side (codes "none")
+
+-- a text in quotation marks, each mark in it, and each byte of this code, after one of this code
+abbrev pub escaped_byte : ℕ → ℕ → List ℕ
+escaped_byte escape b = if b == 34 || b == escape then escape ∷ b ∷ [] else b ∷ []
+
+unfoldable pub quoted : ℕ → List ℕ → List ℕ
+quoted escape text = codes "\"" ++ (flat_map (escaped_byte escape) text ++ codes "\"")
+
+-- ---- comma-separated values (RFC 4180)
+
+-- a text that has a comma or a quotation mark is quoted
+abbrev pub needs_quotes : List ℕ → Bool
+needs_quotes text = list_any (λ b. b == 44 || b == 34) text
+
+abbrev pub csv_text : List ℕ → List ℕ
+csv_text text = if needs_quotes text then quoted 34 text else text
+
+-- a side's venue, price and size, each empty where there is no side
+abbrev pub csv_side : List ℕ → List ℕ
+csv_side side =
+    if is_none_word side then codes ",,"
+    else venue_in side ++ (codes "," ++ price_in side) ++ (codes "," ++ size_in side)
+
+unfoldable pub csv_row : Words → List ℕ
+csv_row w =
+    w.notice ++ (codes "," ++ w.position) ++ codes "," ++ csv_text w.symbol
+    ++ codes "," ++ csv_side w.bid ++ codes "," ++ csv_side w.offer
+    ++ (codes "," ++ w.state) ++ codes "\n"
+
+-- ---- JSON
+
+-- an object of the side's venue, price and size, or null
+abbrev pub json_side : List ℕ → List ℕ
+json_side side =
+    if is_none_word side then codes "null"
+    else (codes "{\"venue\":" ++ venue_in side) ++ (codes ",\"price\":" ++ price_in side)
+    ++ (codes ",\"size\":" ++ size_in side) ++ codes "}"
+
+unfoldable pub json_row : Words → List ℕ
+json_row w =
+    (codes "{\"notice\":" ++ w.notice) ++ (codes ",\"position\":" ++ w.position)
+    ++ codes ",\"symbol\":" ++ quoted 92 w.symbol
+    ++ codes ",\"bid\":" ++ json_side w.bid ++ codes ",\"offer\":" ++ json_side w.offer
+    ++ (codes ",\"state\":\"" ++ w.state) ++ codes "\"}\n"
+
+-- ---- by format
+
+-- what stands before the first row
+abbrev pub header_of : Format → List ℕ
+header_of Text = []
+header_of Csv =
+    codes "notice,position,symbol,bid_venue,bid_price,bid_size,offer_venue,offer_price,offer_size,state\n"
+header_of Json = []
+
+-- a best line as a row
+abbrev pub row_of : Format → List ℕ → List ℕ
+row_of Text line = ended line
+row_of Csv line = csv_row (words_of line)
+row_of Json line = json_row (words_of line)
+
+-- the rows of the best lines among these lines
+unfoldable pub rows_of : Format → List (List ℕ) → List ℕ
+rows_of format lines = flat_map (row_of format) (filter is_best lines)

@@ -1,0 +1,24 @@
+//! The best lines of what a replay prints, as they are, as comma-separated values or as JSON lines.
+//!
+//! A [`BestsOut`] is a writer over any other writer of this project's lines: of the lines that are
+//! written to it, it passes on the best ones, each as a row of its [`Format`], after the format's
+//! header.
+//!
+//! Contract: what was passed on, then what is pending, is the header and the rows of the best lines
+//! among the lines that it was given, in order, and nothing else (`specs/Writers.antt`, over
+//! `specs/Lines.antt` and `specs/Rows.antt`: a filter, then a map). After [`BestsOut::finish`] all of it
+//! was passed on, unless the other writer failed: its clause `passed` says so of any text.
+//!
+//! Begin at `bests_out.rt`.
+#![tactic(auto)]
+
+mod best_line;
+mod bests_out;
+mod format;
+mod lines;
+mod rows;
+mod sending;
+mod words;
+
+pub use bests_out::BestsOut;
+pub use format::Format;
