@@ -171,8 +171,9 @@ fn seats_of<N: FeedName>(
     Some(seats)
 }
 
-/// Opens the feed, whose lanes N names, runs it until all lines have ended, and settles it. None
-/// where memory was refused.
+/// Opens the feed, whose lanes N names, runs it until all lines have ended, and settles it: each
+/// subscriber's log, then what is left for it, are then what it wants of the journal. None where
+/// memory was refused.
 ///
 /// The closures are made where the feed is opened, and the feed goes nowhere else: docs/LINKING.md
 /// says why.
@@ -234,7 +235,7 @@ fn new_feed(alloc: Global) -> Option<LiveFeed<Anything>> {
     LiveFeed::new(alloc, &config).ok()
 }
 
-/// Prints what the subscriber was notified of, and what its strategy advised.
+/// Prints what the subscriber of this number was notified of, and what its strategy advised.
 fn print_log(rt: &HostRuntime, settlement: &Settlement, place: u8) -> io::Result<()> {
     let Some(id) = SubscriberId::new(place) else {
         return Ok(());
