@@ -11,8 +11,8 @@ there [] n few = absurd (omega (arith, few))
 there (x ∷ xs) zero few = (x, refl)
 there (x ∷ xs) (suc n) few = there xs n (omega (arith, few))
 
-pub each_served : {sessions carries ends lanes seats logs : _} (s : SettlementState)
-    → IsSettlement sessions carries ends lanes seats logs s
+pub each_served : {S premise lanes seats logs : _} (s : SettlementState)
+    → IsSettlement {S = S} premise lanes seats logs s
     → (id : ℕ) → IfSome (slice_get s.subscribers id) (λ end. IsServed s.journal id end.log end.queued end.unoffered)
 each_served {logs = logs} s is id = by (slice_get s.subscribers id) refl
   where
