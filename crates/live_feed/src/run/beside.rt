@@ -1,0 +1,95 @@
+//! A run with something beside it.
+
+ghost use Rattle.std.specs.Prelude.{◌≡◌, IfOk, IfErr};
+ghost use Rattle.live_feed.specs.run.Runs.{Pairwise, HasTaken, LineHasEnded, HasPolled};
+
+use crate::feed::open_feed::OpenFeed;
+use crate::feed_name::FeedName;
+use crate::run::line::Line;
+use crate::run::report::RunReport;
+use crate::run::source::LineSource;
+use crate::subscriber::Subscriber;
+use feed_types::Genuine;
+use std::alloc::Global;
+use std::sync::Wait;
+use std::sync::atomic::{AtomicBool, Ordering};
+use std::thread;
+use std::thread::Threads;
+
+/// How far a run is, for what is beside it.
+#[derive(Drop)]
+pub struct RunProgress {
+    begun: AtomicBool,
+    over: AtomicBool,
+}
+
+impl RunProgress {
+    /// Of a run that hasn't begun.
+    pub fn new() -> RunProgress {
+        RunProgress {
+            begun: AtomicBool::new(false),
+            over: AtomicBool::new(false),
+        }
+    }
+
+    /// Whether the run has begun.
+    pub fn has_begun(&self) -> bool {
+        self.begun.load(Ordering::SeqCst)
+    }
+
+    /// Whether the run is over.
+    pub fn is_over(&self) -> bool {
+        self.over.load(Ordering::SeqCst)
+    }
+}
+
+impl<G: Genuine + Send + Sync, N: FeedName + Send + Sync> OpenFeed<G, N> {
+    /// Runs the feed as `run` does, in a thread of its own, and `beside` in this one; both may use the
+    /// feed. Returns the answers of both, once both have ended.
+    ///
+    /// Where no thread can be had, `beside` is called first, and the run then: so `beside` waits for
+    /// no run that `progress` doesn't say has begun.
+    pub fn run_beside<S, R, B, T>(
+        &self,
+        rt: &R,
+        alloc: Global,
+        lines: Vec<Line<G, N, S>>,
+        subscribers: Vec<Subscriber<N>>,
+        progress: &RunProgress,
+        beside: B,
+    ) -> (
+        Result<RunReport<G, N, S>, (Vec<Line<G, N, S>>, Vec<Subscriber<N>>)>,
+        T,
+    )
+    where
+        S: LineSource<G> + Send,
+        R: Threads + Wait + Sync,
+        B: FnOnce() -> T,
+        requires { B.pre beside }
+        ensures back { IfErr result.0 (λ back. (back.0 ≡ lines) × (back.1 ≡ subscribers)) }
+        ensures lines { IfOk result.0 (λ report. Pairwise (λ line. LineHasEnded
+            (HasTaken G.Genuine N.lanes) S.brings S.failures line.seat line.source) lines.items
+            report.lines.items) }
+        ensures subscribers { IfOk result.0 (λ report. Pairwise (λ given back.
+            HasPolled given.log back.log) subscribers.items report.subscribers.items) }
+        ensures beside { B.post beside result.1 }
+    {
+        thread::join(
+            rt,
+            || -> Result<RunReport<G, N, S>, (Vec<Line<G, N, S>>, Vec<Subscriber<N>>)>
+                ensures back { IfErr result (λ back. (back.0 ≡ lines) × (back.1 ≡ subscribers)) }
+                ensures lines { IfOk result (λ report. Pairwise (λ line. LineHasEnded
+                    (HasTaken G.Genuine N.lanes) S.brings S.failures line.seat line.source)
+                    lines.items report.lines.items) }
+                ensures subscribers { IfOk result (λ report. Pairwise (λ given back.
+                    HasPolled given.log back.log) subscribers.items report.subscribers.items) }
+            {
+                progress.begun.store(true, Ordering::SeqCst);
+                let ran = self.run(rt, alloc, lines, subscribers);
+                progress.over.store(true, Ordering::SeqCst);
+                ran
+            },
+            beside,
+        )
+    }
+}
