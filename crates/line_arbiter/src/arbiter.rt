@@ -2,6 +2,7 @@
 
 ghost use Rattle.std.specs.Prelude.{◌≡◌, ◌∷◌, ◌++◌, ◌↔◌, ◌+◌, ◌^◌, ◌<◌, ◌≤◌, List, [], IfOk, IfSome, Ok, IsSome, IsErrOf, OnErr, OnOk, slice_get, Some, None, length};
 ghost use Rattle.feed_types.specs.Prefix.{IsPrefix};
+ghost use Rattle.feed_types.specs.declared.line.LineId.{LineId};
 ghost use Rattle.line_arbiter.specs.Packets.{Arrival, arrival_of};
 ghost use Rattle.line_arbiter.specs.Streams.{IsComplete, stream_of, gap_of, wins_of};
 ghost use Rattle.line_arbiter.specs.Outcomes.{IsOutcome};
@@ -229,6 +230,15 @@ impl<G: Genuine> Arbiter<G> {
             → result ≡ shown (count_on line self.now.earlier + wins_of packets line) }
     {
         self.won.on(line)
+    }
+
+    /// Returns the counts of all lines, each that of `wins`.
+    pub fn all_wins(&self) -> Wins
+        ensures value { result ≡ self.now.wins }
+        ensures session { (packets : List Arrival) → Fits self.now packets → (line : LineId)
+            → count_on line result ≡ shown (count_on line self.now.earlier + wins_of packets line) }
+    {
+        self.won
     }
 
     /// Returns the cursors of the present session.

@@ -11,7 +11,7 @@
 //! - look first at a packet that needs no place in the window, and take it then: `peek_in_order`
 //!   and `take_in_order`;
 //! - take items out: `next_ready` and `advance`;
-//! - read the cursors, and what to ask for: `status`, `gap` and `wins`;
+//! - read the cursors, and what to ask for: `status`, `gap`, `wins` and `all_wins`;
 //! - read the session, and begin the next one: `venue`, `session`, `ordinal` and `renew`.
 //!
 //! Contract: for every list of packets that the arbiter was given in the present session, its
@@ -46,3 +46,4 @@ pub use laws::{
 };
 pub use outcome::{LineFault, Outcome};
 pub use pacer::Pacer;
+pub use wins::Wins;

@@ -9,7 +9,7 @@ use std::marker::Model;
 
 /// The count of numbers that each line brought first. A count stays at 2^64 - 1 once it is there.
 #[derive(Clone, Copy, Debug)]
-pub(crate) struct Wins {
+pub struct Wins {
     of_a: u64,
     of_b: u64,
     of_recovery: u64,
@@ -36,7 +36,8 @@ impl Wins {
         }
     }
 
-    pub(crate) fn on(&self, line: LineId) -> u64
+    /// Returns the count of the line.
+    pub fn on(&self, line: LineId) -> u64
         ensures { result ≡ count_on line self.now }
     {
         match line {

@@ -5,50 +5,9 @@ ghost use Rattle.line_arbiter.specs.Counts.{count_on};
 ghost use Rattle.live_feed.specs.venue.Sums.{sums_list, sums_on};
 
 use crate::venue::sums::VenueSums;
-use feed_types::{Genuine, LineId, Numbered};
-use line_arbiter::Arbiter;
+use feed_types::{LineId, Numbered};
+use line_arbiter::Wins;
 use std::marker::Model;
-
-/// The count of numbers that each line of a venue brought first.
-#[derive(Clone, Copy, Debug)]
-pub(crate) struct VenueWins {
-    of_a: u64,
-    of_b: u64,
-    of_recovery: u64,
-}
-
-impl Model for VenueWins {
-    ghost use Rattle.line_arbiter.specs.Counts.{Counts};
-
-    ghost Value = { Counts };
-
-    ghost view = { λ w. record { a = w.of_a; b = w.of_b; recovery = w.of_recovery } };
-
-    ghost inverse = { λ c. record { of_a = c.a; of_b = c.b; of_recovery = c.recovery } };
-}
-
-impl VenueWins {
-    /// The counts of the venue's arbiter.
-    pub(crate) fn counted<G: Genuine>(lines: &Arbiter<G>) -> VenueWins
-        ensures { result ≡ lines.now.wins }
-    {
-        VenueWins {
-            of_a: lines.wins(LineId::A),
-            of_b: lines.wins(LineId::B),
-            of_recovery: lines.wins(LineId::Recovery),
-        }
-    }
-
-    fn on(&self, line: LineId) -> u64
-        ensures { result ≡ count_on line self.now }
-    {
-        match line {
-            LineId::A => self.of_a,
-            LineId::B => self.of_b,
-            LineId::Recovery => self.of_recovery,
-        }
-    }
-}
 
 /// A venue's items, parted in those that were consumed, those that still lay in the lane and those
 /// that are ready after those, and what is counted per line.
@@ -57,7 +16,7 @@ pub(crate) struct VenueEnd {
     journaled: Vec<Numbered>,
     inside: Vec<Numbered>,
     unsent: Vec<Numbered>,
-    won: VenueWins,
+    won: Wins,
     sums: VenueSums,
 }
 
@@ -80,7 +39,7 @@ impl VenueEnd {
         consumed: Vec<Numbered>,
         in_lane: Vec<Numbered>,
         ready: Vec<Numbered>,
-        won: VenueWins,
+        won: Wins,
         sums: VenueSums,
     ) -> VenueEnd
         ensures { result ≡ record {

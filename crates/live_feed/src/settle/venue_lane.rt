@@ -10,7 +10,7 @@ ghost use Rattle.live_feed.specs.settle.Rooms.{HasVenueRoom};
 
 use crate::feed_name::FeedName;
 use crate::settle::rooms::VenueRoom;
-use crate::settle::venue_end::{VenueEnd, VenueWins};
+use crate::settle::venue_end::VenueEnd;
 use crate::venue::cell::VenueCell;
 use feed_types::{Entry, Genuine, Item, Numbered, Quote, SymbolName, VenueId};
 use fifo_lane::{LaneRule, Receiver, Settled, VenueItems, settle};
@@ -133,6 +133,6 @@ pub(crate) fn settle_venue<G: Genuine, N: FeedName, W: Wait>(
     let inside = settle(sender, receiver);
     let in_lane = drained(rt, inside, capacity, in_lane);
     let ready = take_ready(&mut lines, ready);
-    let wins = VenueWins::counted(&lines);
+    let wins = lines.all_wins();
     VenueEnd::new(consumed, in_lane, ready, wins, sums)
 }

@@ -46,16 +46,16 @@ returns g c =
     c.settle-inside.ensures in
     let ready = c.take_ready-ready.ensures.ready packets
     (subst (λ (a : State). Fits a packets) (sym parts.0) k.fits.history.present) in
-    let wins = c.counted-wins.ensures ∙ c.take_ready-ready.ensures.wins ∙ (λ i. (parts.0 i).wins) in
+    let wins = c.all_wins-wins.ensures.value ∙ c.take_ready-ready.ensures.wins ∙ (λ i. (parts.0 i).wins) in
     let whole = settled g.G.Genuine g.N.FeedName.lanes may cell k received inside c.take_ready-ready.result.items
-    c.counted-wins.result keeps
+    c.all_wins-wins.result keeps
     (ready ∙ (λ i. drop (parts.0 i).sent (stream_of packets))) wins in
     subst (λ (v : VenueEndState). IsClosedVenue g.G.Genuine g.N.FeedName.lanes entries cell.arbiter.venue cell v)
     (sym c.new.ensures) (record {
       kept = k;
       settled = subst (λ (x : List Numbered × (List Numbered × LineSums)). IsSettled premise cell.arbiter.venue
           g.N.FeedName.lanes.setting.window cell.lane.items x.0 x.1.0 c.take_ready-ready.result.items
-          c.counted-wins.result x.1.1)
+          c.all_wins-wins.result x.1.1)
           (λ i. (same i, (sym c.drained-in_lane.ensures i, sym parts.2 i))) whole;
       consumed = consumed;
       wins = wins;
