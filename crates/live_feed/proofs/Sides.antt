@@ -1,11 +1,10 @@
 -- Lists side by side, and relations at each place of a list.
 use Rattle.std.proofs.Common.{◌≡◌, Bool, true, false, ℕ, zero, suc, ◌+◌, ◌≤◌, ◌<◌, List, [], ◌∷◌, ◌++◌, length, map, drop, fold, Some, refl, sym, ap, subst, ◌∙◌, arith, append_assoc, append-nil, length-append, inl, inr}
 use Rattle.std.specs.Prelude.{slice_get, ◌⊎◌, ◌||◌}
-use Rattle.std.specs.List.{list_any}
+use Rattle.std.specs.List.{AllZip, list_any}
 use Rattle.std.specs.Option.{option_map}
 use Rattle.std.proofs.lemmas.Option.{slice_get-map}
 use Rattle.feed_core.specs.laws.Lists.{get_push}
-use Rattle.live_feed.specs.settle.Zips.{Zip2, Zip3}
 use Rattle.live_feed.proofs.HubMoves.{below_of, one_there}
 use Rattle.live_feed.proofs.ClosedLanes.{next_drop, drop_past}
 
@@ -105,132 +104,41 @@ module _ {X Y : Type 0} (Q : ℕ → X → Y → Type 0) where
           let first : x ≡ a = one_there (slice_get xs (length ys)) x a at (ap (slice_get xs) (sym same) ∙ left) in
           subst (λ (z : ℕ × (X × Y)). Q z.0 z.1.0 z.1.1) (λ i. (sym same i, (first i, sym is i))) here
 
--- ---- three lists
-
-module _ {A B C : Type 0} (R : ℕ → A → B → C → Type 0) where
-  -- what holds at each place of three lists of one length
-  pub three_of : (k : ℕ) (xs : List A) (ys : List B) (zs : List C) → length ys ≡ length xs → length zs ≡ length xs
-      → ((p : ℕ) (x : A) (y : B) (z : C) → slice_get xs p ≡ Some x → slice_get ys p ≡ Some y → slice_get zs p ≡ Some z
-      → R (k + p) x y z) → Zip3 R k xs ys zs
-  three_of k [] [] [] m n h = tt
-  three_of k [] [] (z ∷ zs) m n h = absurd (omega arith)
-  three_of k [] (y ∷ ys) zs m n h = absurd (omega arith)
-  three_of k (x ∷ xs) [] zs m n h = absurd (omega arith)
-  three_of k (x ∷ xs) (y ∷ ys) [] m n h = absurd (omega arith)
-  three_of k (x ∷ xs) (y ∷ ys) (z ∷ zs) m n h =
-      let here : k + 0 ≡ k = omega arith in (
-        subst (λ (i : ℕ). R i x y z) here (h 0 x y z refl refl refl),
-        three_of (k + 1) xs ys zs (omega arith)
-            (omega arith) (λ p a b c left mid right. (let next : k + suc p ≡ (k + 1) + p = omega arith in
-            subst (λ (i : ℕ). R i a b c) next (h (suc p) a b c left mid right))),
-      )
-
-  pub three_at_start : (xs : List A) (ys : List B) (zs : List C) → length ys ≡ length xs → length zs ≡ length xs
-      → ((p : ℕ) (x : A) (y : B) (z : C) → slice_get xs p ≡ Some x → slice_get ys p ≡ Some y → slice_get zs p ≡ Some z
-      → R p x y z) → Zip3 R 0 xs ys zs
-  three_at_start xs ys zs m n h = three_of 0 xs ys zs m n
-      (λ p x y z left mid right. (let same : p ≡ 0 + p = omega arith in
-      subst (λ (i : ℕ). R i x y z) same (h p x y z left mid right)))
-
-  pub three_long : (k : ℕ) (xs : List A) (ys : List B) (zs : List C) → Zip3 R k xs ys zs
-      → (length ys ≡ length xs) × (length zs ≡ length xs)
-  three_long k [] [] [] h = (refl, refl)
-  three_long k [] [] (z ∷ zs) h = absurd h
-  three_long k [] (y ∷ ys) zs h = absurd h
-  three_long k (x ∷ xs) [] zs h = absurd h
-  three_long k (x ∷ xs) (y ∷ ys) [] h = absurd h
-  three_long k (x ∷ xs) (y ∷ ys) (z ∷ zs) h = let rest = three_long (k + 1) xs ys zs h.1 in
-      (ap suc rest.0, ap suc rest.1)
-
-  pub three_next : (k : ℕ) (xs as_left : List A) (ys bs_left : List B) (zs cs_left : List C) (x : A) (y : B) (z : C)
-      → xs ≡ x ∷ as_left → ys ≡ y ∷ bs_left → zs ≡ z ∷ cs_left
-      → Zip3 R k xs ys zs → R k x y z × Zip3 R (k + 1) as_left bs_left cs_left
-  three_next k xs as_left ys bs_left zs cs_left x y z first second third h =
-      subst (λ (l : List A × (List B × List C)). Zip3 R k l.0 l.1.0 l.1.1) (λ i. (first i, (second i, third i))) h
-
 -- ---- two lists
 
-module _ {A D : Type 0} (S : ℕ → A → D → Type 0) where
+module _ {A D : Type 0} (S : A → D → Type 0) where
   -- of all items of the first list these items are left, and the second list holds the results of
   -- the others
   abbrev pub Until : List A → List D → List A → Type 0
-  Until all done left = (rest : List D) → Zip2 S (length done) left rest → Zip2 S 0 all (done ++ rest)
-
-  pub none_done : (all left : List A) (done : List D) → length done ≡ 0 → left ≡ all → Until all done left
-  none_done all left [] none same = λ rest two. subst (λ (l : List A). Zip2 S 0 l rest) same two
-  none_done all left (d ∷ done) none same = absurd (omega arith)
+  Until all done left = (rest : List D) → AllZip S left rest → AllZip S all (done ++ rest)
 
   pub one_done : (all left more_left : List A) (done more : List D) (x : A) (d : D) → left ≡ x ∷ more_left
-      → more ≡ done ++ d ∷ [] → S (length done) x d → Until all done left → Until all more more_left
-  one_done all left more_left done more x d is grown here until = λ rest two.
-      (let n : length more ≡ length done + 1 = ap length grown ∙ length-append done (d ∷ []) in
-      let whole : more ++ rest ≡ done ++ d ∷ rest = ap (λ (l : List D). l ++ rest) grown
+      → more ≡ done ++ d ∷ [] → S x d → Until all done left → Until all more more_left
+  one_done all left more_left done more x d is grown here until = λ rest zip.
+      (let whole : more ++ rest ≡ done ++ d ∷ rest = ap (λ (l : List D). l ++ rest) grown
       ∙ append_assoc done (d ∷ []) rest in
-      subst (λ (l : List D). Zip2 S 0 all l) (sym whole)
-      (until (d ∷ rest) (subst (λ (l : List A). Zip2 S (length done) l (d ∷ rest)) (sym is)
-      (here, subst (λ (k : ℕ). Zip2 S k more_left rest) n two))))
+      subst (λ (l : List D). AllZip S all l) (sym whole)
+      (until (d ∷ rest) (subst (λ (l : List A). AllZip S l (d ∷ rest)) (sym is) (here, zip))))
 
-  pub all_done : (all left : List A) (done : List D) → left ≡ [] → Until all done left → Zip2 S 0 all done
-  all_done all left done none until = subst (λ (l : List D). Zip2 S 0 all l) (append-nil done)
-      (until [] (subst (λ (l : List A). Zip2 S (length done) l []) (sym none) tt))
+  pub all_done : (all left : List A) (done : List D) → length left ≡ 0 → Until all done left → AllZip S all done
+  all_done all [] done none until = subst (λ (l : List D). AllZip S all l) (append-nil done) (until [] tt)
+  all_done all (x ∷ left) done none until = absurd (omega arith)
 
-  pub two_long : (k : ℕ) (xs : List A) (ds : List D) → Zip2 S k xs ds → length ds ≡ length xs
-  two_long k [] [] h = refl
-  two_long k [] (d ∷ ds) h = absurd h
-  two_long k (x ∷ xs) [] h = absurd h
-  two_long k (x ∷ xs) (d ∷ ds) h = ap suc (two_long (k + 1) xs ds h.1)
+-- what is said of each item and its result is said of what is seen of the item
+pub seen_zipped : {A X D : Type 0} (Q : A → D → Type 0) (R : X → D → Type 0) (f : A → X)
+    → ((a : A) (d : D) → Q a d → R (f a) d) → (xs : List A) (ds : List D) → AllZip Q xs ds → AllZip R (map f xs) ds
+seen_zipped Q R f h [] [] zip = tt
+seen_zipped Q R f h [] (d ∷ ds) zip = absurd zip
+seen_zipped Q R f h (x ∷ xs) [] zip = absurd zip
+seen_zipped Q R f h (x ∷ xs) (d ∷ ds) zip = (h x d zip.0, seen_zipped Q R f h xs ds zip.1)
 
-  pub two_at : (k : ℕ) (xs : List A) (ds : List D) → Zip2 S k xs ds → (p : ℕ) (x : A) (d : D) → slice_get xs p ≡ Some x
-      → slice_get ds p ≡ Some d → S (k + p) x d
-  two_at k [] ds h p x d left right = absurd cc
-  two_at k (y ∷ xs) [] h p x d left right = absurd cc
-  two_at k (y ∷ xs) (e ∷ ds) h zero x d left right =
-      let first : y ≡ x = cc in
-      let second : e ≡ d = cc in
-      let here : k ≡ k + 0 = omega arith in
-      subst (λ (z : ℕ × (A × D)). S z.0 z.1.0 z.1.1) (λ i. (here i, (first i, second i))) h.0
-  two_at k (y ∷ xs) (e ∷ ds) h (suc p) x d left right =
-      let next : (k + 1) + p ≡ k + suc p = omega arith in
-      subst (λ (n : ℕ). S n x d) next (two_at (k + 1) xs ds h.1 p x d left right)
-
-  pub two_at_start : (xs : List A) (ds : List D) → Zip2 S 0 xs ds → (p : ℕ) (x : A) (d : D) → slice_get xs p ≡ Some x
-      → slice_get ds p ≡ Some d → S p x d
-  two_at_start xs ds h p x d left right = let same : 0 + p ≡ p = omega arith in
-      subst (λ (n : ℕ). S n x d) same (two_at 0 xs ds h p x d left right)
-
--- ---- lists whose items are closed side by side
-
-module _ {A B C D : Type 0} (R : ℕ → A → B → C → Type 0) (S : ℕ → A → D → Type 0) where
-  -- Of all items of the first list these are left, and beside them those of the two others; the
-  -- last list holds the results of those that were closed.
-  pub record Closes (all : List A) (done : List D) (xs : List A) (ys : List B) (zs : List C)
-      : Type 0 where
-    pub left : Zip3 R (length done) xs ys zs
-    pub until : Until S all done xs
-
-  pub none_closed : (all xs : List A) (done : List D) (ys bs : List B) (zs cs : List C)
-      → length done ≡ 0 → xs ≡ all → bs ≡ ys → cs ≡ zs → Zip3 R 0 all ys zs
-      → Closes all done xs bs cs
-  none_closed all xs done ys bs zs cs none first second third ready = record {
-    left = subst (λ (l : ℕ × (List A × (List B × List C))). Zip3 R l.0 l.1.0 l.1.1.0 l.1.1.1)
-        (λ i. (sym none i, (sym first i, (sym second i, sym third i)))) ready;
-    until = none_done S all xs done none first;
-  }
-
-  module _ (all xs more_xs : List A) (done : List D) (ys more_ys : List B) (zs more_zs : List C)
-      (x : A) (y : B) (z : C) (first : xs ≡ x ∷ more_xs) (second : ys ≡ y ∷ more_ys)
-      (third : zs ≡ z ∷ more_zs) (c : Closes all done xs ys zs) where
-    next : R (length done) x y z × Zip3 R (length done + 1) more_xs more_ys more_zs
-    next = three_next R (length done) xs more_xs ys more_ys zs more_zs x y z first second third c.left
-
-    pub next_closes : R (length done) x y z
-    next_closes = next.0
-
-    pub one_closed : (more : List D) (d : D) → more ≡ done ++ d ∷ [] → S (length done) x d
-        → Closes all more more_xs more_ys more_zs
-    one_closed more d grown here =
-        let longer : length more ≡ length done + 1 = ap length grown ∙ length-append done (d ∷ []) in
-        record {
-          left = subst (λ (k : ℕ). Zip3 R k more_xs more_ys more_zs) (sym longer) next.1;
-          until = one_done S all xs more_xs done more x d first grown here c.until;
-        }
+-- the items at one place
+pub zipped_at : {X D : Type 0} (R : X → D → Type 0) (xs : List X) (ds : List D) (place : ℕ) (x : X) (d : D)
+    → AllZip R xs ds → slice_get xs place ≡ Some x → slice_get ds place ≡ Some d → R x d
+zipped_at R [] ds place x d zip left right = absurd cc
+zipped_at R (y ∷ xs) [] place x d zip left right = absurd zip
+zipped_at {X} {D} R (y ∷ xs) (e ∷ ds) zero x d zip left right =
+    let first : y ≡ x = cc in
+    let second : e ≡ d = cc in
+    subst (λ (z : X × D). R z.0 z.1) (λ i. (first i, second i)) zip.0
+zipped_at R (y ∷ xs) (e ∷ ds) (suc place) x d zip left right = zipped_at R xs ds place x d zip.1 left right

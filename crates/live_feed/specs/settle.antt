@@ -1,5 +1,4 @@
 -- The settlement of a feed.
 pub mod Rooms
-pub mod Zips
 pub mod Settlements
 pub mod Closings

@@ -1,11 +1,10 @@
 //! The settlement of a feed.
 
 ghost use Rattle.std.specs.Prelude.{◌≡◌, ◌≤◌, [], length, map, vec_len, vec_capacity, IfOk, IfErr, OnOk};
-ghost use Rattle.live_feed.specs.settle.Settlements.{AllAgree, AreInOrder, AreVenues, IsSettlement};
-ghost use Rattle.live_feed.specs.settle.Closings.{HasRoom, IsClosedFeed};
+ghost use Rattle.live_feed.specs.settle.Settlements.{AllAgree, AreInOrder, AreVenues, IsClosedVenue, IsSettlement, ShowsSubscriber};
+ghost use Rattle.live_feed.specs.settle.Closings.{HasRoom, IsClosedFeed, IsToClose, IsToServe};
 
 mod agreeing;
-mod closing;
 mod rooms;
 pub(crate) mod settlement;
 mod subscriber_end;
@@ -21,12 +20,15 @@ use crate::feed::log_size::LogSize;
 use crate::feed::open_feed::{Guarded, OpenFeed};
 use crate::feed_name::FeedName;
 use crate::hub::cell::HubCell;
-use crate::lists::made_of_each;
+use crate::lists::{made_of_each, made_of_three};
 use crate::settle::agreeing::{all_agree, are_in_order, has_its_seats};
-use crate::settle::closing::{close_subscribers, close_venues};
 use crate::settle::rooms::{FeedRoom, feed_room};
 use crate::settle::settlement::Settlement;
+use crate::settle::subscriber_end::SubscriberEnd;
+use crate::settle::subscriber_lane::settle_subscriber;
 use crate::settle::unsettled::Unsettled;
+use crate::settle::venue_end::VenueEnd;
+use crate::settle::venue_lane::settle_venue;
 use crate::subscriber::Subscriber;
 use crate::venue::locks::{VenueLock, VenueLocks};
 use crate::venue::seat::LineSeat;
@@ -174,21 +176,27 @@ fn closed<G: Genuine, N: FeedName, W: Wait>(
         bells: _,
         log_size: _,
     } = unlocked;
-    let HubCell {
-        core,
-        filters: _,
-        next: _,
-    } = hub;
-    let (journal, receivers, senders) = core.into_parts();
+    let (journal, receivers, senders) = hub.core.into_parts();
     let entries = journal.entries();
-    let venue_ends = close_venues(rt, entries, venues, receivers, room.venues, room.venue_ends);
-    let subscriber_ends = close_subscribers(
-        rt,
-        &journal,
+    let venue_ends = made_of_three(
+        venues,
+        receivers,
+        room.venues,
+        room.venue_ends,
+        &|guarded, receiver, room| -> VenueEnd
+            requires { IsToClose G.Genuine N.lanes entries.now guarded.cell receiver room }
+            ensures { IsClosedVenue G.Genuine N.lanes entries.entry.now guarded.cell result }
+        { settle_venue(rt, entries, guarded.cell, receiver, room) },
+    );
+    let subscriber_ends = made_of_three(
         subscribers,
         senders,
         room.subscribers,
         room.subscriber_ends,
+        &|subscriber, sender, room| -> SubscriberEnd
+            requires { IsToServe N.lanes journal subscriber.log sender room }
+            ensures { ShowsSubscriber journal subscriber.log.id subscriber.log result }
+        { settle_subscriber(rt, &journal, sender, subscriber.log, room) },
     );
     Settlement::new(journal, venue_ends, subscriber_ends)
 }

@@ -1,5 +1,6 @@
 -- A feed whose lanes are closed one after the other.
-use Rattle.std.specs.Prelude.{◌≡◌, ℕ, ◌≤◌, ◌<◌, List, length, vec_capacity}
+use Rattle.std.specs.Prelude.{◌≡◌, ◌≤◌, ◌<◌, List, [], length, vec_capacity}
+use Rattle.std.specs.List.{AllZip}
 use Rattle.feed_types.specs.declared.item.Numbered.{Numbered}
 use Rattle.feed_types.specs.declared.journal.Entry.{Entry}
 use Rattle.feed_types.specs.declared.journal.Notice.{Notice}
@@ -12,33 +13,31 @@ use Rattle.live_feed.specs.hub.Hubs.{HubState, IsConsumed, HubLockInvariant, IsO
 use Rattle.live_feed.specs.subscriber.Logs.{SubscriberLogState}
 use Rattle.live_feed.specs.settle.Rooms.{HasVenueRoom, HasSubscriberRoom, HaveVenueRooms, HaveSubscriberRooms}
 use Rattle.live_feed.specs.settle.Settlements.{IsClosedVenue, SettlementState, ShowsSubscriber}
-use Rattle.live_feed.specs.settle.Zips.{Zip2}
 use Rattle.live_feed.specs.declared.settle.rooms.VenueRoom.{VenueRoom}
 use Rattle.live_feed.specs.declared.settle.rooms.SubscriberRoom.{SubscriberRoom}
 use Rattle.live_feed.specs.declared.settle.rooms.FeedRoom.{FeedRoom}
 
 -- the venue's cell, the receiving end of its lane, and room for what is left of it
 pub record IsToClose {S : Type 0} (premise : Genuine S) (lanes : FeedLanes) (entries : List Entry)
-    (venue : ℕ) (c : CellState) (e : LaneEnd Numbered) (r : VenueRoom) : Type 0 where
-  pub venue_is : c.arbiter.venue ≡ venue
-  pub consumed : IsConsumed premise lanes entries venue e
+    (c : CellState) (e : LaneEnd Numbered) (r : VenueRoom) : Type 0 where
+  pub consumed : IsConsumed premise lanes entries c.arbiter.venue e
   pub room : HasVenueRoom entries c r
 
 -- what the subscriber keeps, the sending end of its lane, and room for what is left of it
-pub record IsToServe (lanes : FeedLanes) (journal : JournalState) (id : ℕ) (t : SubscriberLogState)
+pub record IsToServe (lanes : FeedLanes) (journal : JournalState) (t : SubscriberLogState)
     (e : LaneEnd Notice) (r : SubscriberRoom) : Type 0 where
-  pub known : (t.id ≡ id) × (id < length journal.cursors)
-  pub offered : IsOffered lanes journal id e
-  pub room : HasSubscriberRoom journal id e r
+  pub known : t.id < length journal.cursors
+  pub offered : IsOffered lanes journal t.id e
+  pub room : HasSubscriberRoom journal t.id e r
 
 -- there is room for everything that is left of the feed
 pub record HasRoom (cells : List CellState) (hub : HubState) (r : FeedRoom) : Type 0 where
   pub venue_count : length r.venues.items ≡ length cells
   pub venues : HaveVenueRooms hub.journal.entries cells r.venues.items
-  pub venue_ends : (length r.venue_ends.items ≡ 0) × (length cells ≤ vec_capacity r.venue_ends)
+  pub venue_ends : (r.venue_ends.items ≡ []) × (length cells ≤ vec_capacity r.venue_ends)
   pub subscriber_count : length r.subscribers.items ≡ length hub.senders
   pub subscribers : HaveSubscriberRooms hub.journal hub.senders r.subscribers.items
-  pub subscriber_ends : (length r.subscriber_ends.items ≡ 0)
+  pub subscriber_ends : (r.subscriber_ends.items ≡ [])
       × (length hub.senders ≤ vec_capacity r.subscriber_ends)
 
 -- the closed feed of these cells, this consolidator's part and these subscribers
@@ -47,5 +46,5 @@ pub record IsClosedFeed {S : Type 0} (premise : Genuine S)
     (s : SettlementState) : Type 0 where
   pub kept : HubLockInvariant premise lanes hub
   pub journal : s.journal ≡ hub.journal
-  pub venues : Zip2 (IsClosedVenue premise lanes s.journal.entries) 0 cells s.venues
-  pub subscribers : Zip2 (ShowsSubscriber s.journal) 0 logs s.subscribers
+  pub venues : AllZip (IsClosedVenue premise lanes s.journal.entries) cells s.venues
+  pub subscribers : AllZip (λ t x. ShowsSubscriber s.journal t.id t x) logs s.subscribers

@@ -110,11 +110,11 @@ AreInOrder logs = (id : ℕ) (t : SubscriberLogState) → slice_get logs id ≡ 
 
 -- a venue's cell, which its lock kept last, and what is left of it once its lane is closed
 pub record IsClosedVenue {S : Type 0} (premise : Genuine S) (lanes : FeedLanes)
-    (entries : List Entry) (venue : ℕ) (c : CellState) (v : VenueEndState) : Type 0 where
+    (entries : List Entry) (c : CellState) (v : VenueEndState) : Type 0 where
   pub kept : VenueLockInvariant premise lanes c
-  pub settled : IsSettled premise venue lanes.setting.window c.lane.items v.consumed v.in_lane
-      v.ready v.wins v.accepted
-  pub consumed : v.consumed ≡ items_in entries venue
+  pub settled : IsSettled premise c.arbiter.venue lanes.setting.window c.lane.items v.consumed
+      v.in_lane v.ready v.wins v.accepted
+  pub consumed : v.consumed ≡ items_in entries c.arbiter.venue
   pub wins : v.wins ≡ c.arbiter.wins
   pub accepted : v.accepted ≡ c.accepted
 

@@ -2,9 +2,8 @@
 
 ghost use Rattle.std.specs.Prelude.{◌≡◌, ◌≤◌, ◌<◌, ◌+◌, ◌++◌, ◌∷◌, [], drop, filter, length, vec_len, vec_capacity};
 ghost use Rattle.filter_terms.specs.Terms.{meets};
-ghost use Rattle.live_feed.specs.hub.Hubs.{IsOffered};
-ghost use Rattle.live_feed.specs.settle.Settlements.{IsServed};
-ghost use Rattle.live_feed.specs.settle.Rooms.{HasSubscriberRoom};
+ghost use Rattle.live_feed.specs.settle.Settlements.{ShowsSubscriber};
+ghost use Rattle.live_feed.specs.settle.Closings.{IsToServe};
 
 use crate::feed_name::FeedName;
 use crate::settle::rooms::SubscriberRoom;
@@ -61,11 +60,8 @@ pub(crate) fn settle_subscriber<N: FeedName, W: Wait>(
     log: SubscriberLog<N>,
     room: SubscriberRoom,
 ) -> SubscriberEnd
-    requires known { log.id < length journal.now.cursors }
-    requires offered { IsOffered N.lanes journal.now log.id sender }
-    requires room { HasSubscriberRoom journal.now log.id sender room }
-    ensures served { IsServed journal.now log.id result.log result.queued result.unoffered }
-    ensures log { result.log ≡ log.lines }
+    requires { IsToServe N.lanes journal.now log sender room }
+    ensures { ShowsSubscriber journal.now log.id log result }
 {
     let SubscriberRoom { queued, unoffered } = room;
     let id = log.id();

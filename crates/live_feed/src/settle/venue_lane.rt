@@ -4,9 +4,9 @@ ghost use Rattle.std.specs.Prelude.{◌≡◌, ◌≤◌, ◌<◌, ◌+◌, ◌+
 ghost use Rattle.line_arbiter.specs.Packets.{Arrival};
 ghost use Rattle.line_arbiter.specs.Streams.{stream_of};
 ghost use Rattle.line_arbiter.specs.Fits.{Fits};
-ghost use Rattle.live_feed.specs.hub.Hubs.{IsConsumed, item_by, items_in};
+ghost use Rattle.live_feed.specs.hub.Hubs.{item_by, items_in};
 ghost use Rattle.live_feed.specs.settle.Settlements.{IsClosedVenue};
-ghost use Rattle.live_feed.specs.settle.Rooms.{HasVenueRoom};
+ghost use Rattle.live_feed.specs.settle.Closings.{IsToClose};
 
 use crate::feed_name::FeedName;
 use crate::settle::rooms::VenueRoom;
@@ -118,9 +118,8 @@ pub(crate) fn settle_venue<G: Genuine, N: FeedName, W: Wait>(
     receiver: Receiver<Numbered, VenueItems<G>>,
     room: VenueRoom,
 ) -> VenueEnd
-    requires end { IsConsumed G.Genuine N.lanes entries.now cell.arbiter.venue receiver }
-    requires room { HasVenueRoom entries.now cell room }
-    ensures { IsClosedVenue G.Genuine N.lanes entries.now cell.arbiter.venue cell result }
+    requires { IsToClose G.Genuine N.lanes entries.now cell receiver room }
+    ensures { IsClosedVenue G.Genuine N.lanes entries.now cell result }
 {
     let VenueRoom {
         consumed,

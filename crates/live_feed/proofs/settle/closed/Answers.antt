@@ -1,4 +1,4 @@
-use Rattle.std.proofs.Common.{List, length, map, sym, ap, subst, ◌∙◌, arith}
+use Rattle.std.proofs.Common.{ℕ, List, length, map, sym, ap, subst, ◌∙◌, arith}
 use Rattle.std.specs.Prelude.{slice_get}
 use Rattle.std.proofs.lemmas.List.{length-map}
 use Rattle.feed_types.specs.declared.journal.Entry.{Entry}
@@ -8,62 +8,96 @@ use Rattle.journal_book.specs.Journals.{JournalState}
 use Rattle.fifo_lane.specs.Lane.{LaneEnd}
 use Rattle.live_feed.specs.hub.Hubs.{IsConsumed, IsOffered}
 use Rattle.live_feed.specs.settle.Rooms.{HasVenueRoom, HasSubscriberRoom}
-use Rattle.live_feed.specs.settle.Closings.{IsToClose, IsToServe}
+use Rattle.live_feed.specs.settle.Settlements.{IsClosedVenue, SettlementState, ShowsSubscriber}
+use Rattle.live_feed.specs.settle.Closings.{IsClosedFeed}
 use Rattle.live_feed.proofs.HubMoves.{below_of}
-use Rattle.live_feed.proofs.Sides.{three_at_start}
+use Rattle.live_feed.proofs.Sides.{at_map, seen_zipped}
 use Rattle.live_feed.proofs.settle.closed.Goals as goal
 
-pub close_venues-venue_ends-requires-clause-ready :
-    goal.close_venues-venue_ends-requires-clause-ready
-close_venues-venue_ends-requires-clause-ready g c =
+pub made_of_three-venue_ends-requires-clause-counts : goal.made_of_three-venue_ends-requires-clause-counts
+made_of_three-venue_ends-requires-clause-counts g c =
+    let made = c.into_parts-journal in
+    let received = ap length made.ensures.parts.1 in
+    let of_hub = made.ensures.hub.venues in
+    let counted = c.requires.counts.0 in
+    let rooms = c.requires.room.venue_count in
+    let same = length-map c.args.unlocked.venues.items (λ v. v.cell) in
+    let first = c.args.unlocked.venues.ok.0 in
+    let second = made.result.1.ok.0 in
+    let third = c.args.room.venues.ok.0 in
+    (omega arith, omega arith)
+
+pub made_of_three-venue_ends-requires-clause-callable : goal.made_of_three-venue_ends-requires-clause-callable
+made_of_three-venue_ends-requires-clause-callable g c =
     let premise = g.G.Genuine in
     let lanes = g.N.FeedName.lanes in
     let made = c.into_parts-journal in
     let parts = made.ensures.parts in
-    let hub = made.ensures.hub in
-    let venues = c.args.unlocked.venues.items in
     let entries = c.entries-entries.ensures.value ∙ ap (λ (j : JournalState). j.entries) parts.0 in
-    let same = length-map venues (λ v. v.cell) in
-    let received = ap length parts.1 in
-    let of_hub = hub.venues in
-    let counted = c.requires.counts.0 in
-    let rooms = c.requires.room.venue_count in
-    three_at_start (IsToClose premise lanes c.entries-entries.result.now) (map (λ v. v.cell) venues) made.result.1.items
-    c.args.room.venues.items (omega arith) rooms
-    (λ venue cell e r left mid right. record {
-      venue_is = c.requires.venues venue cell left;
-      consumed = subst (λ (l : List Entry). IsConsumed premise lanes l venue e) (sym entries)
-          (hub.consumed venue e (ap (λ (l : List (LaneEnd Numbered)). slice_get l venue) (sym parts.1) ∙ mid));
-      room = subst (λ (l : List Entry). HasVenueRoom l cell r) (sym entries)
-          (c.requires.room.venues venue cell r left right);
+    λ venue guarded e r left mid right.
+    (let at = at_map (λ v. v.cell) c.args.unlocked.venues.items venue guarded left in
+    let is = c.requires.venues venue guarded.cell at in
+    record {
+      consumed = subst (λ (x : List Entry × ℕ). IsConsumed premise lanes x.0 x.1 e)
+          (λ i. (sym entries i, sym is i))
+          (made.ensures.hub.consumed venue e (ap (λ (l : List (LaneEnd Numbered)). slice_get l venue) (sym parts.1) ∙ mid));
+      room = subst (λ (l : List Entry). HasVenueRoom l guarded.cell r) (sym entries)
+          (c.requires.room.venues venue guarded.cell r at right);
     })
 
-pub close_subscribers-subscriber_ends-requires-clause-ready :
-    goal.close_subscribers-subscriber_ends-requires-clause-ready
-close_subscribers-subscriber_ends-requires-clause-ready g c =
+pub made_of_three-subscriber_ends-requires-clause-counts : goal.made_of_three-subscriber_ends-requires-clause-counts
+made_of_three-subscriber_ends-requires-clause-counts g c =
+    let made = c.into_parts-journal in
+    let sent = ap length made.ensures.parts.2 in
+    let of_hub = made.ensures.hub.subscribers in
+    let counted = c.requires.counts.1 in
+    let rooms = c.requires.room.subscriber_count in
+    let first = c.args.subscribers.ok.0 in
+    let second = made.result.2.ok.0 in
+    let third = c.args.room.subscribers.ok.0 in
+    (omega arith, omega arith)
+
+pub made_of_three-subscriber_ends-requires-clause-callable :
+    goal.made_of_three-subscriber_ends-requires-clause-callable
+made_of_three-subscriber_ends-requires-clause-callable g c =
     let lanes = g.N.FeedName.lanes in
     let made = c.into_parts-journal in
     let parts = made.ensures.parts in
-    let hub = made.ensures.hub in
-    let subscribers = c.args.subscribers.items in
-    let logs = map (λ s. s.log) subscribers in
-    let same = length-map subscribers (λ s. s.log) in
-    let sent = ap length parts.2 in
-    let of_hub = hub.subscribers in
+    let logs = map (λ s. s.log) c.args.subscribers.items in
+    λ id subscriber e r left mid right.
+    (let log = subscriber.log in
+    let at = at_map (λ s. s.log) c.args.subscribers.items id subscriber left in
+    let is = c.requires.order id log at in
+    let sent = ap (λ (l : List (LaneEnd Notice)). slice_get l id) (sym parts.2) ∙ mid in
+    let below = below_of logs id log (sym at) in
     let counted = c.requires.counts.1 in
-    let rooms = c.requires.room.subscriber_count in
-    three_at_start (IsToServe lanes made.result.0) logs made.result.2.items c.args.room.subscribers.items (omega arith)
-    (omega arith)
-    (λ id t e r left mid right.
-    (let below = below_of logs id t (sym left) in
-    let at = ap (λ (l : List (LaneEnd Notice)). slice_get l id) (sym parts.2) ∙ mid in
+    let same = length-map c.args.subscribers.items (λ s. s.log) in
+    let cursors = ap (λ (j : JournalState). length j.cursors) parts.0 in
     record {
-      known = (
-        c.requires.order id t left,
-        (let cursors = ap (λ (j : JournalState). length j.cursors) parts.0 in
-            omega arith),
-      );
-      offered = subst (λ (j : JournalState). IsOffered lanes j id e) (sym parts.0) (hub.offered id e at);
-      room = subst (λ (j : JournalState). HasSubscriberRoom j id e r) (sym parts.0)
-          (c.requires.room.subscribers id e r at right);
-    }))
+      known = omega arith;
+      offered = subst (λ (x : JournalState × ℕ). IsOffered lanes x.0 x.1 e) (λ i. (sym parts.0 i, sym is i))
+          (made.ensures.hub.offered id e sent);
+      room = subst (λ (x : JournalState × ℕ). HasSubscriberRoom x.0 x.1 e r) (λ i. (sym parts.0 i, sym is i))
+          (c.requires.room.subscribers id e r sent right);
+    })
+
+pub returns : goal.returns
+returns g c =
+    let premise = g.G.Genuine in
+    let lanes = g.N.FeedName.lanes in
+    let unlocked = c.args.unlocked in
+    let subscribers = c.args.subscribers.items in
+    let made = c.into_parts-journal in
+    let journal = made.result.0 in
+    let venue_ends = c.made_of_three-venue_ends in
+    let subscriber_ends = c.made_of_three-subscriber_ends in
+    subst (λ (s : SettlementState). IsClosedFeed premise lanes (map (λ v. v.cell) unlocked.venues.items)
+    unlocked.hub.core (map (λ s. s.log) subscribers) s) (sym c.new.ensures) (record {
+      kept = made.ensures.hub;
+      journal = made.ensures.parts.0;
+      venues = seen_zipped _ (IsClosedVenue premise lanes journal.entries) (λ v. v.cell)
+          (λ guarded end one. subst (λ (l : List Entry). IsClosedVenue premise lanes l guarded.cell end)
+          c.entries-entries.ensures.value one.2) unlocked.venues.items venue_ends.result.items venue_ends.ensures;
+      subscribers = seen_zipped _ (λ t x. ShowsSubscriber journal t.id t x) (λ s. s.log) (λ s x one. one.2) subscribers
+          subscriber_ends.result.items subscriber_ends.ensures;
+    })

@@ -20,7 +20,7 @@ returns g c =
       venues = subst (λ (es : List Entry). HaveVenueRooms es cells venues.venue_lists.items) entries
           venues.ensures.rooms;
       venue_ends = (
-        ap length c.in_ok-venue_ends.ensures.items,
+        c.in_ok-venue_ends.ensures.items,
         (let room = c.in_ok-venue_ends.ensures.capacity in let long = length-map c.args.venues.now (λ v. v.cell) in
             omega arith),
       );
@@ -28,7 +28,7 @@ returns g c =
       subscribers = subst (λ (x : JournalState × List (LaneEnd Notice)). HaveSubscriberRooms x.0 x.1
           subscribers.subscriber_lists.items) (λ i. (c.journal-2.ensures i, senders i)) subscribers.ensures.rooms;
       subscriber_ends = (
-        ap length c.in_ok-subscriber_ends.ensures.items,
+        c.in_ok-subscriber_ends.ensures.items,
         (let room = c.in_ok-subscriber_ends.ensures.capacity in let long = ap length c.senders-2.ensures.value in
             omega arith),
       );

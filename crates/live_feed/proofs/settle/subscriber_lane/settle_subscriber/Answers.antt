@@ -1,11 +1,11 @@
-use Rattle.std.proofs.Common.{◌<◌, ℕ, List, drop, filter, sym, subst, ap, ◌∙◌}
+use Rattle.std.proofs.Common.{◌<◌, ℕ, List, drop, filter, refl, sym, subst, ap, ◌∙◌}
 use Rattle.std.specs.Prelude.{AllPairs, slice_get}
 use Rattle.feed_types.specs.declared.journal.Notice.{Notice}
 use Rattle.filter_terms.specs.Terms.{meets}
 use Rattle.journal_book.specs.Journals.{cursor_at, terms_at}
 use Rattle.fifo_lane.specs.Lane.{Keeps, LaneEnd}
 use Rattle.live_feed.specs.declared.subscriber.logged.Logged.{Logged}
-use Rattle.live_feed.specs.settle.Settlements.{IsServed, SubscriberEndState}
+use Rattle.live_feed.specs.settle.Settlements.{IsServed, ShowsSubscriber, SubscriberEndState}
 use Rattle.live_feed.proofs.HubMoves.{one_there}
 use Rattle.live_feed.proofs.ClosedSubscribers.{served}
 use Rattle.live_feed.proofs.settle.subscriber_lane.settle_subscriber.Goals as goal
@@ -18,8 +18,8 @@ settle-inside-requires g c =
     c.into_parts-lines.ensures.log.lane
     ∙ ap (λ (e : LaneEnd Notice). e.lane) (sym parts.1)
 
-pub returns-clause-served : goal.returns-clause-served
-returns-clause-served g c =
+pub returns : goal.returns
+returns g c =
     let may : ℕ → List Notice → Type 0 = λ id notices. AllPairs (λ (x y : Notice). x.number < y.number) notices in
     let parts = c.into_parts-lines.ensures.parts in
     let sender = c.args.sender in
@@ -38,9 +38,8 @@ returns-clause-served g c =
     (ap (cursor_at journal) own ∙ c.cursor-from.ensures.value)
     c.into_parts-lines.ensures.log.notices keeps (c.wanted_past-unoffered.ensures
     ∙ (λ i. filter (meets terms) (drop c.cursor-from.result (c.changes.ensures i)))) in
-    subst (λ (x : SubscriberEndState). IsServed journal log.id x.log x.queued x.unoffered) (sym c.new.ensures)
-    (subst (λ (x : List Logged × List Notice). IsServed journal log.id x.0 x.1 unoffered)
-    (λ i. (sym parts.0 i, sym c.drained-queued.ensures i)) whole)
-
-pub returns-clause-log : goal.returns-clause-log
-returns-clause-log g c = ap (λ (x : SubscriberEndState). x.log) c.new.ensures ∙ c.into_parts-lines.ensures.parts.0
+    subst (λ (x : SubscriberEndState). ShowsSubscriber journal log.id log x) (sym c.new.ensures) (record {
+      served = subst (λ (x : List Logged × List Notice). IsServed journal log.id x.0 x.1 unoffered)
+          (λ i. (sym parts.0 i, sym c.drained-queued.ensures i)) whole;
+      own = (refl, parts.0);
+    })

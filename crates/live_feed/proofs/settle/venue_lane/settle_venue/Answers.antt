@@ -27,7 +27,7 @@ settle-inside-requires g c =
     let k = c.into_parts-lines.ensures.kept in
     let cell = c.args.cell in
     ap (λ (e : LaneEnd Numbered). e.lane) parts.1 ∙ one_there (slice_get g.N.FeedName.lanes.venues cell.arbiter.venue)
-    cell.lane.lane c.args.receiver.lane k.lane c.requires.end.lane
+    cell.lane.lane c.args.receiver.lane k.lane c.requires.consumed.lane
 
 pub returns : goal.returns
 returns g c =
@@ -41,7 +41,7 @@ returns g c =
     let inside = c.settle-inside.result in
     let received = c.args.receiver.items in
     let consumed = c.consumed_of-consumed.ensures ∙ ap (items_in entries) c.venue.ensures in
-    let same = c.requires.end.items ∙ sym consumed in
+    let same = c.requires.consumed.items ∙ sym consumed in
     let keeps = subst (λ (e : LaneEnd Numbered). Keeps may e.tag e.capacity e.items received inside) parts.1
     c.settle-inside.ensures in
     let ready = c.take_ready-ready.ensures.ready packets
@@ -50,7 +50,7 @@ returns g c =
     let whole = settled g.G.Genuine g.N.FeedName.lanes may cell k received inside c.take_ready-ready.result.items
     c.all_wins-wins.result keeps
     (ready ∙ (λ i. drop (parts.0 i).sent (stream_of packets))) wins in
-    subst (λ (v : VenueEndState). IsClosedVenue g.G.Genuine g.N.FeedName.lanes entries cell.arbiter.venue cell v)
+    subst (λ (v : VenueEndState). IsClosedVenue g.G.Genuine g.N.FeedName.lanes entries cell v)
     (sym c.new.ensures) (record {
       kept = k;
       settled = subst (λ (x : List Numbered × (List Numbered × LineSums)). IsSettled premise cell.arbiter.venue

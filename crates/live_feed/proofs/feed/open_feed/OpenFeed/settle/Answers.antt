@@ -18,6 +18,7 @@ returns-in-Ok-room_for-clause-settled g c =
     let logs = map (λ s. s.log) c.args.subscribers.items in
     let agree = subst (λ (l : List SeatState). AllAgree l cells) c.as_slice-3.ensures.value
     c.in-Ok-room_for.ensures.agree in
+    let order = subst (λ l. AreInOrder (map (λ s. s.log) l)) c.as_slice-4.ensures.value c.in-Ok-room_for.ensures.order in
     let counts = c.in-Ok-room_for.ensures.counts in
     let venues = length-map c.in-Ok.unlocked.venues.items (λ v. v.cell) in
     let subscribers = length-map c.args.subscribers.items (λ s. s.log) in
@@ -25,4 +26,4 @@ returns-in-Ok-room_for-clause-settled g c =
     let first = counts.0 in
     let second = counts.1 in
     settlement g.G.Genuine g.N.FeedName.lanes c.args.seats.items cells c.in-Ok.unlocked.hub.core logs c.closed.result
-    c.closed.ensures agree (omega arith) (omega arith)
+    c.closed.ensures agree order (omega arith) (omega arith)
