@@ -1,5 +1,5 @@
 -- What a packet, a push and a renewal leave of a venue's cell, said of plain states.
-use Rattle.std.proofs.Common.{◌≡◌, ◌≢◌, inl, inr, ℕ, zero, suc, ◌+◌, ◌≤◌, Bool, true, false, Option, List, [], ◌∷◌, ◌++◌, length, map, take, drop, Some, None, Result, Ok, Err, refl, sym, ap, subst, ◌∙◌, arith, append_assoc, append-nil, length-append}
+use Rattle.std.proofs.Common.{◌≡◌, ◌≢◌, inl, inr, ℕ, zero, suc, ◌+◌, ◌≤◌, ◌<◌, Bool, true, false, Option, List, [], ◌∷◌, ◌++◌, length, map, take, drop, Some, None, Result, Ok, Err, refl, sym, ap, subst, ◌∙◌, arith, append_assoc, append-nil, length-append}
 use Rattle.std.specs.Prelude.{◌⊎◌, slice_get, if◌then◌else◌}
 use Rattle.std.proofs.lemmas.List.{take-append-drop}
 use Rattle.std.proofs.lemmas.List.Sums.{fold-append}
@@ -32,7 +32,7 @@ use Rattle.feed_types.specs.declared.genuine.Genuine.{Ghosts as Genuine}
 use Rattle.live_feed.specs.Premises.{AreInSequence, IsGenuinePacket}
 use Rattle.live_feed.specs.Lanes.{FeedLanes}
 use Rattle.live_feed.specs.venue.Sums.{Sums, no_sums, sums_after, accepted_on, sums_on, line_sums_after, LineSums}
-use Rattle.live_feed.specs.venue.Cells.{CellState, FitsCell, AreGivenFrom, VenueLockInvariant, DoneAtVenue, arrivals_of, new_cell}
+use Rattle.live_feed.specs.venue.Cells.{CellState, FitsCell, AreGivenFrom, VenueLockInvariant, DoneAtVenue, IsOthersLock, UnderVenueLock, arrivals_of, new_cell}
 use Rattle.live_feed.specs.venue.Sections.{TakesPacket, HasNoneReady, KeepsButSent, Pushes, TakesAndPushes, PushesOne, RenewsSession}
 use Rattle.feed_core.specs.declared.event.Done.TheVariants as done
 use Rattle.feed_core.specs.Steps.{AppliesTo, push_next}
@@ -584,3 +584,10 @@ module _ {S : Type 0} (premise : Genuine S) (lanes : FeedLanes) (venue : ℕ)
       → cell.arbiter.venue ≢ venue → answer → DoneAtVenue premise lanes venue section answer
   at_another cell kept other is =
       inr (inr (record { cell = cell; kept = kept; other = other }), is)
+
+  -- there is such a venue
+  pub at_one : DoneAtVenue premise lanes venue section answer → venue < length lanes.venues
+      → UnderVenueLock premise lanes venue section ⊎ (IsOthersLock premise lanes venue × answer)
+  at_one (inl done) below = inl done
+  at_one (inr ((inl past), is)) below = absurd (omega arith)
+  at_one (inr ((inr other), is)) below = inr (other, is)

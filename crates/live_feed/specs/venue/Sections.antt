@@ -1,6 +1,6 @@
 -- Each section under a lock is one event of the machine (feed_core), on the part that the lock
 -- keeps.
-use Rattle.std.specs.Prelude.{◌≡◌, ◌≢◌, ◌⊎◌, ℕ, ◌+◌, ◌-◌, ◌^◌, ◌≤◌, Bool, true, false, List, length, slice_get, Option, None, Result, Ok, Err, IsOk, OnOk, OnErr}
+use Rattle.std.specs.Prelude.{◌≡◌, ◌≢◌, ◌⊎◌, ℕ, ◌+◌, ◌-◌, ◌^◌, ◌≤◌, ◌<◌, Bool, true, false, List, length, slice_get, Option, None, Result, Ok, Err, IsOk, OnOk, OnErr}
 use Rattle.feed_types.specs.declared.item.Numbered.{Numbered}
 use Rattle.feed_types.specs.declared.line.LineId.{LineId}
 use Rattle.feed_types.specs.Sessions.{Session, IsSessionAt}
@@ -22,6 +22,8 @@ use Rattle.feed_core.specs.declared.event.Done.TheVariants as done
 use Rattle.feed_core.specs.Steps.{AddsArrival, AddsRenewal, push_next, AppliesTo}
 use Rattle.feed_types.specs.declared.genuine.Genuine.{Ghosts as Genuine}
 use Rattle.live_feed.specs.Premises.{AreInSequence, BringExactly}
+use Rattle.live_feed.specs.declared.faults.FeedFault.{FeedFault}
+use Rattle.live_feed.specs.declared.faults.FeedFault.TheVariants.{UnknownVenue}
 use Rattle.live_feed.specs.declared.faults.RenewalFault.{RenewalFault}
 use Rattle.live_feed.specs.declared.faults.RenewalFault.TheVariants as renewal
 use Rattle.live_feed.specs.declared.unsent.Unsent.{Unsent}
@@ -112,6 +114,18 @@ pub record Pushes (may_send : ℕ → List Numbered → Type 0) (most pushed : �
 abbrev pub IsFlushedBy : {S : Type 0} → Genuine S → FeedLanes → ℕ → ℕ → ℕ → Type 0
 IsFlushedBy premise lanes venue most pushed =
     DoneAtVenue premise lanes venue (Pushes (AreInSequence premise) most pushed) (pushed ≡ 0)
+
+-- The answer to a call on a venue: UnknownVenue where the feed has no such venue, and no other
+-- fault; else what the section under the venue's lock answered, or, where the lock was another's,
+-- `other`.
+abbrev pub AnswersAtVenue : {S A : Type 0} → Genuine S → FeedLanes → ℕ
+    → (A → CellState → CellState → Type 0) → A → Result A FeedFault → Type 0
+AnswersAtVenue premise lanes venue section other (Ok answer) =
+    (venue < length lanes.venues)
+    × (UnderVenueLock premise lanes venue (section answer)
+    ⊎ (IsOthersLock premise lanes venue × (answer ≡ other)))
+AnswersAtVenue premise lanes venue section other (Err fault) =
+    (fault ≡ UnknownVenue) × (length lanes.venues ≤ venue)
 
 -- What was ready of the venue was pushed, until nothing was or the lane was full.
 pub record PushesReady {S : Type 0} (premise : Genuine S) (lanes : FeedLanes) (venue : ℕ)

@@ -1,6 +1,6 @@
 //! An open feed: its venues and its journal, under locks.
 
-ghost use Rattle.std.specs.Prelude.{◌≡◌, ◌<◌, ◌≤◌, ◌↔◌, ◌-◌, ◌^◌, [], length, IfOk, IfErr, IsErrOf};
+ghost use Rattle.std.specs.Prelude.{◌≡◌, ◌<◌, ◌≤◌, ◌↔◌, ◌-◌, ◌^◌, [], None, length, IfOk, IfErr, IsErrOf};
 ghost use Rattle.journal_book.specs.Journals.{Declares};
 ghost use Rattle.live_feed.specs.Premises.{AreInSequence};
 ghost use Rattle.live_feed.specs.hub.Hubs.{UnderHubLock};
@@ -8,7 +8,7 @@ ghost use Rattle.live_feed.specs.hub.Sections.{Consumes, DeclaresAt};
 ghost use Rattle.live_feed.specs.hub.Batches.{ConsumesBatch};
 ghost use Rattle.live_feed.specs.hub.Offers.{LacksSubscriber, Offers};
 ghost use Rattle.live_feed.specs.hub.Turns.{TakesTurn};
-ghost use Rattle.live_feed.specs.venue.Sections.{IsDueAt, IsFlushedBy, IsRenewedBy};
+ghost use Rattle.live_feed.specs.venue.Sections.{AnswersAtVenue, IsRenewedBy, Pushes, RequestsGap};
 ghost use Rattle.live_feed.specs.venue.Seats.{GivesSeat, new_seat};
 ghost use Rattle.live_feed.specs.venue.Datagrams.{AreGenuineBytes, AcceptsTheirs, IsTakenBy, bytes_of};
 
@@ -114,10 +114,11 @@ impl<G: Genuine, N: FeedName> OpenFeed<G, N> {
     }
 
     /// Pushes what is ready of the venue, until nothing is or the lane is full, and returns how
-    /// many items were pushed.
+    /// many items were pushed. UnknownVenue where there is no such venue.
+    #[tactic(auto, using(crate::proofs::CellMoves::at_one))]
     pub fn flush<W: Wait>(&self, rt: &W, venue: VenueId) -> Result<u64, FeedFault>
-        ensures unknown { IsErrOf result FeedFault.UnknownVenue ↔ (length N.lanes.venues ≤ venue) }
-        ensures pushed { IfOk result (IsFlushedBy G.Genuine N.lanes venue (2 ^ 64 - 1)) }
+        ensures { AnswersAtVenue G.Genuine N.lanes venue
+            (Pushes (AreInSequence G.Genuine) (2 ^ 64 - 1)) 0 result }
     {
         if venue.index() >= self.venues.len() {
             return Err(FeedFault::UnknownVenue);
@@ -127,14 +128,14 @@ impl<G: Genuine, N: FeedName> OpenFeed<G, N> {
 
     /// Returns the request for the venue's gap to send now, if any. UnknownVenue where there is no
     /// such venue.
+    #[tactic(auto, using(crate::proofs::CellMoves::at_one))]
     pub fn due<W: Wait>(
         &self,
         rt: &W,
         venue: VenueId,
         now_ms: u64,
     ) -> Result<Option<Request>, FeedFault>
-        ensures unknown { IsErrOf result FeedFault.UnknownVenue ↔ (length N.lanes.venues ≤ venue) }
-        ensures due { IfOk result (IsDueAt G.Genuine N.lanes venue now_ms) }
+        ensures { AnswersAtVenue G.Genuine N.lanes venue (RequestsGap now_ms) None result }
     {
         if venue.index() >= self.venues.len() {
             return Err(FeedFault::UnknownVenue);
