@@ -106,9 +106,7 @@ fn destination_in(version: IpVersion, packet: &[u8]) -> Address
     ensures { result ≡ destination_in version packet.now }
 {
     match version {
-        IpVersion::V4 => {
-            Address::V4([packet[16], packet[17], packet[18], packet[19]])
-        }
+        IpVersion::V4 => { Address::V4([packet[16], packet[17], packet[18], packet[19]]) }
         IpVersion::V6 => {
             let mut bytes = [0; 16];
             bytes.copy_from_slice(&packet[24..40]);
