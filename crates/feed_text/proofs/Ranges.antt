@@ -20,3 +20,12 @@ pub range_more : (moved new view : List ℕ) (s e n : ℕ) → slice_range moved
 range_more moved new view s e n v h k m front =
     let split : slice_range new s (e + n) ≡ slice_range new s e ++ slice_range new e (e + n) = same_lists _ _ (search (rules, places)) (λ i d l. grind (arith, places)) in
     split ∙ ap (λ xs. xs ++ slice_range new e (e + n)) (range_kept moved new view s e v h k (omega arith) front)
+
+-- a part of what was made longer at its end
+pub range_longer : (moved new view : List ℕ) (s e : ℕ) → slice_range moved s e ≡ view → s ≤ e → e ≤ length moved
+    → length moved ≤ length new → take (length moved) new ≡ moved → slice_range new s e ≡ view
+range_longer moved new view s e v h k m front =
+    let same : slice_range new s e ≡ slice_range moved s e = same_lists _ _ (search (rules, places)) (λ i d l.
+    let at : get_or (take (length moved) new) (s + i) d ≡ get_or moved (s + i) d = ap (λ xs. get_or xs (s + i) d) front in
+    grind (arith, places)) in
+    same ∙ v

@@ -1,5 +1,5 @@
 //! The bytes that were read and not yet used.
-ghost use Rattle.std.specs.Prelude.{◌≡◌, ℕ, ◌+◌, ◌-◌, [], ◌<◌, ◌≤◌, ◌++◌, List, IfOk, Ok, Err, min, take, drop, length, slice_range, IsTrue, ◌↔◌};
+ghost use Rattle.std.specs.Prelude.{◌≡◌, ℕ, ◌+◌, ◌-◌, [], ◌<◌, ◌≤◌, ◌++◌, List, IfOk, Ok, Err, min, max, take, drop, length, slice_range, vec_capacity, IsTrue, ◌↔◌};
 ghost use Rattle.feed_text.specs.Devices.{HasGiven};
 
 use crate::devices::{CaptureIn, ReadStop};
@@ -10,8 +10,8 @@ use std::marker::Model;
 /// again.
 pub const RECORDS_ROOM: usize = 131_072;
 
-/// The room after the bytes below which they are moved to the front.
-const LEAST_ROOM: usize = 65_536;
+/// How many bytes are read at most by one call of a reader: no more than stay in a processor's cache.
+const MOST_READ: usize = 131_072;
 
 /// The result of one call of the reader.
 #[derive(Clone, Copy, Debug, PartialEq, Eq)]
@@ -27,58 +27,105 @@ pub enum ReadStep {
 /// The bytes that were read and not yet used, in order, at most `ROOM`. Contracts see their list.
 #[derive(Drop)]
 pub struct ReadBuffer<const ROOM: usize> {
+    /// As long as was wanted so far, with memory for `ROOM`.
     bytes: Vec<u8>,
     start: usize,
     end: usize,
 }
 
 impl<const ROOM: usize> Model for ReadBuffer<ROOM> {
-    ghost use Rattle.std.specs.Prelude.{◌≡◌, ℕ, ◌≤◌, List, length, slice_range};
+    ghost use Rattle.std.specs.Prelude.{◌≡◌, ℕ, ◌≤◌, List, length, slice_range, vec_capacity};
 
     ghost Value = { List ℕ };
 
     ghost view = { λ w. slice_range w.bytes.items w.start w.end };
 
     ghost invariant = { λ w.
-        (w.start ≤ w.end) × (w.end ≤ length w.bytes.items) × (length w.bytes.items ≡ ROOM) };
+        (w.start ≤ w.end) × (w.end ≤ length w.bytes.items)
+        × (length w.bytes.items ≤ ROOM) × (ROOM ≤ vec_capacity w.bytes) };
 }
 
-/// Moves the bytes from `start` to `end` to the front where that costs nothing or where there is
-/// little room after them. Returns their new start and end.
-fn make_room(bytes: &mut Vec<u8>, start: usize, end: usize) -> (usize, usize)
+/// Makes the bytes so long, within their memory, where they are shorter: memory is touched once it is
+/// used.
+fn lengthen(bytes: &mut Vec<u8>, len: usize)
+    requires { len ≤ vec_capacity bytes.old }
+    ensures long { len ≤ length bytes.new.items }
+    ensures most { length bytes.new.items ≤ max len (length bytes.old.items) }
+    ensures capacity { vec_capacity bytes.old ≤ vec_capacity bytes.new }
+    ensures longer { length bytes.old.items ≤ length bytes.new.items }
+    ensures same { take (length bytes.old.items) bytes.new.items ≡ bytes.old.items }
+{
+    if bytes.len() < len {
+        let Ok(()) = bytes.resize(len, 0) else {
+            unreachable!();
+        };
+    }
+}
+
+/// Moves the bytes from `start` to `end` to the front.
+fn bring_to_front(bytes: &mut Vec<u8>, start: usize, end: usize)
     requires order { start ≤ end }
     requires within { end ≤ length bytes.old.items }
-    requires not_full { end - start < length bytes.old.items }
+    ensures same { slice_range bytes.new.items 0 (end - start)
+        ≡ slice_range bytes.old.items start end }
+    ensures len { length bytes.new.items ≡ length bytes.old.items }
+    ensures capacity { vec_capacity bytes.new ≡ vec_capacity bytes.old }
+{
+    if start != 0 {
+        bytes.as_mut_slice().copy_within(start..end, 0);
+    }
+}
+
+/// Moves the bytes from `start` to `end` to the front, and makes room after them for those that one
+/// call of a reader is asked for. Returns their new start and end.
+fn make_room(bytes: &mut Vec<u8>, start: usize, end: usize, most: usize) -> (usize, usize)
+    requires order { start ≤ end }
+    requires within { end ≤ length bytes.old.items }
+    requires len { length bytes.old.items ≤ most }
+    requires capacity { most ≤ vec_capacity bytes.old }
+    requires not_full { end - start < most }
     ensures order { result.0 ≤ result.1 }
     ensures room { result.1 < length bytes.new.items }
     ensures same { slice_range bytes.new.items result.0 result.1
         ≡ slice_range bytes.old.items start end }
-    ensures len { length bytes.new.items ≡ length bytes.old.items }
+    ensures len { length bytes.new.items ≤ most }
+    ensures capacity { most ≤ vec_capacity bytes.new }
 {
-    if start < end && bytes.len() - end >= LEAST_ROOM {
-        return (start, end);
-    }
-    bytes.as_mut_slice().copy_within(start..end, 0);
-    (0, end - start)
+    bring_to_front(bytes, start, end);
+    let end = end - start;
+    lengthen(bytes, end + MOST_READ.min(most - end));
+    (0, end)
 }
 
-/// Moves the bytes from `start` to `end` to the front where fewer than `wanted` have room behind them,
-/// and says where they lie.
-fn make_room_for(bytes: &mut Vec<u8>, start: usize, end: usize, wanted: usize) -> (usize, usize)
+/// Makes room for `wanted` bytes after those from `start` to `end`, which are moved to the front where
+/// there is none, and says where they lie.
+fn make_room_for(
+    bytes: &mut Vec<u8>,
+    start: usize,
+    end: usize,
+    wanted: usize,
+    most: usize,
+) -> (usize, usize)
     requires order { start ≤ end }
     requires within { end ≤ length bytes.old.items }
-    requires fits { end - start + wanted ≤ length bytes.old.items }
+    requires len { length bytes.old.items ≤ most }
+    requires capacity { most ≤ vec_capacity bytes.old }
+    requires fits { end - start + wanted ≤ most }
     ensures order { result.0 ≤ result.1 }
     ensures room { result.1 + wanted ≤ length bytes.new.items }
     ensures same { slice_range bytes.new.items result.0 result.1
         ≡ slice_range bytes.old.items start end }
-    ensures len { length bytes.new.items ≡ length bytes.old.items }
+    ensures len { length bytes.new.items ≤ most }
+    ensures capacity { most ≤ vec_capacity bytes.new }
 {
-    if wanted <= bytes.len() - end {
+    if wanted <= most - end {
+        lengthen(bytes, end + wanted);
         return (start, end);
     }
-    bytes.as_mut_slice().copy_within(start..end, 0);
-    (0, end - start)
+    bring_to_front(bytes, start, end);
+    let end = end - start;
+    lengthen(bytes, end + wanted);
+    (0, end)
 }
 
 /// Puts more bytes from `end` on.
@@ -86,6 +133,7 @@ fn place(bytes: &mut Vec<u8>, end: usize, more: &[u8])
     requires { end + length more.now ≤ length bytes.old.items }
     ensures front { take end bytes.new.items ≡ take end bytes.old.items }
     ensures len { length bytes.new.items ≡ length bytes.old.items }
+    ensures capacity { vec_capacity bytes.new ≡ vec_capacity bytes.old }
     ensures more { slice_range bytes.new.items end (end + length more.now) ≡ more.now }
 {
     bytes.as_mut_slice()[end..end + more.len()].copy_from_slice(more);
@@ -100,6 +148,7 @@ fn read_behind<R: CaptureIn>(
     requires room { end < length bytes.old.items }
     ensures front { take end bytes.new.items ≡ take end bytes.old.items }
     ensures len { length bytes.new.items ≡ length bytes.old.items }
+    ensures capacity { vec_capacity bytes.new ≡ vec_capacity bytes.old }
     ensures count { IfOk result (λ n. end + n ≤ length bytes.new.items) }
     ensures some { IfOk result (λ n.
         0 < n → R.gives reader.old 1 (slice_range bytes.new.items end (end + n)) reader.new) }
@@ -111,7 +160,8 @@ fn read_behind<R: CaptureIn>(
     ensures kept { (result ≡ Err ReadStop.Failed → ⊥)
         → R.failures reader.new ≡ R.failures reader.old }
 {
-    reader.read(&mut bytes.as_mut_slice()[end..])
+    let room = (bytes.len() - end).min(MOST_READ);
+    reader.read(&mut bytes.as_mut_slice()[end..end + room])
 }
 
 impl<const ROOM: usize> ReadBuffer<ROOM> {
@@ -119,7 +169,7 @@ impl<const ROOM: usize> ReadBuffer<ROOM> {
     pub fn new(alloc: Global) -> Result<ReadBuffer<ROOM>, AllocError>
         ensures { IfOk result (λ w. w ≡ []) }
     {
-        let bytes = vec![in alloc; 0u8; ROOM]?;
+        let bytes = Vec::with_capacity(alloc, ROOM)?;
         Ok(ReadBuffer {
             bytes,
             start: 0,
@@ -162,7 +212,7 @@ impl<const ROOM: usize> ReadBuffer<ROOM> {
         requires { length self.old + length bytes.now ≤ ROOM }
         ensures { self.new ≡ self.old ++ bytes.now }
     {
-        let (start, end) = make_room_for(&mut self.bytes, self.start, self.end, bytes.len());
+        let (start, end) = make_room_for(&mut self.bytes, self.start, self.end, bytes.len(), ROOM);
         self.start = start;
         place(&mut self.bytes, end, bytes);
         self.end = end + bytes.len();
@@ -192,7 +242,7 @@ impl<const ROOM: usize> ReadBuffer<ROOM> {
         ensures fails { result ≡ ReadStep.Failed → R.fails reader.old reader.new }
         ensures kept { (result ≡ ReadStep.Failed → ⊥) → R.failures reader.new ≡ R.failures reader.old }
     {
-        let (start, end) = make_room(&mut self.bytes, self.start, self.end);
+        let (start, end) = make_room(&mut self.bytes, self.start, self.end, ROOM);
         self.start = start;
         self.end = end;
         match read_behind(reader, &mut self.bytes, end) {

@@ -1,8 +1,7 @@
 -- A conversion, by what was copied from its reader of records.
-use Rattle.std.proofs.Common.{◌≡◌, ℕ, zero, suc, ◌+◌, ◌≤◌, List, [], ◌∷◌, ◌++◌, Option, Some, None, Result, Ok, Err, length, take, min, refl, sym, ap, subst, ◌∙◌, arith, append-nil}
+use Rattle.std.proofs.Common.{◌≡◌, ℕ, zero, suc, ◌+◌, List, [], ◌∷◌, ◌++◌, Option, Some, None, Result, Ok, Err, length, take, min, refl, sym, ap, subst, ◌∙◌, arith, append-nil}
 use Rattle.std.proofs.Math.Seq.{take-length}
 use Rattle.std.proofs.lemmas.List.{take-append-le}
-use Rattle.packet_capture.specs.declared.stop.Stop.{Stop}
 use Rattle.packet_capture.specs.Captures.{Context}
 use Rattle.feed_text.specs.declared.fault.ReplayFault.{ReplayFault}
 use Rattle.feed_text.specs.declared.fault.ReplayFault.TheVariants.{ReadFailed, WriteFailed, BadRecord, ShortRecord, TooManyTurns, JournalFull, NoMemory}
@@ -11,7 +10,7 @@ use Rattle.line_captures.specs.declared.captured_line.CapturedLine.{CapturedLine
 use Rattle.line_captures.specs.declared.fault.InputFault.{InputFault}
 use Rattle.line_captures.specs.declared.fault.InputFault.TheVariants.{BadCapture, ShortCapture}
 use Rattle.line_captures.specs.declared.report.LinesFault.{LinesFault}
-use Rattle.line_captures.specs.declared.report.LinesFault.TheVariants.{Input, Run}
+use Rattle.line_captures.specs.declared.report.LinesFault.TheVariants.{Run}
 use Rattle.line_captures.specs.declared.report.CaptureReport.{CaptureReport}
 use Rattle.line_captures.specs.Records.{spelled}
 use Rattle.line_captures.specs.Readers.{CapturePoint, LineReader, FailsBy, FailsRecords, IsFault, count_of, all_failures, new_reader, new_point, records_reading}

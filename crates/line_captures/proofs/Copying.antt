@@ -1,5 +1,5 @@
 -- Bytes from a reader to a writer, call after call.
-use Rattle.std.proofs.Common.{◌≡◌, ℕ, ◌+◌, List, [], ◌++◌, length, take, refl, sym, ap, subst, ◌∙◌, append-nil}
+use Rattle.std.proofs.Common.{◌≡◌, ℕ, ◌+◌, List, [], ◌++◌, length, take, refl, sym, subst}
 use Rattle.std.proofs.Math.Seq.{take-append-add}
 use Rattle.feed_text.specs.Devices.{Reading, Writing, Wrote}
 use Rattle.line_captures.specs.Conversions.{HasCopied}

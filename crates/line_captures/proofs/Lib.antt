@@ -1,7 +1,7 @@
 pub mod Fronts
-pub mod Popped
 pub mod Finding
 pub mod Listed
+pub mod Pages
 pub mod ReadCalls
 pub mod TakingPieces
 pub mod Results

@@ -1,5 +1,5 @@
 -- One call of the reader of the bytes: what is seen of a reader of records before it and after it.
-use Rattle.std.proofs.Common.{◌≡◌, ℕ, ◌+◌, ◌<◌, ◌≤◌, false, List, [], ◌++◌, Option, Some, None, Result, Ok, Err, length, take, drop, append-nil, refl, sym, ap, subst, ◌∙◌, arith}
+use Rattle.std.proofs.Common.{◌≡◌, ℕ, ◌+◌, ◌<◌, ◌≤◌, false, List, [], ◌++◌, Option, Some, None, Result, Ok, Err, length, take, append-nil, refl, sym, ap, subst, ◌∙◌, arith}
 use Rattle.std.specs.Prelude.{IfOk}
 use Rattle.std.specs.Option.{is_some}
 use Rattle.packet_capture.specs.declared.stop.Stop.{Stop}
@@ -11,7 +11,6 @@ use Rattle.line_captures.specs.declared.fault.InputFault.{InputFault}
 use Rattle.line_captures.specs.Readers.{LineReader, TakesPieces, GivesRecords, EndsRecords, EndsShort, FailsBy, FailsRecords, IsFault, count_of, all_failures}
 use Rattle.line_captures.specs.ReaderLaws.{takes_none, takes_at}
 use Rattle.line_captures.proofs.Fronts.{few_unread}
-use Rattle.line_captures.proofs.Popped.{gives_popped}
 
 pub room : {R : Type 0} (v s : LineReader R) (n : ℕ) → v ≡ s → StopsReading s.point.context s.unread (Wants n) → length v.unread < 1179648
 room {R} v s n e stops =
@@ -146,44 +145,29 @@ gives_still gives law s = record {
   fault = refl;
 }
 
--- what is pending is taken, and the bytes weren't read
-pub record Ready {R : Type 0} (s m : LineReader R) : Type 0 where
-  pub takes : TakesPieces s.lines s.point s.unread s.pending m.point m.unread m.pending
-  pub inner : m.inner ≡ s.inner
-  pub lines : m.lines ≡ s.lines
-  pub fault : m.fault ≡ s.fault
-
-pub ready_same : {R : Type 0} (s m : LineReader R) → m ≡ s → Ready s m
-ready_same {R} s m e =
-    let P : LineReader R → Type 0 = λ x. Ready s x in
-    subst P (sym e) (record { takes = takes_none s.lines s.point s.unread s.pending; inner = refl; lines = refl; fault = refl })
-
-pub ready_taken : {R : Type 0} (s m : LineReader R) → s.pending ≡ [] → TakesPieces s.lines s.point s.unread [] m.point m.unread m.pending → m ≡ record s { point = m.point; unread = m.unread; pending = m.pending } → Ready s m
-ready_taken {R} s m none t e =
-    let P : List ℕ → Type 0 = λ p. TakesPieces s.lines s.point s.unread p m.point m.unread m.pending in
+-- the records of more pieces are given, and the bytes weren't read
+pub gives_taken : {R : Type 0} (gives : R → ℕ → List ℕ → R → Type 0) → ((s : R) → gives s 0 [] s)
+    → (s t : LineReader R) (given : List ℕ)
+    → TakesPieces s.lines s.point s.unread s.pending t.point t.unread (given ++ t.pending)
+    → t ≡ record s { point = t.point; unread = t.unread; pending = t.pending } → GivesRecords gives s 1 given t
+gives_taken {R} gives law s t given takes same =
+    let Q : R → Type 0 = λ r. gives s.inner 0 [] r in
     record {
-      takes = subst P (sym none) t;
-      inner = ap (λ (x : LineReader R). x.inner) e;
-      lines = ap (λ (x : LineReader R). x.lines) e;
-      fault = ap (λ (x : LineReader R). x.fault) e;
+      inner_calls = 0;
+      few = omega arith;
+      bytes = [];
+      read = subst Q (sym (ap (λ (x : LineReader R). x.inner) same)) (law s.inner);
+      takes = takes_at s.lines s.point t.point s.unread (s.unread ++ []) s.pending t.unread (given ++ t.pending)
+          (given ++ t.pending) (sym (append-nil s.unread)) refl takes;
+      lines = ap (λ (x : LineReader R). x.lines) same;
+      fault = ap (λ (x : LineReader R). x.fault) same;
     }
 
-pub ready_at : {R : Type 0} (s m v : LineReader R) → v ≡ m → Ready s m → Ready s v
-ready_at {R} s m v e h =
-    let P : LineReader R → Type 0 = λ x. Ready s x in
-    subst P (sym e) h
-
-pub popped_some : {R : Type 0} (gives : R → ℕ → List ℕ → R → Type 0) → ((s : R) → gives s 0 [] s) → (s v : LineReader R) (p : List ℕ) (n : ℕ) (buf : List ℕ) → Ready s v → p ≡ drop n v.pending → take n buf ≡ take n v.pending → GivesRecords gives s 1 (take n buf) (record v { pending = p })
-popped_some gives law s v p n buf h rest front =
-    gives_popped gives law s v (record v { pending = p }) n buf h.takes h.inner h.lines h.fault (ap (λ (xs : List ℕ). record v { pending = xs }) rest) front
-
-pub popped_none : {R : Type 0} (gives : R → ℕ → List ℕ → R → Type 0) → ((s : R) → gives s 0 [] s) → (s v : LineReader R) (p : List ℕ) (n : ℕ) → Ready s v → n ≡ 0 → p ≡ drop n v.pending → GivesRecords gives s 1 [] (record v { pending = p })
-popped_none gives law s v p n h none rest =
-    gives_popped gives law s v (record v { pending = p }) 0 [] h.takes h.inner h.lines h.fault
-    (ap (λ (xs : List ℕ). record v { pending = xs }) (rest ∙ ap (λ k. drop k v.pending) none)) refl
-
-pub ready_failures : {R : Type 0} (failures : R → ℕ) (s v : LineReader R) (p : List ℕ) → Ready s v → all_failures failures (record v { pending = p }) ≡ all_failures failures s
-ready_failures failures s v p h =
-    let inner = ap failures h.inner in
-    let fault = ap count_of h.fault in
-    omega (arith, inner, fault)
+-- none were given
+pub gives_none_yet : {R : Type 0} (gives : R → ℕ → List ℕ → R → Type 0) → ((s : R) → gives s 0 [] s)
+    → (s t : LineReader R) (page : List ℕ) (n : ℕ) → n ≡ 0
+    → TakesPieces s.lines s.point s.unread s.pending t.point t.unread (take n page ++ t.pending)
+    → t ≡ record s { point = t.point; unread = t.unread; pending = t.pending } → GivesRecords gives s 1 [] t
+gives_none_yet gives law s t page n none takes same =
+    let P : ℕ → Type 0 = λ k. TakesPieces s.lines s.point s.unread s.pending t.point t.unread (take k page ++ t.pending) in
+    gives_taken gives law s t [] (subst P none takes) same

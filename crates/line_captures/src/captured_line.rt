@@ -31,6 +31,7 @@ fn takes(line: &CapturedLine, datagram: &Datagram<'_>) -> bool
 }
 
 /// Returns the line of the list that a datagram goes to: the first that takes it, or `None`.
+#[inline(always)]
 pub fn line_to(lines: &[CapturedLine], datagram: &Datagram<'_>) -> Option<CapturedLine>
     ensures some { IfSome result (GoesTo lines.now (datagram_content datagram.now)) }
     ensures none { IfNone result (GoesToNone lines.now (datagram_content datagram.now)) }

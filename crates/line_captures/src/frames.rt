@@ -1,5 +1,5 @@
 //! The records of frames.
-ghost use Rattle.std.specs.Prelude.{◌≡◌, ◌≤◌, ◌++◌, [], ◌∷◌, IfSome, IfNone, length};
+ghost use Rattle.std.specs.Prelude.{◌≡◌, ◌+◌, ◌≤◌, ◌++◌, [], ◌∷◌, IfSome, IfNone, length, take, slice_range};
 ghost use Rattle.packet_capture.specs.Frames.{frame_of};
 ghost use Rattle.feed_text.specs.Capture.{bytes_of_record};
 ghost use Rattle.line_captures.specs.Records.{AreOfFrame, IsOfLine};
@@ -19,6 +19,7 @@ pub(crate) struct LineDatagram<'a> {
 }
 
 /// The datagram that a frame carries to a line, or `None`, and then the frame is counted.
+#[inline(always)]
 fn datagram_in<'a>(
     lines: &[CapturedLine],
     frame: Frame<'a>,
@@ -52,11 +53,45 @@ fn datagram_in<'a>(
     }
 }
 
-/// Adds the record of a datagram.
-fn put_datagram(datagram: LineDatagram<'_>, pending: &mut ReadBuffer<RECORDS_ROOM>)
+/// Writes the bytes into the page, from `start` on.
+#[inline(always)]
+fn place(page: &mut [u8], start: usize, bytes: &[u8])
+    requires { start + length bytes.now ≤ length page.old }
+    ensures front { take start page.new ≡ take start page.old }
+    ensures len { length page.new ≡ length page.old }
+    ensures more { slice_range page.new start (start + length bytes.now) ≡ bytes.now }
+{
+    page[start..start + bytes.len()].copy_from_slice(bytes);
+}
+
+/// Adds bytes to those that are filled, and returns how many then are.
+#[inline(always)]
+fn append(page: &mut [u8], filled: usize, bytes: &[u8]) -> usize
+    requires { filled + length bytes.now ≤ length page.old }
+    ensures filled { result ≡ filled + length bytes.now }
+    ensures page { length page.new ≡ length page.old }
+    ensures all { take result page.new ≡ take filled page.old ++ bytes.now }
+{
+    place(page, filled, bytes);
+    filled + bytes.len()
+}
+
+/// Adds the record of a datagram to the page, or to what is pending where the page has no room. Returns
+/// how many bytes of the page are filled.
+#[inline(always)]
+fn put_datagram(
+    datagram: LineDatagram<'_>,
+    page: &mut [u8],
+    filled: usize,
+    pending: &mut ReadBuffer<RECORDS_ROOM>,
+) -> usize
     requires short { length datagram.bytes.now ≤ 65527 }
-    requires room { length pending.old ≤ 65536 }
-    ensures { pending.new ≡ pending.old ++ bytes_of_record (datagram_record_of datagram.entry) }
+    requires filled { filled ≤ length page.old }
+    requires pending { pending.old ≡ [] }
+    ensures put { take result page.new ++ pending.new
+        ≡ take filled page.old ++ bytes_of_record (datagram_record_of datagram.entry) }
+    ensures filled { result ≤ length page.new }
+    ensures page { length page.new ≡ length page.old }
 {
     let line = datagram.line;
     let len = datagram.bytes.len();
@@ -66,22 +101,36 @@ fn put_datagram(datagram: LineDatagram<'_>, pending: &mut ReadBuffer<RECORDS_ROO
         (len / 256) as u8,
         (len % 256) as u8,
     ];
-    pending.push(&header);
-    pending.push(datagram.bytes);
+    if page.len() - filled < 4 + len {
+        pending.push(&header);
+        pending.push(datagram.bytes);
+        return filled;
+    }
+    let start = append(page, filled, &header);
+    append(page, start, datagram.bytes)
 }
 
-/// Adds the record of the datagram that a frame carries to a line. Another frame is counted.
+/// Adds the record of the datagram that a frame carries to a line to the page, or to what is pending
+/// where the page has no room. Another frame is counted. Returns how many bytes of the page are filled.
+#[inline(always)]
 pub(crate) fn put_frame(
     lines: &[CapturedLine],
     frame: Frame<'_>,
+    page: &mut [u8],
+    filled: usize,
     pending: &mut ReadBuffer<RECORDS_ROOM>,
     passed: &mut PassedOver,
-)
-    requires room { length pending.old ≤ 65536 }
-    ensures puts { PutsFrame lines.now (frame_of frame.entry) pending.old pending.new }
+) -> usize
+    requires filled { filled ≤ length page.old }
+    requires pending { pending.old ≡ [] }
+    ensures puts { PutsFrame lines.now (frame_of frame.entry) (take filled page.old)
+        (take result page.new ++ pending.new) }
+    ensures filled { result ≤ length page.new }
+    ensures page { length page.new ≡ length page.old }
     ensures counts { CountsFrame lines.now (frame_of frame.entry) passed.old passed.new }
 {
-    if let Some(datagram) = datagram_in(lines, frame, passed) {
-        put_datagram(datagram, pending);
+    match datagram_in(lines, frame, passed) {
+        Some(datagram) => put_datagram(datagram, page, filled, pending),
+        None => filled,
     }
 }

@@ -1,5 +1,5 @@
 //! A reader of the records of a packet capture for lines.
-ghost use Rattle.std.specs.Prelude.{◌≡◌, ◌+◌, [], IfOk, IfErr, Ok, Err, None, length, OnOk, OnErr};
+ghost use Rattle.std.specs.Prelude.{◌≡◌, ◌+◌, ◌<◌, ◌≤◌, ◌++◌, [], IfOk, IfErr, Ok, Err, None, length, take, OnOk, OnErr};
 ghost use Rattle.packet_capture.specs.Captures.{StopsReading};
 ghost use Rattle.packet_capture.specs.declared.stop.Stop.TheVariants.{Wants};
 ghost use Rattle.line_captures.specs.Readers.{GivesRecords, EndsRecords, FailsRecords, TakesPieces, IsFault, count_of, all_failures, new_reader};
@@ -9,7 +9,7 @@ ghost use Rattle.line_captures.specs.ReaderLaws.{gives_no_records, gives_more_re
 use crate::captured_line::CapturedLine;
 use crate::fault::InputFault;
 use crate::passed_over::{PassedOver, Progress};
-use crate::pieces::{PIECES_ROOM, take_pieces};
+use crate::pieces::{PIECES_ROOM, give_records};
 use crate::report::{CaptureReport, outcome_of};
 use feed_text::devices::{CaptureIn, ReadStop};
 use feed_text::fault::ReplayFault;
@@ -177,26 +177,30 @@ impl<'a, R: CaptureIn> LinesIn<'a, R> {
         }
     }
 
-    /// Takes pieces, where nothing is pending.
-    fn take_more(&mut self) -> Result<(), Stop>
+    /// Gives what is pending, and the records of more pieces while the page has room. Returns how many
+    /// bytes of it are filled, or why there is no piece where nothing is pending.
+    fn take_more(&mut self, page: &mut [u8]) -> Result<usize, Stop>
+        requires room { 0 < length page.old }
         requires fault { self.old.fault ≡ None }
-        requires pending { self.old.pending ≡ [] }
-        ensures taken { OnOk result (TakesPieces self.old.lines self.old.point self.old.unread
-            [] self.new.point self.new.unread self.new.pending) }
+        ensures taken { IfOk result (λ n. TakesPieces self.old.lines self.old.point self.old.unread
+            self.old.pending self.new.point self.new.unread (take n page.new ++ self.new.pending)) }
+        ensures count { IfOk result (λ n. n ≤ length page.new) }
         ensures same { OnOk result (self.new ≡ (record self.old {
           point = self.new.point;
           unread = self.new.unread;
           pending = self.new.pending;
         })) }
+        ensures pending { OnErr result (self.old.pending ≡ []) }
         ensures stop { IfErr result (StopsReading self.old.point.context self.old.unread) }
         ensures kept { OnErr result (self.new ≡ self.old) }
     {
-        take_pieces(
+        give_records(
             self.lines,
             &mut self.capture,
             &mut self.unread,
             &mut self.pending,
             &mut self.progress,
+            page,
         )
     }
 }
@@ -218,20 +222,14 @@ impl<R: CaptureIn> CaptureIn for LinesIn<'_, R> {
         if self.fault.is_some() {
             return Err(ReadStop::Interrupted);
         }
-        if self.pending.is_empty() {
-            match self.take_more() {
-                Ok(()) => {}
-                Err(Stop::Wants(wanted)) => return self.read_bytes(wanted),
-                Err(Stop::Bad(fault)) => {
-                    self.fault = Some(InputFault::BadCapture(fault));
-                    return Err(ReadStop::Failed);
-                }
+        match self.take_more(buf) {
+            Ok(0) => Err(ReadStop::Interrupted),
+            Ok(count) => Ok(count),
+            Err(Stop::Wants(wanted)) => self.read_bytes(wanted),
+            Err(Stop::Bad(fault)) => {
+                self.fault = Some(InputFault::BadCapture(fault));
+                Err(ReadStop::Failed)
             }
         }
-        let count = self.pending.pop_into(buf);
-        if count == 0 {
-            return Err(ReadStop::Interrupted);
-        }
-        Ok(count)
     }
 }

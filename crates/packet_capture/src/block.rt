@@ -29,6 +29,7 @@ pub(crate) struct Block<'a> {
 
 /// The order of the numbers of the block at the front, or `None` where it is a section's header
 /// that doesn't show it.
+#[inline(always)]
 fn order_at(section: ByteOrder, bytes: &[u8]) -> Option<ByteOrder>
     requires { 12 ≤ length bytes.now }
     ensures { result ≡ order_at section bytes.now }
@@ -46,6 +47,7 @@ fn order_at(section: ByteOrder, bytes: &[u8]) -> Option<ByteOrder>
 }
 
 /// The bytes of the block at the front, whose numbers are in this order.
+#[inline(always)]
 fn read_len(order: ByteOrder, bytes: &[u8]) -> Result<&[u8], Stop>
     requires { 12 ≤ length bytes.now }
     ensures counted { IfOk result (λ _. IsBlockLen (u32_in order bytes.now 4)) }
@@ -74,6 +76,7 @@ fn read_len(order: ByteOrder, bytes: &[u8]) -> Result<&[u8], Stop>
 }
 
 /// Returns the block at the front, in a section of this order.
+#[inline(always)]
 pub(crate) fn read_block(section: ByteOrder, bytes: &[u8]) -> Result<Block<'_>, Stop>
     ensures block { IfOk result (λ b. IsBlock section bytes.now b.order b.bytes.now) }
     ensures stop { IfErr result (StopsInBlock section bytes.now) }

@@ -40,6 +40,7 @@ pub(crate) enum BlockContent<'a> {
     Other,
 }
 
+#[inline(always)]
 fn kind_of(block_type: u32) -> BlockKind
     ensures { result ≡ kind_of block_type }
 {
@@ -54,6 +55,7 @@ fn kind_of(block_type: u32) -> BlockKind
 }
 
 /// The least number of bytes of a block.
+#[inline(always)]
 fn fixed_len(kind: BlockKind) -> usize
     ensures value { result ≡ fixed_len kind }
     ensures least { 12 ≤ result }
@@ -76,6 +78,7 @@ fn is_section_version(order: ByteOrder, block: &[u8]) -> bool
 }
 
 /// The place of a packet's interface.
+#[inline(always)]
 fn interface_in(kind: BlockKind, order: ByteOrder, block: &[u8]) -> usize
     requires { fixed_len kind ≤ length block.now }
     ensures { result ≡ interface_in kind order block.now }
@@ -98,6 +101,7 @@ fn up_to_limit(snap_len: u32, len: u32) -> u32
 }
 
 /// The number of bytes of a packet's frame that were captured.
+#[inline(always)]
 fn captured_in(kind: BlockKind, order: ByteOrder, interface: &Interface, block: &[u8]) -> u32
     requires { fixed_len kind ≤ length block.now }
     ensures { result ≡ captured_in kind order interface.now block.now }
@@ -109,6 +113,7 @@ fn captured_in(kind: BlockKind, order: ByteOrder, interface: &Interface, block: 
     }
 }
 
+#[inline(always)]
 fn wire_len_in(kind: BlockKind, order: ByteOrder, block: &[u8]) -> u32
     requires { fixed_len kind ≤ length block.now }
     ensures { result ≡ wire_len_in kind order block.now }
@@ -120,6 +125,7 @@ fn wire_len_in(kind: BlockKind, order: ByteOrder, block: &[u8]) -> u32
     }
 }
 
+#[inline(always)]
 fn frame_start(kind: BlockKind) -> usize
     ensures value { result ≡ frame_start kind }
     ensures small { result + 4 ≤ fixed_len kind }
@@ -131,6 +137,7 @@ fn frame_start(kind: BlockKind) -> usize
     }
 }
 
+#[inline(always)]
 fn time_in(kind: BlockKind, order: ByteOrder, interface: &Interface, block: &[u8]) -> Option<u64>
     requires { fixed_len kind ≤ length block.now }
     ensures { result ≡ time_in kind order interface.now block.now }
@@ -146,6 +153,7 @@ fn time_in(kind: BlockKind, order: ByteOrder, interface: &Interface, block: &[u8
 }
 
 /// The frame of a packet's block, whose fixed fields are there.
+#[inline(always)]
 fn read_frame<'a>(
     kind: BlockKind,
     interfaces: &[Interface],
@@ -177,6 +185,7 @@ fn read_frame<'a>(
 /// Returns the meaning of a block in a section of these interfaces, or the first fault that fits:
 /// `ShortBlock`, and then `UnknownVersion` of a section's header, `OptionPastBlock` of an
 /// interface, `UnknownInterface` or `FramePastBlock` of a packet.
+#[inline(always)]
 pub(crate) fn read_content<'a>(
     interfaces: &[Interface],
     block: Block<'a>,
@@ -199,12 +208,14 @@ pub(crate) fn read_content<'a>(
             Some(interface) => Ok(BlockContent::Interface(interface)),
             None => Err(CaptureFault::OptionPastBlock),
         },
-        BlockKind::Enhanced | BlockKind::Old | BlockKind::Simple => {
-            match read_frame(kind, interfaces, order, bytes) {
-                Ok(frame) => Ok(BlockContent::Frame(frame)),
-                Err(fault) => Err(fault),
-            }
-        }
+        BlockKind::Enhanced => match read_frame(BlockKind::Enhanced, interfaces, order, bytes) {
+            Ok(frame) => Ok(BlockContent::Frame(frame)),
+            Err(fault) => Err(fault),
+        },
+        BlockKind::Old | BlockKind::Simple => match read_frame(kind, interfaces, order, bytes) {
+            Ok(frame) => Ok(BlockContent::Frame(frame)),
+            Err(fault) => Err(fault),
+        },
         BlockKind::Unread => Ok(BlockContent::Other),
     }
 }

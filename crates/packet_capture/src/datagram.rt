@@ -4,7 +4,7 @@ ghost use Rattle.packet_capture.specs.Datagrams.{CarriesDatagram, datagram_conte
 ghost use Rattle.packet_capture.specs.FrameFaults.{HasFrameFault};
 
 use crate::fault::FrameFault;
-use crate::link::{LinkType, read_link};
+use crate::link::{IpVersion, LinkType, read_link};
 use crate::packet::read_packet;
 
 /// An IP address, with its bytes in the order of a packet.
@@ -37,6 +37,7 @@ pub struct Datagram<'a> {
 /// What follows the packet in the frame, or the datagram in the packet, is not read. No checksum is
 /// looked at: a card that computes them leaves them wrong in what it sends. The sources are the
 /// registry of link-layer header types of tcpdump.org, IEEE 802.1Q, RFC 791, RFC 8200 and RFC 768.
+#[inline(always)]
 pub fn read_datagram(link: u16, frame: &[u8]) -> Result<Datagram<'_>, FrameFault>
     ensures carried { IfOk result (λ d. CarriesDatagram link frame.now (datagram_content d)) }
     ensures short { IfOk result (λ d. length d.bytes.now ≤ 65527) }
@@ -46,7 +47,8 @@ pub fn read_datagram(link: u16, frame: &[u8]) -> Result<Datagram<'_>, FrameFault
         return Err(FrameFault::UnknownLink);
     };
     match read_link(link, frame) {
-        Ok((version, packet)) => read_packet(version, packet),
+        Ok((IpVersion::V4, packet)) => read_packet(IpVersion::V4, packet),
+        Ok((IpVersion::V6, packet)) => read_packet(IpVersion::V6, packet),
         Err(fault) => Err(fault),
     }
 }

@@ -154,7 +154,22 @@ fn difference(a: u128, b: u128) -> Option<u64>
 }
 
 /// Returns a time in the interface's units as nanoseconds from 1970 on, if they are 0 to 2^64 - 1.
+#[inline(always)]
 pub(crate) fn time_of(interface: &Interface, ticks: u64) -> Option<u64>
+    ensures { result ≡ time_of interface.now ticks }
+{
+    if interface.offset == 0 && interface.resolution == 9 {
+        return Some(ticks);
+    }
+    if interface.offset == 0 && interface.resolution == 6 && ticks <= u64::MAX / 1_000 {
+        return Some(ticks * 1_000);
+    }
+    any_time_of(interface, ticks)
+}
+
+/// A time in any units, as nanoseconds from 1970 on, if they are 0 to 2^64 - 1.
+#[inline(never)]
+fn any_time_of(interface: &Interface, ticks: u64) -> Option<u64>
     ensures { result ≡ time_of interface.now ticks }
 {
     let ahead = u128::from(seconds_ahead(interface.offset)) * 1_000_000_000;

@@ -1,5 +1,7 @@
 //! The headers of the link layer.
-ghost use Rattle.std.specs.Prelude.{◌≡◌, ◌≤◌, ◌<◌, IfSome, IfNone, IfOk, IfErr, length};
+ghost use Rattle.std.specs.Prelude.{◌≡◌, ◌≤◌, ◌<◌, IfSome, IfNone, IfOk, IfErr, true, length};
+ghost use Rattle.packet_capture.specs.declared.fields.ByteOrder.TheVariants.{Big};
+ghost use Rattle.packet_capture.specs.Fields.{u16_in};
 ghost use Rattle.packet_capture.specs.Datagrams.{HasPacket};
 ghost use Rattle.packet_capture.specs.FrameFaults.{HasLinkFault};
 ghost use Rattle.packet_capture.specs.Links.{number_of, is_tag, by_ether_type, by_family, by_first_byte, either_of, tags_of, link_len, version_in, packet_in};
@@ -38,10 +40,14 @@ pub enum IpVersion {
 
 impl LinkType {
     /// Returns the link type of this number, or `None` where it isn't one that is read.
+    #[inline(always)]
     pub fn from_number(number: u16) -> Option<LinkType>
         ensures found { IfSome result (λ link. number ≡ number_of link) }
         ensures other { IfNone result ((link : LinkType) → number ≡ number_of link → ⊥) }
     {
+        if number == 1 {
+            return Some(LinkType::Ethernet);
+        }
         match number {
             0 => Some(LinkType::Null),
             1 => Some(LinkType::Ethernet),
@@ -56,12 +62,14 @@ impl LinkType {
     }
 }
 
+#[inline(always)]
 fn is_tag(ether_type: u16) -> bool
     ensures { result ≡ is_tag ether_type }
 {
     ether_type == 0x8100 || ether_type == 0x88a8
 }
 
+#[inline(always)]
 fn by_ether_type(ether_type: u16) -> Option<IpVersion>
     ensures { result ≡ by_ether_type ether_type }
 {
@@ -72,6 +80,7 @@ fn by_ether_type(ether_type: u16) -> Option<IpVersion>
     }
 }
 
+#[inline(always)]
 fn by_family(family: u32) -> Option<IpVersion>
     ensures { result ≡ by_family family }
 {
@@ -82,6 +91,7 @@ fn by_family(family: u32) -> Option<IpVersion>
     }
 }
 
+#[inline(always)]
 fn by_first_byte(byte: u8) -> Option<IpVersion>
     ensures { result ≡ by_first_byte byte }
 {
@@ -94,6 +104,7 @@ fn by_first_byte(byte: u8) -> Option<IpVersion>
 
 /// The number of VLAN tags after the addresses, or `None` where the frame ends before its
 /// EtherType.
+#[inline(always)]
 fn tags_of(frame: &[u8]) -> Option<usize>
     ensures found { IfSome result (λ tags. tags ≡ tags_of frame.now) }
     ensures whole { IfSome result (λ tags. link_len LinkType.Ethernet frame.now ≤ length frame.now) }
@@ -120,6 +131,7 @@ fn tags_of(frame: &[u8]) -> Option<usize>
 }
 
 /// The version by a family that is read in either byte order.
+#[inline(always)]
 fn by_null_family(frame: &[u8]) -> Option<IpVersion>
     requires { 4 ≤ length frame.now }
     ensures { result ≡ version_in LinkType.Null frame.now }
@@ -131,6 +143,7 @@ fn by_null_family(frame: &[u8]) -> Option<IpVersion>
 }
 
 /// The number of bytes before the packet, or `None` where the frame ends before that.
+#[inline(always)]
 fn link_len(link: LinkType, frame: &[u8]) -> Option<usize>
     ensures found { IfSome result (λ len. len ≡ link_len link frame.now) }
     ensures whole { IfSome result (λ len. len ≤ length frame.now) }
@@ -151,6 +164,7 @@ fn link_len(link: LinkType, frame: &[u8]) -> Option<usize>
 
 /// The version of the IP packet that the frame carries, if any. `len` is the number of bytes before
 /// it.
+#[inline(always)]
 fn version_in(link: LinkType, frame: &[u8], len: usize) -> Option<IpVersion>
     requires len { len ≡ link_len link frame.now }
     requires there { len ≤ length frame.now }
@@ -171,9 +185,18 @@ fn version_in(link: LinkType, frame: &[u8], len: usize) -> Option<IpVersion>
     }
 }
 
-/// Returns the IP packet that a frame carries, with its version, or `ShortFrame` where the frame
-/// ends before it, or `NotIp`.
-pub(crate) fn read_link(link: LinkType, frame: &[u8]) -> Result<(IpVersion, &[u8]), FrameFault>
+/// Whether an Ethernet frame carries an IPv4 packet, with no tag before its EtherType.
+#[inline(always)]
+fn is_plain(frame: &[u8]) -> bool
+    ensures there { result ≡ true → 14 ≤ length frame.now }
+    ensures kind { result ≡ true → u16_in Big frame.now 12 ≡ 2048 }
+{
+    frame.len() >= 14 && read_u16(ByteOrder::Big, frame, 12) == 0x0800
+}
+
+/// The IP packet that a frame of any kind carries, with its version, or why there is none.
+#[inline(always)]
+fn read_any(link: LinkType, frame: &[u8]) -> Result<(IpVersion, &[u8]), FrameFault>
     ensures found { IfOk result (λ r. HasPacket link frame.now r.0) }
     ensures packet { IfOk result (λ r. r.1.now ≡ packet_in link frame.now) }
     ensures fault { IfErr result (HasLinkFault link frame.now) }
@@ -184,5 +207,19 @@ pub(crate) fn read_link(link: LinkType, frame: &[u8]) -> Result<(IpVersion, &[u8
     match version_in(link, frame, len) {
         Some(version) => Ok((version, &frame[len..])),
         None => Err(FrameFault::NotIp),
+    }
+}
+
+/// Returns the IP packet that a frame carries, with its version, or `ShortFrame` where the frame
+/// ends before it, or `NotIp`.
+#[inline(always)]
+pub(crate) fn read_link(link: LinkType, frame: &[u8]) -> Result<(IpVersion, &[u8]), FrameFault>
+    ensures found { IfOk result (λ r. HasPacket link frame.now r.0) }
+    ensures packet { IfOk result (λ r. r.1.now ≡ packet_in link frame.now) }
+    ensures fault { IfErr result (HasLinkFault link frame.now) }
+{
+    match link {
+        LinkType::Ethernet if is_plain(frame) => Ok((IpVersion::V4, &frame[14..])),
+        _ => read_any(link, frame),
     }
 }

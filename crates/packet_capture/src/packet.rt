@@ -11,6 +11,7 @@ use crate::fault::FrameFault;
 use crate::fields::{ByteOrder, read_u16};
 use crate::link::IpVersion;
 
+#[inline(always)]
 fn least_len(version: IpVersion) -> usize
     ensures { result ≡ least_len version }
 {
@@ -20,6 +21,7 @@ fn least_len(version: IpVersion) -> usize
     }
 }
 
+#[inline(always)]
 fn header_len(version: IpVersion, packet: &[u8]) -> usize
     requires { least_len version ≤ length packet.now }
     ensures value { result ≡ header_len version packet.now }
@@ -31,6 +33,7 @@ fn header_len(version: IpVersion, packet: &[u8]) -> usize
     }
 }
 
+#[inline(always)]
 fn packet_len(version: IpVersion, packet: &[u8]) -> usize
     requires { least_len version ≤ length packet.now }
     ensures { result ≡ packet_len version packet.now }
@@ -41,6 +44,7 @@ fn packet_len(version: IpVersion, packet: &[u8]) -> usize
     }
 }
 
+#[inline(always)]
 fn version_number(version: IpVersion) -> u8
     ensures { result ≡ version_number version }
 {
@@ -51,6 +55,7 @@ fn version_number(version: IpVersion) -> u8
 }
 
 /// Whether a header is there, of this version, and its lengths agree.
+#[inline(always)]
 fn is_ip(version: IpVersion, packet: &[u8]) -> bool
     requires { least_len version ≤ length packet.now }
     ensures { IsTrue result ↔ IsIp version packet.now }
@@ -68,6 +73,7 @@ fn is_extension(next: u8) -> bool
 }
 
 /// Why the packet has no whole UDP datagram, if so.
+#[inline(always)]
 fn obstacle_in(version: IpVersion, packet: &[u8]) -> Option<FrameFault>
     requires { least_len version ≤ length packet.now }
     ensures { result ≡ obstacle_in version packet.now }
@@ -94,16 +100,13 @@ fn obstacle_in(version: IpVersion, packet: &[u8]) -> Option<FrameFault>
     }
 }
 
+#[inline(always)]
 fn destination_in(version: IpVersion, packet: &[u8]) -> Address
     requires { least_len version ≤ length packet.now }
     ensures { result ≡ destination_in version packet.now }
 {
     match version {
-        IpVersion::V4 => {
-            let mut bytes = [0; 4];
-            bytes.copy_from_slice(&packet[16..20]);
-            Address::V4(bytes)
-        }
+        IpVersion::V4 => { Address::V4([packet[16], packet[17], packet[18], packet[19]]) }
         IpVersion::V6 => {
             let mut bytes = [0; 16];
             bytes.copy_from_slice(&packet[24..40]);
@@ -113,6 +116,7 @@ fn destination_in(version: IpVersion, packet: &[u8]) -> Address
 }
 
 /// The number of bytes of the UDP datagram with its header, or `None` where that is bad.
+#[inline(always)]
 fn udp_len(segment: &[u8]) -> Option<usize>
     ensures found { IfSome result (λ len. len ≡ u16_in Big segment.now 4) }
     ensures whole { IfSome result (λ _. IsUdp segment.now) }
@@ -130,6 +134,7 @@ fn udp_len(segment: &[u8]) -> Option<usize>
 }
 
 /// Returns the datagram of a packet of this version, or the first fault that fits.
+#[inline(always)]
 pub(crate) fn read_packet(version: IpVersion, packet: &[u8]) -> Result<Datagram<'_>, FrameFault>
     ensures whole { IfOk result (λ _. HasUdp version packet.now) }
     ensures value { IfOk result (λ d. datagram_content d ≡ datagram_in version packet.now) }

@@ -43,6 +43,7 @@ pub struct Piece<'a> {
 
 /// Updates the interfaces after a block, and returns its frame, if it has one. Where there would be
 /// one too many, nothing changes.
+#[inline(always)]
 fn after_block<'a>(
     interfaces: &mut ArrayVec<Interface, MAX_INTERFACES>,
     content: BlockContent<'a>,
@@ -128,6 +129,7 @@ impl CaptureReader {
     }
 
     /// Reads the next packet record of the savefile.
+    #[inline(always)]
     fn read_frame<'a>(&self, savefile: Savefile, bytes: &'a [u8]) -> Result<Piece<'a>, Stop>
         ensures piece { IfOk result (λ p.
             IsRecordPiece savefile self.now bytes.now (piece_of p) self.now) }
@@ -143,6 +145,7 @@ impl CaptureReader {
     }
 
     /// Reads the first piece of a capture.
+    #[inline(always)]
     fn read_first<'a>(&mut self, bytes: &'a [u8]) -> Result<Piece<'a>, Stop>
         requires { self.old.format ≡ Format.Start }
         ensures piece { IfOk result (λ p. IsPiece self.old bytes.now (piece_of p) self.new) }
@@ -174,6 +177,7 @@ impl CaptureReader {
     ///
     /// The sources are draft-ietf-opsawg-pcap and draft-ietf-opsawg-pcapng. The limits of 1,048,576
     /// bytes and 256 interfaces are this project's.
+    #[inline(always)]
     pub fn next_piece<'a>(&mut self, bytes: &'a [u8]) -> Result<Piece<'a>, Stop>
         ensures piece { IfOk result (λ p. IsPiece self.old bytes.now (piece_of p) self.new) }
         ensures stop { IfErr result (StopsReading self.old bytes.now) }
@@ -187,6 +191,7 @@ impl CaptureReader {
     }
 
     /// Reads the next block, in a section of this order.
+    #[inline(always)]
     fn read_section<'a>(&mut self, section: ByteOrder, bytes: &'a [u8]) -> Result<Piece<'a>, Stop>
         ensures piece { IfOk result (λ p.
             IsBlockPiece section self.old bytes.now (piece_of p) self.new) }

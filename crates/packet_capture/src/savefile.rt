@@ -101,6 +101,7 @@ fn record_time(savefile: Savefile, bytes: &[u8]) -> u64
 }
 
 /// Reads the frame of the packet record at the front.
+#[inline(always)]
 pub(crate) fn read_record(savefile: Savefile, bytes: &[u8]) -> Result<Frame<'_>, Stop>
     ensures frame { IfOk result (λ f. IsPacketRecord savefile bytes.now (frame_of f)) }
     ensures stop { IfErr result (StopsInRecord savefile bytes.now) }

@@ -1,4 +1,4 @@
-use Rattle.std.proofs.Common.{◌≡◌, length}
+use Rattle.std.proofs.Common.{◌≡◌}
 use Rattle.line_captures.proofs.Copying.{CopiedTo}
 use Rattle.line_captures.proofs.conversion.copy_all.Given as goal
 

@@ -1,28 +1,31 @@
+use Rattle.std.proofs.Common.{◌++◌, take, drop, refl, ◌∙◌}
 use Rattle.line_captures.specs.Readers.{point_of}
-use Rattle.line_captures.specs.ReaderLaws.{takes_then}
-use Rattle.line_captures.proofs.Fronts.{takes_one, takes_same}
-use Rattle.line_captures.proofs.TakingPieces.{point_same}
-use Rattle.line_captures.proofs.Results.{on_ok, on_err}
+use Rattle.line_captures.proofs.Fronts.{takes_one}
+use Rattle.line_captures.proofs.Pages.{page_alone, takes_more, within_rest}
 use Rattle.line_captures.proofs.pieces.take_pieces.Goals as goal
 
-pub loop-capture-init : goal.loop-capture-init
-loop-capture-init c = takes_one c.read_as_bytes_come.ensures.piece c.args.lines.now (point_of c.args.capture.now c.args.progress.now) (point_of c.take_piece.new.capture c.take_piece.new.progress) c.args.unread.now c.args.pending.now
-    c.take_piece.new.unread c.take_piece.new.pending c.in_default.ensures.taken
+pub loop-rest-init : goal.loop-rest-init
+loop-rest-init c = (
+  takes_one c.read_as_bytes_come.ensures.piece c.args.lines.now (point_of c.args.capture.now c.args.progress.now)
+      (point_of c.take_piece.new.capture c.take_piece.new.progress) c.args.bytes.now
+      (take c.args.filled c.args.page.now) (drop c.in-Ok.taken.len c.args.bytes.now)
+      (take c.in-Ok.taken.filled c.take_piece.new.page ++ c.take_piece.new.pending) c.in-Ok.ensures.taken,
+  c.in-Ok.ensures.within,
+  c.in-Ok.ensures.filled,
+  c.take_piece.ensures.page,
+)
 
-pub returns-then-is_err-clause-taken : goal.returns-then-is_err-clause-taken
-returns-then-is_err-clause-taken c =
-    let failed = c.if-is_err.ensures.value in
-    let told = c.take_piece-in-loop-capture.ensures in
-    takes_same c.args.lines.now (point_of c.args.capture.now c.args.progress.now) (point_of c.loop-capture.capture c.loop-capture.progress) (point_of c.take_piece-in-loop-capture.new.capture c.take_piece-in-loop-capture.new.progress) c.args.unread.now c.args.pending.now
-    c.loop-capture.unread c.take_piece-in-loop-capture.new.unread c.loop-capture.pending c.take_piece-in-loop-capture.new.pending
-    (point_same (on_err _ failed told.same_context) (on_err _ failed told.same_progress)) (on_err _ failed told.same_bytes) (on_err _ failed told.same_pending) c.loop-capture.invariant
-
-pub loop-capture-smaller : goal.loop-capture-smaller
-loop-capture-smaller c = (on_ok _ c.if-is_err.ensures.value c.take_piece-in-loop-capture.ensures.taken).shorter
-
-pub loop-capture-preserved : goal.loop-capture-preserved
-loop-capture-preserved c =
-    let next = takes_one c.read_as_bytes_come.ensures.piece c.args.lines.now (point_of c.loop-capture.capture c.loop-capture.progress) (point_of c.take_piece-in-loop-capture.new.capture c.take_piece-in-loop-capture.new.progress) c.loop-capture.unread c.loop-capture.pending
-    c.take_piece-in-loop-capture.new.unread c.take_piece-in-loop-capture.new.pending (on_ok _ c.if-is_err.ensures.value c.take_piece-in-loop-capture.ensures.taken) in
-    takes_then c.args.lines.now (point_of c.args.capture.now c.args.progress.now) (point_of c.loop-capture.capture c.loop-capture.progress) (point_of c.take_piece-in-loop-capture.new.capture c.take_piece-in-loop-capture.new.progress) c.args.unread.now c.args.pending.now
-    c.loop-capture.unread c.loop-capture.pending c.take_piece-in-loop-capture.new.unread c.take_piece-in-loop-capture.new.pending c.loop-capture.invariant next
+pub loop-rest-preserved : goal.loop-rest-preserved
+loop-rest-preserved c =
+    let taken = c.loop-rest.taken in
+    let more = c.in-Ok-take_piece.more in
+    let next = c.take_piece-in-loop-rest.new in (
+      takes_more c.read_as_bytes_come.ensures.piece c.args.lines.now (point_of c.args.capture.now c.args.progress.now)
+          (point_of c.loop-rest.capture c.loop-rest.progress) (point_of next.capture next.progress) c.args.bytes.now
+          (take c.args.filled c.args.page.now) (take taken.filled c.loop-rest.page ++ c.loop-rest.pending)
+          (take taken.filled c.loop-rest.page) (take more.filled next.page ++ next.pending) taken.len more.len
+          (page_alone refl refl (c.loop-rest-test.ensures.0 refl)) c.loop-rest.invariant.0 c.in-Ok-take_piece.ensures.taken,
+      within_rest c.args.bytes.now taken.len more.len c.loop-rest.invariant.1 c.in-Ok-take_piece.ensures.within,
+      c.in-Ok-take_piece.ensures.filled,
+      c.take_piece-in-loop-rest.ensures.page ∙ c.loop-rest.invariant.3,
+    )
