@@ -17,17 +17,34 @@ pub struct CapturedLine {
     pub line: LineId,
 }
 
-fn is_zeros(address: Address) -> bool
-    ensures { IsTrue result ↔ IsZeros address }
+fn is_zeros(address: &Address) -> bool
+    ensures { IsTrue result ↔ IsZeros address.now }
 {
-    address == Address::V4([0; 4]) || address == Address::V6([0; 16])
+    match address {
+        Address::V4([a, b, c, d]) => *a == 0 && *b == 0 && *c == 0 && *d == 0,
+        Address::V6(bytes) => *bytes == [0; 16],
+    }
+}
+
+/// Whether two addresses are the same. Those of IPv4 are compared byte by byte, which the compiler
+/// makes one comparison.
+fn are_same_address(one: &Address, other: &Address) -> bool
+    ensures { IsTrue result ↔ (one.now ≡ other.now) }
+{
+    match (one, other) {
+        (Address::V4([a, b, c, d]), Address::V4([e, f, g, h])) => {
+            a == e && b == f && c == g && d == h
+        }
+        _ => one == other,
+    }
 }
 
 /// Whether the line takes the datagram.
 fn takes(line: &CapturedLine, datagram: &Datagram<'_>) -> bool
     ensures { IsTrue result ↔ Takes line.now (datagram_content datagram.now) }
 {
-    line.port == datagram.port && (line.address == datagram.address || is_zeros(line.address))
+    line.port == datagram.port
+        && (are_same_address(&line.address, &datagram.address) || is_zeros(&line.address))
 }
 
 /// Returns the line of the list that a datagram goes to: the first that takes it, or `None`.
