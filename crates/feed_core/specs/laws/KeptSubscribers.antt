@@ -24,7 +24,7 @@ use Rattle.feed_core.specs.laws.Lists.{get_set, get_push}
 abbrev pub EachSubscriber : (List Entry → Subscriber → Type 0) → World → Type 0
 EachSubscriber Q w = (id : ℕ) (x : Subscriber) → slice_get w.subscribers id ≡ Some x → Q w.entries x
 
-pub record MoveKept (s : Setting) (Q : List Entry → Subscriber → Type 0) : Type 0 where
+pub record KeepsSubscriberStep (s : Setting) (Q : List Entry → Subscriber → Type 0) : Type 0 where
   pub grow : (E : List Entry) (e : Entry) (x : Subscriber) → Q E x → Q (E ++ e ∷ []) x
   pub new : (E : List Entry) (terms : Terms) → Q E (record { terms = terms; lane = empty_lane })
   pub offer : (E : List Entry) (x : Subscriber) (n : Notice)
@@ -33,7 +33,7 @@ pub record MoveKept (s : Setting) (Q : List Entry → Subscriber → Type 0) : T
   pub dequeue : (E : List Entry) (x : Subscriber) (n : Notice) → next_out x.lane ≡ Some n → Q E x
       → Q E (record x { lane = record x.lane { received = x.lane.received ++ n ∷ [] } })
 
-module _ (s : Setting) (Q : List Entry → Subscriber → Type 0) (kept : MoveKept s Q) where
+module _ (s : Setting) (Q : List Entry → Subscriber → Type 0) (kept : KeepsSubscriberStep s Q) where
   moved : (new w : World) → new ≡ w → EachSubscriber Q w → EachSubscriber Q new
   moved new w e each = subst (EachSubscriber Q) (sym e) each
 

@@ -20,7 +20,7 @@ use Rattle.feed_core.specs.OneStep.{IsStep}
 use Rattle.feed_core.specs.Runs.{IsRun}
 use Rattle.feed_core.specs.laws.Lists.{get_set}
 
-pub record MoveKept (s : Setting) (May : Event → Type 0) (Q : ℕ → Venue → Type 0) : Type 0 where
+pub record KeepsVenueStep (s : Setting) (May : Event → Type 0) (Q : ℕ → Venue → Type 0) : Type 0 where
   pub packet : (place : ℕ) (v : Venue) (line : LineId) (bytes : _) (p : Content) (rest : List ℕ)
       (answer : Result Outcome LineFault) (h : History)
       → May (Packet place line bytes) → Spells bytes.now p rest
@@ -38,7 +38,7 @@ pub record MoveKept (s : Setting) (May : Event → Type 0) (Q : ℕ → Venue �
 abbrev pub EachVenue : (ℕ → Venue → Type 0) → World → Type 0
 EachVenue Q w = (place : ℕ) (v : Venue) → slice_get w.venues place ≡ Some v → Q place v
 
-module _ (s : Setting) (May : Event → Type 0) (Q : ℕ → Venue → Type 0) (kept : MoveKept s May Q)
+module _ (s : Setting) (May : Event → Type 0) (Q : ℕ → Venue → Type 0) (kept : KeepsVenueStep s May Q)
   where
     moved : (new w : World) → new ≡ w → EachVenue Q w → EachVenue Q new
     moved new w e each = subst (EachVenue Q) (sym e) each
