@@ -18,7 +18,7 @@ use Rattle.feed_core.specs.Steps.{Refused, Changes, next_in, next_out, push_next
 use Rattle.feed_core.specs.OneStep.{IsStep}
 use Rattle.feed_core.specs.Runs.{IsRun}
 use Rattle.feed_core.specs.declared.event.Done.TheVariants as done
-use Rattle.feed_core.specs.laws.Lists.{get_set, get_push}
+use Rattle.feed_core.specs.laws.Lists.{get_after_set, get_push}
 
 -- what holds of each subscriber, with the entries
 abbrev pub EachSubscriber : (List Entry → Subscriber → Type 0) → World → Type 0
@@ -39,7 +39,7 @@ module _ (s : Setting) (Q : List Entry → Subscriber → Type 0) (kept : KeepsS
 
   put : (old : World) (id : ℕ) (x : Subscriber) → EachSubscriber Q old → Q old.entries x
       → EachSubscriber Q (put_subscriber old id x)
-  put old id x each here = λ j y e. elim (get_set old.subscribers id j x y e) [
+  put old id x each here = λ j y e. elim (get_after_set old.subscribers id j x y e) [
     | inl now ↦ rw (now.1) here
     | inr before ↦ each j y before
   ]

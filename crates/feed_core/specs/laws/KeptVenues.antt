@@ -18,7 +18,7 @@ use Rattle.feed_core.specs.Worlds.{is_full, Venue, session_sent, Subscriber, Wor
 use Rattle.feed_core.specs.Steps.{Transition, Refused, Changes, next_in, next_out, AddsArrival, AddsRenewal, push_next, journal_item, declare_help, add_subscriber, offer_next, dequeue_next, journal_full, unknown_venue, unknown_subscriber, put_venue, Stays, Applies, with_sent, with_intake, with_offered, with_dequeued, AnswersSubscribe}
 use Rattle.feed_core.specs.OneStep.{IsStep}
 use Rattle.feed_core.specs.Runs.{IsRun}
-use Rattle.feed_core.specs.laws.Lists.{get_set}
+use Rattle.feed_core.specs.laws.Lists.{get_after_set}
 
 pub record KeepsVenueStep (s : Setting) (May : Event → Type 0) (Q : ℕ → Venue → Type 0) : Type 0 where
   pub packet : (place : ℕ) (v : Venue) (line : LineId) (bytes : _) (p : Content) (rest : List ℕ)
@@ -46,7 +46,7 @@ module _ (s : Setting) (May : Event → Type 0) (Q : ℕ → Venue → Type 0) (
     -- a venue is put in place of another
     put : (old : World) (place : ℕ) (v : Venue) → EachVenue Q old → Q place v
         → EachVenue Q (put_venue old place v)
-    put old place v each here = λ j u e. elim (get_set old.venues place j v u e) [
+    put old place v each here = λ j u e. elim (get_after_set old.venues place j v u e) [
       | inl now ↦ rw (now.0, now.1) here
       | inr before ↦ each j u before
     ]
