@@ -28,7 +28,7 @@ use Rattle.feed_core.specs.Runs.{IsRun}
 use Rattle.feed_core.specs.Fitting.{VenueView, FitsVenue, LeftFaulty, LeftAnswered, LeftRenewed, LeftPushed, SubscriberView, FitsSubscriber, LeftOffered, intake_of, KeepsJournal, MachineView, FitSubscribers, FitsWorld, HasStepped, HasReached}
 use Rattle.journal_book.specs.Growth.{changes_begin}
 use Rattle.feed_types.specs.ListLaws.{get_within}
-use Rattle.feed_core.specs.laws.Lists.{get_set, get_push}
+use Rattle.feed_core.specs.laws.Lists.{get_after_set, get_push}
 
 -- ---- places
 
@@ -38,7 +38,7 @@ set_same (y ∷ xs) zero x e = let same : y ≡ x = cc in ap (λ (z : _). z ∷ 
 set_same (y ∷ xs) (suc i) x e = ap (λ (l : List _). y ∷ l) (set_same xs i x e)
 
 get_other : {X : Type 0} (xs : List X) (i j : ℕ) (x y : X) → slice_get (slice_set xs i x) j ≡ Some y → (j ≡ i → ⊥) → slice_get xs j ≡ Some y
-get_other xs i j x y e n = elim (get_set xs i j x y e) [ inl here ↦ absurd (n here.0) | inr there ↦ there ]
+get_other xs i j x y e n = elim (get_after_set xs i j x y e) [ inl here ↦ absurd (n here.0) | inr there ↦ there ]
 
 get_here : {X : Type 0} (xs : List X) (i j : ℕ) (x y : X) → slice_get (slice_set xs i x) j ≡ Some y → j ≡ i → y ≡ x
 get_here [] i j x y e h = absurd cc
@@ -317,7 +317,7 @@ put_subscriber_fits s m w id new x y f at same now = record {
   subscribers = record {
     count = length-set m.subscribers id new ∙ f.subscribers.count ∙ sym (length-set w.subscribers id y);
     each = set_both (λ i c u. FitsSubscriber s.symbols w.entries c u) m.subscribers w.subscribers id new y f.subscribers.each now;
-    terms = λ i u e. elim (get_set w.subscribers id i y u e) [
+    terms = λ i u e. elim (get_after_set w.subscribers id i y u e) [
       | inl here ↦ (rw (here.0, here.1) (f.subscribers.terms id x at ∙ ap Some (sym same)))
       | inr other ↦ f.subscribers.terms i u other
     ];

@@ -18,7 +18,7 @@ use Rattle.feed_core.specs.declared.event.Done.{Done}
 use Rattle.feed_core.specs.Worlds.{Lane, inside, Venue, Subscriber, World, Setting, setting_of, new_venue, new_world}
 use Rattle.feed_core.specs.Headline.{ShownVenue, shown_venue, shown_subscriber, IsRunOf}
 use Rattle.feed_core.specs.Fitting.{VenueView, FitsVenue, ShowsLane, SubscriberView, MachineView, FitVenues, FitSubscribers, FitsWorld, HasReached, venue_shown, subscriber_shown, shown_by, ShownTo, ShowVenues}
-use Rattle.feed_core.specs.laws.Lists.{get_set, get_push}
+use Rattle.feed_core.specs.laws.Lists.{get_after_set, get_push}
 
 -- ---- as it is made
 
@@ -73,7 +73,7 @@ get_here (z ∷ xs) zero x y e = cc
 get_here (z ∷ xs) (suc i) x y e = get_here xs i x y e
 
 get_other : {X : Type 0} (xs : List X) (i j : ℕ) (x y : X) → slice_get (slice_set xs i x) j ≡ Some y → (j ≡ i → ⊥) → slice_get xs j ≡ Some y
-get_other xs i j x y e n = elim (get_set xs i j x y e) [ inl here ↦ absurd (n here.0) | inr there ↦ there ]
+get_other xs i j x y e n = elim (get_after_set xs i j x y e) [ inl here ↦ absurd (n here.0) | inr there ↦ there ]
 
 pub shown_next : (window n : ℕ) (cs : List VenueView) (vs : List Venue) (c new : VenueView) → n < length cs → c ≡ get_or cs n c → ((w p : ℕ) (v : Venue) → FitsVenue w p c v → ShowsLane new.lane v) → ShownTo window n cs vs → ShownTo window (n + 1) (slice_set cs n new) vs
 shown_next window n cs vs c new lt value shows s = record {

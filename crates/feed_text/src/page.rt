@@ -19,11 +19,11 @@ pub struct LineBuffer {
 
 impl Model for LineBuffer {
     ghost use Rattle.std.specs.Prelude.{◌-◌, ◌≤◌, length, take};
-    ghost use Rattle.feed_text.specs.Pages.{Written, written_code};
+    ghost use Rattle.feed_text.specs.Pages.{BufferedText, buffered_code};
 
-    ghost Value = { Written };
+    ghost Value = { BufferedText };
 
-    ghost coded = { written_code };
+    ghost coded = { buffered_code };
 
     ghost view = { λ p. record {
       items = take p.end p.bytes.items;

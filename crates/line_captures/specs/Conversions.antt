@@ -16,8 +16,8 @@ use Rattle.line_captures.specs.Reports.{HasReadPieces, BeginsNoPiece, IsRestOf, 
 -- ---- bytes from a reader to a writer. Only private clauses cite this part.
 
 -- some calls read these bytes, and led to a state from which the reader came to its last one so
-pub record HasCopied {R : Type 0} (reading : Reading R) (Then : R → Type 0) (Takes : List ℕ → Type 0)
-    (from : R) : Type 0 where
+pub record HasCopied {R : Type 0} (reading : Reading R) (Then : R → Type 0)
+    (Takes : List ℕ → Type 0) (from : R) : Type 0 where
   pub calls : ℕ
   pub mid : R
   pub bytes : List ℕ
@@ -47,7 +47,8 @@ Copies reading writing from to before after (Err NoMemory) = ⊥
 
 -- A whole packet capture was read, one more call showed the end, and its records were written.
 pub record WroteCapture {R W : Type 0} (reading : Reading R) (writing : Writing W)
-    (lines : List CapturedLine) (from to : R) (before after : W) (point : CapturePoint) : Type 0 where
+    (lines : List CapturedLine) (from to : R) (before after : W) (point : CapturePoint)
+    : Type 0 where
   pub calls : ℕ
   pub mid : R
   pub records : List CaptureRecord
@@ -56,8 +57,8 @@ pub record WroteCapture {R W : Type 0} (reading : Reading R) (writing : Writing 
   pub end : reading.ends mid to
   pub wrote : writing.adds before (spelled records) after
 
--- Some calls read pieces and then a rest of this kind, and the records of the pieces were written: all
--- of them, or a front of their bytes.
+-- Some calls read pieces and then a rest of this kind, and the records of the pieces were written:
+-- all of them, or a front of their bytes.
 pub record WroteRecords {R W : Type 0} (reading : Reading R)
     (Takes : W → List ℕ → W → Type 0) (lines : List CapturedLine)
     (IsLeft : Context → List ℕ → Type 0) (Then : R → Type 0)

@@ -1,4 +1,5 @@
--- The lines of a list of addresses: two for each venue, line A's and then line B's, venue 0's first.
+-- The lines of a list of addresses: two for each venue, line A's and then line B's, venue 0's
+-- first.
 use Rattle.std.specs.Prelude.{◌≡◌, ℕ, ◌+◌, ◌/◌, ◌%◌, ◌==◌, ◌<◌, List, [], ◌∷◌, Some, slice_get, if◌then◌else◌}
 use Rattle.std.specs.declared.net.ip_addr.IpAddr.{IpAddr}
 use Rattle.std.specs.declared.net.ip_addr.IpAddr.TheVariants as ips

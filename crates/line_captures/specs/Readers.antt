@@ -40,8 +40,9 @@ new_progress = record {
 abbrev pub new_point : CapturePoint
 new_point = record { context = new_context; progress = new_progress }
 
--- the reader of the bytes, the lines, how far the capture was read, the bytes that were read and are of
--- no whole piece yet, those of records that were not given yet, and why there will be no more
+-- the reader of the bytes, the lines, how far the capture was read, the bytes that were read and
+-- are of no whole piece yet, those of records that were not given yet, and why there will be no
+-- more
 pub record LineReader (R : Type 0) : Type 0 where
   pub inner : R
   pub lines : List CapturedLine
@@ -61,8 +62,8 @@ new_reader lines inner = record {
   fault = None;
 }
 
--- The bytes begin with these pieces, whatever follows, which are counted, and the records of their frames
--- come after what was pending.
+-- The bytes begin with these pieces, whatever follows, which are counted, and the records of their
+-- frames come after what was pending.
 pub record TakesPieces (lines : List CapturedLine) (before : CapturePoint) (bytes pending : List ℕ)
     (after : CapturePoint) (rest given : List ℕ) : Type 0 where
   pub pieces : List PieceContent
@@ -74,9 +75,9 @@ pub record TakesPieces (lines : List CapturedLine) (before : CapturePoint) (byte
   pub each : All (IsOfLine lines) records
   pub given_is : given ≡ pending ++ spelled records
 
--- By so many calls these bytes of records came: as many calls at most of the reader of the bytes gave
--- whole pieces and the rest that is unread, and what was given, then what is pending, is what was
--- pending, then the records of the pieces.
+-- By so many calls these bytes of records came: as many calls at most of the reader of the bytes
+-- gave whole pieces and the rest that is unread, and what was given, then what is pending, is what
+-- was pending, then the records of the pieces.
 pub record GivesRecords {R : Type 0} (gives : R → ℕ → List ℕ → R → Type 0)
     (before : LineReader R) (calls : ℕ) (given : List ℕ) (after : LineReader R) : Type 0 where
   pub inner_calls : ℕ
@@ -88,8 +89,8 @@ pub record GivesRecords {R : Type 0} (gives : R → ℕ → List ℕ → R → T
   pub lines : after.lines ≡ before.lines
   pub fault : after.fault ≡ before.fault
 
--- One call showed the end, after a whole capture: a piece at least was read, no byte is unread, and none
--- is pending.
+-- One call showed the end, after a whole capture: a piece at least was read, no byte is unread, and
+-- none is pending.
 pub record EndsRecords {R : Type 0} (ends : R → R → Type 0) (before after : LineReader R)
     : Type 0 where
   pub begun : before.point.context.format ≢ Start
@@ -127,8 +128,8 @@ FailsBy ends fails from to None = fails from to
 FailsBy ends fails from to (Some (faults.BadCapture fault)) = to ≡ from
 FailsBy ends fails from to (Some faults.ShortCapture) = ends from to
 
--- One call failed, for want of a piece at the front of the unread bytes. Nothing was pending, and nothing
--- else changed.
+-- One call failed, for want of a piece at the front of the unread bytes. Nothing was pending, and
+-- nothing else changed.
 pub record FailsRecords {R : Type 0} (ends fails : R → R → Type 0) (before after : LineReader R)
     : Type 0 where
   pub stop : Stop

@@ -1,5 +1,5 @@
--- The records of a packet capture for lines: those of the datagrams that its frames carry to them, in
--- the order of the frames.
+-- The records of a packet capture for lines: those of the datagrams that its frames carry to them,
+-- in the order of the frames.
 use Rattle.std.specs.Prelude.{◌≡◌, ℕ, ◌<◌, ◌⊎◌, List, [], ◌∷◌, ◌++◌, flat_map, length, Some, slice_get}
 use Rattle.packet_capture.specs.declared.fault.FrameFault.{FrameFault}
 use Rattle.packet_capture.specs.Datagrams.{DatagramContent, CarriesDatagram}

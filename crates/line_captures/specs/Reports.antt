@@ -44,8 +44,8 @@ abbrev pub IsKnownBy : {R : Type 0} → Reading R → InputFault → R → R →
 IsKnownBy reading (inputs.BadCapture fault) mid to = mid ≡ to
 IsKnownBy reading inputs.ShortCapture mid to = reading.ends mid to
 
--- the outcome that a report tells, by the fault of the input, if there is one: that is why a call of the
--- reader of records failed
+-- the outcome that a report tells, by the fault of the input, if there is one: that is why a call
+-- of the reader of records failed
 abbrev pub outcome_by : Option InputFault → Result (Unit {0}) ReplayFault
     → Result (Unit {0}) LinesFault
 outcome_by fault (Ok done) = Ok done
@@ -54,6 +54,7 @@ outcome_by (Some input) (Err ReadFailed) = Err (faults.Input input)
 outcome_by (Some input) (Err fault) = Err (faults.Run fault)
 
 -- the report of a capture that was read up to this point
-pub record ReportsPoint {R : Type 0} (point : CapturePoint) (report : CaptureReport R) : Type 0 where
+pub record ReportsPoint {R : Type 0} (point : CapturePoint) (report : CaptureReport R)
+    : Type 0 where
   pub position : report.position ≡ point.progress.position
   pub passed : report.passed ≡ point.progress.passed

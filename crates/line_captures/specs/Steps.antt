@@ -16,8 +16,8 @@ abbrev pub datagram_record_of : LineDatagram → CaptureRecord
 datagram_record_of d = datagram_record d.line.venue d.line.line d.bytes.now
 
 -- a frame is counted by its fate
-pub record CountsFrame (lines : List CapturedLine) (frame : FrameContent) (before after : PassedOver)
-    : Type 0 where
+pub record CountsFrame (lines : List CapturedLine) (frame : FrameContent)
+    (before after : PassedOver) : Type 0 where
   pub fate : FrameFate
   pub is : IsFate lines frame fate
   pub after_is : after ≡ passed_after before (fate ∷ []) 0

@@ -4,11 +4,9 @@ ghost use Rattle.line_captures.specs.Lists.{AreOfVenues};
 ghost use Rattle.nbbo_main.specs.CapturedLines.{HasAllLinesFault, HasCapturedLinesFault, NameAllLines, NameCapturedLines};
 
 use crate::addresses::{LinesFault, read_lines};
+use feed_types::MAX_VENUES;
 use line_captures::{CapturedLine, are_apart, lines_at};
 use std::alloc::Global;
-
-/// The most venues that a list of lines may have.
-const MAX_VENUES: usize = 16;
 
 /// The lines that a list names, two for each of `venues` venues, where no two are of one address and
 /// port.

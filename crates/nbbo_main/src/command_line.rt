@@ -22,12 +22,9 @@ use crate::task::Task;
 use best_lines::Format;
 use clap::error::ErrorKind;
 use clap::{ArgMatches, Error};
-use feed_types::SymbolName;
+use feed_types::{MAX_WINDOW, SymbolName};
 use std::alloc::Global;
 use std::net::SocketAddr;
-
-/// The most messages that a window can have.
-const MAX_WINDOW: u32 = 65_535;
 
 /// The window where the words give none.
 const DEFAULT_WINDOW: u32 = 4_096;

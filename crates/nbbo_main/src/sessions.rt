@@ -4,13 +4,11 @@ ghost use Rattle.std.specs.List.{list_all};
 ghost use Rattle.nbbo_main.specs.Sessions.{is_session_byte, is_session_name, filled_name, sessions_in};
 ghost use Rattle.nbbo_main.specs.declared.sessions.SessionsFault.TheVariants.{NoMemory};
 
+use feed_types::MAX_VENUES;
 use std::alloc::{AllocError, Global};
 
 /// The number of bytes of a session's name in a packet.
 const NAME_LEN: usize = 10;
-
-/// The most venues.
-const MAX_VENUES: usize = 16;
 
 /// Why a list of sessions is refused.
 #[derive(Clone, Copy, Debug, PartialEq, Eq)]

@@ -6,12 +6,9 @@ ghost use Rattle.feed_types.specs.Symbols.{filled, is_symbol_name};
 ghost use Rattle.nbbo_main.specs.Symbols.{HasSymbolsFault, NameSymbols};
 ghost use Rattle.nbbo_main.specs.declared.symbols.SymbolsFault.TheVariants.{NoMemory};
 
-use feed_types::SymbolName;
+use feed_types::{MAX_SYMBOLS, SymbolName};
 use indexmap::IndexSet;
 use std::alloc::{AllocError, Global};
-
-/// The most symbols.
-const MAX_SYMBOLS: usize = 4096;
 
 /// Why words name no symbols.
 #[derive(Clone, Copy, Debug, PartialEq, Eq)]

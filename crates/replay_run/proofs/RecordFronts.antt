@@ -6,7 +6,7 @@ use Rattle.feed_types.specs.declared.line.LineId.{LineId}
 use Rattle.feed_types.specs.declared.line.LineId.TheVariants.{A, B, Recovery}
 use Rattle.feed_types.specs.Text.{line_letter}
 use Rattle.feed_text.specs.Capture.{CaptureRecord, datagram_record, bytes_of_record, capture_of, IsKind, IsRecord, IsHeader, IsBadRecord, NoRecord}
-use Rattle.feed_text.specs.laws.Readings.{same_front, header_of, no_front}
+use Rattle.feed_text.specs.laws.Readings.{same_front, begins_header, no_front}
 use Rattle.line_captures.specs.declared.captured_line.CapturedLine.{CapturedLine}
 use Rattle.line_captures.specs.Lists.{AreOfVenues}
 use Rattle.line_captures.specs.Records.{IsOfLine, spelled}
@@ -46,7 +46,7 @@ no_bad venues [] rest more each e bad =
     let four = bad.four in
     omega (arith, none, both, four)
 no_bad venues (o ∷ os) rest more each e bad =
-    let head = (header_of venues o (spelled os) (each 0 o (omega arith))).0 in
+    let head = (begins_header venues o (spelled os) (each 0 o (omega arith))).0 in
     bad.wrong (header_front venues rest more bad.four (subst (IsHeader venues) (sym e) head))
 
 line_kind : (line : LineId) (len : ℕ) → IsKind (line_letter line) len

@@ -8,7 +8,7 @@ use Rattle.feed_core.specs.declared.event.Event.{Event}
 use Rattle.feed_core.specs.declared.event.Done.{Done}
 use Rattle.feed_core.specs.Worlds.{Venue, World, Setting, new_venue, new_world}
 use Rattle.feed_core.specs.Runs.{IsRun}
-use Rattle.feed_core.specs.laws.KeptVenues.{MoveKept, run_keeps}
+use Rattle.feed_core.specs.laws.KeptVenues.{KeepsVenueStep, run_keeps}
 use Rattle.feed_core.specs.laws.VenueHalfLaw.{none_asked}
 
 abbrev IsFirst : Setting → ℕ → Venue → Type 0
@@ -31,7 +31,7 @@ first_renewed : (old : History) (name : List ℕ) (answer : Result ℕ RenewFaul
 first_renewed old name (Ok ordinal) = first_more old.earlier old.present (new_session name)
 first_renewed old name (Err fault) = refl
 
-moves : (s : Setting) → MoveKept s (λ e. Unit {0}) (IsFirst s)
+moves : (s : Setting) → KeepsVenueStep s (λ e. Unit {0}) (IsFirst s)
 moves s = record {
   packet = λ place v line bytes p rest answer h may spells taken k.
       ap (λ (x : History). slice_get (names_of x) 0) taken.is

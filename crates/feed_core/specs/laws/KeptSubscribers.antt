@@ -18,13 +18,13 @@ use Rattle.feed_core.specs.Steps.{Refused, Changes, next_in, next_out, push_next
 use Rattle.feed_core.specs.OneStep.{IsStep}
 use Rattle.feed_core.specs.Runs.{IsRun}
 use Rattle.feed_core.specs.declared.event.Done.TheVariants as done
-use Rattle.feed_core.specs.laws.Lists.{get_set, get_push}
+use Rattle.feed_core.specs.laws.Lists.{get_after_set, get_push}
 
 -- what holds of each subscriber, with the entries
 abbrev pub EachSubscriber : (List Entry → Subscriber → Type 0) → World → Type 0
 EachSubscriber Q w = (id : ℕ) (x : Subscriber) → slice_get w.subscribers id ≡ Some x → Q w.entries x
 
-pub record MoveKept (s : Setting) (Q : List Entry → Subscriber → Type 0) : Type 0 where
+pub record KeepsSubscriberStep (s : Setting) (Q : List Entry → Subscriber → Type 0) : Type 0 where
   pub grow : (E : List Entry) (e : Entry) (x : Subscriber) → Q E x → Q (E ++ e ∷ []) x
   pub new : (E : List Entry) (terms : Terms) → Q E (record { terms = terms; lane = empty_lane })
   pub offer : (E : List Entry) (x : Subscriber) (n : Notice)
@@ -33,13 +33,13 @@ pub record MoveKept (s : Setting) (Q : List Entry → Subscriber → Type 0) : T
   pub dequeue : (E : List Entry) (x : Subscriber) (n : Notice) → next_out x.lane ≡ Some n → Q E x
       → Q E (record x { lane = record x.lane { received = x.lane.received ++ n ∷ [] } })
 
-module _ (s : Setting) (Q : List Entry → Subscriber → Type 0) (kept : MoveKept s Q) where
+module _ (s : Setting) (Q : List Entry → Subscriber → Type 0) (kept : KeepsSubscriberStep s Q) where
   moved : (new w : World) → new ≡ w → EachSubscriber Q w → EachSubscriber Q new
   moved new w e each = subst (EachSubscriber Q) (sym e) each
 
   put : (old : World) (id : ℕ) (x : Subscriber) → EachSubscriber Q old → Q old.entries x
       → EachSubscriber Q (put_subscriber old id x)
-  put old id x each here = λ j y e. elim (get_set old.subscribers id j x y e) [
+  put old id x each here = λ j y e. elim (get_after_set old.subscribers id j x y e) [
     | inl now ↦ rw (now.1) here
     | inr before ↦ each j y before
   ]

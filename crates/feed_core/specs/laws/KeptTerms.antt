@@ -18,7 +18,7 @@ use Rattle.feed_core.specs.Worlds.{empty_lane, is_full, Venue, Subscriber, World
 use Rattle.feed_core.specs.Steps.{Transition, Refused, Changes, next_in, next_out, push_next, consume_next, declare_help, offer_next, dequeue_next, too_many_subscribers, unknown_venue, unknown_subscriber, put_subscriber, Stays, Applies, with_sent, with_intake, AnswersSubscribe}
 use Rattle.feed_core.specs.OneStep.{IsStep}
 use Rattle.feed_core.specs.Runs.{IsRun}
-use Rattle.feed_core.specs.laws.Lists.{get_set, get_push}
+use Rattle.feed_core.specs.laws.Lists.{get_after_set, get_push}
 
 -- each subscriber has the terms of the filter at its place, and as long as there is place no other
 -- filter was used
@@ -76,7 +76,7 @@ module _ (s : Setting) where
       let len : length (slice_set old.subscribers id (put y)) ≡ length old.subscribers =
       length-set old.subscribers id (put y) in
       moved new (put_subscriber old id (put y)) h.1 (record {
-        terms = λ j z at. elim (get_set old.subscribers id j (put y) z at) [
+        terms = λ j z at. elim (get_after_set old.subscribers id j (put y) z at) [
           | inl now ↦ rw (now.0, now.1)
               (k.terms id x there ∙ ap (λ (t : Terms). Some t) (sym (same_terms y)))
           | inr before ↦ k.terms j z before

@@ -18,9 +18,9 @@ use Rattle.feed_core.specs.Worlds.{is_full, Venue, session_sent, Subscriber, Wor
 use Rattle.feed_core.specs.Steps.{Transition, Refused, Changes, next_in, next_out, AddsArrival, AddsRenewal, push_next, journal_item, declare_help, add_subscriber, offer_next, dequeue_next, journal_full, unknown_venue, unknown_subscriber, put_venue, Stays, Applies, with_sent, with_intake, with_offered, with_dequeued, AnswersSubscribe}
 use Rattle.feed_core.specs.OneStep.{IsStep}
 use Rattle.feed_core.specs.Runs.{IsRun}
-use Rattle.feed_core.specs.laws.Lists.{get_set}
+use Rattle.feed_core.specs.laws.Lists.{get_after_set}
 
-pub record MoveKept (s : Setting) (May : Event → Type 0) (Q : ℕ → Venue → Type 0) : Type 0 where
+pub record KeepsVenueStep (s : Setting) (May : Event → Type 0) (Q : ℕ → Venue → Type 0) : Type 0 where
   pub packet : (place : ℕ) (v : Venue) (line : LineId) (bytes : _) (p : Content) (rest : List ℕ)
       (answer : Result Outcome LineFault) (h : History)
       → May (Packet place line bytes) → Spells bytes.now p rest
@@ -38,7 +38,7 @@ pub record MoveKept (s : Setting) (May : Event → Type 0) (Q : ℕ → Venue �
 abbrev pub EachVenue : (ℕ → Venue → Type 0) → World → Type 0
 EachVenue Q w = (place : ℕ) (v : Venue) → slice_get w.venues place ≡ Some v → Q place v
 
-module _ (s : Setting) (May : Event → Type 0) (Q : ℕ → Venue → Type 0) (kept : MoveKept s May Q)
+module _ (s : Setting) (May : Event → Type 0) (Q : ℕ → Venue → Type 0) (kept : KeepsVenueStep s May Q)
   where
     moved : (new w : World) → new ≡ w → EachVenue Q w → EachVenue Q new
     moved new w e each = subst (EachVenue Q) (sym e) each
@@ -46,7 +46,7 @@ module _ (s : Setting) (May : Event → Type 0) (Q : ℕ → Venue → Type 0) (
     -- a venue is put in place of another
     put : (old : World) (place : ℕ) (v : Venue) → EachVenue Q old → Q place v
         → EachVenue Q (put_venue old place v)
-    put old place v each here = λ j u e. elim (get_set old.venues place j v u e) [
+    put old place v each here = λ j u e. elim (get_after_set old.venues place j v u e) [
       | inl now ↦ rw (now.0, now.1) here
       | inr before ↦ each j u before
     ]

@@ -52,14 +52,14 @@ begins_drop {xs =
     ∙ ap (λ (l : List _). xs ++ l) (drop-append_seam xs a.rest) ∙ sym a.is
 
 -- what is read after a write: what was written at its place, and what was there elsewhere
-pub get_set : {X : Type 0} (xs : List X) (i j : ℕ) (x y : X)
+pub get_after_set : {X : Type 0} (xs : List X) (i j : ℕ) (x y : X)
     → slice_get (slice_set xs i x) j ≡ Some y → ((j ≡ i) × (y ≡ x)) ⊎ (slice_get xs j ≡ Some y)
-get_set [] i j x y e = absurd cc
-get_set (z ∷ xs) zero zero x y e = inl (refl, cc)
-get_set (z ∷ xs) zero (suc j) x y e = inr e
-get_set (z ∷ xs) (suc i) zero x y e = inr e
-get_set (z ∷ xs) (suc i) (suc j) x y e =
-    elim (get_set xs i j x y e) [ inl here ↦ inl (ap suc here.0, here.1) | inr there ↦ inr there ]
+get_after_set [] i j x y e = absurd cc
+get_after_set (z ∷ xs) zero zero x y e = inl (refl, cc)
+get_after_set (z ∷ xs) zero (suc j) x y e = inr e
+get_after_set (z ∷ xs) (suc i) zero x y e = inr e
+get_after_set (z ∷ xs) (suc i) (suc j) x y e =
+    elim (get_after_set xs i j x y e) [ inl here ↦ inl (ap suc here.0, here.1) | inr there ↦ inr there ]
 
 pub get_push : {X : Type 0} (xs : List X) (i : ℕ) (x y : X) → slice_get (xs ++ x ∷ []) i ≡ Some y
     → ((i ≡ length xs) × (y ≡ x)) ⊎ ((i < length xs) × (slice_get xs i ≡ Some y))

@@ -19,7 +19,7 @@ use Rattle.line_arbiter.specs.OfSession.{IsOfSession, AreOfSession, GivesSession
 use Rattle.line_arbiter.specs.laws.Histories.{items_push}
 use Rattle.line_arbiter.specs.laws.Arrivals.{all_push}
 use Rattle.line_arbiter.specs.laws.Below.{answered_grows, all_sent}
-use Rattle.line_arbiter.specs.laws.AnsweredHistories.{IsOver, IsAnsweredThroughout, new_answered, answered_arrival}
+use Rattle.line_arbiter.specs.laws.AnsweredHistories.{IsSessionOver, IsAnsweredThroughout, new_answered, answered_arrival}
 use Rattle.line_arbiter.specs.laws.Giving.{gives_session}
 use Rattle.line_arbiter.specs.laws.Fronts.{front_is}
 use Rattle.feed_core.specs.declared.event.Event.{Event}
@@ -30,11 +30,11 @@ use Rattle.feed_core.specs.Runs.{IsRun}
 use Rattle.feed_core.specs.VenueHalf.{BringsOnly, BringOnly, AreSession, VenueHalf}
 use Rattle.feed_core.specs.laws.Lists.{begins_self, begins_then, begins_len, begins_all}
 use Rattle.feed_core.specs.laws.Lanes.{Serves, serve_in, serve_out, serve_more, serve_all}
-use Rattle.feed_core.specs.laws.KeptVenues.{MoveKept, EachVenue, run_keeps}
+use Rattle.feed_core.specs.laws.KeptVenues.{KeepsVenueStep, EachVenue, run_keeps}
 
 -- What a venue keeps: its lane serves its streams, all items of the sessions that are over were
 -- sent, and each packet was answered by the definitions.
-pub record IsKept (window : ℕ) (v : Venue) : Type 0 where
+pub record ServesItsStreams (window : ℕ) (v : Venue) : Type 0 where
   pub serves : Serves v.lane (streams_of v.history)
   pub begun : IsPrefix (items_of v.history.earlier) v.lane.sent
   pub answered : IsAnsweredThroughout window v.history
@@ -50,7 +50,7 @@ grown earlier b c g = record {
 }
 
 -- the present session has ended: all of it came, and all was sent
-ended : (window : ℕ) (v : Venue) → IsKept window v
+ended : (window : ℕ) (v : Venue) → ServesItsStreams window v
     → HasEnded (end_of v.history.present.packets) (session_sent v)
     → IsComplete v.history.present.packets × (v.lane.sent ≡ streams_of v.history)
 ended window v k has =
@@ -67,20 +67,20 @@ ended window v k has =
     (sent.0, begins_all k.serves.sent (omega arith))
 
 renewed : (window : ℕ) (v : Venue) (name : List ℕ) (answer : Result ℕ RenewFault) (h : History)
-    → AddsRenewal (session_sent v) name v.history answer h → IsKept window v
-    → IsKept window (record v { history = h })
+    → AddsRenewal (session_sent v) name v.history answer h → ServesItsStreams window v
+    → ServesItsStreams window (record v { history = h })
 renewed window v name (Err fault) h r k =
-    subst (λ (x : History). IsKept window (record v { history = x })) (sym r.is) k
+    subst (λ (x : History). ServesItsStreams window (record v { history = x })) (sym r.is) k
 renewed window v name (Ok ordinal) h r k =
     let e = ended window v k r.right.0 in
     let next : History = record { earlier = all_begun v.history; present = new_session name } in
-    subst (λ (x : History). IsKept window (record v { history = x })) (sym r.is) (record {
+    subst (λ (x : History). ServesItsStreams window (record v { history = x })) (sym r.is) (record {
       serves =
           serve_more v.lane (streams_of v.history) (streams_of next)
           (record { rest = []; is = items_push (all_begun v.history) (new_session name) }) k.serves;
       begun = record { rest = []; is = e.1 ∙ sym (append-nil (streams_of v.history)) };
       answered = record {
-        over = all_push (IsOver window) v.history.earlier v.history.present k.answered.over
+        over = all_push (IsSessionOver window) v.history.earlier v.history.present k.answered.over
             (record { answered = k.answered.answered; complete = e.0 });
         answered = tt;
       };
@@ -88,14 +88,14 @@ renewed window v name (Ok ordinal) h r k =
 
 arrived : (window : ℕ) (v : Venue) (line : LineId) (bytes : List ℕ) (p : Content) (rest : List ℕ)
     (answer : Result Outcome LineFault) (h : History) → Spells bytes p rest
-    → AddsArrival window (session_sent v) line p v.history answer h → IsKept window v
-    → IsKept window (record v { history = h })
+    → AddsArrival window (session_sent v) line p v.history answer h → ServesItsStreams window v
+    → ServesItsStreams window (record v { history = h })
 arrived window v line bytes p rest answer h spells taken k =
     let a : Arrival = arrival_of line p answer in
     let b : Begun = v.history.present in
     let one : IsAnswered b.name window b.packets a =
     record { content = spells.content; sent = session_sent v; outcome = taken.right } in
-    subst (λ (x : History). IsKept window (record v { history = x })) (sym taken.is) (record {
+    subst (λ (x : History). ServesItsStreams window (record v { history = x })) (sym taken.is) (record {
       serves =
           serve_more v.lane (streams_of v.history) _
           (grown v.history.earlier b (record b { packets = b.packets ++ a ∷ [] })
@@ -104,7 +104,7 @@ arrived window v line bytes p rest answer h spells taken k =
       answered = answered_arrival window v.history k.answered a one;
     })
 
-pub moves : (s : Setting) → MoveKept s (λ e. Unit {0}) (λ place v. IsKept s.window v)
+pub moves : (s : Setting) → KeepsVenueStep s (λ e. Unit {0}) (λ place v. ServesItsStreams s.window v)
 moves s = record {
   packet =
       λ place v line bytes p rest answer h may spells taken k. arrived s.window v line bytes.now p
@@ -128,7 +128,7 @@ moves s = record {
       };
 }
 
-pub new_kept : (window : ℕ) (session : List ℕ) → IsKept window (new_venue session)
+pub new_kept : (window : ℕ) (session : List ℕ) → ServesItsStreams window (new_venue session)
 new_kept window session =
     record {
       serves = record { sent = record { rest = []; is = refl }; received = begins_self [] };
@@ -149,10 +149,10 @@ none_asked [] = tt
 none_asked (e ∷ es) = (tt, none_asked es)
 
 pub kept_through : (s : Setting) (events : List Event) (ds : List Done) (w : World)
-    → IsRun s (new_world s) events ds w → EachVenue (λ place v. IsKept s.window v) w
+    → IsRun s (new_world s) events ds w → EachVenue (λ place v. ServesItsStreams s.window v) w
 kept_through s events ds w run =
-    run_keeps s (λ e. Unit {0}) (λ place v. IsKept s.window v) (moves s) (new_world s) events ds w
-    (none_asked events) (new_at (λ place v. IsKept s.window v) s.sessions
+    run_keeps s (λ e. Unit {0}) (λ place v. ServesItsStreams s.window v) (moves s) (new_world s) events ds w
+    (none_asked events) (new_at (λ place v. ServesItsStreams s.window v) s.sessions
     (λ i name. new_kept s.window name)) run
 
 -- ---- with a session
@@ -186,7 +186,7 @@ module _ (setting : Setting) (at : ℕ) (s : Session) where
       })
   renewed_only sent name old (Err fault) new r k = subst (IsOnly s) (sym r.is) k
 
-  only_moves : MoveKept setting (BringsOnly at s) (λ place v. place ≡ at → IsOnly s v.history)
+  only_moves : KeepsVenueStep setting (BringsOnly at s) (λ place v. place ≡ at → IsOnly s v.history)
   only_moves = record {
     packet =
         λ place v line bytes p rest answer h may spells taken k here. taken_only setting.window
@@ -213,14 +213,14 @@ gives window s b answered only name =
     gives_session s window b.packets
     (subst (λ (n : List ℕ). AreAnswered n window b.packets) name answered) only
 
-are_session : (window : ℕ) (s : Session) (v : Venue) → IsKept window v → IsOnly s v.history
+are_session : (window : ℕ) (s : Session) (v : Venue) → ServesItsStreams window v → IsOnly s v.history
     → AreSession s v.history
 are_session window s v k only = record {
   earlier = each v.history.earlier k.answered.over only.earlier;
   present = λ name. gives window s v.history.present k.answered.answered only.present name;
 }
   where
-    each : (bs : List Begun) → AllByRecursion (IsOver window) bs
+    each : (bs : List Begun) → AllByRecursion (IsSessionOver window) bs
         → AllByRecursion (λ b. AreOfSession s b.packets) bs
         → AllByRecursion (λ b. b.name ≡ s.name → GivesSession s b.packets
         × (stream_of b.packets ≡ whole_session s)) bs

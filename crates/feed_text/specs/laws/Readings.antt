@@ -77,8 +77,8 @@ same_front e f a b h =
     (record_one e f venue kind parts.0, parts.1)
 
 -- what begins with a record's spelling begins with its header
-pub header_of : (venues : ℕ) (e : CaptureRecord) (a : List ℕ) → IsRecord venues e → IsHeader venues (bytes_of_record e ++ a) × (len_at (bytes_of_record e ++ a) ≡ length (payload_of e))
-header_of venues e a i =
+pub begins_header : (venues : ℕ) (e : CaptureRecord) (a : List ℕ) → IsRecord venues e → IsHeader venues (bytes_of_record e ++ a) × (len_at (bytes_of_record e ++ a) ≡ length (payload_of e))
+begins_header venues e a i =
     let len : length (payload_of e) / 256 * 256 + length (payload_of e) % 256 ≡ length (payload_of e) = omega arith in
     (record { whole = omega arith; venue = i.venue; kind = subst (IsKind (kind_byte e)) (sym len) i.kind }, len)
 
@@ -86,7 +86,7 @@ pub no_front : (venues : ℕ) (e : CaptureRecord) (a : List ℕ) → IsRecord ve
 no_front venues e a i n =
     let long : length (payload_of e ++ a) ≡ length (payload_of e) + length a = length-append (payload_of e) a in
     let whole : length (bytes_of_record e ++ a) ≡ 4 + length (payload_of e ++ a) = omega arith in
-    let head = header_of venues e a i in
+    let head = begins_header venues e a i in
     elim n [
       | inl none ↦ let z : length (bytes_of_record e ++ a) ≡ 0 = ap length none in omega arith
       | inr other ↦ elim other [

@@ -32,7 +32,7 @@ use Rattle.feed_text.specs.laws.Lists.{get_set_same, get_set_other, same_or_not}
 -- ---- what came to a venue
 
 -- The effect of a record on a venue: the items that it emits follow the venue's streams.
-pub record GoesOn (window place : ℕ) (old : History) (emitted : List ReplayEvent)
+pub record AddsEmittedItems (window place : ℕ) (old : History) (emitted : List ReplayEvent)
     (new : History) : Type 0 where
   pub items : streams_of new ≡ streams_of old ++ items_taken place emitted
   pub kept : IsAnsweredThroughout window new
@@ -84,9 +84,9 @@ packet_items place window gaps venue line answer xs h =
 
 stays : (window place : ℕ) (old new : History) (emitted : List ReplayEvent)
     → IsAnsweredThroughout window old → new ≡ old → items_taken place emitted ≡ []
-    → GoesOn window place old emitted new
+    → AddsEmittedItems window place old emitted new
 stays window place old new emitted k e none =
-    subst (GoesOn window place old emitted) (sym e) (record {
+    subst (AddsEmittedItems window place old emitted) (sym e) (record {
       items =
           sym (append-nil (streams_of old))
           ∙ ap (λ (xs : List Numbered). streams_of old ++ xs) (sym none);
@@ -110,7 +110,7 @@ module _ (window : ℕ) (gaps : Bool) (venue : ℕ) where
 
   packet_goes : (line : LineId) (bytes : List ℕ) (old new : History) (emitted : List ReplayEvent)
       → IsAnsweredThroughout window old → EmitsPacket window gaps venue line bytes old emitted new
-      → GoesOn window venue old emitted new
+      → AddsEmittedItems window venue old emitted new
   packet_goes line bytes old new emitted k t =
       let a : Arrival = arrival_of line t.packet t.answer in
       let b : Begun = old.present in
@@ -121,7 +121,7 @@ module _ (window : ℕ) (gaps : Bool) (venue : ℕ) where
       let items : items_taken venue emitted ≡ ready =
       ready_items line bytes old new emitted t
       ∙ ap (λ (h : History). drop (stream_length old) (stream_of h.present.packets)) t.grown in
-      subst (GoesOn window venue old emitted) (sym t.grown) (record {
+      subst (AddsEmittedItems window venue old emitted) (sym t.grown) (record {
         items = items_push old.earlier next
             ∙ ap (λ (xs : List Numbered). histories.items_of old.earlier ++ xs)
             (seam (answered_grows b.name window b.packets a k.answered one))
@@ -135,11 +135,11 @@ module _ (window : ℕ) (gaps : Bool) (venue : ℕ) where
       (answer : Result ℕ RenewFault) → IsAnsweredThroughout window old
       → IsRenewal (names_of old) (end_of old.present.packets) (stream_length old) name answer
       → new ≡ history_after old name answer → emitted ≡ renewal_answered venue answer ∷ []
-      → GoesOn window venue old emitted new
+      → AddsEmittedItems window venue old emitted new
   renewal_goes name old new emitted (Err fault) k is after emitted_is =
       stays window venue old new emitted k after (ap (items_taken venue) emitted_is)
   renewal_goes name old new emitted (Ok ordinal) k is after emitted_is =
-      subst (GoesOn window venue old emitted) (sym after) (record {
+      subst (AddsEmittedItems window venue old emitted) (sym after) (record {
         items =
             items_push (all_begun old) (new_session name)
             ∙ ap (λ (xs : List Numbered). streams_of old ++ xs)
@@ -149,7 +149,7 @@ module _ (window : ℕ) (gaps : Bool) (venue : ℕ) where
 
 pub here : (window : ℕ) (gaps : Bool) (r : CaptureRecord) (old new : History)
     (emitted : List ReplayEvent) → IsAnsweredThroughout window old
-    → EmitsAt window gaps r old emitted new → GoesOn window (record_venue r) old emitted new
+    → EmitsAt window gaps r old emitted new → AddsEmittedItems window (record_venue r) old emitted new
 here window gaps (datagram_record venue line bytes) old new emitted k t = elim t [
   | inl f ↦ stays window venue old new emitted k f.same
       (ap (items_taken venue) f.emitted_is ∙ no_gap_items venue window gaps venue new)
@@ -194,7 +194,7 @@ record Came (window place : ℕ) (old : List History) (emitted : List ReplayEven
 pub one_came : (window : ℕ) (gaps : Bool) (r : CaptureRecord) (old mid : List History)
     (emitted : List ReplayEvent) → Each window old → EmitsRecord window gaps r old emitted mid
     → (place : ℕ) (h : History) → slice_get mid place ≡ Some h → (before : History)
-    × (slice_get old place ≡ Some before) × GoesOn window place before emitted h
+    × (slice_get old place ≡ Some before) × AddsEmittedItems window place before emitted h
 one_came window gaps r old mid emitted each t place h at =
     let set : slice_get (slice_set old (record_venue r) t.after) place ≡ Some h =
     subst (λ (hs : List History). slice_get hs place ≡ Some h) t.others at in

@@ -11,13 +11,13 @@ use Rattle.line_arbiter.specs.laws.Arrivals.{all_push}
 use Rattle.line_arbiter.specs.laws.Below.{answered_more, all_sent}
 
 -- a session that is over: each packet was answered by the definitions, and all of its messages came
-pub record IsOver (window : ℕ) (b : Begun) : Type 0 where
+pub record IsSessionOver (window : ℕ) (b : Begun) : Type 0 where
   pub answered : AreAnswered b.name window b.packets
   pub complete : IsComplete b.packets
 
 -- the sessions that are over, and the present one, each packet of which was answered, too
 pub record IsAnsweredThroughout (window : ℕ) (h : History) : Type 0 where
-  pub over : AllByRecursion (IsOver window) h.earlier
+  pub over : AllByRecursion (IsSessionOver window) h.earlier
   pub answered : AreAnswered h.present.name window h.present.packets
 
 pub new_answered : (window : ℕ) (name : List ℕ) → IsAnsweredThroughout window (new_history name)
@@ -36,7 +36,7 @@ module _ (window : ℕ) (h : History) (k : IsAnsweredThroughout window h) where
       → HasEnded (end_of h.present.packets) sent
       → IsAnsweredThroughout window (after_renewal h name)
   answered_renewal sent name within has = record {
-    over = all_push (IsOver window) h.earlier h.present k.over (record {
+    over = all_push (IsSessionOver window) h.earlier h.present k.over (record {
       answered = k.answered;
       complete =
           (all_sent h.present.name window sent h.present.packets k.answered within has).0;

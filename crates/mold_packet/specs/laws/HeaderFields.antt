@@ -58,10 +58,10 @@ header_is bytes long h =
     ∙ sym (header-append (session_at bytes) (number_at bytes) (count_at bytes) (drop 20 bytes))
 
 -- the same, with the fields as the code read them
-pub header_of : (bytes session : List ℕ) (number count : ℕ) (body : List ℕ) → 20 ≤ length bytes
+pub header_as_read : (bytes session : List ℕ) (number count : ℕ) (body : List ℕ) → 20 ≤ length bytes
     → ((i : ℕ) → get_or bytes i 0 < 256) → session ≡ session_at bytes → number ≡ number_at bytes
     → count ≡ count_at bytes → drop 20 bytes ≡ body → bytes ≡ header session number count ++ body
-header_of bytes session number count body long h s n c b =
+header_as_read bytes session number count body long h s n c b =
     header_is bytes long h
     ∙ ap (λ (x : List ℕ). header x (number_at bytes) (count_at bytes) ++ drop 20 bytes) (sym s)
     ∙ ap (λ (x : ℕ). header session x (count_at bytes) ++ drop 20 bytes) (sym n)
@@ -111,5 +111,5 @@ pub whole_header : (bytes session : List ℕ) (number count : ℕ) → length by
     → ((i : ℕ) → get_or bytes i 0 < 256) → session ≡ session_at bytes → number ≡ number_at bytes
     → count ≡ count_at bytes → bytes ≡ header session number count
 whole_header bytes session number count exact h s n c =
-    header_of bytes session number count [] (omega arith) h s n c (drop_all 20 bytes (omega arith))
+    header_as_read bytes session number count [] (omega arith) h s n c (drop_all 20 bytes (omega arith))
     ∙ append-nil (header session number count)
