@@ -87,7 +87,7 @@ abbrev pub ClosesBests : {W F : Type 0} (writing : Writing W) (failed : F) (from
 ClosesBests writing failed from to seen outcome =
     ((seen ≡ Err failed) × (outcome ≡ Err failed) × (to ≡ from))
     ⊎ ((seen ≢ Err failed) × (outcome ≡ seen) × WritesPending writing from to)
-    ⊎ ((outcome ≡ Err failed)
+    ⊎ ((seen ≢ Err failed) × (outcome ≡ Err failed)
     × Wrote writing.adds (below from) (pending_of from) (below to)
     × (writing.failures (below to) ≡ writing.failures (below from) + 1))
 
