@@ -25,8 +25,8 @@ abbrev pub TakesText : Format → List ℕ → List ℕ → List ℕ → List �
 TakesText format start text new_start rows =
     (line : List ℕ) → IsLineStart start line → HasRows format (line ++ text) new_start rows
 
--- The writer took this text: its best lines make rows, which come after those that were pending, and
--- of these the writer below took a prefix; the rest is pending.
+-- The writer took this text: its best lines make rows, which come after those that were pending,
+-- and of these the writer below took a prefix; the rest is pending.
 pub record AddsBests {W : Type 0} (adds : W → List ℕ → W → Type 0)
     (before : BestsOut W) (text : List ℕ) (after : BestsOut W) : Type 0 where
   pub format : after.format ≡ before.format

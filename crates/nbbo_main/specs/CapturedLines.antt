@@ -1,5 +1,5 @@
--- The lines of a packet capture on the command line: the list of addresses is that of lines that are
--- received, and no two may be of one address and port, since a datagram goes to one line.
+-- The lines of a packet capture on the command line: the list of addresses is that of lines that
+-- are received, and no two may be of one address and port, since a datagram goes to one line.
 use Rattle.std.specs.Prelude.{◌≡◌, ◌⊎◌, ℕ, ◌≤◌, List}
 use Rattle.std.specs.declared.net.socket_addr.SocketAddr.{SocketAddr}
 use Rattle.line_captures.specs.declared.captured_line.CapturedLine.{CapturedLine}

@@ -92,7 +92,8 @@ pub record IsFlag (text : Option Text) (flag : Bool) : Type 0 where
   pub absent : text ≡ Some (codes "false") → flag ≡ false
   pub unknown : text ≡ None → flag ≡ false
 
--- The values of the options of replay ask for the best lines alone in this format, or for all lines.
+-- The values of the options of replay ask for the best lines alone in this format, or for all
+-- lines.
 pub record GivesBests (rows : List Row) (bests : Option Format) : Type 0 where
   pub best_only : Bool
   pub flag : IsFlag (one_of (codes "best-only") rows) best_only
@@ -136,7 +137,8 @@ pub record GivesListening (rows : List Row) (settings : ListenSettings) : Type 0
   pub datagrams : IsCount (one_of (codes "datagrams") rows) settings.datagrams
   pub buffer : IsGivenCount (one_of (codes "buffer") rows) settings.buffer
 
--- The values of the options of replay give this task: with a list of lines that of a packet capture.
+-- The values of the options of replay give this task: with a list of lines that of a packet
+-- capture.
 abbrev pub GivesTask : List Row → Task → Type 0
 GivesTask rows (Replay settings) = Gives rows settings × (first_of (codes "lines") rows ≡ None)
 GivesTask rows (ReplayLines settings) = GivesLineReplay rows settings
@@ -165,8 +167,9 @@ pub record GivesNoCapturedLines (rows : List Row) : Type 0 where
   pub listed : first_of (codes "lines") rows ≡ Some list
   pub fault : HasCapturedLinesFault list (length settings.sessions.items) lines.BadLines
 
--- The values of the options of replay give no settings, since the list of sessions, the symbols, the
--- format or the list of lines are wrong, which are looked at in that order, or memory was refused.
+-- The values of the options of replay give no settings, since the list of sessions, the symbols,
+-- the format or the list of lines are wrong, which are looked at in that order, or memory was
+-- refused.
 abbrev pub GivesNone : List Row → Refusal → Type 0
 GivesNone rows BadSession = sessions_in (list_in rows) ≡ Err sessions.BadSession
 GivesNone rows TooManySessions = sessions_in (list_in rows) ≡ Err sessions.TooManySessions

@@ -1,8 +1,9 @@
--- What a terminal is told of an input that is no capture of this project's own, by the number of its first four bytes,
--- the first of them the highest.
+-- What a terminal is told of an input that is no capture of this project's own, by the number of
+-- its first four bytes, the first of them the highest.
 use Rattle.std.specs.Prelude.{ℕ, ◌/◌, ◌==◌, Bool, ◌||◌, List, [], codes, if◌then◌else◌}
 
--- the first bytes of pcap, in either order of bytes, with microseconds and then with nanoseconds, and of pcapng
+-- the first bytes of pcap, in either order of bytes, with microseconds and then with nanoseconds,
+-- and of pcapng
 abbrev pub is_packets : ℕ → Bool
 is_packets start =
     (start == 3569595041)

@@ -49,13 +49,15 @@ other_texts passed =
 abbrev pub passed_texts : PassedOver → List (List ℕ)
 passed_texts passed = lost_texts passed ++ other_texts passed
 
--- why the bytes are no packet capture, or none that is read: the number of the refusal, and what it means
+-- why the bytes are no packet capture, or none that is read: the number of the refusal, and what it
+-- means
 abbrev pub capture_fault_text : CaptureFault → List ℕ
 capture_fault_text NotCapture = codes ": 40, neither pcap nor pcapng\n"
 capture_fault_text UnknownVersion = codes ": 41, a version of pcap or pcapng that is not known\n"
 capture_fault_text TooLong = codes ": 42, a frame or a block of more than 1048576 bytes\n"
 capture_fault_text BadByteOrder = codes ": 43, a section that does not show its byte order\n"
-capture_fault_text BadBlockLength = codes ": 44, a length of a block that is below 12 or no multiple of 4\n"
+capture_fault_text BadBlockLength =
+    codes ": 44, a length of a block that is below 12 or no multiple of 4\n"
 capture_fault_text LengthsDiffer = codes ": 45, two lengths of a block that differ\n"
 capture_fault_text ShortBlock = codes ": 46, a block that is too short for its fields\n"
 capture_fault_text UnknownInterface = codes ": 47, a packet of an interface that is not described\n"
@@ -98,9 +100,9 @@ pub record TellsCapture {R E : Type 0} (telling : Writing E) (report : CaptureRe
 
 -- ---- runs
 
--- A packet capture was replayed onto output, as the settings say, and what was written is that of a run
--- of the machine over the records of its lines' datagrams, of which the headline holds. Standard error
--- has the hint, and then the report.
+-- A packet capture was replayed onto output, as the settings say, and what was written is that of a
+-- run of the machine over the records of its lines' datagrams, of which the headline holds.
+-- Standard error has the hint, and then the report.
 pub record RunsLineReplay {R W E : Type 0}
     (reading : Reading R) (writing : Writing W) (telling : Writing E)
     (settings : LineReplaySettings) (at_terminal : Bool)
@@ -114,8 +116,8 @@ pub record RunsLineReplay {R W E : Type 0}
   pub hint : Says telling (hint_text at_terminal) silent hinted
   pub tells : TellsCapture telling report hinted told status
 
--- A packet capture was replayed onto a writer of best lines over output, and what that had pending at
--- the end was written. The report is that of the replay, but for its outcome.
+-- A packet capture was replayed onto a writer of best lines over output, and what that had pending
+-- at the end was written. The report is that of the replay, but for its outcome.
 pub record PassesLineBests {R W : Type 0} (reading : Reading R) (writing : Writing W)
     (config : ReplayConfig) (lines : List CapturedLine) (format : Format)
     (from : R) (report : CaptureReport R) (before after : W) : Type 0 where
@@ -166,8 +168,8 @@ RunsLinesBy reading writing telling (Some format) settings at_terminal from to b
     RunsLineBests reading writing telling settings format at_terminal
     from to before after silent told status
 
--- A packet capture was converted onto output: what was written is the bytes of the records of its lines'
--- datagrams. Standard error has the hint, and then the report.
+-- A packet capture was converted onto output: what was written is the bytes of the records of its
+-- lines' datagrams. Standard error has the hint, and then the report.
 pub record RunsConversion {R W E : Type 0}
     (reading : Reading R) (writing : Writing W) (telling : Writing E)
     (lines : List CapturedLine) (at_terminal : Bool)

@@ -122,8 +122,8 @@ stop_texts (Some stop) = stop_text stop ∷ []
 
 -- ---- the end
 
--- what is said of a report: the lines that failed, why it stopped early, the lines that have read as
--- many datagrams as they may, and what venues lack
+-- what is said of a report: the lines that failed, why it stopped early, the lines that have read
+-- as many datagrams as they may, and what venues lack
 abbrev pub report_texts : ListenReport → List (List ℕ)
 report_texts report =
     (flat_map failed_texts report.failed.items ++ stop_texts report.stopped)

@@ -71,8 +71,9 @@ bests_writing writing = record {
   failures = λ bests. writing.failures (below bests);
 }
 
--- All that was pending is written. So if the writer of best lines was new over some writer, that one
--- took the format's header and the rows of the best lines of the text since then, and nothing else.
+-- All that was pending is written. So if the writer of best lines was new over some writer, that
+-- one took the format's header and the rows of the best lines of the text since then, and nothing
+-- else.
 pub record WritesPending {W : Type 0} (writing : Writing W) (from to : BestsOut W) : Type 0 where
   pub taken : writing.adds (below from) (pending_of from) (below to)
   pub passed : (format : Format) (before : W) (start : BestsOut W) (text : List ℕ)
@@ -86,7 +87,7 @@ abbrev pub ClosesBests : {W F : Type 0} (writing : Writing W) (failed : F) (from
 ClosesBests writing failed from to seen outcome =
     ((seen ≡ Err failed) × (outcome ≡ Err failed) × (to ≡ from))
     ⊎ ((seen ≢ Err failed) × (outcome ≡ seen) × WritesPending writing from to)
-    ⊎ ((outcome ≡ Err failed)
+    ⊎ ((seen ≢ Err failed) × (outcome ≡ Err failed)
     × Wrote writing.adds (below from) (pending_of from) (below to)
     × (writing.failures (below to) ≡ writing.failures (below from) + 1))
 
@@ -113,8 +114,8 @@ pub record PassesNothing {R W : Type 0} (from to : R) (before after : W)
   pub unread : to ≡ from
   pub unwritten : after ≡ before
 
--- Input was replayed, and its best lines alone are on output. Standard error and the status are those
--- of the outcome, as where all lines are printed.
+-- Input was replayed, and its best lines alone are on output. Standard error and the status are
+-- those of the outcome, as where all lines are printed.
 pub record RunsBests {R W E : Type 0}
     (reading : Reading R) (writing : Writing W) (telling : Writing E)
     (settings : ReplaySettings) (format : Format) (at_terminal : Bool)

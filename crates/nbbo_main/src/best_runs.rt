@@ -1,4 +1,5 @@
 //! Runs of the program that print all lines, or the best ones alone.
+ghost use Rattle.std.specs.Prelude.{◌≡◌, ◌≢◌, Err, true, false};
 ghost use Rattle.nbbo_main.specs.LineRuns.{RunsLineBests, RunsLinesBy};
 ghost use Rattle.nbbo_main.specs.Runs.{ClosesBests, RunsBests, RunsBy};
 
@@ -14,21 +15,25 @@ use line_captures::{CaptureReport, LinesFault};
 use replay_run::{replay, replay_lines};
 use std::alloc::Global;
 
-/// Passes on what is pending, unless the writer has failed. Returns the outcome of the replay, or that
-/// the writer failed.
-fn close_bests<W: TextOut>(
-    outcome: Result<(), ReplayFault>,
+/// Passes on what is pending, unless the writer has failed, of which `failed` is the fault. Returns
+/// the outcome of the replay, or that the writer failed.
+fn close_bests<F: Copy, W: TextOut>(
+    outcome: Result<(), F>,
+    has_failed: bool,
+    failed: F,
     bests: &mut BestsOut<W>,
-) -> Result<(), ReplayFault>
+) -> Result<(), F>
+    requires failed { has_failed ≡ true → outcome ≡ Err failed }
+    requires other { has_failed ≡ false → outcome ≢ Err failed }
     ensures { ClosesBests (record { adds = W.adds; failures = W.failures })
-        ReplayFault.WriteFailed bests.old bests.new outcome result }
+        failed bests.old bests.new outcome result }
 {
-    if let Err(ReplayFault::WriteFailed) = outcome {
+    if has_failed {
         return outcome;
     }
     match bests.finish() {
         Ok(()) => outcome,
-        Err(_) => Err(ReplayFault::WriteFailed),
+        Err(_) => Err(failed),
     }
 }
 
@@ -61,7 +66,8 @@ fn run_bests<R: CaptureIn, W: TextOut, E: TextOut>(
         }
     };
     let seen = replay(alloc, &config, input, &mut bests);
-    let outcome = close_bests(seen, &mut bests);
+    let has_failed = matches!(seen, Err(ReplayFault::WriteFailed));
+    let outcome = close_bests(seen, has_failed, ReplayFault::WriteFailed, &mut bests);
     let (status, line) = ending(&outcome);
     write_stderr(line, errors);
     (status, bests.into_inner())
@@ -90,23 +96,6 @@ pub fn run_settings<R: CaptureIn, W: TextOut, E: TextOut>(
             let status = run_replay(alloc, settings, at_terminal, input, &mut output, errors);
             (status, output)
         }
-    }
-}
-
-/// Passes on what is pending after a replay of a packet capture, as after any other.
-fn close_line_bests<W: TextOut>(
-    outcome: Result<(), LinesFault>,
-    bests: &mut BestsOut<W>,
-) -> Result<(), LinesFault>
-    ensures { ClosesBests (record { adds = W.adds; failures = W.failures })
-        (LinesFault.Run ReplayFault.WriteFailed) bests.old bests.new outcome result }
-{
-    if let Err(LinesFault::Run(ReplayFault::WriteFailed)) = outcome {
-        return outcome;
-    }
-    match bests.finish() {
-        Ok(()) => outcome,
-        Err(_) => Err(LinesFault::Run(ReplayFault::WriteFailed)),
     }
 }
 
@@ -140,7 +129,9 @@ fn run_line_bests<R: CaptureIn + Drop, W: TextOut, E: TextOut>(
         }
     };
     let seen = replay_lines(alloc, &config, settings.lines.as_slice(), input, &mut bests);
-    let outcome = close_line_bests(seen.outcome, &mut bests);
+    let failed = LinesFault::Run(ReplayFault::WriteFailed);
+    let has_failed = matches!(seen.outcome, Err(LinesFault::Run(ReplayFault::WriteFailed)));
+    let outcome = close_bests(seen.outcome, has_failed, failed, &mut bests);
     let report = CaptureReport { outcome, ..seen };
     let status = tell_capture(&report, errors);
     let input = report.input;

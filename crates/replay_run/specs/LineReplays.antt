@@ -15,8 +15,8 @@ use Rattle.line_captures.specs.Readers.{CapturePoint}
 use Rattle.line_captures.specs.Reports.{HasReadPieces, BeginsNoPiece, IsRestOf, IsKnownBy, ReportsPoint}
 use Rattle.replay_run.specs.Printed.{texts_of_run}
 
--- A whole packet capture was read by fewer than `turns` calls, one more call showed the end, and the text
--- of its lines' records was written, and nothing else.
+-- A whole packet capture was read by fewer than `turns` calls, one more call showed the end, and
+-- the text of its lines' records was written, and nothing else.
 pub record WroteCaptureText {R W : Type 0} (reading : Reading R) (writing : Writing W)
     (config : ReplayConfig) (lines : List CapturedLine) (texts : TextFacts)
     (from to : R) (before after : W) (point : CapturePoint) : Type 0 where
@@ -31,8 +31,8 @@ pub record WroteCaptureText {R W : Type 0} (reading : Reading R) (writing : Writ
   pub is : texts.IsText records text
   pub wrote : writing.adds before text after
 
--- Some calls read pieces and then a rest of this kind, and the lines of the pieces' records were written,
--- and no venue line. Then the reader came to its last state so.
+-- Some calls read pieces and then a rest of this kind, and the lines of the pieces' records were
+-- written, and no venue line. Then the reader came to its last state so.
 pub record WroteCaptureLines {R W : Type 0} (reading : Reading R) (writing : Writing W)
     (lines : List CapturedLine) (texts : TextFacts)
     (IsLeft : Context → List ℕ → Type 0) (Then : R → Type 0)
@@ -48,8 +48,8 @@ pub record WroteCaptureLines {R W : Type 0} (reading : Reading R) (writing : Wri
   pub wrote : writing.adds before text after
   pub came_to : Then mid
 
--- Some calls read pieces and then a rest, and a text of this kind was written, of a front of the pieces'
--- records. Then the reader came to its last state so.
+-- Some calls read pieces and then a rest, and a text of this kind was written, of a front of the
+-- pieces' records. Then the reader came to its last state so.
 pub record WroteFrontLines {R W : Type 0} (reading : Reading R) (writing : Writing W)
     (lines : List CapturedLine) (Are : List CaptureRecord → List ℕ → Type 0) (Then : R → Type 0)
     (from : R) (before after : W) (point : CapturePoint) : Type 0 where
@@ -64,9 +64,9 @@ pub record WroteFrontLines {R W : Type 0} (reading : Reading R) (writing : Writi
   pub wrote : writing.adds before text after
   pub came_to : Then mid
 
--- Some calls read pieces and then a rest, and a prefix of a text was written: of the lines of a front of
--- the pieces' records, of those up to a full journal, or, where a whole capture was read and one more
--- call showed the end, of its text.
+-- Some calls read pieces and then a rest, and a prefix of a text was written: of the lines of a
+-- front of the pieces' records, of those up to a full journal, or, where a whole capture was read
+-- and one more call showed the end, of its text.
 pub record WroteCapturePrefix {R W : Type 0} (reading : Reading R) (writing : Writing W)
     (lines : List CapturedLine) (texts : TextFacts)
     (from to : R) (before after : W) (point : CapturePoint) : Type 0 where
@@ -118,8 +118,8 @@ AnswersLineReplay reading writing config lines texts from to before after point
 AnswersLineReplay reading writing config lines texts from to before after point
     (Err (Run ShortRecord)) = ⊥
 
--- The results of a replay of a packet capture, and its report. What is written is the text of a run of
--- the machine.
+-- The results of a replay of a packet capture, and its report. What is written is the text of a run
+-- of the machine.
 pub record ReplaysLines {R W : Type 0} (reading : Reading R) (writing : Writing W)
     (config : ReplayConfig) (lines : List CapturedLine)
     (from : R) (report : CaptureReport R) (before after : W) : Type 0 where

@@ -33,15 +33,15 @@ returns g c =
     record {
       config = config;
       is = c.config_of-config.ensures;
-      report = record seen { outcome = c.close_line_bests-outcome.result };
+      report = record seen { outcome = c.close_bests-outcome.result };
       passes = inl (record {
         start = start;
         new = c.in-Ok.ensures.new;
         seen = seen;
         mid = mid;
         replays = subst (λ (lines : List CapturedLine). ReplaysLines reading (bests_writing writing) config lines c.args.input seen start mid) c.as_slice.ensures.value c.replay_lines-seen.ensures;
-        end = c.close_line_bests-outcome.new.bests;
-        closes = c.close_line_bests-outcome.ensures;
+        end = c.close_bests-outcome.new.bests;
+        closes = c.close_bests-outcome.ensures;
         same = refl;
         output = c.into_inner.ensures;
       });
