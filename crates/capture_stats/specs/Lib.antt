@@ -1,0 +1,7 @@
+pub mod Happenings
+pub mod Counts
+pub mod Stats
+pub mod StatsLaws
+pub mod Writers
+pub mod WriterLaws
+pub mod Words
