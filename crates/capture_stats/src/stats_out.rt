@@ -68,10 +68,11 @@ impl StatsOut {
     {
         let mut taken = 0usize;
         while taken < text.len() {
-            match line_end(&text[taken..]) {
+            let rest = &text[taken..];
+            match line_end(rest) {
                 None => return taken,
                 Some(end) => {
-                    self.write_line(&text[taken..taken + end]);
+                    self.write_line(&rest[..end]);
                     taken += end + 1;
                 }
             }
