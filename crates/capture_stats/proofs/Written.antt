@@ -34,7 +34,7 @@ line_written before after start text kept bytes left n unended is same told whol
     let none : left ≡ [] = rest ∙ ap (λ (m : ℕ). drop m kept) whole ∙ drop_whole kept in
     let P : List ℕ → Type 0 = λ x. TakesLines Holds start (ended text) x in
     subst P (sym none) (takes_ended Holds start text kept unended is
-      (λ line k. told ∙ ap (λ (x : List ℕ). counted_after before (told_by x)) same ∙ ap (counted_after before) (told_kept kept line k)))
+    (λ line k. told ∙ ap (λ (x : List ℕ). counted_after before (told_by x)) same ∙ ap (counted_after before) (told_kept kept line k)))
 
 -- more of a line that isn't ended
 pub start_written : (before : Counted) (start text kept : List ℕ) → IsOpen text → kept ≡ take 193 (start ++ text)
@@ -66,7 +66,7 @@ pub line_more : (s t u : StatsOut) (text rest : List ℕ) (n e : ℕ) → rest �
 line_more s t u text rest n e same a ends b =
     let P : List ℕ → Type 0 = λ x. AddsStats s x u in
     let more : take (n + (e + 1)) text ≡ take n text ++ ended (take e rest) =
-        take-add n (e + 1) text ∙ ap (λ (xs : List ℕ). take n text ++ take (e + 1) xs) (sym (same ∙ rest_slice text n)) ∙ ap (λ (xs : List ℕ). take n text ++ xs) ends.text_is in
+    take-add n (e + 1) text ∙ ap (λ (xs : List ℕ). take n text ++ take (e + 1) xs) (sym (same ∙ rest_slice text n)) ∙ ap (λ (xs : List ℕ). take n text ++ xs) ends.text_is in
     subst P (sym more) (adds_more_stats s t u (take n text) (ended (take e rest)) a b)
 
 pub line_within : (text rest : List ℕ) (n e : ℕ) → rest ≡ take (length text - n) (drop n text) → n ≤ length text → e < length rest → n + (e + 1) ≤ length text
@@ -91,5 +91,5 @@ pub text_written : (s t u : StatsOut) (text : List ℕ) (n : ℕ) → AddsStats 
 text_written s t u text n a b =
     let P : List ℕ → Type 0 = λ x. AddsStats s x u in
     let whole : take n text ++ take (length text - n) (drop n text) ≡ take (length text) text =
-        ap (λ (xs : List ℕ). take n text ++ xs) (rest_slice text n) ∙ take-append-drop n text ∙ sym (take-length text) in
+    ap (λ (xs : List ℕ). take n text ++ xs) (rest_slice text n) ∙ take-append-drop n text ∙ sym (take-length text) in
     subst P whole (adds_more_stats s t u (take n text) (take (length text - n) (drop n text)) a b)

@@ -184,7 +184,7 @@ abbrev pub continues : Missing → ℕ → ℕ → Bool
 continues before number count =
     nat_lt 0 before.count
     && (before.number == number
-      || count_after before.number before.count == count_after number count)
+    || count_after before.number before.count == count_after number count)
 
 -- The gaps after one more happening. A packet closes what stands, unless a gap after it says that
 -- it goes on.

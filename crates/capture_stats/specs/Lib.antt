@@ -4,4 +4,5 @@ pub mod Stats
 pub mod StatsLaws
 pub mod Writers
 pub mod WriterLaws
+pub mod Pieces
 pub mod Words

@@ -97,13 +97,26 @@ counted_after c hs = record {
 
 abbrev pub no_refusals : Refusals
 no_refusals = record {
-  short_header = 0; truncated_block = 0; zero_sequence = 0; sequence_overflow = 0;
-  other_session = 0; past_end = 0; end_moved = 0; end_too_early = 0; conflict = 0;
+  short_header = 0;
+  truncated_block = 0;
+  zero_sequence = 0;
+  sequence_overflow = 0;
+  other_session = 0;
+  past_end = 0;
+  end_moved = 0;
+  end_too_early = 0;
+  conflict = 0;
 }
 
 abbrev pub no_packets : LineStats
 no_packets = record {
-  packets = 0; taken = 0; first = 0; repeated = 0; heartbeats = 0; ends = 0; ahead = 0;
+  packets = 0;
+  taken = 0;
+  first = 0;
+  repeated = 0;
+  heartbeats = 0;
+  ends = 0;
+  ahead = 0;
   refused = no_refusals;
 }
 
@@ -119,9 +132,18 @@ no_gaps = record { found = 0; longest = 0; before = nothing_missing; standing = 
 -- a venue where nothing happened
 abbrev pub nothing_at : VenueStats
 nothing_at = record {
-  a = no_packets; b = no_packets; recovery = no_packets; items = no_items; gaps = no_gaps;
-  renewals = 0; renewals_refused = 0; declared = 0; withdrawn = 0; already = 0;
-  bids = 0; offers = 0;
+  a = no_packets;
+  b = no_packets;
+  recovery = no_packets;
+  items = no_items;
+  gaps = no_gaps;
+  renewals = 0;
+  renewals_refused = 0;
+  declared = 0;
+  withdrawn = 0;
+  already = 0;
+  bids = 0;
+  offers = 0;
 }
 
 abbrev pub no_changes : StateStats

@@ -13,6 +13,7 @@
 #![tactic(auto)]
 
 mod happening;
+mod pieces;
 mod line_stats;
 mod reading;
 mod stats;

@@ -13,7 +13,9 @@ pub(crate) fn number_in(word: &[u8]) -> u64
 {
     let mut number = 0u64;
     for byte in word {
-        number = number.saturating_mul(10).saturating_add(u64::from(byte.saturating_sub(48)));
+        number = number
+            .saturating_mul(10)
+            .saturating_add(u64::from(byte.saturating_sub(48)));
     }
     number
 }

@@ -69,7 +69,9 @@ impl GapStats {
     /// Takes a packet, after which nothing is known to be missing yet.
     fn take_packet(&mut self)
         ensures { self.new ≡ record self.old {
-            before = self.old.standing; standing = record { number = 0; count = 0 } } }
+          before = self.old.standing;
+          standing = record { number = 0; count = 0 };
+        } }
     {
         self.before = self.standing;
         self.standing = Missing {
