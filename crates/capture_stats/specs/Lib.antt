@@ -5,4 +5,7 @@ pub mod StatsLaws
 pub mod Writers
 pub mod WriterLaws
 pub mod Pieces
+pub mod Json
+pub mod Table
+pub mod Texts
 pub mod Words

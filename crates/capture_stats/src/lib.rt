@@ -2,8 +2,7 @@
 //!
 //! A [`StatsOut`] is a writer of this project's lines that passes nothing on: it cuts what is written
 //! to it into lines and counts what each tells, for each venue, each of its lines and the national
-//! bests. [`StatsOut::into_stats`] returns the counts, [`StatsFormat`] writes them as a table or as
-//! JSON.
+//! bests. [`StatsOut::into_stats`] returns the counts, [`stats_text`] writes them as a table or as JSON.
 //!
 //! Contract: the counts are those of the happenings that the text's lines tell, in order
 //! (`specs/Happenings.antt`: by their words; `specs/Counts.antt`: a filter, then a count or a sum). A
@@ -12,14 +11,18 @@
 //! Begin at `stats_out.rt`.
 #![tactic(auto)]
 
+mod format;
 mod happening;
+mod json;
 mod pieces;
 mod line_stats;
 mod reading;
 mod stats;
 mod stats_out;
+mod table;
 mod venue_stats;
 
+pub use format::{StatsFormat, stats_text};
 pub use happening::{AtVenue, ItemKind, PacketAnswer};
 pub use line_stats::{LineStats, Refusals};
 pub use stats::{StateStats, Stats};

@@ -12,26 +12,16 @@ pub(crate) const COLUMNS: usize = 14;
 const SPACES: &[u8] = b"              ";
 
 /// A label, and a number after it.
-#[derive(Clone, Copy, Debug, PartialEq, Eq)]
-pub(crate) struct Piece {
-    pub(crate) label: &'static [u8],
-    pub(crate) number: u64,
-}
+pub(crate) type Piece<'a> = (&'a str, u64);
 
 /// A label, and the numbers of the lines A, B and Recovery after it.
-#[derive(Clone, Copy, Debug, PartialEq, Eq)]
-pub(crate) struct Row {
-    pub(crate) label: &'static [u8],
-    pub(crate) a: u64,
-    pub(crate) b: u64,
-    pub(crate) recovery: u64,
-}
+pub(crate) type Row<'a> = (&'a str, u64, u64, u64);
 
 /// Appends a label and a number, at the end of this many columns.
 fn put_piece(
     text: &mut Vec<u8>,
     columns: usize,
-    label: &[u8],
+    label: &str,
     number: u64,
 ) -> Result<(), AllocError>
     requires { columns ≤ 14 }
@@ -40,7 +30,7 @@ fn put_piece(
     let mut buffer = Buffer::new();
     let digits = buffer.format(number).as_bytes();
     let filling = &SPACES[..columns.saturating_sub(digits.len())];
-    text.extend_from_slice(label)?;
+    text.extend_from_slice(label.as_bytes())?;
     text.extend_from_slice(filling)?;
     text.extend_from_slice(digits)
 }
@@ -49,32 +39,32 @@ fn put_piece(
 pub(crate) fn put_pieces(
     text: &mut Vec<u8>,
     columns: usize,
-    pieces: &[Piece],
+    pieces: &[Piece<'_>],
 ) -> Result<(), AllocError>
     requires { columns ≤ 14 }
     ensures { OnOk result (text.new.items ≡ text.old.items
-        ++ flat_map (λ p. piece_text columns p.label.now p.number) pieces.now) }
+        ++ flat_map (λ p. piece_text columns p.0.now p.1) pieces.now) }
 {
     for piece in pieces {
-        put_piece(text, columns, piece.label, piece.number)?;
+        put_piece(text, columns, piece.0, piece.1)?;
     }
     Ok(())
 }
 
 /// Appends a row.
-fn put_row(text: &mut Vec<u8>, row: &Row) -> Result<(), AllocError>
+fn put_row(text: &mut Vec<u8>, row: &Row<'_>) -> Result<(), AllocError>
     ensures { OnOk result (text.new.items
-        ≡ text.old.items ++ row_text row.now.label.now row.now.a row.now.b row.now.recovery) }
+        ≡ text.old.items ++ row_text row.now.0.now row.now.1 row.now.2 row.now.3) }
 {
-    put_piece(text, COLUMNS, row.label, row.a)?;
-    put_piece(text, COLUMNS, b"", row.b)?;
-    put_piece(text, COLUMNS, b"", row.recovery)
+    put_piece(text, COLUMNS, row.0, row.1)?;
+    put_piece(text, COLUMNS, "", row.2)?;
+    put_piece(text, COLUMNS, "", row.3)
 }
 
 /// Appends rows.
-pub(crate) fn put_rows(text: &mut Vec<u8>, rows: &[Row]) -> Result<(), AllocError>
+pub(crate) fn put_rows(text: &mut Vec<u8>, rows: &[Row<'_>]) -> Result<(), AllocError>
     ensures { OnOk result (text.new.items ≡ text.old.items
-        ++ flat_map (λ r. row_text r.label.now r.a r.b r.recovery) rows.now) }
+        ++ flat_map (λ r. row_text r.0.now r.1 r.2 r.3) rows.now) }
 {
     for row in rows {
         put_row(text, row)?;
@@ -83,20 +73,20 @@ pub(crate) fn put_rows(text: &mut Vec<u8>, rows: &[Row]) -> Result<(), AllocErro
 }
 
 /// Appends a row, unless its numbers are all 0.
-fn put_if_any(text: &mut Vec<u8>, row: &Row) -> Result<(), AllocError>
+fn put_if_any(text: &mut Vec<u8>, row: &Row<'_>) -> Result<(), AllocError>
     ensures { OnOk result (text.new.items
-        ≡ text.old.items ++ row_if_any row.now.label.now row.now.a row.now.b row.now.recovery) }
+        ≡ text.old.items ++ row_if_any row.now.0.now row.now.1 row.now.2 row.now.3) }
 {
-    if row.a.max(row.b).max(row.recovery) == 0 {
+    if row.1.max(row.2).max(row.3) == 0 {
         return Ok(());
     }
     put_row(text, row)
 }
 
 /// Appends those of the rows that have a number that isn't 0.
-pub(crate) fn put_rows_if_any(text: &mut Vec<u8>, rows: &[Row]) -> Result<(), AllocError>
+pub(crate) fn put_rows_if_any(text: &mut Vec<u8>, rows: &[Row<'_>]) -> Result<(), AllocError>
     ensures { OnOk result (text.new.items ≡ text.old.items
-        ++ flat_map (λ r. row_if_any r.label.now r.a r.b r.recovery) rows.now) }
+        ++ flat_map (λ r. row_if_any r.0.now r.1 r.2 r.3) rows.now) }
 {
     for row in rows {
         put_if_any(text, row)?;
