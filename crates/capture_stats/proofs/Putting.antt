@@ -1,5 +1,5 @@
 -- Texts put one after another.
-use Rattle.std.proofs.Common.{◌≡◌, ℕ, ◌+◌, Bool, cond, List, [], ◌∷◌, ◌++◌, append_assoc, slice_index_or, refl, sym, ap, ◌∙◌, add-one, Result, Ok, Err}
+use Rattle.std.proofs.Common.{◌≡◌, ℕ, ◌+◌, cond, List, ◌++◌, append_assoc, slice_index_or, sym, ap, ◌∙◌, add-one, Result, Ok, Err}
 use Rattle.std.specs.Prelude.{OnOk, is_ok}
 use Rattle.capture_stats.specs.declared.venue_stats.VenueStats.{VenueStats}
 use Rattle.capture_stats.specs.Pieces.{first_texts}

@@ -7,7 +7,7 @@ use Rattle.best_lines.specs.Cutting.{IsLineStart, TakesLines}
 use Rattle.best_lines.specs.CuttingLaws.{kept_or_long, takes_ended, takes_open}
 use Rattle.best_lines.specs.Lines.{EndsAt, IsOpen, ended}
 use Rattle.capture_stats.specs.declared.stats_out.StatsOut.{StatsOut}
-use Rattle.capture_stats.specs.Happenings.{Happening, told_by, told_by_all}
+use Rattle.capture_stats.specs.Happenings.{told_by, told_by_all}
 use Rattle.capture_stats.specs.Stats.{Counted, IsCountOf, counted_after}
 use Rattle.capture_stats.specs.StatsLaws.{counted_none}
 use Rattle.capture_stats.specs.Writers.{AddsStats, IsNewFor}

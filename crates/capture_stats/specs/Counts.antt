@@ -1,10 +1,9 @@
 -- What is counted of the happenings that lines tell. A count stays at 2^64 - 1 once it is there.
-use Rattle.std.specs.Prelude.{◌≡◌, ℕ, suc, ◌+◌, Bool, true, false, ◌&&◌, ◌||◌, ◌==◌, not, List, [], ◌∷◌, length, flat_map, fold, max, nat_lt, if◌then◌else◌}
+use Rattle.std.specs.Prelude.{ℕ, Bool, true, false, ◌&&◌, ◌||◌, ◌==◌, not, List, [], ◌∷◌, length, flat_map, fold, max, nat_lt, if◌then◌else◌}
 use Rattle.std.specs.List.{count_by, sum_by}
 use Rattle.feed_types.specs.declared.line.LineId.{LineId}
 use Rattle.feed_types.specs.declared.line.LineId.TheVariants.{A, B, Recovery}
-use Rattle.feed_types.specs.declared.national.NationalState.{NationalState}
-use Rattle.feed_types.specs.Text.{line_letter, state_text}
+use Rattle.feed_types.specs.Text.{line_letter}
 use Rattle.line_captures.specs.Counts.{count_after}
 use Rattle.capture_stats.specs.declared.happening.AtVenue.{AtVenue}
 use Rattle.capture_stats.specs.declared.happening.AtVenue.TheVariants.{Packet, Item, Gap, Renewal, Declaration, LeadsBid, LeadsOffer}

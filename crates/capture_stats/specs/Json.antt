@@ -11,30 +11,30 @@ use Rattle.capture_stats.specs.Stats.{Counted}
 abbrev pub line_json : List ℕ → LineStats → List ℕ
 line_json label s =
     pieces_text 0 (
-      (label, s.packets)
-      ∷ (codes ",\"taken\":", s.taken)
-      ∷ (codes ",\"first\":", s.first)
-      ∷ (codes ",\"repeated\":", s.repeated)
-      ∷ (codes ",\"heartbeats\":", s.heartbeats)
-      ∷ (codes ",\"ends\":", s.ends)
-      ∷ (codes ",\"ahead\":", s.ahead)
-      ∷ (codes ",\"refused\":{\"short_header\":", s.refused.short_header)
-      ∷ (codes ",\"truncated_block\":", s.refused.truncated_block)
-      ∷ (codes ",\"zero_sequence\":", s.refused.zero_sequence)
-      ∷ (codes ",\"sequence_overflow\":", s.refused.sequence_overflow)
-      ∷ (codes ",\"other_session\":", s.refused.other_session)
-      ∷ (codes ",\"past_end\":", s.refused.past_end)
-      ∷ (codes ",\"end_moved\":", s.refused.end_moved)
-      ∷ (codes ",\"end_too_early\":", s.refused.end_too_early)
-      ∷ (codes ",\"conflict\":", s.refused.conflict)
-      ∷ [])
+    (label, s.packets)
+    ∷ (codes ",\"taken\":", s.taken)
+    ∷ (codes ",\"first\":", s.first)
+    ∷ (codes ",\"repeated\":", s.repeated)
+    ∷ (codes ",\"heartbeats\":", s.heartbeats)
+    ∷ (codes ",\"ends\":", s.ends)
+    ∷ (codes ",\"ahead\":", s.ahead)
+    ∷ (codes ",\"refused\":{\"short_header\":", s.refused.short_header)
+    ∷ (codes ",\"truncated_block\":", s.refused.truncated_block)
+    ∷ (codes ",\"zero_sequence\":", s.refused.zero_sequence)
+    ∷ (codes ",\"sequence_overflow\":", s.refused.sequence_overflow)
+    ∷ (codes ",\"other_session\":", s.refused.other_session)
+    ∷ (codes ",\"past_end\":", s.refused.past_end)
+    ∷ (codes ",\"end_moved\":", s.refused.end_moved)
+    ∷ (codes ",\"end_too_early\":", s.refused.end_too_early)
+    ∷ (codes ",\"conflict\":", s.refused.conflict)
+    ∷ [])
     ++ codes "}}"
 
 abbrev pub lines_json : VenueStats → List ℕ
 lines_json s =
     line_json (codes ",\"lines\":{\"A\":{\"packets\":") s.a
     ++ (line_json (codes ",\"B\":{\"packets\":") s.b
-      ++ line_json (codes ",\"recovery\":{\"packets\":") s.recovery)
+    ++ line_json (codes ",\"recovery\":{\"packets\":") s.recovery)
 
 abbrev pub missing_json : Missing → List ℕ
 missing_json m =
@@ -45,28 +45,28 @@ missing_json m =
 abbrev pub gaps_json : VenueStats → List ℕ
 gaps_json s =
     pieces_text 0 (
-      (codes "},\"items\":{\"quotes\":", s.items.quotes)
-      ∷ (codes ",\"halts\":", s.items.halts)
-      ∷ (codes ",\"resumptions\":", s.items.resumptions)
-      ∷ (codes ",\"others\":", s.items.others)
-      ∷ (codes ",\"ends\":", s.items.ends)
-      ∷ (codes ",\"last\":", s.items.last)
-      ∷ (codes "},\"gaps\":{\"found\":", s.gaps.found)
-      ∷ (codes ",\"longest\":", s.gaps.longest)
-      ∷ [])
+    (codes "},\"items\":{\"quotes\":", s.items.quotes)
+    ∷ (codes ",\"halts\":", s.items.halts)
+    ∷ (codes ",\"resumptions\":", s.items.resumptions)
+    ∷ (codes ",\"others\":", s.items.others)
+    ∷ (codes ",\"ends\":", s.items.ends)
+    ∷ (codes ",\"last\":", s.items.last)
+    ∷ (codes "},\"gaps\":{\"found\":", s.gaps.found)
+    ∷ (codes ",\"longest\":", s.gaps.longest)
+    ∷ [])
     ++ (codes ",\"missing\":" ++ missing_json s.gaps.standing)
 
 abbrev pub counts_json : VenueStats → List ℕ
 counts_json s =
     pieces_text 0 (
-      (codes "},\"renewals\":", s.renewals)
-      ∷ (codes ",\"renewals_refused\":", s.renewals_refused)
-      ∷ (codes ",\"self_help_declared\":", s.declared)
-      ∷ (codes ",\"self_help_withdrawn\":", s.withdrawn)
-      ∷ (codes ",\"self_help_already\":", s.already)
-      ∷ (codes ",\"best_bids\":", s.bids)
-      ∷ (codes ",\"best_offers\":", s.offers)
-      ∷ [])
+    (codes "},\"renewals\":", s.renewals)
+    ∷ (codes ",\"renewals_refused\":", s.renewals_refused)
+    ∷ (codes ",\"self_help_declared\":", s.declared)
+    ∷ (codes ",\"self_help_withdrawn\":", s.withdrawn)
+    ∷ (codes ",\"self_help_already\":", s.already)
+    ∷ (codes ",\"best_bids\":", s.bids)
+    ∷ (codes ",\"best_offers\":", s.offers)
+    ∷ [])
     ++ codes "}"
 
 -- a venue's counts, after a comma where it isn't the first
@@ -81,12 +81,12 @@ venues_json venues n = first_texts venue_json venues n
 abbrev pub states_json : StateStats → List ℕ
 states_json s =
     pieces_text 0 (
-      (codes "],\"states\":{\"empty\":", s.empty)
-      ∷ (codes ",\"one_sided\":", s.one_sided)
-      ∷ (codes ",\"normal\":", s.normal)
-      ∷ (codes ",\"locked\":", s.locked)
-      ∷ (codes ",\"crossed\":", s.crossed)
-      ∷ [])
+    (codes "],\"states\":{\"empty\":", s.empty)
+    ∷ (codes ",\"one_sided\":", s.one_sided)
+    ∷ (codes ",\"normal\":", s.normal)
+    ∷ (codes ",\"locked\":", s.locked)
+    ∷ (codes ",\"crossed\":", s.crossed)
+    ∷ [])
     ++ codes "}}\n"
 
 abbrev pub stats_json : Counted → List ℕ

@@ -1,6 +1,6 @@
 -- The laws of counts: happenings after happenings are counted one after the other.
 use Rattle.std.proofs.Common.{◌≡◌, ℕ, zero, suc, ◌+◌, List, [], ◌∷◌, ◌++◌, refl, sym, ap, ◌∙◌, arith, length, length-append}
-use Rattle.std.specs.Prelude.{Bool, true, false, ◌&&◌, not, cond, flat_map, fold}
+use Rattle.std.specs.Prelude.{Bool, true, false, ◌&&◌, not, cond, fold}
 use Rattle.std.specs.List.{count_by, sum_by}
 use Rattle.std.proofs.lemmas.List.Sums.{sum_by-append}
 use Rattle.std.proofs.lemmas.Grind.{flat_map-append}
@@ -12,7 +12,6 @@ use Rattle.capture_stats.specs.declared.happening.PacketAnswer.{PacketAnswer}
 use Rattle.capture_stats.specs.declared.line_stats.LineStats.{LineStats}
 use Rattle.capture_stats.specs.declared.line_stats.Refusals.{Refusals}
 use Rattle.capture_stats.specs.declared.stats.StateStats.{StateStats}
-use Rattle.capture_stats.specs.declared.venue_stats.GapStats.{GapStats}
 use Rattle.capture_stats.specs.declared.venue_stats.ItemStats.{ItemStats}
 use Rattle.capture_stats.specs.declared.venue_stats.VenueStats.{VenueStats}
 use Rattle.capture_stats.specs.Counts.{answer_on, answers_on, first_in, gap_after, is_ahead, is_declaration, is_end, is_ended, is_halt, is_heartbeat, is_item, is_other, is_quote, is_refused, is_renewal, is_resumption, is_taken, items_after, last_after, leads_bid, leads_offer, line_after, refusals_after, repeated_in, venue_after}

@@ -17,11 +17,7 @@ pub enum StatsFormat {
 }
 
 /// Returns the counts as a text in the format. Fails where memory is refused.
-pub fn stats_text(
-    alloc: Global,
-    stats: &Stats,
-    format: StatsFormat,
-) -> Result<Vec<u8>, AllocError>
+pub fn stats_text(alloc: Global, stats: &Stats, format: StatsFormat) -> Result<Vec<u8>, AllocError>
     ensures { IfOk result (λ text. text.items ≡ text_of_stats format stats.now) }
 {
     let mut text = Vec::new(alloc);

@@ -14,8 +14,8 @@
 mod format;
 mod happening;
 mod json;
-mod pieces;
 mod line_stats;
+mod pieces;
 mod reading;
 mod stats;
 mod stats_out;

@@ -18,12 +18,7 @@ pub(crate) type Piece<'a> = (&'a str, u64);
 pub(crate) type Row<'a> = (&'a str, u64, u64, u64);
 
 /// Appends a label and a number, at the end of this many columns.
-fn put_piece(
-    text: &mut Vec<u8>,
-    columns: usize,
-    label: &str,
-    number: u64,
-) -> Result<(), AllocError>
+fn put_piece(text: &mut Vec<u8>, columns: usize, label: &str, number: u64) -> Result<(), AllocError>
     requires { columns ≤ 14 }
     ensures { OnOk result (text.new.items ≡ text.old.items ++ piece_text columns label.now number) }
 {

@@ -23,13 +23,48 @@ fn put_packets(text: &mut Vec<u8>, s: &VenueStats) -> Result<(), AllocError>
     ensures { OnOk result (text.new.items ≡ text.old.items ++ packets_table s.now) }
 {
     let rows = [
-        ("\n  packets                   ", s.a.packets, s.b.packets, s.recovery.packets),
-        ("\n    with messages taken     ", s.a.taken, s.b.taken, s.recovery.taken),
-        ("\n    heartbeats              ", s.a.heartbeats, s.b.heartbeats, s.recovery.heartbeats),
-        ("\n    ends of session         ", s.a.ends, s.b.ends, s.recovery.ends),
-        ("\n    past the window         ", s.a.ahead, s.b.ahead, s.recovery.ahead),
-        ("\n  messages first            ", s.a.first, s.b.first, s.recovery.first),
-        ("\n  messages repeated         ", s.a.repeated, s.b.repeated, s.recovery.repeated),
+        (
+            "\n  packets                   ",
+            s.a.packets,
+            s.b.packets,
+            s.recovery.packets,
+        ),
+        (
+            "\n    with messages taken     ",
+            s.a.taken,
+            s.b.taken,
+            s.recovery.taken,
+        ),
+        (
+            "\n    heartbeats              ",
+            s.a.heartbeats,
+            s.b.heartbeats,
+            s.recovery.heartbeats,
+        ),
+        (
+            "\n    ends of session         ",
+            s.a.ends,
+            s.b.ends,
+            s.recovery.ends,
+        ),
+        (
+            "\n    past the window         ",
+            s.a.ahead,
+            s.b.ahead,
+            s.recovery.ahead,
+        ),
+        (
+            "\n  messages first            ",
+            s.a.first,
+            s.b.first,
+            s.recovery.first,
+        ),
+        (
+            "\n  messages repeated         ",
+            s.a.repeated,
+            s.b.repeated,
+            s.recovery.repeated,
+        ),
     ];
     put_rows(text, &rows)
 }
@@ -39,15 +74,60 @@ fn put_refusals(text: &mut Vec<u8>, s: &VenueStats) -> Result<(), AllocError>
     ensures { OnOk result (text.new.items ≡ text.old.items ++ refusals_table s.now) }
 {
     let rows = [
-        ("\n  refused: short header     ", s.a.refused.short_header, s.b.refused.short_header, s.recovery.refused.short_header),
-        ("\n  refused: truncated block  ", s.a.refused.truncated_block, s.b.refused.truncated_block, s.recovery.refused.truncated_block),
-        ("\n  refused: zero sequence    ", s.a.refused.zero_sequence, s.b.refused.zero_sequence, s.recovery.refused.zero_sequence),
-        ("\n  refused: sequence overflow", s.a.refused.sequence_overflow, s.b.refused.sequence_overflow, s.recovery.refused.sequence_overflow),
-        ("\n  refused: other session    ", s.a.refused.other_session, s.b.refused.other_session, s.recovery.refused.other_session),
-        ("\n  refused: past end         ", s.a.refused.past_end, s.b.refused.past_end, s.recovery.refused.past_end),
-        ("\n  refused: end moved        ", s.a.refused.end_moved, s.b.refused.end_moved, s.recovery.refused.end_moved),
-        ("\n  refused: end too early    ", s.a.refused.end_too_early, s.b.refused.end_too_early, s.recovery.refused.end_too_early),
-        ("\n  refused: conflict         ", s.a.refused.conflict, s.b.refused.conflict, s.recovery.refused.conflict),
+        (
+            "\n  refused: short header     ",
+            s.a.refused.short_header,
+            s.b.refused.short_header,
+            s.recovery.refused.short_header,
+        ),
+        (
+            "\n  refused: truncated block  ",
+            s.a.refused.truncated_block,
+            s.b.refused.truncated_block,
+            s.recovery.refused.truncated_block,
+        ),
+        (
+            "\n  refused: zero sequence    ",
+            s.a.refused.zero_sequence,
+            s.b.refused.zero_sequence,
+            s.recovery.refused.zero_sequence,
+        ),
+        (
+            "\n  refused: sequence overflow",
+            s.a.refused.sequence_overflow,
+            s.b.refused.sequence_overflow,
+            s.recovery.refused.sequence_overflow,
+        ),
+        (
+            "\n  refused: other session    ",
+            s.a.refused.other_session,
+            s.b.refused.other_session,
+            s.recovery.refused.other_session,
+        ),
+        (
+            "\n  refused: past end         ",
+            s.a.refused.past_end,
+            s.b.refused.past_end,
+            s.recovery.refused.past_end,
+        ),
+        (
+            "\n  refused: end moved        ",
+            s.a.refused.end_moved,
+            s.b.refused.end_moved,
+            s.recovery.refused.end_moved,
+        ),
+        (
+            "\n  refused: end too early    ",
+            s.a.refused.end_too_early,
+            s.b.refused.end_too_early,
+            s.recovery.refused.end_too_early,
+        ),
+        (
+            "\n  refused: conflict         ",
+            s.a.refused.conflict,
+            s.b.refused.conflict,
+            s.recovery.refused.conflict,
+        ),
     ];
     put_rows_if_any(text, &rows)
 }

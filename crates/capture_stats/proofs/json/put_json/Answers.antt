@@ -1,4 +1,4 @@
-use Rattle.std.proofs.Common.{ℕ, List, ◌≡◌, ◌++◌, ◌∙◌, ap, codes, length, subst}
+use Rattle.std.proofs.Common.{List, ◌≡◌, ◌++◌, ◌∙◌, ap, codes, length, subst}
 use Rattle.std.specs.Prelude.{OnOk}
 use Rattle.capture_stats.specs.declared.stats.StateStats.{StateStats}
 use Rattle.capture_stats.specs.declared.venue_stats.VenueStats.{VenueStats}
@@ -17,5 +17,5 @@ returns c =
     let P : StateStats → Type 0 = λ s. OnOk c.put_states.result (end ≡ mid ++ states_json s) in
     put_two c.put_states.result c.args.text.now.items begun end (codes "{\"venues\":[") (venues ++ states) c.in_ok-extend_from_slice.ensures.items
     (put_two c.put_states.result begun mid end venues states
-      (c.in_ok-put_venues.ensures ∙ ap (λ (vs : List VenueStats). begun ++ venues_json vs (length vs)) c.venues.ensures)
-      (subst P c.states.ensures c.put_states.ensures))
+    (c.in_ok-put_venues.ensures ∙ ap (λ (vs : List VenueStats). begun ++ venues_json vs (length vs)) c.venues.ensures)
+    (subst P c.states.ensures c.put_states.ensures))

@@ -1,4 +1,4 @@
-use Rattle.std.proofs.Common.{◌≡◌, ℕ, ◌+◌, ◌-◌, ◌*◌, take, min}
+use Rattle.std.proofs.Common.{◌≡◌, ◌+◌, ◌-◌, ◌*◌, take, min}
 use Rattle.std.specs.Prelude.{fold}
 use Rattle.capture_stats.proofs.reading.number_in.Given as goal
 
