@@ -20,33 +20,33 @@ use Rattle.capture_stats.specs.declared.venue_stats.VenueStats.{VenueStats}
 
 -- ---- a line: its packets, by their answers
 
-abbrev pub is_taken : PacketAnswer → Bool
-is_taken (Taken first repeated) = true
-is_taken Heartbeat = false
-is_taken Ended = false
-is_taken Ahead = false
-is_taken (Refused number) = false
+abbrev pub answered_taken : PacketAnswer → Bool
+answered_taken (Taken first repeated) = true
+answered_taken Heartbeat = false
+answered_taken Ended = false
+answered_taken Ahead = false
+answered_taken (Refused number) = false
 
-abbrev pub is_heartbeat : PacketAnswer → Bool
-is_heartbeat (Taken first repeated) = false
-is_heartbeat Heartbeat = true
-is_heartbeat Ended = false
-is_heartbeat Ahead = false
-is_heartbeat (Refused number) = false
+abbrev pub answered_heartbeat : PacketAnswer → Bool
+answered_heartbeat (Taken first repeated) = false
+answered_heartbeat Heartbeat = true
+answered_heartbeat Ended = false
+answered_heartbeat Ahead = false
+answered_heartbeat (Refused number) = false
 
-abbrev pub is_ended : PacketAnswer → Bool
-is_ended (Taken first repeated) = false
-is_ended Heartbeat = false
-is_ended Ended = true
-is_ended Ahead = false
-is_ended (Refused number) = false
+abbrev pub answered_ended : PacketAnswer → Bool
+answered_ended (Taken first repeated) = false
+answered_ended Heartbeat = false
+answered_ended Ended = true
+answered_ended Ahead = false
+answered_ended (Refused number) = false
 
-abbrev pub is_ahead : PacketAnswer → Bool
-is_ahead (Taken first repeated) = false
-is_ahead Heartbeat = false
-is_ahead Ended = false
-is_ahead Ahead = true
-is_ahead (Refused number) = false
+abbrev pub answered_ahead : PacketAnswer → Bool
+answered_ahead (Taken first repeated) = false
+answered_ahead Heartbeat = false
+answered_ahead Ended = false
+answered_ahead Ahead = true
+answered_ahead (Refused number) = false
 
 -- whether it was refused for the fault of this number
 abbrev pub is_refused : ℕ → PacketAnswer → Bool
@@ -71,8 +71,8 @@ repeated_in Ended = 0
 repeated_in Ahead = 0
 repeated_in (Refused number) = 0
 
-abbrev pub refusals_after : Refusals → List PacketAnswer → Refusals
-refusals_after s answers = record {
+abbrev pub refused_after : Refusals → List PacketAnswer → Refusals
+refused_after s answers = record {
   short_header = count_after s.short_header (count_by (is_refused 1) answers);
   truncated_block = count_after s.truncated_block (count_by (is_refused 2) answers);
   zero_sequence = count_after s.zero_sequence (count_by (is_refused 3) answers);
@@ -88,13 +88,13 @@ refusals_after s answers = record {
 abbrev pub line_after : LineStats → List PacketAnswer → LineStats
 line_after s answers = record {
   packets = count_after s.packets (length answers);
-  taken = count_after s.taken (count_by is_taken answers);
+  taken = count_after s.taken (count_by answered_taken answers);
   first = count_after s.first (sum_by first_in answers);
   repeated = count_after s.repeated (sum_by repeated_in answers);
-  heartbeats = count_after s.heartbeats (count_by is_heartbeat answers);
-  ends = count_after s.ends (count_by is_ended answers);
-  ahead = count_after s.ahead (count_by is_ahead answers);
-  refused = refusals_after s.refused answers;
+  heartbeats = count_after s.heartbeats (count_by answered_heartbeat answers);
+  ends = count_after s.ends (count_by answered_ended answers);
+  ahead = count_after s.ahead (count_by answered_ahead answers);
+  refused = refused_after s.refused answers;
 }
 
 -- ---- a venue: what happened there
@@ -113,40 +113,40 @@ answer_on line LeadsOffer = []
 abbrev pub answers_on : LineId → List AtVenue → List PacketAnswer
 answers_on line whats = flat_map (answer_on line) whats
 
-abbrev pub is_quote : ItemKind → Bool
-is_quote kinds.Quote = true
-is_quote kinds.Halt = false
-is_quote kinds.Trading = false
-is_quote kinds.Other = false
-is_quote kinds.End = false
+abbrev pub is_quote_kind : ItemKind → Bool
+is_quote_kind kinds.Quote = true
+is_quote_kind kinds.Halt = false
+is_quote_kind kinds.Trading = false
+is_quote_kind kinds.Other = false
+is_quote_kind kinds.End = false
 
-abbrev pub is_halt : ItemKind → Bool
-is_halt kinds.Quote = false
-is_halt kinds.Halt = true
-is_halt kinds.Trading = false
-is_halt kinds.Other = false
-is_halt kinds.End = false
+abbrev pub is_halt_kind : ItemKind → Bool
+is_halt_kind kinds.Quote = false
+is_halt_kind kinds.Halt = true
+is_halt_kind kinds.Trading = false
+is_halt_kind kinds.Other = false
+is_halt_kind kinds.End = false
 
-abbrev pub is_resumption : ItemKind → Bool
-is_resumption kinds.Quote = false
-is_resumption kinds.Halt = false
-is_resumption kinds.Trading = true
-is_resumption kinds.Other = false
-is_resumption kinds.End = false
+abbrev pub is_trading_kind : ItemKind → Bool
+is_trading_kind kinds.Quote = false
+is_trading_kind kinds.Halt = false
+is_trading_kind kinds.Trading = true
+is_trading_kind kinds.Other = false
+is_trading_kind kinds.End = false
 
-abbrev pub is_other : ItemKind → Bool
-is_other kinds.Quote = false
-is_other kinds.Halt = false
-is_other kinds.Trading = false
-is_other kinds.Other = true
-is_other kinds.End = false
+abbrev pub is_other_kind : ItemKind → Bool
+is_other_kind kinds.Quote = false
+is_other_kind kinds.Halt = false
+is_other_kind kinds.Trading = false
+is_other_kind kinds.Other = true
+is_other_kind kinds.End = false
 
-abbrev pub is_end : ItemKind → Bool
-is_end kinds.Quote = false
-is_end kinds.Halt = false
-is_end kinds.Trading = false
-is_end kinds.Other = false
-is_end kinds.End = true
+abbrev pub is_end_kind : ItemKind → Bool
+is_end_kind kinds.Quote = false
+is_end_kind kinds.Halt = false
+is_end_kind kinds.Trading = false
+is_end_kind kinds.Other = false
+is_end_kind kinds.End = true
 
 -- whether it is an item of such a kind
 abbrev pub is_item : (ItemKind → Bool) → AtVenue → Bool
@@ -159,23 +159,23 @@ is_item of_kind LeadsBid = false
 is_item of_kind LeadsOffer = false
 
 -- the number of the last item: that of this one, or else the one so far
-abbrev pub last_after : ℕ → AtVenue → ℕ
-last_after last (Packet line answer) = last
-last_after last (Item number kind) = number
-last_after last (Gap number count) = last
-last_after last (Renewal granted) = last
-last_after last (Declaration on already) = last
-last_after last LeadsBid = last
-last_after last LeadsOffer = last
+abbrev pub last_number_after : ℕ → AtVenue → ℕ
+last_number_after last (Packet line answer) = last
+last_number_after last (Item number kind) = number
+last_number_after last (Gap number count) = last
+last_number_after last (Renewal granted) = last
+last_number_after last (Declaration on already) = last
+last_number_after last LeadsBid = last
+last_number_after last LeadsOffer = last
 
 abbrev pub items_after : ItemStats → List AtVenue → ItemStats
 items_after s whats = record {
-  quotes = count_after s.quotes (count_by (is_item is_quote) whats);
-  halts = count_after s.halts (count_by (is_item is_halt) whats);
-  resumptions = count_after s.resumptions (count_by (is_item is_resumption) whats);
-  others = count_after s.others (count_by (is_item is_other) whats);
-  ends = count_after s.ends (count_by (is_item is_end) whats);
-  last = fold last_after s.last whats;
+  quotes = count_after s.quotes (count_by (is_item is_quote_kind) whats);
+  halts = count_after s.halts (count_by (is_item is_halt_kind) whats);
+  resumptions = count_after s.resumptions (count_by (is_item is_trading_kind) whats);
+  others = count_after s.others (count_by (is_item is_other_kind) whats);
+  ends = count_after s.ends (count_by (is_item is_end_kind) whats);
+  last = fold last_number_after s.last whats;
 }
 
 -- what was missing goes on: it begins at the same number as before, or ends at the same

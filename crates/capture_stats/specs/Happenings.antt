@@ -61,10 +61,10 @@ answer_in f =
     else if bytes_eq f.fourth (codes "refused") then Some (answers.Refused (number_in f.fifth))
     else None
 
-abbrev pub packet_of : Option LineId → Option PacketAnswer → Option AtVenue
-packet_of None answer = None
-packet_of (Some line) None = None
-packet_of (Some line) (Some answer) = Some (Packet line answer)
+abbrev pub packet_told : Option LineId → Option PacketAnswer → Option AtVenue
+packet_told None answer = None
+packet_told (Some line) None = None
+packet_told (Some line) (Some answer) = Some (Packet line answer)
 
 -- item V NUMBER KIND
 abbrev pub kind_named : List ℕ → Option ItemKind
@@ -76,16 +76,16 @@ kind_named word =
     else if bytes_eq word (codes "end") then Some kinds.End
     else None
 
-abbrev pub item_of_kind : ℕ → Option ItemKind → Option AtVenue
-item_of_kind number None = None
-item_of_kind number (Some kind) = Some (Item number kind)
+abbrev pub item_told : ℕ → Option ItemKind → Option AtVenue
+item_told number None = None
+item_told number (Some kind) = Some (Item number kind)
 
 -- what a line tells of the venue whose number is its second word, by its first word
 abbrev pub told_of_venue : LineFields → Option AtVenue
 told_of_venue f =
-    if bytes_eq f.first (codes "packet") then packet_of (line_named f.third) (answer_in f)
+    if bytes_eq f.first (codes "packet") then packet_told (line_named f.third) (answer_in f)
     else if bytes_eq f.first (codes "item")
-    then item_of_kind (number_in f.third) (kind_named f.fourth)
+    then item_told (number_in f.third) (kind_named f.fourth)
     else if bytes_eq f.first (codes "gap")
     then Some (Gap (number_in f.third) (number_in f.fourth))
     else if bytes_eq f.first (codes "renew")

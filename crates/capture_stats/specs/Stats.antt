@@ -95,8 +95,8 @@ counted_after c hs = record {
 
 -- ---- of a text
 
-abbrev pub no_refusals : Refusals
-no_refusals = record {
+abbrev pub none_refused : Refusals
+none_refused = record {
   short_header = 0;
   truncated_block = 0;
   zero_sequence = 0;
@@ -117,7 +117,7 @@ no_packets = record {
   heartbeats = 0;
   ends = 0;
   ahead = 0;
-  refused = no_refusals;
+  refused = none_refused;
 }
 
 abbrev pub nothing_missing : Missing

@@ -14,7 +14,7 @@ use Rattle.capture_stats.specs.declared.line_stats.Refusals.{Refusals}
 use Rattle.capture_stats.specs.declared.stats.StateStats.{StateStats}
 use Rattle.capture_stats.specs.declared.venue_stats.ItemStats.{ItemStats}
 use Rattle.capture_stats.specs.declared.venue_stats.VenueStats.{VenueStats}
-use Rattle.capture_stats.specs.Counts.{answer_on, answers_on, first_in, gap_after, is_ahead, is_declaration, is_end, is_ended, is_halt, is_heartbeat, is_item, is_other, is_quote, is_refused, is_renewal, is_resumption, is_taken, items_after, last_after, leads_bid, leads_offer, line_after, refusals_after, repeated_in, venue_after}
+use Rattle.capture_stats.specs.Counts.{answer_on, answers_on, first_in, gap_after, answered_ahead, is_declaration, is_end_kind, answered_ended, is_halt_kind, answered_heartbeat, is_item, is_other_kind, is_quote_kind, is_refused, is_renewal, is_trading_kind, answered_taken, items_after, last_number_after, leads_bid, leads_offer, line_after, refused_after, repeated_in, venue_after}
 use Rattle.capture_stats.specs.Happenings.{Happening}
 use Rattle.capture_stats.specs.Stats.{Counted, all_at, counted_after, is_change, is_crossed, is_empty_state, is_locked, is_normal, is_one_sided, states_after, venues_after, what_at}
 
@@ -38,7 +38,7 @@ folded : {X S : Type 0} (step : S → X → S) (s : S) (xs ys : List X) → fold
 folded step s [] ys = refl
 folded step s (x ∷ xs) ys = folded step (step s x) xs ys
 
-refusals_twice : (s : Refusals) (xs ys : List PacketAnswer) → refusals_after (refusals_after s xs) ys ≡ refusals_after s (xs ++ ys)
+refusals_twice : (s : Refusals) (xs ys : List PacketAnswer) → refused_after (refused_after s xs) ys ≡ refused_after s (xs ++ ys)
 refusals_twice s xs ys =
     let a = counted (is_refused 1) s.short_header xs ys in
     let b = counted (is_refused 2) s.truncated_block xs ys in
@@ -54,12 +54,12 @@ refusals_twice s xs ys =
 line_twice : (s : LineStats) (xs ys : List PacketAnswer) → line_after (line_after s xs) ys ≡ line_after s (xs ++ ys)
 line_twice s xs ys =
     let a = raised_twice s.packets (length xs) (length ys) ∙ ap (count_after s.packets) (sym (length-append xs ys)) in
-    let b = counted is_taken s.taken xs ys in
+    let b = counted answered_taken s.taken xs ys in
     let c = summed first_in s.first xs ys in
     let d = summed repeated_in s.repeated xs ys in
-    let e = counted is_heartbeat s.heartbeats xs ys in
-    let f = counted is_ended s.ends xs ys in
-    let g = counted is_ahead s.ahead xs ys in
+    let e = counted answered_heartbeat s.heartbeats xs ys in
+    let f = counted answered_ended s.ends xs ys in
+    let g = counted answered_ahead s.ahead xs ys in
     let h = refusals_twice s.refused xs ys in
     cc
 
@@ -68,12 +68,12 @@ line_of_venue s line xs ys = line_twice s (answers_on line xs) (answers_on line 
 
 items_twice : (s : ItemStats) (xs ys : List AtVenue) → items_after (items_after s xs) ys ≡ items_after s (xs ++ ys)
 items_twice s xs ys =
-    let a = counted (is_item is_quote) s.quotes xs ys in
-    let b = counted (is_item is_halt) s.halts xs ys in
-    let c = counted (is_item is_resumption) s.resumptions xs ys in
-    let d = counted (is_item is_other) s.others xs ys in
-    let e = counted (is_item is_end) s.ends xs ys in
-    let f = folded last_after s.last xs ys in
+    let a = counted (is_item is_quote_kind) s.quotes xs ys in
+    let b = counted (is_item is_halt_kind) s.halts xs ys in
+    let c = counted (is_item is_trading_kind) s.resumptions xs ys in
+    let d = counted (is_item is_other_kind) s.others xs ys in
+    let e = counted (is_item is_end_kind) s.ends xs ys in
+    let f = folded last_number_after s.last xs ys in
     cc
 
 pub venue_twice : (s : VenueStats) (xs ys : List AtVenue) → venue_after (venue_after s xs) ys ≡ venue_after s (xs ++ ys)

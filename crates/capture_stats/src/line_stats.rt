@@ -1,7 +1,7 @@
 //! The counts of a line.
 ghost use Rattle.std.specs.Prelude.{◌≡◌, ◌∷◌, []};
 ghost use Rattle.line_captures.specs.Counts.{count_after};
-ghost use Rattle.capture_stats.specs.Counts.{line_after, refusals_after};
+ghost use Rattle.capture_stats.specs.Counts.{line_after, refused_after};
 
 use crate::happening::PacketAnswer;
 
@@ -30,7 +30,7 @@ pub struct Refusals {
 impl Refusals {
     /// Counts a refusal by the number of its fault.
     fn add(&mut self, number: u64)
-        ensures { self.new ≡ refusals_after self.old (PacketAnswer.Refused number ∷ []) }
+        ensures { self.new ≡ refused_after self.old (PacketAnswer.Refused number ∷ []) }
     {
         match number {
             1 => self.short_header = raised(self.short_header, 1),

@@ -1,6 +1,6 @@
 //! What a line of a replay tells, by its words.
 ghost use Rattle.std.specs.Prelude.{◌≡◌};
-ghost use Rattle.capture_stats.specs.Happenings.{answer_in, fields_of, item_of_kind, kind_named, line_named, number_in, packet_of, told_of_venue};
+ghost use Rattle.capture_stats.specs.Happenings.{answer_in, fields_of, item_told, kind_named, line_named, number_in, packet_told, told_of_venue};
 ghost use Rattle.capture_stats.specs.Words.{fields_now};
 
 use crate::happening::{AtVenue, ItemKind, PacketAnswer};
@@ -94,7 +94,7 @@ fn answer_in(words: LineWords<'_>) -> Option<PacketAnswer>
 
 /// Returns the packet that a packet line tells of.
 fn packet_in(words: LineWords<'_>) -> Option<AtVenue>
-    ensures { result ≡ packet_of (line_named words.entry.third.now) (answer_in (fields_now words.entry)) }
+    ensures { result ≡ packet_told (line_named words.entry.third.now) (answer_in (fields_now words.entry)) }
 {
     match (line_named(words.third), answer_in(words)) {
         (Some(line), Some(answer)) => Some(AtVenue::Packet { line, answer }),
@@ -123,7 +123,7 @@ fn kind_named(word: &[u8]) -> Option<ItemKind>
 
 /// Returns the item that an item line tells of.
 fn item_in(words: LineWords<'_>) -> Option<AtVenue>
-    ensures { result ≡ item_of_kind (number_in words.entry.third.now) (kind_named words.entry.fourth.now) }
+    ensures { result ≡ item_told (number_in words.entry.third.now) (kind_named words.entry.fourth.now) }
 {
     let number = number_in(words.third);
     match kind_named(words.fourth) {
