@@ -14,6 +14,7 @@
 mod format;
 mod happening;
 mod json;
+mod laws;
 mod line_stats;
 mod pieces;
 mod reading;
@@ -24,6 +25,7 @@ mod venue_stats;
 
 pub use format::{StatsFormat, stats_text};
 pub use happening::{AtVenue, ItemKind, PacketAnswer};
+pub use laws::numbers_are_read;
 pub use line_stats::{LineStats, Refusals};
 pub use stats::{StateStats, Stats};
 pub use stats_out::StatsOut;
