@@ -316,7 +316,7 @@ where
         let mut desk = desk;
         let progress = RunProgress::new();
         let venues = feed.venue_reader();
-        let (has_attended, ran) = feed.run_beside(rt, alloc, lines, given, &progress, || {
+        let beside = || {
             let mut poll = || match &mut aside {
                 Some(subscriber) => match subscriber.poll(rt) {
                     Ok(Some(_)) => subscriber.log().last().map(|logged| logged.notice),
@@ -326,7 +326,8 @@ where
             };
             let status = |venue: VenueId| venues.status(rt, venue).ok();
             attendant.attend(rt, &stop, &progress, &mut poll, &status, &mut desk)
-        });
+        };
+        let (has_attended, ran) = feed.run_beside(rt, alloc, lines, given, &progress, beside);
         (ran, aside, desk, !has_attended)
     } else {
         (feed.run(rt, alloc, lines, given), aside, desk, false)
