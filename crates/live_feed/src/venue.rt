@@ -1,12 +1,12 @@
 //! A venue: what its lock guards, the sections under that lock, and what its lines show.
 
+pub(crate) mod by_line;
 pub(crate) mod calls;
 pub(crate) mod cell;
 pub(crate) mod datagram;
 pub(crate) mod locks;
 pub(crate) mod refusals;
 pub(crate) mod seat;
-pub(crate) mod seated_lines;
 pub(crate) mod start;
 pub(crate) mod status;
 pub(crate) mod sums;
