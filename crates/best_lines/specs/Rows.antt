@@ -13,7 +13,7 @@ part_before code bytes = before_first (λ b. b == code) bytes
 unfoldable pub part_after : ℕ → List ℕ → List ℕ
 part_after code bytes = after_first (λ b. b == code) bytes
 
--- the words of a best line behind its first, which are parted by spaces
+-- the words of a best line after its first, which are parted by spaces
 pub record Words : Type 0 where
   pub notice : List ℕ
   pub position : List ℕ

@@ -1,4 +1,4 @@
--- What is behind the references of a line's words. Cited by private clauses alone.
+-- What the references of a line's words refer to. Cited by private clauses alone.
 use Rattle.best_lines.specs.Rows.{Words}
 use Rattle.best_lines.specs.declared.words.LineWords.{LineWords}
 

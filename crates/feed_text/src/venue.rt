@@ -22,7 +22,7 @@ use crate::report::{PublishStop, ReplaySink};
 use feed_types::{Anything, LineId, Numbered, VenueId};
 use line_arbiter::{Arbiter, InOrder, LineFault, Outcome, RenewFault};
 use mold_packet::{Messages, Packet, read_packet};
-use quote_payload::{read_item, symbol_field};
+use quote_payload::{peek_symbol_bytes, read_item};
 use std::alloc::{AllocError, Global};
 use std::marker::Model;
 
@@ -118,7 +118,7 @@ fn prefetch(venue: VenueId, mut messages: Messages<'_>, report: &mut ReplaySink)
         let Some(message) = messages.next() else {
             break;
         };
-        if let Some(field) = symbol_field(message) {
+        if let Some(field) = peek_symbol_bytes(message) {
             if !report.journal.prefetch(venue, field) {
                 break;
             }

@@ -40,7 +40,7 @@ pub struct National {
 
 /// The same side, copied part by part.
 #[inline(always)]
-fn by_parts(best: &Option<Best>) -> Option<Best>
+fn copy_fields(best: &Option<Best>) -> Option<Best>
     ensures { result ≡ best.now }
 {
     match best {
@@ -60,12 +60,12 @@ impl National {
     /// These two sides, copied part by part, as they are written. Where that is a moment ago, a
     /// copy of a side as a whole would wait until all that was written before it is in the cache.
     #[inline(always)]
-    pub fn copied(bid: &Option<Best>, offer: &Option<Best>) -> National
+    pub fn by_value(bid: &Option<Best>, offer: &Option<Best>) -> National
         ensures { result ≡ record { bid = bid.now; offer = offer.now } }
     {
         National {
-            bid: by_parts(bid),
-            offer: by_parts(offer),
+            bid: copy_fields(bid),
+            offer: copy_fields(offer),
         }
     }
 

@@ -17,7 +17,7 @@ fn push_notice(notices: &mut Vec<Notice>, change: &Change)
     ensures capacity { vec_capacity notices.new ≡ vec_capacity notices.old }
 {
     let number = notices.len() as u64 + 1;
-    let national = National::copied(&change.national.bid, &change.national.offer);
+    let national = National::by_value(&change.national.bid, &change.national.offer);
     notices.push_reserved(Notice {
         number,
         position: change.position,

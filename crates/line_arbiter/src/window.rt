@@ -38,7 +38,7 @@ impl Model for Window {
 /// Returns the same item, copied part by part: a copy of the whole would be taken apart where it is
 /// used, in pieces that overlap, and each wait for the one before it.
 #[inline(always)]
-fn by_parts(item: &Item) -> Item
+fn copy_fields(item: &Item) -> Item
     ensures { result ≡ item.now }
 {
     match item {
@@ -176,7 +176,7 @@ impl Window {
         }
         let place = (number - self.base_number - 1) as usize;
         match self.places.get(place) {
-            Some(Some(item)) => Some(by_parts(item)),
+            Some(Some(item)) => Some(copy_fields(item)),
             Some(None) | None => None,
         }
     }
@@ -187,7 +187,7 @@ impl Window {
         ensures small { IsSome result → self.now.base + 1 < 2 ^ 64 }
     {
         match self.places.front() {
-            Some(Some(item)) => Some(by_parts(item)),
+            Some(Some(item)) => Some(copy_fields(item)),
             Some(None) | None => None,
         }
     }

@@ -128,7 +128,7 @@ gives_more_records gives law s t u m n xs ys a b =
       fault = b.fault ∙ a.fault;
     }
 
--- ---- what came of a reader that had read nothing
+-- ---- readers that had read nothing before
 
 -- what such a reader gave, and then what is pending, are the records of the pieces that were read
 pub record HasGivenRecords {R : Type 0} (reading : Reading R) (lines : List CapturedLine) (from : R)

@@ -75,7 +75,7 @@ pub record TakesPieces (lines : List CapturedLine) (before : CapturePoint) (byte
   pub each : All (IsOfLine lines) records
   pub given_is : given ≡ pending ++ spelled records
 
--- By so many calls these bytes of records came: as many calls at most of the reader of the bytes
+-- By `calls` calls these bytes of records came: as many calls at most of the reader of the bytes
 -- gave whole pieces and the rest that is unread, and what was given, then what is pending, is what
 -- was pending, then the records of the pieces.
 pub record GivesRecords {R : Type 0} (gives : R → ℕ → List ℕ → R → Type 0)

@@ -32,7 +32,7 @@ use Rattle.feed_types.specs.declared.genuine.Genuine.{Ghosts as Genuine}
 use Rattle.live_feed.specs.Premises.{AreInSequence, IsGenuinePacket}
 use Rattle.live_feed.specs.Lanes.{FeedLanes}
 use Rattle.live_feed.specs.venue.Sums.{Sums, no_sums, sums_after, accepted_on, sums_on, line_sums_after, LineSums}
-use Rattle.live_feed.specs.venue.Cells.{CellState, FitsCell, AreGivenFrom, VenueLockInvariant, DoneAtVenue, IsOthersLock, UnderVenueLock, arrivals_of, new_cell}
+use Rattle.live_feed.specs.venue.Cells.{CellState, CellFitsHistory, AreGivenFrom, VenueLockInvariant, DoneAtVenue, IsOthersLock, UnderVenueLock, arrivals_of, new_cell}
 use Rattle.live_feed.specs.venue.Sections.{TakesPacket, HasNoneReady, KeepsButSent, Pushes, TakesAndPushes, PushesOne, RenewsSession}
 use Rattle.feed_core.specs.declared.event.Done.TheVariants as done
 use Rattle.feed_core.specs.Steps.{AppliesTo, push_next}
@@ -65,7 +65,7 @@ no_more Recovery s p fault = refl
 
 -- with one more packet they are those of all packets
 sums_more : (old : CellState) (sums : LineSums) (h : History) (line : LineId) (p : Content)
-    (answer : Result Outcome LineFault) → FitsCell old h → sums ≡ line_sums_after line p answer old.accepted
+    (answer : Result Outcome LineFault) → CellFitsHistory old h → sums ≡ line_sums_after line p answer old.accepted
     → (l : LineId) → sums_on l sums ≡ accepted_on l (arrivals_of
     (all_begun (after_arrival h (arrival_of line p answer))))
 sums_more old sums h line p answer f is l =
@@ -79,14 +79,14 @@ sums_more old sums h line p answer f is l =
 -- ---- a packet
 
 module _ (old new : CellState) (h : History) (line : LineId) (p : Content) (answer : Result Outcome LineFault)
-    (f : FitsCell old h) (lane : new.lane ≡ old.lane) (kept : KeepsItsPlace old.arbiter new.arbiter)
+    (f : CellFitsHistory old h) (lane : new.lane ≡ old.lane) (kept : KeepsItsPlace old.arbiter new.arbiter)
     (fits : Fits new.arbiter (h.present.packets ++ arrival_of line p answer ∷ []))
     (grows : IsPrefix (stream_of h.present.packets) (stream_of (h.present.packets ++ arrival_of line p answer ∷ [])))
     (sums : new.accepted ≡ line_sums_after line p answer old.accepted) where
   abbrev a : Arrival
   a = arrival_of line p answer
 
-  pub packet_fits : FitsCell new (after_arrival h a)
+  pub packet_fits : CellFitsHistory new (after_arrival h a)
   packet_fits = record {
     history = fits_packet h a f.history (keeps_session kept) fits;
     sent =
@@ -132,7 +132,7 @@ module _ {S : Type 0} (premise : Genuine S) (lanes : FeedLanes) (old new : CellS
     (answer : Result Outcome LineFault) (k : VenueLockInvariant premise lanes old)
     (kept : KeepsItsSession old.arbiter new.arbiter) (tag : new.lane.tag ≡ old.lane.tag)
     (lane : new.lane.lane ≡ old.lane.lane) (capacity : new.lane.capacity ≡ old.lane.capacity)
-    (fits : FitsCell new (after_arrival k.history (arrival_of line p answer))) (content : IsContent p)
+    (fits : CellFitsHistory new (after_arrival k.history (arrival_of line p answer))) (content : IsContent p)
     (o : IsOutcome old.arbiter.session old.arbiter.window old.arbiter.sent k.history.present.packets p answer)
     (genuine : IsGenuinePacket premise old.arbiter.venue p) where
   pub more_kept : VenueLockInvariant premise lanes new
@@ -153,7 +153,7 @@ module _ {S : Type 0} (premise : Genuine S) (lanes : FeedLanes) (old new : CellS
 pub packet_kept : {S : Type 0} (premise : Genuine S) (lanes : FeedLanes) (old new : CellState) (line : LineId)
     (p : Content) (answer : Result Outcome LineFault) (k : VenueLockInvariant premise lanes old)
     → new.lane ≡ old.lane → KeepsItsPlace old.arbiter new.arbiter
-    → FitsCell new (after_arrival k.history (arrival_of line p answer)) → IsContent p
+    → CellFitsHistory new (after_arrival k.history (arrival_of line p answer)) → IsContent p
     → IsOutcome old.arbiter.session old.arbiter.window old.arbiter.sent k.history.present.packets p answer
     → IsGenuinePacket premise old.arbiter.venue p → VenueLockInvariant premise lanes new
 packet_kept premise lanes old new line p answer k lane kept fits content o genuine =
@@ -198,13 +198,13 @@ module _ (items : List Numbered) (sent : ℕ) (h : History)
       (prefix_in_sequence premise.carries premise.ends venue (items_of h.earlier ++ take n stream) (drop n stream)
       all)
 
-module _ (c : CellState) (h : History) (f : FitsCell c h) where
+module _ (c : CellState) (h : History) (f : CellFitsHistory c h) where
   next_of_cell : slice_get (streams_of h) (length c.lane.items) ≡ slice_get (stream_of h.present.packets) c.arbiter.sent
   next_of_cell = next_is c.lane.items c.arbiter.sent h f.sent f.history.present.sent
 
   pub push_fits : (new : CellState) (x : Numbered) → Some x ≡ slice_get (stream_of h.present.packets) c.arbiter.sent
       → new.lane ≡ with_items c.lane (c.lane.items ++ x ∷ []) → new.accepted ≡ c.accepted
-      → IsAdvanced c.arbiter new.arbiter → Fits new.arbiter h.present.packets → FitsCell new h
+      → IsAdvanced c.arbiter new.arbiter → Fits new.arbiter h.present.packets → CellFitsHistory new h
   push_fits new x e lane sums advanced fits = record {
     history = fits_push h f.history advanced.kept fits;
     sent = ap (λ (e : LaneEnd Numbered). e.items) lane
@@ -214,7 +214,7 @@ module _ (c : CellState) (h : History) (f : FitsCell c h) where
 
   pub pushes : (may_send : ℕ → List Numbered → Type 0) (new : CellState) (x : Numbered) (number : ℕ)
       → Some x ≡ slice_get (stream_of h.present.packets) c.arbiter.sent → number ≡ x.number
-      → new.lane ≡ with_items c.lane (c.lane.items ++ x ∷ []) → FitsCell new h → PushesOne may_send (Ok number) h c new
+      → new.lane ≡ with_items c.lane (c.lane.items ++ x ∷ []) → CellFitsHistory new h → PushesOne may_send (Ok number) h c new
   pushes may_send new x number e is lane fits = record {
     full = false;
     was_full = λ t. absurd cc;
@@ -244,7 +244,7 @@ module _ (c : CellState) (h : History) (f : FitsCell c h) where
 pub push_kept : {S : Type 0} (premise : Genuine S) (lanes : FeedLanes) (old new : CellState) (x : Numbered)
     (k : VenueLockInvariant premise lanes old)
     → new.lane ≡ with_items old.lane (old.lane.items ++ x ∷ []) → IsAdvanced old.arbiter new.arbiter
-    → FitsCell new k.history → VenueLockInvariant premise lanes new
+    → CellFitsHistory new k.history → VenueLockInvariant premise lanes new
 push_kept premise lanes old new x k lane advanced fits = record {
   history = k.history;
   fits = fits;
@@ -316,7 +316,7 @@ module _ (s : State) (packets : List Arrival) (p : Content) (order : InOrder) (l
       let there : to ≡ last = e ∙ ap (λ (o : InOrder). sent_in_order o s.sent) is in
       omega arith
 
-module _ (old : CellState) (h : History) (line : LineId) (p : Content) (x : Numbered) (f : FitsCell old h)
+module _ (old : CellState) (h : History) (line : LineId) (p : Content) (x : Numbered) (f : CellFitsHistory old h)
     (brings : BringsNext old.arbiter.session old.arbiter.window old.arbiter.sent h.present.packets line p x) where
   abbrev passed : Arrival
   passed = arrival_of line p (Ok (Taken 1 0))
@@ -347,7 +347,7 @@ module _ (old : CellState) (h : History) (line : LineId) (p : Content) (x : Numb
       (sent : new.arbiter.sent ≡ old.arbiter.sent + 1) (kept : KeepsItsSession old.arbiter new.arbiter)
       (fits : Fits new.arbiter (h.present.packets ++ arrival_of line p (Ok outcome) ∷ []))
       (sums : new.accepted ≡ line_sums_after line p (Ok outcome) old.accepted) where
-    pub pass_fits : FitsCell new (after_arrival h passed)
+    pub pass_fits : CellFitsHistory new (after_arrival h passed)
     pass_fits = record {
       history = fits_packet h passed f.history kept (subst
           (λ (o : Outcome). Fits new.arbiter (h.present.packets ++ arrival_of line p (Ok o) ∷ [])) one fits);
@@ -386,7 +386,7 @@ nothing B = refl
 nothing Recovery = refl
 
 pub new_fits : (arbiter : State) (lane : LaneEnd Numbered) → IsNew arbiter lane.tag arbiter.session arbiter.window
-    → Fits arbiter [] → lane.items ≡ [] → FitsCell (new_cell arbiter lane) (new_history arbiter.session)
+    → Fits arbiter [] → lane.items ≡ [] → CellFitsHistory (new_cell arbiter lane) (new_history arbiter.session)
 new_fits arbiter lane new fits empty = record {
   history = fits_new new fits;
   sent = empty ∙ sym (ap (λ (n : ℕ). take n (stream_of [])) new.begun.sent);
@@ -419,11 +419,11 @@ take_whole (x ∷ xs) = ap (λ (l : List _). x ∷ l) (take_whole xs)
 pub shown_sum : (m n : ℕ) → shown (shown m + n) ≡ shown (m + n)
 shown_sum m n = grind (arith)
 
-module _ (old new : CellState) (h : History) (name : List ℕ) (f : FitsCell old h)
+module _ (old new : CellState) (h : History) (name : List ℕ) (f : CellFitsHistory old h)
     (begun : IsRenewed old.arbiter new.arbiter name) (fits : Fits new.arbiter [])
     (whole : IsComplete h.present.packets × (old.arbiter.sent ≡ length (stream_of h.present.packets)))
     (lane : new.lane ≡ old.lane) (sums : new.accepted ≡ old.accepted) where
-  pub renewed_fits : FitsCell new (record { earlier = all_begun h; present = new_session name })
+  pub renewed_fits : CellFitsHistory new (record { earlier = all_begun h; present = new_session name })
   renewed_fits = record {
     history = fits_renewal h name f.history begun fits;
     sent =
@@ -544,7 +544,7 @@ module _ (pushed : ℕ) (old between new : CellState) (r : PushesSoFar pushed ol
   -- a push that was refused
   pub push_refused : {S : Type 0} (premise : Genuine S) (lanes : FeedLanes)
       (may_send : ℕ → List Numbered → Type 0) (most : ℕ) (why : Unsent) → pushed ≤ most
-      → ((h : History) → FitsCell between h → PushesOne may_send (Err why) h between new)
+      → ((h : History) → CellFitsHistory between h → PushesOne may_send (Err why) h between new)
       → new ≡ between → VenueLockInvariant premise lanes new
       → Pushes may_send most pushed old new
   push_refused premise lanes may_send most why few one same k =
@@ -555,11 +555,11 @@ module _ (pushed : ℕ) (old between new : CellState) (r : PushesSoFar pushed ol
         over = inr (by_why why one);
       })
     where
-      fits : FitsCell between k.history
-      fits = subst (λ (c : CellState). FitsCell c k.history) same k.fits
+      fits : CellFitsHistory between k.history
+      fits = subst (λ (c : CellState). CellFitsHistory c k.history) same k.fits
 
       by_why : (u : Unsent)
-          → ((h : History) → FitsCell between h → PushesOne may_send (Err u) h between new)
+          → ((h : History) → CellFitsHistory between h → PushesOne may_send (Err u) h between new)
           → WasFull may_send between.lane ⊎ HasNoneReady between
       by_why unsent.Nothing all = inr (λ h f. none_ready between.lane.items new.lane.items (all h f).full
           (slice_get (streams_of h) (length between.lane.items)) (all h f).comes)

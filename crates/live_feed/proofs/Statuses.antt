@@ -8,7 +8,7 @@ use Rattle.nbbo_book.specs.Nationals.{national_of}
 use Rattle.feed_types.specs.declared.genuine.Genuine.{Ghosts as Genuine}
 use Rattle.live_feed.specs.Lanes.{FeedLanes}
 use Rattle.live_feed.specs.declared.venue.status.VenueStatus.{VenueStatus}
-use Rattle.live_feed.specs.venue.Cells.{CellState, FitsCell, VenueLockInvariant}
+use Rattle.live_feed.specs.venue.Cells.{CellState, CellFitsHistory, VenueLockInvariant}
 use Rattle.live_feed.specs.venue.Statuses.{ShowsHistory, ShowsUnderLock}
 use Rattle.live_feed.specs.hub.Hubs.{HubLockInvariant, HubState}
 use Rattle.live_feed.specs.hub.Nationals.{WasNational}
@@ -27,7 +27,7 @@ pub shows_under_lock : {S : Type 0} (premise : Genuine S)
     (lanes : FeedLanes) (venue : ℕ) (cell : CellState) (status : VenueStatus)
     → VenueLockInvariant premise lanes cell → cell.arbiter.venue ≡ venue
     → status.cursors.sent ≡ cell.arbiter.sent
-    → ((h : History) → FitsCell cell h → ShowsHistory cell.arbiter.window h status)
+    → ((h : History) → CellFitsHistory cell h → ShowsHistory cell.arbiter.window h status)
     → ShowsUnderLock premise lanes venue status
 shows_under_lock premise lanes venue cell status kept is sent shows = record {
   cell = cell;

@@ -64,13 +64,17 @@ fn unlock<G: Genuine, N: FeedName>(
         return Err(feed);
     };
     let OpenFeed {
-        venues: behind,
+        venues: venue_locks,
         hub,
         log_size,
     } = feed;
-    let (behind, bells) = behind.into_parts();
+    let (venue_locks, bells) = venue_locks.into_parts();
     Ok(Unlocked {
-        venues: made_of_each(behind, venues, &|_, lock| lock.into_inner().into_inner()),
+        venues: made_of_each(
+            venue_locks,
+            venues,
+            &|_, lock| lock.into_inner().into_inner(),
+        ),
         hub: hub.into_inner().into_inner(),
         locks,
         bells,

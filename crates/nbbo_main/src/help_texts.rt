@@ -116,7 +116,7 @@ Examples:
 /// The part of the long help after the options.
 pub const REPLAY_LINES: &str = "\
 Printed lines, V a venue from 0, L a line (A, B or R for recovery):
-  packet V L taken NEW REPEATED  a datagram's messages: so many came first, so many came again
+  packet V L taken NEW REPEATED  of a datagram's messages NEW came first, REPEATED came again
   packet V L heartbeat           it has none
   packet V L ended               it announces the end of the session
   packet V L ahead               it goes beyond the window

@@ -16,5 +16,5 @@ mod reading;
 mod writing;
 
 pub use laws::no_message_is_the_end;
-pub use reading::{read_item, symbol_field};
+pub use reading::{peek_symbol_bytes, read_item};
 pub use writing::{fits_v1, write_halt, write_quote, write_quote2};

@@ -24,7 +24,7 @@ fn read_symbol(message: &[u8]) -> Option<SymbolName>
 /// The eight bytes where quotations and halts have their symbol, of any message that has them. They
 /// are not looked at: they need be no symbol, and the message no quotation.
 #[inline(always)]
-pub fn symbol_field(message: &[u8]) -> Option<[u8; 8]>
+pub fn peek_symbol_bytes(message: &[u8]) -> Option<[u8; 8]>
     ensures { SomeIff result (9 ≤ length message.now) (symbol_at message.now) }
 {
     let rest = message.get(1..)?;

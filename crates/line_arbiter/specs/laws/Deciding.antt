@@ -21,7 +21,7 @@ cases_flag true false = inr true≢false
 cases_flag false true = inr false≢true
 cases_flag false false = inl refl
 
--- a part is the same, or the whole is another one
+-- a part is the same, or the whole differs
 part : {W X : Type 0} (f : W → X) → ((x y : X) → (x ≡ y) ⊎ (x ≢ y)) → (a b : W)
     → (f a ≡ f b) ⊎ (a ≢ b)
 part f tell a b =

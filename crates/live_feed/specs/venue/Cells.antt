@@ -40,7 +40,7 @@ arrivals_of sessions = flat_map (λ session. session.packets) sessions
 -- The cell represents this history: its arbiter fits the history, the lane was sent the streams of
 -- the earlier sessions and then the first items of the present one's, and what is counted per line
 -- is that of all packets.
-pub record FitsCell (c : CellState) (h : History) : Type 0 where
+pub record CellFitsHistory (c : CellState) (h : History) : Type 0 where
   pub history : FitsHistory c.arbiter h
   pub sent : c.lane.items
       ≡ items_of h.earlier ++ take c.arbiter.sent (stream_of h.present.packets)
@@ -69,7 +69,7 @@ module _ {S : Type 0} (premise : Genuine S) (venue window : ℕ) where
 pub record VenueLockInvariant {S : Type 0} (premise : Genuine S)
     (lanes : FeedLanes) (c : CellState) : Type 0 where
   pub history : History
-  pub fits : FitsCell c history
+  pub fits : CellFitsHistory c history
   pub given : AreGivenFrom premise c.arbiter.venue c.arbiter.window 1
       history.earlier history.present
   pub named : premise.sessions c.arbiter.venue (ordinal_of c.arbiter) c.arbiter.session

@@ -29,14 +29,14 @@ use Rattle.live_feed.specs.declared.faults.RenewalFault.TheVariants as renewal
 use Rattle.live_feed.specs.declared.unsent.Unsent.{Unsent}
 use Rattle.live_feed.specs.declared.unsent.Unsent.TheVariants as unsent
 use Rattle.live_feed.specs.Lanes.{FeedLanes}
-use Rattle.live_feed.specs.venue.Cells.{DoneAtVenue, CellState, FitsCell, IsOthersLock, UnderVenueLock, new_pace}
+use Rattle.live_feed.specs.venue.Cells.{DoneAtVenue, CellState, CellFitsHistory, IsOthersLock, UnderVenueLock, new_pace}
 
 -- Packet: the venue's history has grown by the packet, and the cell represents it.
 pub record TakesPacket (line : LineId) (p : Content) (answer : Result Outcome LineFault)
     (h : History) (old new : CellState) : Type 0 where
   pub after : History
   pub taken : AddsArrival old.arbiter.window old.arbiter.sent line p h answer after
-  pub fits : FitsCell new after
+  pub fits : CellFitsHistory new after
 
 -- Where the lines bring exactly these sessions, a packet of one of them is accepted, or is of
 -- another session than the present one.
@@ -67,7 +67,7 @@ pub record PushesOne (may_send : ℕ → List Numbered → Type 0) (answer : Res
   pub comes : AppliesTo
       (push_next full (slice_get (streams_of h) (length old.lane.items)) old.lane.items)
       old.lane.items (push_done answer) new.lane.items
-  pub fits : FitsCell new h
+  pub fits : CellFitsHistory new h
 
 -- nothing else has changed
 pub record KeepsButSent (old new : CellState) : Type 0 where
@@ -97,7 +97,7 @@ pub record KeepsButPushed (old new : CellState) : Type 0 where
 -- no item is ready to be sent
 abbrev pub HasNoneReady : CellState → Type 0
 HasNoneReady c =
-    (h : History) → FitsCell c h → slice_get (streams_of h) (length c.lane.items) ≡ None
+    (h : History) → CellFitsHistory c h → slice_get (streams_of h) (length c.lane.items) ≡ None
 
 -- Push, again and again: the cell has sent this many items more, and nothing else has changed. It
 -- ends where these are as many as asked for, where the lane was full at a moment of the call, or
@@ -139,7 +139,7 @@ pub record PushesReady {S : Type 0} (premise : Genuine S) (lanes : FeedLanes) (v
 pub record TakesAndPushesReady (may_send : ℕ → List Numbered → Type 0) (line : LineId)
     (p : Content) (answer : Result Outcome LineFault) (old new : CellState) : Type 0 where
   pub between : CellState
-  pub takes : (h : History) → FitsCell old h → TakesPacket line p answer h old between
+  pub takes : (h : History) → CellFitsHistory old h → TakesPacket line p answer h old between
   pub kept : KeepsButPushed old between
   pub pushed : ℕ
   pub pushes : Pushes may_send (2 ^ 64 - 1) pushed between new
@@ -149,7 +149,7 @@ pub record TakesAndPushesReady (may_send : ℕ → List Numbered → Type 0) (li
 abbrev pub IsLeft : (ℕ → List Numbered → Type 0) → Content → CellState → Type 0
 IsLeft may_send p c =
     WasFull may_send c.lane
-    ⊎ ((h : History) → FitsCell c h
+    ⊎ ((h : History) → CellFitsHistory c h
     → IsNextPacket c.arbiter.session c.arbiter.window c.arbiter.sent h.present.packets p
     → length p.messages ≡ 1 → ⊥)
 
@@ -158,7 +158,7 @@ pub record RenewsSession (name : List ℕ) (answer : Result ℕ RenewFault) (h :
     (old new : CellState) : Type 0 where
   pub after : History
   pub renewed : AddsRenewal old.arbiter.sent name h answer after
-  pub fits : FitsCell new after
+  pub fits : CellFitsHistory new after
 
 -- the next session of the cell's venue, with no request to repeat
 pub record BeginsNext (old new : CellState) : Type 0 where
@@ -170,7 +170,7 @@ pub record BeginsNext (old new : CellState) : Type 0 where
 pub record RenewsInTurn (ordinal : ℕ) (name : List ℕ) (answer : Result ℕ RenewFault)
     (old new : CellState) : Type 0 where
   pub next : ordinal ≡ ordinal_of old.arbiter + 1
-  pub renews : (h : History) → FitsCell old h → RenewsSession name answer h old new
+  pub renews : (h : History) → CellFitsHistory old h → RenewsSession name answer h old new
   pub begun : OnOk answer (BeginsNext old new)
   pub refused : OnErr answer (new ≡ old)
 
@@ -192,7 +192,7 @@ IsRenewedBy premise lanes venue ordinal name (Err renewal.UnknownVenue) =
 
 -- The request for the gap to send now, if any; only the pace of requests has changed.
 pub record RequestsGap (now_ms : ℕ) (request : Option Request) (old new : CellState) : Type 0 where
-  pub paced : (h : History) → FitsCell old h
+  pub paced : (h : History) → CellFitsHistory old h
       → IsPaced old.pace
       (gap_of old.arbiter.session old.arbiter.window old.arbiter.sent h.present.packets) now_ms
       request new.pace

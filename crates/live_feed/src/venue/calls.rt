@@ -4,7 +4,7 @@ ghost use Rattle.std.specs.Prelude.{◌≡◌, IfOk, IsErrOf};
 ghost use Rattle.line_arbiter.specs.Histories.{History};
 ghost use Rattle.live_feed.specs.Premises.{AreInSequence, IsGenuinePacket};
 ghost use Rattle.live_feed.specs.venue.Seats.{seat_after, seat_refusing};
-ghost use Rattle.live_feed.specs.venue.Cells.{FitsCell};
+ghost use Rattle.live_feed.specs.venue.Cells.{CellFitsHistory};
 ghost use Rattle.live_feed.specs.venue.Sections.{AcceptsTheirPacket, IsDueAt, IsFlushedBy, IsRenewedBy, KeepsButPushed, Pushes, TakesPacket};
 ghost use Rattle.live_feed.specs.venue.Datagrams.{AreGenuineBytes, AcceptsTheirs, IsAnsweredAt, IsTakenBy, bytes_of};
 
@@ -74,7 +74,7 @@ fn take_one<G: Genuine, N: FeedName, W: Wait>(
 ) -> Result<Outcome, LineFault>
     requires venue { seat.old.venue ≡ cell.old.arbiter.venue }
     requires genuine { IsGenuinePacket G.Genuine seat.old.venue packet.now }
-    ensures takes { (h : History) → FitsCell cell.old h
+    ensures takes { (h : History) → CellFitsHistory cell.old h
         → TakesPacket seat.old.line packet.now result h cell.old cell.new }
     ensures kept { KeepsButPushed cell.old cell.new }
     ensures seat { seat.new ≡ seat_after seat.old packet.now result }

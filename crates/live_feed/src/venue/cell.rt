@@ -11,7 +11,7 @@ ghost use Rattle.line_arbiter.specs.Counts.{count_on};
 ghost use Rattle.live_feed.specs.Premises.{AreInSequence, IsGenuinePacket};
 ghost use Rattle.live_feed.specs.venue.Seats.{seat_after};
 ghost use Rattle.live_feed.specs.venue.Sums.{sums_on};
-ghost use Rattle.live_feed.specs.venue.Cells.{FitsCell, VenueLockInvariant, new_cell};
+ghost use Rattle.live_feed.specs.venue.Cells.{CellFitsHistory, VenueLockInvariant, new_cell};
 ghost use Rattle.live_feed.specs.venue.Sections.{TakesPacket, AcceptsTheirPacket, KeepsButPackets, TakesAndPushes, KeepsButPushed, IsLeft, PushesOne, KeepsButSent, RenewsSession, BeginsNext, RequestsGap};
 
 use crate::feed_name::FeedName;
@@ -186,7 +186,7 @@ impl<G: Genuine, N: FeedName> VenueCell<G, N> {
     ) -> Result<Outcome, LineFault>
         requires venue { seat.old.venue ≡ self.old.arbiter.venue }
         requires genuine { IsGenuinePacket G.Genuine seat.old.venue packet.now }
-        ensures packet { (h : History) → FitsCell self.old h
+        ensures packet { (h : History) → CellFitsHistory self.old h
             → TakesPacket seat.old.line packet.now result h self.old self.new }
         ensures kept { KeepsButPackets self.old self.new }
         ensures seat { seat.new ≡ seat_after seat.old packet.now result }
@@ -219,7 +219,7 @@ impl<G: Genuine, N: FeedName> VenueCell<G, N> {
     ) -> Option<Outcome>
         requires venue { seat.old.venue ≡ self.old.arbiter.venue }
         requires genuine { IsGenuinePacket G.Genuine seat.old.venue packet.now }
-        ensures packet { (h : History) → FitsCell self.old h
+        ensures packet { (h : History) → CellFitsHistory self.old h
             → IfSome result (λ outcome. TakesAndPushes seat.old.line packet.now outcome h
             self.old self.new) }
         ensures kept { IfSome result (λ _. KeepsButPushed self.old self.new) }
@@ -245,7 +245,7 @@ impl<G: Genuine, N: FeedName> VenueCell<G, N> {
 
     /// Pushes the next item of the venue, where one is ready and the lane has room.
     pub fn push_one<W: Wait>(&mut self, rt: &W) -> Result<u64, Unsent>
-        ensures push { (h : History) → FitsCell self.old h
+        ensures push { (h : History) → CellFitsHistory self.old h
             → PushesOne (AreInSequence G.Genuine) result h self.old self.new }
         ensures kept { KeepsButSent self.old self.new }
         ensures count { IfOk result (λ _. length self.new.lane.items
@@ -269,7 +269,7 @@ impl<G: Genuine, N: FeedName> VenueCell<G, N> {
     /// forgotten. A refused call changes nothing.
     pub fn renew(&mut self, session: [u8; 10]) -> Result<u64, RenewFault>
         requires { G.sessions self.old.arbiter.venue (ordinal_of self.old.arbiter + 1) session }
-        ensures renew { (h : History) → FitsCell self.old h
+        ensures renew { (h : History) → CellFitsHistory self.old h
             → RenewsSession session result h self.old self.new }
         ensures ok { OnOk result (BeginsNext self.old self.new) }
         ensures ordinal { IfOk result (λ ordinal. ordinal ≡ ordinal_of self.old.arbiter + 1) }

@@ -2,7 +2,7 @@
 
 ghost use Rattle.std.specs.Prelude.{◌≡◌};
 ghost use Rattle.line_arbiter.specs.Histories.{History};
-ghost use Rattle.live_feed.specs.venue.Cells.{FitsCell};
+ghost use Rattle.live_feed.specs.venue.Cells.{CellFitsHistory};
 ghost use Rattle.live_feed.specs.venue.Statuses.{ShowsHistory, ShowsLine, status_on};
 
 use crate::feed_name::FeedName;
@@ -47,7 +47,7 @@ fn line_status<G: Genuine, N: FeedName>(
     refused: &RefusedLines,
     line: LineId,
 ) -> LineStatus
-    ensures { (h : History) → FitsCell cell.now h → ShowsLine h line result }
+    ensures { (h : History) → CellFitsHistory cell.now h → ShowsLine h line result }
 {
     LineStatus {
         wins: cell.wins(line),
@@ -62,7 +62,7 @@ impl VenueStatus {
         cell: &VenueCell<G, N>,
         refused: &RefusedLines,
     ) -> VenueStatus
-        ensures shows { (h : History) → FitsCell cell.now h
+        ensures shows { (h : History) → CellFitsHistory cell.now h
             → ShowsHistory cell.now.arbiter.window h result }
         ensures sent { result.cursors.sent ≡ cell.now.arbiter.sent }
     {

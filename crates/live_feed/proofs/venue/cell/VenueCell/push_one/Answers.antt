@@ -2,7 +2,7 @@ use Rattle.std.proofs.Common.{ℕ, ◌++◌, ◌∷◌, [], List, Ok, Err, refl,
 use Rattle.feed_types.specs.declared.item.Numbered.{Numbered}
 use Rattle.fifo_lane.specs.Lane.{LaneEnd}
 use Rattle.live_feed.specs.Premises.{AreInSequence}
-use Rattle.live_feed.specs.venue.Cells.{CellState, FitsCell}
+use Rattle.live_feed.specs.venue.Cells.{CellState, CellFitsHistory}
 use Rattle.live_feed.specs.venue.Sections.{PushesOne}
 use Rattle.live_feed.specs.declared.unsent.Unsent.TheVariants as unsent
 use Rattle.live_feed.proofs.CellMoves.{may_push, push_fits, push_full, push_kept, push_nothing, pushes}
@@ -10,7 +10,7 @@ use Rattle.live_feed.proofs.venue.cell.VenueCell.push_one.Goals as goal
 
 pub returns-in_default-clause-push : goal.returns-in_default-clause-push
 returns-in_default-clause-push g c = λ h fits.
-    let f = subst (λ (v : CellState). FitsCell v h) (sym c.self.view_is) fits in
+    let f = subst (λ (v : CellState). CellFitsHistory v h) (sym c.self.view_is) fits in
     let may : ℕ → List Numbered → Type 0 = λ venue items. AreInSequence g.G.Genuine venue items in
     subst (λ (v : CellState). PushesOne may (Err unsent.Nothing) h v v) c.self.view_is
     (push_nothing _ h f may (sym c.in_default.is ∙ c.next_ready.ensures.stream h.present.packets f.history.present))
@@ -33,7 +33,7 @@ invariant_of-self g c =
 
 pub returns-in-Ok-clause-push : goal.returns-in-Ok-clause-push
 returns-in-Ok-clause-push g c = λ h fits.
-    let f = subst (λ (v : CellState). FitsCell v h) (sym c.self.view_is) fits in
+    let f = subst (λ (v : CellState). CellFitsHistory v h) (sym c.self.view_is) fits in
     let packets = h.present.packets in
     let may : ℕ → List Numbered → Type 0 = λ venue items. AreInSequence g.G.Genuine venue items in
     let new : CellState = record {
@@ -50,7 +50,7 @@ returns-in-Ok-clause-push g c = λ h fits.
 
 pub returns-in-Err-clause-push : goal.returns-in-Err-clause-push
 returns-in-Err-clause-push g c = λ h fits.
-    let f = subst (λ (v : CellState). FitsCell v h) (sym c.self.view_is) fits in
+    let f = subst (λ (v : CellState). CellFitsHistory v h) (sym c.self.view_is) fits in
     let may : ℕ → List Numbered → Type 0 = λ venue items. AreInSequence g.G.Genuine venue items in
     let left : LaneEnd Numbered → CellState = λ e. record {
       arbiter = c.self.inside.lines;

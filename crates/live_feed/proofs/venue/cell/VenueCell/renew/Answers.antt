@@ -1,6 +1,6 @@
 use Rattle.std.proofs.Common.{◌+◌, Ok, refl, sym, subst}
 use Rattle.line_arbiter.specs.States.{ordinal_of}
-use Rattle.live_feed.specs.venue.Cells.{CellState, FitsCell}
+use Rattle.live_feed.specs.venue.Cells.{CellState, CellFitsHistory}
 use Rattle.live_feed.specs.venue.Sections.{RenewsSession}
 use Rattle.live_feed.proofs.CellMoves.{renewed_kept, renews}
 use Rattle.live_feed.proofs.venue.cell.VenueCell.renew.Goals as goal
@@ -17,7 +17,7 @@ invariant_of-self g c =
 
 pub returns-in-Ok-clause-renew : goal.returns-in-Ok-clause-renew
 returns-in-Ok-clause-renew g c = λ h fits.
-    let f = subst (λ (v : CellState). FitsCell v h) (sym c.self.view_is) fits in
+    let f = subst (λ (v : CellState). CellFitsHistory v h) (sym c.self.view_is) fits in
     let e = c.in-Ok.ensures in
     let new : CellState = record {
       arbiter = c.renew.new.self;

@@ -2,7 +2,7 @@ use Rattle.std.proofs.Common.{ℕ, Ok, Err, refl, sym, ap, subst, ◌∙◌}
 use Rattle.feed_types.specs.declared.line.LineId.{LineId}
 use Rattle.live_feed.specs.Premises.{BringExactly, IsGenuinePacket}
 use Rattle.live_feed.specs.venue.Sums.{line_sums_after}
-use Rattle.live_feed.specs.venue.Cells.{CellState, FitsCell}
+use Rattle.live_feed.specs.venue.Cells.{CellState, CellFitsHistory}
 use Rattle.live_feed.specs.venue.Sections.{TakesPacket}
 use Rattle.live_feed.proofs.CellAnswers.{accepts}
 use Rattle.live_feed.proofs.CellMoves.{no_more, packet_fits, packet_kept, takes}
@@ -24,7 +24,7 @@ invariant_of-self g c =
 
 pub returns-in-Ok-clause-packet : goal.returns-in-Ok-clause-packet
 returns-in-Ok-clause-packet g c = λ h fits.
-    let f = subst (λ (v : CellState). FitsCell v h) (sym c.self.view_is) fits in
+    let f = subst (λ (v : CellState). CellFitsHistory v h) (sym c.self.view_is) fits in
     let e = c.in-Ok.ensures in
     let packets = h.present.packets in
     let sums = c.add.ensures ∙ ap (λ (l : LineId). line_sums_after l c.args.packet.now (Ok c.in-Ok.outcome)
@@ -42,7 +42,7 @@ returns-in-Ok-clause-packet g c = λ h fits.
 
 pub returns-in-Err-clause-packet : goal.returns-in-Err-clause-packet
 returns-in-Err-clause-packet g c = λ h fits.
-    let f = subst (λ (v : CellState). FitsCell v h) (sym c.self.view_is) fits in
+    let f = subst (λ (v : CellState). CellFitsHistory v h) (sym c.self.view_is) fits in
     let e = c.in-Err.ensures in
     let packets = h.present.packets in
     let new : CellState = record {

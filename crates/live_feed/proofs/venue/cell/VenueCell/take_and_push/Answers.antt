@@ -4,7 +4,7 @@ use Rattle.feed_types.specs.declared.item.Numbered.{Numbered}
 use Rattle.fifo_lane.specs.Lane.{LaneEnd}
 use Rattle.line_arbiter.specs.declared.outcome.Outcome.TheVariants.{Taken}
 use Rattle.live_feed.specs.Premises.{AreInSequence, IsGenuinePacket}
-use Rattle.live_feed.specs.venue.Cells.{CellState, FitsCell}
+use Rattle.live_feed.specs.venue.Cells.{CellState, CellFitsHistory}
 use Rattle.live_feed.specs.venue.Sections.{TakesAndPushes}
 use Rattle.live_feed.proofs.CellMoves.{brings_next, first_number, given_after, may_pass, more_kept, pass_fits, passes, sent_one, taken_one}
 use Rattle.live_feed.proofs.venue.cell.VenueCell.take_and_push.Given.{Over}
@@ -65,7 +65,7 @@ invariant_of-self-2 g c =
 
 pub returns-clause-packet : goal.returns-clause-packet
 returns-clause-packet g c = λ h fits.
-    let f = subst (λ (v : CellState). FitsCell v h) (sym c.self.view_is) fits in
+    let f = subst (λ (v : CellState). CellFitsHistory v h) (sym c.self.view_is) fits in
     let e = c.take_in_order-outcome.ensures in
     let packets = h.present.packets in
     let line = c.line-line.result in
