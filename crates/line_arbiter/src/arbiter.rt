@@ -163,7 +163,6 @@ impl<G: Genuine> Arbiter<G> {
     /// nothing. The refusals, in this order: another session's packet; messages at the announced
     /// end or past it; a held message that reads otherwise; a heartbeat past the end; an end that
     /// differs from the announced one, or is at a message that was taken or before it.
-    /// differs from the announced one, or lies at a message that was taken or before it.
     #[inline(always)]
     pub fn take(&mut self, line: LineId, packet: &Packet<'_>) -> Result<Outcome, LineFault>
         ensures outcome { (packets : List Arrival) → Fits self.old packets
