@@ -17,7 +17,7 @@ pub struct CapturedLine {
     pub line: LineId,
 }
 
-fn is_zeros(address: &Address) -> bool
+pub(crate) fn is_zeros(address: &Address) -> bool
     ensures { IsTrue result ↔ IsZeros address.now }
 {
     match address {
@@ -47,9 +47,9 @@ fn takes(line: &CapturedLine, datagram: &Datagram<'_>) -> bool
         && (are_same_address(&line.address, &datagram.address) || is_zeros(&line.address))
 }
 
-/// Returns the line of the list that a datagram goes to: the first that takes it, or `None`.
+/// The line of the list that a datagram goes to: the first that takes it, or `None`.
 #[inline(always)]
-pub fn line_to(lines: &[CapturedLine], datagram: &Datagram<'_>) -> Option<CapturedLine>
+pub(crate) fn line_to(lines: &[CapturedLine], datagram: &Datagram<'_>) -> Option<CapturedLine>
     ensures some { IfSome result (GoesTo lines.now (datagram_content datagram.now)) }
     ensures none { IfNone result (GoesToNone lines.now (datagram_content datagram.now)) }
 {
