@@ -10,7 +10,7 @@ use Rattle.packet_capture.specs.declared.datagram.Address.{Address}
 use Rattle.packet_capture.specs.Datagrams.{DatagramContent}
 use Rattle.line_captures.specs.declared.captured_line.CapturedLine.{CapturedLine}
 use Rattle.line_captures.specs.Lines.{IsZeros, Takes, GoesTo, GoesToNone}
-use Rattle.line_captures.specs.Tables.{AreStartsFrom, NoneBetween, key_of}
+use Rattle.line_captures.specs.Tables.{AreStartsFrom, NoneBetween, table_key}
 use Rattle.line_captures.proofs.Finding.{at_index}
 
 below_or_not : (m n : ℕ) → (m < n) ⊎ (n ≤ m)
@@ -58,7 +58,7 @@ rest_all xs n = ap (λ (m : ℕ). take m (drop n xs)) (sym (length-drop n xs)) �
 
 -- where the search begins, no line before it takes the datagram
 none_before : (lines : List CapturedLine) (d : DatagramContent) (starts : List ℕ) (key start : ℕ)
-    → AreStartsFrom 0 lines starts → key ≡ key_of d.address d.port → start ≡ slice_index starts key
+    → AreStartsFrom 0 lines starts → key ≡ table_key d.address d.port → start ≡ slice_index starts key
     → NoneBetween lines d 0 start
 none_before lines d starts key start are is at =
     let N : ℕ → Type 0 = λ n. NoneBetween lines d 0 n in
@@ -66,7 +66,7 @@ none_before lines d starts key start are is at =
 
 pub found_first : (lines seen : List CapturedLine) (d : DatagramContent) (starts : List ℕ) (key start : ℕ)
     (r : Option CapturedLine) → lines ≡ seen → AreStartsFrom 0 lines starts
-    → key ≡ key_of d.address d.port → start ≡ slice_index starts key
+    → key ≡ table_key d.address d.port → start ≡ slice_index starts key
     → IfSome r (GoesTo (take (length lines - start) (drop start lines)) d) → IfSome r (GoesTo seen d)
 found_first lines seen d starts key start None same are is at h = tt
 found_first lines seen d starts key start (Some line) same are is at h =
@@ -75,7 +75,7 @@ found_first lines seen d starts key start (Some line) same are is at h =
 
 pub found_none : (lines seen : List CapturedLine) (d : DatagramContent) (starts : List ℕ) (key start : ℕ)
     (r : Option CapturedLine) → lines ≡ seen → AreStartsFrom 0 lines starts
-    → key ≡ key_of d.address d.port → start ≡ slice_index starts key
+    → key ≡ table_key d.address d.port → start ≡ slice_index starts key
     → IfNone r (GoesToNone (take (length lines - start) (drop start lines)) d) → IfNone r (GoesToNone seen d)
 found_none lines seen d starts key start (Some line) same are is at h = tt
 found_none lines seen d starts key start None same are is at h =
@@ -84,7 +84,7 @@ found_none lines seen d starts key start None same are is at h =
 
 -- ---- the starts
 
-key_small : (d : DatagramContent) → key_of d.address d.port < 256
+key_small : (d : DatagramContent) → table_key d.address d.port < 256
 key_small d = omega arith
 
 -- all keys have one start, of a place that is no more than this one
@@ -95,22 +95,22 @@ one_start lines place start starts all few within = record {
       let at : slice_index starts key ≡ start = ap (λ (xs : List ℕ). slice_index xs key) all ∙ get_or-replicate 256 key start 0 small in
       omega (arith, at, few, within);
   none = λ d k line from before there takes.
-      let key = key_of d.address d.port in
+      let key = table_key d.address d.port in
       let at : slice_index starts key ≡ start = ap (λ (xs : List ℕ). slice_index xs key) all ∙ get_or-replicate 256 key start 0 (key_small d) in
       absurd (omega (arith, at, few, from, before));
 }
 
 -- a line that takes a datagram, and isn't of zeros, has its key
 takes_key : (line : CapturedLine) (d : DatagramContent) → (IsZeros line.address → ⊥) → Takes line d
-    → key_of line.address line.port ≡ key_of d.address d.port
+    → table_key line.address line.port ≡ table_key d.address d.port
 takes_key line d other t = elim t.address [
-  | inl same ↦ ap (λ (a : Address). key_of a line.port) same ∙ ap (λ (n : ℕ). key_of d.address n) t.port
+  | inl same ↦ ap (λ (a : Address). table_key a line.port) same ∙ ap (λ (n : ℕ). table_key d.address n) t.port
   | inr zeros ↦ absurd (other zeros)
 ]
 
 -- one key has the start of a line that isn't of zeros
 pub own_start : (lines : List CapturedLine) (place key start : ℕ) (line : CapturedLine) (starts : List ℕ)
-    → length starts ≡ 256 → key ≡ key_of line.address line.port → key < 256 → start ≤ place
+    → length starts ≡ 256 → key ≡ table_key line.address line.port → key < 256 → start ≤ place
     → place < length lines → line ≡ get_or lines place line → (IsZeros line.address → ⊥)
     → AreStartsFrom (place + 1) lines starts → AreStartsFrom place lines (set starts key start)
 own_start lines place key start line starts len is small few within at other later = record {
@@ -123,12 +123,12 @@ own_start lines place key start line starts len is small few within at other lat
         let old = later.within k less in
         omega (arith, there, old)
   ];
-  none = λ d k one from before there takes. elim (eqb_tells (key_of d.address d.port) key) [
+  none = λ d k one from before there takes. elim (eqb_tells (table_key d.address d.port) key) [
     | inl same ↦
-        let now : slice_index (set starts key start) (key_of d.address d.port) ≡ start = ap (λ (m : ℕ). slice_index (set starts key start) m) same.1 ∙ get_or-set_same starts key start 0 (omega (arith, len, small)) in
+        let now : slice_index (set starts key start) (table_key d.address d.port) ≡ start = ap (λ (m : ℕ). slice_index (set starts key start) m) same.1 ∙ get_or-set_same starts key start 0 (omega (arith, len, small)) in
         absurd (omega (arith, now, few, from, before))
     | inr unlike ↦
-        let now : slice_index (set starts key start) (key_of d.address d.port) ≡ slice_index starts (key_of d.address d.port) = get_or-set_other starts key (key_of d.address d.port) start 0 unlike.1 in
+        let now : slice_index (set starts key start) (table_key d.address d.port) ≡ slice_index starts (table_key d.address d.port) = get_or-set_other starts key (table_key d.address d.port) start 0 unlike.1 in
         elim (eqb_tells k place) [
           | inl here ↦
               let it : one ≡ line = same_Some one line (there ∙ ap (λ (m : ℕ). slice_get lines m) here.1 ∙ sym (at_index lines place line within at)) in
@@ -137,7 +137,7 @@ own_start lines place key start line starts len is small few within at other lat
           | inr past ↦
               let beyond = past.1 in
               let more : place + 1 ≤ k = omega (arith, from, beyond) in
-              let less : k < slice_index starts (key_of d.address d.port) = omega (arith, before, now) in
+              let less : k < slice_index starts (table_key d.address d.port) = omega (arith, before, now) in
               later.none d k one more less there takes
         ]
   ];

@@ -13,8 +13,8 @@ last_byte (V4 bytes) = slice_index bytes 3
 last_byte (V6 bytes) = slice_index bytes 15
 
 -- the key of an address and port
-abbrev pub key_of : Address → ℕ → ℕ
-key_of address port = (last_byte address + 2 * port) % 256
+abbrev pub table_key : Address → ℕ → ℕ
+table_key address port = (last_byte address + 2 * port) % 256
 
 -- from one place on and before another no line of the list takes the datagram
 abbrev pub NoneBetween : List CapturedLine → DatagramContent → ℕ → ℕ → Type 0
@@ -27,8 +27,4 @@ NoneBetween lines d from to =
 pub record AreStartsFrom (from : ℕ) (lines : List CapturedLine) (starts : List ℕ) : Type 0 where
   pub within : (key : ℕ) → key < 256 → slice_index starts key ≤ length lines
   pub none : (d : DatagramContent)
-      → NoneBetween lines d from (slice_index starts (key_of d.address d.port))
-
--- the same of the whole list
-abbrev pub AreStarts : List CapturedLine → List ℕ → Type 0
-AreStarts lines starts = AreStartsFrom 0 lines starts
+      → NoneBetween lines d from (slice_index starts (table_key d.address d.port))

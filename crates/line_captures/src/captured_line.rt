@@ -26,14 +26,13 @@ pub(crate) fn is_zeros(address: &Address) -> bool
     }
 }
 
-/// Whether two addresses are the same. Those of IPv4 are compared byte by byte, which the compiler
-/// makes one comparison.
+/// Whether two addresses are the same. Those of IPv4 are compared as numbers, which takes one step.
 fn are_same_address(one: &Address, other: &Address) -> bool
     ensures { IsTrue result ↔ (one.now ≡ other.now) }
 {
     match (one, other) {
         (Address::V4([a, b, c, d]), Address::V4([e, f, g, h])) => {
-            a == e && b == f && c == g && d == h
+            u32::from_be_bytes([*a, *b, *c, *d]) == u32::from_be_bytes([*e, *f, *g, *h])
         }
         _ => one == other,
     }

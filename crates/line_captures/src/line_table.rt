@@ -2,7 +2,7 @@
 ghost use Rattle.std.specs.Prelude.{◌≡◌, ◌+◌, ◌<◌, ◌≤◌, IfSome, IfNone, length};
 ghost use Rattle.packet_capture.specs.Datagrams.{datagram_content};
 ghost use Rattle.line_captures.specs.Lines.{GoesTo, GoesToNone};
-ghost use Rattle.line_captures.specs.Tables.{key_of, AreStarts, AreStartsFrom};
+ghost use Rattle.line_captures.specs.Tables.{table_key, AreStartsFrom};
 
 use crate::captured_line::{CapturedLine, is_zeros, line_to};
 use packet_capture::{Address, Datagram};
@@ -26,19 +26,19 @@ pub struct LineTable<'a> {
 impl<'a> Model for LineTable<'a> {
     ghost use Rattle.std.specs.Prelude.{List};
     ghost use Rattle.line_captures.specs.declared.captured_line.CapturedLine.{CapturedLine};
-    ghost use Rattle.line_captures.specs.Tables.{AreStarts};
+    ghost use Rattle.line_captures.specs.Tables.{AreStartsFrom};
 
     ghost Value = { List CapturedLine };
 
     ghost view = { λ t. t.lines.now };
 
-    ghost invariant = { λ t. AreStarts t.lines.now t.starts };
+    ghost invariant = { λ t. AreStartsFrom 0 t.lines.now t.starts };
 }
 
 /// The key of an address and port, below 256.
 #[inline(always)]
-fn key_of(address: &Address, port: u16) -> usize
-    ensures value { result ≡ key_of address.now port }
+fn table_key(address: &Address, port: u16) -> usize
+    ensures value { result ≡ table_key address.now port }
     ensures small { result < 256 }
 {
     let last = match address {
@@ -65,13 +65,13 @@ fn note_line(starts: &mut [u8; KEYS], lines: &[CapturedLine], place: usize)
     if is_zeros(&line.address) {
         starts.fill(start_at(place));
     } else {
-        starts[key_of(&line.address, line.port)] = start_at(place);
+        starts[table_key(&line.address, line.port)] = start_at(place);
     }
 }
 
 /// Where the search begins, by the key.
 fn starts_of(lines: &[CapturedLine]) -> [u8; KEYS]
-    ensures { AreStarts lines.now result }
+    ensures { AreStartsFrom 0 lines.now result }
 {
     let mut starts = [start_at(lines.len()); KEYS];
     let mut place = lines.len();
@@ -99,7 +99,7 @@ impl<'a> LineTable<'a> {
         ensures some { IfSome result (GoesTo self.now (datagram_content datagram.now)) }
         ensures none { IfNone result (GoesToNone self.now (datagram_content datagram.now)) }
     {
-        let start = self.starts[key_of(&datagram.address, datagram.port)];
+        let start = self.starts[table_key(&datagram.address, datagram.port)];
         line_to(&self.lines[usize::from(start)..], datagram)
     }
 }

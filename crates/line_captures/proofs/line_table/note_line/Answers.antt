@@ -10,7 +10,7 @@ returns-then-is_zeros c =
 
 pub returns-else-is_zeros : goal.returns-else-is_zeros
 returns-else-is_zeros c =
-    own_start c.args.lines.now c.args.place c.key_of.result c.start_at-else-is_zeros.result c.index-lines-place.result
-    c.args.starts.now (search rules) c.key_of.ensures.value c.key_of.ensures.small c.start_at-else-is_zeros.ensures
+    own_start c.args.lines.now c.args.place c.table_key.result c.start_at-else-is_zeros.result c.index-lines-place.result
+    c.args.starts.now (search rules) c.table_key.ensures.value c.table_key.ensures.small c.start_at-else-is_zeros.ensures
     c.requires.place c.index-lines-place.is
     (λ zeros. let yes = c.is_zeros.ensures.1 zeros in let not = c.if-is_zeros.false in absurd cc) c.requires.later
