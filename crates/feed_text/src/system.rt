@@ -13,7 +13,6 @@ use std::sync::ledger::Ledger;
 
 /// A reader of std, as standard input. Its calls are counted. The bytes that they read are known
 /// where std says what the reader has left; of a file, a pipe or a terminal it doesn't.
-/// reader has left; of a file, a pipe or a terminal it doesn't.
 #[derive(Drop)]
 pub struct StreamIn<R, C: Ledger, L: Ledger> {
     reader: R,

@@ -45,8 +45,8 @@ impl<const ROOM: usize> Model for ReadBuffer<ROOM> {
         × (length w.bytes.items ≤ ROOM) × (ROOM ≤ vec_capacity w.bytes) };
 }
 
-/// Makes the bytes so long, within their memory, where they are shorter: memory is touched once it is
-/// used.
+/// Lengthens the bytes to `len`, by zeros, where they are shorter. Their memory is there, and is touched
+/// once it is used.
 fn lengthen(bytes: &mut Vec<u8>, len: usize)
     requires { len ≤ vec_capacity bytes.old }
     ensures long { len ≤ length bytes.new.items }
@@ -76,56 +76,29 @@ fn bring_to_front(bytes: &mut Vec<u8>, start: usize, end: usize)
     }
 }
 
-/// Moves the bytes from `start` to `end` to the front, and makes room after them for those that one
-/// call of a reader is asked for. Returns their new start and end.
-fn make_room(bytes: &mut Vec<u8>, start: usize, end: usize, most: usize) -> (usize, usize)
-    requires order { start ≤ end }
-    requires within { end ≤ length bytes.old.items }
-    requires len { length bytes.old.items ≤ most }
-    requires capacity { most ≤ vec_capacity bytes.old }
-    requires not_full { end - start < most }
-    ensures order { result.0 ≤ result.1 }
-    ensures room { result.1 < length bytes.new.items }
-    ensures same { slice_range bytes.new.items result.0 result.1
-        ≡ slice_range bytes.old.items start end }
-    ensures len { length bytes.new.items ≤ most }
-    ensures capacity { most ≤ vec_capacity bytes.new }
-{
-    bring_to_front(bytes, start, end);
-    let end = end - start;
-    lengthen(bytes, end + MOST_READ.min(most - end));
-    (0, end)
-}
-
-/// Makes room for `wanted` bytes after those from `start` to `end`, which are moved to the front where
-/// there is none, and says where they lie.
-fn make_room_for(
+/// Moves the bytes from `start` to `end` to the front, and makes room for `wanted` after them. Returns
+/// where they end.
+fn make_room<const ROOM: usize>(
     bytes: &mut Vec<u8>,
     start: usize,
     end: usize,
     wanted: usize,
-    most: usize,
-) -> (usize, usize)
+) -> usize
     requires order { start ≤ end }
     requires within { end ≤ length bytes.old.items }
-    requires len { length bytes.old.items ≤ most }
-    requires capacity { most ≤ vec_capacity bytes.old }
-    requires fits { end - start + wanted ≤ most }
-    ensures order { result.0 ≤ result.1 }
-    ensures room { result.1 + wanted ≤ length bytes.new.items }
-    ensures same { slice_range bytes.new.items result.0 result.1
-        ≡ slice_range bytes.old.items start end }
-    ensures len { length bytes.new.items ≤ most }
-    ensures capacity { most ≤ vec_capacity bytes.new }
+    requires len { length bytes.old.items ≤ ROOM }
+    requires capacity { ROOM ≤ vec_capacity bytes.old }
+    requires fits { end - start + wanted ≤ ROOM }
+    ensures end { result ≡ end - start }
+    ensures room { result + wanted ≤ length bytes.new.items }
+    ensures same { slice_range bytes.new.items 0 result ≡ slice_range bytes.old.items start end }
+    ensures len { length bytes.new.items ≤ ROOM }
+    ensures capacity { ROOM ≤ vec_capacity bytes.new }
 {
-    if wanted <= most - end {
-        lengthen(bytes, end + wanted);
-        return (start, end);
-    }
     bring_to_front(bytes, start, end);
     let end = end - start;
     lengthen(bytes, end + wanted);
-    (0, end)
+    end
 }
 
 /// Puts more bytes from `end` on.
@@ -212,8 +185,8 @@ impl<const ROOM: usize> ReadBuffer<ROOM> {
         requires { length self.old + length bytes.now ≤ ROOM }
         ensures { self.new ≡ self.old ++ bytes.now }
     {
-        let (start, end) = make_room_for(&mut self.bytes, self.start, self.end, bytes.len(), ROOM);
-        self.start = start;
+        let end = make_room::<ROOM>(&mut self.bytes, self.start, self.end, bytes.len());
+        self.start = 0;
         place(&mut self.bytes, end, bytes);
         self.end = end + bytes.len();
     }
@@ -242,8 +215,9 @@ impl<const ROOM: usize> ReadBuffer<ROOM> {
         ensures fails { result ≡ ReadStep.Failed → R.fails reader.old reader.new }
         ensures kept { (result ≡ ReadStep.Failed → ⊥) → R.failures reader.new ≡ R.failures reader.old }
     {
-        let (start, end) = make_room(&mut self.bytes, self.start, self.end, ROOM);
-        self.start = start;
+        let wanted = MOST_READ.min(ROOM - self.len());
+        let end = make_room::<ROOM>(&mut self.bytes, self.start, self.end, wanted);
+        self.start = 0;
         self.end = end;
         match read_behind(reader, &mut self.bytes, end) {
             Ok(0) => ReadStep::Ended,

@@ -29,10 +29,6 @@ below [] k y e = absurd (none-some y (sym e))
 below (x ∷ xs) zero y e = omega arith
 below (x ∷ xs) (suc k) y e = let h = below xs k y e in omega arith
 
--- and no place has it
-pub none_at_all : {X : Type 0} (T : X → Type 0) (xs : List X) (n : ℕ) → length xs ≤ n → ((k : ℕ) (y : X) → k < n → Some y ≡ slice_get xs k → T y → ⊥) → (k : ℕ) (y : X) → Some y ≡ slice_get xs k → T y → ⊥
-none_at_all T xs n most none k y there t = let h = below xs k y there in none k y (omega arith) there t
-
 -- a front of a list
 in_front : {X : Type 0} (xs : List X) (n k : ℕ) → k < n → slice_get (take n xs) k ≡ slice_get xs k
 in_front xs zero k less = absurd (omega arith)

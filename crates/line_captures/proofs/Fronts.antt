@@ -1,6 +1,6 @@
 -- What stands at the front of bytes: a piece of some bytes, of which there are as many, or less than the
 -- longest one.
-use Rattle.std.proofs.Common.{◌≡◌, ℕ, ◌<◌, ◌≤◌, List, [], ◌∷◌, ◌++◌, length, take, drop, refl, sym, ap, subst, ◌∙◌, arith, inl, inr, append-nil, length-take-le, length-drop}
+use Rattle.std.proofs.Common.{◌≡◌, ℕ, ◌<◌, ◌≤◌, List, [], ◌∷◌, ◌++◌, length, take, drop, refl, sym, ap, ◌∙◌, arith, inl, inr, append-nil, length-take-le}
 use Rattle.std.proofs.lemmas.List.{drop-append-le}
 use Rattle.packet_capture.specs.declared.fields.ByteOrder.{ByteOrder}
 use Rattle.packet_capture.specs.declared.fields.ByteOrder.TheVariants.{Big}
@@ -16,7 +16,7 @@ use Rattle.feed_text.specs.Capture.{CaptureRecord}
 use Rattle.line_captures.specs.declared.captured_line.CapturedLine.{CapturedLine}
 use Rattle.line_captures.specs.Records.{AreOfFrame, AreOfFrames}
 use Rattle.line_captures.specs.Readers.{CapturePoint, TakesPieces}
-use Rattle.line_captures.specs.Steps.{TakesPiece}
+use Rattle.line_captures.specs.Steps.{PutsPiece}
 
 -- ---- pieces
 
@@ -37,13 +37,6 @@ len_in (InSection order) before bytes p after h = block_len order before bytes p
 
 pub piece_len : (before : Context) (bytes : List ℕ) (p : PieceContent) (after : Context) → IsPiece before bytes p after → (0 < p.len) × (p.len ≤ length bytes)
 piece_len before bytes p after h = len_in before.format before bytes p after h
-
--- what is left is shorter
-pub shorter : (before : Context) (bytes : List ℕ) (p : PieceContent) (after : Context) → IsPiece before bytes p after → length (drop p.len bytes) < length bytes
-shorter before bytes p after h =
-    let len = piece_len before bytes p after h in
-    let left = length-drop p.len bytes in
-    omega (arith, len.0, len.1, left)
 
 -- ---- less than a piece
 
@@ -85,24 +78,20 @@ pub one_frame : (lines : List CapturedLine) (f : FrameContent) (records : List C
 one_frame lines f records h = (records, [], h, refl, sym (append-nil records))
 
 -- a piece is pieces
-pub takes_one : ((before after : Context) (bytes more : List ℕ) (p : PieceContent) → IsPiece before bytes p after → IsPiece before (bytes ++ more) p after) → (lines : List CapturedLine) (a b : CapturePoint) (bytes p rest q : List ℕ) → TakesPiece lines a bytes p b rest q → TakesPieces lines a bytes p b rest q
-takes_one law lines a b bytes p rest q t =
-    let left : (more : List ℕ) → rest ++ more ≡ drop t.piece.len (bytes ++ more) = λ more.
-    ap (λ (xs : List ℕ). xs ++ more) t.rest_is ∙ sym (drop-append-le t.piece.len bytes more (piece_len a.context bytes t.piece b.context t.is).1) in
+pub takes_one : ((before after : Context) (bytes more : List ℕ) (p : PieceContent)
+    → IsPiece before bytes p after → IsPiece before (bytes ++ more) p after)
+    → (lines : List CapturedLine) (a b : CapturePoint) (bytes pending given : List ℕ) (p : PieceContent)
+    → IsPiece a.context bytes p b.context → PutsPiece lines p a.progress pending b.progress given
+    → TakesPieces lines a bytes pending b (drop p.len bytes) given
+takes_one law lines a b bytes pending given p is puts =
+    let left : (more : List ℕ) → drop p.len bytes ++ more ≡ drop p.len (bytes ++ more) = λ more.
+    sym (drop-append-le p.len bytes more (piece_len a.context bytes p b.context is).1) in
     record {
-      pieces = t.piece ∷ [];
-      counts = t.counts;
-      are = λ more. (b.context, law a.context b.context bytes more t.piece t.is, (refl, left more));
-      records = t.records;
-      of_frames = t.of_frames;
-      each = t.each;
-      given_is = t.given_is;
+      pieces = p ∷ [];
+      counts = puts.counts;
+      are = λ more. (b.context, law a.context b.context bytes more p is, (refl, left more));
+      records = puts.records;
+      of_frames = puts.of_frames;
+      each = puts.each;
+      given_is = puts.given_is;
     }
-
--- the same pieces, where what they leave goes by other names
-pub takes_same : (lines : List CapturedLine) (a b c : CapturePoint) (bytes p rest left q given : List ℕ) → c ≡ b → left ≡ rest → given ≡ q → TakesPieces lines a bytes p b rest q → TakesPieces lines a bytes p c left given
-takes_same lines a b c bytes p rest left q given e f g t =
-    let P : CapturePoint → Type 0 = λ z. TakesPieces lines a bytes p z rest q in
-    let Q : List ℕ → Type 0 = λ z. TakesPieces lines a bytes p c z q in
-    let S : List ℕ → Type 0 = λ z. TakesPieces lines a bytes p c left z in
-    subst S (sym g) (subst Q (sym f) (subst P (sym e) t))

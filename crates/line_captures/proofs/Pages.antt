@@ -4,10 +4,11 @@ use Rattle.std.proofs.Common.{◌+◌, ◌-◌, ◌≤◌, length-drop, slice_ra
 use Rattle.std.proofs.lemmas.List.{places, same_lists}
 use Rattle.std.specs.Prelude.{min}
 use Rattle.line_captures.specs.declared.captured_line.CapturedLine.{CapturedLine}
-use Rattle.packet_capture.specs.Captures.{Context, PieceContent, IsPiece}
+use Rattle.packet_capture.specs.declared.stop.Stop.{Stop}
+use Rattle.packet_capture.specs.Captures.{Context, PieceContent, IsPiece, StopsReading}
 use Rattle.line_captures.specs.Readers.{CapturePoint, TakesPieces}
 use Rattle.line_captures.specs.ReaderLaws.{takes_then}
-use Rattle.line_captures.specs.Steps.{TakesPiece}
+use Rattle.line_captures.specs.Steps.{PutsPiece}
 use Rattle.line_captures.proofs.Fronts.{takes_one}
 
 -- bytes after those that are filled
@@ -83,19 +84,27 @@ within_rest bytes m n few more =
     let left = length-drop m bytes in
     omega (arith, few, more, all, left)
 
+-- why there is no first piece
+pub stops_first : (a b : Context) (bytes : List ℕ) (n : ℕ) (stop : Stop) → n ≡ 0 → a ≡ b
+    → StopsReading a (take (length bytes - n) (drop n bytes)) stop → StopsReading b bytes stop
+stops_first a b bytes n stop none same h =
+    let P : Context → Type 0 = λ x. StopsReading x bytes stop in
+    let Q : List ℕ → Type 0 = λ xs. StopsReading a xs stop in
+    subst P same (subst Q (rest_whole bytes n ∙ ap (λ (m : ℕ). drop m bytes) none) h)
+
 -- pieces, and then one more
 pub takes_more : ((before after : Context) (bytes more : List ℕ) (p : PieceContent)
     → IsPiece before bytes p after → IsPiece before (bytes ++ more) p after)
-    → (lines : List CapturedLine) (a b c : CapturePoint) (bytes pending held page given : List ℕ) (m n : ℕ)
-    → held ≡ page → TakesPieces lines a bytes pending b (drop m bytes) held
-    → TakesPiece lines b (take (length bytes - m) (drop m bytes)) page c
-    (drop n (take (length bytes - m) (drop m bytes))) given
-    → TakesPieces lines a bytes pending c (drop (m + n) bytes) given
-takes_more law lines a b c bytes pending held page given m n same first next =
+    → (lines : List CapturedLine) (a b c : CapturePoint) (bytes pending held page given : List ℕ) (m : ℕ)
+    (p : PieceContent) → held ≡ page → TakesPieces lines a bytes pending b (drop m bytes) held
+    → IsPiece b.context (take (length bytes - m) (drop m bytes)) p c.context
+    → PutsPiece lines p b.progress page c.progress given
+    → TakesPieces lines a bytes pending c (drop (m + p.len) bytes) given
+takes_more law lines a b c bytes pending held page given m p same first is puts =
     let rest = take (length bytes - m) (drop m bytes) in
     let whole = rest_whole bytes m in
-    let left = rest_of_rest bytes m n ∙ ap (λ (xs : List ℕ). drop n xs) (sym whole) in
-    let one = takes_one law lines b c rest page (drop n rest) given next in
-    takes_then lines a b c bytes pending (drop m bytes) held (drop (m + n) bytes) given first
-    (takes_renamed lines b c c rest (drop m bytes) page held (drop n rest) (drop (m + n) bytes) given given
+    let left = rest_of_rest bytes m p.len ∙ ap (λ (xs : List ℕ). drop p.len xs) (sym whole) in
+    let one = takes_one law lines b c rest page given p is puts in
+    takes_then lines a b c bytes pending (drop m bytes) held (drop (m + p.len) bytes) given first
+    (takes_renamed lines b c c rest (drop m bytes) page held (drop p.len rest) (drop (m + p.len) bytes) given given
     refl (sym whole) same left refl one)

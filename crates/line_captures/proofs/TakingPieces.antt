@@ -1,19 +1,18 @@
 -- One piece taken, with its frame or without one.
-use Rattle.std.proofs.Common.{◌≡◌, ℕ, ◌<◌, ◌≤◌, List, [], ◌∷◌, ◌++◌, Option, Some, None, drop, length, refl, sym, ap, subst, ◌∙◌, append-nil, arith}
+use Rattle.std.proofs.Common.{◌≡◌, ℕ, List, [], ◌∷◌, ◌++◌, Option, Some, None, refl, sym, ap, subst, ◌∙◌, append-nil, arith}
 use Rattle.std.proofs.lemmas.List.Elements.{All-nil, All-cons}
 use Rattle.packet_capture.specs.Frames.{FrameContent}
-use Rattle.packet_capture.specs.Captures.{Context, PieceContent, IsPiece, frames_of, list_of}
+use Rattle.packet_capture.specs.Captures.{PieceContent, frames_of, list_of}
 use Rattle.feed_text.specs.Capture.{CaptureRecord, bytes_of_record}
 use Rattle.line_captures.specs.declared.captured_line.CapturedLine.{CapturedLine}
-use Rattle.line_captures.specs.Readers.{CapturePoint, point_of}
 use Rattle.line_captures.specs.Records.{AreOfFrame, AreOfFrames, IsOfLine}
 use Rattle.line_captures.specs.Counts.{CountsPieces, IsFate, count_after, passed_after, falls_after, last_after, times_of}
 use Rattle.line_captures.specs.declared.passed_over.PassedOver.{PassedOver}
 use Rattle.line_captures.specs.declared.passed_over.Progress.{Progress}
-use Rattle.line_captures.specs.Steps.{CountsFrame, PutsFrame, TakesPiece, timed_after}
+use Rattle.line_captures.specs.Steps.{CountsFrame, PutsFrame, PutsPiece, timed_after}
 use Rattle.std.specs.List.{AllZip, sum_by}
 use Rattle.std.specs.Option.{option_to_list}
-use Rattle.line_captures.proofs.Fronts.{piece_len, shorter, one_frame}
+use Rattle.line_captures.proofs.Fronts.{one_frame}
 
 -- one record added
 pub puts_one : (lines : List CapturedLine) (f : FrameContent) (r : CaptureRecord) (pending given : List ℕ) → AreOfFrame lines f (r ∷ []) → IsOfLine lines r → given ≡ pending ++ bytes_of_record r → PutsFrame lines f pending given
@@ -24,46 +23,33 @@ puts_one lines f r pending given of_frame of_line is = record {
   given_is = is ∙ ap (λ (xs : List ℕ). pending ++ xs) (sym (append-nil (bytes_of_record r)));
 }
 
-pub takes_frame : (lines : List CapturedLine) (a b : CapturePoint) (seen bytes : List ℕ) (p : PieceContent) (f : FrameContent) (pending rest put given : List ℕ) → seen ≡ bytes → IsPiece a.context seen p b.context → p.frame ≡ Some f → rest ≡ drop p.len bytes → PutsFrame lines f pending put → given ≡ put → CountsPieces lines a.progress (p ∷ []) b.progress → TakesPiece lines a bytes pending b rest given
-takes_frame lines a b seen bytes p f pending rest put given all is framed left puts same counts =
+-- a piece with a frame
+pub puts_framed : (lines : List CapturedLine) (before after : Progress) (p : PieceContent) (f : FrameContent)
+    (pending put given : List ℕ) → p.frame ≡ Some f → PutsFrame lines f pending put → given ≡ put
+    → CountsPieces lines before (p ∷ []) after → PutsPiece lines p before pending after given
+puts_framed lines before after p f pending put given framed puts same counts =
     let P : Option FrameContent → Type 0 = λ o. AreOfFrames lines (list_of o ++ []) puts.records in
-    let Q : List ℕ → Type 0 = λ xs. IsPiece a.context xs p b.context in
-    let S : List ℕ → Type 0 = λ xs. length xs < length bytes in
-    let here = subst Q all is in
     record {
-      piece = p;
       counts = counts;
-      is = here;
-      rest_is = left;
-      shorter = subst S (sym left) (shorter a.context bytes p b.context here);
       records = puts.records;
       of_frames = subst P (sym framed) (one_frame lines f puts.records puts.of_frame);
       each = puts.each;
       given_is = same ∙ puts.given_is;
     }
 
-pub takes_silent : (lines : List CapturedLine) (a b : CapturePoint) (seen bytes : List ℕ) (p : PieceContent) (pending rest given : List ℕ) → seen ≡ bytes → IsPiece a.context seen p b.context → p.frame ≡ None → rest ≡ drop p.len bytes → given ≡ pending → CountsPieces lines a.progress (p ∷ []) b.progress → TakesPiece lines a bytes pending b rest given
-takes_silent lines a b seen bytes p pending rest given all is unframed left same counts =
+-- and one without
+pub puts_silent : (lines : List CapturedLine) (before after : Progress) (p : PieceContent)
+    (pending given : List ℕ) → p.frame ≡ None → given ≡ pending
+    → CountsPieces lines before (p ∷ []) after → PutsPiece lines p before pending after given
+puts_silent lines before after p pending given unframed same counts =
     let P : Option FrameContent → Type 0 = λ o. AreOfFrames lines (list_of o ++ []) [] in
-    let Q : List ℕ → Type 0 = λ xs. IsPiece a.context xs p b.context in
-    let S : List ℕ → Type 0 = λ xs. length xs < length bytes in
-    let here = subst Q all is in
     record {
-      piece = p;
       counts = counts;
-      is = here;
-      rest_is = left;
-      shorter = subst S (sym left) (shorter a.context bytes p b.context here);
       records = [];
       of_frames = subst P (sym unframed) refl;
       each = All-nil (IsOfLine lines);
       given_is = same ∙ sym (append-nil pending);
     }
-
-pub in_bytes : (a b : Context) (seen bytes : List ℕ) (p : PieceContent) → seen ≡ bytes → IsPiece a seen p b → p.len ≤ length bytes
-in_bytes a b seen bytes p all is =
-    let Q : List ℕ → Type 0 = λ xs. IsPiece a xs p b in
-    (piece_len a bytes p b (subst Q all is)).1
 
 -- what one piece counts, with a frame
 pub counts_frame : (lines : List CapturedLine) (before timed joined after : Progress) (passed : PassedOver) (p : PieceContent) (f : FrameContent) → timed ≡ timed_after before f.time → CountsFrame lines f timed.passed passed → joined ≡ record timed { passed = passed } → after ≡ record joined { position = count_after joined.position p.len } → p.frame ≡ Some f → CountsPieces lines before (p ∷ []) after
@@ -99,7 +85,3 @@ counts_silent lines before joined after p join bytes unframed =
       passed = ap (λ (x : Progress). x.passed) bytes ∙ ap (λ (x : Progress). x.passed) join
           ∙ ap (λ n. passed_after before.passed [] (falls_after before.last_time n)) (sym times);
     }
-
--- the same point, by its parts
-pub point_same : {a b : Context} {x y : Progress} → a ≡ b → x ≡ y → point_of a x ≡ point_of b y
-point_same e f = cc

@@ -1,4 +1,5 @@
 pub mod Lines
+pub mod Tables
 pub mod Lists
 pub mod Records
 pub mod Readers

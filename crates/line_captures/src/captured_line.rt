@@ -17,7 +17,7 @@ pub struct CapturedLine {
     pub line: LineId,
 }
 
-fn is_zeros(address: &Address) -> bool
+pub(crate) fn is_zeros(address: &Address) -> bool
     ensures { IsTrue result ↔ IsZeros address.now }
 {
     match address {
@@ -26,14 +26,13 @@ fn is_zeros(address: &Address) -> bool
     }
 }
 
-/// Whether two addresses are the same. Those of IPv4 are compared byte by byte, which the compiler
-/// makes one comparison.
+/// Whether two addresses are the same. Those of IPv4 are compared as numbers, which takes one step.
 fn are_same_address(one: &Address, other: &Address) -> bool
     ensures { IsTrue result ↔ (one.now ≡ other.now) }
 {
     match (one, other) {
         (Address::V4([a, b, c, d]), Address::V4([e, f, g, h])) => {
-            a == e && b == f && c == g && d == h
+            u32::from_be_bytes([*a, *b, *c, *d]) == u32::from_be_bytes([*e, *f, *g, *h])
         }
         _ => one == other,
     }
@@ -47,9 +46,9 @@ fn takes(line: &CapturedLine, datagram: &Datagram<'_>) -> bool
         && (are_same_address(&line.address, &datagram.address) || is_zeros(&line.address))
 }
 
-/// Returns the line of the list that a datagram goes to: the first that takes it, or `None`.
+/// The line of the list that a datagram goes to: the first that takes it, or `None`.
 #[inline(always)]
-pub fn line_to(lines: &[CapturedLine], datagram: &Datagram<'_>) -> Option<CapturedLine>
+pub(crate) fn line_to(lines: &[CapturedLine], datagram: &Datagram<'_>) -> Option<CapturedLine>
     ensures some { IfSome result (GoesTo lines.now (datagram_content datagram.now)) }
     ensures none { IfNone result (GoesToNone lines.now (datagram_content datagram.now)) }
 {

@@ -16,15 +16,17 @@ mod conversion;
 mod fault;
 mod frames;
 mod line_list;
+mod line_table;
 mod lines_in;
 mod passed_over;
 mod pieces;
 mod report;
 
-pub use captured_line::{CapturedLine, line_to};
+pub use captured_line::CapturedLine;
 pub use conversion::convert;
 pub use fault::InputFault;
 pub use line_list::{are_apart, lines_at};
+pub use line_table::LineTable;
 pub use lines_in::{LineBuffers, LinesIn};
 pub use passed_over::PassedOver;
 pub use report::{CaptureReport, LinesFault};

@@ -8,13 +8,13 @@ ghost use Rattle.line_captures.specs.ReaderLaws.{gives_no_records, gives_more_re
 
 use crate::captured_line::CapturedLine;
 use crate::fault::InputFault;
-use crate::passed_over::{PassedOver, Progress};
-use crate::pieces::{PIECES_ROOM, give_records};
+use crate::passed_over::PassedOver;
+use crate::pieces::{PIECES_ROOM, PieceRecords};
 use crate::report::{CaptureReport, outcome_of};
 use feed_text::devices::{CaptureIn, ReadStop};
 use feed_text::fault::ReplayFault;
 use feed_text::unread::{RECORDS_ROOM, ReadBuffer, ReadStep};
-use packet_capture::{CaptureReader, Stop};
+use packet_capture::Stop;
 use std::alloc::{AllocError, Global};
 use std::marker::Model;
 
@@ -46,12 +46,9 @@ impl LineBuffers {
 #[derive(Drop)]
 pub struct LinesIn<'a, R> {
     inner: R,
-    lines: &'a [CapturedLine],
-    capture: CaptureReader,
+    records: PieceRecords<'a>,
     unread: ReadBuffer<PIECES_ROOM>,
-    pending: ReadBuffer<RECORDS_ROOM>,
     fault: Option<InputFault>,
-    progress: Progress,
 }
 
 impl<'a, R> Model for LinesIn<'a, R> {
@@ -61,14 +58,14 @@ impl<'a, R> Model for LinesIn<'a, R> {
 
     ghost view = { λ s. record {
       inner = s.inner;
-      lines = s.lines.now;
-      point = record { context = s.capture; progress = s.progress };
+      lines = s.records.lines;
+      point = record { context = s.records.capture; progress = s.records.progress };
       unread = s.unread;
-      pending = s.pending;
+      pending = s.records.pending;
       fault = s.fault;
     } };
 
-    ghost invariant = { λ s. IsFault s.capture s.unread s.fault };
+    ghost invariant = { λ s. IsFault s.records.capture s.unread s.fault };
 }
 
 impl<'a, R: CaptureIn + Drop> LinesIn<'a, R> {
@@ -79,12 +76,9 @@ impl<'a, R: CaptureIn + Drop> LinesIn<'a, R> {
         let LineBuffers { unread, pending } = buffers;
         LinesIn {
             inner,
-            lines,
-            capture: CaptureReader::new(),
+            records: PieceRecords::new(lines, pending),
             unread,
-            pending,
             fault: None,
-            progress: Progress::default(),
         }
     }
 
@@ -94,12 +88,9 @@ impl<'a, R: CaptureIn + Drop> LinesIn<'a, R> {
     {
         let LinesIn {
             inner,
-            lines: _,
-            capture: _,
+            records: _,
             unread: _,
-            pending: _,
             fault: _,
-            progress: _,
         } = self;
         inner
     }
@@ -138,7 +129,7 @@ impl<'a, R: CaptureIn> LinesIn<'a, R> {
     pub fn passed_over(&self) -> PassedOver
         ensures { result ≡ self.now.point.progress.passed }
     {
-        self.progress.passed
+        self.records.progress.passed
     }
 
     /// Returns at which byte of the capture the next piece begins, counted from 0: where there is a
@@ -146,7 +137,7 @@ impl<'a, R: CaptureIn> LinesIn<'a, R> {
     pub fn position(&self) -> u64
         ensures { result ≡ self.now.point.progress.position }
     {
-        self.progress.position
+        self.records.progress.position
     }
 
     /// One call of the reader of the bytes, where more of them are wanted.
@@ -168,7 +159,7 @@ impl<'a, R: CaptureIn> LinesIn<'a, R> {
             ReadStep::Went => Err(ReadStop::Interrupted),
             ReadStep::Failed => Err(ReadStop::Failed),
             ReadStep::Ended => {
-                if self.unread.is_empty() && !self.capture.is_at_start() {
+                if self.unread.is_empty() && !self.records.capture.is_at_start() {
                     return Ok(0);
                 }
                 self.fault = Some(InputFault::ShortCapture);
@@ -194,14 +185,7 @@ impl<'a, R: CaptureIn> LinesIn<'a, R> {
         ensures stop { IfErr result (StopsReading self.old.point.context self.old.unread) }
         ensures kept { OnErr result (self.new ≡ self.old) }
     {
-        give_records(
-            self.lines,
-            &mut self.capture,
-            &mut self.unread,
-            &mut self.pending,
-            &mut self.progress,
-            page,
-        )
+        self.records.give(&mut self.unread, page)
     }
 }
 

@@ -1,14 +1,15 @@
 //! The records of pieces.
-ghost use Rattle.std.specs.Prelude.{◌≡◌, ◌+◌, ◌<◌, ◌≤◌, ◌++◌, [], IfOk, IfErr, OnErr, length, take, drop, slice_range};
-ghost use Rattle.packet_capture.specs.Captures.{StopsReading};
-ghost use Rattle.line_captures.specs.Readers.{TakesPieces, point_of};
-ghost use Rattle.line_captures.specs.Steps.{TakesPiece};
+ghost use Rattle.std.specs.Prelude.{◌≡◌, ◌+◌, ◌<◌, ◌≤◌, ◌++◌, [], IfOk, IfErr, OnOk, OnErr, length, take, drop, slice_range};
+ghost use Rattle.packet_capture.specs.Captures.{StopsReading, piece_of};
+ghost use Rattle.line_captures.specs.Readers.{TakesPieces};
+ghost use Rattle.line_captures.specs.Steps.{PutsPiece, point_in, new_pieces};
 
 use crate::captured_line::CapturedLine;
 use crate::frames::put_frame;
+use crate::line_table::LineTable;
 use crate::passed_over::Progress;
 use feed_text::unread::{RECORDS_ROOM, ReadBuffer};
-use packet_capture::{CaptureReader, Stop, read_as_bytes_come};
+use packet_capture::{CaptureReader, Piece, Stop, read_as_bytes_come};
 
 /// How many bytes of a packet capture are held at most: a longest piece, which has 1,048,592, and
 /// more.
@@ -21,92 +22,14 @@ struct Taken {
     filled: usize,
 }
 
-/// Takes the piece at the front of the bytes and adds the record of its frame to the page, or to what is
-/// pending where the page has no room; or returns why there is no piece, and then nothing changes.
-#[inline(always)]
-fn take_piece(
-    lines: &[CapturedLine],
-    capture: &mut CaptureReader,
-    bytes: &[u8],
-    page: &mut [u8],
-    filled: usize,
-    pending: &mut ReadBuffer<RECORDS_ROOM>,
-    progress: &mut Progress,
-) -> Result<Taken, Stop>
-    requires filled { filled ≤ length page.old }
-    requires pending { pending.old ≡ [] }
-    ensures taken { IfOk result (λ t. TakesPiece lines.now
-        (point_of capture.old progress.old) bytes.now (take filled page.old)
-        (point_of capture.new progress.new) (drop t.len bytes.now)
-        (take t.filled page.new ++ pending.new)) }
-    ensures within { IfOk result (λ t. t.len ≤ length bytes.now) }
-    ensures filled { IfOk result (λ t. t.filled ≤ length page.new) }
-    ensures page { length page.new ≡ length page.old }
-    ensures stop { IfErr result (StopsReading capture.old bytes.now) }
-    ensures same_context { OnErr result (capture.new ≡ capture.old) }
-    ensures same_page { OnErr result (page.new ≡ page.old) }
-    ensures same_pending { OnErr result (pending.new ≡ pending.old) }
-    ensures same_progress { OnErr result (progress.new ≡ progress.old) }
-{
-    let piece = match capture.next_piece(bytes) {
-        Ok(piece) => piece,
-        Err(stop) => return Err(stop),
-    };
-    let len = piece.len;
-    let mut end = filled;
-    if let Some(frame) = piece.frame {
-        progress.add_time(frame.time);
-        end = put_frame(lines, frame, page, filled, pending, &mut progress.passed);
-    }
-    progress.add_bytes(len);
-    Ok(Taken { len, filled: end })
-}
-
-/// Takes whole pieces from the front of the bytes, one at least, and adds the records of their frames to
-/// the page, and to what is pending those that it has no room for; or returns why there is no piece, and
-/// then nothing changes.
-fn take_pieces(
-    lines: &[CapturedLine],
-    capture: &mut CaptureReader,
-    bytes: &[u8],
-    page: &mut [u8],
-    filled: usize,
-    pending: &mut ReadBuffer<RECORDS_ROOM>,
-    progress: &mut Progress,
-) -> Result<Taken, Stop>
-    requires filled { filled ≤ length page.old }
-    requires pending { pending.old ≡ [] }
-    ensures taken { IfOk result (λ t. TakesPieces lines.now
-        (point_of capture.old progress.old) bytes.now (take filled page.old)
-        (point_of capture.new progress.new) (drop t.len bytes.now)
-        (take t.filled page.new ++ pending.new)) }
-    ensures within { IfOk result (λ t. t.len ≤ length bytes.now) }
-    ensures filled { IfOk result (λ t. t.filled ≤ length page.new) }
-    ensures page { length page.new ≡ length page.old }
-    ensures stop { IfErr result (StopsReading capture.old bytes.now) }
-    ensures same_context { OnErr result (capture.new ≡ capture.old) }
-    ensures same_page { OnErr result (page.new ≡ page.old) }
-    ensures same_pending { OnErr result (pending.new ≡ pending.old) }
-    ensures same_progress { OnErr result (progress.new ≡ progress.old) }
-{
-    read_as_bytes_come();
-    let mut taken = match take_piece(lines, capture, bytes, page, filled, pending, progress) {
-        Ok(taken) => taken,
-        Err(stop) => return Err(stop),
-    };
-    while pending.is_empty() && taken.filled < page.len() {
-        let rest = &bytes[taken.len..];
-        match take_piece(lines, capture, rest, page, taken.filled, pending, progress) {
-            Ok(more) => {
-                taken = Taken {
-                    len: taken.len + more.len,
-                    filled: more.filled,
-                };
-            }
-            Err(_) => return Ok(taken),
-        }
-    }
-    Ok(taken)
+/// The records of the pieces of a capture, as far as it was read.
+#[derive(Drop)]
+pub(crate) struct PieceRecords<'a> {
+    pub(crate) lines: LineTable<'a>,
+    pub(crate) capture: CaptureReader,
+    pub(crate) progress: Progress,
+    /// The bytes of records that a page had no room for.
+    pub(crate) pending: ReadBuffer<RECORDS_ROOM>,
 }
 
 /// Moves bytes from the front of what is pending into the page, from `start` on. Returns how many.
@@ -132,39 +55,110 @@ fn pop_behind(pending: &mut ReadBuffer<RECORDS_ROOM>, page: &mut [u8], filled: u
     filled + pop_at(pending, page, filled)
 }
 
-/// Gives what is pending, and then the records of whole pieces from the front of the bytes while the page
-/// has room; what it has no room for is pending then. Returns how many bytes of the page are filled, or,
-/// where nothing is pending, why there is no piece, and then nothing changes but the page.
-pub(crate) fn give_records(
-    lines: &[CapturedLine],
-    capture: &mut CaptureReader,
-    unread: &mut ReadBuffer<PIECES_ROOM>,
-    pending: &mut ReadBuffer<RECORDS_ROOM>,
-    progress: &mut Progress,
-    page: &mut [u8],
-) -> Result<usize, Stop>
-    requires room { 0 < length page.old }
-    ensures taken { IfOk result (λ n. TakesPieces lines.now
-        (point_of capture.old progress.old) unread.old pending.old
-        (point_of capture.new progress.new) unread.new (take n page.new ++ pending.new)) }
-    ensures count { IfOk result (λ n. n ≤ length page.new) }
-    ensures none { OnErr result (pending.old ≡ []) }
-    ensures stop { IfErr result (StopsReading capture.old unread.old) }
-    ensures same_context { OnErr result (capture.new ≡ capture.old) }
-    ensures same_bytes { OnErr result (unread.new ≡ unread.old) }
-    ensures same_pending { OnErr result (pending.new ≡ pending.old) }
-    ensures same_progress { OnErr result (progress.new ≡ progress.old) }
-{
-    let popped = pending.pop_into(page);
-    if !pending.is_empty() {
-        return Ok(popped);
+impl<'a> PieceRecords<'a> {
+    /// The records of a capture of which nothing was read.
+    pub(crate) fn new(
+        lines: &'a [CapturedLine],
+        pending: ReadBuffer<RECORDS_ROOM>,
+    ) -> PieceRecords<'a>
+        ensures { result ≡ new_pieces lines.now pending }
+    {
+        PieceRecords {
+            lines: LineTable::new(lines),
+            capture: CaptureReader::new(),
+            progress: Progress::default(),
+            pending,
+        }
     }
-    let bytes = unread.bytes();
-    let taken = match take_pieces(lines, capture, bytes, page, popped, pending, progress) {
-        Ok(taken) => taken,
-        Err(_) if popped != 0 => return Ok(popped),
-        Err(stop) => return Err(stop),
-    };
-    unread.advance(taken.len);
-    Ok(pop_behind(pending, page, taken.filled))
+
+    /// Counts a piece and adds the record of its frame to the page, or to what is pending where the page
+    /// has no room. Returns how many bytes of the page are filled.
+    #[inline(always)]
+    fn put_piece(&mut self, piece: Piece<'_>, page: &mut [u8], filled: usize) -> usize
+        requires filled { filled ≤ length page.old }
+        requires pending { self.old.pending ≡ [] }
+        ensures puts { PutsPiece self.old.lines (piece_of piece.entry) self.old.progress
+            (take filled page.old) self.new.progress (take result page.new ++ self.new.pending) }
+        ensures filled { result ≤ length page.new }
+        ensures page { length page.new ≡ length page.old }
+        ensures same { self.new ≡ (record self.old {
+          progress = self.new.progress;
+          pending = self.new.pending;
+        }) }
+    {
+        let len = piece.len;
+        let mut end = filled;
+        if let Some(frame) = piece.frame {
+            self.progress.add_time(frame.time);
+            let passed = &mut self.progress.passed;
+            end = put_frame(&self.lines, frame, page, filled, &mut self.pending, passed);
+        }
+        self.progress.add_bytes(len);
+        end
+    }
+
+    /// Takes whole pieces from the front of the bytes while the page has room, and adds the records of
+    /// their frames to the page, and the last one to what is pending where the page has no room for it;
+    /// or returns why there is no piece, and then nothing changes.
+    fn take_pieces(&mut self, bytes: &[u8], page: &mut [u8], filled: usize) -> Result<Taken, Stop>
+        requires filled { filled ≤ length page.old }
+        requires pending { self.old.pending ≡ [] }
+        ensures taken { IfOk result (λ t. TakesPieces self.old.lines
+            (point_in self.old) bytes.now (take filled page.old)
+            (point_in self.new) (drop t.len bytes.now) (take t.filled page.new ++ self.new.pending)) }
+        ensures within { IfOk result (λ t. t.len ≤ length bytes.now) }
+        ensures filled { IfOk result (λ t. t.filled ≤ length page.new) }
+        ensures page { length page.new ≡ length page.old }
+        ensures lines { self.new.lines ≡ self.old.lines }
+        ensures stop { IfErr result (StopsReading self.old.capture bytes.now) }
+        ensures same { OnErr result (self.new ≡ self.old) }
+        ensures same_page { OnErr result (page.new ≡ page.old) }
+    {
+        read_as_bytes_come();
+        let mut taken = Taken { len: 0, filled };
+        while self.pending.is_empty() && taken.filled < page.len() {
+            match self.capture.next_piece(&bytes[taken.len..]) {
+                Ok(piece) => {
+                    let len = taken.len + piece.len;
+                    let filled = self.put_piece(piece, page, taken.filled);
+                    taken = Taken { len, filled };
+                }
+                Err(_) if taken.len != 0 => return Ok(taken),
+                Err(stop) => return Err(stop),
+            }
+        }
+        Ok(taken)
+    }
+
+    /// Gives what is pending, and then the records of whole pieces from the front of the bytes while the
+    /// page has room; what it has no room for is pending then. Returns how many bytes of the page are
+    /// filled, or, where nothing is pending, why there is no piece, and then nothing changes but the page.
+    pub(crate) fn give(
+        &mut self,
+        unread: &mut ReadBuffer<PIECES_ROOM>,
+        page: &mut [u8],
+    ) -> Result<usize, Stop>
+        requires room { 0 < length page.old }
+        ensures taken { IfOk result (λ n. TakesPieces self.old.lines
+            (point_in self.old) unread.old self.old.pending
+            (point_in self.new) unread.new (take n page.new ++ self.new.pending)) }
+        ensures count { IfOk result (λ n. n ≤ length page.new) }
+        ensures lines { OnOk result (self.new.lines ≡ self.old.lines) }
+        ensures none { OnErr result (self.old.pending ≡ []) }
+        ensures stop { IfErr result (StopsReading self.old.capture unread.old) }
+        ensures same { OnErr result (self.new ≡ self.old) }
+        ensures same_bytes { OnErr result (unread.new ≡ unread.old) }
+    {
+        let popped = self.pending.pop_into(page);
+        if !self.pending.is_empty() {
+            return Ok(popped);
+        }
+        let taken = match self.take_pieces(unread.bytes(), page, popped) {
+            Ok(taken) => taken,
+            Err(_) if popped != 0 => return Ok(popped),
+            Err(stop) => return Err(stop),
+        };
+        unread.advance(taken.len);
+        Ok(pop_behind(&mut self.pending, page, taken.filled))
+    }
 }

@@ -1,7 +1,8 @@
 //! The blocks of a pcapng file, whatever their content.
 ghost use Rattle.std.specs.Prelude.{◌≡◌, ◌≤◌, IfOk, IfErr, ◌-◌, length, take};
 ghost use Rattle.packet_capture.specs.Fields.{u32_in};
-ghost use Rattle.packet_capture.specs.Blocks.{order_at, IsBlockLen, IsBlock};
+ghost use Rattle.packet_capture.specs.declared.fields.ByteOrder.{ByteOrder};
+ghost use Rattle.packet_capture.specs.Blocks.{order_at, BeginsSection, IsBlockLen, IsBlock};
 ghost use Rattle.packet_capture.specs.Stops.{StopsInLen, StopsInBlock};
 
 use crate::fault::CaptureFault;
@@ -27,6 +28,23 @@ pub(crate) struct Block<'a> {
     pub(crate) bytes: &'a [u8],
 }
 
+/// The order that the section's header at the front shows, or `None` where it shows none.
+#[cold]
+#[inline(never)]
+fn order_in_header(bytes: &[u8]) -> Option<ByteOrder>
+    requires there { 12 ≤ length bytes.now }
+    requires begins { BeginsSection bytes.now }
+    ensures { (section : ByteOrder) → result ≡ order_at section bytes.now }
+{
+    if read_u32(ByteOrder::Big, bytes, 8) == BYTE_ORDER_MAGIC {
+        return Some(ByteOrder::Big);
+    }
+    if read_u32(ByteOrder::Little, bytes, 8) == BYTE_ORDER_MAGIC {
+        return Some(ByteOrder::Little);
+    }
+    None
+}
+
 /// The order of the numbers of the block at the front, or `None` where it is a section's header
 /// that doesn't show it.
 #[inline(always)]
@@ -37,13 +55,7 @@ fn order_at(section: ByteOrder, bytes: &[u8]) -> Option<ByteOrder>
     if read_u32(ByteOrder::Big, bytes, 0) != SECTION_HEADER {
         return Some(section);
     }
-    if read_u32(ByteOrder::Big, bytes, 8) == BYTE_ORDER_MAGIC {
-        return Some(ByteOrder::Big);
-    }
-    if read_u32(ByteOrder::Little, bytes, 8) == BYTE_ORDER_MAGIC {
-        return Some(ByteOrder::Little);
-    }
-    None
+    order_in_header(bytes)
 }
 
 /// The bytes of the block at the front, whose numbers are in this order.

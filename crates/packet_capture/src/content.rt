@@ -1,5 +1,5 @@
 //! The contents of the blocks of a pcapng file.
-ghost use Rattle.std.specs.Prelude.{◌≡◌, ◌≤◌, ◌+◌, ◌⊎◌, Some, IfOk, IfErr, IsTrue, ◌↔◌, length, slice_get};
+ghost use Rattle.std.specs.Prelude.{◌≡◌, ◌≤◌, ◌+◌, ◌⊎◌, Some, IfSome, IfOk, IfErr, IsTrue, ◌↔◌, length, slice_get};
 ghost use Rattle.packet_capture.specs.Fields.{u32_in};
 ghost use Rattle.packet_capture.specs.Frames.{frame_of};
 ghost use Rattle.packet_capture.specs.Contents.{kind_of, block_kind, fixed_len, IsPacketKind, IsSectionVersion, interface_in, wire_len_in, up_to_limit, captured_in, frame_start, time_in, frame_in, HasFrame, BlockSays, block_event_of, HasBlockFault};
@@ -152,7 +152,7 @@ fn time_in(kind: BlockKind, order: ByteOrder, interface: &Interface, block: &[u8
     }
 }
 
-/// The frame of a packet's block, whose fixed fields are there.
+/// The frame of a packet's block.
 #[inline(always)]
 fn read_frame<'a>(
     kind: BlockKind,
@@ -160,12 +160,15 @@ fn read_frame<'a>(
     order: ByteOrder,
     block: &'a [u8],
 ) -> Result<Frame<'a>, CaptureFault>
+    requires least { 12 ≤ length block.now }
     requires kind { kind ≡ block_kind order block.now }
     requires is_packet { IsPacketKind kind }
-    requires there { fixed_len kind ≤ length block.now }
     ensures frame { IfOk result (λ f. HasFrame interfaces.now order block.now (frame_of f)) }
     ensures fault { IfErr result (HasBlockFault interfaces.now order block.now) }
 {
+    if block.len() < fixed_len(kind) {
+        return Err(CaptureFault::ShortBlock);
+    }
     let Some(interface) = interfaces.get(interface_in(kind, order, block)) else {
         return Err(CaptureFault::UnknownInterface);
     };
@@ -185,7 +188,6 @@ fn read_frame<'a>(
 /// Returns the meaning of a block in a section of these interfaces, or the first fault that fits:
 /// `ShortBlock`, and then `UnknownVersion` of a section's header, `OptionPastBlock` of an
 /// interface, `UnknownInterface` or `FramePastBlock` of a packet.
-#[inline(always)]
 pub(crate) fn read_content<'a>(
     interfaces: &[Interface],
     block: Block<'a>,
@@ -198,24 +200,34 @@ pub(crate) fn read_content<'a>(
 {
     let Block { order, bytes } = block;
     let kind = kind_of(read_u32(order, bytes, 0));
-    if bytes.len() < fixed_len(kind) {
-        return Err(CaptureFault::ShortBlock);
-    }
     match kind {
+        BlockKind::Enhanced | BlockKind::Old | BlockKind::Simple => {
+            match read_frame(kind, interfaces, order, bytes) {
+                Ok(frame) => Ok(BlockContent::Frame(frame)),
+                Err(fault) => Err(fault),
+            }
+        }
+        _ if bytes.len() < fixed_len(kind) => Err(CaptureFault::ShortBlock),
         BlockKind::SectionHeader if is_section_version(order, bytes) => Ok(BlockContent::Section),
         BlockKind::SectionHeader => Err(CaptureFault::UnknownVersion),
         BlockKind::Description => match read_interface(order, bytes) {
             Some(interface) => Ok(BlockContent::Interface(interface)),
             None => Err(CaptureFault::OptionPastBlock),
         },
-        BlockKind::Enhanced => match read_frame(BlockKind::Enhanced, interfaces, order, bytes) {
-            Ok(frame) => Ok(BlockContent::Frame(frame)),
-            Err(fault) => Err(fault),
-        },
-        BlockKind::Old | BlockKind::Simple => match read_frame(kind, interfaces, order, bytes) {
-            Ok(frame) => Ok(BlockContent::Frame(frame)),
-            Err(fault) => Err(fault),
-        },
         BlockKind::Unread => Ok(BlockContent::Other),
+    }
+}
+
+/// Returns the frame of an enhanced packet's block, or `None` where it is another, or has a fault.
+#[inline(always)]
+pub(crate) fn read_enhanced<'a>(interfaces: &[Interface], block: Block<'a>) -> Option<Frame<'a>>
+    requires { 12 ≤ length block.bytes.now }
+    ensures { IfSome result
+        (λ f. HasFrame interfaces.now block.entry.order block.entry.bytes.now (frame_of f)) }
+{
+    let Block { order, bytes } = block;
+    match kind_of(read_u32(order, bytes, 0)) {
+        BlockKind::Enhanced => read_frame(BlockKind::Enhanced, interfaces, order, bytes).ok(),
+        _ => None,
     }
 }

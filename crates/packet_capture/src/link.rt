@@ -45,9 +45,6 @@ impl LinkType {
         ensures found { IfSome result (λ link. number ≡ number_of link) }
         ensures other { IfNone result ((link : LinkType) → number ≡ number_of link → ⊥) }
     {
-        if number == 1 {
-            return Some(LinkType::Ethernet);
-        }
         match number {
             0 => Some(LinkType::Null),
             1 => Some(LinkType::Ethernet),
@@ -195,7 +192,8 @@ fn is_plain(frame: &[u8]) -> bool
 }
 
 /// The IP packet that a frame of any kind carries, with its version, or why there is none.
-#[inline(always)]
+#[cold]
+#[inline(never)]
 fn read_any(link: LinkType, frame: &[u8]) -> Result<(IpVersion, &[u8]), FrameFault>
     ensures found { IfOk result (λ r. HasPacket link frame.now r.0) }
     ensures packet { IfOk result (λ r. r.1.now ≡ packet_in link frame.now) }

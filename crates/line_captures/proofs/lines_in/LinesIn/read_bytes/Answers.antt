@@ -9,13 +9,13 @@ pub read_from-requires : goal.read_from-requires
 read_from-requires g c = (omega arith, room _ c.args.self.now c.args.wanted c.self.view_is c.requires.wants)
 
 pub invariant_of-self : goal.invariant_of-self
-invariant_of-self g c = no_fault _ c.args.self.now c.self.inside.capture c.read_from.new.self c.self.view_is c.requires.fault
+invariant_of-self g c = no_fault _ c.args.self.now c.self.inside.records.capture c.read_from.new.self c.self.view_is c.requires.fault
 
 pub invariant_of-self-in-Failed : goal.invariant_of-self-in-Failed
-invariant_of-self-in-Failed g c = no_fault _ c.args.self.now c.self.inside.capture c.read_from.new.self c.self.view_is c.requires.fault
+invariant_of-self-in-Failed g c = no_fault _ c.args.self.now c.self.inside.records.capture c.read_from.new.self c.self.view_is c.requires.fault
 
 pub invariant_of-self-then-not-is_at_start : goal.invariant_of-self-then-not-is_at_start
-invariant_of-self-then-not-is_at_start g c = no_fault _ c.args.self.now c.self.inside.capture c.read_from.new.self c.self.view_is c.requires.fault
+invariant_of-self-then-not-is_at_start g c = no_fault _ c.args.self.now c.self.inside.records.capture c.read_from.new.self c.self.view_is c.requires.fault
 
 pub returns-then-not-is_at_start-clause-end : goal.returns-then-not-is_at_start-clause-end
 returns-then-not-is_at_start-clause-end g c = λ _.

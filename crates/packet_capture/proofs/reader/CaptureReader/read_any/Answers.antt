@@ -1,7 +1,7 @@
 use Rattle.std.proofs.Common.{◌∙◌, ap}
 use Rattle.packet_capture.specs.Captures.{Context}
 use Rattle.packet_capture.proofs.ReadBlocks.{stops_in_block}
-use Rattle.packet_capture.proofs.reader.CaptureReader.read_section.Goals as goal
+use Rattle.packet_capture.proofs.reader.CaptureReader.read_any.Goals as goal
 
 pub returns-in-Err-read_content-clause-stop : goal.returns-in-Err-read_content-clause-stop
 returns-in-Err-read_content-clause-stop c =

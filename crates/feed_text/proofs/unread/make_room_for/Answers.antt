@@ -1,8 +1,0 @@
-use Rattle.std.proofs.Common.{arith}
-use Rattle.feed_text.proofs.Ranges.{range_longer}
-use Rattle.feed_text.proofs.unread.make_room_for.Goals as goal
-
-pub returns-clause-same : goal.returns-clause-same
-returns-clause-same c =
-    range_longer c.bring_to_front.new.bytes.items c.lengthen-2.new.bytes.items _ _ _ c.bring_to_front.ensures.same
-    (omega arith) (omega (arith, c.bring_to_front.ensures.len)) c.lengthen-2.ensures.longer c.lengthen-2.ensures.same
