@@ -144,5 +144,17 @@ listening_app = with_subcommand replaying_app listen_app.top
 abbrev pub convert_app : App
 convert_app = with_rule (new_app (codes "convert")) lines_rule
 
+abbrev pub converting_app : App
+converting_app = with_subcommand listening_app convert_app.top
+
+-- stats with its options that say what is read
+abbrev pub counting_app : App
+counting_app =
+    with_rule (with_rule (with_rule (new_app (codes "stats")) sessions_rule) captured_lines_rule)
+    window_rule
+
+abbrev pub stats_app : App
+stats_app = with_rule (with_rule counting_app format_rule) symbols_rule
+
 abbrev pub nbbo_app : App
-nbbo_app = with_subcommand listening_app convert_app.top
+nbbo_app = with_subcommand converting_app stats_app.top

@@ -88,6 +88,47 @@ Status:
 
 Standard error also counts what was passed over, as of 'nbbo replay --lines'.";
 
+/// `stats`, in one line.
+pub const STATS_ABOUT: &str =
+    "Prints the statistics of a capture: what its replay would tell, counted";
+
+pub const STATS_LONG_ABOUT: &str = "\
+Replays a capture from standard input, as 'nbbo replay --gaps' does, and prints none of its lines,
+but what they tell, counted: for each venue the packets and the messages of each line, what was
+refused and why, the items, gaps, sessions and declarations of self-help, and how often it had the
+best bid and the best offer of a symbol that is named; and how often a national best changed to
+each state. 'nbbo replay --help' says what a capture is.";
+
+/// The usage of `stats`.
+pub const STATS_USAGE: &str = "nbbo stats [OPTIONS] --sessions <LIST> [SYMBOL]... < CAPTURE";
+
+pub const STATS_FORMAT_HELP: &str = "\
+The format of the statistics: 'table', as without this option, or 'json', one object on a
+line";
+
+/// Examples, for the short help.
+pub const STATS_EXAMPLE: &str = "\
+Examples:
+  nbbo stats --sessions NORTH,SOUTH ACME < capture
+  nbbo stats --sessions NORTH --lines 239.1.1.1:26400,239.1.1.2:26400 --format json < day.pcap";
+
+/// The part of the long help after the options.
+pub const STATS_END: &str = "\
+Examples:
+  nbbo stats --sessions NORTH,SOUTH ACME < capture
+  nbbo stats --sessions NORTH --lines 239.1.1.1:26400,239.1.1.2:26400 --format json < day.pcap
+
+Without a symbol nothing is said of national bests.
+
+Status:
+  0  the capture was replayed to its end and its statistics were printed, or help was shown
+  1  the input or the run was refused; what was counted before was printed. Standard error says
+     why: as of 'nbbo replay'
+  2  the command line was refused: 'bad format' where the format is none of those; else as of
+     'nbbo replay'
+
+With --lines standard error also counts what was passed over, as of 'nbbo replay --lines'.";
+
 pub const SYMBOLS_HELP: &str = "\
 The symbols whose national best bid and offer is printed: at most 4096 words, each
 once, of 1 to 8 characters of printable ASCII without a space (bytes 21 to 7e). Write

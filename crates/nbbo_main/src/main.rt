@@ -4,6 +4,9 @@
 //! [SYMBOL]...` reads a capture from standard input and writes its lines to standard output, or the
 //! best ones alone. `feed_text` says, and proves, what a capture is and what its lines are.
 //!
+//! `nbbo stats --sessions LIST [--lines LIST] [--window N] [--format FORMAT] [SYMBOL]...` replays a capture and prints
+//! what its lines tell, counted (`capture_stats`).
+//!
 //! `nbbo listen --sessions LIST --lines LIST [--request ADDR] [--window N] [--journal N]
 //! [--datagrams N] [--buffer BYTES] [SYMBOL]...` receives the lines of live venues by UDP, runs them as a live feed
 //! (`live_feed`), and prints what they came to once all have ended.
@@ -45,6 +48,10 @@ mod run;
 mod sessions;
 mod socket_buffers;
 mod sockets;
+mod stats_format;
+mod stats_runs;
+mod stats_settings;
+mod stats_words;
 mod summary;
 mod symbols;
 mod task;
