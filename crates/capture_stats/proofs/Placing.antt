@@ -8,7 +8,7 @@ use Rattle.feed_types.specs.declared.national.NationalState.TheVariants.{Empty, 
 use Rattle.capture_stats.specs.declared.stats.StateStats.{StateStats}
 use Rattle.best_lines.specs.Rows.{is_none_word, venue_in}
 use Rattle.capture_stats.specs.declared.happening.AtVenue.TheVariants.{LeadsBid, LeadsOffer}
-use Rattle.capture_stats.specs.Happenings.{Happening, LineFields, at_venue, change_in, changed_to, fields_of, happening_at, leader_in, number_in, state_named, told_by, told_by_fields}
+use Rattle.capture_stats.specs.Happenings.{Happening, LineFields, at_venue, change_in, changed_to, fields_of, happening_at, leader_in, number_spelled, state_named, told_by, told_by_fields}
 use Rattle.capture_stats.specs.StatsLaws.{counted_none, counted_twice}
 use Rattle.std.specs.Prelude.{Option, None, fold}
 use Rattle.std.proofs.lemmas.List.{take_all}
@@ -76,7 +76,7 @@ state_added c inside word states same is =
 -- there is no side
 pub none_leads : (c : Counted) (leads : AtVenue) (side : List ℕ) → is_none_word side ≡ true → c ≡ counted_after c (leader_in leads side)
 none_leads c leads side none =
-    sym (counted_none c) ∙ ap (λ (b : Bool). counted_after c (cond b [] (at_venue (number_in (venue_in side)) leads ∷ []))) (sym none)
+    sym (counted_none c) ∙ ap (λ (b : Bool). counted_after c (cond b [] (at_venue (number_spelled (venue_in side)) leads ∷ []))) (sym none)
 
 -- a change: its bid, its offer and its state
 pub change_added : (a b c d : Counted) (f : LineFields) → b ≡ counted_after a (leader_in LeadsBid f.fifth) → c ≡ counted_after b (leader_in LeadsOffer f.sixth) → d ≡ counted_after c (state_named f.rest) → d ≡ counted_after a (change_in f)
@@ -102,6 +102,6 @@ pub long_added : (c : Counted) (line : List ℕ) → 192 < length line → c ≡
 long_added c line long = sym (counted_none c) ∙ ap (counted_after c) (sym (long_tells_nothing line long))
 
 -- the number of a whole word
-pub number_whole : (word : List ℕ) (n number : ℕ) → length word ≤ n → number ≡ fold (λ n b. min (n * 10 + (b - 48)) 18446744073709551615) 0 (take n word) → number ≡ number_in word
-unfolding number_in
+pub number_whole : (word : List ℕ) (n number : ℕ) → length word ≤ n → number ≡ fold (λ n b. min (n * 10 + (b - 48)) 18446744073709551615) 0 (take n word) → number ≡ number_spelled word
+unfolding number_spelled
 number_whole word n number all is = is ∙ ap (λ (bs : List ℕ). fold (λ n b. min (n * 10 + (b - 48)) 18446744073709551615) 0 bs) (take_all n word all)

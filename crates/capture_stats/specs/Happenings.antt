@@ -37,8 +37,8 @@ fields_of line = record {
 }
 
 -- the number that digits write, or 2^64 - 1 where it is larger
-unfoldable pub number_in : List ℕ → ℕ
-number_in word = fold (λ n b. min (n * 10 + (b - 48)) 18446744073709551615) 0 word
+unfoldable pub number_spelled : List ℕ → ℕ
+number_spelled word = fold (λ n b. min (n * 10 + (b - 48)) 18446744073709551615) 0 word
 
 -- ---- what a line tells of a venue
 
@@ -54,11 +54,11 @@ line_named word =
 abbrev pub answer_in : LineFields → Option PacketAnswer
 answer_in f =
     if bytes_eq f.fourth (codes "taken")
-    then Some (answers.Taken (number_in f.fifth) (number_in f.sixth))
+    then Some (answers.Taken (number_spelled f.fifth) (number_spelled f.sixth))
     else if bytes_eq f.fourth (codes "heartbeat") then Some answers.Heartbeat
     else if bytes_eq f.fourth (codes "ended") then Some answers.Ended
     else if bytes_eq f.fourth (codes "ahead") then Some answers.Ahead
-    else if bytes_eq f.fourth (codes "refused") then Some (answers.Refused (number_in f.fifth))
+    else if bytes_eq f.fourth (codes "refused") then Some (answers.Refused (number_spelled f.fifth))
     else None
 
 abbrev pub packet_told : Option LineId → Option PacketAnswer → Option AtVenue
@@ -85,9 +85,9 @@ abbrev pub told_of_venue : LineFields → Option AtVenue
 told_of_venue f =
     if bytes_eq f.first (codes "packet") then packet_told (line_named f.third) (answer_in f)
     else if bytes_eq f.first (codes "item")
-    then item_told (number_in f.third) (kind_named f.fourth)
+    then item_told (number_spelled f.third) (kind_named f.fourth)
     else if bytes_eq f.first (codes "gap")
-    then Some (Gap (number_in f.third) (number_in f.fourth))
+    then Some (Gap (number_spelled f.third) (number_spelled f.fourth))
     else if bytes_eq f.first (codes "renew")
     then Some (Renewal (not (bytes_eq f.third (codes "refused"))))
     else if bytes_eq f.first (codes "declare")
@@ -108,7 +108,7 @@ happening_at venue (Some what) = at_venue venue what ∷ []
 -- best NOTICE POSITION SYMBOL BID OFFER STATE: the venue of a side leads it
 abbrev pub leader_in : AtVenue → List ℕ → List Happening
 leader_in leads side =
-    if is_none_word side then [] else at_venue (number_in (venue_in side)) leads ∷ []
+    if is_none_word side then [] else at_venue (number_spelled (venue_in side)) leads ∷ []
 
 abbrev pub state_named : List ℕ → List Happening
 state_named word =
@@ -126,7 +126,7 @@ change_in f =
 abbrev pub told_by_fields : LineFields → List Happening
 told_by_fields f =
     if bytes_eq f.first (codes "best") then change_in f
-    else happening_at (number_in f.second) (told_of_venue f)
+    else happening_at (number_spelled f.second) (told_of_venue f)
 
 -- what a line tells; one of more than 192 bytes is no line of a replay
 unfoldable pub told_by : List ℕ → List Happening

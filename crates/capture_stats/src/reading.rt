@@ -1,6 +1,6 @@
 //! What a line of a replay tells, by its words.
 ghost use Rattle.std.specs.Prelude.{◌≡◌};
-ghost use Rattle.capture_stats.specs.Happenings.{answer_in, fields_of, item_told, kind_named, line_named, number_in, packet_told, told_of_venue};
+ghost use Rattle.capture_stats.specs.Happenings.{answer_in, fields_of, item_told, kind_named, line_named, number_spelled, packet_told, told_of_venue};
 ghost use Rattle.capture_stats.specs.Words.{fields_now};
 
 use crate::happening::{AtVenue, ItemKind, PacketAnswer};
@@ -8,8 +8,8 @@ use best_lines::words::split_first;
 use feed_types::LineId;
 
 /// Returns the number that digits write, or the largest where it is larger.
-pub(crate) fn number_in(word: &[u8]) -> u64
-    ensures { result ≡ number_in word.now }
+pub(crate) fn number_spelled(word: &[u8]) -> u64
+    ensures { result ≡ number_spelled word.now }
 {
     let mut number = 0u64;
     for byte in word {
@@ -74,8 +74,8 @@ fn answer_in(words: LineWords<'_>) -> Option<PacketAnswer>
 {
     if words.fourth == b"taken".as_slice() {
         Some(PacketAnswer::Taken {
-            first: number_in(words.fifth),
-            repeated: number_in(words.sixth),
+            first: number_spelled(words.fifth),
+            repeated: number_spelled(words.sixth),
         })
     } else if words.fourth == b"heartbeat".as_slice() {
         Some(PacketAnswer::Heartbeat)
@@ -85,7 +85,7 @@ fn answer_in(words: LineWords<'_>) -> Option<PacketAnswer>
         Some(PacketAnswer::Ahead)
     } else if words.fourth == b"refused".as_slice() {
         Some(PacketAnswer::Refused {
-            number: number_in(words.fifth),
+            number: number_spelled(words.fifth),
         })
     } else {
         None
@@ -123,9 +123,9 @@ fn kind_named(word: &[u8]) -> Option<ItemKind>
 
 /// Returns the item that an item line tells of.
 fn item_in(words: LineWords<'_>) -> Option<AtVenue>
-    ensures { result ≡ item_told (number_in words.entry.third.now) (kind_named words.entry.fourth.now) }
+    ensures { result ≡ item_told (number_spelled words.entry.third.now) (kind_named words.entry.fourth.now) }
 {
-    let number = number_in(words.third);
+    let number = number_spelled(words.third);
     match kind_named(words.fourth) {
         Some(kind) => Some(AtVenue::Item { number, kind }),
         None => None,
@@ -142,8 +142,8 @@ pub(crate) fn told_of_venue(words: LineWords<'_>) -> Option<AtVenue>
         item_in(words)
     } else if words.first == b"gap".as_slice() {
         Some(AtVenue::Gap {
-            number: number_in(words.third),
-            count: number_in(words.fourth),
+            number: number_spelled(words.third),
+            count: number_spelled(words.fourth),
         })
     } else if words.first == b"renew".as_slice() {
         let granted = words.third != b"refused".as_slice();

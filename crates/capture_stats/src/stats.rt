@@ -6,7 +6,7 @@ ghost use Rattle.capture_stats.specs.Words.{fields_now};
 
 use crate::happening::AtVenue;
 use crate::line_stats::raised;
-use crate::reading::{LineWords, number_in, told_of_venue, words_of};
+use crate::reading::{LineWords, number_spelled, told_of_venue, words_of};
 use crate::venue_stats::VenueStats;
 use best_lines::words::parts_of;
 use feed_types::NationalState;
@@ -130,7 +130,7 @@ impl Stats {
         ensures { self.new ≡ counted_after self.old (leader_in leads side.now) }
     {
         match parts_of(side) {
-            Some(parts) => self.add_at(number_in(parts.venue), leads),
+            Some(parts) => self.add_at(number_spelled(parts.venue), leads),
             None => {}
         }
     }
@@ -158,7 +158,7 @@ impl Stats {
         if words.first == b"best".as_slice() {
             self.add_change(words);
         } else {
-            self.add_told(number_in(words.second), told_of_venue(words));
+            self.add_told(number_spelled(words.second), told_of_venue(words));
         }
     }
 

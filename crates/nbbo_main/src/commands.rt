@@ -7,11 +7,12 @@ ghost use Rattle.nbbo_main.specs.Commands.{best_only_rule, buffer_rule, captured
 
 use crate::help_texts::{
     ABOUT, BEST_ONLY_HELP, BUFFER_HELP, CAPTURED_LINES_HELP, CONVERT_ABOUT, CONVERT_END,
-    CONVERT_EXAMPLE, CONVERT_LONG_ABOUT, CONVERT_USAGE, DATAGRAMS_HELP, EXAMPLE, FORMAT_HELP,
-    GAPS_HELP, JOURNAL_HELP, LINES_HELP, LISTEN_ABOUT, LISTEN_EXAMPLE, LISTEN_LINES,
-    LISTEN_LONG_ABOUT, LISTEN_USAGE, REPLAY_ABOUT, REPLAY_EXAMPLE, REPLAY_LINES, REPLAY_LONG_ABOUT,
-    REPLAY_USAGE, REQUEST_HELP, SESSIONS_HELP, STATS_ABOUT, STATS_END, STATS_EXAMPLE,
-    STATS_FORMAT_HELP, STATS_LONG_ABOUT, STATS_USAGE, SYMBOLS_HELP, VERSION, WINDOW_HELP,
+    CONVERT_EXAMPLE, CONVERT_LONG_ABOUT, CONVERT_USAGE, COUNTED_SYMBOLS_HELP, DATAGRAMS_HELP,
+    EXAMPLE, FORMAT_HELP, GAPS_HELP, JOURNAL_HELP, LINES_HELP, LISTEN_ABOUT, LISTEN_EXAMPLE,
+    LISTEN_LINES, LISTEN_LONG_ABOUT, LISTEN_USAGE, REPLAY_ABOUT, REPLAY_EXAMPLE, REPLAY_LINES,
+    REPLAY_LONG_ABOUT, REPLAY_USAGE, REQUEST_HELP, SESSIONS_HELP, STATS_ABOUT, STATS_END,
+    STATS_EXAMPLE, STATS_FORMAT_HELP, STATS_LONG_ABOUT, STATS_USAGE, SYMBOLS_HELP, VERSION,
+    WINDOW_HELP,
 };
 use crate::listen_help::{FOLLOW_HELP, SECONDS_HELP, STATS_HELP, UNTIL_INPUT_ENDS_HELP};
 use clap::{Arg, ArgAction, Command, value_parser};
@@ -388,8 +389,20 @@ fn stats_format_option<'a>(alloc: Global) -> Arg<'a>
     Arg::new(alloc, "format")
         .long("format")
         .value_name("FORMAT")
-        .help("The format of the statistics: table or json")
+        .help("The format of the counts: table or json")
         .long_help(STATS_FORMAT_HELP)
+}
+
+/// The symbols of `stats`.
+fn counted_symbols_argument<'a>(alloc: Global) -> Arg<'a>
+    ensures rule { rule_of result ≡ symbols_rule }
+    ensures local { result.global ≡ false }
+{
+    Arg::new(alloc, "symbols")
+        .value_name("SYMBOL")
+        .num_args(0..)
+        .help("The symbols of whose national best the changes are counted, at most 4096")
+        .long_help(COUNTED_SYMBOLS_HELP)
 }
 
 /// The texts of `stats`, without its options.
@@ -422,7 +435,7 @@ fn stats_command<'a>(alloc: Global) -> Result<Command<'a>, AllocError>
 {
     counting_command(alloc)?
         .arg(stats_format_option(alloc))?
-        .arg(symbols_argument(alloc))
+        .arg(counted_symbols_argument(alloc))
 }
 
 /// The program, which does nothing without a subcommand.
