@@ -81,7 +81,7 @@ fn run_own_stats<R: CaptureIn, W: TextOut, E: TextOut>(
 {
     write_stderr(hint(at_terminal), errors);
     let config = config_of(settings);
-    let mut counts = match StatsOut::new(alloc, settings.sessions.len()) {
+    let mut counts = match StatsOut::new(alloc, config.sessions.len()) {
         Ok(counts) => counts,
         Err(_) => {
             let (status, line) = ending(&Err(ReplayFault::NoMemory));
@@ -116,7 +116,7 @@ fn run_line_stats<R: CaptureIn + Drop, W: TextOut, E: TextOut>(
 {
     write_stderr(hint(at_terminal), errors);
     let config = config_of(&settings.replay);
-    let mut counts = match StatsOut::new(alloc, settings.replay.sessions.len()) {
+    let mut counts = match StatsOut::new(alloc, config.sessions.len()) {
         Ok(counts) => counts,
         Err(_) => {
             let report = CaptureReport::without_memory(input);
