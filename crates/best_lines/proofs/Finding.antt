@@ -5,9 +5,8 @@ use Rattle.std.proofs.lemmas.List.{take_all, take_more}
 use Rattle.std.proofs.lemmas.List.Elements.{All-from_get_or}
 use Rattle.std.proofs.lemmas.List.Sums.{position_or_len_is}
 use Rattle.memchr.specs.Find.{IsFirstByte, is_byte}
-use Rattle.best_lines.specs.Lines.{IsOpen, ended}
+use Rattle.best_lines.specs.Lines.{EndsAt, IsOpen, ended}
 use Rattle.best_lines.specs.Rows.{part_after, part_before}
-use Rattle.best_lines.specs.Taking.{EndsAt}
 
 not_true : (b : Bool) → (b ≡ true → ⊥) → b ≡ false
 not_true true h = absurd (h refl)

@@ -5,9 +5,9 @@ use Rattle.std.proofs.Math.Seq.{take-add}
 use Rattle.std.proofs.lemmas.Grind.{flat_map-append}
 use Rattle.std.proofs.lemmas.List.Elements.{All-push}
 use Rattle.best_lines.specs.declared.format.Format.{Format}
-use Rattle.best_lines.specs.Lines.{IsOpen, ended}
+use Rattle.best_lines.specs.Lines.{EndsAt, IsOpen, ended}
 use Rattle.best_lines.specs.Rows.{rows_of}
-use Rattle.best_lines.specs.Taking.{EndsAt, PutsLines}
+use Rattle.best_lines.specs.Taking.{PutsLines}
 use Rattle.best_lines.proofs.Finding.{rest_slice}
 use Rattle.best_lines.specs.WriterLaws.{rows_of-append}
 

@@ -1,41 +1,26 @@
 -- What a call of a writer of best lines takes.
-use Rattle.std.proofs.Common.{◌≡◌, ◌≢◌, ℕ, zero, suc, ◌+◌, ◌-◌, ◌<◌, ◌≤◌, ◌⊎◌, inl, inr, Bool, true, false, ◌&&◌, List, [], ◌∷◌, ◌++◌, append_assoc, append-nil, refl, sym, ap, subst, ◌∙◌, take, drop, length, arith, leb-true, Result, Ok, Err, codes}
+use Rattle.std.proofs.Common.{◌≡◌, ◌≢◌, ℕ, ◌+◌, ◌<◌, Bool, true, false, ◌&&◌, inl, inr, List, [], ◌∷◌, ◌++◌, append-nil, refl, sym, ap, subst, ◌∙◌, take, drop, length, arith, leb-true, Result, Ok, Err, codes}
 use Rattle.std.specs.Prelude.{flat_map, nat_eq, nat_le, IfOk, OnErr, OnOk}
 use Rattle.std.specs.List.{starts_with}
-use Rattle.std.proofs.lemmas.Bool.{cases_lt}
-use Rattle.std.proofs.lemmas.List.{length-take-le, take_all}
-use Rattle.std.proofs.lemmas.List.Elements.{All-nil, All-cons, All-append}
+use Rattle.std.proofs.lemmas.List.Elements.{All-nil, All-cons}
 use Rattle.std.proofs.Math.Seq.{take-length}
 use Rattle.feed_text.specs.Devices.{Moved}
 use Rattle.best_lines.specs.declared.format.Format.{Format}
 use Rattle.best_lines.specs.declared.bests_out.BestsOut.{BestsOut}
-use Rattle.best_lines.specs.Lines.{AreLines, IsOpen, ended, is_best}
+use Rattle.best_lines.specs.Cutting.{IsLineStart}
+use Rattle.best_lines.specs.CuttingLaws.{kept_or_long, takes_open}
+use Rattle.best_lines.specs.Lines.{EndsAt, IsOpen, ended, is_best}
 use Rattle.best_lines.specs.Rows.{header_of, rows_of}
-use Rattle.best_lines.specs.Taking.{EndsAt, PutsLines}
-use Rattle.best_lines.specs.Writers.{AddsBests, HasRows, IsLineStart, IsNewOver, PassedOn, TakesText, below, pending_of}
-use Rattle.best_lines.specs.WriterLaws.{adds_more_bests, no_lines, rows_of-nil, takes_nothing}
+use Rattle.best_lines.specs.Taking.{PutsLines}
+use Rattle.best_lines.specs.Writers.{AddsBests, IsNewOver, PassedOn, TakesText}
+use Rattle.best_lines.specs.WriterLaws.{adds_more_bests, rows_of-nil, takes_nothing}
 use Rattle.best_lines.proofs.Rendering.{rows_none}
 
 -- ---- texts
 
-none : (xs : List ℕ) → take 0 xs ≡ []
-none [] = refl
-none (x ∷ xs) = refl
-
-take_front : (n : ℕ) (xs ys : List ℕ) → take n (take n xs ++ ys) ≡ take n (xs ++ ys)
-take_front zero xs ys = none (take 0 xs ++ ys) ∙ sym (none (xs ++ ys))
-take_front (suc n) [] ys = refl
-take_front (suc n) (x ∷ xs) ys = ap (λ (zs : List ℕ). x ∷ zs) (take_front n xs ys)
-
 -- a text that ends no line is kept
 pub keeps_text : (format : Format) (start text more : List ℕ) → IsOpen text → more ≡ take 193 (start ++ text) → TakesText format start text more []
-keeps_text format start text more unended is = λ line kept. record {
-  lines = [];
-  rest = line ++ text;
-  are = no_lines (line ++ text) (All-append (λ (b : ℕ). b ≢ 10) line text kept.unended unended);
-  start = is ∙ ap (λ (xs : List ℕ). take 193 (xs ++ text)) kept.kept ∙ take_front 193 line text;
-  rows_are = sym (rows_of-nil format);
-}
+keeps_text format = takes_open (λ lines. [] ≡ rows_of format lines) (sym (rows_of-nil format))
 
 kept_none : (line : List ℕ) → [] ≡ take 193 line → line ≡ []
 kept_none [] e = refl
@@ -54,7 +39,7 @@ takes_lines format start text rows n empty h = λ line kept.
         text_is = ap (λ (xs : List ℕ). xs ++ take n text) same ∙ h.text_is ∙ sym (append-nil (flat_map ended h.lines));
       };
       start = refl;
-      rows_are = h.rows_are;
+      holds = h.rows_are;
     }
 
 not_true : (b : Bool) → (b ≡ true → ⊥) → b ≡ false
@@ -67,14 +52,15 @@ long_not_best line long =
     ap (λ (b : Bool). b && starts_with nat_eq line (codes "best ")) (not_true (nat_le (length line) 192) (λ e. absurd (omega (arith, leb-true (length line) 192 e))))
 
 -- the row of a line is that of what is kept of it
-kept_row : (format : Format) (start line : List ℕ) → IsLineStart start line → (length line ≤ 192) ⊎ (192 < length line) → rows_of format (start ∷ []) ≡ rows_of format (line ∷ [])
-kept_row format start line kept (inl few) = ap (λ (l : List ℕ). rows_of format (l ∷ [])) (kept.kept ∙ take_all 193 line (omega arith))
-kept_row format start line kept (inr long) =
-    let len : length start ≡ 193 = ap length kept.kept ∙ length-take-le 193 line (omega arith) in
-    rows_none format start (long_not_best start (omega arith)) ∙ sym (rows_none format line (long_not_best line long))
+kept_row : (format : Format) (start line : List ℕ) → IsLineStart start line → rows_of format (start ∷ []) ≡ rows_of format (line ∷ [])
+kept_row format start line kept = elim (kept_or_long start line kept) [
+  | inl same ↦ ap (λ (l : List ℕ). rows_of format (l ∷ [])) same
+  | inr long ↦ rows_none format start (long_not_best start long.0) ∙ sym (rows_none format line (long_not_best line long.1))
+]
 
-short_or_long : (n : ℕ) → (n ≤ 192) ⊎ (192 < n)
-short_or_long n = elim (cases_lt 192 n) [ inl long ↦ inr long | inr few ↦ inl few ]
+none : (xs : List ℕ) → take 0 xs ≡ []
+none [] = refl
+none (x ∷ xs) = refl
 
 -- the end of a line that was begun
 pub takes_end : (format : Format) (start text rows : List ℕ) (end : ℕ) → EndsAt text end → end ≡ 0 → rows ≡ rows_of format (start ∷ []) → TakesText format start (take 1 text) [] rows
@@ -90,7 +76,7 @@ takes_end format start text rows end ends zero_end is = λ line kept.
         text_is = ap (λ (xs : List ℕ). line ++ xs) first ∙ sym (append-nil (ended line)) ∙ sym (append-nil (ended line ++ []));
       };
       start = refl;
-      rows_are = is ∙ kept_row format start line kept (short_or_long (length line));
+      holds = is ∙ kept_row format start line kept;
     }
 
 -- ---- writers
@@ -192,7 +178,7 @@ passed_on {W} adds law format before after s m text new a last =
     let has = a.takes [] kept in
     let P : W → Type 0 = λ x. adds x a.moved.shown m.inner in
     let Q : List ℕ → Type 0 = λ x. adds before x after in
-    let rows : a.rows ≡ rows_of format has.lines = has.rows_are ∙ ap (λ (f : Format). rows_of f has.lines) new.format_is in
+    let rows : a.rows ≡ rows_of format has.lines = has.holds ∙ ap (λ (f : Format). rows_of f has.lines) new.format_is in
     record {
       lines = has.lines;
       rest = has.rest;

@@ -1,4 +1,6 @@
 pub mod Lines
+pub mod Cutting
+pub mod CuttingLaws
 pub mod Rows
 pub mod Writers
 pub mod WriterLaws

@@ -1,5 +1,5 @@
 -- Lines of a text, and which of them are best lines.
-use Rattle.std.specs.Prelude.{◌≡◌, ◌≢◌, ℕ, Bool, ◌&&◌, nat_le, nat_eq, All, List, [], ◌∷◌, ◌++◌, codes, length, take, flat_map}
+use Rattle.std.specs.Prelude.{◌≡◌, ◌≢◌, ℕ, ◌+◌, ◌<◌, Bool, ◌&&◌, nat_le, nat_eq, All, List, ◌++◌, codes, length, take, flat_map}
 use Rattle.std.specs.List.{starts_with}
 
 -- a line with its line feed
@@ -19,3 +19,9 @@ pub record AreLines (text : List ℕ) (lines : List (List ℕ)) (rest : List ℕ
   pub each : All IsOpen lines
   pub last : IsOpen rest
   pub text_is : text ≡ flat_map ended lines ++ rest
+
+-- the first line of the text ends here
+pub record EndsAt (text : List ℕ) (end : ℕ) : Type 0 where
+  pub within : end < length text
+  pub unended : IsOpen (take end text)
+  pub text_is : take (end + 1) text ≡ ended (take end text)

@@ -1,14 +1,8 @@
 -- The lines of a text. Cited by private clauses alone.
-use Rattle.std.specs.Prelude.{◌≡◌, ℕ, ◌+◌, ◌<◌, All, List, ◌++◌, length, take, drop, flat_map}
+use Rattle.std.specs.Prelude.{◌≡◌, ℕ, All, List, ◌++◌, take, flat_map}
 use Rattle.best_lines.specs.declared.format.Format.{Format}
 use Rattle.best_lines.specs.Lines.{IsOpen, ended}
 use Rattle.best_lines.specs.Rows.{rows_of}
-
--- the first line of the text ends here
-pub record EndsAt (text : List ℕ) (end : ℕ) : Type 0 where
-  pub within : end < length text
-  pub unended : IsOpen (take end text)
-  pub text_is : take (end + 1) text ≡ ended (take end text)
 
 -- the first `count` bytes of the text are lines, and their rows come after what was pending
 pub record PutsLines (format : Format) (text : List ℕ) (count : ℕ) (old new : List ℕ) : Type 0 where

@@ -1,14 +1,15 @@
 -- The laws of a writer that passes on best lines: texts after texts make rows after rows.
 use Rattle.std.proofs.Common.{◌≡◌, ℕ, List, [], ◌∷◌, ◌++◌, append_assoc, append-nil, refl, sym, ap, subst, ◌∙◌, take}
 use Rattle.std.proofs.lemmas.Grind.{flat_map-append}
-use Rattle.std.proofs.lemmas.List.Elements.{All-nil, All-append, filter-append}
+use Rattle.std.proofs.lemmas.List.Elements.{filter-append}
 use Rattle.std.specs.Prelude.{filter, flat_map}
 use Rattle.feed_text.specs.Devices.{Moved}
 use Rattle.best_lines.specs.declared.format.Format.{Format}
 use Rattle.best_lines.specs.declared.bests_out.BestsOut.{BestsOut}
-use Rattle.best_lines.specs.Lines.{AreLines, IsOpen, ended, is_best}
+use Rattle.best_lines.specs.CuttingLaws.{takes_both, takes_no_text}
+use Rattle.best_lines.specs.Lines.{is_best}
 use Rattle.best_lines.specs.Rows.{row_of, rows_of}
-use Rattle.best_lines.specs.Writers.{AddsBests, HasRows, IsLineStart, TakesText}
+use Rattle.best_lines.specs.Writers.{AddsBests, TakesText}
 
 -- no line makes no row
 pub rows_of-nil : (format : Format) → rows_of format [] ≡ []
@@ -22,47 +23,15 @@ rows_of-append format xs ys =
     ap (λ (ls : List (List ℕ)). flat_map (row_of format) ls) (filter-append is_best xs ys)
     ∙ flat_map-append (row_of format) (filter is_best xs) (filter is_best ys)
 
--- lines after lines are lines
-pub lines_append : (a b : List ℕ) (xs ys : List (List ℕ)) (mid rest : List ℕ) → AreLines a xs mid → AreLines (mid ++ b) ys rest → AreLines (a ++ b) (xs ++ ys) rest
-lines_append a b xs ys mid rest h k = record {
-  each = All-append IsOpen xs ys h.each k.each;
-  last = k.last;
-  text_is = ap (λ (t : List ℕ). t ++ b) h.text_is
-      ∙ append_assoc (flat_map ended xs) mid b
-      ∙ ap (λ (t : List ℕ). flat_map ended xs ++ t) k.text_is
-      ∙ sym (append_assoc (flat_map ended xs) (flat_map ended ys) rest)
-      ∙ ap (λ (t : List ℕ). t ++ rest) (sym (flat_map-append ended xs ys));
-}
-
--- a line that isn't ended is no line yet
-pub no_lines : (line : List ℕ) → IsOpen line → AreLines line [] line
-no_lines line unended = record { each = All-nil IsOpen; last = unended; text_is = refl }
-
 -- nothing is taken
 pub takes_nothing : (format : Format) (start : List ℕ) → TakesText format start [] start []
-takes_nothing format start = λ line kept. record {
-  lines = [];
-  rest = line;
-  are = subst (λ (t : List ℕ). AreLines t [] line) (sym (append-nil line)) (no_lines line kept.unended);
-  start = kept.kept;
-  rows_are = sym (rows_of-nil format);
-}
+takes_nothing format start = takes_no_text (λ lines. [] ≡ rows_of format lines) (sym (rows_of-nil format)) start
 
 -- a text and then another
 pub takes_more : (format : Format) (s t u x y r q : List ℕ) → TakesText format s x t r → TakesText format t y u q → TakesText format s (x ++ y) u (r ++ q)
-takes_more format s t u x y r q a b = λ line kept.
-    let first = a line kept in
-    let then_kept : IsLineStart t first.rest = record { kept = first.start; unended = first.are.last } in
-    let second = b first.rest then_kept in
-    record {
-      lines = first.lines ++ second.lines;
-      rest = second.rest;
-      are = subst (λ (text : List ℕ). AreLines text (first.lines ++ second.lines) second.rest) (append_assoc line x y)
-          (lines_append (line ++ x) y first.lines second.lines first.rest second.rest first.are second.are);
-      start = second.start;
-      rows_are = ap (λ (f : List ℕ). f ++ q) first.rows_are ∙ ap (λ (f : List ℕ). rows_of format first.lines ++ f) second.rows_are
-          ∙ sym (rows_of-append format first.lines second.lines);
-    }
+takes_more format s t u x y r q =
+    takes_both (λ lines. r ≡ rows_of format lines) (λ lines. q ≡ rows_of format lines) (λ lines. r ++ q ≡ rows_of format lines)
+    (λ xs ys a b. ap (λ (f : List ℕ). f ++ q) a ∙ ap (λ (f : List ℕ). rows_of format xs ++ f) b ∙ sym (rows_of-append format xs ys)) s t u x y
 
 -- what was moved, and then more
 pub moved_more : {W : Type 0} (adds : W → List ℕ → W → Type 0) → ((s t u : W) (xs ys : List ℕ) → adds s xs t → adds t ys u → adds s (xs ++ ys) u)

@@ -1,29 +1,16 @@
 -- A writer of lines that passes on the best ones, over any writer.
-use Rattle.std.specs.Prelude.{◌≡◌, ℕ, List, [], ◌++◌, take}
+use Rattle.std.specs.Prelude.{◌≡◌, ℕ, List, [], ◌++◌}
 use Rattle.feed_text.specs.Devices.{Moved}
 use Rattle.best_lines.specs.declared.format.Format.{Format}
 use Rattle.best_lines.specs.declared.bests_out.BestsOut.{BestsOut}
-use Rattle.best_lines.specs.Lines.{AreLines, IsOpen}
+use Rattle.best_lines.specs.Cutting.{TakesLines}
+use Rattle.best_lines.specs.Lines.{AreLines}
 use Rattle.best_lines.specs.Rows.{header_of, rows_of}
 
--- what is kept of a line that isn't ended: its first 193 bytes, enough to see that it is too long
-pub record IsLineStart (start line : List ℕ) : Type 0 where
-  pub kept : start ≡ take 193 line
-  pub unended : IsOpen line
-
--- After what was kept comes a text: whatever the line is that it was kept of, the text ends it and
--- goes on by lines, of which the best ones make these rows, and what is kept then is of the line
--- that isn't ended.
-pub record HasRows (format : Format) (text new_start rows : List ℕ) : Type 0 where
-  pub lines : List (List ℕ)
-  pub rest : List ℕ
-  pub are : AreLines text lines rest
-  pub start : new_start ≡ take 193 rest
-  pub rows_are : rows ≡ rows_of format lines
-
+-- A text comes after what was kept: the best ones of its lines make these rows.
 abbrev pub TakesText : Format → List ℕ → List ℕ → List ℕ → List ℕ → Type 0
 TakesText format start text new_start rows =
-    (line : List ℕ) → IsLineStart start line → HasRows format (line ++ text) new_start rows
+    TakesLines (λ lines. rows ≡ rows_of format lines) start text new_start
 
 -- The writer took this text: its best lines make rows, which come after those that were pending,
 -- and of these the writer below took a prefix; the rest is pending.

@@ -68,7 +68,7 @@ impl<W: TextOut> BestsOut<W> {
     ghost use Rattle.best_lines.specs.Writers.{AddsBests, IsNewOver, PassedOn, below, pending_of};
     ghost use Rattle.best_lines.specs.declared.bests_out.BestsOut.{BestsOut};
     ghost use Rattle.best_lines.specs.declared.format.Format.{Format};
-    ghost use Rattle.best_lines.specs.Taking.{EndsAt};
+    ghost use Rattle.best_lines.specs.Lines.{EndsAt};
 
     /// Passes on what is pending.
     pub fn finish(&mut self) -> Result<(), WriteStop>

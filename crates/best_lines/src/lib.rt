@@ -15,10 +15,10 @@
 mod best_line;
 mod bests_out;
 mod format;
-mod lines;
+pub mod lines;
 mod rows;
 mod sending;
-mod words;
+pub mod words;
 
 pub use bests_out::BestsOut;
 pub use format::Format;

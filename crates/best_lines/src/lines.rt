@@ -1,7 +1,7 @@
 //! The lines of a text.
 ghost use Rattle.std.specs.Prelude.{◌≡◌, ◌+◌, ◌<◌, ◌≤◌, ◌++◌, [], IfNone, IfSome, length, take};
-ghost use Rattle.best_lines.specs.Lines.{IsOpen};
-ghost use Rattle.best_lines.specs.Taking.{EndsAt, PutsLines};
+ghost use Rattle.best_lines.specs.Lines.{EndsAt, IsOpen};
+ghost use Rattle.best_lines.specs.Taking.{PutsLines};
 
 use crate::format::Format;
 use crate::rows::{Pending, put_line};
@@ -9,17 +9,17 @@ use feed_text::unread::ReadBuffer;
 use memchr::memchr;
 
 /// What is kept of a line that isn't ended.
-pub(crate) const START_ROOM: usize = 193;
+pub const START_ROOM: usize = 193;
 
 /// The start of a line that isn't ended.
-pub(crate) type LineStart = ReadBuffer<START_ROOM>;
+pub type LineStart = ReadBuffer<START_ROOM>;
 
 /// The most bytes pending beside which there is room for one more row.
 const MOST_PENDING: usize = 126_976;
 
 /// Where the first line of a text ends, if it does.
 #[inline(always)]
-pub(crate) fn line_end(text: &[u8]) -> Option<usize>
+pub fn line_end(text: &[u8]) -> Option<usize>
     ensures some { IfSome result (EndsAt text.now) }
     ensures none { IfNone result (IsOpen text.now) }
 {
@@ -27,7 +27,7 @@ pub(crate) fn line_end(text: &[u8]) -> Option<usize>
 }
 
 /// Keeps more of a line that isn't ended.
-pub(crate) fn keep(start: &mut LineStart, more: &[u8])
+pub fn keep(start: &mut LineStart, more: &[u8])
     ensures { start.new ≡ take 193 (start.old ++ more.now) }
 {
     let count = (START_ROOM - start.len()).min(more.len());

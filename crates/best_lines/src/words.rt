@@ -7,7 +7,7 @@ use memchr::memchr;
 
 /// Parts bytes at the first separator: returns those before it, all where there is none, and those
 /// after it.
-fn split_first(bytes: &[u8], separator: u8) -> (&[u8], &[u8])
+pub fn split_first(bytes: &[u8], separator: u8) -> (&[u8], &[u8])
     ensures first { result.0.now ≡ part_before separator bytes.now }
     ensures rest { result.1.now ≡ part_after separator bytes.now }
     ensures first_len { length result.0.now ≤ length bytes.now }
@@ -58,14 +58,14 @@ pub(crate) fn words_of(line: &[u8]) -> LineWords<'_>
 
 /// The parts of a side's word.
 #[derive(Clone, Copy, Debug, PartialEq, Eq)]
-pub(crate) struct SideParts<'a> {
-    pub(crate) venue: &'a [u8],
-    pub(crate) price: &'a [u8],
-    pub(crate) size: &'a [u8],
+pub struct SideParts<'a> {
+    pub venue: &'a [u8],
+    pub price: &'a [u8],
+    pub size: &'a [u8],
 }
 
 /// The parts of a side's word, or `None` where it is `none`.
-pub(crate) fn parts_of(side: &[u8]) -> Option<SideParts<'_>>
+pub fn parts_of(side: &[u8]) -> Option<SideParts<'_>>
     ensures none { IfNone result (is_none_word side.now ≡ true) }
     ensures some { IfSome result (λ _. is_none_word side.now ≡ false) }
     ensures venue { IfSome result (λ p. p.venue.now ≡ venue_in side.now) }

@@ -8,8 +8,10 @@ use Rattle.clap.specs.Faults.{fault_of}
 use Rattle.clap.specs.declared.error.kind.ErrorKind.{ErrorKind}
 use Rattle.clap.specs.declared.error.kind.ErrorKind.TheVariants.{DisplayHelp, DisplayVersion, OutOfMemory}
 use Rattle.nbbo_main.specs.CapturedLines.{HasCapturedLinesFault}
-use Rattle.nbbo_main.specs.CommandLine.{Gives, GivesBadFormat, GivesBests, GivesNoListening, GivesNoTask, GivesNone, IsAccepted, IsConverting, IsCount, IsFlag, IsGivenCount, IsListening, IsRefused, IsWindowOf, RefusesBy, lines_refusal_by, list_in, listen_values_of, refusal_by, symbol_words_in, symbols_refusal_by}
+use Rattle.nbbo_main.specs.CommandLine.{Gives, GivesBadFormat, GivesBests, GivesCounted, GivesNoConversion, GivesNoCounted, GivesNoListening, GivesNoStats, GivesNoTask, GivesNone, IsAccepted, IsConverting, IsCount, IsCounting, IsFlag, IsGivenCount, IsListening, IsRefused, IsWindowOf, RefusesBy, convert_values_of, lines_refusal_by, list_in, listen_values_of, stats_values_of, refusal_by, symbol_words_in, symbols_refusal_by}
 use Rattle.best_lines.specs.declared.format.Format.{Format}
+use Rattle.capture_stats.specs.declared.format.StatsFormat.{StatsFormat}
+use Rattle.nbbo_main.specs.StatsFormats.{NamesNoStatsFormat, NamesStatsFormat}
 use Rattle.nbbo_main.specs.BestFormats.{HasFormatFault, NamesFormat}
 use Rattle.nbbo_main.specs.declared.best_format.FormatFault.{FormatFault}
 use Rattle.nbbo_main.specs.Commands.{nbbo_app}
@@ -96,16 +98,54 @@ pub GivesNone-lines : (rows : List Row) (settings : ReplaySettings) (list : Text
 GivesNone-lines rows settings list lines.BadLines given listed fault = record { settings = settings; given = given; list = list; listed = listed; fault = fault }
 GivesNone-lines rows settings list lines.NoMemory given listed fault = tt
 
+-- the settings of a replay that is counted, and why there are none
+pub GivesNoCounted-symbols : (rows : List Row) (words sessions : List Text) (fault : SymbolsFault) → words ≡ symbol_words_in rows → sessions_in (list_in rows) ≡ Ok sessions → HasSymbolsFault words fault → GivesNoCounted rows (symbols_refusal_by fault)
+GivesNoCounted-symbols rows words sessions symbols.BadSymbol e right told = (sessions, right, subst (λ (ws : List Text). HasSymbolsFault ws symbols.BadSymbol) e told)
+GivesNoCounted-symbols rows words sessions symbols.TooManySymbols e right told = (sessions, right, subst (λ (ws : List Text). HasSymbolsFault ws symbols.TooManySymbols) e told)
+GivesNoCounted-symbols rows words sessions symbols.DuplicateSymbol e right told = (sessions, right, subst (λ (ws : List Text). HasSymbolsFault ws symbols.DuplicateSymbol) e told)
+GivesNoCounted-symbols rows words sessions symbols.NoMemory e right told = tt
+
+pub GivesNoCounted-fault : (rows : List Row) (list : Text) (fault : SessionsFault) → list ≡ list_in rows → (fault ≢ sessions.NoMemory → sessions_in list ≡ Err fault) → GivesNoCounted rows (refusal_by fault)
+GivesNoCounted-fault rows list sessions.BadSession e told = ap sessions_in (sym e) ∙ told (search rules)
+GivesNoCounted-fault rows list sessions.TooManySessions e told = ap sessions_in (sym e) ∙ told (search rules)
+GivesNoCounted-fault rows list sessions.NoMemory e told = tt
+
+-- they are why the values of stats are refused, and the format and the list of lines may be
+pub GivesNoStats-counted : (rows : List Row) (refusal : Refusal) → GivesNoCounted rows refusal → GivesNoStats rows refusal
+GivesNoStats-counted rows (Shown text) none = absurd none
+GivesNoStats-counted rows (Usage text) none = absurd none
+GivesNoStats-counted rows NotText none = absurd none
+GivesNoStats-counted rows NoMemory none = tt
+GivesNoStats-counted rows BadSession none = none
+GivesNoStats-counted rows TooManySessions none = none
+GivesNoStats-counted rows BadLines none = absurd none
+GivesNoStats-counted rows BadRequest none = absurd none
+GivesNoStats-counted rows BadFormat none = absurd none
+GivesNoStats-counted rows BadSymbol none = none
+GivesNoStats-counted rows TooManySymbols none = none
+GivesNoStats-counted rows DuplicateSymbol none = none
+
+pub GivesNoStats-lines : (rows : List Row) (settings : ReplaySettings) (format : StatsFormat) (list : Text) (fault : LinesFault) → GivesCounted rows settings → NamesStatsFormat (first_of (codes "format") rows) format → first_of (codes "lines") rows ≡ Some list → HasCapturedLinesFault list (length settings.sessions.items) fault → GivesNoStats rows (lines_refusal_by fault)
+GivesNoStats-lines rows settings format list lines.BadLines given named listed fault = record { settings = settings; given = given; format = format; named = named; list = list; listed = listed; fault = fault }
+GivesNoStats-lines rows settings format list lines.NoMemory given named listed fault = tt
+
 -- one subcommand isn't another one
 not_both : (words : List Text) → IsListening words → IsConverting words → ⊥
 not_both words listens converts = let bad : Some (codes "listen") ≡ Some (codes "convert") = sym listens ∙ converts in absurd (cc)
+
+not_listening_and_counting : (words : List Text) → IsListening words → IsCounting words → ⊥
+not_listening_and_counting words listens counts = let bad : Some (codes "listen") ≡ Some (codes "stats") = sym listens ∙ counts in absurd (cc)
+
+not_converting_and_counting : (words : List Text) → IsConverting words → IsCounting words → ⊥
+not_converting_and_counting words converts counts = let bad : Some (codes "convert") ≡ Some (codes "stats") = sym converts ∙ counts in absurd (cc)
 
 listens_for_none : (words : List Text) (refusal : Refusal) → IsAccepted words → IsListening words → GivesNoListening (listen_values_of words) refusal → GivesNoTask words refusal
 listens_for_none words refusal taken listens none = record {
   taken = taken;
   listening = λ again. none;
   converting = λ converts. absurd (not_both words listens converts);
-  replaying = λ not_listening not_converting. absurd (not_listening listens);
+  counting = λ counts. absurd (not_listening_and_counting words listens counts);
+  replaying = λ not_listening not_converting not_counting. absurd (not_listening listens);
 }
 
 -- the values of the options of listen are refused
@@ -122,6 +162,51 @@ IsRefused-listening words BadFormat taken listens none = absurd none
 IsRefused-listening words BadSymbol taken listens none = listens_for_none words BadSymbol taken listens none
 IsRefused-listening words TooManySymbols taken listens none = listens_for_none words TooManySymbols taken listens none
 IsRefused-listening words DuplicateSymbol taken listens none = listens_for_none words DuplicateSymbol taken listens none
+
+-- the values of the option of convert are refused
+pub IsRefused-converting : (words : List Text) (refusal : Refusal) → IsAccepted words → IsConverting words → GivesNoConversion (convert_values_of words) refusal → IsRefused words refusal
+IsRefused-converting words (Shown text) taken converts none = absurd none
+IsRefused-converting words (Usage text) taken converts none = absurd none
+IsRefused-converting words NotText taken converts none = absurd none
+IsRefused-converting words NoMemory taken converts none = tt
+IsRefused-converting words BadSession taken converts none = absurd none
+IsRefused-converting words TooManySessions taken converts none = absurd none
+IsRefused-converting words BadLines taken converts none = record {
+  taken = taken;
+  listening = λ listens. absurd (not_both words listens converts);
+  converting = λ again. none;
+  counting = λ counts. absurd (not_converting_and_counting words converts counts);
+  replaying = λ not_listening not_converting not_counting. absurd (not_converting converts);
+}
+IsRefused-converting words BadRequest taken converts none = absurd none
+IsRefused-converting words BadFormat taken converts none = absurd none
+IsRefused-converting words BadSymbol taken converts none = absurd none
+IsRefused-converting words TooManySymbols taken converts none = absurd none
+IsRefused-converting words DuplicateSymbol taken converts none = absurd none
+
+counts_none : (words : List Text) (refusal : Refusal) → IsAccepted words → IsCounting words → GivesNoStats (stats_values_of words) refusal → GivesNoTask words refusal
+counts_none words refusal taken counts none = record {
+  taken = taken;
+  listening = λ listens. absurd (not_listening_and_counting words listens counts);
+  converting = λ converts. absurd (not_converting_and_counting words converts counts);
+  counting = λ again. none;
+  replaying = λ not_listening not_converting not_counting. absurd (not_counting counts);
+}
+
+-- the values of the options of stats are refused
+pub IsRefused-counting : (words : List Text) (refusal : Refusal) → IsAccepted words → IsCounting words → GivesNoStats (stats_values_of words) refusal → IsRefused words refusal
+IsRefused-counting words (Shown text) taken counts none = absurd none
+IsRefused-counting words (Usage text) taken counts none = absurd none
+IsRefused-counting words NotText taken counts none = absurd none
+IsRefused-counting words NoMemory taken counts none = tt
+IsRefused-counting words BadSession taken counts none = counts_none words BadSession taken counts none
+IsRefused-counting words TooManySessions taken counts none = counts_none words TooManySessions taken counts none
+IsRefused-counting words BadLines taken counts none = counts_none words BadLines taken counts none
+IsRefused-counting words BadRequest taken counts none = absurd none
+IsRefused-counting words BadFormat taken counts none = counts_none words BadFormat taken counts none
+IsRefused-counting words BadSymbol taken counts none = counts_none words BadSymbol taken counts none
+IsRefused-counting words TooManySymbols taken counts none = counts_none words TooManySymbols taken counts none
+IsRefused-counting words DuplicateSymbol taken counts none = counts_none words DuplicateSymbol taken counts none
 
 -- an error of clap by one of its kinds is the refusal
 pub IsRefused-by : (words : List Text) (kind : ErrorKind) (refusal : Refusal) → RefusesBy kind refusal → (kind ≡ OutOfMemory) ⊎ IsAmong kind (fault_of nbbo_app words) → IsRefused words refusal

@@ -15,11 +15,13 @@ use Rattle.clap.specs.declared.error.kind.ErrorKind.TheVariants.{DisplayHelp, Di
 use Rattle.nbbo_main.specs.Addresses.{HasLinesFault, NameLines, NamesRequest, NamesNoRequest}
 use Rattle.nbbo_main.specs.CapturedLines.{HasAllLinesFault, HasCapturedLinesFault, NameAllLines, NameCapturedLines}
 use Rattle.best_lines.specs.declared.format.Format.{Format}
+use Rattle.capture_stats.specs.declared.format.StatsFormat.{StatsFormat}
 use Rattle.nbbo_main.specs.BestFormats.{HasFormatFault, NamesFormat}
 use Rattle.nbbo_main.specs.Commands.{nbbo_app}
 use Rattle.nbbo_main.specs.Sessions.{sessions_in}
 use Rattle.nbbo_main.specs.declared.addresses.LinesFault.{LinesFault}
 use Rattle.nbbo_main.specs.declared.addresses.LinesFault.TheVariants as lines
+use Rattle.nbbo_main.specs.StatsFormats.{NamesNoStatsFormat, NamesStatsFormat}
 use Rattle.nbbo_main.specs.declared.sessions.SessionsFault.{SessionsFault}
 use Rattle.nbbo_main.specs.declared.sessions.SessionsFault.TheVariants as sessions
 use Rattle.nbbo_main.specs.Symbols.{HasSymbolsFault, NameSymbols}
@@ -28,8 +30,11 @@ use Rattle.nbbo_main.specs.declared.symbols.SymbolsFault.TheVariants as symbols
 use Rattle.nbbo_main.specs.declared.line_replay_settings.LineReplaySettings.{LineReplaySettings}
 use Rattle.nbbo_main.specs.declared.listen_settings.ListenSettings.{ListenSettings}
 use Rattle.nbbo_main.specs.declared.replay_settings.ReplaySettings.{ReplaySettings}
+use Rattle.nbbo_main.specs.declared.stats_settings.StatsInput.{StatsInput}
+use Rattle.nbbo_main.specs.declared.stats_settings.StatsInput.TheVariants.{Own, Packets}
+use Rattle.nbbo_main.specs.declared.stats_settings.StatsSettings.{StatsSettings}
 use Rattle.nbbo_main.specs.declared.task.Task.{Task}
-use Rattle.nbbo_main.specs.declared.task.Task.TheVariants.{Replay, ReplayLines, Convert, Listen}
+use Rattle.nbbo_main.specs.declared.task.Task.TheVariants.{Replay, ReplayLines, Convert, Listen, Stats}
 use Rattle.nbbo_main.specs.declared.refusal.Refusal.{Refusal}
 use Rattle.nbbo_main.specs.declared.refusal.Refusal.TheVariants.{Shown, Usage, NotText, BadSession, TooManySessions, BadLines, BadRequest, BadFormat, BadSymbol, TooManySymbols, DuplicateSymbol, NoMemory}
 use Rattle.std.specs.declared.net.socket_addr.SocketAddr.{SocketAddr}
@@ -51,6 +56,11 @@ listen_rows (Some (name, rows)) = if bytes_eq name (codes "listen") then rows el
 abbrev pub convert_rows : Option (Text × List Row) → List Row
 convert_rows None = []
 convert_rows (Some (name, rows)) = if bytes_eq name (codes "convert") then rows else []
+
+-- the values of the options of stats, where that is the subcommand
+abbrev pub stats_rows : Option (Text × List Row) → List Row
+stats_rows None = []
+stats_rows (Some (name, rows)) = if bytes_eq name (codes "stats") then rows else []
 
 -- the list of sessions, empty where none is given
 abbrev pub list_in : List Row → Text
@@ -136,6 +146,10 @@ pub record GivesListening (rows : List Row) (settings : ListenSettings) : Type 0
   pub journal : IsCount (one_of (codes "journal") rows) settings.journal
   pub datagrams : IsCount (one_of (codes "datagrams") rows) settings.datagrams
   pub buffer : IsGivenCount (one_of (codes "buffer") rows) settings.buffer
+  pub seconds : IsGivenCount (one_of (codes "seconds") rows) settings.seconds
+  pub until_input_ends : IsFlag (one_of (codes "until-input-ends") rows) settings.until_input_ends
+  pub follow : IsFlag (one_of (codes "follow") rows) settings.follow
+  pub stats : IsGivenCount (one_of (codes "stats") rows) settings.stats
 
 -- The values of the options of replay give this task: with a list of lines that of a packet
 -- capture.
@@ -144,6 +158,34 @@ GivesTask rows (Replay settings) = Gives rows settings × (first_of (codes "line
 GivesTask rows (ReplayLines settings) = GivesLineReplay rows settings
 GivesTask rows (Convert lines) = ⊥
 GivesTask rows (Listen settings) = ⊥
+GivesTask rows (Stats settings) = ⊥
+
+-- The values of the options of stats give these settings of a replay: gaps are printed, and the
+-- journal has the most room.
+pub record GivesCounted (rows : List Row) (settings : ReplaySettings) : Type 0 where
+  pub sessions : sessions_in (list_in rows) ≡ Ok settings.sessions.items
+  pub symbols : NameSymbols (symbol_words_in rows) settings.symbols.items
+  pub window : IsWindowOf (one_of (codes "window") rows) settings.window
+  pub journal : settings.journal ≡ 4294967295
+  pub gaps : settings.gaps ≡ true
+
+-- The values of the options of stats give these settings for a packet capture.
+pub record GivesCountedLines (rows : List Row) (settings : LineReplaySettings) : Type 0 where
+  pub replay : GivesCounted rows settings.replay
+  pub list : Text
+  pub given : first_of (codes "lines") rows ≡ Some list
+  pub lines : NameCapturedLines list (length settings.replay.sessions.items) settings.lines.items
+
+-- with a list of lines the replay is that of a packet capture
+abbrev pub GivesStatsInput : List Row → StatsInput → Type 0
+GivesStatsInput rows (Own settings) =
+    GivesCounted rows settings × (first_of (codes "lines") rows ≡ None)
+GivesStatsInput rows (Packets settings) = GivesCountedLines rows settings
+
+-- The values of the options of stats give these settings.
+pub record GivesStats (rows : List Row) (settings : StatsSettings) : Type 0 where
+  pub input : GivesStatsInput rows settings.input
+  pub format : NamesStatsFormat (first_of (codes "format") rows) settings.format
 
 -- The symbols are wrong, where the list of sessions is right: that is looked at first.
 abbrev pub GivesNoSymbols : List Row → SymbolsFault → Type 0
@@ -183,6 +225,54 @@ GivesNone rows (Usage text) = ⊥
 GivesNone rows NotText = ⊥
 GivesNone rows BadLines = GivesNoCapturedLines rows
 GivesNone rows BadRequest = ⊥
+
+-- The values of the options of stats give no settings of a replay, since the list of sessions or the
+-- symbols are wrong, or memory was refused.
+abbrev pub GivesNoCounted : List Row → Refusal → Type 0
+GivesNoCounted rows BadSession = sessions_in (list_in rows) ≡ Err sessions.BadSession
+GivesNoCounted rows TooManySessions = sessions_in (list_in rows) ≡ Err sessions.TooManySessions
+GivesNoCounted rows BadSymbol = GivesNoSymbols rows symbols.BadSymbol
+GivesNoCounted rows TooManySymbols = GivesNoSymbols rows symbols.TooManySymbols
+GivesNoCounted rows DuplicateSymbol = GivesNoSymbols rows symbols.DuplicateSymbol
+GivesNoCounted rows NoMemory = Unit {0}
+GivesNoCounted rows (Shown text) = ⊥
+GivesNoCounted rows (Usage text) = ⊥
+GivesNoCounted rows NotText = ⊥
+GivesNoCounted rows BadLines = ⊥
+GivesNoCounted rows BadRequest = ⊥
+GivesNoCounted rows BadFormat = ⊥
+
+-- The settings of the replay are right, and the format is wrong.
+pub record CountsInNoFormat (rows : List Row) : Type 0 where
+  pub settings : ReplaySettings
+  pub given : GivesCounted rows settings
+  pub fault : NamesNoStatsFormat (first_of (codes "format") rows)
+
+-- The settings of the replay and the format are right, and the list of lines is wrong.
+pub record CountsNoLines (rows : List Row) : Type 0 where
+  pub settings : ReplaySettings
+  pub given : GivesCounted rows settings
+  pub format : StatsFormat
+  pub named : NamesStatsFormat (first_of (codes "format") rows) format
+  pub list : Text
+  pub listed : first_of (codes "lines") rows ≡ Some list
+  pub fault : HasCapturedLinesFault list (length settings.sessions.items) lines.BadLines
+
+-- The values of the options of stats give no settings: the sessions are looked at first, then the
+-- symbols, the format and the list of lines.
+abbrev pub GivesNoStats : List Row → Refusal → Type 0
+GivesNoStats rows BadSession = GivesNoCounted rows BadSession
+GivesNoStats rows TooManySessions = GivesNoCounted rows TooManySessions
+GivesNoStats rows BadSymbol = GivesNoCounted rows BadSymbol
+GivesNoStats rows TooManySymbols = GivesNoCounted rows TooManySymbols
+GivesNoStats rows DuplicateSymbol = GivesNoCounted rows DuplicateSymbol
+GivesNoStats rows BadFormat = CountsInNoFormat rows
+GivesNoStats rows BadLines = CountsNoLines rows
+GivesNoStats rows NoMemory = Unit {0}
+GivesNoStats rows (Shown text) = ⊥
+GivesNoStats rows (Usage text) = ⊥
+GivesNoStats rows NotText = ⊥
+GivesNoStats rows BadRequest = ⊥
 
 -- The values of the option of convert give no lines.
 abbrev pub GivesNoConversion : List Row → Refusal → Type 0
@@ -280,6 +370,9 @@ listen_values_of words = listen_rows (subcommand_of nbbo_app words)
 abbrev pub convert_values_of : List Text → List Row
 convert_values_of words = convert_rows (subcommand_of nbbo_app words)
 
+abbrev pub stats_values_of : List Text → List Row
+stats_values_of words = stats_rows (subcommand_of nbbo_app words)
+
 -- the subcommand is convert
 abbrev pub IsConverting : List Text → Type 0
 IsConverting words =
@@ -289,6 +382,11 @@ IsConverting words =
 abbrev pub IsListening : List Text → Type 0
 IsListening words =
     option_map (λ found. found.0) (subcommand_of nbbo_app words) ≡ Some (codes "listen")
+
+-- the subcommand is stats
+abbrev pub IsCounting : List Text → Type 0
+IsCounting words =
+    option_map (λ found. found.0) (subcommand_of nbbo_app words) ≡ Some (codes "stats")
 
 -- clap takes the words
 abbrev pub IsAccepted : List Text → Type 0
@@ -315,19 +413,26 @@ pub record AsksListening (words : List Text) (settings : ListenSettings) : Type 
   pub taken : IsAccepted words
   pub given : GivesListening (listen_values_of words) settings
 
+-- The words ask for the statistics of a capture with these settings.
+pub record AsksStats (words : List Text) (settings : StatsSettings) : Type 0 where
+  pub taken : IsAccepted words
+  pub given : GivesStats (stats_values_of words) settings
+
 -- The words ask for this task. Each needs values that the others' subcommands don't have.
 abbrev pub Asks : List Text → Task → Type 0
 Asks words (Replay settings) = AsksReplay words settings
 Asks words (ReplayLines settings) = AsksLineReplay words settings
 Asks words (Convert lines) = AsksConversion words lines.items
 Asks words (Listen settings) = AsksListening words settings
+Asks words (Stats settings) = AsksStats words settings
 
 -- clap takes the words, and the values of their options give no settings of the subcommand
 pub record GivesNoTask (words : List Text) (refusal : Refusal) : Type 0 where
   pub taken : IsAccepted words
   pub listening : IsListening words → GivesNoListening (listen_values_of words) refusal
   pub converting : IsConverting words → GivesNoConversion (convert_values_of words) refusal
-  pub replaying : (IsListening words → ⊥) → (IsConverting words → ⊥)
+  pub counting : IsCounting words → GivesNoStats (stats_values_of words) refusal
+  pub replaying : (IsListening words → ⊥) → (IsConverting words → ⊥) → (IsCounting words → ⊥)
       → GivesNone (values_of words) refusal
 
 -- Why the words give no settings. Help and the version are among the faults that clap finds; memory

@@ -5,9 +5,12 @@ pub mod CommandLine
 pub mod Commands
 pub mod Ending
 pub mod Hints
+pub mod Leading
 pub mod LineRuns
 pub mod Listening
 pub mod Runs
 pub mod Sessions
+pub mod StatsFormats
+pub mod StatsRuns
 pub mod Symbols
 pub mod UdpLines

@@ -1,4 +1,4 @@
--- Runs of the program over packet captures, and the result of any run.
+-- Runs of the program over packet captures.
 use Rattle.std.specs.Prelude.{◌≡◌, ◌⊎◌, ℕ, zero, suc, List, [], ◌∷◌, ◌++◌, Bool, codes, decimal, Option, Some, None, Result, Ok, Err}
 use Rattle.clap.specs.Walk.{Text}
 use Rattle.packet_capture.specs.declared.fault.CaptureFault.{CaptureFault}
@@ -21,10 +21,8 @@ use Rattle.replay_run.specs.LineReplays.{ReplaysLines}
 use Rattle.nbbo_main.specs.CommandLine.{AsksConversion, AsksLineReplay}
 use Rattle.nbbo_main.specs.Ending.{fault_text}
 use Rattle.nbbo_main.specs.Listening.{SaysEach}
-use Rattle.nbbo_main.specs.Runs.{ClosesBests, IsConfigOf, LeavesToListen, Runs, Says, bests_writing, hint_text}
+use Rattle.nbbo_main.specs.Runs.{ClosesBests, IsConfigOf, Says, bests_writing, hint_text}
 use Rattle.nbbo_main.specs.declared.line_replay_settings.LineReplaySettings.{LineReplaySettings}
-use Rattle.nbbo_main.specs.declared.run.Next.{Next}
-use Rattle.nbbo_main.specs.declared.run.Next.TheVariants.{Ended, Listens}
 
 -- ---- what is said of a packet capture on standard error
 
@@ -200,17 +198,3 @@ pub record Converted {R W E : Type 0}
   pub asked : AsksConversion words lines
   pub runs : RunsConversion reading writing telling lines at_terminal
       from to before after silent told status
-
--- The result of a run: its end, or that it is left to listen.
-abbrev pub Leads : {R W E : Type 0}
-    (reading : Reading R) (writing : Writing W) (telling : Writing E)
-    (words : List Text) (at_terminal : Bool)
-    (from to : R) (before after : W) (silent told : E) → Next → Type 0
-Leads reading writing telling words at_terminal from to before after silent told (Ended status) =
-    Runs reading writing telling words at_terminal from to before after silent told status
-    ⊎ (ReplayedLines reading writing telling words at_terminal
-    from to before after silent told status
-    ⊎ Converted reading writing telling words at_terminal from to before after silent told status)
-Leads reading writing telling words at_terminal from to before after silent told
-    (Listens settings) =
-    LeavesToListen words settings from to before after silent told

@@ -17,6 +17,7 @@ use crate::listen_settings::ListenSettings;
 use crate::refusal::Refusal;
 use crate::replay_settings::ReplaySettings;
 use crate::sessions::read_sessions;
+use crate::stats_words::stats_of;
 use crate::symbols::{SymbolsFault, read_symbols};
 use crate::task::Task;
 use best_lines::Format;
@@ -65,7 +66,7 @@ fn parsed<'a>(alloc: Global, words: &'a [String]) -> Result<ArgMatches<'a>, Refu
 }
 
 /// The window that the option gives. The parser has refused a number that is out of range.
-fn window_of(options: &ArgMatches<'_>) -> u32
+pub fn window_of(options: &ArgMatches<'_>) -> u32
     ensures value { IsWindowOf (one_of (codes "window") (rows_of (found_of options.now))) result }
     ensures some { 1 ≤ result }
     ensures in_range { result ≤ 65535 }
@@ -87,7 +88,7 @@ fn count_of(options: &ArgMatches<'_>, name: &str) -> u32
 }
 
 /// The symbols that the words name.
-fn symbols_of(alloc: Global, options: &ArgMatches<'_>) -> Result<Vec<SymbolName>, SymbolsFault>
+pub fn symbols_of(alloc: Global, options: &ArgMatches<'_>) -> Result<Vec<SymbolName>, SymbolsFault>
     ensures ok { IfOk result (λ symbols.
         NameSymbols (symbol_words_in (rows_of (found_of options.now))) symbols.items) }
     ensures err { IfErr result (HasSymbolsFault
@@ -194,6 +195,10 @@ fn listening_of(alloc: Global, listen: &ArgMatches<'_>) -> Result<ListenSettings
         journal: count_of(listen, "journal"),
         datagrams: count_of(listen, "datagrams"),
         buffer: given_count_of(listen, "buffer"),
+        seconds: given_count_of(listen, "seconds"),
+        until_input_ends: flag_of(listen, "until-input-ends"),
+        follow: flag_of(listen, "follow"),
+        stats: given_count_of(listen, "stats"),
     })
 }
 
@@ -209,6 +214,9 @@ pub fn settings(alloc: Global, words: &[String]) -> Result<Task, Refusal>
     }
     if let Some(convert) = matches.subcommand_matches("convert") {
         return Ok(Task::Convert(conversion_of(alloc, convert)?));
+    }
+    if let Some(stats) = matches.subcommand_matches("stats") {
+        return Ok(Task::Stats(stats_of(alloc, stats)?));
     }
     match matches.subcommand_matches("replay") {
         Some(replay) => Ok(replay_task(alloc, replay)?),

@@ -3,15 +3,18 @@ ghost use Rattle.std.specs.Prelude.{◌≡◌, IfOk, false, codes};
 ghost use Rattle.clap.specs.Simple.{app_of, new_app};
 ghost use Rattle.clap.specs.Walk.{rule_of};
 ghost use Rattle.clap.specs.declared.builder.command.Command.TheViews.{out-Command as fields_of};
-ghost use Rattle.nbbo_main.specs.Commands.{best_only_rule, buffer_rule, captured_lines_rule, choices_app, convert_app, counts_app, datagrams_rule, format_rule, gaps_rule, journal_rule, lines_app, lines_rule, listen_app, listening_app, nbbo_app, options_app, program_app, replay_app, replaying_app, request_rule, sessions_rule, symbols_rule, window_rule};
+ghost use Rattle.nbbo_main.specs.Commands.{best_only_rule, buffer_rule, captured_lines_rule, choices_app, convert_app, converting_app, counting_app, counts_app, datagrams_rule, ends_app, follow_rule, format_rule, gaps_rule, journal_rule, lines_app, lines_rule, listen_app, listening_app, nbbo_app, options_app, program_app, replay_app, replaying_app, request_rule, seconds_rule, sessions_rule, stats_app, stats_rule, symbols_rule, until_input_ends_rule, window_rule};
 
 use crate::help_texts::{
     ABOUT, BEST_ONLY_HELP, BUFFER_HELP, CAPTURED_LINES_HELP, CONVERT_ABOUT, CONVERT_END,
-    CONVERT_EXAMPLE, CONVERT_LONG_ABOUT, CONVERT_USAGE, DATAGRAMS_HELP, EXAMPLE, FORMAT_HELP,
-    GAPS_HELP, JOURNAL_HELP, LINES_HELP, LISTEN_ABOUT, LISTEN_EXAMPLE, LISTEN_LINES,
-    LISTEN_LONG_ABOUT, LISTEN_USAGE, REPLAY_ABOUT, REPLAY_EXAMPLE, REPLAY_LINES, REPLAY_LONG_ABOUT,
-    REPLAY_USAGE, REQUEST_HELP, SESSIONS_HELP, SYMBOLS_HELP, VERSION, WINDOW_HELP,
+    CONVERT_EXAMPLE, CONVERT_LONG_ABOUT, CONVERT_USAGE, COUNTED_SYMBOLS_HELP, DATAGRAMS_HELP,
+    EXAMPLE, FORMAT_HELP, GAPS_HELP, JOURNAL_HELP, LINES_HELP, LISTEN_ABOUT, LISTEN_EXAMPLE,
+    LISTEN_LINES, LISTEN_LONG_ABOUT, LISTEN_USAGE, REPLAY_ABOUT, REPLAY_EXAMPLE, REPLAY_LINES,
+    REPLAY_LONG_ABOUT, REPLAY_USAGE, REQUEST_HELP, SESSIONS_HELP, STATS_ABOUT, STATS_END,
+    STATS_EXAMPLE, STATS_FORMAT_HELP, STATS_LONG_ABOUT, STATS_USAGE, SYMBOLS_HELP, VERSION,
+    WINDOW_HELP,
 };
+use crate::listen_help::{FOLLOW_HELP, SECONDS_HELP, STATS_HELP, UNTIL_INPUT_ENDS_HELP};
 use clap::{Arg, ArgAction, Command, value_parser};
 use std::alloc::{AllocError, Global};
 
@@ -126,6 +129,52 @@ fn buffer_option<'a>(alloc: Global) -> Arg<'a>
         .value_parser(value_parser!(u32).range(1..=1073741823))
         .help("How large a buffer to ask for at each line's socket, 1 to 1073741823 bytes")
         .long_help(BUFFER_HELP)
+}
+
+fn seconds_option<'a>(alloc: Global) -> Arg<'a>
+    ensures rule { rule_of result ≡ seconds_rule }
+    ensures local { result.global ≡ false }
+{
+    Arg::new(alloc, "seconds")
+        .long("seconds")
+        .value_name("N")
+        .value_parser(value_parser!(u32).range(1..=4294967295))
+        .help("After how many seconds all lines are ended, 1 to 4294967295")
+        .long_help(SECONDS_HELP)
+}
+
+fn until_input_ends_flag<'a>(alloc: Global) -> Arg<'a>
+    ensures rule { rule_of result ≡ until_input_ends_rule }
+    ensures local { result.global ≡ false }
+{
+    Arg::new(alloc, "until-input-ends")
+        .long("until-input-ends")
+        .action(ArgAction::SetTrue)
+        .help("Ends all lines when standard input ends")
+        .long_help(UNTIL_INPUT_ENDS_HELP)
+}
+
+fn follow_flag<'a>(alloc: Global) -> Arg<'a>
+    ensures rule { rule_of result ≡ follow_rule }
+    ensures local { result.global ≡ false }
+{
+    Arg::new(alloc, "follow")
+        .long("follow")
+        .action(ArgAction::SetTrue)
+        .help("Prints each change of a best as it comes")
+        .long_help(FOLLOW_HELP)
+}
+
+fn stats_option<'a>(alloc: Global) -> Arg<'a>
+    ensures rule { rule_of result ≡ stats_rule }
+    ensures local { result.global ≡ false }
+{
+    Arg::new(alloc, "stats")
+        .long("stats")
+        .value_name("SECONDS")
+        .value_parser(value_parser!(u32).range(1..=4294967295))
+        .help("Every how many seconds standard error has counts of each venue, 1 to 4294967295")
+        .long_help(STATS_HELP)
 }
 
 fn gaps_flag<'a>(alloc: Global) -> Arg<'a>
@@ -251,12 +300,24 @@ fn counts_command<'a>(alloc: Global) -> Result<Command<'a>, AllocError>
         .arg(datagrams_option(alloc))
 }
 
-fn listen_command<'a>(alloc: Global) -> Result<Command<'a>, AllocError>
-    ensures app { IfOk result (λ c. app_of c ≡ listen_app) }
+/// `listen` with its options that say when it ends, too.
+fn ends_command<'a>(alloc: Global) -> Result<Command<'a>, AllocError>
+    ensures app { IfOk result (λ c. app_of c ≡ ends_app) }
     ensures local { IfOk result (λ c. (fields_of c).has_globals ≡ false) }
 {
     counts_command(alloc)?
         .arg(buffer_option(alloc))?
+        .arg(seconds_option(alloc))?
+        .arg(until_input_ends_flag(alloc))
+}
+
+fn listen_command<'a>(alloc: Global) -> Result<Command<'a>, AllocError>
+    ensures app { IfOk result (λ c. app_of c ≡ listen_app) }
+    ensures local { IfOk result (λ c. (fields_of c).has_globals ≡ false) }
+{
+    ends_command(alloc)?
+        .arg(follow_flag(alloc))?
+        .arg(stats_option(alloc))?
         .arg(symbols_argument(alloc))
 }
 
@@ -312,10 +373,75 @@ fn convert_command<'a>(alloc: Global) -> Result<Command<'a>, AllocError>
     convert_texts(alloc).arg(converted_lines_option(alloc))
 }
 
+/// The program with `replay`, `listen` and `convert`.
+fn converting_command<'a>(alloc: Global) -> Result<Command<'a>, AllocError>
+    ensures app { IfOk result (λ c. app_of c ≡ converting_app) }
+    ensures local { IfOk result (λ c. (fields_of c).has_globals ≡ false) }
+{
+    listening_command(alloc)?.subcommand(convert_command(alloc)?)
+}
+
+/// `--format` of `stats`.
+fn stats_format_option<'a>(alloc: Global) -> Arg<'a>
+    ensures rule { rule_of result ≡ format_rule }
+    ensures local { result.global ≡ false }
+{
+    Arg::new(alloc, "format")
+        .long("format")
+        .value_name("FORMAT")
+        .help("The format of the counts: table or json")
+        .long_help(STATS_FORMAT_HELP)
+}
+
+/// The symbols of `stats`.
+fn counted_symbols_argument<'a>(alloc: Global) -> Arg<'a>
+    ensures rule { rule_of result ≡ symbols_rule }
+    ensures local { result.global ≡ false }
+{
+    Arg::new(alloc, "symbols")
+        .value_name("SYMBOL")
+        .num_args(0..)
+        .help("The symbols of whose national best the changes are counted, at most 4096")
+        .long_help(COUNTED_SYMBOLS_HELP)
+}
+
+/// The texts of `stats`, without its options.
+fn stats_texts<'a>(alloc: Global) -> Command<'a>
+    ensures app { app_of result ≡ new_app (codes "stats") }
+    ensures local { (fields_of result).has_globals ≡ false }
+{
+    Command::new(alloc, "stats")
+        .about(STATS_ABOUT)
+        .long_about(STATS_LONG_ABOUT)
+        .override_usage(STATS_USAGE)
+        .after_help(STATS_EXAMPLE)
+        .after_long_help(STATS_END)
+}
+
+/// `stats` with its options that say what is read.
+fn counting_command<'a>(alloc: Global) -> Result<Command<'a>, AllocError>
+    ensures app { IfOk result (λ c. app_of c ≡ counting_app) }
+    ensures local { IfOk result (λ c. (fields_of c).has_globals ≡ false) }
+{
+    stats_texts(alloc)
+        .arg(sessions_option(alloc))?
+        .arg(captured_lines_option(alloc))?
+        .arg(window_option(alloc))
+}
+
+fn stats_command<'a>(alloc: Global) -> Result<Command<'a>, AllocError>
+    ensures app { IfOk result (λ c. app_of c ≡ stats_app) }
+    ensures local { IfOk result (λ c. (fields_of c).has_globals ≡ false) }
+{
+    counting_command(alloc)?
+        .arg(stats_format_option(alloc))?
+        .arg(counted_symbols_argument(alloc))
+}
+
 /// The program, which does nothing without a subcommand.
 pub fn nbbo_command<'a>(alloc: Global) -> Result<Command<'a>, AllocError>
     ensures app { IfOk result (λ c. app_of c ≡ nbbo_app) }
     ensures local { IfOk result (λ c. (fields_of c).has_globals ≡ false) }
 {
-    listening_command(alloc)?.subcommand(convert_command(alloc)?)
+    converting_command(alloc)?.subcommand(stats_command(alloc)?)
 }

@@ -12,9 +12,10 @@ pub const VERSION: &str = "0.1.0\nproved with rattle-kit-13b logic dac8208d650f1
 pub const REPLAY_USAGE: &str = "nbbo replay [OPTIONS] --sessions <LIST> [SYMBOL]... < CAPTURE";
 
 pub const EXAMPLE: &str = "\
-Example:
+Examples:
   nbbo replay --sessions NORTH,SOUTH ACME < capture
   nbbo replay --sessions NORTH --lines 239.1.1.1:26400,239.1.1.2:26400 ACME < day.pcap
+  nbbo stats --sessions NORTH,SOUTH ACME < capture
   nbbo listen --sessions 0000000001 --lines 127.0.0.1:7001,127.0.0.1:7002 ACME
 
 'nbbo replay --help' and 'nbbo listen --help' tell what is read and what is printed.";
@@ -87,6 +88,70 @@ Status:
      16 venues, or names one twice
 
 Standard error also counts what was passed over, as of 'nbbo replay --lines'.";
+
+/// `stats`, in one line.
+pub const STATS_ABOUT: &str = "Replays a capture and prints what happened in it, counted";
+
+pub const STATS_LONG_ABOUT: &str = "\
+Replays a capture from standard input, as 'nbbo replay --gaps' does, and prints none of its lines,
+but what they tell, counted: of each venue and each of its lines, and of the national bests of the
+symbols that are named. 'nbbo replay --help' says what a capture is.";
+
+/// The usage of `stats`.
+pub const STATS_USAGE: &str = "nbbo stats [OPTIONS] --sessions <LIST> [SYMBOL]... < CAPTURE";
+
+pub const STATS_FORMAT_HELP: &str = "\
+The format of the counts: 'table', as without this option, or 'json', an object on a line
+of its own";
+
+pub const COUNTED_SYMBOLS_HELP: &str = "\
+The symbols of whose national best bid and offer the changes are counted: at most 4096
+words, each once, of 1 to 8 characters of printable ASCII without a space (bytes 21 to
+7e). Write '--' before them where one begins with '-'. Without a symbol there are none";
+
+/// Examples, for the short help.
+pub const STATS_EXAMPLE: &str = "\
+Examples:
+  nbbo stats --sessions NORTH,SOUTH ACME < capture
+  nbbo stats --sessions NORTH --lines 239.1.1.1:26400,239.1.1.2:26400 --format json < day.pcap
+
+'--help' also tells what is counted.";
+
+/// The part of the long help after the options.
+pub const STATS_END: &str = "\
+Printed for each venue, from 0:
+  packets                    a line's datagrams, by the answer to each: 'with messages taken', new
+                             or again; 'past the window', of which nothing was taken; and those
+                             refused, by the fault, in rows that stand there only if there are any
+  messages                   those that the line brought first, and those that had come before
+  items in sequence          of all lines together, by kind, with an end for each session that was
+                             taken to its end, and the number of the last item
+  gaps                       how often messages came to be missing while later ones had come; the
+                             most messages that one gap lacked; and how many are missing still, of
+                             the first gap, and from which number
+  next sessions begun        by records of kind N, and how many of these were refused
+  self-help                  declared, withdrawn, and either where it was so already
+  changes of national bests  after which the best bid, or the best offer, is the venue's; also
+                             those that have changed the other side alone
+and then the changes of national bests, by the state after.
+
+In JSON a venue's 'lines' have 'A', 'B' and 'recovery', 'missing' is null where nothing is, and
+'best_bids' and 'best_offers' are those changes. The words and numbers of refusals are those of
+'nbbo replay --help'.
+
+Examples:
+  nbbo stats --sessions NORTH,SOUTH ACME < capture
+  zcat day.capture.gz | nbbo stats --sessions NORTH,SOUTH --format json | jq '.venues[].lines.B'
+  nbbo stats --sessions NORTH --lines 239.1.1.1:26400,239.1.1.2:26400 < day.pcap
+
+Status:
+  0  the capture was replayed to its end and the counts were printed, or help was shown
+  1  the input or the run was refused; standard error says why, as of 'nbbo replay', and the counts
+     of the records before were printed, unless it is 'write failed' or 'no memory'
+  2  the command line was refused: 'bad format' where the format is none of those; else as of
+     'nbbo replay'
+
+With --lines standard error also counts what was passed over, as of 'nbbo replay --lines'.";
 
 pub const SYMBOLS_HELP: &str = "\
 The symbols whose national best bid and offer is printed: at most 4096 words, each
@@ -232,8 +297,8 @@ Listens on the lines of live venues and prints what they came to.
 Each venue sends the same MoldUDP64 packets on two lines, A and B. Each line is received by UDP,
 in a thread of its own. What either line brings is put into one sequence, and the national best
 bid and offer of each symbol is kept. A line ends after an end of session, or after as many
-datagrams as --datagrams says. Once all lines have ended, what changed is printed, and not
-before.";
+datagrams as --datagrams says; --seconds and --until-input-ends end all lines. Once they have
+ended, what changed is printed; with --follow each change is printed as it comes.";
 
 /// The usage of `listen`.
 pub const LISTEN_USAGE: &str = "nbbo listen [OPTIONS] --sessions <LIST> --lines <LIST> [SYMBOL]...";
@@ -247,7 +312,7 @@ Example, one venue whose lines are received on two ports:
 
 /// The part of the long help after the options.
 pub const LISTEN_LINES: &str = "\
-Printed lines, once all lines have ended:
+Printed lines, once all lines have ended, the best lines with --follow before:
   best NOTICE POSITION SYMBOL BID OFFER STATE
                                  the journal's entry at POSITION has changed the national best bid
                                  or offer of the symbol. BID and OFFER are none or V:PRICExSIZE;
@@ -279,8 +344,10 @@ more are dropped while its thread waits for a processor. --buffer asks for more 
 says that the system allows no more, as root, beforehand:
   sysctl -w net.core.rmem_max=4194304
 
-A first interrupt from the keyboard ends the program at once, and nothing is printed: what
-was taken is not kept. To have it printed, send each line an end of session.
+A first interrupt from the keyboard ends the program at once, and nothing more is printed: what
+was taken is not kept. To have it printed, send each line an end of session; or have the
+interrupt end what the program reads, and not the program:
+  cat | (trap '' INT; nbbo listen --until-input-ends --sessions .. > best.txt)
 
 Status:
   0  all lines ended and what they came to was printed, or help was shown. Standard error says

@@ -66,12 +66,17 @@ fn is_no_option(before: &str) -> bool {
     !before.starts_with('-') || before == "--" || before == "--gaps" || before == "--best-only"
 }
 
+/// Whether the command takes symbols and reads a capture.
+fn takes_symbols(command: &str) -> bool {
+    command == "replay" || command == "stats"
+}
+
 /// Writes a line for the first word that names a file where a symbol is expected, if there is one: of the words of
-/// `nbbo replay`, the program's name and the command first.
+/// `nbbo replay` or `nbbo stats`, the program's name and the command first.
 pub fn hint_at_file<F: Files, E: TextOut>(files: &F, words: &[String], errors: &mut E) {
     for place in 2..words.len() {
         let word = words[place].as_str();
-        if words[1].as_str() == "replay"
+        if takes_symbols(words[1].as_str())
             && is_no_option(words[place - 1].as_str())
             && is_file(files, word)
         {

@@ -1,6 +1,6 @@
 //! A run of the program over any input, output and standard error.
 ghost use Rattle.std.specs.Prelude.{◌≡◌, map, string_bytes};
-ghost use Rattle.nbbo_main.specs.LineRuns.{Leads};
+ghost use Rattle.nbbo_main.specs.Leading.{Leads};
 ghost use Rattle.nbbo_main.specs.Runs.{IsConfigOf, RunsReplay, Says, TellsRefusal, hint_text};
 
 use crate::best_runs::{run_lines, run_settings};
@@ -10,6 +10,7 @@ use crate::line_runs::run_conversion;
 use crate::listen_settings::ListenSettings;
 use crate::refusal::Refusal;
 use crate::replay_settings::ReplaySettings;
+use crate::stats_runs::run_stats;
 use crate::task::Task;
 use feed_text::devices::{CaptureIn, TextOut};
 use feed_text::fault::ReplayFault;
@@ -132,7 +133,7 @@ fn ended<R, W>(status: u8, input: R, output: W) -> ProgramRun<R, W>
 /// Does what the words ask for, of which the first is the program's name, except listening, which
 /// takes sockets and threads: then the settings for it are returned.
 ///
-/// The input is read only for a replay or a conversion. The lines of a replay, or the best ones alone in
+/// The input is read only for a replay, a conversion or statistics. The lines of a replay, or the best ones alone in
 /// the format that is asked for, are all that it writes on the output. Before a terminal is read,
 /// standard error says so.
 pub fn run<R: CaptureIn + Drop, W: TextOut, E: TextOut>(
@@ -170,6 +171,10 @@ pub fn run<R: CaptureIn + Drop, W: TextOut, E: TextOut>(
             Task::Convert(lines) => {
                 let lines = lines.as_slice();
                 let run = run_conversion(alloc, lines, at_terminal, input, &mut output, errors);
+                ended(run.status, run.input, output)
+            }
+            Task::Stats(settings) => {
+                let run = run_stats(alloc, &settings, at_terminal, input, &mut output, errors);
                 ended(run.status, run.input, output)
             }
             Task::Listen(settings) => ProgramRun {

@@ -3,6 +3,7 @@
 use crate::line_replay_settings::LineReplaySettings;
 use crate::listen_settings::ListenSettings;
 use crate::replay_settings::ReplaySettings;
+use crate::stats_settings::StatsSettings;
 use line_captures::CapturedLine;
 
 /// The task of the program.
@@ -16,4 +17,6 @@ pub enum Task {
     Convert(Vec<CapturedLine>),
     /// `nbbo listen`.
     Listen(ListenSettings),
+    /// `nbbo stats`.
+    Stats(StatsSettings),
 }

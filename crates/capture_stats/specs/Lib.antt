@@ -1,0 +1,11 @@
+pub mod Happenings
+pub mod Counts
+pub mod Stats
+pub mod StatsLaws
+pub mod Writers
+pub mod WriterLaws
+pub mod Pieces
+pub mod Json
+pub mod Table
+pub mod Texts
+pub mod Words

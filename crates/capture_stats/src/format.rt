@@ -1,0 +1,29 @@
+//! The counts as a text.
+ghost use Rattle.std.specs.Prelude.{◌≡◌, IfOk};
+ghost use Rattle.capture_stats.specs.Texts.{text_of_stats};
+
+use crate::json::put_json;
+use crate::stats::Stats;
+use crate::table::put_table;
+use std::alloc::{AllocError, Global};
+
+/// The form in which the counts are printed.
+#[derive(Clone, Copy, Debug, PartialEq, Eq)]
+pub enum StatsFormat {
+    /// A table for each venue, and one of the national bests.
+    Table,
+    /// One JSON object.
+    Json,
+}
+
+/// Returns the counts as a text in the format. Fails where memory is refused.
+pub fn stats_text(alloc: Global, stats: &Stats, format: StatsFormat) -> Result<Vec<u8>, AllocError>
+    ensures { IfOk result (λ text. text.items ≡ text_of_stats format stats.now) }
+{
+    let mut text = Vec::new(alloc);
+    match format {
+        StatsFormat::Table => put_table(&mut text, stats)?,
+        StatsFormat::Json => put_json(&mut text, stats)?,
+    }
+    Ok(text)
+}

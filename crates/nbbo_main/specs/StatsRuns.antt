@@ -1,0 +1,154 @@
+-- Runs of the program that print the statistics of a capture: a replay writes its lines to a writer
+-- that counts what they tell, and then the counts are on output.
+use Rattle.std.specs.Prelude.{◌≡◌, ◌⊎◌, ℕ, ◌+◌, List, Bool, Result, Ok, Err, length}
+use Rattle.clap.specs.Walk.{Text}
+use Rattle.feed_text.specs.declared.fault.ReplayFault.{ReplayFault}
+use Rattle.feed_text.specs.declared.fault.ReplayFault.TheVariants.{ReadFailed, WriteFailed, BadRecord, ShortRecord, TooManyTurns, JournalFull, NoMemory}
+use Rattle.feed_text.specs.declared.replay.ReplayConfig.{ReplayConfig}
+use Rattle.feed_text.specs.Devices.{Reading, Writing, Wrote}
+use Rattle.feed_text.specs.Replays.{Replays, AnswersReplay, venues_in}
+use Rattle.capture_stats.specs.Stats.{Counted, IsCountOf}
+use Rattle.capture_stats.specs.Texts.{text_of_stats}
+use Rattle.capture_stats.specs.Writers.{AddsStats, IsNewFor}
+use Rattle.capture_stats.specs.declared.format.StatsFormat.{StatsFormat}
+use Rattle.capture_stats.specs.declared.stats_out.StatsOut.{StatsOut}
+use Rattle.line_captures.specs.declared.captured_line.CapturedLine.{CapturedLine}
+use Rattle.line_captures.specs.declared.report.CaptureReport.{CaptureReport}
+use Rattle.line_captures.specs.declared.report.LinesFault.{LinesFault}
+use Rattle.line_captures.specs.declared.report.LinesFault.TheVariants.{Run}
+use Rattle.replay_run.specs.LineReplays.{ReplaysLines}
+use Rattle.replay_run.specs.Printed.{texts_of_run}
+use Rattle.nbbo_main.specs.CommandLine.{AsksStats}
+use Rattle.nbbo_main.specs.Ending.{ending_status, ending_text}
+use Rattle.nbbo_main.specs.LineRuns.{PassesNoLine, TellsCapture}
+use Rattle.nbbo_main.specs.Runs.{IsConfigOf, PassesNothing, Says, hint_text}
+use Rattle.nbbo_main.specs.declared.line_replay_settings.LineReplaySettings.{LineReplaySettings}
+use Rattle.nbbo_main.specs.declared.replay_settings.ReplaySettings.{ReplaySettings}
+use Rattle.nbbo_main.specs.declared.stats_settings.StatsInput.{StatsInput}
+use Rattle.nbbo_main.specs.declared.stats_settings.StatsInput.TheVariants.{Own, Packets}
+use Rattle.nbbo_main.specs.declared.stats_settings.StatsSettings.{StatsSettings}
+
+-- the writer that counts, of which no call fails
+abbrev pub stats_writing : Writing StatsOut
+stats_writing = record { adds = AddsStats; failures = λ counts. 0 }
+
+-- A text was printed whole, or a prefix of it, up to a call that failed, or nothing, where memory
+-- was refused.
+abbrev pub PrintsText : {W : Type 0} (writing : Writing W) (text : List ℕ) (before after : W)
+    → Result (Unit {0}) ReplayFault → Type 0
+PrintsText writing text before after (Ok done) =
+    writing.adds before text after × (writing.failures after ≡ writing.failures before)
+PrintsText writing text before after (Err WriteFailed) =
+    Wrote writing.adds before text after × (writing.failures after ≡ writing.failures before + 1)
+PrintsText writing text before after (Err NoMemory) = after ≡ before
+PrintsText writing text before after (Err ReadFailed) = ⊥
+PrintsText writing text before after (Err BadRecord) = ⊥
+PrintsText writing text before after (Err ShortRecord) = ⊥
+PrintsText writing text before after (Err TooManyTurns) = ⊥
+PrintsText writing text before after (Err JournalFull) = ⊥
+
+-- What is printed are the counts of any text that was written to the writer since it was new.
+pub record PrintsStats {W : Type 0} (writing : Writing W) (counts : StatsOut) (format : StatsFormat)
+    (before after : W) (printed : Result (Unit {0}) ReplayFault) : Type 0 where
+  pub stats : Counted
+  pub counted : (venues : ℕ) (start : StatsOut) (text : List ℕ)
+      → IsNewFor venues start → AddsStats start text counts → IsCountOf venues text stats
+  pub prints : PrintsText writing (text_of_stats format stats) before after printed
+
+-- the outcome of a replay whose counts were then printed so: the fault of printing comes before
+-- that of the replay
+abbrev pub ended_by : Result (Unit {0}) ReplayFault → Result (Unit {0}) ReplayFault
+    → Result (Unit {0}) ReplayFault
+ended_by seen (Ok done) = seen
+ended_by seen (Err fault) = Err fault
+
+abbrev pub lines_ended_by : Result (Unit {0}) LinesFault → Result (Unit {0}) ReplayFault
+    → Result (Unit {0}) LinesFault
+lines_ended_by seen (Ok done) = seen
+lines_ended_by seen (Err fault) = Err (Run fault)
+
+-- Input was replayed onto a new writer that counts, and then the counts were printed: those of the
+-- text that the replay wrote.
+pub record PrintsCounts {R W : Type 0} (reading : Reading R) (writing : Writing W)
+    (config : ReplayConfig) (format : StatsFormat) (from to : R) (before after : W)
+    (outcome : Result (Unit {0}) ReplayFault) : Type 0 where
+  pub start : StatsOut
+  pub new : IsNewFor (venues_in config) start
+  pub seen : Result (Unit {0}) ReplayFault
+  pub mid : StatsOut
+  pub replays : Replays reading stats_writing config from to start mid seen
+  pub run : AnswersReplay reading stats_writing config (texts_of_run config) from to start mid seen
+  pub printed : Result (Unit {0}) ReplayFault
+  pub prints : PrintsStats writing mid format before after printed
+  pub ends : outcome ≡ ended_by seen printed
+
+-- Input was replayed, and the counts of its lines alone are on output, up to a fault too. Standard
+-- error and the status are those of the outcome, as of a replay.
+pub record RunsOwnStats {R W E : Type 0}
+    (reading : Reading R) (writing : Writing W) (telling : Writing E)
+    (settings : ReplaySettings) (format : StatsFormat) (at_terminal : Bool)
+    (from to : R) (before after : W) (silent told : E) (status : ℕ) : Type 0 where
+  pub config : ReplayConfig
+  pub is : IsConfigOf settings config
+  pub outcome : Result (Unit {0}) ReplayFault
+  pub counts : PrintsCounts reading writing config format from to before after outcome
+      ⊎ PassesNothing from to before after outcome
+  pub hinted : E
+  pub hint : Says telling (hint_text at_terminal) silent hinted
+  pub line : Says telling (ending_text outcome) hinted told
+  pub ends : status ≡ ending_status outcome
+
+-- A packet capture was replayed onto a new writer that counts, and then the counts were printed.
+-- The report is that of the replay, but for its outcome.
+pub record PrintsLineCounts {R W : Type 0} (reading : Reading R) (writing : Writing W)
+    (config : ReplayConfig) (lines : List CapturedLine) (format : StatsFormat)
+    (from : R) (report : CaptureReport R) (before after : W) : Type 0 where
+  pub start : StatsOut
+  pub new : IsNewFor (venues_in config) start
+  pub seen : CaptureReport R
+  pub mid : StatsOut
+  pub replays : ReplaysLines reading stats_writing config lines from seen start mid
+  pub printed : Result (Unit {0}) ReplayFault
+  pub prints : PrintsStats writing mid format before after printed
+  pub ends : report.outcome ≡ lines_ended_by seen.outcome printed
+  pub same : report ≡ record seen { outcome = report.outcome }
+
+-- A packet capture was replayed, and the counts of its lines alone are on output.
+pub record RunsLineStats {R W E : Type 0}
+    (reading : Reading R) (writing : Writing W) (telling : Writing E)
+    (settings : LineReplaySettings) (format : StatsFormat) (at_terminal : Bool)
+    (from to : R) (before after : W) (silent told : E) (status : ℕ) : Type 0 where
+  pub config : ReplayConfig
+  pub is : IsConfigOf settings.replay config
+  pub report : CaptureReport R
+  pub counts : PrintsLineCounts reading writing config settings.lines.items format
+      from report before after
+      ⊎ PassesNoLine from report before after
+  pub left : to ≡ report.input
+  pub hinted : E
+  pub hint : Says telling (hint_text at_terminal) silent hinted
+  pub tells : TellsCapture telling report hinted told status
+
+-- the statistics of a capture of the project's own, or of a packet capture
+abbrev pub RunsStats : {R W E : Type 0}
+    (reading : Reading R) (writing : Writing W) (telling : Writing E)
+    (input : StatsInput) (format : StatsFormat) (at_terminal : Bool)
+    (from to : R) (before after : W) (silent told : E) (status : ℕ) → Type 0
+RunsStats reading writing telling (Own settings) format at_terminal
+    from to before after silent told status =
+    RunsOwnStats reading writing telling settings format at_terminal
+    from to before after silent told status
+RunsStats reading writing telling (Packets settings) format at_terminal
+    from to before after silent told status =
+    RunsLineStats reading writing telling settings format at_terminal
+    from to before after silent told status
+
+-- The words ask for statistics, and they were printed.
+pub record PrintedStats {R W E : Type 0}
+    (reading : Reading R) (writing : Writing W) (telling : Writing E)
+    (words : List Text) (at_terminal : Bool)
+    (from to : R) (before after : W) (silent told : E) (status : ℕ) : Type 0 where
+  pub settings : StatsSettings
+  pub asked : AsksStats words settings
+  pub runs : RunsStats reading writing telling settings.input settings.format at_terminal
+      from to before after silent told status
