@@ -87,8 +87,10 @@ states_json s =
     ∷ (codes ",\"locked\":", s.locked)
     ∷ (codes ",\"crossed\":", s.crossed)
     ∷ [])
-    ++ codes "}}\n"
+    ++ codes "}"
 
-abbrev pub stats_json : Counted → List ℕ
-stats_json c =
-    codes "{\"venues\":[" ++ (venues_json c.venues (length c.venues) ++ states_json c.states)
+-- an object on a line of its own, with further members
+abbrev pub stats_json : Counted → List ℕ → List ℕ
+stats_json c more =
+    codes "{\"venues\":["
+    ++ (venues_json c.venues (length c.venues) ++ (states_json c.states ++ (more ++ codes "}\n")))

@@ -16,14 +16,23 @@ pub enum StatsFormat {
     Json,
 }
 
-/// Returns the counts as a text in the format. Fails where memory is refused.
-pub fn stats_text(alloc: Global, stats: &Stats, format: StatsFormat) -> Result<Vec<u8>, AllocError>
-    ensures { IfOk result (λ text. text.items ≡ text_of_stats format stats.now) }
+/// Returns the counts as a text in the format, with `more`: lines after a table, or members of an object,
+/// each after a comma. Fails where memory is refused.
+pub fn stats_text(
+    alloc: Global,
+    stats: &Stats,
+    format: StatsFormat,
+    more: &[u8],
+) -> Result<Vec<u8>, AllocError>
+    ensures { IfOk result (λ text. text.items ≡ text_of_stats format stats.now more.now) }
 {
     let mut text = Vec::new(alloc);
     match format {
-        StatsFormat::Table => put_table(&mut text, stats)?,
-        StatsFormat::Json => put_json(&mut text, stats)?,
+        StatsFormat::Table => {
+            put_table(&mut text, stats)?;
+            text.extend_from_slice(more)?;
+        }
+        StatsFormat::Json => put_json(&mut text, stats, more)?,
     }
     Ok(text)
 }

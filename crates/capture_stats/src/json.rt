@@ -132,14 +132,16 @@ fn put_states(text: &mut Vec<u8>, s: &StateStats) -> Result<(), AllocError>
         (",\"crossed\":", s.crossed),
     ];
     put_pieces(text, 0, &pieces)?;
-    text.extend_from_slice(b"}}\n")
+    text.extend_from_slice(b"}")
 }
 
-/// Appends the counts as an object, on a line of its own.
-pub(crate) fn put_json(text: &mut Vec<u8>, stats: &Stats) -> Result<(), AllocError>
-    ensures { OnOk result (text.new.items ≡ text.old.items ++ stats_json stats.now) }
+/// Appends the counts as an object with further members, on a line of its own.
+pub(crate) fn put_json(text: &mut Vec<u8>, stats: &Stats, more: &[u8]) -> Result<(), AllocError>
+    ensures { OnOk result (text.new.items ≡ text.old.items ++ stats_json stats.now more.now) }
 {
     text.extend_from_slice(b"{\"venues\":[")?;
     put_venues(text, stats.venues())?;
-    put_states(text, &stats.states())
+    put_states(text, &stats.states())?;
+    text.extend_from_slice(more)?;
+    text.extend_from_slice(b"}\n")
 }

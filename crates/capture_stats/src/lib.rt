@@ -27,6 +27,7 @@ pub use format::{StatsFormat, stats_text};
 pub use happening::{AtVenue, ItemKind, PacketAnswer};
 pub use laws::numbers_are_read;
 pub use line_stats::{LineStats, Refusals};
+pub use pieces::{COLUMNS, Row, put_pieces, put_rows};
 pub use stats::{StateStats, Stats};
 pub use stats_out::StatsOut;
 pub use venue_stats::{GapStats, ItemStats, Missing, VenueStats};

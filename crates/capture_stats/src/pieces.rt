@@ -6,16 +6,16 @@ use itoa::Buffer;
 use std::alloc::AllocError;
 
 /// How many columns a number has in a table.
-pub(crate) const COLUMNS: usize = 14;
+pub const COLUMNS: usize = 14;
 
 /// What a number is filled with in a table.
 const SPACES: &[u8] = b"              ";
 
 /// A label, and a number after it.
-pub(crate) type Piece<'a> = (&'a str, u64);
+pub type Piece<'a> = (&'a str, u64);
 
 /// A label, and the numbers of the lines A, B and Recovery after it.
-pub(crate) type Row<'a> = (&'a str, u64, u64, u64);
+pub type Row<'a> = (&'a str, u64, u64, u64);
 
 /// Appends a label and a number, at the end of this many columns.
 fn put_piece(text: &mut Vec<u8>, columns: usize, label: &str, number: u64) -> Result<(), AllocError>
@@ -31,7 +31,7 @@ fn put_piece(text: &mut Vec<u8>, columns: usize, label: &str, number: u64) -> Re
 }
 
 /// Appends labels and numbers, each number at the end of this many columns.
-pub(crate) fn put_pieces(
+pub fn put_pieces(
     text: &mut Vec<u8>,
     columns: usize,
     pieces: &[Piece<'_>],
@@ -57,7 +57,7 @@ fn put_row(text: &mut Vec<u8>, row: &Row<'_>) -> Result<(), AllocError>
 }
 
 /// Appends rows.
-pub(crate) fn put_rows(text: &mut Vec<u8>, rows: &[Row<'_>]) -> Result<(), AllocError>
+pub fn put_rows(text: &mut Vec<u8>, rows: &[Row<'_>]) -> Result<(), AllocError>
     ensures { OnOk result (text.new.items ≡ text.old.items
         ++ flat_map (λ r. row_text r.0.now r.1 r.2 r.3) rows.now) }
 {

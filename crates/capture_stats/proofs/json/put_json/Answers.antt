@@ -1,9 +1,8 @@
 use Rattle.std.proofs.Common.{List, ◌≡◌, ◌++◌, ◌∙◌, ap, codes, length, subst}
-use Rattle.std.specs.Prelude.{OnOk}
 use Rattle.capture_stats.specs.declared.stats.StateStats.{StateStats}
 use Rattle.capture_stats.specs.declared.venue_stats.VenueStats.{VenueStats}
 use Rattle.capture_stats.specs.Json.{states_json, venues_json}
-use Rattle.capture_stats.proofs.Putting.{put_two}
+use Rattle.capture_stats.proofs.Putting.{put_last, put_two}
 use Rattle.capture_stats.proofs.json.put_json.Goals as goal
 
 pub returns : goal.returns
@@ -11,11 +10,19 @@ returns c =
     let stats = c.args.stats.now in
     let begun = c.extend_from_slice.new.self.items in
     let mid = c.put_venues.new.text.items in
-    let end = c.put_states.new.text.items in
+    let told = c.put_states.new.text.items in
+    let longer = c.extend_from_slice-2.new.self.items in
+    let end = c.extend_from_slice-3.new.self.items in
+    let out = c.extend_from_slice-3.result in
     let venues = venues_json stats.venues (length stats.venues) in
     let states = states_json stats.states in
-    let P : StateStats → Type 0 = λ s. OnOk c.put_states.result (end ≡ mid ++ states_json s) in
-    put_two c.put_states.result c.args.text.now.items begun end (codes "{\"venues\":[") (venues ++ states) c.in_ok-extend_from_slice.ensures.items
-    (put_two c.put_states.result begun mid end venues states
+    let more = c.args.more.now in
+    let P : StateStats → Type 0 = λ s. told ≡ mid ++ states_json s in
+    put_two out c.args.text.now.items begun end (codes "{\"venues\":[")
+    (venues ++ (states ++ (more ++ codes "}\n"))) c.in_ok-extend_from_slice.ensures.items
+    (put_two out begun mid end venues (states ++ (more ++ codes "}\n"))
     (c.in_ok-put_venues.ensures ∙ ap (λ (vs : List VenueStats). begun ++ venues_json vs (length vs)) c.venues.ensures)
-    (subst P c.states.ensures c.put_states.ensures))
+    (put_two out mid told end states (more ++ codes "}\n")
+    (subst P c.states.ensures c.in_ok-put_states.ensures)
+    (put_two out told longer end more (codes "}\n") c.in_ok-extend_from_slice-2.ensures.items
+    (put_last out longer end (codes "}\n") c.extend_from_slice-3.ensures.items))))
