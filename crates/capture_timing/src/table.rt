@@ -23,19 +23,23 @@ fn row_of<'a>(label: &'a str, durations: &Durations) -> Row<'a> {
 fn put_venue(text: &mut Vec<u8>, place: usize, venue: &VenueTiming) -> Result<(), AllocError> {
     put_pieces(text, 0, &[("\n\nvenue ", place as u64)])?;
     text.extend_from_slice(HEADS)?;
-    let rows = [
-        row_of("\n  line B after A            ", &venue.leads.a),
-        row_of("\n  line A after B            ", &venue.leads.b),
-    ];
-    put_rows(text, &rows)?;
+    put_rows(
+        text,
+        &[row_of("\n  line B after line A       ", &venue.leads.a)],
+    )?;
+    let messages = [("\n    messages                ", venue.leads.a.count())];
+    put_pieces(text, COLUMNS, &messages)?;
+    put_rows(
+        text,
+        &[row_of("\n  line A after line B       ", &venue.leads.b)],
+    )?;
     let pieces = [
-        ("\n  messages that A began     ", venue.leads.a.count()),
-        ("\n  messages that B began     ", venue.leads.b.count()),
-        ("\n  spells with messages gone ", venue.missing.count),
-        ("\n    nanoseconds, all        ", venue.missing.total),
+        ("\n    messages                ", venue.leads.b.count()),
+        ("\n  spells with gaps, over    ", venue.missing.count),
+        ("\n    nanoseconds in all      ", venue.missing.total),
         ("\n    the longest             ", venue.missing.longest),
         (
-            "\n    not over                ",
+            "\n  spells with gaps, open    ",
             u64::from(venue.missing.is_open()),
         ),
     ];

@@ -1,6 +1,6 @@
 -- Runs of the program that print the statistics of a capture: a replay writes its lines to a writer
 -- that counts what they tell, and then the counts are on output.
-use Rattle.std.specs.Prelude.{◌≡◌, ◌⊎◌, ℕ, ◌+◌, List, Bool, Result, Ok, Err, length}
+use Rattle.std.specs.Prelude.{◌≡◌, ◌⊎◌, ℕ, ◌+◌, List, [], Bool, Result, Ok, Err, length}
 use Rattle.clap.specs.Walk.{Text}
 use Rattle.feed_text.specs.declared.fault.ReplayFault.{ReplayFault}
 use Rattle.feed_text.specs.declared.fault.ReplayFault.TheVariants.{ReadFailed, WriteFailed, BadRecord, ShortRecord, TooManyTurns, JournalFull, NoMemory}
@@ -12,6 +12,8 @@ use Rattle.capture_stats.specs.Texts.{text_of_stats}
 use Rattle.capture_stats.specs.Writers.{AddsStats, IsNewFor}
 use Rattle.capture_stats.specs.declared.format.StatsFormat.{StatsFormat}
 use Rattle.capture_stats.specs.declared.stats_out.StatsOut.{StatsOut}
+use Rattle.capture_timing.specs.declared.timing_in.TimingIn.{TimingIn}
+use Rattle.capture_timing.specs.Readers.{below}
 use Rattle.line_captures.specs.declared.captured_line.CapturedLine.{CapturedLine}
 use Rattle.line_captures.specs.declared.report.CaptureReport.{CaptureReport}
 use Rattle.line_captures.specs.declared.report.LinesFault.{LinesFault}
@@ -47,13 +49,21 @@ PrintsText writing text before after (Err ShortRecord) = ⊥
 PrintsText writing text before after (Err TooManyTurns) = ⊥
 PrintsText writing text before after (Err JournalFull) = ⊥
 
--- What is printed are the counts of any text that was written to the writer since it was new.
+-- What is printed are the counts of any text that was written to the writer since it was new, and
+-- what more is said with them.
 pub record PrintsStats {W : Type 0} (writing : Writing W) (counts : StatsOut) (format : StatsFormat)
-    (before after : W) (printed : Result (Unit {0}) ReplayFault) : Type 0 where
+    (more : List ℕ) (before after : W) (printed : Result (Unit {0}) ReplayFault) : Type 0 where
   pub stats : Counted
   pub counted : (venues : ℕ) (start : StatsOut) (text : List ℕ)
       → IsNewFor venues start → AddsStats start text counts → IsCountOf venues text stats
-  pub prints : PrintsText writing (text_of_stats format stats) before after printed
+  pub prints : PrintsText writing (text_of_stats format stats more) before after printed
+
+-- Counts are printed, and with them how the lines ran in time: a text of which nothing else is said.
+pub record PrintsTimedStats {W : Type 0} (writing : Writing W) (counts : StatsOut)
+    (format : StatsFormat) (before after : W) (printed : Result (Unit {0}) ReplayFault)
+    : Type 0 where
+  pub timing : List ℕ
+  pub prints : PrintsStats writing counts format timing before after printed
 
 -- the outcome of a replay whose counts were then printed so: the fault of printing comes before
 -- that of the replay
@@ -79,7 +89,7 @@ pub record PrintsCounts {R W : Type 0} (reading : Reading R) (writing : Writing 
   pub replays : Replays reading stats_writing config from to start mid seen
   pub run : AnswersReplay reading stats_writing config (texts_of_run config) from to start mid seen
   pub printed : Result (Unit {0}) ReplayFault
-  pub prints : PrintsStats writing mid format before after printed
+  pub prints : PrintsStats writing mid format [] before after printed
   pub ends : outcome ≡ ended_by seen printed
 
 -- Input was replayed, and the counts of its lines alone are on output, up to a fault too. Standard
@@ -98,20 +108,33 @@ pub record RunsOwnStats {R W E : Type 0}
   pub line : Says telling (ending_text outcome) hinted told
   pub ends : status ≡ ending_status outcome
 
--- A packet capture was replayed onto a new writer that counts, and then the counts were printed.
--- The report is that of the replay, but for its outcome.
+-- the calls of a reader that reads along, as calls of the reader below
+abbrev pub along_reading : {R : Type 0} → Reading R → Reading (TimingIn R)
+along_reading reading = record {
+  gives = λ s calls bytes t. reading.gives (below s) calls bytes (below t);
+  ends = λ s t. reading.ends (below s) (below t);
+  failures = λ s. reading.failures (below s);
+  fails = λ s t. reading.fails (below s) (below t);
+}
+
+-- A packet capture, which was read along, was replayed onto a new writer that counts, and then the
+-- counts were printed. The report is that of the replay, but for its outcome, and of the reader below.
 pub record PrintsLineCounts {R W : Type 0} (reading : Reading R) (writing : Writing W)
     (config : ReplayConfig) (lines : List CapturedLine) (format : StatsFormat)
     (from : R) (report : CaptureReport R) (before after : W) : Type 0 where
   pub start : StatsOut
   pub new : IsNewFor (venues_in config) start
-  pub seen : CaptureReport R
+  pub along : TimingIn R
+  pub over : below along ≡ from
+  pub seen : CaptureReport (TimingIn R)
   pub mid : StatsOut
-  pub replays : ReplaysLines reading stats_writing config lines from seen start mid
+  pub replays : ReplaysLines (along_reading reading) stats_writing config lines along seen start mid
   pub printed : Result (Unit {0}) ReplayFault
-  pub prints : PrintsStats writing mid format before after printed
+  pub prints : PrintsTimedStats writing mid format before after printed
   pub ends : report.outcome ≡ lines_ended_by seen.outcome printed
-  pub same : report ≡ record seen { outcome = report.outcome }
+  pub position : report.position ≡ seen.position
+  pub passed : report.passed ≡ seen.passed
+  pub input : report.input ≡ below seen.input
 
 -- A packet capture was replayed, and the counts of its lines alone are on output.
 pub record RunsLineStats {R W E : Type 0}

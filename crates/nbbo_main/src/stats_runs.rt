@@ -1,6 +1,10 @@
 //! Runs of the program that print the statistics of a capture.
-ghost use Rattle.std.specs.Prelude.{◌≡◌};
-ghost use Rattle.nbbo_main.specs.StatsRuns.{PrintsStats, RunsLineStats, RunsOwnStats, RunsStats, ended_by, lines_ended_by};
+ghost use Rattle.std.specs.Prelude.{◌≡◌, [], IfOk, IfErr};
+ghost use Rattle.capture_stats.specs.Texts.{text_of_stats};
+ghost use Rattle.capture_stats.specs.Writers.{IsNewFor};
+ghost use Rattle.capture_timing.specs.Readers.{below};
+ghost use Rattle.feed_text.specs.Replays.{venues_in};
+ghost use Rattle.nbbo_main.specs.StatsRuns.{PrintsStats, PrintsText, PrintsTimedStats, RunsLineStats, RunsOwnStats, RunsStats, ended_by, lines_ended_by};
 
 use crate::ending::ending;
 use crate::line_replay_settings::LineReplaySettings;
@@ -8,13 +12,35 @@ use crate::line_runs::{EndedRun, tell_capture};
 use crate::replay_settings::ReplaySettings;
 use crate::run::{config_of, hint, write_stderr};
 use crate::stats_settings::{StatsInput, StatsSettings};
-use capture_stats::{StatsFormat, StatsOut, stats_text};
+use capture_stats::{Stats, StatsFormat, StatsOut, stats_text};
+use capture_timing::{CaptureTiming, TimingIn, timing_text};
 use feed_text::devices::{CaptureIn, TextOut};
 use feed_text::fault::ReplayFault;
 use feed_text::output::write_all;
-use line_captures::{CaptureReport, LinesFault};
+use feed_text::replay::ReplayConfig;
+use line_captures::{CaptureReport, CapturedLine, LinesFault};
 use replay_run::{replay, replay_lines};
 use std::alloc::Global;
+
+/// Writes the counts in the format, and `more` with them.
+fn print_text<W: TextOut>(
+    alloc: Global,
+    stats: &Stats,
+    more: &[u8],
+    format: StatsFormat,
+    output: &mut W,
+) -> Result<(), ReplayFault>
+    ensures { PrintsText (record { adds = W.adds; failures = W.failures })
+        (text_of_stats format stats.now more.now) output.old output.new result }
+{
+    match stats_text(alloc, stats, format, more) {
+        Ok(text) => match write_all(text.as_slice(), output) {
+            Ok(()) => Ok(()),
+            Err(_) => Err(ReplayFault::WriteFailed),
+        },
+        Err(_) => Err(ReplayFault::NoMemory),
+    }
+}
 
 /// Writes what was counted.
 fn print_stats<W: TextOut>(
@@ -24,14 +50,26 @@ fn print_stats<W: TextOut>(
     output: &mut W,
 ) -> Result<(), ReplayFault>
     ensures { PrintsStats (record { adds = W.adds; failures = W.failures })
+        counts format [] output.old output.new result }
+{
+    let stats = counts.into_stats();
+    print_text(alloc, &stats, &[], format, output)
+}
+
+/// Writes what was counted, and how the lines ran in time.
+fn print_timed_stats<W: TextOut>(
+    alloc: Global,
+    counts: StatsOut,
+    timing: &CaptureTiming,
+    format: StatsFormat,
+    output: &mut W,
+) -> Result<(), ReplayFault>
+    ensures { PrintsTimedStats (record { adds = W.adds; failures = W.failures })
         counts format output.old output.new result }
 {
     let stats = counts.into_stats();
-    match stats_text(alloc, &stats, format) {
-        Ok(text) => match write_all(text.as_slice(), output) {
-            Ok(()) => Ok(()),
-            Err(_) => Err(ReplayFault::WriteFailed),
-        },
+    match timing_text(alloc, timing, format) {
+        Ok(more) => print_text(alloc, &stats, more.as_slice(), format, output),
         Err(_) => Err(ReplayFault::NoMemory),
     }
 }
@@ -97,7 +135,32 @@ fn run_own_stats<R: CaptureIn, W: TextOut, E: TextOut>(
     status
 }
 
-/// Replays the packet capture that the input is, and prints the counts of its lines.
+/// Makes what counts the lines of a packet capture, and what reads it along. Where memory is refused, the
+/// input is returned.
+fn make_counts<'a, R>(
+    alloc: Global,
+    config: &ReplayConfig<'_>,
+    lines: &'a [CapturedLine],
+    input: R,
+) -> Result<(StatsOut, TimingIn<'a, R>), R>
+    ensures new { IfOk result (λ made. IsNewFor (venues_in config.now) made.0) }
+    ensures over { IfOk result (λ made. below made.1 ≡ input) }
+    ensures refused { IfErr result (λ back. back ≡ input) }
+{
+    let Ok(counts) = StatsOut::new(alloc, config.sessions.len()) else {
+        return Err(input);
+    };
+    let Ok(timing) = CaptureTiming::new(alloc, config.sessions, config.window) else {
+        return Err(input);
+    };
+    match TimingIn::new(alloc, lines, timing, input) {
+        Ok(reader) => Ok((counts, reader)),
+        Err(input) => Err(input),
+    }
+}
+
+/// Replays the packet capture that the input is, and prints the counts of its lines and how they ran in
+/// time.
 fn run_line_stats<R: CaptureIn + Drop, W: TextOut, E: TextOut>(
     alloc: Global,
     settings: &LineReplaySettings,
@@ -116,25 +179,25 @@ fn run_line_stats<R: CaptureIn + Drop, W: TextOut, E: TextOut>(
 {
     write_stderr(hint(at_terminal), errors);
     let config = config_of(&settings.replay);
-    let mut counts = match StatsOut::new(alloc, config.sessions.len()) {
-        Ok(counts) => counts,
-        Err(_) => {
+    let lines = settings.lines.as_slice();
+    let (mut counts, reader) = match make_counts(alloc, &config, lines, input) {
+        Ok(made) => made,
+        Err(input) => {
             let report = CaptureReport::without_memory(input);
             let status = tell_capture(&report, errors);
             let input = report.input;
             return EndedRun { status, input };
         }
     };
-    let seen = replay_lines(
-        alloc,
-        &config,
-        settings.lines.as_slice(),
+    let seen = replay_lines(alloc, &config, lines, reader, &mut counts);
+    let (input, timing) = seen.input.into_parts();
+    let printed = print_timed_stats(alloc, counts, &timing, format, output);
+    let report = CaptureReport {
+        outcome: lines_ended_by(seen.outcome, printed),
+        position: seen.position,
+        passed: seen.passed,
         input,
-        &mut counts,
-    );
-    let printed = print_stats(alloc, counts, format, output);
-    let outcome = lines_ended_by(seen.outcome, printed);
-    let report = CaptureReport { outcome, ..seen };
+    };
     let status = tell_capture(&report, errors);
     let input = report.input;
     EndedRun { status, input }
