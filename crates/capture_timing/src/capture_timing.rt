@@ -3,7 +3,7 @@
 use crate::peak_rate::PeakRate;
 use crate::venue_timing::VenueTiming;
 use feed_types::VenueId;
-use line_captures::{CapturedLine, line_to};
+use line_captures::LineTable;
 use mold_packet::read_packet;
 use packet_capture::{Frame, read_datagram};
 use std::alloc::{AllocError, Global};
@@ -51,14 +51,14 @@ impl CaptureTiming {
 
     /// Takes a frame. One without a time counts as of the time of the one before. One that carries no
     /// packet to a line counts for nothing else.
-    pub(crate) fn take(&mut self, lines: &[CapturedLine], frame: &Frame<'_>) {
+    pub(crate) fn take(&mut self, lines: &LineTable<'_>, frame: &Frame<'_>) {
         if let Some(time) = frame.time {
             self.now = time;
         }
         let Ok(datagram) = read_datagram(frame.link, frame.bytes) else {
             return;
         };
-        let Some(line) = line_to(lines, &datagram) else {
+        let Some(line) = lines.line_to(&datagram) else {
             return;
         };
         let Ok(packet) = read_packet(datagram.bytes) else {

@@ -2,7 +2,7 @@
 
 use crate::capture_timing::CaptureTiming;
 use feed_text::unread::ReadBuffer;
-use line_captures::CapturedLine;
+use line_captures::{CapturedLine, LineTable};
 use packet_capture::{CaptureReader, Stop};
 use std::alloc::{AllocError, Global};
 
@@ -14,7 +14,7 @@ const PIECES_ROOM: usize = 1_179_648;
 /// Where the capture is bad it reads no further.
 #[derive(Drop)]
 pub(crate) struct ReadAlong<'a> {
-    lines: &'a [CapturedLine],
+    lines: LineTable<'a>,
     capture: CaptureReader,
     unread: ReadBuffer<PIECES_ROOM>,
     is_bad: bool,
@@ -29,7 +29,7 @@ impl<'a> ReadAlong<'a> {
         timing: CaptureTiming,
     ) -> Result<ReadAlong<'a>, AllocError> {
         Ok(ReadAlong {
-            lines,
+            lines: LineTable::new(lines),
             capture: CaptureReader::new(),
             unread: ReadBuffer::new(alloc)?,
             is_bad: false,
@@ -56,7 +56,7 @@ impl<'a> ReadAlong<'a> {
                 Ok(piece) => {
                     let len = piece.len;
                     if let Some(frame) = &piece.frame {
-                        self.timing.take(self.lines, frame);
+                        self.timing.take(&self.lines, frame);
                     }
                     self.unread.advance(len);
                 }
