@@ -13,7 +13,7 @@ use Rattle.capture_stats.specs.Writers.{AddsStats, IsNewFor}
 use Rattle.capture_stats.specs.declared.format.StatsFormat.{StatsFormat}
 use Rattle.capture_stats.specs.declared.stats_out.StatsOut.{StatsOut}
 use Rattle.capture_timing.specs.declared.timing_in.TimingIn.{TimingIn}
-use Rattle.capture_timing.specs.Readers.{below}
+use Rattle.capture_timing.specs.Readers.{reader_below}
 use Rattle.line_captures.specs.declared.captured_line.CapturedLine.{CapturedLine}
 use Rattle.line_captures.specs.declared.report.CaptureReport.{CaptureReport}
 use Rattle.line_captures.specs.declared.report.LinesFault.{LinesFault}
@@ -111,10 +111,10 @@ pub record RunsOwnStats {R W E : Type 0}
 -- the calls of a reader that reads along, as calls of the reader below
 abbrev pub along_reading : {R : Type 0} → Reading R → Reading (TimingIn R)
 along_reading reading = record {
-  gives = λ s calls bytes t. reading.gives (below s) calls bytes (below t);
-  ends = λ s t. reading.ends (below s) (below t);
-  failures = λ s. reading.failures (below s);
-  fails = λ s t. reading.fails (below s) (below t);
+  gives = λ s calls bytes t. reading.gives (reader_below s) calls bytes (reader_below t);
+  ends = λ s t. reading.ends (reader_below s) (reader_below t);
+  failures = λ s. reading.failures (reader_below s);
+  fails = λ s t. reading.fails (reader_below s) (reader_below t);
 }
 
 -- A packet capture, which was read along, was replayed onto a new writer that counts, and then the
@@ -125,7 +125,7 @@ pub record PrintsLineCounts {R W : Type 0} (reading : Reading R) (writing : Writ
   pub start : StatsOut
   pub new : IsNewFor (venues_in config) start
   pub along : TimingIn R
-  pub over : below along ≡ from
+  pub over : reader_below along ≡ from
   pub seen : CaptureReport (TimingIn R)
   pub mid : StatsOut
   pub replays : ReplaysLines (along_reading reading) stats_writing config lines along seen start mid
@@ -134,7 +134,7 @@ pub record PrintsLineCounts {R W : Type 0} (reading : Reading R) (writing : Writ
   pub ends : report.outcome ≡ lines_ended_by seen.outcome printed
   pub position : report.position ≡ seen.position
   pub passed : report.passed ≡ seen.passed
-  pub input : report.input ≡ below seen.input
+  pub input : report.input ≡ reader_below seen.input
 
 -- A packet capture was replayed, and the counts of its lines alone are on output.
 pub record RunsLineStats {R W E : Type 0}
