@@ -31,7 +31,9 @@ use Rattle.line_arbiter.specs.laws.FitsHistory.{fits_new, fits_packet, fits_push
 use Rattle.feed_types.specs.declared.genuine.Genuine.{Ghosts as Genuine}
 use Rattle.live_feed.specs.Premises.{AreInSequence, IsGenuinePacket}
 use Rattle.live_feed.specs.Lanes.{FeedLanes}
-use Rattle.live_feed.specs.venue.Sums.{Sums, no_sums, sums_after, accepted_on, sums_on, line_sums_after, LineSums}
+use Rattle.live_feed.specs.declared.venue.per_line.PerLine.{PerLine}
+use Rattle.live_feed.specs.venue.Lines.{on_line}
+use Rattle.live_feed.specs.venue.Sums.{Sums, no_sums, sums_after, accepted_on, line_sums_after}
 use Rattle.live_feed.specs.venue.Cells.{CellState, CellFitsHistory, AreGivenFrom, VenueLockInvariant, DoneAtVenue, IsOthersLock, UnderVenueLock, arrivals_of, new_cell}
 use Rattle.live_feed.specs.venue.Sections.{TakesPacket, HasNoneReady, KeepsButSent, Pushes, TakesAndPushes, PushesOne, RenewsSession}
 use Rattle.feed_core.specs.declared.event.Done.TheVariants as done
@@ -44,9 +46,9 @@ use Rattle.live_feed.proofs.Histories.{take_same, take_next, get_sent, arrivals_
 -- ---- sums
 
 -- the sums of this line go on by the packet, those of others stay
-adds_on : (line l : LineId) (s : LineSums) (p : Content) (answer : Result Outcome LineFault)
-    → sums_on l (line_sums_after line p answer s) ≡ (if is_same_line line l then sums_after (sums_on l s) p answer else
-    sums_on l s)
+adds_on : (line l : LineId) (s : PerLine Sums) (p : Content) (answer : Result Outcome LineFault)
+    → on_line l (line_sums_after line p answer s) ≡ (if is_same_line line l then sums_after (on_line l s) p answer else
+    on_line l s)
 adds_on A A s p answer = refl
 adds_on A B s p answer = refl
 adds_on A Recovery s p answer = refl
@@ -57,19 +59,19 @@ adds_on Recovery A s p answer = refl
 adds_on Recovery B s p answer = refl
 adds_on Recovery Recovery s p answer = refl
 
-pub no_more : (line : LineId) (s : LineSums) (p : Content) (fault : LineFault)
+pub no_more : (line : LineId) (s : PerLine Sums) (p : Content) (fault : LineFault)
     → line_sums_after line p (Err fault) s ≡ s
 no_more A s p fault = refl
 no_more B s p fault = refl
 no_more Recovery s p fault = refl
 
 -- with one more packet they are those of all packets
-sums_more : (old : CellState) (sums : LineSums) (h : History) (line : LineId) (p : Content)
+sums_more : (old : CellState) (sums : PerLine Sums) (h : History) (line : LineId) (p : Content)
     (answer : Result Outcome LineFault) → CellFitsHistory old h → sums ≡ line_sums_after line p answer old.accepted
-    → (l : LineId) → sums_on l sums ≡ accepted_on l (arrivals_of
+    → (l : LineId) → on_line l sums ≡ accepted_on l (arrivals_of
     (all_begun (after_arrival h (arrival_of line p answer))))
 sums_more old sums h line p answer f is l =
-    ap (sums_on l) is
+    ap (on_line l) is
     ∙ adds_on line l old.accepted p answer
     ∙ ap (λ (s : Sums). if is_same_line line l then sums_after s p answer else s) (f.accepted l)
     ∙ sym (fold-append (λ (s : Sums) (x : Arrival). if is_same_line x.line l then sums_after s x.packet x.answer else s)
@@ -209,7 +211,7 @@ module _ (c : CellState) (h : History) (f : CellFitsHistory c h) where
     history = fits_push h f.history advanced.kept fits;
     sent = ap (λ (e : LaneEnd Numbered). e.items) lane
         ∙ sent_more c.lane.items c.arbiter.sent h f.sent x new.arbiter.sent advanced.sent e;
-    accepted = λ l. ap (sums_on l) sums ∙ f.accepted l;
+    accepted = λ l. ap (on_line l) sums ∙ f.accepted l;
   }
 
   pub pushes : (may_send : ℕ → List Numbered → Type 0) (new : CellState) (x : Numbered) (number : ℕ)
@@ -380,7 +382,7 @@ module _ (old : CellState) (h : History) (line : LineId) (p : Content) (x : Numb
 
 -- ---- a cell where nothing came yet
 
-nothing : (line : LineId) → sums_on line (record { a = no_sums; b = no_sums; recovery = no_sums }) ≡ no_sums
+nothing : (line : LineId) → on_line line (record { a = no_sums; b = no_sums; recovery = no_sums }) ≡ no_sums
 nothing A = refl
 nothing B = refl
 nothing Recovery = refl
@@ -433,7 +435,7 @@ module _ (old new : CellState) (h : History) (name : List ℕ) (f : CellFitsHist
         ∙ sym (items_push h.earlier h.present)
         ∙ sym (append-nil (items_of (all_begun h)))
         ∙ ap (λ (n : ℕ). items_of (all_begun h) ++ take n (stream_of [])) (sym begun.begun.sent);
-    accepted = λ l. ap (sums_on l) sums ∙ f.accepted l
+    accepted = λ l. ap (on_line l) sums ∙ f.accepted l
         ∙ ap (accepted_on l) (sym (arrivals_push (all_begun h) (new_session name)
         ∙ append-nil (arrivals_of (all_begun h))));
   }

@@ -10,7 +10,7 @@ use Rattle.live_feed.specs.Lanes.{FeedLanes}
 use Rattle.live_feed.specs.venue.Cells.{CellState}
 use Rattle.live_feed.specs.hub.Hubs.{HubState, items_in}
 use Rattle.live_feed.specs.venue.Seats.{SeatState}
-use Rattle.live_feed.specs.venue.Sums.{sums_on}
+use Rattle.live_feed.specs.venue.Lines.{on_line}
 use Rattle.live_feed.specs.subscriber.Logs.{SubscriberLogState}
 use Rattle.live_feed.specs.settle.Settlements.{AllAgree, AreInOrder, IsClosedVenue, IsSettled, IsSettlement, SettlementState, ShowsSubscriber, SubscriberEndState, ShowsVenue, VenueEndState, tally_of}
 use Rattle.live_feed.specs.settle.Closings.{IsClosedFeed}
@@ -40,7 +40,7 @@ module _ {S : Type 0} (premise : Genuine S) (lanes : FeedLanes) (seats : List Se
         consumed = closed.consumed ∙ ap (items_in s.journal.entries) same.venue_is;
         wins = λ line. ap (count_on line) closed.wins ∙ (same.on line).wins
             ∙ (λ i. (tally_of (same.venue_is i) line seats).wins);
-        accepted = λ line. ap (sums_on line) closed.accepted ∙ (same.on line).accepted
+        accepted = λ line. ap (on_line line) closed.accepted ∙ (same.on line).accepted
             ∙ (λ i. (tally_of (same.venue_is i) line seats).accepted);
       }
 

@@ -1,4 +1,5 @@
 -- What a venue's lock keeps, its sections, and what is counted of packets.
+pub mod Lines
 pub mod Sums
 pub mod Refusals
 pub mod Seats

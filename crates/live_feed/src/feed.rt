@@ -19,8 +19,8 @@ use crate::hub::journal_and_lanes::JournalAndLanes;
 use crate::hub::spare::SpareLane;
 use crate::venue::cell::VenueCell;
 use crate::venue::locks::{VenueLock, VenueLocks};
-use crate::venue::refusals::RefusedLines;
-use crate::venue::seated_lines::SeatedLines;
+use crate::venue::per_line::PerLine;
+use crate::venue::refusals::Refusals;
 use crate::venue::start::VenueStart;
 use crossbeam_utils::CachePadded;
 use feed_core::{CoreFault, new_journal};
@@ -74,8 +74,8 @@ fn locked<G: Genuine, N: FeedName>(
         let cell = VenueCell::new(arbiter, lane);
         venues.push_reserved(CachePadded::new(Mutex::new(Guarded {
             cell,
-            seated: SeatedLines::none(),
-            refused: RefusedLines::none(),
+            seated: PerLine::all(false),
+            refused: PerLine::all(Refusals::none()),
         })));
     }
     venues

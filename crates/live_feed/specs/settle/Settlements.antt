@@ -15,7 +15,9 @@ use Rattle.live_feed.specs.Lanes.{FeedLanes}
 use Rattle.live_feed.specs.venue.Cells.{AreGivenFrom, CellState, VenueLockInvariant, arrivals_of}
 use Rattle.live_feed.specs.hub.Hubs.{items_in}
 use Rattle.live_feed.specs.venue.Seats.{SeatState, is_seat_of}
-use Rattle.live_feed.specs.venue.Sums.{LineSums, Sums, accepted_on, no_sums, sums_on, sums_together}
+use Rattle.live_feed.specs.declared.venue.per_line.PerLine.{PerLine}
+use Rattle.live_feed.specs.venue.Lines.{on_line}
+use Rattle.live_feed.specs.venue.Sums.{Sums, accepted_on, no_sums, sums_together}
 use Rattle.live_feed.specs.subscriber.Logs.{SubscriberLogState}
 
 -- A venue whose lane is closed, through which these items were sent: what was consumed, then what
@@ -23,14 +25,14 @@ use Rattle.live_feed.specs.subscriber.Logs.{SubscriberLogState}
 -- each answered as it should be and genuine; what was sent, then what is ready, are the sessions'
 -- streams; and what is counted per line is that of these packets.
 pub record IsSettled {S : Type 0} (premise : Genuine S) (venue window : ℕ)
-    (sent consumed in_lane ready : List Numbered) (won : Counts) (sums : LineSums) : Type 0 where
+    (sent consumed in_lane ready : List Numbered) (won : Counts) (sums : PerLine Sums) : Type 0 where
   pub sent_is : consumed ++ in_lane ≡ sent
   pub history : History
   pub given : AreGivenFrom premise venue window 1 history.earlier history.present
   pub whole : sent ++ ready ≡ streams_of history
   pub wins : (line : LineId) → count_on line won ≡ shown (wins_in (all_begun history) line)
   pub accepted : (line : LineId)
-      → sums_on line sums ≡ accepted_on line (arrivals_of (all_begun history))
+      → on_line line sums ≡ accepted_on line (arrivals_of (all_begun history))
 
 -- A subscriber whose lane is closed: the notices of its log, then those in the lane, then those
 -- that weren't offered are what it wants of the entries.
@@ -48,7 +50,7 @@ pub record VenueEndState : Type 0 where
   pub in_lane : List Numbered
   pub ready : List Numbered
   pub wins : Counts
-  pub accepted : LineSums
+  pub accepted : PerLine Sums
 
 -- what is left of a subscriber: its log, and the notices in its lane and those that weren't offered
 pub record SubscriberEndState : Type 0 where
@@ -87,7 +89,7 @@ tally_of venue line seats = fold (tally_after venue line) no_tally seats
 -- the cell counts on the line what the line's seats show
 pub record AgreesOn (seats : List SeatState) (c : CellState) (line : LineId) : Type 0 where
   pub wins : count_on line c.arbiter.wins ≡ (tally_of c.arbiter.venue line seats).wins
-  pub accepted : sums_on line c.accepted ≡ (tally_of c.arbiter.venue line seats).accepted
+  pub accepted : on_line line c.accepted ≡ (tally_of c.arbiter.venue line seats).accepted
 
 -- the cell is that of the venue, and agrees with the seats
 pub record AgreesWithSeats (seats : List SeatState) (venue : ℕ) (c : CellState) : Type 0 where
@@ -130,7 +132,7 @@ pub record ShowsVenue {S : Type 0} (premise : Genuine S) (lanes : FeedLanes)
       v.in_lane v.ready v.wins v.accepted
   pub consumed : v.consumed ≡ items_in entries venue
   pub wins : (line : LineId) → count_on line v.wins ≡ (tally_of venue line seats).wins
-  pub accepted : (line : LineId) → sums_on line v.accepted ≡ (tally_of venue line seats).accepted
+  pub accepted : (line : LineId) → on_line line v.accepted ≡ (tally_of venue line seats).accepted
 
 -- a subscriber of a closed feed: its lane is closed, and the log is its own
 pub record ShowsSubscriber (journal : JournalState) (id : ℕ) (t : SubscriberLogState)

@@ -14,7 +14,9 @@ use Rattle.line_arbiter.specs.Pacing.{Pace}
 use Rattle.fifo_lane.specs.Lane.{LaneEnd}
 use Rattle.feed_types.specs.declared.genuine.Genuine.{Ghosts as Genuine}
 use Rattle.live_feed.specs.Lanes.{FeedLanes}
-use Rattle.live_feed.specs.venue.Sums.{LineSums, accepted_on, no_line_sums, sums_on}
+use Rattle.live_feed.specs.declared.venue.per_line.PerLine.{PerLine}
+use Rattle.live_feed.specs.venue.Lines.{on_line, on_all}
+use Rattle.live_feed.specs.venue.Sums.{Sums, accepted_on, no_sums}
 
 -- a venue's arbiter, the sending end of its lane, when it asked last for a gap, and the sums of
 -- accepted packets, line by line
@@ -22,7 +24,7 @@ pub record CellState : Type 0 where
   pub arbiter : State
   pub lane : LaneEnd Numbered
   pub pace : Pace
-  pub accepted : LineSums
+  pub accepted : PerLine Sums
 
 -- a gap is asked for again after this many milliseconds
 abbrev pub new_pace : Pace
@@ -31,7 +33,7 @@ new_pace = record { interval = 250; last = None }
 -- the cell of an arbiter and a lane, where nothing came yet
 abbrev pub new_cell : State → LaneEnd Numbered → CellState
 new_cell arbiter lane =
-    record { arbiter = arbiter; lane = lane; pace = new_pace; accepted = no_line_sums }
+    record { arbiter = arbiter; lane = lane; pace = new_pace; accepted = on_all no_sums }
 
 -- all packets that a venue was given, in all its sessions
 abbrev pub arrivals_of : List Begun → List Arrival
@@ -45,7 +47,7 @@ pub record CellFitsHistory (c : CellState) (h : History) : Type 0 where
   pub sent : c.lane.items
       ≡ items_of h.earlier ++ take c.arbiter.sent (stream_of h.present.packets)
   pub accepted : (line : LineId)
-      → sums_on line c.accepted ≡ accepted_on line (arrivals_of (all_begun h))
+      → on_line line c.accepted ≡ accepted_on line (arrivals_of (all_begun h))
 
 module _ {S : Type 0} (premise : Genuine S) (venue window : ℕ) where
   -- The packets of a session: each was answered by the definitions (so one with an outcome is of

@@ -2,7 +2,6 @@
 use Rattle.std.specs.Prelude.{◌≡◌, ℕ, ◌+◌, ◌==◌, ◌&&◌, Bool, true, false, List, Result, Ok, Err}
 use Rattle.std.specs.List.{list_any}
 use Rattle.feed_types.specs.declared.line.LineId.{LineId}
-use Rattle.feed_types.specs.declared.line.LineId.TheVariants.{A, B, Recovery}
 use Rattle.mold_packet.specs.Content.{Content}
 use Rattle.line_arbiter.specs.declared.outcome.Outcome.{Outcome}
 use Rattle.line_arbiter.specs.declared.outcome.Outcome.TheVariants.{Taken, Heartbeat, Ended, Ahead}
@@ -12,6 +11,8 @@ use Rattle.line_arbiter.specs.Streams.{is_same_line}
 use Rattle.live_feed.specs.declared.faults.FeedFault.{FeedFault}
 use Rattle.live_feed.specs.declared.faults.FeedFault.TheVariants.{UnknownVenue, UnknownSubscriber, SeatTaken}
 use Rattle.live_feed.specs.declared.faults.TakeFault.{TakeFault}
+use Rattle.live_feed.specs.declared.venue.per_line.PerLine.{PerLine}
+use Rattle.live_feed.specs.venue.Lines.{on_line, with_line}
 use Rattle.live_feed.specs.venue.Refusals.{no_refusals, refusals_after}
 use Rattle.live_feed.specs.venue.Sums.{Sums, no_sums, sums_after}
 
@@ -54,34 +55,16 @@ seat_refusing fault s = record s { refused = refusals_after fault s.refused }
 abbrev pub is_seat_of : ℕ → LineId → SeatState → Bool
 is_seat_of venue line s = (s.venue == venue) && is_same_line s.line line
 
--- whether each line's seat at a venue was handed out
-pub record SeatsGiven : Type 0 where
-  pub a : Bool
-  pub b : Bool
-  pub recovery : Bool
-
-abbrev pub no_seats : SeatsGiven
-no_seats = record { a = false; b = false; recovery = false }
-
-abbrev pub has_seat : LineId → SeatsGiven → Bool
-has_seat A s = s.a
-has_seat B s = s.b
-has_seat Recovery s = s.recovery
-
-abbrev pub with_seat : LineId → SeatsGiven → SeatsGiven
-with_seat A s = record s { a = true }
-with_seat B s = record s { b = true }
-with_seat Recovery s = record s { recovery = true }
-
 -- The answer to who asks for a line's seat, by cases: SeatTaken exactly where it was handed out,
 -- and nothing changes then; else that line alone is marked.
-abbrev pub GivesSeat : {X : Type 0} → LineId → Result X FeedFault → SeatsGiven → SeatsGiven → Type 0
-GivesSeat line (Ok given) old new = (has_seat line old ≡ false) × (new ≡ with_seat line old)
-GivesSeat line (Err SeatTaken) old new = (has_seat line old ≡ true) × (new ≡ old)
+abbrev pub GivesSeat : {X : Type 0} → LineId → Result X FeedFault → PerLine Bool → PerLine Bool
+    → Type 0
+GivesSeat line (Ok given) old new = (on_line line old ≡ false) × (new ≡ with_line line true old)
+GivesSeat line (Err SeatTaken) old new = (on_line line old ≡ true) × (new ≡ old)
 GivesSeat line (Err UnknownVenue) old new = ⊥
 GivesSeat line (Err UnknownSubscriber) old new = ⊥
 
 -- each line of the venue whose seat was handed out has one in this list
-abbrev pub HasItsSeats : List SeatState → ℕ → SeatsGiven → Type 0
+abbrev pub HasItsSeats : List SeatState → ℕ → PerLine Bool → Type 0
 HasItsSeats seats venue given =
-    (line : LineId) → has_seat line given ≡ true → list_any (is_seat_of venue line) seats ≡ true
+    (line : LineId) → on_line line given ≡ true → list_any (is_seat_of venue line) seats ≡ true

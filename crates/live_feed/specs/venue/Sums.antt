@@ -9,6 +9,7 @@ use Rattle.line_arbiter.specs.declared.outcome.Outcome.TheVariants.{Taken, Heart
 use Rattle.line_arbiter.specs.declared.outcome.LineFault.{LineFault}
 use Rattle.line_arbiter.specs.Packets.{Arrival}
 use Rattle.line_arbiter.specs.Streams.{is_same_line}
+use Rattle.live_feed.specs.declared.venue.per_line.PerLine.{PerLine}
 
 pub record Sums : Type 0 where
   pub taken : ℕ
@@ -50,22 +51,9 @@ accepted_on line packets =
     fold (λ s a. if is_same_line a.line line then sums_after s a.packet a.answer else s) no_sums
     packets
 
--- the sums of a venue, line by line
-pub record LineSums : Type 0 where
-  pub a : Sums
-  pub b : Sums
-  pub recovery : Sums
-
-abbrev pub no_line_sums : LineSums
-no_line_sums = record { a = no_sums; b = no_sums; recovery = no_sums }
-
-abbrev pub sums_on : LineId → LineSums → Sums
-sums_on A s = s.a
-sums_on B s = s.b
-sums_on Recovery s = s.recovery
-
 -- the sums after one more packet on the line
-abbrev pub line_sums_after : LineId → Content → Result Outcome LineFault → LineSums → LineSums
+abbrev pub line_sums_after : LineId → Content → Result Outcome LineFault
+    → PerLine Sums → PerLine Sums
 line_sums_after A p answer s = record s { a = sums_after s.a p answer }
 line_sums_after B p answer s = record s { b = sums_after s.b p answer }
 line_sums_after Recovery p answer s = record s { recovery = sums_after s.recovery p answer }

@@ -24,9 +24,9 @@ use crate::venue::calls::renew_in;
 use crate::venue::cell::VenueCell;
 use crate::venue::datagram::Datagram;
 use crate::venue::locks::VenueLocks;
-use crate::venue::refusals::RefusedLines;
+use crate::venue::per_line::PerLine;
+use crate::venue::refusals::Refusals;
 use crate::venue::seat::LineSeat;
-use crate::venue::seated_lines::SeatedLines;
 use crossbeam_utils::CachePadded;
 use feed_types::{Genuine, LineId, SubscriberId, VenueId};
 use filter_terms::{Filter, Strategy};
@@ -41,8 +41,8 @@ use std::sync::{Mutex, Wait};
 #[derive(Drop)]
 pub(crate) struct Guarded<G: Genuine, N: FeedName> {
     pub(crate) cell: VenueCell<G, N>,
-    pub(crate) seated: SeatedLines,
-    pub(crate) refused: RefusedLines,
+    pub(crate) seated: PerLine<bool>,
+    pub(crate) refused: PerLine<Refusals>,
 }
 
 impl<G: Genuine, N: FeedName> Guarded<G, N> {
@@ -53,10 +53,11 @@ impl<G: Genuine, N: FeedName> Guarded<G, N> {
         ensures given { GivesSeat line result self.old.seated self.new.seated }
         ensures cell { self.new.cell ≡ self.old.cell }
     {
-        match self.seated.give(line) {
-            Ok(()) => Ok(LineSeat::new(self.cell.venue(), line)),
-            Err(fault) => Err(fault),
+        if self.seated.on(line) {
+            return Err(FeedFault::SeatTaken);
         }
+        self.seated.set(line, true);
+        Ok(LineSeat::new(self.cell.venue(), line))
     }
 }
 

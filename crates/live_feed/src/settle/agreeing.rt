@@ -2,7 +2,8 @@
 
 ghost use Rattle.std.specs.Prelude.{◌≡◌, ◌↔◌, true, IsTrue, map};
 ghost use Rattle.std.specs.List.{list_any};
-ghost use Rattle.live_feed.specs.venue.Seats.{HasItsSeats, has_seat, is_seat_of};
+ghost use Rattle.live_feed.specs.venue.Lines.{on_line};
+ghost use Rattle.live_feed.specs.venue.Seats.{HasItsSeats, is_seat_of};
 ghost use Rattle.live_feed.specs.settle.Settlements.{AgreesOn, AgreesWithSeats, AllAgree, AreInOrder};
 
 use crate::feed::open_feed::Guarded;
@@ -32,10 +33,10 @@ fn is_back<G: Genuine, N: FeedName>(
     venue: VenueId,
     line: LineId,
 ) -> bool
-    ensures { IsTrue result ↔ (has_seat line guarded.now.seated ≡ true
+    ensures { IsTrue result ↔ (on_line line guarded.now.seated ≡ true
         → list_any (is_seat_of venue line) seats.now ≡ true) }
 {
-    !guarded.seated.has(line) || is_among(seats, venue, line)
+    !guarded.seated.on(line) || is_among(seats, venue, line)
 }
 
 /// Whether each seat of the venue that was handed out is here.

@@ -3,7 +3,8 @@
 ghost use Rattle.std.specs.Prelude.{◌≡◌, ◌<◌, length, IfSome, Some, slice_get};
 ghost use Rattle.line_arbiter.specs.Counts.{count_on};
 ghost use Rattle.journal_book.specs.Journals.{changes, terms_at};
-ghost use Rattle.live_feed.specs.venue.Sums.{sums_list, sums_on};
+ghost use Rattle.live_feed.specs.venue.Lines.{on_line};
+ghost use Rattle.live_feed.specs.venue.Sums.{sums_list};
 
 use crate::settle::subscriber_end::SubscriberEnd;
 use crate::settle::venue_end::VenueEnd;
@@ -130,7 +131,7 @@ impl Settlement {
     pub fn accepted(&self, venue: VenueId, line: LineId) -> [u64; 4]
         requires { venue < length self.now.venues }
         ensures { IfSome (slice_get self.now.venues venue)
-            (λ v. result ≡ sums_list (sums_on line v.accepted)) }
+            (λ v. result ≡ sums_list (on_line line v.accepted)) }
     {
         self.venue_ends[venue.index()].accepted(line)
     }

@@ -2,9 +2,11 @@
 
 ghost use Rattle.std.specs.Prelude.{◌≡◌};
 ghost use Rattle.line_arbiter.specs.Counts.{count_on};
-ghost use Rattle.live_feed.specs.venue.Sums.{sums_list, sums_on};
+ghost use Rattle.live_feed.specs.venue.Lines.{on_line};
+ghost use Rattle.live_feed.specs.venue.Sums.{sums_list};
 
-use crate::venue::sums::VenueSums;
+use crate::venue::per_line::PerLine;
+use crate::venue::sums::PacketSums;
 use feed_types::{LineId, Numbered};
 use line_arbiter::Wins;
 use std::marker::Model;
@@ -17,7 +19,7 @@ pub(crate) struct VenueEnd {
     inside: Vec<Numbered>,
     unsent: Vec<Numbered>,
     won: Wins,
-    sums: VenueSums,
+    sums: PerLine<PacketSums>,
 }
 
 impl Model for VenueEnd {
@@ -40,7 +42,7 @@ impl VenueEnd {
         in_lane: Vec<Numbered>,
         ready: Vec<Numbered>,
         won: Wins,
-        sums: VenueSums,
+        sums: PerLine<PacketSums>,
     ) -> VenueEnd
         ensures { result ≡ record {
           consumed = consumed.items;
@@ -84,7 +86,7 @@ impl VenueEnd {
     }
 
     pub(crate) fn accepted(&self, line: LineId) -> [u64; 4]
-        ensures { result ≡ sums_list (sums_on line self.now.accepted) }
+        ensures { result ≡ sums_list (on_line line self.now.accepted) }
     {
         self.sums.on(line).all()
     }

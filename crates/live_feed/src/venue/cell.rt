@@ -10,14 +10,15 @@ ghost use Rattle.line_arbiter.specs.States.{IsNew, ordinal_of};
 ghost use Rattle.line_arbiter.specs.Counts.{count_on};
 ghost use Rattle.live_feed.specs.Premises.{AreInSequence, IsGenuinePacket};
 ghost use Rattle.live_feed.specs.venue.Seats.{seat_after};
-ghost use Rattle.live_feed.specs.venue.Sums.{sums_on};
+ghost use Rattle.live_feed.specs.venue.Lines.{on_line};
 ghost use Rattle.live_feed.specs.venue.Cells.{CellFitsHistory, VenueLockInvariant, new_cell};
 ghost use Rattle.live_feed.specs.venue.Sections.{TakesPacket, AcceptsTheirPacket, KeepsButPackets, TakesAndPushes, KeepsButPushed, IsLeft, PushesOne, KeepsButSent, RenewsSession, BeginsNext, RequestsGap};
 
 use crate::feed_name::FeedName;
 use crate::unsent::Unsent;
+use crate::venue::per_line::PerLine;
 use crate::venue::seat::LineSeat;
-use crate::venue::sums::{PacketSums, VenueSums};
+use crate::venue::sums::PacketSums;
 use feed_types::{Genuine, LineId, Numbered, VenueId};
 use fifo_lane::{Sender, VenueItems};
 use line_arbiter::{Arbiter, InOrder, LineFault, Outcome, Pacer, RenewFault};
@@ -37,7 +38,7 @@ const REQUEST_INTERVAL_MS: u64 = 250;
 pub struct VenueCell<G: Genuine, N: FeedName> {
     items: Sender<Numbered, VenueItems<G>>,
     pacer: Pacer,
-    sums: VenueSums,
+    sums: PerLine<PacketSums>,
     lines: Arbiter<G>,
     feed: PhantomData<N>,
 }
@@ -93,7 +94,7 @@ impl<G: Genuine, N: FeedName> VenueCell<G, N> {
             lines: arbiter,
             items: lane,
             pacer: Pacer::new(REQUEST_INTERVAL_MS),
-            sums: VenueSums::none(),
+            sums: PerLine::all(PacketSums::none()),
             feed: PhantomData,
         }
     }
@@ -145,7 +146,7 @@ impl<G: Genuine, N: FeedName> VenueCell<G, N> {
 
     /// The sums of the line's accepted packets.
     pub(crate) fn accepted(&self, line: LineId) -> PacketSums
-        ensures { result ≡ sums_on line self.now.accepted }
+        ensures { result ≡ on_line line self.now.accepted }
     {
         self.sums.on(line)
     }
@@ -162,7 +163,13 @@ impl<G: Genuine, N: FeedName> VenueCell<G, N> {
     }
 
     /// Returns the parts that the lock guarded, once it is gone.
-    pub(crate) fn into_parts(self) -> (Arbiter<G>, Sender<Numbered, VenueItems<G>>, VenueSums)
+    pub(crate) fn into_parts(
+        self,
+    ) -> (
+        Arbiter<G>,
+        Sender<Numbered, VenueItems<G>>,
+        PerLine<PacketSums>,
+    )
         ensures parts { (result.0 ≡ self.arbiter) × (result.1 ≡ self.lane)
             × (result.2 ≡ self.accepted) }
         ensures kept { VenueLockInvariant G.Genuine N.lanes self }

@@ -4,7 +4,6 @@ ghost use Rattle.std.specs.Prelude.{◌≡◌};
 ghost use Rattle.live_feed.specs.venue.Refusals.{no_refusals, refusals_after};
 
 use crate::faults::TakeFault;
-use feed_types::LineId;
 use std::marker::Model;
 
 /// How many datagrams of a line were refused, by the code of the fault. A count stays at 2^64 - 1
@@ -45,41 +44,5 @@ impl Refusals {
         ensures { result ≡ self.now }
     {
         self.counts
-    }
-}
-
-/// The refusals of each line of a venue.
-#[derive(Drop)]
-pub(crate) struct RefusedLines {
-    on_a: Refusals,
-    on_b: Refusals,
-    on_recovery: Refusals,
-}
-
-impl RefusedLines {
-    pub(crate) fn none() -> RefusedLines {
-        RefusedLines {
-            on_a: Refusals::none(),
-            on_b: Refusals::none(),
-            on_recovery: Refusals::none(),
-        }
-    }
-
-    /// Stores the refusals of the line.
-    pub(crate) fn set(&mut self, line: LineId, refused: Refusals) {
-        match line {
-            LineId::A => self.on_a = refused,
-            LineId::B => self.on_b = refused,
-            LineId::Recovery => self.on_recovery = refused,
-        }
-    }
-
-    /// The refusals of the line.
-    pub(crate) fn on(&self, line: LineId) -> Refusals {
-        match line {
-            LineId::A => self.on_a,
-            LineId::B => self.on_b,
-            LineId::Recovery => self.on_recovery,
-        }
     }
 }

@@ -7,7 +7,8 @@ ghost use Rattle.live_feed.specs.venue.Statuses.{ShowsHistory, ShowsLine, status
 
 use crate::feed_name::FeedName;
 use crate::venue::cell::VenueCell;
-use crate::venue::refusals::{Refusals, RefusedLines};
+use crate::venue::per_line::PerLine;
+use crate::venue::refusals::Refusals;
 use feed_types::{Genuine, LineId};
 use line_arbiter::ArbiterStatus;
 use mold_packet::Request;
@@ -44,7 +45,7 @@ pub struct VenueStatus {
 /// What the line has brought, by the venue's cell and by what it was refused.
 fn line_status<G: Genuine, N: FeedName>(
     cell: &VenueCell<G, N>,
-    refused: &RefusedLines,
+    refused: &PerLine<Refusals>,
     line: LineId,
 ) -> LineStatus
     ensures { (h : History) → CellFitsHistory cell.now h → ShowsLine h line result }
@@ -60,7 +61,7 @@ impl VenueStatus {
     /// The status by the venue's cell and by what its lines were refused.
     pub(crate) fn of<G: Genuine, N: FeedName>(
         cell: &VenueCell<G, N>,
-        refused: &RefusedLines,
+        refused: &PerLine<Refusals>,
     ) -> VenueStatus
         ensures shows { (h : History) → CellFitsHistory cell.now h
             → ShowsHistory cell.now.arbiter.window h result }

@@ -1,8 +1,9 @@
 //! The sums of accepted packets.
 
 ghost use Rattle.std.specs.Prelude.{◌≡◌, Ok, IsTrue};
-ghost use Rattle.live_feed.specs.venue.Sums.{no_sums, sums_list, sums_after, sums_together, no_line_sums, sums_on, line_sums_after};
+ghost use Rattle.live_feed.specs.venue.Sums.{no_sums, sums_list, sums_after, sums_together, line_sums_after};
 
+use crate::venue::per_line::PerLine;
 use feed_types::LineId;
 use line_arbiter::Outcome;
 use mold_packet::Packet;
@@ -100,54 +101,16 @@ impl PacketSums {
     }
 }
 
-/// The sums of each line of a venue.
-#[derive(Clone, Copy, Debug)]
-pub(crate) struct VenueSums {
-    of_a: PacketSums,
-    of_b: PacketSums,
-    of_recovery: PacketSums,
-}
-
-impl Model for VenueSums {
-    ghost use Rattle.live_feed.specs.venue.Sums.{LineSums};
-
-    ghost Value = { LineSums };
-
-    ghost view = { λ s. record { a = s.of_a; b = s.of_b; recovery = s.of_recovery } };
-
-    ghost inverse = { λ s. record { of_a = s.a; of_b = s.b; of_recovery = s.recovery } };
-}
-
-impl VenueSums {
-    pub(crate) fn none() -> VenueSums
-        ensures { result ≡ no_line_sums }
-    {
-        VenueSums {
-            of_a: PacketSums::none(),
-            of_b: PacketSums::none(),
-            of_recovery: PacketSums::none(),
-        }
-    }
-
+impl PerLine<PacketSums> {
     /// Adds one more packet on the line, with its outcome.
     #[inline(always)]
     pub(crate) fn add(&mut self, line: LineId, packet: &Packet<'_>, outcome: Outcome)
         ensures { self.new ≡ line_sums_after line packet.now (Ok outcome) self.old }
     {
         match line {
-            LineId::A => self.of_a.add(packet, outcome),
-            LineId::B => self.of_b.add(packet, outcome),
-            LineId::Recovery => self.of_recovery.add(packet, outcome),
-        }
-    }
-
-    pub(crate) fn on(&self, line: LineId) -> PacketSums
-        ensures { result ≡ sums_on line self.now }
-    {
-        match line {
-            LineId::A => self.of_a,
-            LineId::B => self.of_b,
-            LineId::Recovery => self.of_recovery,
+            LineId::A => self.a.add(packet, outcome),
+            LineId::B => self.b.add(packet, outcome),
+            LineId::Recovery => self.recovery.add(packet, outcome),
         }
     }
 }

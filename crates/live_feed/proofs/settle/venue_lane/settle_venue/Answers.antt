@@ -7,7 +7,8 @@ use Rattle.line_arbiter.specs.Fits.{Fits}
 use Rattle.line_arbiter.specs.States.{State}
 use Rattle.fifo_lane.specs.Lane.{Keeps, LaneEnd}
 use Rattle.live_feed.specs.Premises.{AreInSequence}
-use Rattle.live_feed.specs.venue.Sums.{LineSums}
+use Rattle.live_feed.specs.declared.venue.per_line.PerLine.{PerLine}
+use Rattle.live_feed.specs.venue.Sums.{Sums}
 use Rattle.live_feed.specs.hub.Hubs.{items_in}
 use Rattle.live_feed.specs.settle.Settlements.{IsClosedVenue, IsSettled, VenueEndState}
 use Rattle.live_feed.proofs.HubMoves.{one_there}
@@ -53,7 +54,7 @@ returns g c =
     subst (λ (v : VenueEndState). IsClosedVenue g.G.Genuine g.N.FeedName.lanes entries cell v)
     (sym c.new.ensures) (record {
       kept = k;
-      settled = subst (λ (x : List Numbered × (List Numbered × LineSums)). IsSettled premise cell.arbiter.venue
+      settled = subst (λ (x : List Numbered × (List Numbered × PerLine Sums)). IsSettled premise cell.arbiter.venue
           g.N.FeedName.lanes.setting.window cell.lane.items x.0 x.1.0 c.take_ready-ready.result.items
           c.all_wins-wins.result x.1.1)
           (λ i. (same i, (sym c.drained-in_lane.ensures i, sym parts.2 i))) whole;
