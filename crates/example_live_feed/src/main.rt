@@ -1,5 +1,6 @@
 //! An example of linking the crates, by threads: a live feed of two venues, each with two lines, and
-//! two subscribers with filters and strategies of their own. docs/LINKING.md goes through it.
+//! two subscribers with filters and strategies of their own; and the same lines again, with a
+//! thread beside the run that reads the feed. docs/LINKING.md goes through it.
 #![tactic(auto)]
 
 ghost use Rattle.std.specs.Prelude.{◌≡◌, ℕ, IfSome, slice_get};
@@ -7,16 +8,17 @@ ghost use Rattle.live_feed.specs.Allowed.{IsAllowed};
 ghost use Rattle.live_feed.specs.settle.Settlements.{IsServed};
 
 use live_feed::{
-    Advice, Anything, Datagram, FeedConfig, FeedName, Filter, Limits, Line, LineEnd, LineId,
-    LineSeat, LineSource, LiveFeed, Notice, Request, Settlement, SourceFault, Strategy,
-    SubscriberId, SymbolName, Terms, VenueId,
+    Advice, Anything, Datagram, FeedConfig, FeedFault, FeedName, Filter, Limits, Line, LineEnd,
+    LineId, LineSeat, LineSource, LiveFeed, National, Notice, Request, Settlement, Shareable,
+    SourceFault, Strategy, SubscriberId, SymbolName, Terms, VenueId, VenueStatus,
 };
 use std::alloc::{AllocError, Global};
 use std::collections::VecDeque;
-use std::io;
 use std::marker::Brand;
 use std::sync::Wait;
 use std::thread::Threads;
+use std::time::{Clock, Duration};
+use std::{io, thread};
 
 const SESSION: [u8; 10] = *b"0000000001";
 
@@ -48,6 +50,11 @@ const LINES: [(usize, LineId, u64); 4] = [
     (1, LineId::A, 1),
     (1, LineId::B, 4),
 ];
+
+/// The most looks at a feed that runs, and the milliseconds between two of them.
+const MOST_LOOKS: u32 = 10_000;
+
+const PAUSE_MS: u64 = 1;
 
 /// A packet of one quotation.
 fn datagram_of(
@@ -218,15 +225,79 @@ where
     feed.settle(rt, alloc, seats, report.subscribers).ok()
 }
 
+/// What a look at a venue and its symbol found.
+#[derive(Drop)]
+struct Look {
+    status: VenueStatus,
+    national: National,
+}
+
+/// The look at the venue of this number, where it found the venue's last quotation taken, and the
+/// national best of its symbol is that quotation's; else None.
+fn last_look(
+    place: usize,
+    status: Result<VenueStatus, FeedFault>,
+    national: Option<National>,
+) -> Option<Look> {
+    let (status, national) = (status.ok()?, national?);
+    let (number, _, offer, _) = *QUOTATIONS.get(place)?.last()?;
+    if status.cursors.front < number || national.offer?.price != offer {
+        return None;
+    }
+    Some(Look { status, national })
+}
+
+/// Opens the feed, whose lanes N names, and runs it until all lines have ended, while a second
+/// thread looks until it has found the last quotation of each venue, and returns those looks. None
+/// where memory was refused, or the thread has looked in vain long enough.
+///
+/// The prover has to be shown that the second thread may have the feed: `show_shareable` does.
+fn watch_feed<N, R>(rt: &R, alloc: Global, closed: LiveFeed<Anything>) -> Option<[Look; 2]>
+where
+    N: FeedName + Send + Sync,
+    R: Threads + Wait + Clock + Sync,
+    requires { closed ≡ N.lanes }
+{
+    let feed = closed.open::<N>(alloc).ok()?;
+    let mut lines = Vec::with_capacity(alloc, LINES.len()).ok()?;
+    for (place, line, lost) in LINES {
+        let source = source_of(alloc, place, lost)?;
+        let seat = feed.line_seat(rt, source.place, line).ok()?;
+        lines.push(Line::new(seat, source).ok()?).ok()?;
+    }
+    feed.show_shareable();
+    let (looks, _report) = thread::join(
+        rt,
+        || {
+            let (acme, bolt) = (symbol_at(0)?, symbol_at(1)?);
+            let (north, south) = (VenueId::from_index(0)?, VenueId::from_index(1)?);
+            let mut looks = None;
+            for _ in 0..MOST_LOOKS {
+                let first = last_look(0, feed.status(rt, north), feed.national(rt, &acme));
+                let second = last_look(1, feed.status(rt, south), feed.national(rt, &bolt));
+                if let (Some(first), Some(second)) = (first, second) {
+                    looks = Some([first, second]);
+                    break;
+                }
+                thread::sleep(rt, Duration::from_millis(PAUSE_MS));
+            }
+            looks
+        },
+        || feed.run(rt, alloc, lines, Vec::new(alloc)).ok(),
+    );
+    looks
+}
+
+/// The name of the symbol that the venue of this number quotes.
+fn symbol_at(place: usize) -> Option<SymbolName> {
+    SymbolName::from_field(SYMBOLS.get(place)?)
+}
+
 /// Makes the feed of both venues.
 fn new_feed(alloc: Global) -> Option<LiveFeed<Anything>> {
-    let [acme, bolt] = SYMBOLS;
     let config = FeedConfig {
         sessions: &[SESSION; 2],
-        symbols: &[
-            SymbolName::from_field(&acme)?,
-            SymbolName::from_field(&bolt)?,
-        ],
+        symbols: &[symbol_at(0)?, symbol_at(1)?],
         window: 64,
         lane: 64,
         journal: 1_000,
@@ -254,6 +325,19 @@ fn print_log(rt: &HostRuntime, settlement: &Settlement, place: u8) -> io::Result
     Ok(())
 }
 
+/// Prints what a look beside the run found of the venue of this number.
+fn print_look(rt: &HostRuntime, place: usize, look: &Look) -> io::Result<()> {
+    let (Some(symbol), Some(bid), Some(offer)) = (
+        symbol_at(place),
+        look.national.bid,
+        look.national.offer,
+    ) else {
+        return Ok(());
+    };
+    let front = look.status.cursors.front;
+    println!(rt; "beside the run: venue {place} at {front}, {symbol} bid {bid} offer {offer}")
+}
+
 fn main(rt: HostRuntime) -> io::Result<()> {
     let alloc: Global = rt.alloc();
     let Some(closed) = new_feed(alloc) else {
@@ -265,5 +349,13 @@ fn main(rt: HostRuntime) -> io::Result<()> {
     for place in 0..2 {
         print_log(&rt, &settlement, place)?;
     }
-    Ok(())
+    let Some(closed) = new_feed(alloc) else {
+        return println!(rt; "no memory for a feed");
+    };
+    let Some(looks) = watch_feed::<Brand, HostRuntime>(&rt, alloc, closed) else {
+        return println!(rt; "the second thread saw less");
+    };
+    let [first, second] = looks;
+    print_look(&rt, 0, &first)?;
+    print_look(&rt, 1, &second)
 }

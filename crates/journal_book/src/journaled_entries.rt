@@ -16,6 +16,9 @@ impl Model for JournaledEntries {
     ghost also_owns = { λ _. ftrue };
 }
 
+// It owns nothing.
+unsafe impl Send for JournaledEntries {}
+
 impl JournaledEntries {
     /// Nothing was journaled.
     pub(crate) fn new() -> JournaledEntries

@@ -8,6 +8,7 @@ pub(crate) mod log_size;
 mod making;
 pub(crate) mod open_feed;
 pub(crate) mod reading;
+pub(crate) mod sharing;
 
 use crate::bells::Bells;
 use crate::feed::log_size::LogSize;

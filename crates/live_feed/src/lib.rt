@@ -40,6 +40,7 @@ pub use faults::{FeedFault, RenewalFault, SettleFault, TakeFault};
 pub use feed::LiveFeed;
 pub use feed::open_feed::OpenFeed;
 pub use feed::reading::VenueReader;
+pub use feed::sharing::Shareable;
 pub use feed_name::FeedName;
 pub use hub::cell::HubCell;
 pub use hub::journal_and_lanes::JournalAndLanes;
