@@ -24,10 +24,15 @@ raised_twice count (suc m) (suc n) =
 raised_both : (count m n : ℕ) (all : ℕ) → all ≡ m + n → count_after (count_after count m) n ≡ count_after count all
 raised_both count m n all e = raised_twice count m n ∙ ap (count_after count) (sym e)
 
-counted_both : (kind : FrameFate → Bool) (count : ℕ) (xs ys : List FrameFate) → count_after (count_after count (count_by kind xs)) (count_by kind ys) ≡ count_after count (count_by kind (xs ++ ys))
-counted_both kind count xs ys = raised_both count (count_by kind xs) (count_by kind ys) (count_by kind (xs ++ ys)) (sum_by-append (λ x. cond (kind x) 1 0) xs ys)
+counted_both : (kind : FrameFate → Bool) (count : ℕ) (xs ys : List FrameFate)
+    → count_after (count_after count (count_by kind xs)) (count_by kind ys)
+    ≡ count_after count (count_by kind (xs ++ ys))
+counted_both kind count xs ys =
+    raised_both count (count_by kind xs) (count_by kind ys) (count_by kind (xs ++ ys))
+    (sum_by-append (λ x. cond (kind x) 1 0) xs ys)
 
-passed_twice : (passed : PassedOver) (xs ys : List FrameFate) (m n : ℕ) → passed_after (passed_after passed xs m) ys n ≡ passed_after passed (xs ++ ys) (m + n)
+passed_twice : (passed : PassedOver) (xs ys : List FrameFate) (m n : ℕ)
+    → passed_after (passed_after passed xs m) ys n ≡ passed_after passed (xs ++ ys) (m + n)
 passed_twice passed xs ys m n =
     let a = counted_both (is_without is_fragment) passed.fragments xs ys in
     let b = counted_both (is_without is_cut) passed.cut xs ys in
@@ -38,7 +43,8 @@ passed_twice passed xs ys m n =
     let g = counted_both goes_to_line passed.to_lines xs ys in
     cc
 
-falls_both : (last : ℕ) (xs ys : List ℕ) → falls_after last (xs ++ ys) ≡ falls_after last xs + falls_after (last_after last xs) ys
+falls_both : (last : ℕ) (xs ys : List ℕ)
+    → falls_after last (xs ++ ys) ≡ falls_after last xs + falls_after (last_after last xs) ys
 falls_both last [] ys = omega arith
 falls_both last (x ∷ xs) ys = let h = falls_both x xs ys in omega (arith, h)
 
@@ -46,7 +52,8 @@ last_both : (last : ℕ) (xs ys : List ℕ) → last_after last (xs ++ ys) ≡ l
 last_both last [] ys = refl
 last_both last (x ∷ xs) ys = last_both x xs ys
 
-zip_both : {A B : Type 0} (R : A → B → Type 0) (xs ys : List A) (us vs : List B) → AllZip R xs us → AllZip R ys vs → AllZip R (xs ++ ys) (us ++ vs)
+zip_both : {A B : Type 0} (R : A → B → Type 0) (xs ys : List A) (us vs : List B) → AllZip R xs us → AllZip R ys vs
+    → AllZip R (xs ++ ys) (us ++ vs)
 zip_both R [] ys [] vs h k = k
 zip_both R [] ys (u ∷ us) vs h k = absurd h
 zip_both R (x ∷ xs) ys [] vs h k = absurd h
@@ -61,24 +68,32 @@ counts_none lines progress = record { fates = []; are = tt; position = refl; las
 -- the falls of pieces after pieces
 falls_of : {lines : List CapturedLine} (a b : Progress) (ps qs : List PieceContent) → CountsPieces lines a ps b
     → times_of (frames_of (ps ++ qs)) ≡ times_of (frames_of ps) ++ times_of (frames_of qs)
-    → falls_after a.last_time (times_of (frames_of ps)) + falls_after b.last_time (times_of (frames_of qs)) ≡ falls_after a.last_time (times_of (frames_of (ps ++ qs)))
+    → falls_after a.last_time (times_of (frames_of ps)) + falls_after b.last_time (times_of (frames_of qs))
+    ≡ falls_after a.last_time (times_of (frames_of (ps ++ qs)))
 falls_of a b ps qs x times =
     ap (λ n. falls_after a.last_time (times_of (frames_of ps)) + falls_after n (times_of (frames_of qs))) x.last_time
-    ∙ sym (falls_both a.last_time (times_of (frames_of ps)) (times_of (frames_of qs))) ∙ ap (falls_after a.last_time) (sym times)
+    ∙ sym (falls_both a.last_time (times_of (frames_of ps)) (times_of (frames_of qs)))
+    ∙ ap (falls_after a.last_time) (sym times)
 
-pub counts_then : (lines : List CapturedLine) (a b c : Progress) (ps qs : List PieceContent) → CountsPieces lines a ps b → CountsPieces lines b qs c → CountsPieces lines a (ps ++ qs) c
+pub counts_then : (lines : List CapturedLine) (a b c : Progress) (ps qs : List PieceContent)
+    → CountsPieces lines a ps b → CountsPieces lines b qs c → CountsPieces lines a (ps ++ qs) c
 counts_then lines a b c ps qs x y =
     let frames : frames_of (ps ++ qs) ≡ frames_of ps ++ frames_of qs = flat_map-append frames_in ps qs in
-    let times : times_of (frames_of (ps ++ qs)) ≡ times_of (frames_of ps) ++ times_of (frames_of qs) = ap times_of frames ∙ times_both (frames_of ps) (frames_of qs) in
+    let times : times_of (frames_of (ps ++ qs)) ≡ times_of (frames_of ps) ++ times_of (frames_of qs) =
+    ap times_of frames ∙ times_both (frames_of ps) (frames_of qs) in
     let Z : List FrameContent → Type 0 = λ fs. AllZip (IsFate lines) fs (x.fates ++ y.fates) in
     record {
       fates = x.fates ++ y.fates;
       are = subst Z (sym frames) (zip_both (IsFate lines) (frames_of ps) (frames_of qs) x.fates y.fates x.are y.are);
       position = y.position ∙ ap (λ n. count_after n (sum_by (λ piece. piece.len) qs)) x.position
-          ∙ raised_both a.position (sum_by (λ piece. piece.len) ps) (sum_by (λ piece. piece.len) qs) (sum_by (λ piece. piece.len) (ps ++ qs)) (sum_by-append (λ piece. piece.len) ps qs);
+          ∙ raised_both a.position (sum_by (λ piece. piece.len) ps) (sum_by (λ piece. piece.len) qs)
+          (sum_by (λ piece. piece.len) (ps ++ qs)) (sum_by-append (λ piece. piece.len) ps qs);
       last_time = y.last_time ∙ ap (λ n. last_after n (times_of (frames_of qs))) x.last_time
-          ∙ sym (last_both a.last_time (times_of (frames_of ps)) (times_of (frames_of qs))) ∙ ap (last_after a.last_time) (sym times);
-      passed = y.passed ∙ ap (λ (p : PassedOver). passed_after p y.fates (falls_after b.last_time (times_of (frames_of qs)))) x.passed
-          ∙ passed_twice a.passed x.fates y.fates (falls_after a.last_time (times_of (frames_of ps))) (falls_after b.last_time (times_of (frames_of qs)))
+          ∙ sym (last_both a.last_time (times_of (frames_of ps)) (times_of (frames_of qs)))
+          ∙ ap (last_after a.last_time) (sym times);
+      passed = y.passed
+          ∙ ap (λ (p : PassedOver). passed_after p y.fates (falls_after b.last_time (times_of (frames_of qs)))) x.passed
+          ∙ passed_twice a.passed x.fates y.fates (falls_after a.last_time (times_of (frames_of ps)))
+          (falls_after b.last_time (times_of (frames_of qs)))
           ∙ ap (λ n. passed_after a.passed (x.fates ++ y.fates) n) (falls_of a b ps qs x times);
     }

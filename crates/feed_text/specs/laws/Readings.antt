@@ -24,7 +24,8 @@ no_line A e = omega arith
 no_line B e = omega arith
 no_line Recovery e = omega arith
 
-help_one : (venue : ℕ) (on off : Bool) → kind_byte (self_help_record venue on) ≡ kind_byte (self_help_record venue off) → on ≡ off
+help_one : (venue : ℕ) (on off : Bool)
+    → kind_byte (self_help_record venue on) ≡ kind_byte (self_help_record venue off) → on ≡ off
 help_one venue true true e = refl
 help_one venue true false e = absurd (omega arith)
 help_one venue false true e = absurd (omega arith)
@@ -47,7 +48,8 @@ same_kind v w true = refl
 same_kind v w false = refl
 
 -- a record is its venue, its kind and its bytes
-record_one : (e f : CaptureRecord) → record_venue e ≡ record_venue f → kind_byte e ≡ kind_byte f → payload_of e ≡ payload_of f → e ≡ f
+record_one : (e f : CaptureRecord) → record_venue e ≡ record_venue f → kind_byte e ≡ kind_byte f
+    → payload_of e ≡ payload_of f → e ≡ f
 record_one (datagram_record v k p) (datagram_record w l q) a b c = let d = letter_one k l b in cc
 record_one (datagram_record v k p) (renewal_record w q) a b c = absurd (no_line k b)
 record_one (datagram_record v k p) (self_help_record w on) a b c = absurd (no_help k w on b)
@@ -56,7 +58,8 @@ record_one (renewal_record v p) (renewal_record w q) a b c = cc
 record_one (renewal_record v p) (self_help_record w on) a b c = absurd (no_name w on (sym b))
 record_one (self_help_record v on) (datagram_record w l q) a b c = absurd (no_help l v on (sym b))
 record_one (self_help_record v on) (renewal_record w q) a b c = absurd (no_name v on b)
-record_one (self_help_record v on) (self_help_record w off) a b c = let d = help_one w on off (same_kind w v on ∙ b) in cc
+record_one (self_help_record v on) (self_help_record w off) a b c =
+    let d = help_one w on off (same_kind w v on ∙ b) in cc
 
 -- two lists of one length before the same bytes
 same_parts : (p q a b : List ℕ) → length p ≡ length q → p ++ a ≡ q ++ b → (p ≡ q) × (a ≡ b)
@@ -65,7 +68,8 @@ same_parts p q a b n e =
     (front, append_cancel_left p a b (e ∙ ap (λ (xs : List ℕ). xs ++ b) (sym front)))
 
 -- a record that begins the same bytes as another is that record
-pub same_front : (e f : CaptureRecord) (a b : List ℕ) → bytes_of_record e ++ a ≡ bytes_of_record f ++ b → (e ≡ f) × (a ≡ b)
+pub same_front : (e f : CaptureRecord) (a b : List ℕ) → bytes_of_record e ++ a ≡ bytes_of_record f ++ b
+    → (e ≡ f) × (a ≡ b)
 same_front e f a b h =
     let venue : record_venue e ≡ record_venue f = cc in
     let kind : kind_byte e ≡ kind_byte f = cc in
@@ -77,12 +81,14 @@ same_front e f a b h =
     (record_one e f venue kind parts.0, parts.1)
 
 -- what begins with a record's spelling begins with its header
-pub begins_header : (venues : ℕ) (e : CaptureRecord) (a : List ℕ) → IsRecord venues e → IsHeader venues (bytes_of_record e ++ a) × (len_at (bytes_of_record e ++ a) ≡ length (payload_of e))
+pub begins_header : (venues : ℕ) (e : CaptureRecord) (a : List ℕ) → IsRecord venues e
+    → IsHeader venues (bytes_of_record e ++ a) × (len_at (bytes_of_record e ++ a) ≡ length (payload_of e))
 begins_header venues e a i =
     let len : length (payload_of e) / 256 * 256 + length (payload_of e) % 256 ≡ length (payload_of e) = omega arith in
     (record { whole = omega arith; venue = i.venue; kind = subst (IsKind (kind_byte e)) (sym len) i.kind }, len)
 
-pub no_front : (venues : ℕ) (e : CaptureRecord) (a : List ℕ) → IsRecord venues e → NoRecord venues (bytes_of_record e ++ a) → ⊥
+pub no_front : (venues : ℕ) (e : CaptureRecord) (a : List ℕ) → IsRecord venues e
+    → NoRecord venues (bytes_of_record e ++ a) → ⊥
 no_front venues e a i n =
     let long : length (payload_of e ++ a) ≡ length (payload_of e) + length a = length-append (payload_of e) a in
     let whole : length (bytes_of_record e ++ a) ≡ 4 + length (payload_of e ++ a) = omega arith in
@@ -95,15 +101,23 @@ no_front venues e a i n =
       ]
     ]
 
-front_of_stream : (e : CaptureRecord) (es : List CaptureRecord) (r : List ℕ) → capture_of (e ∷ es) r ≡ bytes_of_record e ++ capture_of es r
+front_of_stream : (e : CaptureRecord) (es : List CaptureRecord) (r : List ℕ)
+    → capture_of (e ∷ es) r ≡ bytes_of_record e ++ capture_of es r
 front_of_stream e es r = append_assoc (bytes_of_record e) (flat_map bytes_of_record es) r
 
-pub readings : (venues : ℕ) (xs ys : List CaptureRecord) (r s : List ℕ) → All (IsRecord venues) xs → All (IsRecord venues) ys → NoRecord venues r → NoRecord venues s → capture_of xs r ≡ capture_of ys s → (xs ≡ ys) × (r ≡ s)
+pub readings : (venues : ℕ) (xs ys : List CaptureRecord) (r s : List ℕ) → All (IsRecord venues) xs
+    → All (IsRecord venues) ys → NoRecord venues r → NoRecord venues s → capture_of xs r ≡ capture_of ys s
+    → (xs ≡ ys) × (r ≡ s)
 readings venues [] [] r s i j n m e = (refl, e)
-readings venues [] (y ∷ ys) r s i j n m e = absurd (no_front venues y (capture_of ys s) (j 0 y (omega arith)) (subst (NoRecord venues) (e ∙ front_of_stream y ys s) n))
-readings venues (x ∷ xs) [] r s i j n m e = absurd (no_front venues x (capture_of xs r) (i 0 x (omega arith)) (subst (NoRecord venues) (sym e ∙ front_of_stream x xs r) m))
+readings venues [] (y ∷ ys) r s i j n m e =
+    absurd (no_front venues y (capture_of ys s) (j 0 y (omega arith))
+    (subst (NoRecord venues) (e ∙ front_of_stream y ys s) n))
+readings venues (x ∷ xs) [] r s i j n m e =
+    absurd (no_front venues x (capture_of xs r) (i 0 x (omega arith))
+    (subst (NoRecord venues) (sym e ∙ front_of_stream x xs r) m))
 readings venues (x ∷ xs) (y ∷ ys) r s i j n m e =
-    let f = same_front x y (capture_of xs r) (capture_of ys s) (sym (front_of_stream x xs r) ∙ (e ∙ front_of_stream y ys s)) in
+    let f = same_front x y (capture_of xs r) (capture_of ys s) (sym (front_of_stream x xs r)
+    ∙ (e ∙ front_of_stream y ys s)) in
     let g = readings venues xs ys r s (All-tail (IsRecord venues) x xs i) (All-tail (IsRecord venues) y ys j) n m f.1 in
     let front = f.0 in
     let back = g.0 in
