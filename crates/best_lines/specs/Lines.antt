@@ -1,5 +1,5 @@
 -- Lines of a text, and which of them are best lines.
-use Rattle.std.specs.Prelude.{◌≡◌, ◌≢◌, ℕ, Bool, ◌&&◌, nat_le, nat_eq, All, List, [], ◌∷◌, ◌++◌, codes, length, take, flat_map}
+use Rattle.std.specs.Prelude.{◌≡◌, ◌≢◌, ℕ, Bool, ◌&&◌, nat_le, nat_eq, All, List, ◌++◌, codes, length, flat_map}
 use Rattle.std.specs.List.{starts_with}
 
 -- a line with its line feed
