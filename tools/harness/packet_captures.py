@@ -15,9 +15,9 @@ ETHERNET = 1
 
 
 class Frame(NamedTuple):
-    """A frame: the nanoseconds from 1970 on to when it came, and its bytes."""
+    """A frame: the nanoseconds from 1970 on to when it came, or None of one without a time, and its bytes."""
 
-    time: int
+    time: int | None
     held: bytes
 
 
@@ -69,12 +69,16 @@ def block(order: str, kind: int, body: bytes) -> bytes:
 
 
 def section(frames: Iterable[Frame], order: str = '<') -> bytes:
-    """The pcapng file of frames: one section with one interface, whose times are in microseconds."""
+    """The pcapng file of frames: one section with one interface, whose times are in microseconds. A frame without a time
+    is a simple packet block."""
     parts = [
         block(order, 0x0A0D0D0A, struct.pack(order + 'IHHq', 0x1A2B3C4D, 1, 0, -1)),
         block(order, 1, struct.pack(order + 'HHI', ETHERNET, 0, 262_144)),
     ]
     for frame in frames:
+        if frame.time is None:
+            parts.append(block(order, 3, struct.pack(order + 'I', len(frame.held)) + frame.held))
+            continue
         high, low = divmod(frame.time // 1_000, 1 << 32)
         head = struct.pack(order + 'IIIII', 0, high, low, len(frame.held), len(frame.held))
         parts.append(block(order, 6, head + frame.held))

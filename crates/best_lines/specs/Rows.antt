@@ -1,10 +1,13 @@
 -- How best lines are passed on: of the lines the best ones, each as a row.
-use Rattle.std.specs.Prelude.{ℕ, Bool, ◌==◌, ◌||◌, List, [], ◌∷◌, ◌++◌, codes, flat_map, filter, suc, zero, if◌then◌else◌}
+use Rattle.std.specs.Prelude.{◌≡◌, ℕ, Bool, true, false, ◌==◌, ◌||◌, List, [], ◌∷◌, ◌++◌, codes, flat_map, filter, map, suc, zero, if◌then◌else◌, Option}
 use Rattle.std.specs.List.{before_first, after_first, list_any}
 use Rattle.std.specs.Str.{bytes_eq}
 use Rattle.best_lines.specs.declared.format.Format.{Format}
 use Rattle.best_lines.specs.declared.format.Format.TheVariants.{Text, Csv, Json}
+use Rattle.best_lines.specs.declared.row_time.RowTime.{RowTime}
+use Rattle.best_lines.specs.declared.row_time.RowTime.TheVariants.{Absent, Given}
 use Rattle.best_lines.specs.Lines.{ended, is_best}
+use Rattle.best_lines.specs.Times.{csv_time, json_time}
 
 -- the bytes before the first of this code, and those after it
 unfoldable pub part_before : ℕ → List ℕ → List ℕ
@@ -73,11 +76,11 @@ csv_side side =
     if is_none_word side then codes ",,"
     else venue_in side ++ (codes "," ++ price_in side) ++ (codes "," ++ size_in side)
 
-unfoldable pub csv_row : Words → List ℕ
-csv_row w =
+unfoldable pub csv_row : RowTime → Words → List ℕ
+csv_row time w =
     w.notice ++ (codes "," ++ w.position) ++ codes "," ++ csv_text w.symbol
     ++ codes "," ++ csv_side w.bid ++ codes "," ++ csv_side w.offer
-    ++ (codes "," ++ w.state) ++ codes "\n"
+    ++ (codes "," ++ w.state) ++ csv_time time ++ codes "\n"
 
 -- ---- JSON
 
@@ -88,28 +91,52 @@ json_side side =
     else (codes "{\"venue\":" ++ venue_in side) ++ (codes ",\"price\":" ++ price_in side)
     ++ (codes ",\"size\":" ++ size_in side) ++ codes "}"
 
-unfoldable pub json_row : Words → List ℕ
-json_row w =
+unfoldable pub json_row : RowTime → Words → List ℕ
+json_row time w =
     (codes "{\"notice\":" ++ w.notice) ++ (codes ",\"position\":" ++ w.position)
     ++ codes ",\"symbol\":" ++ quoted 92 w.symbol
     ++ codes ",\"bid\":" ++ json_side w.bid ++ codes ",\"offer\":" ++ json_side w.offer
-    ++ (codes ",\"state\":\"" ++ w.state) ++ codes "\"}\n"
+    ++ (codes ",\"state\":\"" ++ w.state) ++ codes "\"" ++ json_time time ++ codes "}\n"
 
 -- ---- by format
 
--- what stands before the first row
-abbrev pub header_of : Format → List ℕ
-header_of Text = []
-header_of Csv =
+-- whether rows can have times
+abbrev pub has_times : Format → Bool
+has_times Text = false
+has_times Csv = true
+has_times Json = true
+
+-- what stands before the first row, and whether the rows have times
+abbrev pub header_of : Format → Bool → List ℕ
+header_of Text timed = []
+header_of Csv false =
     codes "notice,position,symbol,bid_venue,bid_price,bid_size,offer_venue,offer_price,offer_size,state\n"
-header_of Json = []
+header_of Csv true =
+    codes "notice,position,symbol,bid_venue,bid_price,bid_size,offer_venue,offer_price,offer_size,state,time\n"
+header_of Json timed = []
 
 -- a best line as a row
-abbrev pub row_of : Format → List ℕ → List ℕ
-row_of Text line = ended line
-row_of Csv line = csv_row (words_of line)
-row_of Json line = json_row (words_of line)
+abbrev pub row_of : Format → RowTime → List ℕ → List ℕ
+row_of Text time line = ended line
+row_of Csv time line = csv_row time (words_of line)
+row_of Json time line = json_row time (words_of line)
 
--- the rows of the best lines among these lines
+-- the rows of the best lines among these lines, without times
 unfoldable pub rows_of : Format → List (List ℕ) → List ℕ
-rows_of format lines = flat_map (row_of format) (filter is_best lines)
+rows_of format lines = flat_map (row_of format Absent) (filter is_best lines)
+
+-- a best line, and the time of its datagram, if it is known
+pub record TimedLine : Type 0 where
+  pub line : List ℕ
+  pub time : Option ℕ
+
+-- The rows of the best lines among these lines, in order, each with some time or none.
+pub record AreTimedRows (format : Format) (lines : List (List ℕ)) (rows : List ℕ) : Type 0 where
+  pub best : List TimedLine
+  pub lines_are : map (λ b. b.line) best ≡ filter is_best lines
+  pub rows_are : rows ≡ flat_map (λ b. row_of format (Given b.time) b.line) best
+
+-- the rows of the best lines among these lines, with times or without
+abbrev pub AreRows : Format → Bool → List (List ℕ) → List ℕ → Type 0
+AreRows format false lines rows = rows ≡ rows_of format lines
+AreRows format true lines rows = AreTimedRows format lines rows

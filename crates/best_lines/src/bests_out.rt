@@ -1,9 +1,11 @@
 //! A writer of lines that passes on the best ones.
-ghost use Rattle.std.specs.Prelude.{◌≡◌, ◌⊎◌, ℕ, List, ◌+◌, ◌<◌, ◌≤◌, [], IfErr, IfOk, OnErr, OnOk, length, take};
+ghost use Rattle.std.specs.Prelude.{◌≡◌, ◌⊎◌, ℕ, Bool, List, ◌+◌, ◌<◌, ◌≤◌, [], IfErr, IfOk, OnErr, OnOk, false, is_some, length, take};
 ghost use Rattle.feed_text.specs.Devices.{Wrote};
 
 use crate::format::Format;
+use crate::frame_times::FrameTimes;
 use crate::lines::{LineStart, keep, line_end, put_lines};
+use crate::row_time::{RowClock, RowStyle};
 use crate::rows::{Pending, put_line};
 use crate::sending::{send, send_some};
 use feed_text::devices::{TextOut, WriteStop};
@@ -16,22 +18,41 @@ use std::alloc::Global;
 /// A call of it passes on, by one call of the writer below, the rows of the lines that it takes. What
 /// that call leaves is pending, and is passed on first by the next call, or by [`BestsOut::finish`]. A
 /// call fails where a call of the writer below does.
+///
+/// Its rows may have times: each has that of the datagram whose packet line came before it. A call that
+/// fails takes no line, and no time.
 #[derive(Drop)]
-pub struct BestsOut<W> {
+pub struct BestsOut<'q, W> {
     inner: W,
-    format: Format,
+    style: RowStyle<'q>,
+    /// The time of the datagram of the last packet line, if it is known.
+    time: Option<u64>,
     /// The first bytes of a line that isn't ended.
     start: LineStart,
     pending: Pending,
 }
 
-impl<W> BestsOut<W> {
+impl<'q, W> BestsOut<'q, W> {
     ghost use Rattle.best_lines.specs.Writers.{IsNewOver, below};
 
     /// Passes on to `inner` in the format, whose header is pending. Its memory, some 130 KB, is asked
     /// for here and never again; where it is refused, `inner` is returned as it was.
-    pub fn new(alloc: Global, inner: W, format: Format) -> Result<BestsOut<W>, W>
-        ensures new { IfOk result (IsNewOver inner format) }
+    pub fn new(alloc: Global, inner: W, format: Format) -> Result<BestsOut<'q, W>, W>
+        ensures new { IfOk result (IsNewOver inner format false) }
+        ensures refused { IfErr result (λ w. w ≡ inner) }
+    {
+        BestsOut::with_times(alloc, inner, format, None)
+    }
+
+    /// The same, and where there are `times` each row has one of them, or shows that it has none: that of
+    /// the datagram whose packet line came before, counted from the first that it takes.
+    pub fn with_times(
+        alloc: Global,
+        inner: W,
+        format: Format,
+        times: Option<&'q FrameTimes>,
+    ) -> Result<BestsOut<'q, W>, W>
+        ensures new { IfOk result (IsNewOver inner format (is_some times.entry)) }
         ensures refused { IfErr result (λ w. w ≡ inner) }
     {
         let Ok(start) = ReadBuffer::new(alloc) else {
@@ -41,10 +62,11 @@ impl<W> BestsOut<W> {
             Ok(pending) => pending,
             Err(_) => return Err(inner),
         };
-        pending.push(format.header());
+        pending.push(format.header(times.is_some()));
         Ok(BestsOut {
             inner,
-            format,
+            style: RowStyle { format, times },
+            time: None,
             start,
             pending,
         })
@@ -52,11 +74,12 @@ impl<W> BestsOut<W> {
 
     /// Returns the writer below. What is pending is dropped.
     pub fn into_inner(self) -> W
-        ensures { result ≡ below self }
+        ensures { result ≡ below self.entry }
     {
         let BestsOut {
             inner,
-            format: _,
+            style: _,
+            time: _,
             start: _,
             pending: _,
         } = self;
@@ -64,7 +87,7 @@ impl<W> BestsOut<W> {
     }
 }
 
-impl<W: TextOut> BestsOut<W> {
+impl<W: TextOut> BestsOut<'_, W> {
     ghost use Rattle.best_lines.specs.Writers.{AddsBests, IsNewOver, PassedOn, below, pending_of};
     ghost use Rattle.best_lines.specs.declared.bests_out.BestsOut.{BestsOut};
     ghost use Rattle.best_lines.specs.declared.format.Format.{Format};
@@ -76,9 +99,9 @@ impl<W: TextOut> BestsOut<W> {
         ensures part { OnErr result
             (Wrote W.adds (below self.old) (pending_of self.old) (below self.new)) }
         ensures passed { OnOk result
-            ((format : Format) (before : W) (start : BestsOut W) (text : List ℕ)
-            → IsNewOver before format start → AddsBests W.adds start text self.old
-            → PassedOn W.adds format text before (below self.new)) }
+            ((format : Format) (timed : Bool) (before : W) (start : BestsOut W) (text : List ℕ)
+            → IsNewOver before format timed start → AddsBests W.adds start text self.old
+            → PassedOn W.adds format timed text before (below self.new)) }
         ensures kept { OnOk result
             (W.failures (below self.new) ≡ W.failures (below self.old)) }
         ensures failed { OnErr result
@@ -102,15 +125,22 @@ impl<W: TextOut> BestsOut<W> {
             (W.failures self.new.inner ≡ W.failures self.old.inner + 1) }
         ensures untaken { OnErr result (AddsBests W.adds self.old [] self.new) }
     {
+        let mut clock = RowClock::after(self.time);
         let taken = if self.start.is_empty() {
-            put_lines(self.format, text, end, &mut self.pending)
+            put_lines(self.style, text, end, &mut clock, &mut self.pending)
         } else {
-            put_line(self.format, self.start.bytes(), &mut self.pending);
+            put_line(
+                self.style,
+                self.start.bytes(),
+                &mut clock,
+                &mut self.pending,
+            );
             1
         };
         match send_some(&mut self.pending, &mut self.inner) {
             Ok(()) => {
                 self.start.advance(self.start.len());
+                self.time = self.style.drop_taken(&clock);
                 Ok(taken)
             }
             Err(stop) => {
@@ -121,7 +151,7 @@ impl<W: TextOut> BestsOut<W> {
     }
 }
 
-impl<W: TextOut> TextOut for BestsOut<W> {
+impl<W: TextOut> TextOut for BestsOut<'_, W> {
     ghost use Rattle.best_lines.specs.Writers.{AddsBests};
     ghost use Rattle.best_lines.specs.WriterLaws.{adds_no_bests, adds_more_bests};
 

@@ -1,6 +1,6 @@
 //! The forms in which best lines are passed on.
 ghost use Rattle.std.specs.Prelude.{◌≡◌};
-ghost use Rattle.best_lines.specs.Rows.{header_of};
+ghost use Rattle.best_lines.specs.Rows.{has_times, header_of};
 
 /// The form in which best lines are passed on.
 #[derive(Clone, Copy, Debug, PartialEq, Eq)]
@@ -17,12 +17,28 @@ pub enum Format {
 const CSV_HEADER: &[u8] =
     b"notice,position,symbol,bid_venue,bid_price,bid_size,offer_venue,offer_price,offer_size,state\n";
 
+/// The same where the rows have times.
+const TIMED_CSV_HEADER: &[u8] =
+    b"notice,position,symbol,bid_venue,bid_price,bid_size,offer_venue,offer_price,offer_size,state,time\n";
+
 impl Format {
-    /// Returns what stands before the first row: the names of the columns, or nothing.
-    pub fn header(self) -> &'static [u8]
-        ensures { result.now ≡ header_of self }
+    /// Returns whether rows of the format can have times.
+    pub fn has_times(self) -> bool
+        ensures { result ≡ has_times self }
     {
         match self {
+            Format::Text => false,
+            Format::Csv | Format::Json => true,
+        }
+    }
+
+    /// Returns what stands before the first row: the names of the columns, or nothing. `timed` is whether
+    /// the rows have times.
+    pub fn header(self, timed: bool) -> &'static [u8]
+        ensures { result.now ≡ header_of self timed }
+    {
+        match self {
+            Format::Csv if timed => TIMED_CSV_HEADER,
             Format::Csv => CSV_HEADER,
             Format::Text | Format::Json => b"",
         }

@@ -15,10 +15,16 @@
 mod best_line;
 mod bests_out;
 mod format;
+mod frame_times;
 pub mod lines;
+mod row_time;
 mod rows;
+mod seconds;
 mod sending;
+mod times_in;
 pub mod words;
 
 pub use bests_out::BestsOut;
 pub use format::Format;
+pub use frame_times::FrameTimes;
+pub use times_in::TimesIn;

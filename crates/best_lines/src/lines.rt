@@ -1,9 +1,9 @@
 //! The lines of a text.
-ghost use Rattle.std.specs.Prelude.{◌≡◌, ◌+◌, ◌<◌, ◌≤◌, ◌++◌, [], IfNone, IfSome, length, take};
+ghost use Rattle.std.specs.Prelude.{◌≡◌, ◌+◌, ◌<◌, ◌≤◌, ◌++◌, [], IfNone, IfSome, is_some, length, take};
 ghost use Rattle.best_lines.specs.Lines.{EndsAt, IsOpen};
 ghost use Rattle.best_lines.specs.Taking.{PutsLines};
 
-use crate::format::Format;
+use crate::row_time::{RowClock, RowStyle};
 use crate::rows::{Pending, put_line};
 use feed_text::unread::ReadBuffer;
 use memchr::memchr;
@@ -36,21 +36,28 @@ pub fn keep(start: &mut LineStart, more: &[u8])
 
 /// Adds the rows of the lines of a text that are ended, one at least, while there is room. Returns how
 /// many bytes of the text they are.
-pub(crate) fn put_lines(format: Format, text: &[u8], end: usize, pending: &mut Pending) -> usize
+pub(crate) fn put_lines(
+    style: RowStyle<'_>,
+    text: &[u8],
+    end: usize,
+    clock: &mut RowClock,
+    pending: &mut Pending,
+) -> usize
     requires end { EndsAt text.now end }
     requires pending { pending.old ≡ [] }
-    ensures lines { PutsLines format text.now result pending.old pending.new }
+    ensures lines { PutsLines style.entry.format (is_some style.entry.times) text.now result
+        pending.old pending.new }
     ensures some { 0 < result }
     ensures within { result ≤ length text.now }
 {
-    put_line(format, &text[..end], pending);
+    put_line(style, &text[..end], clock, pending);
     let mut taken = end + 1;
     while pending.len() <= MOST_PENDING {
         let rest = &text[taken..];
         match line_end(rest) {
             None => return taken,
             Some(end) => {
-                put_line(format, &rest[..end], pending);
+                put_line(style, &rest[..end], clock, pending);
                 taken += end + 1;
             }
         }

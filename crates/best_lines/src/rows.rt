@@ -1,11 +1,16 @@
 //! The rows of best lines.
 ghost use Rattle.std.specs.Prelude.{◌≡◌, ◌+◌, ◌≤◌, ◌∷◌, [], ◌++◌, codes, length};
-ghost use Rattle.best_lines.specs.Rows.{csv_row, csv_side, csv_text, json_row, json_side, needs_quotes, quoted, rows_of, words_of};
+ghost use Rattle.best_lines.specs.Rows.{csv_row, csv_side, csv_text, json_row, json_side, needs_quotes, quoted, row_of, words_of};
+ghost use Rattle.best_lines.specs.Times.{csv_time, json_time};
+ghost use Rattle.best_lines.specs.Taking.{PutsRows};
+ghost use Rattle.std.specs.Prelude.{is_some};
 ghost use Rattle.best_lines.specs.Lines.{is_best};
 ghost use Rattle.best_lines.specs.Words.{words_now};
 
 use crate::best_line::is_best;
 use crate::format::Format;
+use crate::row_time::{RowClock, RowStyle, RowTime};
+use crate::seconds::put_seconds;
 use crate::words::{LineWords, parts_of, words_of};
 use feed_text::unread::{RECORDS_ROOM, ReadBuffer};
 
@@ -80,11 +85,27 @@ fn put_csv_side(pending: &mut Pending, side: &[u8])
     }
 }
 
+/// Adds a time as a value of a row of comma-separated values.
+fn put_csv_time(pending: &mut Pending, time: RowTime)
+    requires room { length pending.old + 96 ≤ 131072 }
+    ensures added { pending.new ≡ pending.old ++ csv_time time }
+    ensures grown { length pending.new ≤ length pending.old + 96 }
+{
+    match time {
+        RowTime::Absent => {}
+        RowTime::Given(None) => pending.push(b","),
+        RowTime::Given(Some(time)) => {
+            pending.push(b",");
+            put_seconds(pending, time);
+        }
+    }
+}
+
 /// Adds a best line's row of comma-separated values.
-fn put_csv(pending: &mut Pending, line: &[u8])
+fn put_csv(pending: &mut Pending, line: &[u8], time: RowTime)
     requires short { length line.now ≤ 192 }
     requires room { length pending.old + 4096 ≤ 131072 }
-    ensures { pending.new ≡ pending.old ++ csv_row (words_of line.now) }
+    ensures { pending.new ≡ pending.old ++ csv_row time (words_of line.now) }
 {
     let words = words_of(line);
     put(pending, b"", words.notice);
@@ -96,6 +117,7 @@ fn put_csv(pending: &mut Pending, line: &[u8])
     pending.push(b",");
     put_csv_side(pending, words.offer);
     put(pending, b",", words.state);
+    put_csv_time(pending, time);
     pending.push(b"\n");
 }
 
@@ -117,11 +139,27 @@ fn put_json_side(pending: &mut Pending, side: &[u8])
     }
 }
 
+/// Adds a time as a member of an object.
+fn put_json_time(pending: &mut Pending, time: RowTime)
+    requires room { length pending.old + 96 ≤ 131072 }
+    ensures added { pending.new ≡ pending.old ++ json_time time }
+    ensures grown { length pending.new ≤ length pending.old + 96 }
+{
+    match time {
+        RowTime::Absent => {}
+        RowTime::Given(None) => pending.push(b",\"time\":null"),
+        RowTime::Given(Some(time)) => {
+            pending.push(b",\"time\":");
+            put_seconds(pending, time);
+        }
+    }
+}
+
 /// Adds a best line's object.
-fn put_json(pending: &mut Pending, line: &[u8])
+fn put_json(pending: &mut Pending, line: &[u8], time: RowTime)
     requires short { length line.now ≤ 192 }
     requires room { length pending.old + 4096 ≤ 131072 }
-    ensures { pending.new ≡ pending.old ++ json_row (words_of line.now) }
+    ensures { pending.new ≡ pending.old ++ json_row time (words_of line.now) }
 {
     let words = words_of(line);
     put(pending, b"{\"notice\":", words.notice);
@@ -133,7 +171,9 @@ fn put_json(pending: &mut Pending, line: &[u8])
     pending.push(b",\"offer\":");
     put_json_side(pending, words.offer);
     put(pending, b",\"state\":\"", words.state);
-    pending.push(b"\"}\n");
+    pending.push(b"\"");
+    put_json_time(pending, time);
+    pending.push(b"}\n");
 }
 
 /// Adds a best line as it is.
@@ -146,18 +186,34 @@ fn put_text(pending: &mut Pending, line: &[u8])
     pending.push(b"\n");
 }
 
+/// Adds a best line's row.
+fn put_row(format: Format, line: &[u8], time: RowTime, pending: &mut Pending)
+    requires short { length line.now ≤ 192 }
+    requires room { length pending.old + 4096 ≤ 131072 }
+    ensures { pending.new ≡ pending.old ++ row_of format time line.now }
+{
+    match format {
+        Format::Text => put_text(pending, line),
+        Format::Csv => put_csv(pending, line, time),
+        Format::Json => put_json(pending, line, time),
+    }
+}
+
 /// Adds the row of a line, if it is a best line.
 #[inline(always)]
-pub(crate) fn put_line(format: Format, line: &[u8], pending: &mut Pending)
+pub(crate) fn put_line(
+    style: RowStyle<'_>,
+    line: &[u8],
+    clock: &mut RowClock,
+    pending: &mut Pending,
+)
     requires { length pending.old + 4096 ≤ 131072 }
-    ensures { pending.new ≡ pending.old ++ rows_of format (line.now ∷ []) }
+    ensures { PutsRows style.entry.format (is_some style.entry.times) (line.now ∷ [])
+        pending.old pending.new }
 {
+    style.go_on(line, clock);
     if !is_best(line) {
         return;
     }
-    match format {
-        Format::Text => put_text(pending, line),
-        Format::Csv => put_csv(pending, line),
-        Format::Json => put_json(pending, line),
-    }
+    put_row(style.format, line, style.time_of_row(clock), pending);
 }

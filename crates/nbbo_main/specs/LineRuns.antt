@@ -6,7 +6,10 @@ use Rattle.packet_capture.specs.declared.fault.CaptureFault.TheVariants.{NotCapt
 use Rattle.feed_text.specs.declared.replay.ReplayConfig.{ReplayConfig}
 use Rattle.feed_text.specs.declared.fault.ReplayFault.TheVariants as replay
 use Rattle.feed_text.specs.Devices.{Reading, Writing}
+use Rattle.best_lines.specs.Readers.{reader_below, reading_along}
+use Rattle.best_lines.specs.Rows.{has_times}
 use Rattle.best_lines.specs.Writers.{IsNewOver, below}
+use Rattle.best_lines.specs.declared.times_in.TimesIn.{TimesIn}
 use Rattle.best_lines.specs.declared.bests_out.BestsOut.{BestsOut}
 use Rattle.best_lines.specs.declared.format.Format.{Format}
 use Rattle.line_captures.specs.declared.captured_line.CapturedLine.{CapturedLine}
@@ -114,19 +117,27 @@ pub record RunsLineReplay {R W E : Type 0}
   pub hint : Says telling (hint_text at_terminal) silent hinted
   pub tells : TellsCapture telling report hinted told status
 
--- A packet capture was replayed onto a writer of best lines over output, and what that had pending
--- at the end was written. The report is that of the replay, but for its outcome.
+-- A packet capture was replayed, read along for times, onto a writer of best lines over output, and
+-- what that had pending at the end was written. Each reading is that of the reader below. The rows
+-- have times where those of the format can. The report is that of the replay, but for its outcome.
 pub record PassesLineBests {R W : Type 0} (reading : Reading R) (writing : Writing W)
-    (config : ReplayConfig) (lines : List CapturedLine) (format : Format)
+    (settings : LineReplaySettings) (format : Format)
     (from : R) (report : CaptureReport R) (before after : W) : Type 0 where
+  pub config : ReplayConfig
+  pub is : IsConfigOf settings.replay config
+  pub along : TimesIn R
+  pub over : reader_below along ≡ from
   pub start : BestsOut W
-  pub new : IsNewOver before format start
-  pub seen : CaptureReport R
+  pub new : IsNewOver before format (has_times format) start
+  pub seen : CaptureReport (TimesIn R)
   pub mid : BestsOut W
-  pub replays : ReplaysLines reading (bests_writing writing) config lines from seen start mid
+  pub replays : ReplaysLines (reading_along reading) (bests_writing writing) config
+      settings.lines.items along seen start mid
   pub end : BestsOut W
   pub closes : ClosesBests writing (Run replay.WriteFailed) mid end seen.outcome report.outcome
-  pub same : report ≡ record seen { outcome = report.outcome }
+  pub position : report.position ≡ seen.position
+  pub passed : report.passed ≡ seen.passed
+  pub left : report.input ≡ reader_below seen.input
   pub output : after ≡ below end
 
 -- Memory was refused before anything was read or written.
@@ -136,17 +147,21 @@ pub record PassesNoLine {R W : Type 0} (from : R) (report : CaptureReport R) (be
   pub unread : report.input ≡ from
   pub unwritten : after ≡ before
 
+-- the best lines of a packet capture were passed on, unless memory was refused
+abbrev pub PassesLines : {R W : Type 0} (reading : Reading R) (writing : Writing W)
+    (settings : LineReplaySettings) (format : Format)
+    (from : R) (report : CaptureReport R) (before after : W) → Type 0
+PassesLines reading writing settings format from report before after =
+    PassesLineBests reading writing settings format from report before after
+    ⊎ PassesNoLine from report before after
+
 -- A packet capture was replayed, and its best lines alone are on output.
 pub record RunsLineBests {R W E : Type 0}
     (reading : Reading R) (writing : Writing W) (telling : Writing E)
     (settings : LineReplaySettings) (format : Format) (at_terminal : Bool)
     (from to : R) (before after : W) (silent told : E) (status : ℕ) : Type 0 where
-  pub config : ReplayConfig
-  pub is : IsConfigOf settings.replay config
   pub report : CaptureReport R
-  pub passes : PassesLineBests reading writing config settings.lines.items format
-      from report before after
-      ⊎ PassesNoLine from report before after
+  pub passes : PassesLines reading writing settings format from report before after
   pub left : to ≡ report.input
   pub hinted : E
   pub hint : Says telling (hint_text at_terminal) silent hinted

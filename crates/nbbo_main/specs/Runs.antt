@@ -3,7 +3,7 @@
 --
 -- Standard input, output and error are seen by the members of the traits CaptureIn and TextOut
 -- (Reading, Writing).
-use Rattle.std.specs.Prelude.{◌≡◌, ◌≢◌, ◌⊎◌, ℕ, ◌+◌, List, [], Bool, codes, if◌then◌else◌, Option, Some, None, Result, Err}
+use Rattle.std.specs.Prelude.{◌≡◌, ◌≢◌, ◌⊎◌, ℕ, ◌+◌, List, [], Bool, false, codes, if◌then◌else◌, Option, Some, None, Result, Err}
 use Rattle.clap.specs.Walk.{Text}
 use Rattle.feed_text.specs.declared.fault.ReplayFault.{ReplayFault}
 use Rattle.feed_text.specs.declared.fault.ReplayFault.TheVariants.{NoMemory, WriteFailed}
@@ -76,9 +76,9 @@ bests_writing writing = record {
 -- else.
 pub record WritesPending {W : Type 0} (writing : Writing W) (from to : BestsOut W) : Type 0 where
   pub taken : writing.adds (below from) (pending_of from) (below to)
-  pub passed : (format : Format) (before : W) (start : BestsOut W) (text : List ℕ)
-      → IsNewOver before format start → AddsBests writing.adds start text from
-      → PassedOn writing.adds format text before (below to)
+  pub passed : (format : Format) (timed : Bool) (before : W) (start : BestsOut W) (text : List ℕ)
+      → IsNewOver before format timed start → AddsBests writing.adds start text from
+      → PassedOn writing.adds format timed text before (below to)
 
 -- The end of a writer of best lines after a replay with the outcome `seen`: where the writer below
 -- failed that is the outcome; else what was pending is written, or the writer below fails then.
@@ -91,13 +91,13 @@ ClosesBests writing failed from to seen outcome =
     × Wrote writing.adds (below from) (pending_of from) (below to)
     × (writing.failures (below to) ≡ writing.failures (below from) + 1))
 
--- Input was replayed onto a writer of best lines over output, and what that had pending at the end
--- was written.
+-- Input was replayed onto a writer of best lines over output, of rows without times, and what that
+-- had pending at the end was written.
 pub record PassesBests {R W : Type 0} (reading : Reading R) (writing : Writing W)
     (config : ReplayConfig) (format : Format) (from to : R) (before after : W)
     (outcome : Result (Unit {0}) ReplayFault) : Type 0 where
   pub start : BestsOut W
-  pub new : IsNewOver before format start
+  pub new : IsNewOver before format false start
   pub seen : Result (Unit {0}) ReplayFault
   pub mid : BestsOut W
   pub replays : Replays reading (bests_writing writing) config from to start mid seen

@@ -1,6 +1,9 @@
 //! Runs of the program that print all lines, or the best ones alone.
-ghost use Rattle.std.specs.Prelude.{◌≡◌, ◌≢◌, Err, true, false};
-ghost use Rattle.nbbo_main.specs.LineRuns.{RunsLineBests, RunsLinesBy};
+ghost use Rattle.std.specs.Prelude.{◌≡◌, ◌≢◌, Err, IfErr, IfOk, is_some, true, false};
+ghost use Rattle.best_lines.specs.Readers.{reader_below};
+ghost use Rattle.best_lines.specs.Rows.{has_times};
+ghost use Rattle.best_lines.specs.Writers.{IsNewOver};
+ghost use Rattle.nbbo_main.specs.LineRuns.{PassesLines, RunsLineBests, RunsLinesBy};
 ghost use Rattle.nbbo_main.specs.Runs.{ClosesBests, RunsBests, RunsBy};
 
 use crate::ending::ending;
@@ -8,12 +11,13 @@ use crate::line_replay_settings::LineReplaySettings;
 use crate::line_runs::{EndedRun, run_line_replay, tell_capture};
 use crate::replay_settings::ReplaySettings;
 use crate::run::{config_of, hint, run_replay, write_stderr};
-use best_lines::{BestsOut, Format};
+use best_lines::{BestsOut, Format, FrameTimes, TimesIn};
 use feed_text::devices::{CaptureIn, TextOut};
 use feed_text::fault::ReplayFault;
-use line_captures::{CaptureReport, LinesFault};
+use feed_text::replay::ReplayConfig;
+use line_captures::{CaptureReport, CapturedLine, LinesFault};
 use replay_run::{replay, replay_lines};
-use std::alloc::Global;
+use std::alloc::{AllocError, Global};
 
 /// Passes on what is pending, unless the writer has failed, of which `failed` is the fault. Returns
 /// the outcome of the replay, or that the writer failed.
@@ -21,7 +25,7 @@ fn close_bests<F: Copy, W: TextOut>(
     outcome: Result<(), F>,
     has_failed: bool,
     failed: F,
-    bests: &mut BestsOut<W>,
+    bests: &mut BestsOut<'_, W>,
 ) -> Result<(), F>
     requires failed { has_failed ≡ true → outcome ≡ Err failed }
     requires other { has_failed ≡ false → outcome ≢ Err failed }
@@ -99,6 +103,84 @@ pub fn run_settings<R: CaptureIn, W: TextOut, E: TextOut>(
     }
 }
 
+/// The times of a packet capture's frames for a format whose rows have them, or `None` for another one.
+fn times_for(alloc: Global, format: Format) -> Result<Option<FrameTimes>, AllocError>
+    ensures { IfOk result (λ times. is_some times ≡ has_times format) }
+{
+    if !format.has_times() {
+        return Ok(None);
+    }
+    Ok(Some(FrameTimes::new(alloc)?))
+}
+
+/// A packet capture that is read along for the times of its frames, and a writer of its best lines.
+#[derive(Drop)]
+struct TimedRun<'a, R, W> {
+    input: TimesIn<'a, R>,
+    bests: BestsOut<'a, W>,
+}
+
+/// Reads the input along for these lines and passes best lines on to the output, with the times, if there
+/// are any. Where memory is refused, the input and the output are returned as they were.
+fn timed_run<'a, R, W>(
+    alloc: Global,
+    lines: &'a [CapturedLine],
+    format: Format,
+    times: Option<&'a FrameTimes>,
+    input: R,
+    output: W,
+) -> Result<TimedRun<'a, R, W>, (R, W)>
+    ensures over { IfOk result (λ run. reader_below run.input ≡ input) }
+    ensures new { IfOk result (λ run. IsNewOver output format (is_some times.entry) run.bests) }
+    ensures input { IfErr result (λ pair. pair.0 ≡ input) }
+    ensures output { IfErr result (λ pair. pair.1 ≡ output) }
+{
+    let input = match TimesIn::new(alloc, lines, times, input) {
+        Ok(input) => input,
+        Err(input) => return Err((input, output)),
+    };
+    match BestsOut::with_times(alloc, output, format, times) {
+        Ok(bests) => Ok(TimedRun { input, bests }),
+        Err(output) => Err((input.into_inner(), output)),
+    }
+}
+
+/// Replays the packet capture that the input is, and passes on the best lines alone to the output.
+/// Returns the output beside the report.
+fn pass_line_bests<R: CaptureIn + Drop, W: TextOut>(
+    alloc: Global,
+    settings: &LineReplaySettings,
+    format: Format,
+    input: R,
+    output: W,
+) -> (CaptureReport<R>, W)
+    ensures { PassesLines
+        (record { gives = R.gives; ends = R.ends; failures = R.failures; fails = R.fails })
+        (record { adds = W.adds; failures = W.failures })
+        settings.now format input result.0 output result.1 }
+{
+    let Ok(times) = times_for(alloc, format) else {
+        return (CaptureReport::without_memory(input), output);
+    };
+    let lines = settings.lines.as_slice();
+    let run = match timed_run(alloc, lines, format, times.as_ref(), input, output) {
+        Ok(run) => run,
+        Err((input, output)) => return (CaptureReport::without_memory(input), output),
+    };
+    let config = config_of(&settings.replay);
+    let TimedRun { input, mut bests } = run;
+    let seen = replay_lines(alloc, &config, lines, input, &mut bests);
+    let failed = LinesFault::Run(ReplayFault::WriteFailed);
+    let has_failed = matches!(seen.outcome, Err(LinesFault::Run(ReplayFault::WriteFailed)));
+    let report = CaptureReport {
+        outcome: close_bests(seen.outcome, has_failed, failed, &mut bests),
+        position: seen.position,
+        passed: seen.passed,
+        input: seen.input.into_inner(),
+    };
+    (report, bests.into_inner())
+}
+
 /// Replays the packet capture that the input is, and passes on the best lines alone to the output.
 /// Returns the output beside the end.
 fn run_line_bests<R: CaptureIn + Drop, W: TextOut, E: TextOut>(
@@ -118,24 +200,10 @@ fn run_line_bests<R: CaptureIn + Drop, W: TextOut, E: TextOut>(
         input result.0.input output result.1 errors.old errors.new result.0.status }
 {
     write_stderr(hint(at_terminal), errors);
-    let config = config_of(&settings.replay);
-    let mut bests = match BestsOut::new(alloc, output, format) {
-        Ok(bests) => bests,
-        Err(output) => {
-            let report = CaptureReport::without_memory(input);
-            let status = tell_capture(&report, errors);
-            let input = report.input;
-            return (EndedRun { status, input }, output);
-        }
-    };
-    let seen = replay_lines(alloc, &config, settings.lines.as_slice(), input, &mut bests);
-    let failed = LinesFault::Run(ReplayFault::WriteFailed);
-    let has_failed = matches!(seen.outcome, Err(LinesFault::Run(ReplayFault::WriteFailed)));
-    let outcome = close_bests(seen.outcome, has_failed, failed, &mut bests);
-    let report = CaptureReport { outcome, ..seen };
+    let (report, output) = pass_line_bests(alloc, settings, format, input, output);
     let status = tell_capture(&report, errors);
     let input = report.input;
-    (EndedRun { status, input }, bests.into_inner())
+    (EndedRun { status, input }, output)
 }
 
 /// Replays the packet capture that the input is onto the output, all lines or the best ones alone.

@@ -168,7 +168,9 @@ pub const FORMAT_HELP: &str = "\
 The format of the best lines with --best-only: 'text', as without this option; 'csv', a
 line with the columns' names and then a row each; or 'json', an object on a line each. A
 side that there isn't is three empty values in csv and null in json. Prices have four
-places. Without --best-only no format can be given";
+places. With --lines each row and object ends with the time of the datagram that caused
+it, in seconds from 1970 on with nine places; an empty value or null where the packet
+capture has none. Without --best-only no format can be given";
 
 /// Examples, for the short help.
 pub const REPLAY_EXAMPLE: &str = "\

@@ -1,4 +1,4 @@
-use Rattle.std.proofs.Common.{List, ℕ, ◌++◌, ◌∙◌, ap}
+use Rattle.std.proofs.Common.{◌++◌, ◌∙◌, ap}
 use Rattle.best_lines.specs.Rows.{Words, csv_row}
 use Rattle.best_lines.specs.Words.{words_now}
 use Rattle.best_lines.proofs.Rendering.{csv_added}
@@ -6,8 +6,8 @@ use Rattle.best_lines.proofs.rows.put_csv.Goals as goal
 
 pub returns : goal.returns
 returns c =
-    csv_added (words_now c.words_of-words.result) c.args.pending.now c.put.new.pending c.put-2.new.pending c.push.new.self c.put_csv_text.new.pending c.push-2.new.self
-    c.put_csv_side.new.pending c.push-3.new.self c.put_csv_side-2.new.pending c.put-3.new.pending c.push-4.new.self
+    csv_added c.args.time (words_now c.words_of-words.result) c.args.pending.now c.put.new.pending c.put-2.new.pending c.push.new.self c.put_csv_text.new.pending c.push-2.new.self
+    c.put_csv_side.new.pending c.push-3.new.self c.put_csv_side-2.new.pending c.put-3.new.pending c.put_csv_time.new.pending c.push-4.new.self
     c.put.ensures.added c.put-2.ensures.added c.push.ensures c.put_csv_text.ensures.added c.push-2.ensures
-    c.put_csv_side.ensures.added c.push-3.ensures c.put_csv_side-2.ensures.added c.put-3.ensures.added c.push-4.ensures
-    ∙ ap (λ (w : Words). c.args.pending.now ++ csv_row w) c.words_of-words.ensures.words
+    c.put_csv_side.ensures.added c.push-3.ensures c.put_csv_side-2.ensures.added c.put-3.ensures.added c.put_csv_time.ensures.added c.push-4.ensures
+    ∙ ap (λ (w : Words). c.args.pending.now ++ csv_row c.args.time w) c.words_of-words.ensures.words

@@ -10,7 +10,7 @@ returns-in-Ok-clause-taken g c =
       | else-is_empty w ↦ ready_line c.args.self.now c.if-is_empty.self c.args.text.now w.put_line.new.pending w.bytes.result.now c.if-is_empty.taken c.args.end w.self-is w.taken-is c.requires.pending w.bytes.ensures w.put_line.ensures c.requires.end
           (elim c.requires.first [ inl none ↦ let e = w.if-is_empty.ensures.1 none in absurd cc | inr first ↦ first ])
     ] in
-    passed_some g.W.TextOut.adds c.args.self.now c.if-is_empty.self (take c.if-is_empty.taken c.args.text.now) c.send_some.new.pending c.advance.new.self c.send_some.new.writer ready c.requires.pending c.send_some.ensures.moved
+    passed_some g.W.TextOut.adds c.args.self.now c.if-is_empty.self (take c.if-is_empty.taken c.args.text.now) c.send_some.new.pending c.advance.new.self c.drop_taken-self.result c.send_some.new.writer ready c.requires.pending c.send_some.ensures.moved
     (c.advance.ensures ∙ dropped c.if-is_empty.self.start c.len.result c.len.ensures.value)
 
 pub returns-in-Err-clause-untaken : goal.returns-in-Err-clause-untaken
