@@ -1,6 +1,6 @@
 //! A reader of the bytes of a packet capture that reads along.
 ghost use Rattle.std.specs.Prelude.{◌≡◌, IfOk, IfErr};
-ghost use Rattle.capture_timing.specs.Readers.{reader_below};
+ghost use Rattle.capture_timing.specs.Readers.{timed_reader};
 
 use crate::capture_timing::CaptureTiming;
 use crate::read_along::ReadAlong;
@@ -25,7 +25,7 @@ impl<'a, R> TimingIn<'a, R> {
         timing: CaptureTiming,
         inner: R,
     ) -> Result<TimingIn<'a, R>, R>
-        ensures over { IfOk result (λ reader. reader_below reader ≡ inner) }
+        ensures over { IfOk result (λ reader. timed_reader reader ≡ inner) }
         ensures refused { IfErr result (λ reader. reader ≡ inner) }
     {
         match ReadAlong::new(alloc, lines, timing) {
@@ -36,7 +36,7 @@ impl<'a, R> TimingIn<'a, R> {
 
     /// Returns the reader below, as the last call left it, and the timing of what was read.
     pub fn into_parts(self) -> (R, CaptureTiming)
-        ensures { result.0 ≡ reader_below self.entry }
+        ensures { result.0 ≡ timed_reader self.entry }
     {
         let TimingIn { inner, along } = self;
         (inner, along.into_timing())
@@ -44,20 +44,20 @@ impl<'a, R> TimingIn<'a, R> {
 }
 
 impl<R: CaptureIn> CaptureIn for TimingIn<'_, R> {
-    ghost use Rattle.capture_timing.specs.Readers.{reader_below, reads_below};
+    ghost use Rattle.capture_timing.specs.Readers.{timed_reader, reads_below};
 
     ghost gives = { reads_below R.gives };
 
-    ghost ends = { λ before after. R.ends (reader_below before) (reader_below after) };
+    ghost ends = { λ before after. R.ends (timed_reader before) (timed_reader after) };
 
-    ghost failures = { λ s. R.failures (reader_below s) };
+    ghost failures = { λ s. R.failures (timed_reader s) };
 
-    ghost fails = { λ before after. R.fails (reader_below before) (reader_below after) };
+    ghost fails = { λ before after. R.fails (timed_reader before) (timed_reader after) };
 
-    ghost gives_none = { λ s. R.gives_none (reader_below s) };
+    ghost gives_none = { λ s. R.gives_none (timed_reader s) };
 
     ghost gives_more = { λ s t u m n xs ys a b.
-        R.gives_more (reader_below s) (reader_below t) (reader_below u) m n xs ys a b };
+        R.gives_more (timed_reader s) (timed_reader t) (timed_reader u) m n xs ys a b };
 
     fn read(&mut self, buf: &mut [u8]) -> Result<usize, ReadStop> {
         match self.inner.read(buf) {

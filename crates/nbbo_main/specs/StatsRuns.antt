@@ -13,7 +13,7 @@ use Rattle.capture_stats.specs.Writers.{AddsStats, IsNewFor}
 use Rattle.capture_stats.specs.declared.format.StatsFormat.{StatsFormat}
 use Rattle.capture_stats.specs.declared.stats_out.StatsOut.{StatsOut}
 use Rattle.capture_timing.specs.declared.timing_in.TimingIn.{TimingIn}
-use Rattle.capture_timing.specs.Readers.{reader_below}
+use Rattle.capture_timing.specs.Readers.{timed_reader}
 use Rattle.line_captures.specs.declared.captured_line.CapturedLine.{CapturedLine}
 use Rattle.line_captures.specs.declared.report.CaptureReport.{CaptureReport}
 use Rattle.line_captures.specs.declared.report.LinesFault.{LinesFault}
@@ -109,12 +109,12 @@ pub record RunsOwnStats {R W E : Type 0}
   pub ends : status ≡ ending_status outcome
 
 -- the calls of a reader that reads along, as calls of the reader below
-abbrev pub along_reading : {R : Type 0} → Reading R → Reading (TimingIn R)
-along_reading reading = record {
-  gives = λ s calls bytes t. reading.gives (reader_below s) calls bytes (reader_below t);
-  ends = λ s t. reading.ends (reader_below s) (reader_below t);
-  failures = λ s. reading.failures (reader_below s);
-  fails = λ s t. reading.fails (reader_below s) (reader_below t);
+abbrev pub timed_reading : {R : Type 0} → Reading R → Reading (TimingIn R)
+timed_reading reading = record {
+  gives = λ s calls bytes t. reading.gives (timed_reader s) calls bytes (timed_reader t);
+  ends = λ s t. reading.ends (timed_reader s) (timed_reader t);
+  failures = λ s. reading.failures (timed_reader s);
+  fails = λ s t. reading.fails (timed_reader s) (timed_reader t);
 }
 
 -- A packet capture, which was read along, was replayed onto a new writer that counts, and then the
@@ -125,16 +125,16 @@ pub record PrintsLineCounts {R W : Type 0} (reading : Reading R) (writing : Writ
   pub start : StatsOut
   pub new : IsNewFor (venues_in config) start
   pub along : TimingIn R
-  pub over : reader_below along ≡ from
+  pub over : timed_reader along ≡ from
   pub seen : CaptureReport (TimingIn R)
   pub mid : StatsOut
-  pub replays : ReplaysLines (along_reading reading) stats_writing config lines along seen start mid
+  pub replays : ReplaysLines (timed_reading reading) stats_writing config lines along seen start mid
   pub printed : Result (Unit {0}) ReplayFault
   pub prints : PrintsTimedStats writing mid format before after printed
   pub ends : report.outcome ≡ lines_ended_by seen.outcome printed
   pub position : report.position ≡ seen.position
   pub passed : report.passed ≡ seen.passed
-  pub input : report.input ≡ reader_below seen.input
+  pub input : report.input ≡ timed_reader seen.input
 
 -- A packet capture was replayed, and the counts of its lines alone are on output.
 pub record RunsLineStats {R W E : Type 0}

@@ -2,7 +2,7 @@
 ghost use Rattle.std.specs.Prelude.{◌≡◌, [], IfOk, IfErr};
 ghost use Rattle.capture_stats.specs.Texts.{text_of_stats};
 ghost use Rattle.capture_stats.specs.Writers.{IsNewFor};
-ghost use Rattle.capture_timing.specs.Readers.{reader_below};
+ghost use Rattle.capture_timing.specs.Readers.{timed_reader};
 ghost use Rattle.feed_text.specs.Replays.{venues_in};
 ghost use Rattle.nbbo_main.specs.StatsRuns.{PrintsStats, PrintsText, PrintsTimedStats, RunsLineStats, RunsOwnStats, RunsStats, ended_by, lines_ended_by};
 
@@ -144,7 +144,7 @@ fn make_counts<'a, R>(
     input: R,
 ) -> Result<(StatsOut, TimingIn<'a, R>), R>
     ensures new { IfOk result (λ made. IsNewFor (venues_in config.now) made.0) }
-    ensures over { IfOk result (λ made. reader_below made.1 ≡ input) }
+    ensures over { IfOk result (λ made. timed_reader made.1 ≡ input) }
     ensures refused { IfErr result (λ back. back ≡ input) }
 {
     let Ok(counts) = StatsOut::new(alloc, config.sessions.len()) else {

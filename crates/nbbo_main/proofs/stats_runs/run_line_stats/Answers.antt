@@ -3,7 +3,7 @@ use Rattle.feed_text.specs.Devices.{Reading, Writing}
 use Rattle.line_captures.specs.declared.captured_line.CapturedLine.{CapturedLine}
 use Rattle.replay_run.specs.LineReplays.{ReplaysLines}
 use Rattle.nbbo_main.specs.Runs.{Says}
-use Rattle.nbbo_main.specs.StatsRuns.{along_reading, stats_writing}
+use Rattle.nbbo_main.specs.StatsRuns.{timed_reading, stats_writing}
 use Rattle.nbbo_main.proofs.stats_runs.run_line_stats.Goals as goal
 
 pub returns-in-Err : goal.returns-in-Err
@@ -47,7 +47,7 @@ returns g c =
         over = c.in-Ok.ensures.over;
         seen = seen;
         mid = mid;
-        replays = subst (λ (lines : List CapturedLine). ReplaysLines (along_reading reading) stats_writing config lines along seen start mid) c.as_slice-lines.ensures.value c.replay_lines-seen.ensures;
+        replays = subst (λ (lines : List CapturedLine). ReplaysLines (timed_reading reading) stats_writing config lines along seen start mid) c.as_slice-lines.ensures.value c.replay_lines-seen.ensures;
         printed = c.print_timed_stats-printed.result;
         prints = c.print_timed_stats-printed.ensures;
         ends = c.lines_ended_by.ensures;
