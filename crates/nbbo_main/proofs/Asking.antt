@@ -71,13 +71,6 @@ pub IsGivenCount-none : (text : Option Text) → ((t : Text) → text ≡ Some t
 IsGivenCount-none None unread = refl
 IsGivenCount-none (Some t) unread = λ numeral few. absurd (unread t refl (numeral, omega arith))
 
--- a fault of the symbols is the refusal, where the list of sessions is right
-pub GivesNone-symbols : (rows : List Row) (words sessions : List Text) (fault : SymbolsFault) → words ≡ symbol_words_in rows → sessions_in (list_in rows) ≡ Ok sessions → HasSymbolsFault words fault → GivesNone rows (symbols_refusal_by fault)
-GivesNone-symbols rows words sessions symbols.BadSymbol e right told = (sessions, right, subst (λ (ws : List Text). HasSymbolsFault ws symbols.BadSymbol) e told)
-GivesNone-symbols rows words sessions symbols.TooManySymbols e right told = (sessions, right, subst (λ (ws : List Text). HasSymbolsFault ws symbols.TooManySymbols) e told)
-GivesNone-symbols rows words sessions symbols.DuplicateSymbol e right told = (sessions, right, subst (λ (ws : List Text). HasSymbolsFault ws symbols.DuplicateSymbol) e told)
-GivesNone-symbols rows words sessions symbols.NoMemory e right told = tt
-
 -- the format that the options give, and that they give none
 pub gives_bests : (rows : List Row) (flag : Bool) (text : Option Text) (r : Result (Option Format) FormatFault) → IsFlag (one_of (codes "best-only") rows) flag → text ≡ first_of (codes "format") rows → IfOk r (NamesFormat flag text) → IfOk r (GivesBests rows)
 gives_bests rows flag text (Ok bests) given e told = record { best_only = flag; flag = given; format = subst (λ (t : Option Text). NamesFormat flag t bests) e told }
@@ -87,30 +80,12 @@ pub gives_bad_format : (rows : List Row) (flag : Bool) (text : Option Text) (r :
 gives_bad_format rows flag text (Ok bests) given e told = tt
 gives_bad_format rows flag text (Err fault) given e told = record { best_only = flag; flag = given; fault = subst (λ (t : Option Text). HasFormatFault flag t) e told }
 
--- a fault of the list is the refusal
-pub GivesNone-fault : (rows : List Row) (list : Text) (fault : SessionsFault) → list ≡ list_in rows → (fault ≢ sessions.NoMemory → sessions_in list ≡ Err fault) → GivesNone rows (refusal_by fault)
-GivesNone-fault rows list sessions.BadSession e told = ap sessions_in (sym e) ∙ told (search rules)
-GivesNone-fault rows list sessions.TooManySessions e told = ap sessions_in (sym e) ∙ told (search rules)
-GivesNone-fault rows list sessions.NoMemory e told = tt
-
 -- a fault of the list of lines is the refusal, where the settings are right
 pub GivesNone-lines : (rows : List Row) (settings : ReplaySettings) (list : Text) (fault : LinesFault) → Gives rows settings → first_of (codes "lines") rows ≡ Some list → HasCapturedLinesFault list (length settings.sessions.items) fault → GivesNone rows (lines_refusal_by fault)
 GivesNone-lines rows settings list lines.BadLines given listed fault = record { settings = settings; given = given; list = list; listed = listed; fault = fault }
 GivesNone-lines rows settings list lines.NoMemory given listed fault = tt
 
--- the settings of a replay that is counted, and why there are none
-pub GivesNoCounted-symbols : (rows : List Row) (words sessions : List Text) (fault : SymbolsFault) → words ≡ symbol_words_in rows → sessions_in (list_in rows) ≡ Ok sessions → HasSymbolsFault words fault → GivesNoCounted rows (symbols_refusal_by fault)
-GivesNoCounted-symbols rows words sessions symbols.BadSymbol e right told = (sessions, right, subst (λ (ws : List Text). HasSymbolsFault ws symbols.BadSymbol) e told)
-GivesNoCounted-symbols rows words sessions symbols.TooManySymbols e right told = (sessions, right, subst (λ (ws : List Text). HasSymbolsFault ws symbols.TooManySymbols) e told)
-GivesNoCounted-symbols rows words sessions symbols.DuplicateSymbol e right told = (sessions, right, subst (λ (ws : List Text). HasSymbolsFault ws symbols.DuplicateSymbol) e told)
-GivesNoCounted-symbols rows words sessions symbols.NoMemory e right told = tt
-
-pub GivesNoCounted-fault : (rows : List Row) (list : Text) (fault : SessionsFault) → list ≡ list_in rows → (fault ≢ sessions.NoMemory → sessions_in list ≡ Err fault) → GivesNoCounted rows (refusal_by fault)
-GivesNoCounted-fault rows list sessions.BadSession e told = ap sessions_in (sym e) ∙ told (search rules)
-GivesNoCounted-fault rows list sessions.TooManySessions e told = ap sessions_in (sym e) ∙ told (search rules)
-GivesNoCounted-fault rows list sessions.NoMemory e told = tt
-
--- they are why the values of stats are refused, and the format and the list of lines may be
+-- why the values of stats give no settings: as those of a replay, or for the list of lines
 pub GivesNoStats-counted : (rows : List Row) (refusal : Refusal) → GivesNoCounted rows refusal → GivesNoStats rows refusal
 GivesNoStats-counted rows (Shown text) none = absurd none
 GivesNoStats-counted rows (Usage text) none = absurd none
