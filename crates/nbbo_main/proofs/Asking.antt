@@ -1,6 +1,6 @@
 -- The results of the options' values, and of an error of clap.
-use Rattle.std.proofs.Common.{rules, codes, length, ◌≡◌, ◌^◌, ◌<◌, ◌⊎◌, inl, inr, ℕ, ◌∙◌, sym, ap, subst, List, Option, Some, None, Ok, Err, [], true, false, refl, arith}
-use Rattle.std.specs.Prelude.{◌≢◌, Bool, IfErr, IfOk, Result, is_some, unwrap_or}
+use Rattle.std.proofs.Common.{codes, length, ◌≡◌, ◌^◌, ◌<◌, ◌⊎◌, inl, inr, ℕ, ◌∙◌, sym, ap, subst, List, Option, Some, None, Ok, Err, [], true, false, refl, arith}
+use Rattle.std.specs.Prelude.{Bool, IfErr, IfOk, Result, is_some, unwrap_or}
 use Rattle.std.specs.Str.Parse.{IsNumeral, digits_value, without_leading_plus}
 use Rattle.clap.specs.Kinds.{IsAmong}
 use Rattle.clap.specs.Walk.{Row, Text, first_of, one_of}
@@ -8,22 +8,16 @@ use Rattle.clap.specs.Faults.{fault_of}
 use Rattle.clap.specs.declared.error.kind.ErrorKind.{ErrorKind}
 use Rattle.clap.specs.declared.error.kind.ErrorKind.TheVariants.{DisplayHelp, DisplayVersion, OutOfMemory}
 use Rattle.nbbo_main.specs.CapturedLines.{HasCapturedLinesFault}
-use Rattle.nbbo_main.specs.CommandLine.{Gives, GivesBadFormat, GivesBests, GivesCounted, GivesNoConversion, GivesNoCounted, GivesNoListening, GivesNoStats, GivesNoTask, GivesNone, IsAccepted, IsConverting, IsCount, IsCounting, IsFlag, IsGivenCount, IsListening, IsRefused, IsWindowOf, RefusesBy, convert_values_of, lines_refusal_by, list_in, listen_values_of, stats_values_of, refusal_by, symbol_words_in, symbols_refusal_by}
+use Rattle.nbbo_main.specs.CommandLine.{Gives, GivesBadFormat, GivesBests, GivesCounted, GivesNoConversion, GivesNoCounted, GivesNoListening, GivesNoStats, GivesNoTask, GivesNone, IsAccepted, IsConverting, IsCount, IsCounting, IsFlag, IsGivenCount, IsListening, IsRefused, IsWindowOf, RefusesBy, convert_values_of, lines_refusal_by, listen_values_of, stats_values_of}
 use Rattle.best_lines.specs.declared.format.Format.{Format}
 use Rattle.capture_stats.specs.declared.format.StatsFormat.{StatsFormat}
-use Rattle.nbbo_main.specs.StatsFormats.{NamesNoStatsFormat, NamesStatsFormat}
+use Rattle.nbbo_main.specs.StatsFormats.{NamesStatsFormat}
 use Rattle.nbbo_main.specs.BestFormats.{HasFormatFault, NamesFormat}
 use Rattle.nbbo_main.specs.declared.best_format.FormatFault.{FormatFault}
 use Rattle.nbbo_main.specs.Commands.{nbbo_app}
-use Rattle.nbbo_main.specs.Sessions.{sessions_in}
 use Rattle.nbbo_main.specs.declared.addresses.LinesFault.{LinesFault}
 use Rattle.nbbo_main.specs.declared.addresses.LinesFault.TheVariants as lines
 use Rattle.nbbo_main.specs.declared.replay_settings.ReplaySettings.{ReplaySettings}
-use Rattle.nbbo_main.specs.declared.sessions.SessionsFault.{SessionsFault}
-use Rattle.nbbo_main.specs.declared.sessions.SessionsFault.TheVariants as sessions
-use Rattle.nbbo_main.specs.Symbols.{HasSymbolsFault}
-use Rattle.nbbo_main.specs.declared.symbols.SymbolsFault.{SymbolsFault}
-use Rattle.nbbo_main.specs.declared.symbols.SymbolsFault.TheVariants as symbols
 use Rattle.nbbo_main.specs.declared.refusal.Refusal.{Refusal}
 use Rattle.nbbo_main.specs.declared.refusal.Refusal.TheVariants.{Shown, Usage, NotText, BadSession, TooManySessions, BadLines, BadRequest, BadFormat, BadSymbol, TooManySymbols, DuplicateSymbol, NoMemory}
 

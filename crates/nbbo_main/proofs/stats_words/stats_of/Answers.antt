@@ -23,8 +23,8 @@ returns-in_err-lines-in-Some-clause-err c =
     let p = err_from_is_err_and c.from_residual-in_err-lines-in-Some.result c.from_residual-in_err-lines-in-Some.ensures.1 in
     let fault = c.in_err-lines-in-Some.field-0.0 in
     let listed : first_of (codes "lines") (rows_of (found_of c.args.stats.now)) ≡ Some c.in-Some.list.now =
-        sym (c.get_str.ensures ∙ first_value-rows (found_of c.args.stats.now) (codes "lines"))
-        ∙ ap (λ (text : Option (Bor Text)). option_map (λ text. text.now) text) c.in-Some.is in
+    sym (c.get_str.ensures ∙ first_value-rows (found_of c.args.stats.now) (codes "lines"))
+    ∙ ap (λ (text : Option (Bor Text)). option_map (λ text. text.now) text) c.in-Some.is in
     rw (p.1, p.2)
     (GivesNoStats-lines (rows_of (found_of c.args.stats.now)) c.in_ok-replay.replay c.in_ok-format.format c.in-Some.list.now fault
     c.in_ok-replay.ensures.ok c.in_ok-format.ensures.ok listed (search rules))
@@ -47,7 +47,7 @@ returns-in-None-clause-ok c = record {
   input = (
     c.in_ok-replay.ensures.ok,
     sym (c.get_str.ensures ∙ first_value-rows (found_of c.args.stats.now) (codes "lines"))
-    ∙ ap (λ (text : Option (Bor Text)). option_map (λ text. text.now) text) c.in-None.is,
+        ∙ ap (λ (text : Option (Bor Text)). option_map (λ text. text.now) text) c.in-None.is,
   );
   format = c.in_ok-format.ensures.ok;
 }
