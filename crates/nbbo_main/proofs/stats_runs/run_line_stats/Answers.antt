@@ -19,37 +19,43 @@ use Rattle.nbbo_main.specs.StatsRuns.{PrintsStats, counts_texts, lines_ended_by,
 use Rattle.nbbo_main.proofs.stats_runs.run_line_stats.Goals as goal
 
 -- where nothing went wrong the counts are those of a whole packet capture
-counts_whole : {R W : Type 0} (reading : Reading R) (writing : Writing W) (config : ReplayConfig) (lines : List CapturedLine) (format : StatsFormat)
+counts_whole : {R W : Type 0} (reading : Reading R) (writing : Writing W)
+    (config : ReplayConfig) (lines : List CapturedLine) (format : StatsFormat)
     (from to : R) (start mid : StatsOut) (before after : W) (point : CapturePoint)
-    (seen : Result (Unit {0}) LinesFault) (printed : Result (Unit {0}) ReplayFault) (outcome : Result (Unit {0}) LinesFault)
+    (seen : Result (Unit {0}) LinesFault) (printed : Result (Unit {0}) ReplayFault)
+    (outcome : Result (Unit {0}) LinesFault)
     → IsNewFor (venues_in config) start
     → AnswersLineReplay reading stats_writing config lines (texts_of_run config) from to start mid point seen
     → PrintsStats writing mid format before after printed → outcome ≡ lines_ended_by seen printed
     → (done : Unit {0}) → outcome ≡ Ok done
     → WroteCaptureText reading writing config lines (counts_texts config format) from to before after point
-counts_whole reading writing config lines format from to start mid before after point (Ok read) (Ok wrote) outcome new run prints ends done ok = record {
-  calls = run.calls;
-  within = run.within;
-  mid = run.mid;
-  records = run.records;
-  read = run.read;
-  is_capture = run.is_capture;
-  end = run.end;
-  text = text_of_stats format prints.stats;
-  is = record {
-    replayed = run.text;
-    is = run.is;
-    stats = prints.stats;
-    counted = prints.counted (venues_in config) start run.text new run.wrote;
-    same = refl;
-  };
-  wrote = prints.prints.0;
-}
-counts_whole reading writing config lines format from to start mid before after point (Err fault) (Ok wrote) outcome new run prints ends done ok =
+counts_whole reading writing config lines format from to start mid before after point (Ok read) (Ok wrote)
+    outcome new run prints ends done ok = record {
+      calls = run.calls;
+      within = run.within;
+      mid = run.mid;
+      records = run.records;
+      read = run.read;
+      is_capture = run.is_capture;
+      end = run.end;
+      text = text_of_stats format prints.stats;
+      is = record {
+        replayed = run.text;
+        is = run.is;
+        stats = prints.stats;
+        counted = prints.counted (venues_in config) start run.text new run.wrote;
+        same = refl;
+      };
+      wrote = prints.prints.0;
+    }
+counts_whole reading writing config lines format from to start mid before after point (Err fault) (Ok wrote)
+    outcome new run prints ends done ok =
     let bad : Err fault ≡ Ok done = sym ends ∙ ok in absurd (cc)
-counts_whole reading writing config lines format from to start mid before after point (Ok read) (Err fault) outcome new run prints ends done ok =
+counts_whole reading writing config lines format from to start mid before after point (Ok read) (Err fault)
+    outcome new run prints ends done ok =
     let bad : Err (Run fault) ≡ Ok done = sym ends ∙ ok in absurd (cc)
-counts_whole reading writing config lines format from to start mid before after point (Err other) (Err fault) outcome new run prints ends done ok =
+counts_whole reading writing config lines format from to start mid before after point (Err other) (Err fault)
+    outcome new run prints ends done ok =
     let bad : Err (Run fault) ≡ Ok done = sym ends ∙ ok in absurd (cc)
 
 pub returns-in-Err : goal.returns-in-Err
@@ -60,7 +66,11 @@ returns-in-Err g c =
       config = c.config_of-config.result;
       is = c.config_of-config.ensures;
       report = c.without_memory-report.result;
-      counts = inr (record { refused = c.without_memory-report.ensures.outcome; unread = c.without_memory-report.ensures.input; unwritten = refl });
+      counts = inr (record {
+        refused = c.without_memory-report.ensures.outcome;
+        unread = c.without_memory-report.ensures.input;
+        unwritten = refl;
+      });
       left = refl;
       hinted = hinted;
       hint = subst (λ (text : List ℕ). Says told text c.args.errors.now hinted) c.hint.ensures c.write_stderr.ensures;
@@ -69,7 +79,12 @@ returns-in-Err g c =
 
 pub returns : goal.returns
 returns g c =
-    let reading : Reading g.row.R.Denot = record { gives = g.R.CaptureIn.gives; ends = g.R.CaptureIn.ends; failures = g.R.CaptureIn.failures; fails = g.R.CaptureIn.fails } in
+    let reading : Reading g.row.R.Denot = record {
+      gives = g.R.CaptureIn.gives;
+      ends = g.R.CaptureIn.ends;
+      failures = g.R.CaptureIn.failures;
+      fails = g.R.CaptureIn.fails;
+    } in
     let writing : Writing g.row.W.Denot = record { adds = g.W.TextOut.adds; failures = g.W.TextOut.failures } in
     let told : Writing g.row.E.Denot = record { adds = g.E.TextOut.adds; failures = g.E.TextOut.failures } in
     let config = c.config_of-config.result in
@@ -96,7 +111,8 @@ returns g c =
         ends = c.lines_ended_by-outcome.ensures;
         same = refl;
         whole = counts_whole reading writing config lines c.args.format _ _ start mid _ _ replays.point seen.outcome
-            c.print_stats-printed.result c.lines_ended_by-outcome.result c.in-Ok.ensures replays.answers c.print_stats-printed.ensures
+            c.print_stats-printed.result c.lines_ended_by-outcome.result
+            c.in-Ok.ensures replays.answers c.print_stats-printed.ensures
             c.lines_ended_by-outcome.ensures;
       });
       left = refl;
