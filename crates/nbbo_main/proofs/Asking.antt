@@ -1,6 +1,6 @@
 -- The results of the options' values, and of an error of clap.
-use Rattle.std.proofs.Common.{rules, codes, length, ◌≡◌, ◌^◌, ◌<◌, ◌⊎◌, inl, inr, ℕ, ◌∙◌, sym, ap, subst, List, Option, Some, None, Ok, Err, [], true, false, refl, arith}
-use Rattle.std.specs.Prelude.{◌≢◌, Bool, IfErr, IfOk, Result, is_some, unwrap_or}
+use Rattle.std.proofs.Common.{codes, length, ◌≡◌, ◌^◌, ◌<◌, ◌⊎◌, inl, inr, ℕ, ◌∙◌, sym, ap, subst, List, Option, Some, None, Ok, Err, [], true, false, refl, arith}
+use Rattle.std.specs.Prelude.{Bool, IfErr, IfOk, Result, is_some, unwrap_or}
 use Rattle.std.specs.Str.Parse.{IsNumeral, digits_value, without_leading_plus}
 use Rattle.clap.specs.Kinds.{IsAmong}
 use Rattle.clap.specs.Walk.{Row, Text, first_of, one_of}
@@ -8,22 +8,16 @@ use Rattle.clap.specs.Faults.{fault_of}
 use Rattle.clap.specs.declared.error.kind.ErrorKind.{ErrorKind}
 use Rattle.clap.specs.declared.error.kind.ErrorKind.TheVariants.{DisplayHelp, DisplayVersion, OutOfMemory}
 use Rattle.nbbo_main.specs.CapturedLines.{HasCapturedLinesFault}
-use Rattle.nbbo_main.specs.CommandLine.{Gives, GivesBadFormat, GivesBests, GivesCounted, GivesNoConversion, GivesNoCounted, GivesNoListening, GivesNoStats, GivesNoTask, GivesNone, IsAccepted, IsConverting, IsCount, IsCounting, IsFlag, IsGivenCount, IsListening, IsRefused, IsWindowOf, RefusesBy, convert_values_of, lines_refusal_by, list_in, listen_values_of, stats_values_of, refusal_by, symbol_words_in, symbols_refusal_by}
+use Rattle.nbbo_main.specs.CommandLine.{Gives, GivesBadFormat, GivesBests, GivesCounted, GivesNoConversion, GivesNoCounted, GivesNoListening, GivesNoStats, GivesNoTask, GivesNone, IsAccepted, IsConverting, IsCount, IsCounting, IsFlag, IsGivenCount, IsListening, IsRefused, IsWindowOf, RefusesBy, convert_values_of, lines_refusal_by, listen_values_of, stats_values_of}
 use Rattle.best_lines.specs.declared.format.Format.{Format}
 use Rattle.capture_stats.specs.declared.format.StatsFormat.{StatsFormat}
-use Rattle.nbbo_main.specs.StatsFormats.{NamesNoStatsFormat, NamesStatsFormat}
+use Rattle.nbbo_main.specs.StatsFormats.{NamesStatsFormat}
 use Rattle.nbbo_main.specs.BestFormats.{HasFormatFault, NamesFormat}
 use Rattle.nbbo_main.specs.declared.best_format.FormatFault.{FormatFault}
 use Rattle.nbbo_main.specs.Commands.{nbbo_app}
-use Rattle.nbbo_main.specs.Sessions.{sessions_in}
 use Rattle.nbbo_main.specs.declared.addresses.LinesFault.{LinesFault}
 use Rattle.nbbo_main.specs.declared.addresses.LinesFault.TheVariants as lines
 use Rattle.nbbo_main.specs.declared.replay_settings.ReplaySettings.{ReplaySettings}
-use Rattle.nbbo_main.specs.declared.sessions.SessionsFault.{SessionsFault}
-use Rattle.nbbo_main.specs.declared.sessions.SessionsFault.TheVariants as sessions
-use Rattle.nbbo_main.specs.Symbols.{HasSymbolsFault}
-use Rattle.nbbo_main.specs.declared.symbols.SymbolsFault.{SymbolsFault}
-use Rattle.nbbo_main.specs.declared.symbols.SymbolsFault.TheVariants as symbols
 use Rattle.nbbo_main.specs.declared.refusal.Refusal.{Refusal}
 use Rattle.nbbo_main.specs.declared.refusal.Refusal.TheVariants.{Shown, Usage, NotText, BadSession, TooManySessions, BadLines, BadRequest, BadFormat, BadSymbol, TooManySymbols, DuplicateSymbol, NoMemory}
 
@@ -71,13 +65,6 @@ pub IsGivenCount-none : (text : Option Text) → ((t : Text) → text ≡ Some t
 IsGivenCount-none None unread = refl
 IsGivenCount-none (Some t) unread = λ numeral few. absurd (unread t refl (numeral, omega arith))
 
--- a fault of the symbols is the refusal, where the list of sessions is right
-pub GivesNone-symbols : (rows : List Row) (words sessions : List Text) (fault : SymbolsFault) → words ≡ symbol_words_in rows → sessions_in (list_in rows) ≡ Ok sessions → HasSymbolsFault words fault → GivesNone rows (symbols_refusal_by fault)
-GivesNone-symbols rows words sessions symbols.BadSymbol e right told = (sessions, right, subst (λ (ws : List Text). HasSymbolsFault ws symbols.BadSymbol) e told)
-GivesNone-symbols rows words sessions symbols.TooManySymbols e right told = (sessions, right, subst (λ (ws : List Text). HasSymbolsFault ws symbols.TooManySymbols) e told)
-GivesNone-symbols rows words sessions symbols.DuplicateSymbol e right told = (sessions, right, subst (λ (ws : List Text). HasSymbolsFault ws symbols.DuplicateSymbol) e told)
-GivesNone-symbols rows words sessions symbols.NoMemory e right told = tt
-
 -- the format that the options give, and that they give none
 pub gives_bests : (rows : List Row) (flag : Bool) (text : Option Text) (r : Result (Option Format) FormatFault) → IsFlag (one_of (codes "best-only") rows) flag → text ≡ first_of (codes "format") rows → IfOk r (NamesFormat flag text) → IfOk r (GivesBests rows)
 gives_bests rows flag text (Ok bests) given e told = record { best_only = flag; flag = given; format = subst (λ (t : Option Text). NamesFormat flag t bests) e told }
@@ -87,30 +74,12 @@ pub gives_bad_format : (rows : List Row) (flag : Bool) (text : Option Text) (r :
 gives_bad_format rows flag text (Ok bests) given e told = tt
 gives_bad_format rows flag text (Err fault) given e told = record { best_only = flag; flag = given; fault = subst (λ (t : Option Text). HasFormatFault flag t) e told }
 
--- a fault of the list is the refusal
-pub GivesNone-fault : (rows : List Row) (list : Text) (fault : SessionsFault) → list ≡ list_in rows → (fault ≢ sessions.NoMemory → sessions_in list ≡ Err fault) → GivesNone rows (refusal_by fault)
-GivesNone-fault rows list sessions.BadSession e told = ap sessions_in (sym e) ∙ told (search rules)
-GivesNone-fault rows list sessions.TooManySessions e told = ap sessions_in (sym e) ∙ told (search rules)
-GivesNone-fault rows list sessions.NoMemory e told = tt
-
 -- a fault of the list of lines is the refusal, where the settings are right
 pub GivesNone-lines : (rows : List Row) (settings : ReplaySettings) (list : Text) (fault : LinesFault) → Gives rows settings → first_of (codes "lines") rows ≡ Some list → HasCapturedLinesFault list (length settings.sessions.items) fault → GivesNone rows (lines_refusal_by fault)
 GivesNone-lines rows settings list lines.BadLines given listed fault = record { settings = settings; given = given; list = list; listed = listed; fault = fault }
 GivesNone-lines rows settings list lines.NoMemory given listed fault = tt
 
--- the settings of a replay that is counted, and why there are none
-pub GivesNoCounted-symbols : (rows : List Row) (words sessions : List Text) (fault : SymbolsFault) → words ≡ symbol_words_in rows → sessions_in (list_in rows) ≡ Ok sessions → HasSymbolsFault words fault → GivesNoCounted rows (symbols_refusal_by fault)
-GivesNoCounted-symbols rows words sessions symbols.BadSymbol e right told = (sessions, right, subst (λ (ws : List Text). HasSymbolsFault ws symbols.BadSymbol) e told)
-GivesNoCounted-symbols rows words sessions symbols.TooManySymbols e right told = (sessions, right, subst (λ (ws : List Text). HasSymbolsFault ws symbols.TooManySymbols) e told)
-GivesNoCounted-symbols rows words sessions symbols.DuplicateSymbol e right told = (sessions, right, subst (λ (ws : List Text). HasSymbolsFault ws symbols.DuplicateSymbol) e told)
-GivesNoCounted-symbols rows words sessions symbols.NoMemory e right told = tt
-
-pub GivesNoCounted-fault : (rows : List Row) (list : Text) (fault : SessionsFault) → list ≡ list_in rows → (fault ≢ sessions.NoMemory → sessions_in list ≡ Err fault) → GivesNoCounted rows (refusal_by fault)
-GivesNoCounted-fault rows list sessions.BadSession e told = ap sessions_in (sym e) ∙ told (search rules)
-GivesNoCounted-fault rows list sessions.TooManySessions e told = ap sessions_in (sym e) ∙ told (search rules)
-GivesNoCounted-fault rows list sessions.NoMemory e told = tt
-
--- they are why the values of stats are refused, and the format and the list of lines may be
+-- why the values of stats give no settings: as those of a replay, or for the list of lines
 pub GivesNoStats-counted : (rows : List Row) (refusal : Refusal) → GivesNoCounted rows refusal → GivesNoStats rows refusal
 GivesNoStats-counted rows (Shown text) none = absurd none
 GivesNoStats-counted rows (Usage text) none = absurd none

@@ -1,12 +1,13 @@
 -- Runs of the program that print the statistics of a capture: a replay writes its lines to a writer
 -- that counts what they tell, and then the counts are on output.
-use Rattle.std.specs.Prelude.{◌≡◌, ◌⊎◌, ℕ, ◌+◌, List, [], Bool, Result, Ok, Err, length}
+use Rattle.std.specs.Prelude.{◌≡◌, ◌⊎◌, ℕ, ◌+◌, List, [], Bool, Result, Ok, Err}
 use Rattle.clap.specs.Walk.{Text}
 use Rattle.feed_text.specs.declared.fault.ReplayFault.{ReplayFault}
 use Rattle.feed_text.specs.declared.fault.ReplayFault.TheVariants.{ReadFailed, WriteFailed, BadRecord, ShortRecord, TooManyTurns, JournalFull, NoMemory}
 use Rattle.feed_text.specs.declared.replay.ReplayConfig.{ReplayConfig}
 use Rattle.feed_text.specs.Devices.{Reading, Writing, Wrote}
-use Rattle.feed_text.specs.Replays.{Replays, AnswersReplay, venues_in}
+use Rattle.feed_text.specs.Capture.{CaptureRecord}
+use Rattle.feed_text.specs.Replays.{Replays, AnswersReplay, TextFacts, WroteAll, venues_in}
 use Rattle.capture_stats.specs.Stats.{Counted, IsCountOf}
 use Rattle.capture_stats.specs.Texts.{text_of_stats}
 use Rattle.capture_stats.specs.Writers.{AddsStats, IsNewFor}
@@ -18,8 +19,8 @@ use Rattle.line_captures.specs.declared.captured_line.CapturedLine.{CapturedLine
 use Rattle.line_captures.specs.declared.report.CaptureReport.{CaptureReport}
 use Rattle.line_captures.specs.declared.report.LinesFault.{LinesFault}
 use Rattle.line_captures.specs.declared.report.LinesFault.TheVariants.{Run}
-use Rattle.replay_run.specs.LineReplays.{ReplaysLines}
-use Rattle.replay_run.specs.Printed.{texts_of_run}
+use Rattle.replay_run.specs.LineReplays.{ReplaysLines, WroteCaptureText}
+use Rattle.replay_run.specs.Printed.{IsTextOfRun, texts_of_run}
 use Rattle.nbbo_main.specs.CommandLine.{AsksStats}
 use Rattle.nbbo_main.specs.Ending.{ending_status, ending_text}
 use Rattle.nbbo_main.specs.LineRuns.{PassesNoLine, TellsCapture}
@@ -77,8 +78,26 @@ abbrev pub lines_ended_by : Result (Unit {0}) LinesFault → Result (Unit {0}) R
 lines_ended_by seen (Ok done) = seen
 lines_ended_by seen (Err fault) = Err (Run fault)
 
+-- The text of the counts of the text that a replay writes of a whole capture with these records,
+-- whose events are a run of the machine, and of what more is said, of which this holds.
+pub record IsCountsText (config : ReplayConfig) (format : StatsFormat)
+    (IsMore : List ℕ → Type 0) (records : List CaptureRecord) (text : List ℕ) : Type 0 where
+  pub replayed : List ℕ
+  pub is : IsTextOfRun config records replayed
+  pub stats : Counted
+  pub counted : IsCountOf (venues_in config) replayed stats
+  pub more : List ℕ
+  pub is_more : IsMore more
+  pub same : text ≡ text_of_stats format stats more
+
+-- the counts, and any text of how the lines ran in time, in place of the text of a whole capture
+abbrev pub counts_texts : ReplayConfig → StatsFormat → TextFacts
+counts_texts config format =
+    record (texts_of_run config) { IsText = IsCountsText config format (λ more. Unit {0}) }
+
 -- Input was replayed onto a new writer that counts, and then the counts were printed: those of the
--- text that the replay wrote.
+-- text that the replay wrote. So where nothing went wrong a whole capture was read, and the counts
+-- of its text were written, and nothing else.
 pub record PrintsCounts {R W : Type 0} (reading : Reading R) (writing : Writing W)
     (config : ReplayConfig) (format : StatsFormat) (from to : R) (before after : W)
     (outcome : Result (Unit {0}) ReplayFault) : Type 0 where
@@ -91,6 +110,9 @@ pub record PrintsCounts {R W : Type 0} (reading : Reading R) (writing : Writing 
   pub printed : Result (Unit {0}) ReplayFault
   pub prints : PrintsStats writing mid format [] before after printed
   pub ends : outcome ≡ ended_by seen printed
+  pub whole : (done : Unit {0}) → outcome ≡ Ok done
+      → WroteAll reading writing config (IsCountsText config format (λ more. more ≡ []))
+      from to before after
 
 -- Input was replayed, and the counts of its lines alone are on output, up to a fault too. Standard
 -- error and the status are those of the outcome, as of a replay.
@@ -135,6 +157,9 @@ pub record PrintsLineCounts {R W : Type 0} (reading : Reading R) (writing : Writ
   pub position : report.position ≡ seen.position
   pub passed : report.passed ≡ seen.passed
   pub input : report.input ≡ timed_reader seen.input
+  pub whole : (done : Unit {0}) → report.outcome ≡ Ok done
+      → WroteCaptureText reading writing config lines (counts_texts config format)
+      from report.input before after replays.point
 
 -- A packet capture was replayed, and the counts of its lines alone are on output.
 pub record RunsLineStats {R W E : Type 0}

@@ -1,10 +1,74 @@
-use Rattle.std.proofs.Common.{List, ℕ, inl, inr, refl, subst, ◌∙◌}
+use Rattle.std.proofs.Common.{◌≡◌, ◌∙◌, List, ℕ, Ok, Err, inl, inr, refl, subst, sym}
+use Rattle.std.specs.Prelude.{Result}
+use Rattle.feed_text.specs.declared.fault.ReplayFault.{ReplayFault}
+use Rattle.feed_text.specs.declared.replay.ReplayConfig.{ReplayConfig}
 use Rattle.feed_text.specs.Devices.{Reading, Writing}
+use Rattle.feed_text.specs.Replays.{venues_in}
+use Rattle.capture_stats.specs.Texts.{text_of_stats}
+use Rattle.capture_stats.specs.Writers.{IsNewFor}
+use Rattle.capture_stats.specs.declared.format.StatsFormat.{StatsFormat}
+use Rattle.capture_stats.specs.declared.stats_out.StatsOut.{StatsOut}
+use Rattle.capture_timing.specs.Readers.{timed_reader}
+use Rattle.capture_timing.specs.declared.timing_in.TimingIn.{TimingIn}
+use Rattle.line_captures.specs.Readers.{CapturePoint}
 use Rattle.line_captures.specs.declared.captured_line.CapturedLine.{CapturedLine}
-use Rattle.replay_run.specs.LineReplays.{ReplaysLines}
+use Rattle.line_captures.specs.declared.report.LinesFault.{LinesFault}
+use Rattle.line_captures.specs.declared.report.LinesFault.TheVariants.{Run}
+use Rattle.replay_run.specs.LineReplays.{AnswersLineReplay, ReplaysLines, WroteCaptureText}
+use Rattle.replay_run.specs.Printed.{texts_of_run}
 use Rattle.nbbo_main.specs.Runs.{Says}
-use Rattle.nbbo_main.specs.StatsRuns.{timed_reading, stats_writing}
+use Rattle.nbbo_main.specs.StatsRuns.{PrintsTimedStats, counts_texts, lines_ended_by, stats_writing, timed_reading}
 use Rattle.nbbo_main.proofs.stats_runs.run_line_stats.Goals as goal
+
+-- where nothing went wrong the counts are those of a whole packet capture
+counts_whole : {R W : Type 0} (reading : Reading R) (writing : Writing W)
+    (config : ReplayConfig) (lines : List CapturedLine) (format : StatsFormat)
+    (along to : TimingIn R) (start mid : StatsOut) (before after : W) (point : CapturePoint)
+    (seen : Result (Unit {0}) LinesFault) (printed : Result (Unit {0}) ReplayFault)
+    (outcome : Result (Unit {0}) LinesFault)
+    → IsNewFor (venues_in config) start
+    → AnswersLineReplay (timed_reading reading) stats_writing config lines (texts_of_run config) along to start mid point seen
+    → PrintsTimedStats writing mid format before after printed → outcome ≡ lines_ended_by seen printed
+    → (done : Unit {0}) → outcome ≡ Ok done
+    → WroteCaptureText reading writing config lines (counts_texts config format)
+      (timed_reader along) (timed_reader to) before after point
+counts_whole reading writing config lines format along to start mid before after point (Ok read) (Ok wrote)
+    outcome new run prints ends done ok = record {
+      calls = run.calls;
+      within = run.within;
+      mid = timed_reader run.mid;
+      records = run.records;
+      read = record {
+        bytes = run.read.bytes;
+        read = run.read.read;
+        pieces = run.read.pieces;
+        are = run.read.are;
+        records_are = run.read.records_are;
+        counts = run.read.counts;
+      };
+      is_capture = run.is_capture;
+      end = run.end;
+      text = text_of_stats format prints.prints.stats prints.timing;
+      is = record {
+        replayed = run.text;
+        is = run.is;
+        stats = prints.prints.stats;
+        counted = prints.prints.counted (venues_in config) start run.text new run.wrote;
+        more = prints.timing;
+        is_more = tt;
+        same = refl;
+      };
+      wrote = prints.prints.prints.0;
+    }
+counts_whole reading writing config lines format along to start mid before after point (Err fault) (Ok wrote)
+    outcome new run prints ends done ok =
+    let bad : Err fault ≡ Ok done = sym ends ∙ ok in absurd (cc)
+counts_whole reading writing config lines format along to start mid before after point (Ok read) (Err fault)
+    outcome new run prints ends done ok =
+    let bad : Err (Run fault) ≡ Ok done = sym ends ∙ ok in absurd (cc)
+counts_whole reading writing config lines format along to start mid before after point (Err other) (Err fault)
+    outcome new run prints ends done ok =
+    let bad : Err (Run fault) ≡ Ok done = sym ends ∙ ok in absurd (cc)
 
 pub returns-in-Err : goal.returns-in-Err
 returns-in-Err g c =
@@ -14,7 +78,11 @@ returns-in-Err g c =
       config = c.config_of-config.result;
       is = c.config_of-config.ensures;
       report = c.without_memory-report.result;
-      counts = inr (record { refused = c.without_memory-report.ensures.outcome; unread = c.without_memory-report.ensures.input ∙ c.in-Err.ensures.refused; unwritten = refl });
+      counts = inr (record {
+        refused = c.without_memory-report.ensures.outcome;
+        unread = c.without_memory-report.ensures.input ∙ c.in-Err.ensures.refused;
+        unwritten = refl;
+      });
       left = refl;
       hinted = hinted;
       hint = subst (λ (text : List ℕ). Says told text c.args.errors.now hinted) c.hint.ensures c.write_stderr.ensures;
@@ -23,7 +91,13 @@ returns-in-Err g c =
 
 pub returns : goal.returns
 returns g c =
-    let reading : Reading g.row.R.Denot = record { gives = g.R.CaptureIn.gives; ends = g.R.CaptureIn.ends; failures = g.R.CaptureIn.failures; fails = g.R.CaptureIn.fails } in
+    let reading : Reading g.row.R.Denot = record {
+      gives = g.R.CaptureIn.gives;
+      ends = g.R.CaptureIn.ends;
+      failures = g.R.CaptureIn.failures;
+      fails = g.R.CaptureIn.fails;
+    } in
+    let writing : Writing g.row.W.Denot = record { adds = g.W.TextOut.adds; failures = g.W.TextOut.failures } in
     let told : Writing g.row.E.Denot = record { adds = g.E.TextOut.adds; failures = g.E.TextOut.failures } in
     let config = c.config_of-config.result in
     let start = c.in-Ok.made.0 in
@@ -31,6 +105,13 @@ returns g c =
     let seen = c.replay_lines-seen.result in
     let mid = c.replay_lines-seen.new.writer in
     let hinted = c.write_stderr.new.errors in
+    let lines = c.args.settings.now.lines.items in
+    let printed = c.print_timed_stats-printed.new.output in
+    let replays : ReplaysLines (timed_reading reading) stats_writing config lines along seen start mid =
+    subst (λ (lines : List CapturedLine). ReplaysLines (timed_reading reading) stats_writing config lines along seen start mid)
+    c.as_slice-lines.ensures.value c.replay_lines-seen.ensures in
+    let Whole : g.row.R.Denot → g.row.R.Denot → Type 0 = λ a b.
+    WroteCaptureText reading writing config lines (counts_texts config c.args.format) a b c.args.output.now printed replays.point in
     record {
       config = config;
       is = c.config_of-config.ensures;
@@ -47,13 +128,19 @@ returns g c =
         over = c.in-Ok.ensures.over;
         seen = seen;
         mid = mid;
-        replays = subst (λ (lines : List CapturedLine). ReplaysLines (timed_reading reading) stats_writing config lines along seen start mid) c.as_slice-lines.ensures.value c.replay_lines-seen.ensures;
+        replays = replays;
         printed = c.print_timed_stats-printed.result;
         prints = c.print_timed_stats-printed.ensures;
         ends = c.lines_ended_by.ensures;
         position = refl;
         passed = refl;
         input = c.into_parts-input.ensures;
+        whole = λ done ok.
+            subst (λ a. Whole a c.into_parts-input.result.0) c.in-Ok.ensures.over
+            (subst (λ b. Whole (timed_reader along) b) (sym c.into_parts-input.ensures)
+            (counts_whole reading writing config lines c.args.format along seen.input start mid c.args.output.now printed
+            replays.point seen.outcome c.print_timed_stats-printed.result c.lines_ended_by.result
+            c.in-Ok.ensures.new replays.answers c.print_timed_stats-printed.ensures c.lines_ended_by.ensures done ok));
       });
       left = refl;
       hinted = hinted;
