@@ -4,7 +4,7 @@ ghost use Rattle.std.specs.Prelude.{◌≡◌, IfErr, IfOk};
 use crate::frame_times::FrameTimes;
 use feed_text::devices::{CaptureIn, ReadStop};
 use feed_text::unread::ReadBuffer;
-use line_captures::{CapturedLine, line_to};
+use line_captures::{CapturedLine, LineTable};
 use packet_capture::{CaptureReader, Frame, Stop, read_datagram};
 use std::alloc::{AllocError, Global};
 
@@ -15,7 +15,7 @@ const PIECES_ROOM: usize = 1_179_648;
 /// The frames of a packet capture as far as it was read, and where their times go.
 #[derive(Drop)]
 struct FrameWalk<'q> {
-    lines: &'q [CapturedLine],
+    lines: LineTable<'q>,
     times: &'q FrameTimes,
     capture: CaptureReader,
     unread: ReadBuffer<PIECES_ROOM>,
@@ -32,7 +32,7 @@ impl<'q> FrameWalk<'q> {
         times: &'q FrameTimes,
     ) -> Result<FrameWalk<'q>, AllocError> {
         Ok(FrameWalk {
-            lines,
+            lines: LineTable::new(lines),
             times,
             capture: CaptureReader::new(),
             unread: ReadBuffer::new(alloc)?,
@@ -64,7 +64,7 @@ impl<'q> FrameWalk<'q> {
                     let len = piece.len;
                     if let Some(frame) = &piece.frame {
                         self.time = frame.time.or(self.time);
-                        add_time(self.lines, self.times, frame, self.time);
+                        add_time(&self.lines, self.times, frame, self.time);
                     }
                     self.unread.advance(len);
                 }
@@ -79,9 +79,9 @@ impl<'q> FrameWalk<'q> {
 }
 
 /// Adds the time of a frame that carries a datagram to a line.
-fn add_time(lines: &[CapturedLine], times: &FrameTimes, frame: &Frame<'_>, time: Option<u64>) {
+fn add_time(lines: &LineTable<'_>, times: &FrameTimes, frame: &Frame<'_>, time: Option<u64>) {
     if let Ok(datagram) = read_datagram(frame.link, frame.bytes) {
-        if line_to(lines, &datagram).is_some() {
+        if lines.line_to(&datagram).is_some() {
             times.push(time);
         }
     }
