@@ -7,7 +7,7 @@ ghost use Rattle.live_feed.specs.feed.Feeds.{AreNamed, HasItsLane};
 pub(crate) mod log_size;
 mod making;
 pub(crate) mod open_feed;
-pub(crate) mod reading;
+mod reading;
 pub(crate) mod sharing;
 
 use crate::bells::Bells;

@@ -4,7 +4,6 @@
 ghost use Rattle.std.specs.Prelude.{◌≡◌, ◌≤◌, [], map, IfOk, IfErr, vec_len, vec_capacity};
 ghost use Rattle.live_feed.specs.run.Runs.{Pairwise, HasTaken, LineHasEnded, HasPolled};
 
-pub(crate) mod beside;
 mod consolidating;
 mod idle;
 pub(crate) mod line;

@@ -1,6 +1,6 @@
 -- `nbbo listen`: its settings, what it prints of what came, and how it ends. The texts are this
 -- project's own.
-use Rattle.std.specs.Prelude.{◌≡◌, ◌⊎◌, ℕ, ◌+◌, ◌%◌, ◌==◌, ◌||◌, Bool, false, List, [], ◌∷◌, ◌++◌, length, drop, flat_map, take, Option, Some, None, is_some, Result, Ok, Err, if◌then◌else◌, codes, decimal}
+use Rattle.std.specs.Prelude.{◌≡◌, ◌⊎◌, ℕ, ◌+◌, ◌%◌, ◌==◌, false, List, [], ◌∷◌, ◌++◌, length, flat_map, take, Option, Some, None, if◌then◌else◌, codes, decimal}
 use Rattle.feed_types.specs.declared.config.FeedConfig.{FeedConfig}
 use Rattle.feed_types.specs.declared.line.LineId.{LineId}
 use Rattle.feed_types.specs.declared.line.LineId.TheVariants.{A, B, Recovery}
@@ -9,12 +9,9 @@ use Rattle.feed_text.specs.Devices.{Writing, Wrote}
 use Rattle.feed_text.specs.Lines.{best_line, venue_line}
 use Rattle.live_feed.specs.declared.run.report.Stop.{Stop}
 use Rattle.live_feed.specs.declared.run.report.Stop.TheVariants as stops
-use Rattle.live_feed.specs.venue.Seats.{SeatState}
 use Rattle.live_feed.specs.settle.Settlements.{SettlementState, VenueEndState, SubscriberEndState}
 use Rattle.nbbo_main.specs.Runs.{Says}
 use Rattle.nbbo_main.specs.UdpLines.{UdpLineState}
-use Rattle.nbbo_main.specs.declared.desk.Following.{Following}
-use Rattle.nbbo_main.specs.declared.desk.Following.TheVariants.{On, Off, Failed}
 use Rattle.nbbo_main.specs.declared.lack.Lack.{Lack}
 use Rattle.nbbo_main.specs.declared.listen_settings.ListenSettings.{ListenSettings}
 use Rattle.nbbo_main.specs.declared.listening.ListenFault.{ListenFault}
@@ -33,11 +30,6 @@ pub record IsFeedOf (settings : ListenSettings) (config : FeedConfig) : Type 0 w
   pub journal : config.journal ≡ settings.journal
   pub log : config.log ≡ settings.journal
 
--- somebody is to be beside the run: to end it, or to print while it goes on
-abbrev pub is_attended : ListenSettings → Bool
-is_attended s =
-    ((is_some s.seconds || s.until_input_ends) || s.follow) || is_some s.stats
-
 -- the line reads datagrams for the venue, as many as the settings say
 pub record IsSourceOf (settings : ListenSettings) (venue : ℕ) (line : UdpLineState) : Type 0 where
   pub venue_is : line.venue ≡ venue
@@ -49,23 +41,13 @@ pub record IsSourceOf (settings : ListenSettings) (venue : ℕ) (line : UdpLineS
 abbrev pub line_at : ℕ → LineId
 line_at place = if place % 2 == 0 then A else B
 
--- ---- the lines at the end
-
--- the line of a seat, by its venue
-abbrev pub seat_line : SeatState → ℕ × LineId
-seat_line seat = (seat.venue, seat.line)
-
--- the line, where it is one of these
-abbrev pub line_if : Bool → ℕ × LineId → List (ℕ × LineId)
-line_if is_one line = if is_one then line ∷ [] else []
-
 -- ---- what is printed on the output
 
--- of a subscriber: the best lines of the notices that it took, after the first ones, which are
--- printed already, then of those that were still in its lane, and then of those that were not offered
-abbrev pub subscriber_lines : ℕ → SubscriberEndState → List ℕ
-subscriber_lines printed x =
-    flat_map (λ logged. best_line logged.notice) (drop printed x.log)
+-- of a subscriber: the best lines of the notices that it took, then of those that were still in its
+-- lane, and then of those that were not offered
+abbrev pub subscriber_lines : SubscriberEndState → List ℕ
+subscriber_lines x =
+    flat_map (λ logged. best_line logged.notice) x.log
     ++ (flat_map best_line x.queued ++ flat_map best_line x.unoffered)
 
 -- the last line of a venue: how many of its items were consumed, and how many numbers each line
@@ -78,12 +60,11 @@ abbrev pub end_lines : ℕ → List VenueEndState → List ℕ
 end_lines venue [] = []
 end_lines venue (v ∷ vs) = end_line venue v ++ end_lines (venue + 1) vs
 
--- the text of a feed that was settled: the lines of its first subscriber that aren't printed yet, and
--- then the last lines of its venues, of which it has 16 at most
-abbrev pub summary_text : ℕ → SettlementState → List ℕ
-summary_text printed s =
-    flat_map (λ x. subscriber_lines printed x) (take 1 s.subscribers)
-    ++ end_lines 0 (take 16 s.venues)
+-- the text of a feed that was settled: the lines of its first subscriber, and then the last lines
+-- of its venues, of which it has 16 at most
+abbrev pub summary_text : SettlementState → List ℕ
+summary_text s =
+    flat_map subscriber_lines (take 1 s.subscribers) ++ end_lines 0 (take 16 s.venues)
 
 -- ---- texts on standard error
 
@@ -156,14 +137,14 @@ report_status failed stopped = 1
 -- A report is printed: its texts are on standard error, and the summary on the output. Where that
 -- couldn't be written, standard error says so at the end.
 pub record PrintsReport {W E : Type 0} (writing : Writing W) (telling : Writing E)
-    (report : ListenReport) (printed : ℕ) (before after : W) (silent told : E) (status : ℕ) : Type 0 where
+    (report : ListenReport) (before after : W) (silent told : E) (status : ℕ) : Type 0 where
   pub said : E
   pub says : SaysEach telling (report_texts report) silent said
   pub prints :
-      (writing.adds before (summary_text printed report.settlement) after × (told ≡ said)
+      (writing.adds before (summary_text report.settlement) after × (told ≡ said)
       × (status ≡ report_status report.failed.items report.stopped))
       ⊎ ((after ≡ before) × Says telling (codes "nbbo: no memory\n") said told × (status ≡ 1))
-      ⊎ (Wrote writing.adds before (summary_text printed report.settlement) after
+      ⊎ (Wrote writing.adds before (summary_text report.settlement) after
       × (writing.failures after ≡ writing.failures before + 1)
       × Says telling (codes "nbbo: write failed\n") said told × (status ≡ 1))
 
@@ -171,32 +152,10 @@ abbrev pub listen_fault_text : ListenFault → List ℕ
 listen_fault_text NoMemory = codes "nbbo: no memory\n"
 listen_fault_text Unsettled = codes "nbbo: not settled\n"
 
--- A report is printed where the output has failed before: its texts are on standard error, and then
--- that the output failed.
-pub record PrintsFailedReport {E : Type 0} (telling : Writing E) (report : ListenReport)
-    (silent told : E) (status : ℕ) : Type 0 where
-  pub said : E
-  pub says : SaysEach telling (report_texts report) silent said
-  pub fails : Says telling (codes "nbbo: write failed\n") said told
-  pub ends : status ≡ 1
-
--- Listening ends with a report, which is printed after the best lines that were printed before, if the
--- output hasn't failed at these; or with none, which standard error says.
+-- Listening ends with a report, which is printed; or with none, which standard error says.
 abbrev pub Listens : {W E : Type 0} (writing : Writing W) (telling : Writing E)
-    (outcome : Result ListenReport ListenFault) (following : Following) (printed : ℕ)
     (before after : W) (silent told : E) → ℕ → Type 0
-Listens writing telling (Ok report) Failed printed before after silent told status =
-    (after ≡ before) × PrintsFailedReport telling report silent told status
-Listens writing telling (Ok report) On printed before after silent told status =
-    PrintsReport writing telling report printed before after silent told status
-Listens writing telling (Ok report) Off printed before after silent told status =
-    PrintsReport writing telling report printed before after silent told status
-Listens writing telling (Err fault) following printed before after silent told status =
-    (after ≡ before) × Says telling (listen_fault_text fault) silent told × (status ≡ 1)
-
--- Listening where nobody is beside the run ends in one of these ways.
-pub record ListensAlone {W E : Type 0} (writing : Writing W) (telling : Writing E)
-    (following : Following) (printed : ℕ) (before after : W) (silent told : E) (status : ℕ)
-    : Type 0 where
-  pub outcome : Result ListenReport ListenFault
-  pub ends : Listens writing telling outcome following printed before after silent told status
+Listens writing telling before after silent told status =
+    ((report : ListenReport) × PrintsReport writing telling report before after silent told status)
+    ⊎ ((fault : ListenFault) × (after ≡ before) × Says telling (listen_fault_text fault) silent told
+    × (status ≡ 1))

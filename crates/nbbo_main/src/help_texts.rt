@@ -299,8 +299,8 @@ Listens on the lines of live venues and prints what they came to.
 Each venue sends the same MoldUDP64 packets on two lines, A and B. Each line is received by UDP,
 in a thread of its own. What either line brings is put into one sequence, and the national best
 bid and offer of each symbol is kept. A line ends after an end of session, or after as many
-datagrams as --datagrams says; --seconds and --until-input-ends end all lines. Once they have
-ended, what changed is printed; with --follow each change is printed as it comes.";
+datagrams as --datagrams says. Once all lines have ended, what changed is printed, and not
+before.";
 
 /// The usage of `listen`.
 pub const LISTEN_USAGE: &str = "nbbo listen [OPTIONS] --sessions <LIST> --lines <LIST> [SYMBOL]...";
@@ -314,7 +314,7 @@ Example, one venue whose lines are received on two ports:
 
 /// The part of the long help after the options.
 pub const LISTEN_LINES: &str = "\
-Printed lines, once all lines have ended, the best lines with --follow before:
+Printed lines, once all lines have ended:
   best NOTICE POSITION SYMBOL BID OFFER STATE
                                  the journal's entry at POSITION has changed the national best bid
                                  or offer of the symbol. BID and OFFER are none or V:PRICExSIZE;
@@ -346,10 +346,8 @@ more are dropped while its thread waits for a processor. --buffer asks for more 
 says that the system allows no more, as root, beforehand:
   sysctl -w net.core.rmem_max=4194304
 
-A first interrupt from the keyboard ends the program at once, and nothing more is printed: what
-was taken is not kept. To have it printed, send each line an end of session; or have the
-interrupt end what the program reads, and not the program:
-  cat | (trap '' INT; nbbo listen --until-input-ends --sessions .. > best.txt)
+A first interrupt from the keyboard ends the program at once, and nothing is printed: what
+was taken is not kept. To have it printed, send each line an end of session.
 
 Status:
   0  all lines ended and what they came to was printed, or help was shown. Standard error says

@@ -1,14 +1,12 @@
 //! `nbbo listen`.
-ghost use Rattle.std.specs.Prelude.{◌≡◌, false};
+ghost use Rattle.std.specs.Prelude.{◌≡◌};
 ghost use Rattle.feed_text.specs.Devices.{Writing};
-ghost use Rattle.nbbo_main.specs.Listening.{Listens, ListensAlone, PrintsFailedReport, PrintsReport, is_attended, listen_fault_text, report_status};
+ghost use Rattle.nbbo_main.specs.Listening.{Listens, PrintsReport, listen_fault_text, report_status};
 ghost use Rattle.nbbo_main.specs.Runs.{Says};
 
-use crate::attendant::Attendant;
-use crate::desk::{Desk, Following};
 use crate::listen_lines::write_report_lines;
 use crate::listen_settings::ListenSettings;
-use crate::listening::{ListenFault, ListenReport, Listened, config_of, run_feed};
+use crate::listening::{ListenFault, ListenReport, config_of, run_feed};
 use crate::run::write_stderr;
 use crate::summary::summary_of;
 use feed_text::devices::TextOut;
@@ -25,9 +23,6 @@ use std::thread::Threads;
 
 /// The line on standard error where memory was refused.
 pub const NO_MEMORY: &str = "nbbo: no memory\n";
-
-/// The line on standard error where standard output can't be written.
-const WRITE_FAILED: &str = "nbbo: write failed\n";
 
 /// The status of the program after such a report: 0 where no line failed and nothing stopped the
 /// run early, else 1.
@@ -47,37 +42,26 @@ fn fail<E: TextOut>(text: &str, errors: &mut E) -> u8
     1
 }
 
-/// Prints the report of listening, after the best lines that were printed while it went on, and returns
-/// the status of the program.
+/// Prints the report of listening, and returns the status of the program.
 fn print_report<W: TextOut, E: TextOut>(
     alloc: Global,
     report: &ListenReport,
-    printed: usize,
     output: &mut W,
     errors: &mut E,
 ) -> u8
     ensures { PrintsReport
         (record { adds = W.adds; failures = W.failures })
         (record { adds = E.adds; failures = E.failures })
-        report.now printed output.old output.new errors.old errors.new result }
+        report.now output.old output.new errors.old errors.new result }
 {
     write_report_lines(report, errors);
-    let Ok(text) = summary_of(alloc, &report.settlement, printed) else {
+    let Ok(text) = summary_of(alloc, &report.settlement) else {
         return fail(NO_MEMORY, errors);
     };
     if write_all(text.as_slice(), output).is_err() {
-        return fail(WRITE_FAILED, errors);
+        return fail("nbbo: write failed\n", errors);
     }
     status_of(report.failed.as_slice(), report.stopped)
-}
-
-/// Prints the report of listening after the output has failed, and returns the status of the program.
-fn print_failed_report<E: TextOut>(report: &ListenReport, errors: &mut E) -> u8
-    ensures { PrintsFailedReport (record { adds = E.adds; failures = E.failures })
-        report.now errors.old errors.new result }
-{
-    write_report_lines(report, errors);
-    fail(WRITE_FAILED, errors)
 }
 
 /// The line for a fault.
@@ -90,40 +74,9 @@ fn fault_line(fault: ListenFault) -> &'static str
     }
 }
 
-/// Prints the end of listening, and returns the status of the program: 0, or 1 where a line failed, the
-/// run stopped early, or not all was printed.
-fn print_end<W: TextOut, E: TextOut>(
-    alloc: Global,
-    outcome: &Result<ListenReport, ListenFault>,
-    desk: &mut Desk<W, E>,
-) -> u8
-    ensures { Listens
-        (record { adds = W.adds; failures = W.failures })
-        (record { adds = E.adds; failures = E.failures })
-        outcome.now desk.old.following desk.old.printed
-        desk.old.output desk.new.output desk.old.errors desk.new.errors result }
-{
-    match outcome {
-        Ok(report) => {
-            if desk.following == Following::Failed {
-                print_failed_report(report, &mut desk.errors)
-            } else {
-                print_report(
-                    alloc,
-                    report,
-                    desk.printed,
-                    &mut desk.output,
-                    &mut desk.errors,
-                )
-            }
-        }
-        Err(fault) => fail(fault_line(*fault), &mut desk.errors),
-    }
-}
-
 /// Listens on these sockets, in the order of the settings' lines, until all have ended; then prints
-/// the report for a subscriber with these terms, and returns the status of the program, and the desk.
-/// Where the settings ask for it, the attendant is beside the run, and prints before.
+/// the report for a subscriber with these terms, and returns the status of the program: 0, or 1
+/// where a line failed, the run stopped early, or nothing was printed.
 pub fn listen_with<R, C, W, E>(
     rt: &R,
     clock: &C,
@@ -131,29 +84,24 @@ pub fn listen_with<R, C, W, E>(
     settings: &ListenSettings,
     sockets: Vec<UdpSocket>,
     terms: Terms,
-    attendant: Attendant<C>,
-    desk: Desk<W, E>,
-) -> (u8, Desk<W, E>)
+    output: &mut W,
+    errors: &mut E,
+) -> u8
 where
     R: Threads + Wait + Sync,
     C: Clock + Clone + Drop + Send,
-    W: TextOut + Drop + Send,
-    E: TextOut + Drop + Send,
-    ensures { is_attended settings.now ≡ false → ListensAlone
+    W: TextOut,
+    E: TextOut,
+    ensures { Listens
         (record { adds = W.adds; failures = W.failures })
         (record { adds = E.adds; failures = E.failures })
-        desk.following desk.printed
-        desk.output result.1.output desk.errors result.1.errors result.0 }
+        output.old output.new errors.old errors.new result }
 {
     let Ok(feed) = LiveFeed::<Anything>::new(alloc, &config_of(settings)) else {
-        let mut desk = desk;
-        let status = print_end(alloc, &Err(ListenFault::NoMemory), &mut desk);
-        return (status, desk);
+        return fail(NO_MEMORY, errors);
     };
-    let Listened { outcome, desk } = run_feed::<Brand, R, C, W, E>(
-        rt, alloc, feed, settings, sockets, terms, clock, attendant, desk,
-    );
-    let mut desk = desk;
-    let status = print_end(alloc, &outcome, &mut desk);
-    (status, desk)
+    match run_feed::<Brand, R, C>(rt, alloc, feed, settings, sockets, terms, clock) {
+        Ok(report) => print_report(alloc, &report, output, errors),
+        Err(fault) => fail(fault_line(fault), errors),
+    }
 }

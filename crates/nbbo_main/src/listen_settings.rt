@@ -25,14 +25,6 @@ pub struct ListenSettings {
     pub datagrams: u32,
     /// How many bytes a socket's buffer is asked for, if any number.
     pub buffer: Option<u32>,
-    /// After how many seconds all lines are ended, if after any number.
-    pub seconds: Option<u32>,
-    /// Whether all lines are ended when standard input ends.
-    pub until_input_ends: bool,
-    /// Whether the best lines are printed while the lines go on.
-    pub follow: bool,
-    /// Every how many seconds counts of each venue are told, if they are.
-    pub stats: Option<u32>,
     ghost some_venues: { 1 ≤ vec_len sessions },
     ghost few_venues: { vec_len sessions ≤ 16 },
     ghost two_lines_each: { vec_len lines ≡ 2 * vec_len sessions },
@@ -40,15 +32,4 @@ pub struct ListenSettings {
     ghost each_once: { IsDistinct bytes_eq symbols.items } by { IsDistinct-prop bytes_eq symbols.items },
     ghost some_window: { 1 ≤ window },
     ghost window_in_range: { window ≤ 65535 },
-}
-
-impl ListenSettings {
-    ghost use Rattle.nbbo_main.specs.Listening.{is_attended};
-
-    /// Whether somebody is to be beside the run: to end it, or to print while it goes on.
-    pub fn is_attended(&self) -> bool
-        ensures { result ≡ is_attended self.now }
-    {
-        self.seconds.is_some() || self.until_input_ends || self.follow || self.stats.is_some()
-    }
 }

@@ -8,9 +8,8 @@
 //! what its lines tell, counted (`capture_stats`).
 //!
 //! `nbbo listen --sessions LIST --lines LIST [--request ADDR] [--window N] [--journal N]
-//! [--datagrams N] [--buffer BYTES] [--seconds N] [--until-input-ends] [--follow] [--stats SECONDS] [SYMBOL]...`
-//! receives the lines of live venues by UDP, runs them as a live feed (`live_feed`), and prints what they came to: once
-//! all have ended, or with `--follow` as it comes.
+//! [--datagrams N] [--buffer BYTES] [SYMBOL]...` receives the lines of live venues by UDP, runs them as a live feed
+//! (`live_feed`), and prints what they came to once all have ended.
 //!
 //! The contract here is that of `run::run`: of any words, over any input, output and standard error,
 //! it says what is read, what is written where, and the status, or that the words ask to listen
@@ -19,44 +18,36 @@
 //! and the exit; and listening itself (`listen.rt`), which tests show.
 //!
 //! Begin with `run.rt`, then `specs/CommandLine.antt` and `command_line.rt`; `listen.rt` and
-//! `listening.rt` for live lines, and `attendant.rt` for what is done beside their run. `ending.rt` has the texts of faults.
+//! `listening.rt` for live lines. `ending.rt` has the texts of faults.
 #![tactic(auto)]
 
 ghost use Rattle.std.specs.Prelude.{◌≡◌, ◌≢◌, ◌<◌};
 ghost use Rattle.nbbo_main.specs.declared.refusal.Refusal.TheVariants.{NoMemory, NotText};
 
 mod addresses;
-mod attendant;
 mod best_format;
 mod best_runs;
 mod captured_lines;
 mod command_line;
 mod commands;
-mod desk;
-mod elapsed;
 mod ending;
 mod help_texts;
 mod hints;
-mod input_end;
 mod kept_start;
 mod lack;
-mod line_counts;
 mod line_replay_settings;
 mod line_runs;
 mod line_tasks;
 mod listen;
-mod listen_help;
 mod listen_lines;
 mod listen_settings;
 mod listening;
 mod refusal;
 mod replay_settings;
 mod run;
-mod run_end;
 mod sessions;
 mod socket_buffers;
 mod sockets;
-mod stats;
 mod stats_format;
 mod stats_runs;
 mod stats_settings;
@@ -65,10 +56,7 @@ mod summary;
 mod symbols;
 mod task;
 mod udp_line;
-mod venue_figures;
 
-use attendant::Attendant;
-use desk::{Desk, Following};
 use feed_text::count::Count;
 use feed_text::devices::{CaptureIn, TextOut};
 use feed_text::system::{StreamIn, StreamOut};
@@ -138,10 +126,10 @@ fn run_streams<H: Threads + Wait + Sync, C: Ledger, R: Ledger, W: Ledger, E: Led
     );
     let output: StreamOut<Stdout, W> = StreamOut::new(rt.stdout(), Count::new(of_writes));
     let mut errors: StreamOut<Stderr, E> = StreamOut::new(rt.stderr(), Count::new(of_errors));
-    let (next, output) = run_words(rt, KeptStart::new(input), output, &mut errors);
+    let (next, mut output) = run_words(rt, KeptStart::new(input), output, &mut errors);
     match next {
         Next::Ended(status) => status,
-        Next::Listens(settings) => listen_live(rt, threads, &settings, output, errors),
+        Next::Listens(settings) => { listen_live(rt, threads, &settings, &mut output, &mut errors) }
     }
 }
 
@@ -195,47 +183,35 @@ fn tell_sockets<E: TextOut>(
     Ok(())
 }
 
-/// Listens on the lines of the settings, and gives the status of the program.
-fn listen_live<H, W, E>(
+/// Listens on the lines of the settings.
+fn listen_live<H: Threads + Wait + Sync, W: TextOut, E: TextOut>(
     rt: &HostRuntime,
     threads: &H,
     settings: &ListenSettings,
-    output: W,
-    errors: E,
-) -> u8
-where
-    H: Threads + Wait + Sync,
-    W: TextOut + Drop + Send,
-    E: TextOut + Drop + Send,
-{
-    let mut errors = errors;
+    output: &mut W,
+    errors: &mut E,
+) -> u8 {
     let sockets = match bind_sockets(rt, rt.alloc(), settings.lines.as_slice()) {
         Ok(sockets) => sockets,
         Err(text) => {
-            write_stderr(text, &mut errors);
+            write_stderr(text, errors);
             return 1;
         }
     };
-    if tell_sockets(rt.alloc(), settings, sockets.as_slice(), &mut errors).is_err() {
-        write_stderr(NO_MEMORY, &mut errors);
+    if tell_sockets(rt.alloc(), settings, sockets.as_slice(), errors).is_err() {
+        write_stderr(NO_MEMORY, errors);
         return 1;
     }
-    let following = if settings.follow {
-        Following::On
-    } else {
-        Following::Off
-    };
-    let (status, _desk) = listen_with(
+    listen_with(
         threads,
         rt,
         rt.alloc(),
         settings,
         sockets,
         Terms::All,
-        Attendant::of(rt.alloc(), settings, rt.stdin(), *rt),
-        Desk::new(output, errors, following),
-    );
-    status
+        output,
+        errors,
+    )
 }
 
 fn main(rt: HostRuntime) -> ExitCode {

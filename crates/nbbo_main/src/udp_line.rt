@@ -6,7 +6,6 @@ ghost use Rattle.live_feed.specs.run.Runs.{failures_after};
 ghost use Rattle.nbbo_main.specs.UdpLines.{IsOver, SpellsEnd, failures_of, is_read_out};
 ghost use Rattle.live_feed.specs.declared.run.source.SourceFault.TheVariants.{NoMemory};
 
-use crate::line_counts::LineCounts;
 use feed_types::{Anything, VenueId};
 use live_feed::{Datagram, LineSource, SourceFault};
 use mold_packet::{Kind, Request, one_reading, read_packet, write_request};
@@ -44,8 +43,6 @@ pub struct UdpLine<C> {
     at_end: bool,
     /// What the socket has brought for the next call: a datagram, or why there is none.
     heard: Option<Result<Datagram, SourceFault>>,
-    /// What is counted, if anything is.
-    counts: Option<LineCounts>,
     alloc: Global,
     buffer: Vec<u8>,
 }
@@ -134,7 +131,7 @@ fn is_end(bytes: &[u8]) -> bool
 }
 
 /// The whole milliseconds of a time, 2^64 - 1 at most.
-pub fn millis(time: Duration) -> u64
+fn millis(time: Duration) -> u64
     ensures { result ≡ min (as_nanos time / 1_000_000) (2 ^ 64 - 1) }
 {
     let rest = u64::from(time.subsec_millis());
@@ -143,8 +140,7 @@ pub fn millis(time: Duration) -> u64
 
 impl<C: Drop> UdpLine<C> {
     /// The line of a venue that this socket receives, for so many datagrams at most. Requests go to
-    /// the address that is given for them, from the line's socket; else they are dropped. What it
-    /// brings is counted where counts are given.
+    /// the address that is given for them, from the line's socket; else they are dropped.
     ///
     /// The socket waits 100 ms for a datagram from now on. Where the system refuses that, it waits for ever, and so
     /// does a run that is to stop.
@@ -154,7 +150,6 @@ impl<C: Drop> UdpLine<C> {
         socket: UdpSocket,
         datagrams: u32,
         requests_to: Option<SocketAddr>,
-        counts: Option<LineCounts>,
         clock: C,
     ) -> Result<UdpLine<C>, AllocError>
         ensures venue { IfOk result (λ line. line.venue ≡ venue) }
@@ -173,7 +168,6 @@ impl<C: Drop> UdpLine<C> {
             broken: false,
             at_end: false,
             heard: None,
-            counts,
             alloc,
             buffer: vec![in alloc; 0; MAX_DATAGRAM]?,
         })
@@ -237,20 +231,6 @@ impl<C: Drop> UdpLine<C> {
         }
     }
 
-    /// Counts a datagram, where counts are given.
-    fn count(&self, datagram: &Datagram) {
-        if let Some(counts) = &self.counts {
-            counts.add_datagram(datagram.bytes());
-        }
-    }
-
-    /// Counts a request that was sent, where counts are given.
-    fn count_request(&self) {
-        if let Some(counts) = &self.counts {
-            counts.add_request();
-        }
-    }
-
     /// Whether the line has ended since it has read as many datagrams as it may.
     pub fn is_read_out(&self) -> bool
         ensures { result ≡ is_read_out self.now }
@@ -283,11 +263,7 @@ impl<C: Clock + Drop> LineSource<Anything> for UdpLine<C> {
     }
 
     fn next(&mut self) -> Result<Option<Datagram>, SourceFault> {
-        let answer = self.receive_next();
-        if let Ok(Some(datagram)) = &answer {
-            self.count(datagram);
-        }
-        answer
+        self.receive_next()
     }
 
     fn now_ms(&mut self) -> u64 {
@@ -306,10 +282,7 @@ impl<C: Clock + Drop> LineSource<Anything> for UdpLine<C> {
             return Ok(());
         }
         match send(&self.socket, &bytes, to) {
-            Ok(()) => {
-                self.count_request();
-                Ok(())
-            }
+            Ok(()) => Ok(()),
             Err(fault) => {
                 self.broken = true;
                 Err(fault)

@@ -9,7 +9,7 @@ use crate::faults::FeedFault;
 use crate::feed::open_feed::{Guarded, OpenFeed};
 use crate::feed_name::FeedName;
 use crate::hub::cell::HubCell;
-use crate::venue::locks::{VenueLocks, enter};
+use crate::venue::locks::enter;
 use crate::venue::status::VenueStatus;
 use feed_types::{Genuine, National, SymbolName, VenueId};
 use std::sync::Wait;
@@ -40,21 +40,6 @@ fn status_in<G: Genuine, N: FeedName>(
     Ok(VenueStatus::of(&guarded.cell, &guarded.refused))
 }
 
-/// The status of the venue at a moment of the call.
-fn status_at<G: Genuine, N: FeedName, W: Wait>(
-    rt: &W,
-    venues: &VenueLocks<G, N>,
-    venue: VenueId,
-) -> Result<VenueStatus, FeedFault>
-    ensures status { IsStatusOf G.Genuine N.lanes venue result }
-    ensures unknown { length N.lanes.venues ≤ venue → result ≡ Err FeedFault.UnknownVenue }
-{
-    let Some(lock) = venues.get(venue) else {
-        return Err(FeedFault::UnknownVenue);
-    };
-    status_in(&enter(rt, lock), venue)
-}
-
 impl<G: Genuine, N: FeedName> OpenFeed<G, N> {
     /// Returns the national best of the symbol after all entries that are journaled at a moment of
     /// the call; None exactly where the symbol isn't configured. Any thread may call it while the
@@ -67,35 +52,15 @@ impl<G: Genuine, N: FeedName> OpenFeed<G, N> {
         national_in(&self.hub.lock(rt), symbol)
     }
 
-    /// Returns what the venue has come to at a moment of the call, as `VenueReader::status` does.
-    pub fn status<W: Wait>(&self, rt: &W, venue: VenueId) -> Result<VenueStatus, FeedFault>
-        ensures status { IsStatusOf G.Genuine N.lanes venue result }
-        ensures unknown { length N.lanes.venues ≤ venue → result ≡ Err FeedFault.UnknownVenue }
-    {
-        status_at(rt, &self.venues, venue)
-    }
-
-    /// Returns a reader of the venues, which another thread may have while the feed runs.
-    pub fn venue_reader(&self) -> VenueReader<'_, G, N> {
-        VenueReader {
-            venues: &self.venues,
-        }
-    }
-}
-
-/// What is read of the venues of an open feed, by a thread beside its run.
-#[derive(Drop)]
-pub struct VenueReader<'f, G: Genuine, N: FeedName> {
-    venues: &'f VenueLocks<G, N>,
-}
-
-impl<G: Genuine, N: FeedName> VenueReader<'_, G, N> {
     /// Returns what the venue has come to at a moment of the call, all read under its lock taken
-    /// once; UnknownVenue where there is no such venue.
+    /// once; UnknownVenue where there is no such venue. Any thread may call it while the feed runs.
     pub fn status<W: Wait>(&self, rt: &W, venue: VenueId) -> Result<VenueStatus, FeedFault>
         ensures status { IsStatusOf G.Genuine N.lanes venue result }
         ensures unknown { length N.lanes.venues ≤ venue → result ≡ Err FeedFault.UnknownVenue }
     {
-        status_at(rt, self.venues, venue)
+        let Some(lock) = self.venues.get(venue) else {
+            return Err(FeedFault::UnknownVenue);
+        };
+        status_in(&enter(rt, lock), venue)
     }
 }
