@@ -9,6 +9,10 @@
 //! `specs/Lines.antt` and `specs/Rows.antt`: a filter, then a map). After [`BestsOut::finish`] all of it
 //! was passed on, unless the other writer failed: its clause `passed` says so of any text.
 //!
+//! Rows may have times: a [`TimesIn`] reads a packet capture along and adds the time of each frame to
+//! [`FrameTimes`], from which a [`BestsOut::with_times`] takes one at each packet line. The contract says
+//! that each row has some time or none; which one is tested, not proved.
+//!
 //! Begin at `bests_out.rt`.
 #![tactic(auto)]
 
