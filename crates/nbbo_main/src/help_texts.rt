@@ -5,8 +5,8 @@ pub const ABOUT: &str = "\
 Brings the redundant lines of each venue's MoldUDP64 feed into one sequence, and keeps the
 national best bid and offer of each symbol";
 
-/// The program's version, and the kit that it is proved with.
-pub const VERSION: &str = "0.1.0\nproved with rattle-kit-13b logic dac8208d650f15bf";
+/// The program's version, and the sum of the logic that it is proved with, which a kit's version ends with.
+pub const VERSION: &str = "0.1.0\nproved with the logic dac8208d650f15bf";
 
 /// The usage of `replay`.
 pub const REPLAY_USAGE: &str = "nbbo replay [OPTIONS] --sessions <LIST> [SYMBOL]... < CAPTURE";

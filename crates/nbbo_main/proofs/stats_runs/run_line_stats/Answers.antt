@@ -31,7 +31,7 @@ counts_whole : {R W : Type 0} (reading : Reading R) (writing : Writing W)
     → PrintsTimedStats writing mid format before after printed → outcome ≡ lines_ended_by seen printed
     → (done : Unit {0}) → outcome ≡ Ok done
     → WroteCaptureText reading writing config lines (counts_texts config format)
-      (timed_reader along) (timed_reader to) before after point
+    (timed_reader along) (timed_reader to) before after point
 counts_whole reading writing config lines format along to start mid before after point (Ok read) (Ok wrote)
     outcome new run prints ends done ok = record {
       calls = run.calls;
