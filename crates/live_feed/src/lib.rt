@@ -39,7 +39,6 @@ mod venue;
 pub use faults::{FeedFault, RenewalFault, SettleFault, TakeFault};
 pub use feed::LiveFeed;
 pub use feed::open_feed::OpenFeed;
-pub use feed::reading::VenueReader;
 pub use feed_name::FeedName;
 pub use hub::cell::HubCell;
 pub use hub::journal_and_lanes::JournalAndLanes;
@@ -48,8 +47,9 @@ pub use hub::turn::Consolidated;
 pub use laws::{
     journaled_items_are_the_sessions, sent_items_are_the_sessions, settled_items_are_the_sessions,
 };
-pub use run::beside::RunProgress;
+pub use run::beside::BesideRun;
 pub use run::line::{Line, LineEnd};
+pub use run::live_run::LiveRun;
 pub use run::report::{RunReport, Stop};
 pub use run::source::{LineSource, SourceFault};
 pub use run::stop_handle::StopHandle;

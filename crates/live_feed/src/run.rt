@@ -10,6 +10,7 @@ mod idle;
 pub(crate) mod line;
 mod line_threads;
 mod line_work;
+pub(crate) mod live_run;
 pub(crate) mod report;
 mod signals;
 pub(crate) mod source;

@@ -4,6 +4,7 @@ mod Listing
 mod Naming
 pub mod Reporting
 pub mod Seeing
+pub mod Following
 mod Spelling
 pub mod CapturedLists
 pub mod CaptureCounts

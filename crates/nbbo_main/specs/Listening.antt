@@ -1,6 +1,6 @@
 -- `nbbo listen`: its settings, what it prints of what came, and how it ends. The texts are this
 -- project's own.
-use Rattle.std.specs.Prelude.{◌≡◌, ◌⊎◌, ℕ, ◌+◌, ◌%◌, ◌==◌, ◌||◌, Bool, false, List, [], ◌∷◌, ◌++◌, length, drop, flat_map, take, Option, Some, None, is_some, Result, Ok, Err, if◌then◌else◌, codes, decimal}
+use Rattle.std.specs.Prelude.{◌≡◌, ◌⊎◌, ℕ, ◌+◌, ◌≤◌, ◌%◌, ◌==◌, ◌||◌, Bool, false, List, [], ◌∷◌, ◌++◌, length, drop, flat_map, take, Option, Some, None, is_some, Result, Ok, Err, if◌then◌else◌, codes, decimal}
 use Rattle.feed_types.specs.declared.config.FeedConfig.{FeedConfig}
 use Rattle.feed_types.specs.declared.line.LineId.{LineId}
 use Rattle.feed_types.specs.declared.line.LineId.TheVariants.{A, B, Recovery}
@@ -9,6 +9,7 @@ use Rattle.feed_text.specs.Devices.{Writing, Wrote}
 use Rattle.feed_text.specs.Lines.{best_line, venue_line}
 use Rattle.live_feed.specs.declared.run.report.Stop.{Stop}
 use Rattle.live_feed.specs.declared.run.report.Stop.TheVariants as stops
+use Rattle.live_feed.specs.declared.subscriber.logged.Logged.{Logged}
 use Rattle.live_feed.specs.venue.Seats.{SeatState}
 use Rattle.live_feed.specs.settle.Settlements.{SettlementState, VenueEndState, SubscriberEndState}
 use Rattle.nbbo_main.specs.Runs.{Says}
@@ -61,11 +62,15 @@ line_if is_one line = if is_one then line ∷ [] else []
 
 -- ---- what is printed on the output
 
+-- the best lines of the notices of a log
+abbrev pub log_lines : List Logged → List ℕ
+log_lines log = flat_map (λ logged. best_line logged.notice) log
+
 -- of a subscriber: the best lines of the notices that it took, after the first ones, which are
 -- printed already, then of those that were still in its lane, and then of those that were not offered
 abbrev pub subscriber_lines : ℕ → SubscriberEndState → List ℕ
 subscriber_lines printed x =
-    flat_map (λ logged. best_line logged.notice) (drop printed x.log)
+    log_lines (drop printed x.log)
     ++ (flat_map best_line x.queued ++ flat_map best_line x.unoffered)
 
 -- the last line of a venue: how many of its items were consumed, and how many numbers each line
@@ -84,6 +89,35 @@ abbrev pub summary_text : ℕ → SettlementState → List ℕ
 summary_text printed s =
     flat_map (λ x. subscriber_lines printed x) (take 1 s.subscribers)
     ++ end_lines 0 (take 16 s.venues)
+
+-- ---- what is printed while a run goes on
+
+-- the log's lines of a subscriber, if there is one
+abbrev pub followed_lines : {S : Type 0} → (S → List Logged) → Option S → List Logged
+followed_lines lines None = []
+followed_lines lines (Some s) = lines s
+
+-- the log's lines of the first subscriber, if there is one
+abbrev pub first_lines : {S : Type 0} → (S → List Logged) → List S → List Logged
+first_lines lines [] = []
+first_lines lines (s ∷ more) = lines s
+
+-- From this output on the best lines of the log's first notices were written, as many as are counted,
+-- and no call failed.
+pub record HasPrinted {W : Type 0} (writing : Writing W) (first : W) (log : List Logged)
+    (printed : ℕ) (now : W) : Type 0 where
+  pub few : printed ≤ length log
+  pub lines : writing.adds first (log_lines (take printed log)) now
+  pub sound : writing.failures now ≡ writing.failures first
+
+-- The same, or where the output has failed a part of the log's best lines, by calls of which the last
+-- one failed.
+abbrev pub HasFollowed : {W : Type 0} → Writing W → W → List Logged → Following → ℕ → W → Type 0
+HasFollowed writing first log On printed now = HasPrinted writing first log printed now
+HasFollowed writing first log Off printed now = HasPrinted writing first log printed now
+HasFollowed writing first log Failed printed now =
+    Wrote writing.adds first (log_lines log) now
+    × (writing.failures now ≡ writing.failures first + 1)
 
 -- ---- texts on standard error
 
@@ -200,3 +234,37 @@ pub record ListensAlone {W E : Type 0} (writing : Writing W) (telling : Writing 
     : Type 0 where
   pub outcome : Result ListenReport ListenFault
   pub ends : Listens writing telling outcome following printed before after silent told status
+
+-- A report is printed, and all that its lines came to, from the beginning of the run on: its texts
+-- are on standard error, and the whole summary on the output, or a part of it where memory is refused
+-- or the output fails, which standard error says at the end.
+pub record PrintsAll {W E : Type 0} (writing : Writing W) (telling : Writing E)
+    (report : ListenReport) (before after : W) (silent told : E) (status : ℕ) : Type 0 where
+  pub said : E
+  pub says : SaysEach telling (report_texts report) silent said
+  pub prints :
+      (writing.adds before (summary_text 0 report.settlement) after × (told ≡ said)
+      × (status ≡ report_status report.failed.items report.stopped))
+      ⊎ (Wrote writing.adds before (summary_text 0 report.settlement) after
+      × Says telling (codes "nbbo: no memory\n") said told × (status ≡ 1))
+      ⊎ (Wrote writing.adds before (summary_text 0 report.settlement) after
+      × (writing.failures after ≡ writing.failures before + 1)
+      × Says telling (codes "nbbo: write failed\n") said told × (status ≡ 1))
+
+-- Listening ends with a report, of which all is printed; or with none, which standard error says,
+-- and then the best lines of a log or a part of them are printed.
+abbrev pub ListensToEnd : {W E : Type 0} (writing : Writing W) (telling : Writing E)
+    (outcome : Result ListenReport ListenFault) (before after : W) (silent told : E) → ℕ → Type 0
+ListensToEnd writing telling (Ok report) before after silent told status =
+    PrintsAll writing telling report before after silent told status
+ListensToEnd writing telling (Err fault) before after silent told status =
+    ((log : List Logged) × Wrote writing.adds before (log_lines log) after)
+    × Says telling (listen_fault_text fault) silent told × (status ≡ 1)
+
+-- However it is asked to end and to print, listening ends in one of these ways, after whatever lines
+-- of counts standard error has then.
+pub record ListensAnyway {W E : Type 0} (writing : Writing W) (telling : Writing E)
+    (before after : W) (told : E) (status : ℕ) : Type 0 where
+  pub outcome : Result ListenReport ListenFault
+  pub silent : E
+  pub ends : ListensToEnd writing telling outcome before after silent told status

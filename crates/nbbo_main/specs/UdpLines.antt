@@ -1,5 +1,5 @@
 -- A line that is received by UDP, as contracts see it.
-use Rattle.std.specs.Prelude.{◌≡◌, ◌⊎◌, ℕ, ◌==◌, ◌&&◌, not, Bool, true, false, List}
+use Rattle.std.specs.Prelude.{◌≡◌, ◌⊎◌, ℕ, ◌==◌, ◌&&◌, not, Bool, true, false, List, length}
 use Rattle.mold_packet.specs.Content.{Content, Spells}
 use Rattle.mold_packet.specs.declared.packet.Kind.TheVariants.{End}
 
@@ -30,3 +30,9 @@ pub record SpellsEnd (bytes : List ℕ) : Type 0 where
   pub rest : List ℕ
   pub spells : Spells bytes packet rest
   pub is : packet.kind ≡ End
+
+-- as many messages as the packet has that the bytes spell, or none where they spell none
+pub record HasMessages (bytes : List ℕ) (count : ℕ) : Type 0 where
+  pub of_packet : (packet : Content) (rest : List ℕ) → Spells bytes packet rest
+      → count ≡ length packet.messages
+  pub of_none : ((packet : Content) (rest : List ℕ) → Spells bytes packet rest → ⊥) → count ≡ 0

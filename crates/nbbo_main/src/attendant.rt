@@ -1,15 +1,18 @@
 //! What is done beside a run: its end from outside, and what is printed while it goes on.
+ghost use Rattle.std.specs.Prelude.{◌≡◌};
+ghost use Rattle.nbbo_main.specs.Listening.{HasFollowed, followed_lines};
 
 use crate::desk::{Desk, Following};
 use crate::elapsed::Elapsed;
+use crate::line_counts::LineCounts;
 use crate::listen_settings::ListenSettings;
+use crate::listen_stats::ListenStats;
 use crate::run_end::RunEnd;
-use crate::stats::Stats;
 use feed_text::devices::TextOut;
 use feed_text::page::LineBuffer;
-use feed_types::{Notice, VenueId};
-use live_feed::{RunProgress, StopHandle, VenueStatus};
-use std::alloc::Global;
+use feed_types::Anything;
+use live_feed::{FeedName, LiveRun, Subscriber};
+use std::alloc::{AllocError, Global};
 use std::io::Stdin;
 use std::sync::Wait;
 use std::time::Clock;
@@ -29,40 +32,90 @@ pub struct Attendant<C> {
     elapsed: Elapsed<C>,
     end: RunEnd,
     text: LineBuffer,
-    stats: Option<Stats>,
+    stats: Option<ListenStats>,
 }
 
-impl<C: Clock> Attendant<C> {
+/// What is left once a run with an attendant is over.
+#[derive(Drop)]
+pub struct Attended<N: FeedName, W, E> {
+    /// The subscriber that the attendant polled, if it was given one.
+    pub followed: Option<Subscriber<N>>,
+    /// Where the program prints.
+    pub desk: Desk<W, E>,
+    /// Whether the run began while the attendant was there.
+    pub has_begun: bool,
+}
+
+impl<C: Clock + Drop> Attendant<C> {
     /// The attendant that the settings ask for, of a run that begins now.
-    pub fn of(alloc: Global, settings: &ListenSettings, input: Stdin, clock: C) -> Attendant<C> {
-        Attendant {
+    pub fn of(
+        alloc: Global,
+        settings: &ListenSettings,
+        input: Stdin,
+        clock: C,
+    ) -> Result<Attendant<C>, AllocError> {
+        let stats = match settings.stats {
+            Some(seconds) => Some(ListenStats::new(alloc, seconds, settings.lines.len())?),
+            None => None,
+        };
+        Ok(Attendant {
             elapsed: Elapsed::new(clock),
             end: RunEnd::of(settings, input),
             text: LineBuffer::new(alloc),
-            stats: None,
-        }
-    }
-
-    /// The same attendant, who also tells counts where these are given.
-    pub fn with_stats(self, stats: Option<Stats>) -> Attendant<C> {
-        let Attendant {
-            elapsed,
-            end,
-            text,
-            stats: _,
-        } = self;
-        Attendant {
-            elapsed,
-            end,
-            text,
             stats,
+        })
+    }
+
+    /// The clock.
+    pub fn clock(&self) -> &C {
+        self.elapsed.clock()
+    }
+
+    /// The counts for the source of the line at this place; None where nothing is counted.
+    pub fn counts_at(&self, place: usize) -> Result<Option<LineCounts>, AllocError> {
+        match &self.stats {
+            Some(stats) => stats.counts_at(place),
+            None => Ok(None),
         }
     }
 
-    /// Waits until the run has begun, at most some seconds, and returns whether it has.
-    fn await_begin(&self, progress: &RunProgress) -> bool {
+    /// Is beside the run until it is over: stops it where it is to end from outside, or where the
+    /// output fails; has the desk follow the subscriber, if there is one; and tells counts where the
+    /// settings ask for them. Where the run hasn't begun after some seconds, it is stopped before.
+    pub fn attend<N: FeedName, R: Wait, W: TextOut, E: TextOut>(
+        self,
+        rt: &R,
+        run: &LiveRun<'_, Anything, N>,
+        followed: Option<Subscriber<N>>,
+        desk: Desk<W, E>,
+    ) -> Attended<N, W, E>
+        ensures { (first : W) → HasFollowed (record { adds = W.adds; failures = W.failures })
+            first (followed_lines (λ s. s.log.lines) followed)
+            desk.following desk.printed desk.output
+            → HasFollowed (record { adds = W.adds; failures = W.failures })
+            first (followed_lines (λ s. s.log.lines) result.followed)
+            result.desk.following result.desk.printed result.desk.output }
+    {
+        let mut attendant = self;
+        let mut followed = followed;
+        let mut desk = desk;
+        let has_begun = attendant.await_begin(run);
+        if has_begun {
+            attendant.look_on(rt, run, &mut followed, &mut desk);
+        } else {
+            run.stop();
+        }
+        Attended {
+            followed,
+            desk,
+            has_begun,
+        }
+    }
+
+    /// Waits until the run has begun, some seconds at most, and returns whether it has.
+    fn await_begin<N: FeedName>(&self, run: &LiveRun<'_, Anything, N>) -> bool {
         for _ in 0..BEGIN_LOOKS {
-            if progress.has_begun() {
+            if run.has_begun() {
                 return true;
             }
             self.elapsed.sleep(1);
@@ -70,50 +123,59 @@ impl<C: Clock> Attendant<C> {
         false
     }
 
-    /// Prints what `poll` gives, tells counts by the venues' status, and stops the run where it is to end,
-    /// until it is over and nothing more is polled. Where the output fails the run is to end, too. Returns false where no
-    /// thread for the run was there after some seconds: it is stopped then before it begins.
-    pub fn attend<R, P, S, W, E>(
+    /// Looks at the run again and again until it is over and nothing more is printed.
+    fn look_on<N: FeedName, R: Wait, W: TextOut, E: TextOut>(
         &mut self,
         rt: &R,
-        stop: &StopHandle,
-        progress: &RunProgress,
-        poll: &mut P,
-        status: &S,
+        run: &LiveRun<'_, Anything, N>,
+        followed: &mut Option<Subscriber<N>>,
         desk: &mut Desk<W, E>,
-    ) -> bool
-    where
-        R: Wait,
-        P: FnMut() -> Option<Notice>,
-        S: Fn(VenueId) -> Option<VenueStatus>,
-        W: TextOut,
-        E: TextOut,
-        requires poll { (f : _) → P.pre f }
-        requires status { S.IsAlwaysCallable status.now }
+    )
+        ensures { (first : W) → HasFollowed (record { adds = W.adds; failures = W.failures })
+            first (followed_lines (λ s. s.log.lines) followed.old)
+            desk.old.following desk.old.printed desk.old.output
+            → HasFollowed (record { adds = W.adds; failures = W.failures })
+            first (followed_lines (λ s. s.log.lines) followed.new)
+            desk.new.following desk.new.printed desk.new.output }
     {
-        if !self.await_begin(progress) {
-            stop.stop();
-            return false;
-        }
         for _ in rt.forever() {
-            let is_last = progress.is_over();
-            let has_printed = desk.follow(&mut self.text, poll);
+            let is_last = run.is_over();
+            let has_printed = self.follow(rt, followed, desk);
             if is_last && !has_printed {
                 break;
             }
             if self.end.is_due(&self.elapsed) || desk.following == Following::Failed {
-                stop.stop();
+                run.stop();
             }
             if let Some(stats) = &mut self.stats {
-                stats.tell(self.elapsed.ms(), status, &mut desk.errors);
+                stats.tell(rt, run, self.elapsed.ms(), &mut desk.errors);
             }
             let most = self.most_ms(has_printed, desk.following);
             self.end.wait(&mut self.elapsed, most);
         }
         if let Some(stats) = &self.stats {
-            stats.tell_all(status, &mut desk.errors);
+            stats.tell_all(rt, run, &mut desk.errors);
         }
-        true
+    }
+
+    /// Has the desk follow the subscriber, if there is one, and returns whether it has printed anything.
+    fn follow<N: FeedName, R: Wait, W: TextOut, E>(
+        &mut self,
+        rt: &R,
+        followed: &mut Option<Subscriber<N>>,
+        desk: &mut Desk<W, E>,
+    ) -> bool
+        ensures { (first : W) → HasFollowed (record { adds = W.adds; failures = W.failures })
+            first (followed_lines (λ s. s.log.lines) followed.old)
+            desk.old.following desk.old.printed desk.old.output
+            → HasFollowed (record { adds = W.adds; failures = W.failures })
+            first (followed_lines (λ s. s.log.lines) followed.new)
+            desk.new.following desk.new.printed desk.new.output }
+    {
+        match followed {
+            Some(subscriber) => desk.follow(rt, &mut self.text, subscriber),
+            None => false,
+        }
     }
 
     /// How long to wait at most until the next look: not where more may be printed at once, and not past

@@ -1,12 +1,16 @@
 //! Where the program prints while a run goes on.
+ghost use Rattle.std.specs.Prelude.{◌≡◌, ◌≢◌};
+ghost use Rattle.feed_types.specs.Prefix.{IsPrefix};
+ghost use Rattle.nbbo_main.specs.Listening.{HasFollowed};
 
+use crate::summary::{put_log, unprinted};
 use feed_text::devices::TextOut;
-use feed_text::lines::put_best;
 use feed_text::output::write_all;
 use feed_text::page::LineBuffer;
-use feed_types::Notice;
+use live_feed::{FeedName, Subscriber};
+use std::sync::Wait;
 
-/// The most notices whose lines are written by one call.
+/// The most notices that are taken before their lines are written.
 const MOST: usize = 1_024;
 
 /// Whether lines are printed while a run goes on.
@@ -30,9 +34,28 @@ pub struct Desk<W, E> {
     pub printed: usize,
 }
 
+/// Takes the notices that the subscriber is offered, 1,024 at most.
+fn poll_some<N: FeedName, R: Wait>(rt: &R, subscriber: &mut Subscriber<N>)
+    ensures { IsPrefix subscriber.old.log.lines subscriber.new.log.lines }
+{
+    for _ in 0..MOST {
+        match subscriber.poll(rt) {
+            Ok(Some(_)) => {}
+            _ => break,
+        }
+    }
+}
+
 impl<W: TextOut, E> Desk<W, E> {
     /// Where nothing was printed yet.
-    pub fn new(output: W, errors: E, following: Following) -> Desk<W, E> {
+    pub fn new(output: W, errors: E, following: Following) -> Desk<W, E>
+        ensures { result ≡ record {
+          output = output;
+          errors = errors;
+          following = following;
+          printed = 0;
+        } }
+    {
         Desk {
             output,
             errors,
@@ -41,41 +64,41 @@ impl<W: TextOut, E> Desk<W, E> {
         }
     }
 
-    /// Writes the text of best lines.
-    fn write_lines(&mut self, text: &[u8], lines: usize) {
-        match write_all(text, &mut self.output) {
-            Ok(()) => self.printed = self.printed.saturating_add(lines),
-            Err(_) => self.following = Following::Failed,
-        }
-    }
-
-    /// Prints the best lines of the notices that `poll` gives, at most 1,024, and returns whether there
-    /// were any. Nothing is polled unless lines are printed while the run goes on.
-    pub fn follow<P: FnMut() -> Option<Notice>>(
+    /// Polls the subscriber, and prints the best lines of its log that aren't printed yet; returns
+    /// whether there were any. Where lines aren't printed while the run goes on nothing is polled.
+    ///
+    /// Where memory for the lines is refused they are printed at the end, with all that follow.
+    pub fn follow<N: FeedName, R: Wait>(
         &mut self,
+        rt: &R,
         text: &mut LineBuffer,
-        poll: &mut P,
+        subscriber: &mut Subscriber<N>,
     ) -> bool
-        requires { (f : _) → P.pre f }
+        ensures log { IsPrefix subscriber.old.log.lines subscriber.new.log.lines }
+        ensures shows { (first : W) → HasFollowed (record { adds = W.adds; failures = W.failures })
+            first subscriber.old.log.lines self.old.following self.old.printed self.old.output
+            → HasFollowed (record { adds = W.adds; failures = W.failures })
+            first subscriber.new.log.lines self.new.following self.new.printed self.new.output }
+        ensures errors { self.new.errors ≡ self.old.errors }
     {
         if self.following != Following::On {
             return false;
         }
+        poll_some(rt, subscriber);
+        let log = subscriber.log();
+        let lines = unprinted(log, self.printed);
+        if lines.is_empty() {
+            return false;
+        }
         text.clear();
-        let mut lines = 0usize;
-        for _ in 0..MOST {
-            let Some(notice) = poll() else {
-                break;
-            };
-            if put_best(text, &notice).is_err() {
-                self.following = Following::Off;
-                break;
-            }
-            lines = lines.saturating_add(1);
+        if put_log(text, lines).is_err() {
+            self.following = Following::Off;
+            return false;
         }
-        if lines > 0 {
-            self.write_lines(text.as_slice(), lines);
+        match write_all(text.as_slice(), &mut self.output) {
+            Ok(()) => self.printed = log.len(),
+            Err(_) => self.following = Following::Failed,
         }
-        lines > 0
+        true
     }
 }

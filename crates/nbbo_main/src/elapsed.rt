@@ -27,6 +27,11 @@ impl<C: Clock> Elapsed<C> {
         }
     }
 
+    /// The clock.
+    pub fn clock(&self) -> &C {
+        &self.clock
+    }
+
     /// The milliseconds that have passed.
     pub fn ms(&self) -> u64 {
         self.passed_ms

@@ -1,6 +1,5 @@
 //! The counts of a line's source, which another thread reads while a run goes on.
 
-use mold_packet::{one_reading, read_packet};
 use std::alloc::{AllocError, Global};
 use std::sync::Arc;
 use std::sync::atomic::{AtomicU64, Ordering};
@@ -32,21 +31,19 @@ impl LineCounts {
         })
     }
 
-    /// The same counts, for another thread.
+    /// The same counts, for another thread. AllocError where they can't be shared any further.
     pub fn share(&self) -> Result<LineCounts, AllocError> {
         Ok(LineCounts {
             cells: Arc::try_clone(&self.cells)?,
         })
     }
 
-    /// Counts a datagram, and its messages where it is a packet.
-    pub fn add_datagram(&self, bytes: &[u8]) {
-        one_reading();
+    /// Counts a datagram and its messages.
+    pub fn add_datagram(&self, messages: u16) {
         self.cells.datagrams.fetch_add(1, Ordering::SeqCst);
-        if let Ok(packet) = read_packet(bytes) {
-            let messages = u64::from(packet.count());
-            self.cells.messages.fetch_add(messages, Ordering::SeqCst);
-        }
+        self.cells
+            .messages
+            .fetch_add(u64::from(messages), Ordering::SeqCst);
     }
 
     /// Counts a request that was sent.
@@ -59,7 +56,7 @@ impl LineCounts {
         self.cells.datagrams.load(Ordering::SeqCst)
     }
 
-    /// The number of messages in the datagrams that are packets.
+    /// The number of messages in them.
     pub fn messages(&self) -> u64 {
         self.cells.messages.load(Ordering::SeqCst)
     }

@@ -126,7 +126,6 @@ fn print_end<W: TextOut, E: TextOut>(
 /// Where the settings ask for it, the attendant is beside the run, and prints before.
 pub fn listen_with<R, C, W, E>(
     rt: &R,
-    clock: &C,
     alloc: Global,
     settings: &ListenSettings,
     sockets: Vec<UdpSocket>,
@@ -151,7 +150,7 @@ where
         return (status, desk);
     };
     let Listened { outcome, desk } = run_feed::<Brand, R, C, W, E>(
-        rt, alloc, feed, settings, sockets, terms, clock, attendant, desk,
+        rt, alloc, feed, settings, sockets, terms, attendant, desk,
     );
     let mut desk = desk;
     let status = print_end(alloc, &outcome, &mut desk);

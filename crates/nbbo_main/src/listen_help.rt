@@ -17,10 +17,11 @@ lines are ended";
 
 pub const STATS_HELP: &str = "\
 Every how many seconds standard error has a line of counts for each venue, 1 to
-4294967295, and at the end one for the whole run ('in all'):
+4294967295, and at the end one for the whole run ('in all' in place of 'second N'):
   nbbo: second N venue V sent S known K lacks L requests R A packets P messages M new W
-  refused X B ..
+  refused X NUMBER:COUNT .. B packets ..
 S is the number of the last item in sequence, K how far the session is known to go, and L
 how many messages of the first gap are missing. Since the line before, R requests were
-sent, and line A, or B, brought P datagrams with M messages; W of these came first on it,
-and X datagrams were refused";
+sent, and line A, or B, brought P packets with M messages. W of these came first on it;
+the others were repeated, refused or ahead of the window. X packets were refused, COUNT
+of them by the refusal of this NUMBER, which docs/REFUSALS.md explains";

@@ -1,21 +1,20 @@
 //! Listening on live lines, until all have ended.
-ghost use Rattle.std.specs.Prelude.{◌≡◌, ◌/◌, ◌≤◌, ◌++◌, ◌∷◌, [], IfOk, OnErr, OnOk, false, flat_map, is_some, map};
-ghost use Rattle.nbbo_main.specs.Listening.{IsFeedOf, IsSourceOf, is_attended, line_at, line_if, seat_line};
-ghost use Rattle.nbbo_main.specs.UdpLines.{is_read_out};
+ghost use Rattle.std.specs.Prelude.{◌≡◌, Err, false};
+ghost use Rattle.nbbo_main.specs.Listening.{IsFeedOf, is_attended};
 
-use crate::attendant::Attendant;
-use crate::desk::Desk;
+use crate::attendant::{Attendant, Attended};
+use crate::desk::{Desk, Following};
+use crate::ended_lines::part_lines;
+use crate::feed_lines::lines_over;
 use crate::lack::Lack;
-use crate::line_counts::LineCounts;
 use crate::listen_settings::ListenSettings;
-use crate::stats::Stats;
 use crate::udp_line::UdpLine;
 use feed_text::devices::TextOut;
 use feed_types::{Anything, FeedConfig, LineId, VenueId};
 use filter_terms::{Filter, Strategy, Terms};
 use live_feed::{
-    FeedName, Line, LineEnd, LineSeat, LiveFeed, RunProgress, RunReport, SettleFault, Settlement,
-    Stop,
+    FeedName, Line, LiveFeed, LiveRun, OpenFeed, RunReport, SettleFault, Settlement, Stop,
+    Subscriber,
 };
 use std::alloc::{AllocError, Global};
 use std::net::UdpSocket;
@@ -70,149 +69,157 @@ pub fn config_of(settings: &ListenSettings) -> FeedConfig<'_>
     }
 }
 
-/// The venue and the line at a place of the settings, of which there are 32 at most.
-fn place_of(place: usize) -> Result<(VenueId, LineId), ListenFault>
-    ensures at { IfOk result (λ at. (at.0 ≡ place / 2) × (at.1 ≡ line_at place)) }
-    ensures past { OnErr result (32 ≤ place) }
-{
-    let Some(venue) = VenueId::from_index(place / 2) else {
-        return Err(ListenFault::Unsettled);
-    };
-    let line = if place % 2 == 0 { LineId::A } else { LineId::B };
-    Ok((venue, line))
-}
+/// The report of a run of lines that are received by UDP.
+type UdpReport<N, C> = RunReport<Anything, N, UdpLine<C>>;
 
-/// Makes the line of this seat, which the socket receives.
-fn line_over<N: FeedName, C: Clock + Drop>(
-    alloc: Global,
-    settings: &ListenSettings,
-    seat: LineSeat<Anything, N>,
-    socket: UdpSocket,
-    counts: Option<LineCounts>,
-    clock: C,
-) -> Result<Line<Anything, N, UdpLine<C>>, ListenFault>
-    ensures seat { IfOk result (λ line. line.seat ≡ seat) }
-    ensures source { IfOk result (λ line. IsSourceOf settings.now seat.venue line.source) }
-{
-    let venue = seat.venue();
-    let source = UdpLine::new(
-        alloc,
-        venue,
-        socket,
-        settings.datagrams,
-        settings.request,
-        counts,
-        clock,
-    )?;
-    match Line::new(seat, source) {
-        Ok(line) => Ok(line),
-        Err(_) => Err(ListenFault::Unsettled),
-    }
-}
-
-/// Counts for one more line, of which the list has the same, where counts are told; else none.
-fn counts_for(
-    alloc: Global,
-    settings: &ListenSettings,
-    all: &mut Vec<LineCounts>,
-) -> Result<Option<LineCounts>, AllocError> {
-    if settings.stats.is_none() {
-        return Ok(None);
-    }
-    let counts = LineCounts::new(alloc)?;
-    all.push(counts.share()?)?;
-    Ok(Some(counts))
-}
-
-/// What tells the lines' counts, where that is asked for.
-fn stats_of(
-    alloc: Global,
-    settings: &ListenSettings,
-    counts: Vec<LineCounts>,
-) -> Result<Option<Stats>, AllocError> {
-    match settings.stats {
-        Some(seconds) => Ok(Some(Stats::new(alloc, seconds, counts)?)),
-        None => Ok(None),
-    }
-}
-
-/// What is left of the lines of a run.
+/// A run that is over: its report, or why there is none, and where the program prints.
 #[derive(Drop)]
-struct Ended<N> {
-    /// Their seats.
-    seats: Vec<LineSeat<Anything, N>>,
-    /// Those that failed.
-    failed: Vec<(VenueId, LineId)>,
-    /// Those that have read as many datagrams as they may.
-    read_out: Vec<(VenueId, LineId)>,
+struct Ran<N: FeedName, C: Clock + Drop, W, E> {
+    report: Result<UdpReport<N, C>, ListenFault>,
+    desk: Desk<W, E>,
 }
 
-/// Appends a line to the list where it is one of these.
-fn append_if(
-    is_one: bool,
-    list: &mut Vec<(VenueId, LineId)>,
-    venue: VenueId,
-    line: LineId,
-) -> Result<(), AllocError>
-    ensures { OnOk result (list.new.items ≡ list.old.items ++ line_if is_one (venue, line)) }
-{
-    if is_one {
-        list.push((venue, line))?;
-    }
-    Ok(())
-}
-
-/// Appends what is left of a line that has ended.
-fn part_line<N: FeedName, C: Drop>(
-    end: LineEnd<Anything, N, UdpLine<C>>,
-    ended: &mut Ended<N>,
-) -> Result<(), AllocError>
-    ensures seats { OnOk result (ended.new.seats.items ≡ ended.old.seats.items ++ end.seat ∷ []) }
-    ensures failed { OnOk result (ended.new.failed.items ≡ ended.old.failed.items
-        ++ line_if (is_some end.fault) (seat_line end.seat)) }
-    ensures read_out { OnOk result (ended.new.read_out.items ≡ ended.old.read_out.items
-        ++ line_if (is_read_out end.source) (seat_line end.seat)) }
-{
-    let LineEnd {
-        seat,
-        source,
-        fault,
-        datagrams: _,
-    } = end;
-    let venue = seat.venue();
-    let line = seat.line();
-    append_if(fault.is_some(), &mut ended.failed, venue, line)?;
-    append_if(source.is_read_out(), &mut ended.read_out, venue, line)?;
-    ended.seats.push(seat)?;
-    Ok(())
-}
-
-/// Parts lines that have ended.
-fn part_lines<N: FeedName, C: Drop>(
+/// Runs the lines, with this subscriber and with nobody beside.
+fn run_alone<N, R, C>(
+    rt: &R,
     alloc: Global,
-    ends: Vec<LineEnd<Anything, N, UdpLine<C>>>,
-) -> Result<Ended<N>, AllocError>
-    ensures seats { IfOk result (λ ended. ended.seats.items ≡ map (λ e. e.seat) ends.items) }
-    ensures failed { IfOk result (λ ended. ended.failed.items
-        ≡ flat_map (λ e. line_if (is_some e.fault) (seat_line e.seat)) ends.items) }
-    ensures read_out { IfOk result (λ ended. ended.read_out.items
-        ≡ flat_map (λ e. line_if (is_read_out e.source) (seat_line e.seat)) ends.items) }
+    feed: &OpenFeed<Anything, N>,
+    lines: Vec<Line<Anything, N, UdpLine<C>>>,
+    subscriber: Subscriber<N>,
+) -> Result<UdpReport<N, C>, ListenFault>
+where
+    N: FeedName + Send + Sync,
+    R: Threads + Wait + Sync,
+    C: Clock + Drop + Send,
 {
-    let mut ended = Ended {
-        seats: Vec::new(alloc),
-        failed: Vec::new(alloc),
-        read_out: Vec::new(alloc),
+    let Ok(subscribers) = Vec::from_array(alloc, [subscriber]) else {
+        return Err(ListenFault::NoMemory);
     };
-    for end in ends {
-        part_line(end, &mut ended)?;
+    match feed.run(rt, alloc, lines, subscribers) {
+        Ok(report) => Ok(report),
+        Err(_) => Err(ListenFault::NoMemory),
     }
-    Ok(ended)
 }
 
+/// The report of a run with the subscriber that the attendant polled, if there was one. Where the
+/// attendant was there before the run and not beside it, no thread could be had.
+fn report_with<N: FeedName, C: Clock + Drop>(
+    report: UdpReport<N, C>,
+    followed: Option<Subscriber<N>>,
+    has_begun: bool,
+) -> Result<UdpReport<N, C>, ListenFault> {
+    let RunReport {
+        lines,
+        mut subscribers,
+        stopped,
+    } = report;
+    if let Some(subscriber) = followed {
+        if subscribers.push(subscriber).is_err() {
+            return Err(ListenFault::NoMemory);
+        }
+    }
+    let stopped = if has_begun {
+        stopped
+    } else {
+        Some(Stop::NoThread)
+    };
+    Ok(RunReport {
+        lines,
+        subscribers,
+        stopped,
+    })
+}
+
+/// Runs the lines, with this subscriber and with the attendant beside, in a thread of its own. Where
+/// lines are printed while the run goes on, the attendant polls the subscriber, else the run does.
+fn run_attended<N, R, C, W, E>(
+    rt: &R,
+    alloc: Global,
+    feed: &OpenFeed<Anything, N>,
+    lines: Vec<Line<Anything, N, UdpLine<C>>>,
+    subscriber: Subscriber<N>,
+    attendant: Attendant<C>,
+    desk: Desk<W, E>,
+) -> Ran<N, C, W, E>
+where
+    N: FeedName + Send + Sync,
+    R: Threads + Wait + Sync,
+    C: Clock + Drop + Send,
+    W: TextOut + Drop + Send,
+    E: TextOut + Drop + Send,
+{
+    let Ok(mut given) = Vec::with_capacity(alloc, 1) else {
+        return Ran {
+            report: Err(ListenFault::NoMemory),
+            desk,
+        };
+    };
+    let mut followed = None;
+    if desk.following == Following::On {
+        followed = Some(subscriber);
+    } else {
+        given.push_reserved(subscriber);
+    }
+    let beside = move |run: &LiveRun<'_, Anything, N>| attendant.attend(rt, run, followed, desk);
+    let (attended, ran) = feed.run_beside(rt, alloc, lines, given, beside);
+    let Attended {
+        followed,
+        desk,
+        has_begun,
+    } = attended;
+    let report = match ran {
+        Ok(report) => report_with(report, followed, has_begun),
+        Err(_) => Err(ListenFault::NoMemory),
+    };
+    Ran { report, desk }
+}
+
+/// The fault of listening where the feed wasn't settled.
 fn fault_of(fault: SettleFault) -> ListenFault {
     match fault {
         SettleFault::NoMemory => ListenFault::NoMemory,
         _ => ListenFault::Unsettled,
+    }
+}
+
+/// The messages that venues lack at the end, of each venue that lacks any.
+fn lacking_of<N: FeedName, R: Wait>(
+    rt: &R,
+    alloc: Global,
+    feed: &OpenFeed<Anything, N>,
+    venues: usize,
+) -> Result<Vec<Lack>, AllocError> {
+    let mut lacking = Vec::new(alloc);
+    for place in 0..venues {
+        let Some(venue) = VenueId::from_index(place) else {
+            break;
+        };
+        if let Ok(Some(gap)) = feed.due(rt, venue, u64::MAX) {
+            lacking.push(Lack::of(venue, &gap))?;
+        }
+    }
+    Ok(lacking)
+}
+
+/// Settles the feed, of so many venues, after this run, and reports it.
+fn settled<N: FeedName, R: Wait, C: Clock + Drop>(
+    rt: &R,
+    alloc: Global,
+    feed: OpenFeed<Anything, N>,
+    venues: usize,
+    report: UdpReport<N, C>,
+) -> Result<ListenReport, ListenFault> {
+    let lacking = lacking_of(rt, alloc, &feed, venues)?;
+    let ended = part_lines(alloc, report.lines)?;
+    match feed.settle(rt, alloc, ended.seats, report.subscribers) {
+        Ok(settlement) => Ok(ListenReport {
+            failed: ended.failed,
+            stopped: report.stopped,
+            read_out: ended.read_out,
+            lacking,
+            settlement,
+        }),
+        Err(unsettled) => Err(fault_of(unsettled.fault)),
     }
 }
 
@@ -227,7 +234,7 @@ pub struct Listened<W, E> {
 
 /// The end of listening without a report.
 fn unreported<W, E>(fault: ListenFault, desk: Desk<W, E>) -> Listened<W, E>
-    ensures { result.desk ≡ desk }
+    ensures { result ≡ record { outcome = Err fault; desk = desk } }
 {
     Listened {
         outcome: Err(fault),
@@ -240,8 +247,8 @@ fn unreported<W, E>(fault: ListenFault, desk: Desk<W, E>) -> Listened<W, E>
 /// attendant is beside the run, in a thread of its own; where that can't be started, the run is
 /// stopped before it begins.
 ///
-/// The feed is opened here and goes nowhere else: a stored closure could be handed to what has its
-/// locks.
+/// The feed is opened here, where its subscriber's filter and strategy are made: what hands a stored
+/// closure out could hand it to what has the feed's locks.
 pub fn run_feed<N, R, C, W, E>(
     rt: &R,
     alloc: Global,
@@ -249,7 +256,6 @@ pub fn run_feed<N, R, C, W, E>(
     settings: &ListenSettings,
     sockets: Vec<UdpSocket>,
     terms: Terms,
-    clock: &C,
     attendant: Attendant<C>,
     desk: Desk<W, E>,
 ) -> Listened<W, E>
@@ -267,111 +273,28 @@ where
     let Ok(feed) = feed.open::<N>(alloc) else {
         return unreported(ListenFault::NoMemory, desk);
     };
-    let Ok(stop) = feed.stop_handle() else {
-        return unreported(ListenFault::NoMemory, desk);
-    };
     let made = feed.subscribe(rt, alloc, Filter::of(terms), Strategy::holding());
     let Ok(subscriber) = made else {
         return unreported(ListenFault::NoMemory, desk);
     };
-    let mut lines = Vec::new(alloc);
-    let mut all_counts = Vec::new(alloc);
-    for (place, socket) in sockets.into_iter().enumerate() {
-        let Ok((venue, id)) = place_of(place) else {
-            return unreported(ListenFault::Unsettled, desk);
-        };
-        let Ok(seat) = feed.line_seat(rt, venue, id) else {
-            return unreported(ListenFault::Unsettled, desk);
-        };
-        let Ok(clock) = clock.clone() else {
-            return unreported(ListenFault::NoMemory, desk);
-        };
-        let Ok(counts) = counts_for(alloc, settings, &mut all_counts) else {
-            return unreported(ListenFault::NoMemory, desk);
-        };
-        match line_over(alloc, settings, seat, socket, counts, clock) {
-            Ok(line) => {
-                if lines.push(line).is_err() {
-                    return unreported(ListenFault::NoMemory, desk);
-                }
-            }
-            Err(fault) => return unreported(fault, desk),
-        }
-    }
-    let Ok(mut given) = Vec::with_capacity(alloc, 1) else {
-        return unreported(ListenFault::NoMemory, desk);
+    let lines = match lines_over(rt, alloc, &feed, settings, sockets, &attendant) {
+        Ok(lines) => lines,
+        Err(fault) => return unreported(fault, desk),
     };
-    let mut aside = None;
-    if settings.follow {
-        aside = Some(subscriber);
+    let ran = if settings.is_attended() {
+        run_attended(rt, alloc, &feed, lines, subscriber, attendant, desk)
     } else {
-        given.push_reserved(subscriber);
-    }
-    let Ok(stats) = stats_of(alloc, settings, all_counts) else {
-        return unreported(ListenFault::NoMemory, desk);
-    };
-    let (ran, aside, desk, is_alone) = if settings.is_attended() {
-        let mut aside = aside;
-        let mut attendant = attendant.with_stats(stats);
-        let mut desk = desk;
-        let progress = RunProgress::new();
-        let venues = feed.venue_reader();
-        let beside = || {
-            let mut poll = || match &mut aside {
-                Some(subscriber) => match subscriber.poll(rt) {
-                    Ok(Some(_)) => subscriber.log().last().map(|logged| logged.notice),
-                    _ => None,
-                },
-                None => None,
-            };
-            let status = |venue: VenueId| venues.status(rt, venue).ok();
-            attendant.attend(rt, &stop, &progress, &mut poll, &status, &mut desk)
-        };
-        let (has_attended, ran) = feed.run_beside(rt, alloc, lines, given, &progress, beside);
-        (ran, aside, desk, !has_attended)
-    } else {
-        (feed.run(rt, alloc, lines, given), aside, desk, false)
-    };
-    let Ok(report) = ran else {
-        return unreported(ListenFault::NoMemory, desk);
-    };
-    let RunReport {
-        lines,
-        mut subscribers,
-        stopped,
-    } = report;
-    if let Some(subscriber) = aside {
-        if subscribers.push(subscriber).is_err() {
-            return unreported(ListenFault::NoMemory, desk);
+        Ran {
+            report: run_alone(rt, alloc, &feed, lines, subscriber),
+            desk,
         }
-    }
-    let mut lacking = Vec::new(alloc);
-    for place in 0..settings.sessions.len() {
-        let Some(venue) = VenueId::from_index(place) else {
-            break;
-        };
-        if let Ok(Some(gap)) = feed.due(rt, venue, u64::MAX) {
-            if lacking.push(Lack::of(venue, &gap)).is_err() {
-                return unreported(ListenFault::NoMemory, desk);
-            }
-        }
-    }
-    let Ok(ended) = part_lines(alloc, lines) else {
-        return unreported(ListenFault::NoMemory, desk);
     };
-    let outcome = match feed.settle(rt, alloc, ended.seats, subscribers) {
-        Ok(settlement) => Ok(ListenReport {
-            failed: ended.failed,
-            stopped: if is_alone {
-                Some(Stop::NoThread)
-            } else {
-                stopped
-            },
-            read_out: ended.read_out,
-            lacking,
-            settlement,
-        }),
-        Err(unsettled) => Err(fault_of(unsettled.fault)),
+    let outcome = match ran.report {
+        Ok(report) => settled(rt, alloc, feed, settings.sessions.len(), report),
+        Err(fault) => Err(fault),
     };
-    Listened { outcome, desk }
+    Listened {
+        outcome,
+        desk: ran.desk,
+    }
 }

@@ -34,7 +34,9 @@ mod command_line;
 mod commands;
 mod desk;
 mod elapsed;
+mod ended_lines;
 mod ending;
+mod feed_lines;
 mod help_texts;
 mod hints;
 mod input_end;
@@ -48,6 +50,7 @@ mod listen;
 mod listen_help;
 mod listen_lines;
 mod listen_settings;
+mod listen_stats;
 mod listening;
 mod refusal;
 mod replay_settings;
@@ -56,7 +59,6 @@ mod run_end;
 mod sessions;
 mod socket_buffers;
 mod sockets;
-mod stats;
 mod stats_format;
 mod stats_runs;
 mod stats_settings;
@@ -225,14 +227,17 @@ where
     } else {
         Following::Off
     };
+    let Ok(attendant) = Attendant::of(rt.alloc(), settings, rt.stdin(), *rt) else {
+        write_stderr(NO_MEMORY, &mut errors);
+        return 1;
+    };
     let (status, _desk) = listen_with(
         threads,
-        rt,
         rt.alloc(),
         settings,
         sockets,
         Terms::All,
-        Attendant::of(rt.alloc(), settings, rt.stdin(), *rt),
+        attendant,
         Desk::new(output, errors, following),
     );
     status

@@ -20,7 +20,7 @@ fn put_notices(text: &mut LineBuffer, notices: &[Notice]) -> Result<(), AllocErr
 }
 
 /// What is left of a log after its first `printed` lines.
-fn unprinted(log: &[Logged], printed: usize) -> &[Logged]
+pub fn unprinted(log: &[Logged], printed: usize) -> &[Logged]
     ensures { result.now ≡ drop printed log.now }
 {
     if printed <= log.len() {
@@ -31,7 +31,7 @@ fn unprinted(log: &[Logged], printed: usize) -> &[Logged]
 }
 
 /// Appends the best lines of the notices that a subscriber took.
-fn put_log(text: &mut LineBuffer, log: &[Logged]) -> Result<(), AllocError>
+pub fn put_log(text: &mut LineBuffer, log: &[Logged]) -> Result<(), AllocError>
     ensures { OnOk result (text.new.items
         ≡ text.old.items ++ flat_map (λ logged. best_line logged.notice) log.now) }
 {

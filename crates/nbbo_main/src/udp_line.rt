@@ -3,10 +3,11 @@ ghost use Rattle.std.specs.Prelude.{◌≡◌, ◌≢◌, ◌+◌, ◌*◌, ◌/
 ghost use Rattle.std.specs.Duration.{as_nanos};
 ghost use Rattle.live_feed.specs.venue.Datagrams.{bytes_of};
 ghost use Rattle.live_feed.specs.run.Runs.{failures_after};
-ghost use Rattle.nbbo_main.specs.UdpLines.{IsOver, SpellsEnd, failures_of, is_read_out};
+ghost use Rattle.nbbo_main.specs.UdpLines.{HasMessages, IsOver, SpellsEnd, failures_of, is_read_out};
 ghost use Rattle.live_feed.specs.declared.run.source.SourceFault.TheVariants.{NoMemory};
 
 use crate::line_counts::LineCounts;
+use crate::listen_settings::ListenSettings;
 use feed_types::{Anything, VenueId};
 use live_feed::{Datagram, LineSource, SourceFault};
 use mold_packet::{Kind, Request, one_reading, read_packet, write_request};
@@ -42,6 +43,8 @@ pub struct UdpLine<C> {
     to_read: u32,
     broken: bool,
     at_end: bool,
+    /// How many messages the last datagram has.
+    messages: u16,
     /// What the socket has brought for the next call: a datagram, or why there is none.
     heard: Option<Result<Datagram, SourceFault>>,
     /// What is counted, if anything is.
@@ -122,14 +125,30 @@ fn hear(
     }
 }
 
-/// Whether the bytes are an end of session, of whichever session.
-fn is_end(bytes: &[u8]) -> bool
-    ensures { IsTrue result ↔ SpellsEnd bytes.now }
+/// What a line sees in a datagram.
+#[derive(Clone, Copy, Debug, PartialEq, Eq)]
+struct Seen {
+    /// Whether it is an end of session, of whichever session.
+    end: bool,
+    /// How many messages it has; none where it is no packet.
+    messages: u16,
+}
+
+/// Looks at the bytes of a datagram.
+fn look_at(bytes: &[u8]) -> Seen
+    ensures end { IsTrue result.end ↔ SpellsEnd bytes.now }
+    ensures messages { HasMessages bytes.now result.messages }
 {
     one_reading();
     match read_packet(bytes) {
-        Ok(packet) => packet.kind() == Kind::End,
-        Err(_) => false,
+        Ok(packet) => Seen {
+            end: packet.kind() == Kind::End,
+            messages: packet.count(),
+        },
+        Err(_) => Seen {
+            end: false,
+            messages: 0,
+        },
     }
 }
 
@@ -142,9 +161,9 @@ pub fn millis(time: Duration) -> u64
 }
 
 impl<C: Drop> UdpLine<C> {
-    /// The line of a venue that this socket receives, for so many datagrams at most. Requests go to
-    /// the address that is given for them, from the line's socket; else they are dropped. What it
-    /// brings is counted where counts are given.
+    /// The line of a venue that this socket receives, for as many datagrams as the settings say.
+    /// Requests go to the address that these have for them, from the line's socket; else they are
+    /// dropped. What it brings is counted where counts are given.
     ///
     /// The socket waits 100 ms for a datagram from now on. Where the system refuses that, it waits for ever, and so
     /// does a run that is to stop.
@@ -152,13 +171,12 @@ impl<C: Drop> UdpLine<C> {
         alloc: Global,
         venue: VenueId,
         socket: UdpSocket,
-        datagrams: u32,
-        requests_to: Option<SocketAddr>,
+        settings: &ListenSettings,
         counts: Option<LineCounts>,
         clock: C,
     ) -> Result<UdpLine<C>, AllocError>
         ensures venue { IfOk result (λ line. line.venue ≡ venue) }
-        ensures left { IfOk result (λ line. line.left ≡ datagrams) }
+        ensures left { IfOk result (λ line. line.left ≡ settings.now.datagrams) }
         ensures whole { IfOk result (λ line. line.failed ≡ false) }
         ensures unended { IfOk result (λ line. line.ended ≡ false) }
     {
@@ -166,12 +184,13 @@ impl<C: Drop> UdpLine<C> {
         Ok(UdpLine {
             line_venue: venue,
             socket,
-            requests_to,
+            requests_to: settings.request,
             clock,
             moment_ms: 0,
-            to_read: datagrams,
+            to_read: settings.datagrams,
             broken: false,
             at_end: false,
+            messages: 0,
             heard: None,
             counts,
             alloc,
@@ -221,7 +240,9 @@ impl<C: Drop> UdpLine<C> {
         }
         match self.heard.take() {
             Some(Ok(datagram)) => {
-                self.at_end = is_end(datagram.bytes());
+                let seen = look_at(datagram.bytes());
+                self.at_end = seen.end;
+                self.messages = seen.messages;
                 self.to_read = if self.at_end { 0 } else { self.to_read - 1 };
                 Ok(Some(datagram))
             }
@@ -237,10 +258,10 @@ impl<C: Drop> UdpLine<C> {
         }
     }
 
-    /// Counts a datagram, where counts are given.
-    fn count(&self, datagram: &Datagram) {
+    /// Counts the last datagram, where counts are given.
+    fn count(&self) {
         if let Some(counts) = &self.counts {
-            counts.add_datagram(datagram.bytes());
+            counts.add_datagram(self.messages);
         }
     }
 
@@ -284,8 +305,8 @@ impl<C: Clock + Drop> LineSource<Anything> for UdpLine<C> {
 
     fn next(&mut self) -> Result<Option<Datagram>, SourceFault> {
         let answer = self.receive_next();
-        if let Ok(Some(datagram)) = &answer {
-            self.count(datagram);
+        if matches!(answer, Ok(Some(_))) {
+            self.count();
         }
         answer
     }

@@ -4,6 +4,32 @@ use crate::line_counts::LineCounts;
 use live_feed::{LineStatus, VenueStatus};
 use std::alloc::{AllocError, Global};
 
+/// The refusals of a datagram have numbers below this.
+const REFUSALS: usize = 12;
+
+/// What has come of each refusal since the earlier counts.
+fn refused_since(now: &[u64; REFUSALS], earlier: &[u64; REFUSALS]) -> [u64; REFUSALS] {
+    let mut since = *now;
+    for number in 0..REFUSALS {
+        since[number] = now[number].saturating_sub(earlier[number]);
+    }
+    since
+}
+
+/// How many datagrams were refused, and how many by each number that any was refused by.
+fn refused_text(alloc: Global, refused: &[u64; REFUSALS]) -> Result<String, AllocError> {
+    let mut all: u64 = 0;
+    let mut by_number = String::new(alloc);
+    for (number, count) in refused.iter().enumerate() {
+        if *count > 0 {
+            all = all.saturating_add(*count);
+            by_number.push_str(format!(in alloc; " {number}:{count}")?.as_str())?;
+        }
+    }
+    let by_number = by_number.as_str();
+    format!(in alloc; "refused {all}{by_number}")
+}
+
 /// The figures of a line.
 #[derive(Clone, Copy, Debug, PartialEq, Eq)]
 pub struct LineFigures {
@@ -13,22 +39,18 @@ pub struct LineFigures {
     pub messages: u64,
     /// The messages that came first on it.
     pub new: u64,
-    /// The datagrams that were refused.
-    pub refused: u64,
+    /// The datagrams that were refused, at the place of each refusal's number.
+    pub refused: [u64; REFUSALS],
 }
 
 impl LineFigures {
     /// The figures by what the source has counted and what the venue shows.
     pub fn of(counts: &LineCounts, status: &LineStatus) -> LineFigures {
-        let mut refused: u64 = 0;
-        for count in status.refused.by_code() {
-            refused = refused.saturating_add(count);
-        }
         LineFigures {
             datagrams: counts.datagrams(),
             messages: counts.messages(),
             new: status.wins,
-            refused,
+            refused: status.refused.by_code(),
         }
     }
 
@@ -38,7 +60,7 @@ impl LineFigures {
             datagrams: self.datagrams.saturating_sub(earlier.datagrams),
             messages: self.messages.saturating_sub(earlier.messages),
             new: self.new.saturating_sub(earlier.new),
-            refused: self.refused.saturating_sub(earlier.refused),
+            refused: refused_since(&self.refused, &earlier.refused),
         }
     }
 
@@ -48,7 +70,7 @@ impl LineFigures {
             datagrams: 0,
             messages: 0,
             new: 0,
-            refused: 0,
+            refused: [0; REFUSALS],
         }
     }
 
@@ -57,9 +79,11 @@ impl LineFigures {
             datagrams,
             messages,
             new,
-            refused,
+            ..
         } = *self;
-        format!(in alloc; "packets {datagrams} messages {messages} new {new} refused {refused}")
+        let refused = refused_text(alloc, &self.refused)?;
+        let refused = refused.as_str();
+        format!(in alloc; "packets {datagrams} messages {messages} new {new} {refused}")
     }
 }
 

@@ -41,7 +41,7 @@ fn status_in<G: Genuine, N: FeedName>(
 }
 
 /// The status of the venue at a moment of the call.
-fn status_at<G: Genuine, N: FeedName, W: Wait>(
+pub(crate) fn status_at<G: Genuine, N: FeedName, W: Wait>(
     rt: &W,
     venues: &VenueLocks<G, N>,
     venue: VenueId,
@@ -67,35 +67,12 @@ impl<G: Genuine, N: FeedName> OpenFeed<G, N> {
         national_in(&self.hub.lock(rt), symbol)
     }
 
-    /// Returns what the venue has come to at a moment of the call, as `VenueReader::status` does.
+    /// Returns what the venue has come to at a moment of the call, all read under its lock taken
+    /// once; UnknownVenue where there is no such venue. Any thread may call it while the feed runs.
     pub fn status<W: Wait>(&self, rt: &W, venue: VenueId) -> Result<VenueStatus, FeedFault>
         ensures status { IsStatusOf G.Genuine N.lanes venue result }
         ensures unknown { length N.lanes.venues ≤ venue → result ≡ Err FeedFault.UnknownVenue }
     {
         status_at(rt, &self.venues, venue)
-    }
-
-    /// Returns a reader of the venues, which another thread may have while the feed runs.
-    pub fn venue_reader(&self) -> VenueReader<'_, G, N> {
-        VenueReader {
-            venues: &self.venues,
-        }
-    }
-}
-
-/// What is read of the venues of an open feed, by a thread beside its run.
-#[derive(Drop)]
-pub struct VenueReader<'f, G: Genuine, N: FeedName> {
-    venues: &'f VenueLocks<G, N>,
-}
-
-impl<G: Genuine, N: FeedName> VenueReader<'_, G, N> {
-    /// Returns what the venue has come to at a moment of the call, all read under its lock taken
-    /// once; UnknownVenue where there is no such venue.
-    pub fn status<W: Wait>(&self, rt: &W, venue: VenueId) -> Result<VenueStatus, FeedFault>
-        ensures status { IsStatusOf G.Genuine N.lanes venue result }
-        ensures unknown { length N.lanes.venues ≤ venue → result ≡ Err FeedFault.UnknownVenue }
-    {
-        status_at(rt, self.venues, venue)
     }
 }

@@ -6,57 +6,38 @@ ghost use Rattle.live_feed.specs.run.Runs.{Pairwise, HasTaken, LineHasEnded, Has
 use crate::feed::open_feed::OpenFeed;
 use crate::feed_name::FeedName;
 use crate::run::line::Line;
+use crate::run::live_run::{LiveRun, RunProgress};
 use crate::run::report::RunReport;
 use crate::run::source::LineSource;
 use crate::subscriber::Subscriber;
 use feed_types::Genuine;
 use std::alloc::Global;
 use std::sync::Wait;
-use std::sync::atomic::{AtomicBool, Ordering};
 use std::thread;
 use std::thread::Threads;
 
-/// How far a run is, for what is beside it.
-#[derive(Drop)]
-pub struct RunProgress {
-    begun: AtomicBool,
-    over: AtomicBool,
-}
+/// What is done beside a run of the feed `N`, until it is over or for as long as it likes, and
+/// answers a `T`.
+pub trait BesideRun<G: Genuine, N: FeedName, T> {
+    /// What it answers of itself.
+    ghost leads_to: { Self → T → Type 0 };
 
-impl RunProgress {
-    /// The progress of a run that hasn't begun.
-    pub fn new() -> RunProgress {
-        RunProgress {
-            begun: AtomicBool::new(false),
-            over: AtomicBool::new(false),
-        }
-    }
-
-    /// Whether the run has begun.
-    pub fn has_begun(&self) -> bool {
-        self.begun.load(Ordering::SeqCst)
-    }
-
-    /// Whether the run is over.
-    pub fn is_over(&self) -> bool {
-        self.over.load(Ordering::SeqCst)
-    }
+    /// Does its work: it may read the venues of the run, and stop it. Where no thread can be had it
+    /// is called before the run, so it doesn't wait for ever for one that hasn't begun.
+    fn attend(self, run: &LiveRun<'_, G, N>) -> T
+        ensures { leads_to self result };
 }
 
 impl<G: Genuine + Send + Sync, N: FeedName + Send + Sync> OpenFeed<G, N> {
-    /// Runs the feed as `run` does, and `beside` in a thread of its own, which may read the feed, stop
-    /// it, poll subscribers that the run wasn't given, and declare. Returns the answers of both, once
-    /// both have ended: `beside` sees in `progress` how far the run is.
-    ///
-    /// Where no thread can be had, `beside` is called first, and the run then: so `beside` waits for
-    /// no run that `progress` doesn't say has begun, or not for ever.
+    /// Runs the feed as `run` does, and has `beside` attend the run in a thread of its own; it may
+    /// poll subscribers that the run wasn't given. Returns the answers of both, once both have ended.
+    /// Where no thread can be had, `beside` attends first, and the run is then.
     pub fn run_beside<S, R, B, T>(
         &self,
         rt: &R,
         alloc: Global,
         lines: Vec<Line<G, N, S>>,
         subscribers: Vec<Subscriber<N>>,
-        progress: &RunProgress,
         beside: B,
     ) -> (
         T,
@@ -65,10 +46,9 @@ impl<G: Genuine + Send + Sync, N: FeedName + Send + Sync> OpenFeed<G, N> {
     where
         S: LineSource<G> + Send,
         R: Threads + Wait + Sync,
-        B: FnOnce() -> T + Send,
+        B: BesideRun<G, N, T> + Drop + Send,
         T: Send,
-        requires { B.pre beside }
-        ensures beside { B.post beside result.0 }
+        ensures beside { B.leads_to beside result.0 }
         ensures back { IfErr result.1 (λ back. (back.0 ≡ lines) × (back.1 ≡ subscribers)) }
         ensures lines { IfOk result.1 (λ report. Pairwise (λ line. LineHasEnded
             (HasTaken G.Genuine N.lanes) S.brings S.failures line.seat line.source) lines.items
@@ -76,9 +56,16 @@ impl<G: Genuine + Send + Sync, N: FeedName + Send + Sync> OpenFeed<G, N> {
         ensures subscribers { IfOk result.1 (λ report. Pairwise (λ given back.
             HasPolled given.log back.log) subscribers.items report.subscribers.items) }
     {
+        let progress = RunProgress::new();
+        let run = LiveRun {
+            venues: &self.venues,
+            progress: &progress,
+        };
         thread::join(
             rt,
-            beside,
+            || -> T
+                ensures { B.leads_to beside result }
+            { beside.attend(&run) },
             || -> Result<RunReport<G, N, S>, (Vec<Line<G, N, S>>, Vec<Subscriber<N>>)>
                 ensures back { IfErr result (λ back. (back.0 ≡ lines) × (back.1 ≡ subscribers)) }
                 ensures lines { IfOk result (λ report. Pairwise (λ line. LineHasEnded
@@ -87,9 +74,9 @@ impl<G: Genuine + Send + Sync, N: FeedName + Send + Sync> OpenFeed<G, N> {
                 ensures subscribers { IfOk result (λ report. Pairwise (λ given back.
                     HasPolled given.log back.log) subscribers.items report.subscribers.items) }
             {
-                progress.begun.store(true, Ordering::SeqCst);
+                progress.begin();
                 let ran = self.run(rt, alloc, lines, subscribers);
-                progress.over.store(true, Ordering::SeqCst);
+                progress.end();
                 ran
             },
         )

@@ -1,6 +1,6 @@
 use Rattle.std.proofs.Common.{rules}
 use Rattle.nbbo_main.proofs.Seeing.{end_of_one}
-use Rattle.nbbo_main.proofs.udp_line.is_end.Goals as goal
+use Rattle.nbbo_main.proofs.udp_line.look_at.Goals as goal
 
 pub returns-in-Ok : goal.returns-in-Ok
 returns-in-Ok c =

@@ -2,7 +2,7 @@ use Rattle.std.proofs.Common.{◌≡◌, map, flat_map}
 use Rattle.std.specs.Prelude.{is_some}
 use Rattle.nbbo_main.specs.Listening.{line_if, seat_line}
 use Rattle.nbbo_main.specs.UdpLines.{is_read_out}
-use Rattle.nbbo_main.proofs.listening.part_lines.Given as goal
+use Rattle.nbbo_main.proofs.ended_lines.part_lines.Given as goal
 
 abbrev pub invariant-loop-end : goal.invariant-loop-end
 invariant-loop-end g l =

@@ -4,13 +4,14 @@ use crate::line_counts::LineCounts;
 use crate::run::write_stderr;
 use crate::venue_figures::VenueFigures;
 use feed_text::devices::TextOut;
-use feed_types::VenueId;
-use live_feed::VenueStatus;
+use feed_types::{Anything, VenueId};
+use live_feed::{FeedName, LiveRun};
 use std::alloc::{AllocError, Global};
+use std::sync::Wait;
 
 /// The counts of all lines, and what was last said of each venue.
 #[derive(Drop)]
-pub struct Stats {
+pub struct ListenStats {
     alloc: Global,
     period_ms: u64,
     due_ms: u64,
@@ -19,19 +20,35 @@ pub struct Stats {
     said: Vec<VenueFigures>,
 }
 
-impl Stats {
-    /// Of venues to which nothing has come, which are said of after each period of seconds. There are
-    /// counts of two lines for each venue.
-    pub fn new(alloc: Global, seconds: u32, counts: Vec<LineCounts>) -> Result<Stats, AllocError> {
+/// New counts, of this many lines.
+fn counts_of(alloc: Global, lines: usize) -> Result<Vec<LineCounts>, AllocError> {
+    let mut counts = Vec::new(alloc);
+    for _ in 0..lines {
+        counts.push(LineCounts::new(alloc)?)?;
+    }
+    Ok(counts)
+}
+
+impl ListenStats {
+    /// Counts of lines that have brought nothing, two for each venue. They are told after each period,
+    /// which is in seconds.
+    pub fn new(alloc: Global, seconds: u32, lines: usize) -> Result<ListenStats, AllocError> {
         let period_ms = u64::from(seconds) * 1_000;
-        let said = vec![in alloc; VenueFigures::none(); counts.len() / 2]?;
-        Ok(Stats {
+        Ok(ListenStats {
             alloc,
             period_ms,
             due_ms: period_ms,
-            counts,
-            said,
+            counts: counts_of(alloc, lines)?,
+            said: vec![in alloc; VenueFigures::none(); lines / 2]?,
         })
+    }
+
+    /// The counts of the line at this place, for its source; None where there is no such line.
+    pub fn counts_at(&self, place: usize) -> Result<Option<LineCounts>, AllocError> {
+        match self.counts.get(place) {
+            Some(counts) => Ok(Some(counts.share()?)),
+            None => Ok(None),
+        }
     }
 
     /// How many milliseconds after the beginning the next lines are due.
@@ -40,29 +57,27 @@ impl Stats {
     }
 
     /// The venue's figures now. None where there is no such venue.
-    fn figures<S: Fn(VenueId) -> Option<VenueStatus>>(
+    fn figures<N: FeedName, R: Wait>(
         &self,
+        rt: &R,
+        run: &LiveRun<'_, Anything, N>,
         place: usize,
-        status: &S,
-    ) -> Option<VenueFigures>
-        requires { S.IsAlwaysCallable status.now }
-    {
+    ) -> Option<VenueFigures> {
         let venue = VenueId::from_index(place)?;
-        let a = self.counts.get(2 * place)?;
-        let b = self.counts.get(2 * place + 1)?;
-        let status = status(venue)?;
+        let a = self.counts.get(place.saturating_mul(2))?;
+        let b = self.counts.get(place.saturating_mul(2).saturating_add(1))?;
+        let status = run.status(rt, venue).ok()?;
         Some(VenueFigures::of(a, b, &status))
     }
 
-    /// Writes a line for each venue: what has come since the lines before, once their time has come.
-    pub fn tell<S: Fn(VenueId) -> Option<VenueStatus>, E: TextOut>(
+    /// Writes a line for each venue, of what has come since the lines before, once their time has come.
+    pub fn tell<N: FeedName, R: Wait, E: TextOut>(
         &mut self,
+        rt: &R,
+        run: &LiveRun<'_, Anything, N>,
         elapsed_ms: u64,
-        status: &S,
         errors: &mut E,
-    )
-        requires { S.IsAlwaysCallable status.now }
-    {
+    ) {
         if elapsed_ms < self.due_ms {
             return;
         }
@@ -73,7 +88,7 @@ impl Stats {
             return;
         };
         for place in 0..self.said.len() {
-            let Some(now) = self.figures(place, status) else {
+            let Some(now) = self.figures(rt, run, place) else {
                 continue;
             };
             if let Some(said) = self.said.get_mut(place) {
@@ -84,16 +99,15 @@ impl Stats {
         }
     }
 
-    /// Writes a line for each venue: what has come since the beginning.
-    pub fn tell_all<S: Fn(VenueId) -> Option<VenueStatus>, E: TextOut>(
+    /// Writes a line for each venue, of what has come since the beginning.
+    pub fn tell_all<N: FeedName, R: Wait, E: TextOut>(
         &self,
-        status: &S,
+        rt: &R,
+        run: &LiveRun<'_, Anything, N>,
         errors: &mut E,
-    )
-        requires { S.IsAlwaysCallable status.now }
-    {
+    ) {
         for place in 0..self.said.len() {
-            if let Some(now) = self.figures(place, status) {
+            if let Some(now) = self.figures(rt, run, place) {
                 write_figures(self.alloc, &now, "in all", place, errors);
             }
         }
