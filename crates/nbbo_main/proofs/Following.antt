@@ -1,12 +1,18 @@
 -- What was printed of a log, as it grows and as more of it is printed.
-use Rattle.std.proofs.Common.{◌≡◌, ℕ, ◌+◌, ◌≤◌, List, [], ◌∷◌, ◌++◌, length, drop, flat_map, take, min, refl, sym, ap, ◌∙◌, subst, arith, length-append}
+use Rattle.std.proofs.Common.{◌≡◌, ℕ, ◌+◌, ◌≤◌, List, [], ◌∷◌, ◌++◌, length, drop, flat_map, take, min, refl, sym, ap, ◌∙◌, subst, arith, length-append, append_assoc, append-nil}
 use Rattle.std.proofs.lemmas.List.{take-append-drop, take-append-le, take_min, take_all, length-take}
 use Rattle.std.proofs.lemmas.Grind.{flat_map-append}
 use Rattle.std.proofs.Math.Seq.{take-append-add}
 use Rattle.feed_types.specs.Prefix.{IsPrefix}
 use Rattle.feed_text.specs.Devices.{Writing, Wrote}
 use Rattle.feed_text.specs.Lines.{best_line}
+use Rattle.std.specs.Prelude.{Result, Ok, Err, Option, Some, None}
+use Rattle.feed_types.specs.declared.journal.Notice.{Notice}
+use Rattle.filter_terms.specs.declared.advice.Advice.{Advice}
 use Rattle.live_feed.specs.declared.subscriber.logged.Logged.{Logged}
+use Rattle.live_feed.specs.declared.subscriber.logged.PollFault.{PollFault}
+use Rattle.live_feed.specs.declared.subscriber.logged.PollFault.TheVariants.{NoMemory, LogFull}
+use Rattle.live_feed.specs.subscriber.Logs.{SubscriberLogState, Polls, logged}
 use Rattle.nbbo_main.specs.Listening.{HasPrinted, HasFollowed, log_lines}
 use Rattle.nbbo_main.specs.declared.desk.Following.{Following}
 use Rattle.nbbo_main.specs.declared.desk.Following.TheVariants.{On, Off, Failed}
@@ -33,7 +39,7 @@ part_after adds more first mid now xs ys front w =
     record {
       count = length xs + w.count;
       taken = subst (λ (t : List ℕ). adds first t now) (sym same)
-        (more first mid now xs (take w.count ys) front w.taken);
+          (more first mid now xs (take w.count ys) front w.taken);
     }
 
 -- the lines of a log are those of its first notices, and then the others
@@ -48,9 +54,9 @@ pub printed_of_longer : {W : Type 0} (writing : Writing W) (first : W) (log long
     → IsPrefix log longer → HasPrinted writing first log printed now → HasPrinted writing first longer printed now
 printed_of_longer writing first log longer printed now grown h =
     let same : take printed longer ≡ take printed log
-        = ap (λ l. take printed l) grown.is ∙ take-append-le printed log grown.rest h.few in
+    = ap (λ l. take printed l) grown.is ∙ take-append-le printed log grown.rest h.few in
     let long : length longer ≡ length log + length grown.rest
-        = ap (λ l. length l) grown.is ∙ length-append log grown.rest in
+    = ap (λ l. length l) grown.is ∙ length-append log grown.rest in
     record {
       few = omega (arith, h.few, long);
       lines = subst (λ l. writing.adds first (log_lines l) now) (sym same) h.lines;
@@ -62,7 +68,7 @@ pub part_of_longer : {W : Type 0} (writing : Writing W) (first : W) (log longer 
     → Wrote writing.adds first (log_lines longer) now
 part_of_longer writing first log longer now grown w =
     let same : log_lines longer ≡ log_lines log ++ log_lines grown.rest
-        = ap (λ l. log_lines l) grown.is ∙ flat_map-append logged_line log grown.rest in
+    = ap (λ l. log_lines l) grown.is ∙ flat_map-append logged_line log grown.rest in
     subst (λ t. Wrote writing.adds first t now) (sym same) (grow_part writing.adds first now (log_lines log) (log_lines grown.rest) w)
 
 -- the rest is printed
@@ -75,11 +81,11 @@ pub printed_all : {W : Type 0} (writing : Writing W)
 printed_all writing more first mid now log printed h written sound =
     let all : take (length log) log ≡ log = take_all (length log) log (omega arith) in
     let same : log_lines (take (length log) log) ≡ log_lines (take printed log) ++ log_lines (drop printed log)
-        = ap (λ l. log_lines l) all ∙ lines_split printed log in
+    = ap (λ l. log_lines l) all ∙ lines_split printed log in
     record {
       few = omega arith;
       lines = subst (λ t. writing.adds first t now) (sym same)
-        (more first mid now (log_lines (take printed log)) (log_lines (drop printed log)) h.lines written);
+          (more first mid now (log_lines (take printed log)) (log_lines (drop printed log)) h.lines written);
       sound = sound ∙ h.sound;
     }
 
@@ -91,7 +97,7 @@ pub printed_part : {W : Type 0} (writing : Writing W)
     → Wrote writing.adds first (log_lines log) now
 printed_part writing more first mid now log printed h written =
     subst (λ t. Wrote writing.adds first t now) (sym (lines_split printed log))
-      (part_after writing.adds more first mid now (log_lines (take printed log)) (log_lines (drop printed log)) h.lines written)
+    (part_after writing.adds more first mid now (log_lines (take printed log)) (log_lines (drop printed log)) h.lines written)
 
 -- what is shown of a log is so of one that has grown
 pub followed_longer : {W : Type 0} (writing : Writing W) (first : W) (log longer : List Logged) (following : Following)
@@ -101,3 +107,26 @@ followed_longer writing first log longer On printed now grown h = printed_of_lon
 followed_longer writing first log longer Off printed now grown h = printed_of_longer writing first log longer printed now grown h
 followed_longer writing first log longer Failed printed now grown h =
     (part_of_longer writing first log longer now grown h.0, h.1)
+
+-- ---- a log that is polled
+
+pub prefix_itself : {X : Type 0} (xs : List X) → IsPrefix xs xs
+prefix_itself xs = record { rest = []; is = sym (append-nil xs) }
+
+pub prefix_through : {X : Type 0} (xs ys zs : List X) → IsPrefix xs ys → IsPrefix ys zs → IsPrefix xs zs
+prefix_through xs ys zs p q = record {
+  rest = p.rest ++ q.rest;
+  is = q.is ∙ ap (λ l. l ++ q.rest) p.is ∙ append_assoc xs p.rest q.rest;
+}
+
+lines_same : (old new : SubscriberLogState) → new ≡ old → IsPrefix old.lines new.lines
+lines_same old new e = subst (λ (s : SubscriberLogState). IsPrefix old.lines s.lines) (sym e) (prefix_itself old.lines)
+
+-- a poll leaves the log's lines in front
+pub prefix_by_poll : (may_send : ℕ → List Notice → Type 0) (answer : Result (Option Advice) PollFault)
+    (old new : SubscriberLogState) → Polls may_send answer old new → IsPrefix old.lines new.lines
+prefix_by_poll may_send (Err LogFull) old new p = lines_same old new p.1
+prefix_by_poll may_send (Err NoMemory) old new p = lines_same old new p.1
+prefix_by_poll may_send (Ok None) old new p = lines_same old new p.1
+prefix_by_poll may_send (Ok (Some advice)) old new p =
+    record { rest = logged p.1 advice ∷ []; is = ap (λ (s : SubscriberLogState). s.lines) p.3 }

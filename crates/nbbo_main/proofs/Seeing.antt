@@ -1,8 +1,8 @@
 -- Whether a datagram is an end of session, by the one packet that its bytes are.
-use Rattle.std.proofs.Common.{◌≡◌, ◌∙◌, List, ℕ, ap}
+use Rattle.std.proofs.Common.{◌≡◌, ◌∙◌, List, ℕ, ap, length, refl}
 use Rattle.mold_packet.specs.Content.{Content, Spells}
 use Rattle.mold_packet.specs.declared.packet.Kind.TheVariants.{End}
-use Rattle.nbbo_main.specs.UdpLines.{SpellsEnd}
+use Rattle.nbbo_main.specs.UdpLines.{HasMessages, SpellsEnd}
 
 -- the bytes are this packet and no other one
 abbrev pub IsOnly : List ℕ → Content → Type 0
@@ -17,3 +17,16 @@ end_of_one bytes p only e = ap (λ (q : Content). q.kind) (only e.packet e.rest 
 
 pub no_end : (bytes : List ℕ) → IsNone bytes → SpellsEnd bytes → ⊥
 no_end bytes none e = none e.packet e.rest e.spells
+
+pub messages_of_one : (bytes : List ℕ) (p : Content) (rest : List ℕ) (count : ℕ) → Spells bytes p rest
+    → IsOnly bytes p → count ≡ length p.messages → HasMessages bytes count
+messages_of_one bytes p rest count spelled only e = record {
+  of_packet = λ q more other. e ∙ ap (λ (x : Content). length x.messages) (only q more other);
+  of_none = λ none. absurd (none p rest spelled);
+}
+
+pub messages_of_none : (bytes : List ℕ) → IsNone bytes → HasMessages bytes 0
+messages_of_none bytes none = record {
+  of_packet = λ q more other. absurd (none q more other);
+  of_none = λ _. refl;
+}

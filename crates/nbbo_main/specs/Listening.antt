@@ -92,12 +92,12 @@ summary_text printed s =
 
 -- ---- what is printed while a run goes on
 
--- the log's lines of a subscriber, if there is one
+-- the lines of a log, if there is one
 abbrev pub followed_lines : {S : Type 0} → (S → List Logged) → Option S → List Logged
 followed_lines lines None = []
 followed_lines lines (Some s) = lines s
 
--- the log's lines of the first subscriber, if there is one
+-- the lines of the first subscriber's log, if there is one
 abbrev pub first_lines : {S : Type 0} → (S → List Logged) → List S → List Logged
 first_lines lines [] = []
 first_lines lines (s ∷ more) = lines s

@@ -11,7 +11,7 @@ use crate::run_end::RunEnd;
 use feed_text::devices::TextOut;
 use feed_text::page::LineBuffer;
 use feed_types::Anything;
-use live_feed::{FeedName, LiveRun, Subscriber};
+use live_feed::{BesideRun, FeedName, LiveRun, SubscriberLog};
 use std::alloc::{AllocError, Global};
 use std::io::Stdin;
 use std::sync::Wait;
@@ -38,12 +38,49 @@ pub struct Attendant<C> {
 /// What is left once a run with an attendant is over.
 #[derive(Drop)]
 pub struct Attended<N: FeedName, W, E> {
-    /// The subscriber that the attendant polled, if it was given one.
-    pub followed: Option<Subscriber<N>>,
+    /// The log of the subscriber that the attendant polled, if it was given one.
+    pub followed: Option<SubscriberLog<N>>,
     /// Where the program prints.
     pub desk: Desk<W, E>,
     /// Whether the run began while the attendant was there.
     pub has_begun: bool,
+}
+
+/// The attendant at its work: with the log of the subscriber that it polls, if any, and where the
+/// program prints.
+#[derive(Drop)]
+pub struct Watch<'r, N: FeedName, R, C, W, E> {
+    pub rt: &'r R,
+    pub attendant: Attendant<C>,
+    pub followed: Option<SubscriberLog<N>>,
+    pub desk: Desk<W, E>,
+}
+
+impl<N, R, C, W, E> BesideRun<Anything, N, Attended<N, W, E>> for Watch<'_, N, R, C, W, E>
+where
+    N: FeedName,
+    R: Wait,
+    C: Clock + Drop,
+    W: TextOut + Drop,
+    E: TextOut + Drop,
+{
+    ghost leads_to = { λ watch attended. (first : W)
+        → HasFollowed (record { adds = W.adds; failures = W.failures })
+        first (followed_lines (λ log. log.lines) watch.followed)
+        watch.desk.following watch.desk.printed watch.desk.output
+        → HasFollowed (record { adds = W.adds; failures = W.failures })
+        first (followed_lines (λ log. log.lines) attended.followed)
+        attended.desk.following attended.desk.printed attended.desk.output };
+
+    fn attend(self, run: &LiveRun<'_, Anything, N>) -> Attended<N, W, E> {
+        let Watch {
+            rt,
+            attendant,
+            followed,
+            desk,
+        } = self;
+        attendant.stand_by(rt, run, followed, desk)
+    }
 }
 
 impl<C: Clock + Drop> Attendant<C> {
@@ -80,20 +117,20 @@ impl<C: Clock + Drop> Attendant<C> {
     }
 
     /// Is beside the run until it is over: stops it where it is to end from outside, or where the
-    /// output fails; has the desk follow the subscriber, if there is one; and tells counts where the
+    /// output fails; has the desk follow the log, if there is one; and tells counts where the
     /// settings ask for them. Where the run hasn't begun after some seconds, it is stopped before.
-    pub fn attend<N: FeedName, R: Wait, W: TextOut, E: TextOut>(
+    pub fn stand_by<N: FeedName, R: Wait, W: TextOut, E: TextOut>(
         self,
         rt: &R,
         run: &LiveRun<'_, Anything, N>,
-        followed: Option<Subscriber<N>>,
+        followed: Option<SubscriberLog<N>>,
         desk: Desk<W, E>,
     ) -> Attended<N, W, E>
         ensures { (first : W) → HasFollowed (record { adds = W.adds; failures = W.failures })
-            first (followed_lines (λ s. s.log.lines) followed)
+            first (followed_lines (λ log. log.lines) followed)
             desk.following desk.printed desk.output
             → HasFollowed (record { adds = W.adds; failures = W.failures })
-            first (followed_lines (λ s. s.log.lines) result.followed)
+            first (followed_lines (λ log. log.lines) result.followed)
             result.desk.following result.desk.printed result.desk.output }
     {
         let mut attendant = self;
@@ -128,14 +165,14 @@ impl<C: Clock + Drop> Attendant<C> {
         &mut self,
         rt: &R,
         run: &LiveRun<'_, Anything, N>,
-        followed: &mut Option<Subscriber<N>>,
+        followed: &mut Option<SubscriberLog<N>>,
         desk: &mut Desk<W, E>,
     )
         ensures { (first : W) → HasFollowed (record { adds = W.adds; failures = W.failures })
-            first (followed_lines (λ s. s.log.lines) followed.old)
+            first (followed_lines (λ log. log.lines) followed.old)
             desk.old.following desk.old.printed desk.old.output
             → HasFollowed (record { adds = W.adds; failures = W.failures })
-            first (followed_lines (λ s. s.log.lines) followed.new)
+            first (followed_lines (λ log. log.lines) followed.new)
             desk.new.following desk.new.printed desk.new.output }
     {
         for _ in rt.forever() {
@@ -158,22 +195,22 @@ impl<C: Clock + Drop> Attendant<C> {
         }
     }
 
-    /// Has the desk follow the subscriber, if there is one, and returns whether it has printed anything.
+    /// Has the desk follow the log, if there is one, and returns whether it has printed anything.
     fn follow<N: FeedName, R: Wait, W: TextOut, E>(
         &mut self,
         rt: &R,
-        followed: &mut Option<Subscriber<N>>,
+        followed: &mut Option<SubscriberLog<N>>,
         desk: &mut Desk<W, E>,
     ) -> bool
         ensures { (first : W) → HasFollowed (record { adds = W.adds; failures = W.failures })
-            first (followed_lines (λ s. s.log.lines) followed.old)
+            first (followed_lines (λ log. log.lines) followed.old)
             desk.old.following desk.old.printed desk.old.output
             → HasFollowed (record { adds = W.adds; failures = W.failures })
-            first (followed_lines (λ s. s.log.lines) followed.new)
+            first (followed_lines (λ log. log.lines) followed.new)
             desk.new.following desk.new.printed desk.new.output }
     {
         match followed {
-            Some(subscriber) => desk.follow(rt, &mut self.text, subscriber),
+            Some(log) => desk.follow(rt, &mut self.text, log),
             None => false,
         }
     }

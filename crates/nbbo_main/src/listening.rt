@@ -2,7 +2,7 @@
 ghost use Rattle.std.specs.Prelude.{◌≡◌, Err, false};
 ghost use Rattle.nbbo_main.specs.Listening.{IsFeedOf, is_attended};
 
-use crate::attendant::{Attendant, Attended};
+use crate::attendant::{Attendant, Attended, Watch};
 use crate::desk::{Desk, Following};
 use crate::ended_lines::part_lines;
 use crate::feed_lines::lines_over;
@@ -13,8 +13,7 @@ use feed_text::devices::TextOut;
 use feed_types::{Anything, FeedConfig, LineId, VenueId};
 use filter_terms::{Filter, Strategy, Terms};
 use live_feed::{
-    FeedName, Line, LiveFeed, LiveRun, OpenFeed, RunReport, SettleFault, Settlement, Stop,
-    Subscriber,
+    FeedName, Line, LiveFeed, OpenFeed, RunReport, SettleFault, Settlement, Stop, Subscriber,
 };
 use std::alloc::{AllocError, Global};
 use std::net::UdpSocket;
@@ -101,11 +100,12 @@ where
     }
 }
 
-/// The report of a run with the subscriber that the attendant polled, if there was one. Where the
-/// attendant was there before the run and not beside it, no thread could be had.
+/// The report of a run with the subscriber whose log the attendant polled, if there was one, and with
+/// this strategy. Where the attendant was there before the run and not beside it, no thread could be had.
 fn report_with<N: FeedName, C: Clock + Drop>(
     report: UdpReport<N, C>,
-    followed: Option<Subscriber<N>>,
+    followed: Option<SubscriberLog<N>>,
+    strategy: Option<Strategy>,
     has_begun: bool,
 ) -> Result<UdpReport<N, C>, ListenFault> {
     let RunReport {
@@ -113,7 +113,8 @@ fn report_with<N: FeedName, C: Clock + Drop>(
         mut subscribers,
         stopped,
     } = report;
-    if let Some(subscriber) = followed {
+    if let (Some(log), Some(strategy)) = (followed, strategy) {
+        let subscriber = Subscriber::from_parts(log, strategy);
         if subscribers.push(subscriber).is_err() {
             return Err(ListenFault::NoMemory);
         }
@@ -155,20 +156,28 @@ where
         };
     };
     let mut followed = None;
+    let mut idle = None;
     if desk.following == Following::On {
-        followed = Some(subscriber);
+        let (log, strategy) = subscriber.into_parts();
+        followed = Some(log);
+        idle = Some(strategy);
     } else {
         given.push_reserved(subscriber);
     }
-    let beside = move |run: &LiveRun<'_, Anything, N>| attendant.attend(rt, run, followed, desk);
-    let (attended, ran) = feed.run_beside(rt, alloc, lines, given, beside);
+    let watch = Watch {
+        rt,
+        attendant,
+        followed,
+        desk,
+    };
+    let (attended, ran) = feed.run_beside(rt, alloc, lines, given, watch);
     let Attended {
         followed,
         desk,
         has_begun,
     } = attended;
     let report = match ran {
-        Ok(report) => report_with(report, followed, has_begun),
+        Ok(report) => report_with(report, followed, idle, has_begun),
         Err(_) => Err(ListenFault::NoMemory),
     };
     Ran { report, desk }
