@@ -33,21 +33,6 @@ impl<N: FeedName> Subscriber<N> {
         self.log.id()
     }
 
-    /// The subscriber of this log and this strategy.
-    pub fn from_parts(log: SubscriberLog<N>, strategy: Strategy) -> Subscriber<N>
-        ensures { result.log ≡ log }
-    {
-        Subscriber { log, strategy }
-    }
-
-    /// Returns the log and the strategy.
-    pub fn into_parts(self) -> (SubscriberLog<N>, Strategy)
-        ensures { result.0 ≡ self.log }
-    {
-        let Subscriber { log, strategy } = self;
-        (log, strategy)
-    }
-
     /// One line for each notice that was taken, in order, with what the strategy advised.
     pub fn log(&self) -> &[Logged]
         ensures { result.now ≡ self.now.log.lines }

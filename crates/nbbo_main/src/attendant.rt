@@ -1,6 +1,4 @@
 //! What is done beside a run: its end from outside, and what is printed while it goes on.
-ghost use Rattle.std.specs.Prelude.{◌≡◌};
-ghost use Rattle.nbbo_main.specs.Listening.{HasFollowed, followed_lines};
 
 use crate::desk::{Desk, Following};
 use crate::elapsed::Elapsed;
@@ -37,26 +35,22 @@ pub struct Attendant<C> {
 
 /// What is left once a run with an attendant is over.
 #[derive(Drop)]
-pub struct Attended<N: FeedName, W, E> {
-    /// The log of the subscriber that the attendant polled, if it was given one.
-    pub followed: Option<SubscriberLog<N>>,
+pub struct Attended<W, E> {
     /// Where the program prints.
     pub desk: Desk<W, E>,
     /// Whether the run began while the attendant was there.
     pub has_begun: bool,
 }
 
-/// The attendant at its work: with the log of the subscriber that it polls, if any, and where the
-/// program prints.
+/// The attendant at its work: with where the program prints.
 #[derive(Drop)]
-pub struct Watch<'r, N: FeedName, R, C, W, E> {
+pub struct Watch<'r, R, C, W, E> {
     pub rt: &'r R,
     pub attendant: Attendant<C>,
-    pub followed: Option<SubscriberLog<N>>,
     pub desk: Desk<W, E>,
 }
 
-impl<N, R, C, W, E> BesideRun<Anything, N, Attended<N, W, E>> for Watch<'_, N, R, C, W, E>
+impl<N, R, C, W, E> BesideRun<Anything, N, Attended<W, E>> for Watch<'_, R, C, W, E>
 where
     N: FeedName,
     R: Wait,
@@ -64,22 +58,19 @@ where
     W: TextOut + Drop,
     E: TextOut + Drop,
 {
-    ghost leads_to = { λ watch attended. (first : W)
-        → HasFollowed (record { adds = W.adds; failures = W.failures })
-        first (followed_lines (λ log. log.lines) watch.followed)
-        watch.desk.following watch.desk.printed watch.desk.output
-        → HasFollowed (record { adds = W.adds; failures = W.failures })
-        first (followed_lines (λ log. log.lines) attended.followed)
-        attended.desk.following attended.desk.printed attended.desk.output };
+    ghost leads_to = { λ watch log attended back. Unit {0} };
 
-    fn attend(self, run: &LiveRun<'_, Anything, N>) -> Attended<N, W, E> {
+    fn attend(
+        self,
+        run: &LiveRun<'_, Anything, N>,
+        log: Option<SubscriberLog<N>>,
+    ) -> (Attended<W, E>, Option<SubscriberLog<N>>) {
         let Watch {
             rt,
             attendant,
-            followed,
             desk,
         } = self;
-        attendant.stand_by(rt, run, followed, desk)
+        attendant.stand_by(rt, run, log, desk)
     }
 }
 
@@ -125,14 +116,7 @@ impl<C: Clock + Drop> Attendant<C> {
         run: &LiveRun<'_, Anything, N>,
         followed: Option<SubscriberLog<N>>,
         desk: Desk<W, E>,
-    ) -> Attended<N, W, E>
-        ensures { (first : W) → HasFollowed (record { adds = W.adds; failures = W.failures })
-            first (followed_lines (λ log. log.lines) followed)
-            desk.following desk.printed desk.output
-            → HasFollowed (record { adds = W.adds; failures = W.failures })
-            first (followed_lines (λ log. log.lines) result.followed)
-            result.desk.following result.desk.printed result.desk.output }
-    {
+    ) -> (Attended<W, E>, Option<SubscriberLog<N>>) {
         let mut attendant = self;
         let mut followed = followed;
         let mut desk = desk;
@@ -142,11 +126,7 @@ impl<C: Clock + Drop> Attendant<C> {
         } else {
             run.stop();
         }
-        Attended {
-            followed,
-            desk,
-            has_begun,
-        }
+        (Attended { desk, has_begun }, followed)
     }
 
     /// Waits until the run has begun, some seconds at most, and returns whether it has.
@@ -167,14 +147,7 @@ impl<C: Clock + Drop> Attendant<C> {
         run: &LiveRun<'_, Anything, N>,
         followed: &mut Option<SubscriberLog<N>>,
         desk: &mut Desk<W, E>,
-    )
-        ensures { (first : W) → HasFollowed (record { adds = W.adds; failures = W.failures })
-            first (followed_lines (λ log. log.lines) followed.old)
-            desk.old.following desk.old.printed desk.old.output
-            → HasFollowed (record { adds = W.adds; failures = W.failures })
-            first (followed_lines (λ log. log.lines) followed.new)
-            desk.new.following desk.new.printed desk.new.output }
-    {
+    ) {
         for _ in rt.forever() {
             let is_last = run.is_over();
             let has_printed = self.follow(rt, followed, desk);
@@ -201,14 +174,7 @@ impl<C: Clock + Drop> Attendant<C> {
         rt: &R,
         followed: &mut Option<SubscriberLog<N>>,
         desk: &mut Desk<W, E>,
-    ) -> bool
-        ensures { (first : W) → HasFollowed (record { adds = W.adds; failures = W.failures })
-            first (followed_lines (λ log. log.lines) followed.old)
-            desk.old.following desk.old.printed desk.old.output
-            → HasFollowed (record { adds = W.adds; failures = W.failures })
-            first (followed_lines (λ log. log.lines) followed.new)
-            desk.new.following desk.new.printed desk.new.output }
-    {
+    ) -> bool {
         match followed {
             Some(log) => desk.follow(rt, &mut self.text, log),
             None => false,

@@ -100,12 +100,11 @@ where
     }
 }
 
-/// The report of a run with the subscriber whose log the attendant polled, if there was one, and with
-/// this strategy. Where the attendant was there before the run and not beside it, no thread could be had.
+/// The report of a run with the subscriber that was aside, if there was one. Where the attendant was
+/// there before the run and not beside it, no thread could be had.
 fn report_with<N: FeedName, C: Clock + Drop>(
     report: UdpReport<N, C>,
-    followed: Option<SubscriberLog<N>>,
-    strategy: Option<Strategy>,
+    aside: Option<Subscriber<N>>,
     has_begun: bool,
 ) -> Result<UdpReport<N, C>, ListenFault> {
     let RunReport {
@@ -113,8 +112,7 @@ fn report_with<N: FeedName, C: Clock + Drop>(
         mut subscribers,
         stopped,
     } = report;
-    if let (Some(log), Some(strategy)) = (followed, strategy) {
-        let subscriber = Subscriber::from_parts(log, strategy);
+    if let Some(subscriber) = aside {
         if subscribers.push(subscriber).is_err() {
             return Err(ListenFault::NoMemory);
         }
@@ -129,6 +127,32 @@ fn report_with<N: FeedName, C: Clock + Drop>(
         subscribers,
         stopped,
     })
+}
+
+/// Runs the lines, with the attendant beside.
+fn run_watched<'r, N, R, C, W, E>(
+    rt: &R,
+    alloc: Global,
+    feed: &OpenFeed<Anything, N>,
+    lines: Vec<Line<Anything, N, UdpLine<C>>>,
+    given: Vec<Subscriber<N>>,
+    aside: Option<Subscriber<N>>,
+    watch: Watch<'r, R, C, W, E>,
+) -> Ran<N, C, W, E>
+where
+    N: FeedName + Send + Sync,
+    R: Threads + Wait + Sync,
+    C: Clock + Drop + Send,
+    W: TextOut + Drop + Send,
+    E: TextOut + Drop + Send,
+{
+    let (attended, aside, ran) = feed.run_beside(rt, alloc, lines, given, aside, watch);
+    let Attended { desk, has_begun } = attended;
+    let report = match ran {
+        Ok(report) => report_with(report, aside, has_begun),
+        Err(_) => Err(ListenFault::NoMemory),
+    };
+    Ran { report, desk }
 }
 
 /// Runs the lines, with this subscriber and with the attendant beside, in a thread of its own. Where
@@ -155,32 +179,18 @@ where
             desk,
         };
     };
-    let mut followed = None;
-    let mut idle = None;
+    let mut aside = None;
     if desk.following == Following::On {
-        let (log, strategy) = subscriber.into_parts();
-        followed = Some(log);
-        idle = Some(strategy);
+        aside = Some(subscriber);
     } else {
         given.push_reserved(subscriber);
     }
     let watch = Watch {
         rt,
         attendant,
-        followed,
         desk,
     };
-    let (attended, ran) = feed.run_beside(rt, alloc, lines, given, watch);
-    let Attended {
-        followed,
-        desk,
-        has_begun,
-    } = attended;
-    let report = match ran {
-        Ok(report) => report_with(report, followed, idle, has_begun),
-        Err(_) => Err(ListenFault::NoMemory),
-    };
-    Ran { report, desk }
+    run_watched(rt, alloc, feed, lines, given, aside, watch)
 }
 
 /// The fault of listening where the feed wasn't settled.
