@@ -64,7 +64,9 @@ where
         self,
         run: &LiveRun<'_, Anything, N>,
         log: Option<SubscriberLog<N>>,
-    ) -> (Attended<W, E>, Option<SubscriberLog<N>>) {
+    ) -> (Attended<W, E>, Option<SubscriberLog<N>>)
+        ensures { Unit {0} }
+    {
         let Watch {
             rt,
             attendant,
