@@ -7,7 +7,7 @@ ghost use Rattle.live_feed.specs.feed.Feeds.{AreNamed, HasItsLane};
 pub(crate) mod log_size;
 mod making;
 pub(crate) mod open_feed;
-mod reading;
+pub(crate) mod reading;
 
 use crate::bells::Bells;
 use crate::feed::log_size::LogSize;

@@ -47,7 +47,9 @@ pub use hub::turn::Consolidated;
 pub use laws::{
     journaled_items_are_the_sessions, sent_items_are_the_sessions, settled_items_are_the_sessions,
 };
+pub use run::beside::BesideRun;
 pub use run::line::{Line, LineEnd};
+pub use run::live_run::LiveRun;
 pub use run::report::{RunReport, Stop};
 pub use run::source::{LineSource, SourceFault};
 pub use run::stop_handle::StopHandle;

@@ -4,11 +4,13 @@
 ghost use Rattle.std.specs.Prelude.{◌≡◌, ◌≤◌, [], map, IfOk, IfErr, vec_len, vec_capacity};
 ghost use Rattle.live_feed.specs.run.Runs.{Pairwise, HasTaken, LineHasEnded, HasPolled};
 
+pub(crate) mod beside;
 mod consolidating;
 mod idle;
 pub(crate) mod line;
 mod line_threads;
 mod line_work;
+pub(crate) mod live_run;
 pub(crate) mod report;
 mod signals;
 pub(crate) mod source;

@@ -9,7 +9,7 @@ use crate::faults::FeedFault;
 use crate::feed::open_feed::{Guarded, OpenFeed};
 use crate::feed_name::FeedName;
 use crate::hub::cell::HubCell;
-use crate::venue::locks::enter;
+use crate::venue::locks::{VenueLocks, enter};
 use crate::venue::status::VenueStatus;
 use feed_types::{Genuine, National, SymbolName, VenueId};
 use std::sync::Wait;
@@ -40,6 +40,21 @@ fn status_in<G: Genuine, N: FeedName>(
     Ok(VenueStatus::of(&guarded.cell, &guarded.refused))
 }
 
+/// The status of the venue at a moment of the call.
+pub(crate) fn status_at<G: Genuine, N: FeedName, W: Wait>(
+    rt: &W,
+    venues: &VenueLocks<G, N>,
+    venue: VenueId,
+) -> Result<VenueStatus, FeedFault>
+    ensures status { IsStatusOf G.Genuine N.lanes venue result }
+    ensures unknown { length N.lanes.venues ≤ venue → result ≡ Err FeedFault.UnknownVenue }
+{
+    let Some(lock) = venues.get(venue) else {
+        return Err(FeedFault::UnknownVenue);
+    };
+    status_in(&enter(rt, lock), venue)
+}
+
 impl<G: Genuine, N: FeedName> OpenFeed<G, N> {
     /// Returns the national best of the symbol after all entries that are journaled at a moment of
     /// the call; None exactly where the symbol isn't configured. Any thread may call it while the
@@ -58,9 +73,6 @@ impl<G: Genuine, N: FeedName> OpenFeed<G, N> {
         ensures status { IsStatusOf G.Genuine N.lanes venue result }
         ensures unknown { length N.lanes.venues ≤ venue → result ≡ Err FeedFault.UnknownVenue }
     {
-        let Some(lock) = self.venues.get(venue) else {
-            return Err(FeedFault::UnknownVenue);
-        };
-        status_in(&enter(rt, lock), venue)
+        status_at(rt, &self.venues, venue)
     }
 }

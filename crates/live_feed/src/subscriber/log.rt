@@ -177,4 +177,12 @@ impl<N: FeedName> SubscriberLog<N> {
         let advice = log_line(&mut self.lines, strategy, self.bounds, &notice);
         Ok(Some(advice))
     }
+
+    /// Takes the next notice out of the lane as [`crate::Subscriber::poll`] does, by a strategy that
+    /// always holds.
+    pub fn poll_holding<W: Wait>(&mut self, rt: &W) -> Result<Option<Advice>, PollFault>
+        ensures { Polls AreRising result self.old self.new }
+    {
+        self.poll(rt, &mut Strategy::holding())
+    }
 }
