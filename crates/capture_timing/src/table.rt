@@ -7,7 +7,7 @@ use capture_stats::{COLUMNS, Row, put_pieces, put_rows};
 use std::alloc::AllocError;
 
 /// The heads of the columns.
-const HEADS: &[u8] = b"\n                              half within   99 % within       longest";
+const HEADS: &[u8] = b"\n                                 half within   99 % within       longest";
 
 /// The row of durations.
 fn row_of<'a>(label: &'a str, durations: &Durations) -> Row<'a> {
@@ -25,21 +25,21 @@ fn put_venue(text: &mut Vec<u8>, place: usize, venue: &VenueTiming) -> Result<()
     text.extend_from_slice(HEADS)?;
     put_rows(
         text,
-        &[row_of("\n  line B after line A       ", &venue.leads.a)],
+        &[row_of("\n  line B after line A         ", &venue.leads.a)],
     )?;
-    let messages = [("\n    messages                ", venue.leads.a.count())];
+    let messages = [("\n    messages                  ", venue.leads.a.count())];
     put_pieces(text, COLUMNS, &messages)?;
     put_rows(
         text,
-        &[row_of("\n  line A after line B       ", &venue.leads.b)],
+        &[row_of("\n  line A after line B         ", &venue.leads.b)],
     )?;
     let pieces = [
-        ("\n    messages                ", venue.leads.b.count()),
-        ("\n  spells with gaps, over    ", venue.missing.count),
-        ("\n    nanoseconds in all      ", venue.missing.total),
-        ("\n    the longest             ", venue.missing.longest),
+        ("\n    messages                  ", venue.leads.b.count()),
+        ("\n  spells with gaps, over      ", venue.missing.count),
+        ("\n    nanoseconds in all        ", venue.missing.total),
+        ("\n    the longest               ", venue.missing.longest),
         (
-            "\n  spells with gaps, open    ",
+            "\n  spells with gaps, open      ",
             u64::from(venue.missing.is_open()),
         ),
     ];
@@ -50,9 +50,9 @@ fn put_venue(text: &mut Vec<u8>, place: usize, venue: &VenueTiming) -> Result<()
 pub(crate) fn put_table(text: &mut Vec<u8>, timing: &CaptureTiming) -> Result<(), AllocError> {
     text.extend_from_slice(b"\nin time, nanoseconds")?;
     let pieces = [
-        ("\n  messages, busiest second  ", timing.in_second.most()),
+        ("\n  messages, busiest second    ", timing.in_second.most()),
         (
-            "\n    busiest millisecond     ",
+            "\n    busiest millisecond       ",
             timing.in_millisecond.most(),
         ),
     ];
