@@ -135,15 +135,16 @@ Printed for each venue, from 0:
                              those that have changed the other side alone
 and then the changes of national bests, by the state after.
 
-With --lines there follows, by the times of the frames, in nanoseconds: the most messages of a second
-and of a millisecond, on all lines; of each venue how long the second line took with a message that
-the first one had brought, half of them within, 99 of a hundred within (a sixteenth more at most) and
-the longest; and how long messages were missing: the spells that are over, all together, the longest,
-and whether one is open. A frame without a time counts as of the time of the one before.
+With --lines there follows, by the times of the frames, in nanoseconds: the most messages of a
+second and of a millisecond, on all lines; of each venue how long the second line took with a
+message that the first one had brought: half of them within, 99 of a hundred within (a sixteenth
+more at most), and the longest; and how long messages were missing: the spells that are over, all
+together, the longest, and whether one is open. A frame without a time counts as of the time of the
+one before.
 
-In JSON a venue's 'lines' have 'A', 'B' and 'recovery', 'missing' is null where nothing is, and
-'best_bids' and 'best_offers' are those changes; 'in_time' is there with --lines. The words and numbers of refusals are those of
-'nbbo replay --help'.
+In JSON a venue's 'lines' have 'A', 'B' and 'recovery', 'missing' is null where nothing is,
+'best_bids' and 'best_offers' are those changes, and 'in_time' is there with --lines. The words and
+numbers of refusals are those of 'nbbo replay --help'.
 
 Examples:
   nbbo stats --sessions NORTH,SOUTH ACME < capture
