@@ -12,5 +12,6 @@ pub mod Following
 pub mod Replays
 pub mod Placing
 pub mod Pages
+pub mod StandardError
 -- laws, which proofs of the crates above cite
 pub mod laws

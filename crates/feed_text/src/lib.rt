@@ -38,6 +38,7 @@ pub mod output;
 pub mod page;
 pub mod replay;
 mod report;
+pub mod standard_error;
 pub mod system;
 pub mod unread;
 mod venue;

@@ -2,7 +2,7 @@
 use Rattle.std.proofs.Common.{◌≡◌, ℕ, zero, suc, List, [], ◌∷◌, refl, arith}
 use Rattle.std.specs.Prelude.{codes, decimal}
 use Rattle.feed_text.specs.Devices.{Writing}
-use Rattle.nbbo_main.specs.Listening.{SaysEach}
+use Rattle.feed_text.specs.StandardError.{SaysEach}
 use Rattle.nbbo_main.specs.LineRuns.{count_texts, no_line_texts}
 
 pub counts_some : {S : Type 0} (w : Writing S) (label : List ℕ) (count : ℕ) (s t : S) → (count ≡ 0 → ⊥) → SaysEach w (label ∷ decimal count ∷ codes "\n" ∷ []) s t → SaysEach w (count_texts label count) s t

@@ -1,9 +1,1 @@
-mod Asking
-pub mod Ends
-mod Listing
-mod Naming
-pub mod Reporting
-pub mod Seeing
-mod Spelling
-pub mod CapturedLists
 pub mod CaptureCounts

@@ -1,16 +1,6 @@
-pub mod Addresses
-pub mod BestFormats
-pub mod CapturedLines
-pub mod CommandLine
-pub mod Commands
 pub mod Ending
 pub mod Hints
 pub mod Leading
 pub mod LineRuns
-pub mod Listening
 pub mod Runs
-pub mod Sessions
-pub mod StatsFormats
 pub mod StatsRuns
-pub mod Symbols
-pub mod UdpLines

@@ -6,6 +6,7 @@ use Rattle.packet_capture.specs.declared.fault.CaptureFault.TheVariants.{NotCapt
 use Rattle.feed_text.specs.declared.replay.ReplayConfig.{ReplayConfig}
 use Rattle.feed_text.specs.declared.fault.ReplayFault.TheVariants as replay
 use Rattle.feed_text.specs.Devices.{Reading, Writing}
+use Rattle.feed_text.specs.StandardError.{Says, SaysEach}
 use Rattle.best_lines.specs.Readers.{reader_below, reading_along}
 use Rattle.best_lines.specs.Rows.{has_times}
 use Rattle.best_lines.specs.Writers.{IsNewOver, below}
@@ -21,11 +22,10 @@ use Rattle.line_captures.specs.declared.report.LinesFault.{LinesFault}
 use Rattle.line_captures.specs.declared.report.LinesFault.TheVariants.{Input, Run}
 use Rattle.line_captures.specs.Conversions.{Converts}
 use Rattle.replay_run.specs.LineReplays.{ReplaysLines}
-use Rattle.nbbo_main.specs.CommandLine.{AsksConversion, AsksLineReplay}
+use Rattle.command_words.specs.CommandLine.{AsksConversion, AsksLineReplay}
 use Rattle.nbbo_main.specs.Ending.{fault_text}
-use Rattle.nbbo_main.specs.Listening.{SaysEach}
-use Rattle.nbbo_main.specs.Runs.{ClosesBests, IsConfigOf, Says, bests_writing, hint_text}
-use Rattle.nbbo_main.specs.declared.line_replay_settings.LineReplaySettings.{LineReplaySettings}
+use Rattle.nbbo_main.specs.Runs.{ClosesBests, IsConfigOf, bests_writing, hint_text}
+use Rattle.command_words.specs.declared.line_replay_settings.LineReplaySettings.{LineReplaySettings}
 
 -- ---- what is said of a packet capture on standard error
 

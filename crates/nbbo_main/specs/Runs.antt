@@ -14,20 +14,12 @@ use Rattle.best_lines.specs.Writers.{AddsBests, IsNewOver, PassedOn, below, pend
 use Rattle.best_lines.specs.declared.bests_out.BestsOut.{BestsOut}
 use Rattle.best_lines.specs.declared.format.Format.{Format}
 use Rattle.replay_run.specs.Printed.{texts_of_run}
-use Rattle.nbbo_main.specs.CommandLine.{Asks, AsksReplay, IsRefused, refusal_status, refusal_text}
+use Rattle.command_words.specs.CommandLine.{Asks, AsksReplay, IsRefused, refusal_status, refusal_text}
 use Rattle.nbbo_main.specs.Ending.{ending_status, ending_text}
-use Rattle.nbbo_main.specs.declared.refusal.Refusal.{Refusal}
-use Rattle.nbbo_main.specs.declared.listen_settings.ListenSettings.{ListenSettings}
-use Rattle.nbbo_main.specs.declared.replay_settings.ReplaySettings.{ReplaySettings}
-use Rattle.nbbo_main.specs.declared.task.Task.TheVariants.{Listen}
-
--- The text was written, or a prefix of it, up to a call that failed. Of an empty text nothing is
--- written.
-pub record Says {S : Type 0} (writing : Writing S) (text : List ℕ) (before after : S) : Type 0 where
-  pub wrote : writing.adds before text after
-      ⊎ (Wrote writing.adds before text after
-      × (writing.failures after ≡ writing.failures before + 1))
-  pub quiet : text ≡ [] → after ≡ before
+use Rattle.command_words.specs.declared.refusal.Refusal.{Refusal}
+use Rattle.command_words.specs.declared.listen_settings.ListenSettings.{ListenSettings}
+use Rattle.command_words.specs.declared.replay_settings.ReplaySettings.{ReplaySettings}
+use Rattle.command_words.specs.declared.task.Task.TheVariants.{Listen}
 
 -- the hint on standard error before a terminal is read
 abbrev pub hint_text : Bool → List ℕ

@@ -8,6 +8,7 @@ use Rattle.feed_text.specs.declared.replay.ReplayConfig.{ReplayConfig}
 use Rattle.feed_text.specs.Devices.{Reading, Writing, Wrote}
 use Rattle.feed_text.specs.Capture.{CaptureRecord}
 use Rattle.feed_text.specs.Replays.{Replays, AnswersReplay, TextFacts, WroteAll, venues_in}
+use Rattle.feed_text.specs.StandardError.{Says}
 use Rattle.capture_stats.specs.Stats.{Counted, IsCountOf}
 use Rattle.capture_stats.specs.Texts.{text_of_stats}
 use Rattle.capture_stats.specs.Writers.{AddsStats, IsNewFor}
@@ -21,15 +22,15 @@ use Rattle.line_captures.specs.declared.report.LinesFault.{LinesFault}
 use Rattle.line_captures.specs.declared.report.LinesFault.TheVariants.{Run}
 use Rattle.replay_run.specs.LineReplays.{ReplaysLines, WroteCaptureText}
 use Rattle.replay_run.specs.Printed.{IsTextOfRun, texts_of_run}
-use Rattle.nbbo_main.specs.CommandLine.{AsksStats}
+use Rattle.command_words.specs.CommandLine.{AsksStats}
 use Rattle.nbbo_main.specs.Ending.{ending_status, ending_text}
 use Rattle.nbbo_main.specs.LineRuns.{PassesNoLine, TellsCapture}
-use Rattle.nbbo_main.specs.Runs.{IsConfigOf, PassesNothing, Says, hint_text}
-use Rattle.nbbo_main.specs.declared.line_replay_settings.LineReplaySettings.{LineReplaySettings}
-use Rattle.nbbo_main.specs.declared.replay_settings.ReplaySettings.{ReplaySettings}
-use Rattle.nbbo_main.specs.declared.stats_settings.StatsInput.{StatsInput}
-use Rattle.nbbo_main.specs.declared.stats_settings.StatsInput.TheVariants.{Own, Packets}
-use Rattle.nbbo_main.specs.declared.stats_settings.StatsSettings.{StatsSettings}
+use Rattle.nbbo_main.specs.Runs.{IsConfigOf, PassesNothing, hint_text}
+use Rattle.command_words.specs.declared.line_replay_settings.LineReplaySettings.{LineReplaySettings}
+use Rattle.command_words.specs.declared.replay_settings.ReplaySettings.{ReplaySettings}
+use Rattle.command_words.specs.declared.stats_settings.StatsInput.{StatsInput}
+use Rattle.command_words.specs.declared.stats_settings.StatsInput.TheVariants.{Own, Packets}
+use Rattle.command_words.specs.declared.stats_settings.StatsSettings.{StatsSettings}
 
 -- the writer that counts, of which no call fails
 abbrev pub stats_writing : Writing StatsOut

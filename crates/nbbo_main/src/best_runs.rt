@@ -7,14 +7,14 @@ ghost use Rattle.nbbo_main.specs.LineRuns.{PassesLines, RunsLineBests, RunsLines
 ghost use Rattle.nbbo_main.specs.Runs.{ClosesBests, RunsBests, RunsBy};
 
 use crate::ending::ending;
-use crate::line_replay_settings::LineReplaySettings;
 use crate::line_runs::{EndedRun, run_line_replay, tell_capture};
-use crate::replay_settings::ReplaySettings;
-use crate::run::{config_of, hint, run_replay, write_stderr};
+use crate::run::{config_of, hint, run_replay};
 use best_lines::{BestsOut, Format, FrameTimes, TimesIn};
+use command_words::{LineReplaySettings, ReplaySettings};
 use feed_text::devices::{CaptureIn, TextOut};
 use feed_text::fault::ReplayFault;
 use feed_text::replay::ReplayConfig;
+use feed_text::standard_error::write_stderr;
 use line_captures::{CaptureReport, CapturedLine, LinesFault};
 use replay_run::{replay, replay_lines};
 use std::alloc::{AllocError, Global};

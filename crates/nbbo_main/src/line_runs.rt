@@ -1,14 +1,14 @@
 //! Runs of the program over packet captures.
 ghost use Rattle.std.specs.Prelude.{◌≡◌, ◌∷◌, [], codes, decimal};
 ghost use Rattle.feed_text.specs.Devices.{Writing};
+ghost use Rattle.feed_text.specs.StandardError.{SaysEach};
 ghost use Rattle.nbbo_main.specs.LineRuns.{RunsConversion, RunsLineReplay, TellsCapture, capture_fault_text, capture_outcome_texts, capture_status, count_texts, input_texts, lost_texts, no_line_texts, other_texts, passed_texts};
-ghost use Rattle.nbbo_main.specs.Listening.{SaysEach};
 
 use crate::ending::fault_line;
-use crate::line_replay_settings::LineReplaySettings;
-use crate::listen_lines::write_number;
-use crate::run::{MAX_TURNS, config_of, hint, write_stderr};
+use crate::run::{MAX_TURNS, config_of, hint};
+use command_words::LineReplaySettings;
 use feed_text::devices::{CaptureIn, TextOut};
+use feed_text::standard_error::{write_number, write_stderr};
 use line_captures::{CaptureReport, CapturedLine, InputFault, LinesFault, PassedOver, convert};
 use packet_capture::CaptureFault;
 use replay_run::replay_lines;

@@ -22,53 +22,26 @@
 #![tactic(auto)]
 
 ghost use Rattle.std.specs.Prelude.{◌≡◌, ◌≢◌, ◌<◌};
-ghost use Rattle.nbbo_main.specs.declared.refusal.Refusal.TheVariants.{NoMemory, NotText};
+ghost use Rattle.command_words.specs.declared.refusal.Refusal.TheVariants.{NoMemory, NotText};
 
-mod addresses;
-mod best_format;
 mod best_runs;
-mod captured_lines;
-mod command_line;
-mod commands;
 mod ending;
-mod help_texts;
 mod hints;
 mod kept_start;
-mod lack;
-mod line_replay_settings;
 mod line_runs;
-mod line_tasks;
-mod listen;
-mod listen_lines;
-mod listen_settings;
-mod listening;
-mod refusal;
-mod replay_settings;
 mod run;
-mod sessions;
-mod socket_buffers;
-mod sockets;
-mod stats_format;
 mod stats_runs;
-mod stats_settings;
-mod stats_words;
-mod summary;
-mod symbols;
-mod task;
-mod udp_line;
 
+use command_words::{ListenSettings, Refusal};
 use feed_text::count::Count;
 use feed_text::devices::{CaptureIn, TextOut};
+use feed_text::standard_error::write_stderr;
 use feed_text::system::{StreamIn, StreamOut};
 use filter_terms::Terms;
 use hints::{asks_for_packets, format_hint, hint_at_file};
 use kept_start::KeptStart;
-use listen::{NO_MEMORY, listen_with};
-use listen_settings::ListenSettings;
-use refusal::Refusal;
-use run::{Next, refuse, run, write_stderr};
-use socket_buffers::enlarge;
-use sockets::{bind_sockets, listening_line};
+use run::{Next, refuse, run};
+use udp_listening::{NO_MEMORY, bind_sockets, enlarge, listen_with, listening_line};
 use std::alloc::{AllocError, Global};
 use std::io::{ErrorKind, IsTerminal, Stderr, Stdin, Stdout};
 use std::marker::Brand;

@@ -1,17 +1,14 @@
 //! A run of the program over any input, output and standard error.
 ghost use Rattle.std.specs.Prelude.{◌≡◌, map, string_bytes};
 ghost use Rattle.nbbo_main.specs.Leading.{Leads};
-ghost use Rattle.nbbo_main.specs.Runs.{IsConfigOf, RunsReplay, Says, TellsRefusal, hint_text};
+ghost use Rattle.nbbo_main.specs.Runs.{IsConfigOf, RunsReplay, TellsRefusal, hint_text};
+ghost use Rattle.feed_text.specs.StandardError.{Says};
 
 use crate::best_runs::{run_lines, run_settings};
-use crate::command_line::settings;
 use crate::ending::ending;
 use crate::line_runs::run_conversion;
-use crate::listen_settings::ListenSettings;
-use crate::refusal::Refusal;
-use crate::replay_settings::ReplaySettings;
 use crate::stats_runs::run_stats;
-use crate::task::Task;
+use command_words::{settings, ListenSettings, Refusal, ReplaySettings, Task};
 use feed_text::devices::{CaptureIn, TextOut};
 use feed_text::fault::ReplayFault;
 use feed_text::output::write_all;
@@ -53,16 +50,6 @@ pub fn config_of(settings: &ReplaySettings) -> ReplayConfig<'_>
         journal: settings.journal,
         gaps: settings.gaps,
         turns: MAX_TURNS,
-    }
-}
-
-/// Writes a text on standard error. Where that fails nothing can be said.
-pub fn write_stderr<E: TextOut>(text: &str, errors: &mut E)
-    ensures { Says (record { adds = E.adds; failures = E.failures })
-        text.now errors.old errors.new }
-{
-    if !text.is_empty() {
-        let _ = write_all(text.as_bytes(), errors);
     }
 }
 

@@ -1,6 +1,6 @@
 use Rattle.std.proofs.Common.{List, ℕ, Err, inl, inr, refl, subst}
 use Rattle.feed_text.specs.declared.fault.ReplayFault.TheVariants.{NoMemory}
-use Rattle.nbbo_main.specs.Runs.{Says}
+use Rattle.feed_text.specs.StandardError.{Says}
 use Rattle.nbbo_main.proofs.best_runs.run_bests.Goals as goal
 
 pub returns-in-Err : goal.returns-in-Err

@@ -1,6 +1,6 @@
 use Rattle.std.proofs.Common.{List, ℕ, refl, subst}
-use Rattle.nbbo_main.specs.Runs.{Says}
 use Rattle.nbbo_main.proofs.best_runs.run_line_bests.Goals as goal
+use Rattle.feed_text.specs.StandardError.{Says}
 
 pub returns : goal.returns
 returns g c = record {

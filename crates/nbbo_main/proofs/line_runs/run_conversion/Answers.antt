@@ -1,6 +1,6 @@
 use Rattle.std.proofs.Common.{ℕ, List, refl, subst}
 use Rattle.feed_text.specs.Devices.{Writing}
-use Rattle.nbbo_main.specs.Runs.{Says}
+use Rattle.feed_text.specs.StandardError.{Says}
 use Rattle.nbbo_main.proofs.line_runs.run_conversion.Goals as goal
 
 pub returns : goal.returns

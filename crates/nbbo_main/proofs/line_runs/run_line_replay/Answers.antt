@@ -1,8 +1,8 @@
 use Rattle.std.proofs.Common.{ℕ, List, refl, subst}
 use Rattle.feed_text.specs.Devices.{Reading, Writing}
+use Rattle.feed_text.specs.StandardError.{Says}
 use Rattle.line_captures.specs.declared.captured_line.CapturedLine.{CapturedLine}
 use Rattle.replay_run.specs.LineReplays.{ReplaysLines}
-use Rattle.nbbo_main.specs.Runs.{Says}
 use Rattle.nbbo_main.proofs.line_runs.run_line_replay.Goals as goal
 
 pub returns : goal.returns

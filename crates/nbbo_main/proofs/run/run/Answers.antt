@@ -2,11 +2,11 @@ use Rattle.std.proofs.Common.{inl, inr, subst, sym, map, List}
 use Rattle.std.specs.Prelude.{string_bytes}
 use Rattle.feed_text.specs.Devices.{Reading, Writing}
 use Rattle.line_captures.specs.declared.captured_line.CapturedLine.{CapturedLine}
-use Rattle.nbbo_main.specs.CommandLine.{Asks}
+use Rattle.command_words.specs.CommandLine.{Asks}
 use Rattle.nbbo_main.specs.Leading.{Leads}
 use Rattle.nbbo_main.specs.LineRuns.{RunsConversion}
 use Rattle.nbbo_main.specs.declared.run.ProgramRun.{ProgramRun}
-use Rattle.nbbo_main.specs.declared.task.Task.{Task}
+use Rattle.command_words.specs.declared.task.Task.{Task}
 use Rattle.nbbo_main.proofs.run.run.Goals as goal
 
 pub returns-in-Replay : goal.returns-in-Replay

@@ -4,6 +4,7 @@ use Rattle.feed_text.specs.declared.fault.ReplayFault.{ReplayFault}
 use Rattle.feed_text.specs.declared.replay.ReplayConfig.{ReplayConfig}
 use Rattle.feed_text.specs.Devices.{Reading, Writing}
 use Rattle.feed_text.specs.Replays.{venues_in}
+use Rattle.feed_text.specs.StandardError.{Says}
 use Rattle.capture_stats.specs.Texts.{text_of_stats}
 use Rattle.capture_stats.specs.Writers.{IsNewFor}
 use Rattle.capture_stats.specs.declared.format.StatsFormat.{StatsFormat}
@@ -16,7 +17,6 @@ use Rattle.line_captures.specs.declared.report.LinesFault.{LinesFault}
 use Rattle.line_captures.specs.declared.report.LinesFault.TheVariants.{Run}
 use Rattle.replay_run.specs.LineReplays.{AnswersLineReplay, ReplaysLines, WroteCaptureText}
 use Rattle.replay_run.specs.Printed.{texts_of_run}
-use Rattle.nbbo_main.specs.Runs.{Says}
 use Rattle.nbbo_main.specs.StatsRuns.{PrintsTimedStats, counts_texts, lines_ended_by, stats_writing, timed_reading}
 use Rattle.nbbo_main.proofs.stats_runs.run_line_stats.Goals as goal
 

@@ -5,12 +5,12 @@ use Rattle.feed_text.specs.declared.fault.ReplayFault.TheVariants.{NoMemory}
 use Rattle.feed_text.specs.declared.replay.ReplayConfig.{ReplayConfig}
 use Rattle.feed_text.specs.Devices.{Reading, Writing}
 use Rattle.feed_text.specs.Replays.{AnswersReplay, WroteAll, venues_in}
+use Rattle.feed_text.specs.StandardError.{Says}
 use Rattle.capture_stats.specs.Texts.{text_of_stats}
 use Rattle.capture_stats.specs.Writers.{IsNewFor}
 use Rattle.capture_stats.specs.declared.format.StatsFormat.{StatsFormat}
 use Rattle.capture_stats.specs.declared.stats_out.StatsOut.{StatsOut}
 use Rattle.replay_run.specs.Printed.{texts_of_run}
-use Rattle.nbbo_main.specs.Runs.{Says}
 use Rattle.nbbo_main.specs.StatsRuns.{IsCountsText, PrintsStats, ended_by, stats_writing}
 use Rattle.nbbo_main.proofs.stats_runs.run_own_stats.Goals as goal
 

@@ -1,0 +1,5 @@
+pub mod Asking
+mod Listing
+mod Naming
+mod Spelling
+pub mod CapturedLists

@@ -1,0 +1,55 @@
+-- The addresses on the command line, this project's own format: an address is an IP address and a
+-- port, as std reads it (1.2.3.4:5, or [::1]:5). The list of lines has two for each venue,
+-- separated by commas: line A's and then line B's.
+use Rattle.std.specs.Prelude.{◌≡◌, ◌≢◌, ◌⊎◌, ℕ, ◌*◌, List, [], ◌∷◌, Option, Some, None, length}
+use Rattle.std.specs.List.{All}
+use Rattle.std.specs.Net.Addr.{IsUnspecifiedV4, IsUnspecifiedV6, MatchIp, is_ipv4}
+use Rattle.std.specs.Net.Grammar.{IsSocketText}
+use Rattle.std.specs.Net.Socket.{socket_ip, socket_port}
+use Rattle.std.specs.declared.net.socket_addr.SocketAddr.{SocketAddr}
+use Rattle.command_words.specs.Sessions.{names_in}
+use Rattle.command_words.specs.declared.addresses.LinesFault.{LinesFault}
+use Rattle.command_words.specs.declared.addresses.LinesFault.TheVariants.{BadLines, NoMemory}
+
+-- the texts spell these addresses, one by one
+abbrev pub AreAddresses : List (List ℕ) → List SocketAddr → Type 0
+AreAddresses [] [] = Unit {0}
+AreAddresses [] (address ∷ addresses) = ⊥
+AreAddresses (text ∷ texts) [] = ⊥
+AreAddresses (text ∷ texts) (address ∷ addresses) =
+    IsSocketText text address × AreAddresses texts addresses
+
+-- The list names these lines of `venues` venues.
+pub record NameLines (list : List ℕ) (venues : ℕ) (lines : List SocketAddr) : Type 0 where
+  pub spelled : AreAddresses (names_in list) lines
+  pub two_each : length lines ≡ 2 * venues
+
+-- Why a list names no lines. Memory may be refused at any time.
+abbrev pub HasLinesFault : List ℕ → ℕ → LinesFault → Type 0
+HasLinesFault list venues BadLines = (lines : List SocketAddr) → NameLines list venues lines → ⊥
+HasLinesFault list venues NoMemory = Unit {0}
+
+-- `0.0.0.0` or `::`, which is the address of no machine
+abbrev pub IsUnspecified : SocketAddr → Type 0
+IsUnspecified address = MatchIp (socket_ip address) IsUnspecifiedV4 IsUnspecifiedV6
+
+-- A request can be sent to the address from each of the lines: it has a port and is one machine's,
+-- and it is of each line's version of IP.
+abbrev pub IsAskable : List SocketAddr → SocketAddr → Type 0
+IsAskable lines address =
+    (socket_port address ≢ 0) × (IsUnspecified address → ⊥)
+    × All (λ line. is_ipv4 (socket_ip line) ≡ is_ipv4 (socket_ip address)) lines
+
+-- the address to which these lines' requests go, if there is one
+abbrev pub NamesRequest : List SocketAddr → Option (List ℕ) → Option SocketAddr → Type 0
+NamesRequest lines None None = Unit {0}
+NamesRequest lines None (Some address) = ⊥
+NamesRequest lines (Some text) None = ⊥
+NamesRequest lines (Some text) (Some address) = IsSocketText text address × IsAskable lines address
+
+-- the text that is given for it is no address, or one to which no request can be sent
+abbrev pub NamesNoRequest : List SocketAddr → Option (List ℕ) → Type 0
+NamesNoRequest lines None = ⊥
+NamesNoRequest lines (Some text) =
+    ((address : SocketAddr) → IsSocketText text address → ⊥)
+    ⊎ ((address : SocketAddr) × IsSocketText text address × (IsAskable lines address → ⊥))

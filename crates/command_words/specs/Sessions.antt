@@ -1,0 +1,31 @@
+-- The list of sessions on the command line, this project's own format: the names of the venues'
+-- first sessions in order, separated by commas.
+use Rattle.std.specs.Prelude.{ℕ, ◌-◌, Bool, ◌&&◌, nat_le, ◌==◌, if◌then◌else◌, List, ◌++◌, length, map, replicate, Result, Ok, Err}
+use Rattle.std.specs.List.{list_all, slice_split}
+use Rattle.command_words.specs.declared.sessions.SessionsFault.{SessionsFault}
+use Rattle.command_words.specs.declared.sessions.SessionsFault.TheVariants.{BadSession, TooManySessions}
+
+-- the texts before, between and after the commas
+abbrev pub names_in : List ℕ → List (List ℕ)
+names_in list = slice_split (λ byte. byte == 44) list
+
+-- printable ASCII, the space among it
+abbrev pub is_session_byte : ℕ → Bool
+is_session_byte byte = nat_le 32 byte && nat_le byte 126
+
+abbrev pub is_session_name : List ℕ → Bool
+is_session_name name =
+    nat_le 1 (length name) && (nat_le (length name) 10 && list_all is_session_byte name)
+
+-- the session of a name, as packets carry it: filled on the right with spaces to ten bytes
+abbrev pub filled_name : List ℕ → List ℕ
+filled_name name = name ++ replicate (10 - length name) 32
+
+-- the sessions of a list; a wrong name is reported before that there are more than 16
+abbrev pub sessions_in : List ℕ → Result (List (List ℕ)) SessionsFault
+sessions_in list =
+    if list_all is_session_name (names_in list)
+    then (if nat_le (length (names_in list)) 16
+    then Ok (map filled_name (names_in list))
+    else Err TooManySessions)
+    else Err BadSession

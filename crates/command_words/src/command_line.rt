@@ -1,0 +1,222 @@
+//! The requests of the words of the command line.
+ghost use Rattle.std.specs.Prelude.{◌≡◌, ◌*◌, ◌≤◌, [], IfOk, IfErr, OnErr, OnOk, codes, map, string_bytes, unwrap_or, vec_len};
+ghost use Rattle.clap.specs.Matches.{found_of};
+ghost use Rattle.clap.specs.Simple.{subcommand_of, subcommand_rows_of};
+ghost use Rattle.clap.specs.Values.{kind_of};
+ghost use Rattle.clap.specs.Walk.{first_of, one_of, rows_of};
+ghost use Rattle.command_words.specs.Addresses.{HasLinesFault, NameLines, NamesNoRequest, NamesRequest};
+ghost use Rattle.command_words.specs.CommandLine.{Asks, Gives, GivesBadFormat, GivesBests, GivesListening, GivesNoListening, GivesNone, IsCount, IsFlag, IsGivenCount, IsRefused, IsAccepted, IsWindowOf, RefusesBy, lines_in, symbol_words_in};
+ghost use Rattle.command_words.specs.Commands.{nbbo_app};
+ghost use Rattle.command_words.specs.Symbols.{HasSymbolsFault, NameSymbols};
+
+use crate::addresses::{LinesFault, RequestFault, read_lines, read_request};
+use crate::best_format::{FormatFault, read_format};
+use crate::commands::nbbo_command;
+use crate::line_tasks::{conversion_of, replay_task};
+use crate::listen_settings::ListenSettings;
+use crate::refusal::Refusal;
+use crate::replay_settings::ReplaySettings;
+use crate::sessions::read_sessions;
+use crate::stats_words::stats_of;
+use crate::symbols::{SymbolsFault, read_symbols};
+use crate::task::Task;
+use best_lines::Format;
+use clap::error::ErrorKind;
+use clap::{ArgMatches, Error};
+use feed_types::{MAX_WINDOW, SymbolName};
+use std::alloc::Global;
+use std::net::SocketAddr;
+
+/// The window where the words give none.
+const DEFAULT_WINDOW: u32 = 4_096;
+
+/// The number of entries for which the journal has room, and of datagrams that a line reads, where
+/// the words don't say.
+const DEFAULT_COUNT: u32 = 1_000_000;
+
+/// The refusal for an error of the parser.
+fn refusal_of(alloc: Global, error: &Error) -> Refusal
+    ensures { RefusesBy (kind_of error.now) result }
+{
+    let kind = error.kind();
+    if kind == ErrorKind::OutOfMemory {
+        return Refusal::NoMemory;
+    }
+    match error.to_string(alloc) {
+        Ok(text) if kind == ErrorKind::DisplayHelp || kind == ErrorKind::DisplayVersion => {
+            Refusal::Shown(text)
+        }
+        Ok(text) => Refusal::Usage(text),
+        Err(_) => Refusal::NoMemory,
+    }
+}
+
+/// The values that the words give to the commands and their options.
+fn parsed<'a>(alloc: Global, words: &'a [String]) -> Result<ArgMatches<'a>, Refusal>
+    ensures taken { OnOk result (IsAccepted (map (λ word. string_bytes word) words.entry.now)) }
+    ensures values { IfOk result (λ m.
+        subcommand_rows_of m
+        ≡ subcommand_of nbbo_app (map (λ word. string_bytes word) words.entry.now)) }
+    ensures refused { IfErr result (IsRefused (map (λ word. string_bytes word) words.entry.now)) }
+{
+    match nbbo_command(alloc)?.try_get_matches_from(words) {
+        Ok(matches) => Ok(matches),
+        Err(error) => Err(refusal_of(alloc, &error)),
+    }
+}
+
+/// The window that the option gives. The parser has refused a number that is out of range.
+pub fn window_of(options: &ArgMatches<'_>) -> u32
+    ensures value { IsWindowOf (one_of (codes "window") (rows_of (found_of options.now))) result }
+    ensures some { 1 ≤ result }
+    ensures in_range { result ≤ 65535 }
+{
+    match options.get_one::<u32>("window") {
+        Some(window) if 1 <= window && window <= MAX_WINDOW => window,
+        _ => DEFAULT_WINDOW,
+    }
+}
+
+/// The count that the option of this name gives.
+fn count_of(options: &ArgMatches<'_>, name: &str) -> u32
+    ensures { IsCount (one_of name.now (rows_of (found_of options.now))) result }
+{
+    match options.get_one::<u32>(name) {
+        Some(count) => count,
+        None => DEFAULT_COUNT,
+    }
+}
+
+/// The symbols that the words name.
+pub fn symbols_of(alloc: Global, options: &ArgMatches<'_>) -> Result<Vec<SymbolName>, SymbolsFault>
+    ensures ok { IfOk result (λ symbols.
+        NameSymbols (symbol_words_in (rows_of (found_of options.now))) symbols.items) }
+    ensures err { IfErr result (HasSymbolsFault
+        (symbol_words_in (rows_of (found_of options.now)))) }
+{
+    match options.get_strs("symbols") {
+        Some(words) => read_symbols(alloc, words),
+        None => read_symbols(alloc, &[]),
+    }
+}
+
+/// The text of the option of this name, empty where it isn't given.
+pub fn text_of<'a>(options: &ArgMatches<'a>, name: &str) -> &'a str
+    ensures { result.now ≡ unwrap_or (first_of name.now (rows_of (found_of options.now))) [] }
+{
+    match options.get_str(name) {
+        Some(text) => text,
+        None => "",
+    }
+}
+
+/// The number that the option of this name gives, if it is given.
+fn given_count_of(options: &ArgMatches<'_>, name: &str) -> Option<u32>
+    ensures { IsGivenCount (one_of name.now (rows_of (found_of options.now))) result }
+{
+    match options.get_one::<u32>(name) {
+        Some(count) => Some(count),
+        None => None,
+    }
+}
+
+/// Whether the flag of this name is given.
+fn flag_of(options: &ArgMatches<'_>, name: &str) -> bool
+    ensures { IsFlag (one_of name.now (rows_of (found_of options.now))) result }
+{
+    options.get_flag(name)
+}
+
+/// The format in which the best lines alone are printed, or `None` where all lines are.
+fn bests_of(replay: &ArgMatches<'_>) -> Result<Option<Format>, FormatFault>
+    ensures ok { IfOk result (GivesBests (rows_of (found_of replay.now))) }
+    ensures err { IfErr result (λ _. GivesBadFormat (rows_of (found_of replay.now))) }
+{
+    read_format(flag_of(replay, "best-only"), replay.get_str("format"))
+}
+
+/// The lines that the option gives, two for each of `venues` venues.
+fn lines_of(
+    alloc: Global,
+    listen: &ArgMatches<'_>,
+    venues: usize,
+) -> Result<Vec<SocketAddr>, LinesFault>
+    requires { venues ≤ 16 }
+    ensures ok { IfOk result (λ lines.
+        NameLines (lines_in (rows_of (found_of listen.now))) venues lines.items) }
+    ensures err { IfErr result (HasLinesFault (lines_in (rows_of (found_of listen.now))) venues) }
+    ensures count { IfOk result (λ lines. vec_len lines ≡ 2 * venues) }
+{
+    read_lines(alloc, text_of(listen, "lines"), venues)
+}
+
+/// The address for these lines' requests that the option gives, if it is given.
+fn request_of(
+    listen: &ArgMatches<'_>,
+    lines: &[SocketAddr],
+) -> Result<Option<SocketAddr>, RequestFault>
+    ensures ok { IfOk result (NamesRequest lines.now
+        (first_of (codes "request") (rows_of (found_of listen.now)))) }
+    ensures err { OnErr result (NamesNoRequest lines.now
+        (first_of (codes "request") (rows_of (found_of listen.now)))) }
+{
+    read_request(listen.get_str("request"), lines)
+}
+
+/// The settings that the options of `replay` give.
+pub fn settings_of(alloc: Global, replay: &ArgMatches<'_>) -> Result<ReplaySettings, Refusal>
+    ensures ok { IfOk result (Gives (rows_of (found_of replay.now))) }
+    ensures err { IfErr result (GivesNone (rows_of (found_of replay.now))) }
+{
+    Ok(ReplaySettings {
+        sessions: read_sessions(alloc, text_of(replay, "sessions"))?,
+        symbols: symbols_of(alloc, replay)?,
+        window: window_of(replay),
+        journal: count_of(replay, "journal"),
+        gaps: flag_of(replay, "gaps"),
+        bests: bests_of(replay)?,
+    })
+}
+
+/// The settings that the options of `listen` give.
+fn listening_of(alloc: Global, listen: &ArgMatches<'_>) -> Result<ListenSettings, Refusal>
+    ensures ok { IfOk result (GivesListening (rows_of (found_of listen.now))) }
+    ensures err { IfErr result (GivesNoListening (rows_of (found_of listen.now))) }
+{
+    let sessions = read_sessions(alloc, text_of(listen, "sessions"))?;
+    let lines = lines_of(alloc, listen, sessions.len())?;
+    let request = request_of(listen, lines.as_slice())?;
+    Ok(ListenSettings {
+        sessions,
+        lines,
+        request,
+        symbols: symbols_of(alloc, listen)?,
+        window: window_of(listen),
+        journal: count_of(listen, "journal"),
+        datagrams: count_of(listen, "datagrams"),
+        buffer: given_count_of(listen, "buffer"),
+    })
+}
+
+/// The task that the words ask for, of which the first is the program's name, or why they are
+/// refused.
+pub fn settings(alloc: Global, words: &[String]) -> Result<Task, Refusal>
+    ensures ok { IfOk result (Asks (map (λ word. string_bytes word) words.now)) }
+    ensures err { IfErr result (IsRefused (map (λ word. string_bytes word) words.now)) }
+{
+    let matches = parsed(alloc, words)?;
+    if let Some(listen) = matches.subcommand_matches("listen") {
+        return Ok(Task::Listen(listening_of(alloc, listen)?));
+    }
+    if let Some(convert) = matches.subcommand_matches("convert") {
+        return Ok(Task::Convert(conversion_of(alloc, convert)?));
+    }
+    if let Some(stats) = matches.subcommand_matches("stats") {
+        return Ok(Task::Stats(stats_of(alloc, stats)?));
+    }
+    match matches.subcommand_matches("replay") {
+        Some(replay) => Ok(replay_task(alloc, replay)?),
+        // Without a command there is no list of sessions either.
+        None => Err(Refusal::BadSession),
+    }
+}

@@ -1,0 +1,35 @@
+//! What the words of the command line ask for.
+//!
+//! Contract: of any words, [`settings`] returns the [`Task`] that they ask for, with its settings, or the
+//! [`Refusal`] that they get: a text and a status. `specs/CommandLine.antt` says which of them, over clap's
+//! reading of the words (`specs/Commands.antt`) and the definitions of each kind of value
+//! (`specs/Sessions.antt`, `specs/Symbols.antt`, `specs/Addresses.antt`, `specs/CapturedLines.antt`).
+//!
+//! Begin with `command_line.rt`, then `commands.rt`, which has the options, and `help_texts.rt`.
+#![tactic(auto)]
+
+mod addresses;
+mod best_format;
+mod captured_lines;
+mod command_line;
+mod commands;
+mod help_texts;
+mod line_replay_settings;
+mod line_tasks;
+mod listen_settings;
+mod refusal;
+mod replay_settings;
+mod sessions;
+mod stats_format;
+mod stats_settings;
+mod stats_words;
+mod symbols;
+mod task;
+
+pub use command_line::settings;
+pub use line_replay_settings::LineReplaySettings;
+pub use listen_settings::ListenSettings;
+pub use refusal::Refusal;
+pub use replay_settings::ReplaySettings;
+pub use stats_settings::{StatsInput, StatsSettings};
+pub use task::Task;

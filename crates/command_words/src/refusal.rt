@@ -1,0 +1,136 @@
+//! The reasons why the program has no settings.
+ghost use Rattle.std.specs.Prelude.{◌≡◌};
+ghost use Rattle.command_words.specs.CommandLine.{lines_refusal_by, refusal_by, refusal_status, refusal_text, symbols_refusal_by};
+ghost use Rattle.command_words.specs.declared.refusal.Refusal.TheVariants.{BadFormat, BadRequest, NoMemory};
+
+use crate::addresses::{LinesFault, RequestFault};
+use crate::best_format::FormatFault;
+use crate::sessions::SessionsFault;
+use crate::symbols::SymbolsFault;
+use std::alloc::AllocError;
+
+/// Why there are no settings.
+#[derive(Debug, Drop)]
+pub enum Refusal {
+    /// Help or the version was asked for; its text.
+    Shown(String),
+    /// The words are no command line of the program. The text says what is wrong with them.
+    Usage(String),
+    /// A word isn't UTF-8.
+    NotText,
+    /// A session name is empty, has more than ten bytes, or has a byte outside of `20` to `7e`.
+    BadSession,
+    /// More than 16 sessions are named.
+    TooManySessions,
+    /// The lines aren't two addresses for each session.
+    BadLines,
+    /// The text for the address of requests is no address, or one to which no request can be sent.
+    BadRequest,
+    /// The format of the best lines is none of those that there are, or is given where all lines are
+    /// printed.
+    BadFormat,
+    /// A symbol is empty, has more than eight bytes, or has a byte outside of `21` to `7e`.
+    BadSymbol,
+    /// More than 4,096 symbols are named.
+    TooManySymbols,
+    /// A symbol is named twice.
+    DuplicateSymbol,
+    /// Memory was refused.
+    NoMemory,
+}
+
+impl Refusal {
+    /// The status of the program: 0 after help or the version, 1 where memory was refused, else 2.
+    pub fn status(&self) -> u8
+        ensures { result ≡ refusal_status self.now }
+    {
+        match self {
+            Refusal::Shown(_) => 0,
+            Refusal::NoMemory => 1,
+            Refusal::Usage(_) | Refusal::NotText => 2,
+            Refusal::BadSession | Refusal::TooManySessions => 2,
+            Refusal::BadLines | Refusal::BadRequest | Refusal::BadFormat => 2,
+            Refusal::BadSymbol | Refusal::TooManySymbols | Refusal::DuplicateSymbol => 2,
+        }
+    }
+
+    /// The text that is printed, with its line ends: on standard output where the status is 0, else
+    /// on standard error.
+    pub fn text(&self) -> &str
+        ensures { result.now ≡ refusal_text self.now }
+    {
+        match self {
+            Refusal::Shown(text) | Refusal::Usage(text) => text.as_str(),
+            Refusal::NotText => "nbbo: the command line is not UTF-8\n",
+            Refusal::BadSession => "nbbo: bad session\n",
+            Refusal::TooManySessions => "nbbo: too many sessions\n",
+            Refusal::BadLines => "nbbo: bad lines\n",
+            Refusal::BadRequest => "nbbo: bad request address\n",
+            Refusal::BadFormat => "nbbo: bad format\n",
+            Refusal::BadSymbol => "nbbo: bad symbol\n",
+            Refusal::TooManySymbols => "nbbo: too many symbols\n",
+            Refusal::DuplicateSymbol => "nbbo: duplicate symbol\n",
+            Refusal::NoMemory => "nbbo: no memory\n",
+        }
+    }
+}
+
+impl From<AllocError> for Refusal {
+    ghost from_gives = { λ _ refusal. refusal ≡ NoMemory };
+
+    fn from(_error: AllocError) -> Refusal {
+        Refusal::NoMemory
+    }
+}
+
+impl From<SessionsFault> for Refusal {
+    ghost from_gives = { λ fault refusal. refusal ≡ refusal_by fault };
+
+    fn from(fault: SessionsFault) -> Refusal {
+        match fault {
+            SessionsFault::BadSession => Refusal::BadSession,
+            SessionsFault::TooManySessions => Refusal::TooManySessions,
+            SessionsFault::NoMemory => Refusal::NoMemory,
+        }
+    }
+}
+
+impl From<LinesFault> for Refusal {
+    ghost from_gives = { λ fault refusal. refusal ≡ lines_refusal_by fault };
+
+    fn from(fault: LinesFault) -> Refusal {
+        match fault {
+            LinesFault::BadLines => Refusal::BadLines,
+            LinesFault::NoMemory => Refusal::NoMemory,
+        }
+    }
+}
+
+impl From<RequestFault> for Refusal {
+    ghost from_gives = { λ _ refusal. refusal ≡ BadRequest };
+
+    fn from(_fault: RequestFault) -> Refusal {
+        Refusal::BadRequest
+    }
+}
+
+impl From<FormatFault> for Refusal {
+    ghost from_gives = { λ _ refusal. refusal ≡ BadFormat };
+
+    fn from(_fault: FormatFault) -> Refusal {
+        Refusal::BadFormat
+    }
+}
+
+impl From<SymbolsFault> for Refusal {
+    ghost from_gives = { λ fault refusal. refusal ≡ symbols_refusal_by fault };
+
+    fn from(fault: SymbolsFault) -> Refusal {
+        match fault {
+            SymbolsFault::BadSymbol => Refusal::BadSymbol,
+            SymbolsFault::TooManySymbols => Refusal::TooManySymbols,
+            SymbolsFault::DuplicateSymbol => Refusal::DuplicateSymbol,
+            SymbolsFault::NoMemory => Refusal::NoMemory,
+        }
+    }
+}

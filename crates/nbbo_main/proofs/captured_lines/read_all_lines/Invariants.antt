@@ -1,7 +1,0 @@
-use Rattle.std.proofs.Common.{ℕ, ◌≤◌}
-use Rattle.nbbo_main.specs.CapturedLines.{HasCapturedLinesFault}
-use Rattle.nbbo_main.specs.declared.addresses.LinesFault.TheVariants.{BadLines}
-use Rattle.nbbo_main.proofs.captured_lines.read_all_lines.Given as goal
-
-abbrev pub invariant-loop-fewer : goal.invariant-loop-fewer
-invariant-loop-fewer l = (venues : ℕ) → 1 ≤ venues → venues ≤ l.fewer → HasCapturedLinesFault l.list venues BadLines

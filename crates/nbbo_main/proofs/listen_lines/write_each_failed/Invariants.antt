@@ -1,7 +1,0 @@
-use Rattle.nbbo_main.specs.Listening.{failed_texts}
-use Rattle.nbbo_main.proofs.Ends.{SaysRest}
-use Rattle.nbbo_main.proofs.listen_lines.write_each_failed.Given as goal
-
-abbrev pub invariant-loop-line : goal.invariant-loop-line
-invariant-loop-line g l =
-    SaysRest (record { adds = g.E.TextOut.adds; failures = g.E.TextOut.failures }) failed_texts l.failed l.line-index l.fn.errors l.errors
