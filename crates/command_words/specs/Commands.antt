@@ -71,6 +71,36 @@ buffer_rule = record (new_rule (codes "buffer")) {
   parser = Some (Signed (pos 1) (pos 1073741823));
 }
 
+-- --seconds N, a number from 1 to 4294967295
+abbrev pub seconds_rule : Rule
+seconds_rule = record (new_rule (codes "seconds")) {
+  long = Some (codes "seconds");
+  value_names = 1;
+  parser = Some (Signed (pos 1) (pos 4294967295));
+}
+
+-- --until-input-ends
+abbrev pub until_input_ends_rule : Rule
+until_input_ends_rule = record (new_rule (codes "until-input-ends")) {
+  long = Some (codes "until-input-ends");
+  action = Some SetTrue;
+}
+
+-- --follow
+abbrev pub follow_rule : Rule
+follow_rule = record (new_rule (codes "follow")) {
+  long = Some (codes "follow");
+  action = Some SetTrue;
+}
+
+-- --stats SECONDS, a number from 1 to 4294967295
+abbrev pub stats_rule : Rule
+stats_rule = record (new_rule (codes "stats")) {
+  long = Some (codes "stats");
+  value_names = 1;
+  parser = Some (Signed (pos 1) (pos 4294967295));
+}
+
 -- --gaps
 abbrev pub gaps_rule : Rule
 gaps_rule = record (new_rule (codes "gaps")) { long = Some (codes "gaps"); action = Some SetTrue }
@@ -120,8 +150,13 @@ lines_app =
 abbrev pub counts_app : App
 counts_app = with_rule (with_rule (with_rule lines_app window_rule) journal_rule) datagrams_rule
 
+-- listen with its options that say when it ends, too
+abbrev pub ends_app : App
+ends_app =
+    with_rule (with_rule (with_rule counts_app buffer_rule) seconds_rule) until_input_ends_rule
+
 abbrev pub listen_app : App
-listen_app = with_rule (with_rule counts_app buffer_rule) symbols_rule
+listen_app = with_rule (with_rule (with_rule ends_app follow_rule) stats_rule) symbols_rule
 
 -- the program without its subcommands, which then does nothing
 abbrev pub program_app : App

@@ -3,16 +3,16 @@ ghost use Rattle.std.specs.Prelude.{◌≡◌, IfOk, false, codes};
 ghost use Rattle.clap.specs.Simple.{app_of, new_app};
 ghost use Rattle.clap.specs.Walk.{rule_of};
 ghost use Rattle.clap.specs.declared.builder.command.Command.TheViews.{out-Command as fields_of};
-ghost use Rattle.command_words.specs.Commands.{best_only_rule, buffer_rule, captured_lines_rule, choices_app, convert_app, converting_app, counting_app, counts_app, datagrams_rule, format_rule, gaps_rule, journal_rule, lines_app, lines_rule, listen_app, listening_app, nbbo_app, options_app, program_app, replay_app, replaying_app, request_rule, sessions_rule, stats_app, symbols_rule, window_rule};
+ghost use Rattle.command_words.specs.Commands.{best_only_rule, buffer_rule, captured_lines_rule, choices_app, convert_app, converting_app, counting_app, counts_app, datagrams_rule, ends_app, follow_rule, format_rule, gaps_rule, journal_rule, lines_app, lines_rule, listen_app, listening_app, nbbo_app, options_app, program_app, replay_app, replaying_app, request_rule, seconds_rule, sessions_rule, stats_app, stats_rule, symbols_rule, until_input_ends_rule, window_rule};
 
 use crate::help_texts::{
     ABOUT, BEST_ONLY_HELP, BUFFER_HELP, CAPTURED_LINES_HELP, CONVERT_ABOUT, CONVERT_END,
     CONVERT_EXAMPLE, CONVERT_LONG_ABOUT, CONVERT_USAGE, COUNTED_SYMBOLS_HELP, DATAGRAMS_HELP,
-    EXAMPLE, FORMAT_HELP, GAPS_HELP, JOURNAL_HELP, LINES_HELP, LISTEN_ABOUT, LISTEN_EXAMPLE,
-    LISTEN_LINES, LISTEN_LONG_ABOUT, LISTEN_USAGE, REPLAY_ABOUT, REPLAY_EXAMPLE, REPLAY_LINES,
-    REPLAY_LONG_ABOUT, REPLAY_USAGE, REQUEST_HELP, SESSIONS_HELP, STATS_ABOUT, STATS_END,
-    STATS_EXAMPLE, STATS_FORMAT_HELP, STATS_LONG_ABOUT, STATS_USAGE, SYMBOLS_HELP, VERSION,
-    WINDOW_HELP,
+    EXAMPLE, FOLLOW_HELP, FORMAT_HELP, GAPS_HELP, JOURNAL_HELP, LINES_HELP, LISTEN_ABOUT,
+    LISTEN_EXAMPLE, LISTEN_LINES, LISTEN_LONG_ABOUT, LISTEN_USAGE, REPLAY_ABOUT, REPLAY_EXAMPLE,
+    REPLAY_LINES, REPLAY_LONG_ABOUT, REPLAY_USAGE, REQUEST_HELP, SECONDS_HELP, SESSIONS_HELP,
+    STATS_ABOUT, STATS_END, STATS_EXAMPLE, STATS_FORMAT_HELP, STATS_HELP, STATS_LONG_ABOUT,
+    STATS_USAGE, SYMBOLS_HELP, UNTIL_INPUT_ENDS_HELP, VERSION, WINDOW_HELP,
 };
 use clap::{Arg, ArgAction, Command, value_parser};
 use std::alloc::{AllocError, Global};
@@ -128,6 +128,52 @@ fn buffer_option<'a>(alloc: Global) -> Arg<'a>
         .value_parser(value_parser!(u32).range(1..=1073741823))
         .help("How large a buffer to ask for at each line's socket, 1 to 1073741823 bytes")
         .long_help(BUFFER_HELP)
+}
+
+fn seconds_option<'a>(alloc: Global) -> Arg<'a>
+    ensures rule { rule_of result ≡ seconds_rule }
+    ensures local { result.global ≡ false }
+{
+    Arg::new(alloc, "seconds")
+        .long("seconds")
+        .value_name("N")
+        .value_parser(value_parser!(u32).range(1..=4294967295))
+        .help("After how many seconds the run ends, 1 to 4294967295")
+        .long_help(SECONDS_HELP)
+}
+
+fn until_input_ends_flag<'a>(alloc: Global) -> Arg<'a>
+    ensures rule { rule_of result ≡ until_input_ends_rule }
+    ensures local { result.global ≡ false }
+{
+    Arg::new(alloc, "until-input-ends")
+        .long("until-input-ends")
+        .action(ArgAction::SetTrue)
+        .help("Ends the run when standard input ends")
+        .long_help(UNTIL_INPUT_ENDS_HELP)
+}
+
+fn follow_flag<'a>(alloc: Global) -> Arg<'a>
+    ensures rule { rule_of result ≡ follow_rule }
+    ensures local { result.global ≡ false }
+{
+    Arg::new(alloc, "follow")
+        .long("follow")
+        .action(ArgAction::SetTrue)
+        .help("Prints each best line as it comes")
+        .long_help(FOLLOW_HELP)
+}
+
+fn stats_option<'a>(alloc: Global) -> Arg<'a>
+    ensures rule { rule_of result ≡ stats_rule }
+    ensures local { result.global ≡ false }
+{
+    Arg::new(alloc, "stats")
+        .long("stats")
+        .value_name("SECONDS")
+        .value_parser(value_parser!(u32).range(1..=4294967295))
+        .help("Every how many seconds standard error has counts of each venue, 1 to 4294967295")
+        .long_help(STATS_HELP)
 }
 
 fn gaps_flag<'a>(alloc: Global) -> Arg<'a>
@@ -253,12 +299,24 @@ fn counts_command<'a>(alloc: Global) -> Result<Command<'a>, AllocError>
         .arg(datagrams_option(alloc))
 }
 
-fn listen_command<'a>(alloc: Global) -> Result<Command<'a>, AllocError>
-    ensures app { IfOk result (λ c. app_of c ≡ listen_app) }
+/// `listen` with its options that say when it ends, too.
+fn ends_command<'a>(alloc: Global) -> Result<Command<'a>, AllocError>
+    ensures app { IfOk result (λ c. app_of c ≡ ends_app) }
     ensures local { IfOk result (λ c. (fields_of c).has_globals ≡ false) }
 {
     counts_command(alloc)?
         .arg(buffer_option(alloc))?
+        .arg(seconds_option(alloc))?
+        .arg(until_input_ends_flag(alloc))
+}
+
+fn listen_command<'a>(alloc: Global) -> Result<Command<'a>, AllocError>
+    ensures app { IfOk result (λ c. app_of c ≡ listen_app) }
+    ensures local { IfOk result (λ c. (fields_of c).has_globals ≡ false) }
+{
+    ends_command(alloc)?
+        .arg(follow_flag(alloc))?
+        .arg(stats_option(alloc))?
         .arg(symbols_argument(alloc))
 }
 

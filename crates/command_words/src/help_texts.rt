@@ -297,6 +297,25 @@ How many bytes of room to ask for in each line's socket, where the system keeps 
 come until it is read: 1 to 1073741823. Standard error says how many there are then; the
 system gives no more than its own limit. Without this option it is the system's default";
 
+pub const SECONDS_HELP: &str = "\
+After how many seconds the run ends, whether or not anything comes on the lines: 1 to
+4294967295. What came until then is printed as at any other end, and the status is 0";
+
+pub const UNTIL_INPUT_ENDS_HELP: &str = "\
+Ends the run when standard input ends, whether or not anything comes on the lines. What
+standard input brings is passed over. What came on the lines until then is printed as at
+any other end, and the status is 0. In a terminal Ctrl-D ends standard input; with
+'< /dev/null' it ends at once";
+
+pub const FOLLOW_HELP: &str = "\
+Prints each best line as it comes, in the same order as without this option, and the
+lines of the venues once all lines have ended";
+
+pub const STATS_HELP: &str = "\
+Every how many seconds standard error has a line of counts for each venue: 1 to
+4294967295. At the end it has a table of the whole run: packets, messages, and of these
+those that were repeated, refused or ahead of the window, gaps, and requests";
+
 /// `listen`, in a line.
 pub const LISTEN_ABOUT: &str = "Listens on the lines of live venues and prints what they came to";
 
@@ -306,8 +325,8 @@ Listens on the lines of live venues and prints what they came to.
 Each venue sends the same MoldUDP64 packets on two lines, A and B. Each line is received by UDP,
 in a thread of its own. What either line brings is put into one sequence, and the national best
 bid and offer of each symbol is kept. A line ends after an end of session, or after as many
-datagrams as --datagrams says. Once all lines have ended, what changed is printed, and not
-before.";
+datagrams as --datagrams says; --seconds and --until-input-ends end all lines. Once they have
+ended, what changed is printed; with --follow each change is printed as it comes.";
 
 /// The usage of `listen`.
 pub const LISTEN_USAGE: &str = "nbbo listen [OPTIONS] --sessions <LIST> --lines <LIST> [SYMBOL]...";
@@ -321,7 +340,7 @@ Example, one venue whose lines are received on two ports:
 
 /// The part of the long help after the options.
 pub const LISTEN_LINES: &str = "\
-Printed lines, once all lines have ended:
+Printed lines, once all lines have ended; with --follow each best line as it comes:
   best NOTICE POSITION SYMBOL BID OFFER STATE
                                  the journal's entry at POSITION has changed the national best bid
                                  or offer of the symbol. BID and OFFER are none or V:PRICExSIZE;
@@ -353,8 +372,10 @@ more are dropped while its thread waits for a processor. --buffer asks for more 
 says that the system allows no more, as root, beforehand:
   sysctl -w net.core.rmem_max=4194304
 
-A first interrupt from the keyboard ends the program at once, and nothing is printed: what
-was taken is not kept. To have it printed, send each line an end of session.
+A first interrupt from the keyboard ends the program at once, and nothing more is printed: what
+was taken is not kept. To have it printed, send each line an end of session; or have the
+interrupt end what the program reads, and not the program:
+  cat | (trap '' INT; nbbo listen --until-input-ends --sessions .. > best.txt)
 
 Status:
   0  all lines ended and what they came to was printed, or help was shown. Standard error says
