@@ -13,6 +13,7 @@ use feed_text::devices::{CaptureIn, TextOut};
 use feed_text::fault::ReplayFault;
 use feed_text::output::write_all;
 use feed_text::replay::ReplayConfig;
+use feed_text::standard_error::write_stderr;
 use replay_run::replay;
 use std::alloc::Global;
 

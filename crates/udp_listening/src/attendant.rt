@@ -85,7 +85,9 @@ impl<C: Clock + Clone + Drop> Attendant<C> {
             lacks_thread: false,
         })
     }
+}
 
+impl<C: Clock + Drop> Attendant<C> {
     /// Whether the attendant was there before the run, since no thread could be had for it.
     pub fn lacks_thread(&self) -> bool {
         self.lacks_thread
@@ -151,7 +153,7 @@ pub struct Attendance<N: FeedName, C, W, E> {
     pub followed: Option<SubscriberLog<N>>,
 }
 
-impl<N: FeedName, C: Clock + Clone + Drop, W: TextOut, E: TextOut> Attendance<N, C, W, E> {
+impl<N: FeedName, C: Clock + Drop, W: TextOut, E: TextOut> Attendance<N, C, W, E> {
     /// Has the desk follow the log, if there is one, and returns whether it has printed anything.
     fn follow<R: Wait>(&mut self, rt: &R) -> bool
         ensures shows { (first : W) → HasFollowed (record { adds = W.adds; failures = W.failures })
