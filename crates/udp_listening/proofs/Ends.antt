@@ -5,7 +5,7 @@ use Rattle.feed_text.specs.Devices.{Writing}
 use Rattle.feed_text.specs.StandardError.{SaysEach}
 use Rattle.live_feed.specs.settle.Settlements.{VenueEndState}
 use Rattle.udp_listening.specs.Listening.{end_line, end_lines}
-use Rattle.udp_listening.proofs.Reporting.{says_each}
+use Rattle.feed_text.specs.laws.SaidTexts.{says_each}
 
 -- the element at a place of a list that is long enough
 pub there : {X : Type 0} (xs : List X) (n : ℕ) → n < length xs → (x : X) × (slice_get xs n ≡ Some x)

@@ -1,6 +1,6 @@
 use Rattle.feed_text.specs.Devices.{Writing}
 use Rattle.nbbo_main.specs.LineRuns.{capture_outcome_texts, passed_texts}
-use Rattle.udp_listening.proofs.Reporting.{says_each}
+use Rattle.feed_text.specs.laws.SaidTexts.{says_each}
 use Rattle.nbbo_main.proofs.line_runs.tell_capture.Goals as goal
 
 pub returns : goal.returns

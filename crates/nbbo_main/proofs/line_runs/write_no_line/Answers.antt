@@ -1,7 +1,7 @@
 use Rattle.std.proofs.Common.{codes}
 use Rattle.feed_text.specs.Devices.{Writing}
 use Rattle.nbbo_main.proofs.CaptureCounts.{no_line_none, no_line_some}
-use Rattle.udp_listening.proofs.Reporting.{says_one}
+use Rattle.feed_text.specs.laws.SaidTexts.{says_one}
 use Rattle.nbbo_main.proofs.line_runs.write_no_line.Goals as goal
 
 pub returns-then-to_lines-ne0 : goal.returns-then-to_lines-ne0

@@ -1,7 +1,7 @@
 use Rattle.std.proofs.Common.{codes}
 use Rattle.feed_text.specs.Devices.{Writing}
 use Rattle.nbbo_main.specs.LineRuns.{count_texts}
-use Rattle.udp_listening.proofs.Reporting.{says_each}
+use Rattle.feed_text.specs.laws.SaidTexts.{says_each}
 use Rattle.nbbo_main.proofs.line_runs.write_other.Goals as goal
 
 pub returns : goal.returns

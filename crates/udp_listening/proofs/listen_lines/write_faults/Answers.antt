@@ -3,7 +3,7 @@ use Rattle.feed_text.specs.Devices.{Writing}
 use Rattle.feed_text.specs.StandardError.{SaysEach}
 use Rattle.feed_types.specs.declared.line.LineId.{LineId}
 use Rattle.udp_listening.specs.Listening.{failed_texts, stop_texts}
-use Rattle.udp_listening.proofs.Reporting.{says_each}
+use Rattle.feed_text.specs.laws.SaidTexts.{says_each}
 use Rattle.udp_listening.proofs.listen_lines.write_faults.Goals as goal
 
 pub returns : goal.returns

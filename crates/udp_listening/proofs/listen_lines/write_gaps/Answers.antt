@@ -4,7 +4,7 @@ use Rattle.feed_text.specs.StandardError.{SaysEach}
 use Rattle.feed_types.specs.declared.line.LineId.{LineId}
 use Rattle.udp_listening.specs.Listening.{lack_texts, read_out_texts}
 use Rattle.udp_listening.specs.declared.lack.Lack.{Lack}
-use Rattle.udp_listening.proofs.Reporting.{says_each}
+use Rattle.feed_text.specs.laws.SaidTexts.{says_each}
 use Rattle.udp_listening.proofs.listen_lines.write_gaps.Goals as goal
 
 pub returns : goal.returns

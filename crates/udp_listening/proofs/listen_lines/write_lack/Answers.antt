@@ -1,6 +1,6 @@
 use Rattle.feed_text.specs.Devices.{Writing}
 use Rattle.udp_listening.specs.Listening.{lacking_texts, missing_texts}
-use Rattle.udp_listening.proofs.Reporting.{says_each}
+use Rattle.feed_text.specs.laws.SaidTexts.{says_each}
 use Rattle.udp_listening.proofs.listen_lines.write_lack.Goals as goal
 
 pub returns : goal.returns
