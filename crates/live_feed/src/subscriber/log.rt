@@ -63,8 +63,9 @@ fn advised(strategy: &mut Strategy, bounds: Limits, notice: &Notice) -> Advice
     let shown = *notice;
     let advice = advise(strategy, &shown);
     // No subscriber has other limits here than its strategy's: they are taken from it in
-    // `subscribe`. That can't be said of a type that holds a closure beside a feed's name, so it is
-    // looked at, and what isn't known to be allowed doesn't count.
+    // `subscribe`, or its strategy is made for them. That can't be said of a type that holds a
+    // closure beside a feed's name, so it is looked at, and what isn't known to be allowed doesn't
+    // count.
     if same { advice } else { Advice::Hold }
 }
 

@@ -2,8 +2,8 @@ use Rattle.std.proofs.Common.{◌≡◌, sym, ◌∙◌}
 use Rattle.live_feed.proofs.Statuses.{same_venue, shows_under_lock}
 use Rattle.live_feed.proofs.feed.reading.status_in.Goals as goal
 
-pub returns : goal.returns
-returns g c =
+pub returns-clause-status : goal.returns-clause-status
+returns-clause-status g c =
     let same = same_venue c.venue.result c.args.venue c.ne.result c.ne.ensures c.if-ne.false in
     let here : c.args.guarded.now.cell.arbiter.venue ≡ c.args.venue = sym c.venue.ensures ∙ same in
     shows_under_lock g.G.Genuine g.N.FeedName.lanes c.args.venue c.args.guarded.now.cell c.of.result
