@@ -2,6 +2,7 @@
 pub mod Lines
 pub mod Sums
 pub mod Refusals
+pub mod PacketCounts
 pub mod Seats
 pub mod Cells
 pub mod Sections

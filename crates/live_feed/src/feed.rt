@@ -20,6 +20,7 @@ use crate::hub::journal_and_lanes::JournalAndLanes;
 use crate::hub::spare::SpareLane;
 use crate::venue::cell::VenueCell;
 use crate::venue::locks::{VenueLock, VenueLocks};
+use crate::venue::packet_counts::PacketCounts;
 use crate::venue::per_line::PerLine;
 use crate::venue::refusals::Refusals;
 use crate::venue::start::VenueStart;
@@ -77,6 +78,8 @@ fn locked<G: Genuine, N: FeedName>(
             cell,
             seated: PerLine::all(false),
             refused: PerLine::all(Refusals::none()),
+            packets: PerLine::all(PacketCounts::none()),
+            requests: 0,
         })));
     }
     venues

@@ -60,6 +60,7 @@ pub use subscriber::logged::{Logged, PollFault};
 pub use unsent::Unsent;
 pub use venue::cell::VenueCell;
 pub use venue::datagram::Datagram;
+pub use venue::packet_counts::PacketCounts;
 pub use venue::refusals::Refusals;
 pub use venue::seat::LineSeat;
 pub use venue::status::{LineStatus, VenueStatus};

@@ -40,6 +40,14 @@ impl<N: FeedName> Subscriber<N> {
         self.log.log()
     }
 
+    /// Returns the lane's end and the log; the strategy goes.
+    /// [`SubscriberLog::into_subscriber`] makes it a subscriber again.
+    pub fn into_log(self) -> SubscriberLog<N>
+        ensures { result ≡ self.log }
+    {
+        self.log
+    }
+
     /// Takes the next notice out of the lane, logs what the strategy advises on it, and returns
     /// that; None where the lane was empty. LogFull exactly where the log has as many lines as
     /// configured, else NoMemory where the room for one more was refused: both before a notice is

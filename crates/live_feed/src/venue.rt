@@ -4,6 +4,7 @@ pub(crate) mod calls;
 pub(crate) mod cell;
 pub(crate) mod datagram;
 pub(crate) mod locks;
+pub(crate) mod packet_counts;
 pub(crate) mod per_line;
 pub(crate) mod refusals;
 pub(crate) mod seat;

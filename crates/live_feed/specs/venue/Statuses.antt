@@ -1,5 +1,5 @@
 -- What a venue's status shows.
-use Rattle.std.specs.Prelude.{◌≡◌, ℕ, length, Result, Ok, Err}
+use Rattle.std.specs.Prelude.{◌≡◌, ℕ, List, length, Result, Ok, Err}
 use Rattle.feed_types.specs.declared.line.LineId.{LineId}
 use Rattle.feed_types.specs.declared.line.LineId.TheVariants.{A, B, Recovery}
 use Rattle.line_arbiter.specs.Counts.{shown}
@@ -9,9 +9,12 @@ use Rattle.line_arbiter.specs.Fits.{cursors_of}
 use Rattle.feed_types.specs.declared.genuine.Genuine.{Ghosts as Genuine}
 use Rattle.live_feed.specs.declared.faults.FeedFault.{FeedFault}
 use Rattle.live_feed.specs.declared.faults.FeedFault.TheVariants.{UnknownVenue, UnknownSubscriber, SeatTaken}
+use Rattle.live_feed.specs.declared.venue.packet_counts.PacketCounts.{PacketCounts}
+use Rattle.live_feed.specs.declared.venue.per_line.PerLine.{PerLine}
 use Rattle.live_feed.specs.declared.venue.status.LineStatus.{LineStatus}
 use Rattle.live_feed.specs.declared.venue.status.VenueStatus.{VenueStatus}
 use Rattle.live_feed.specs.Lanes.{FeedLanes}
+use Rattle.live_feed.specs.venue.Lines.{on_line}
 use Rattle.live_feed.specs.venue.Sums.{accepted_on, sums_list}
 use Rattle.live_feed.specs.venue.Cells.{CellState, MeetsNoLock, VenueLockInvariant, arrivals_of}
 
@@ -34,6 +37,13 @@ pub record ShowsHistory (window : ℕ) (h : History) (status : VenueStatus) : Ty
   pub cursors : status.cursors ≡ cursors_of status.cursors.sent h.present.packets
   pub gap : status.gap ≡ gap_of h.present.name window status.cursors.sent h.present.packets
   pub lines : (line : LineId) → ShowsLine h line (status_on line status)
+
+-- The status shows these counts of requests and, line by line, of packets and of refusals.
+pub record ShowsCounts (requests : ℕ) (packets : PerLine PacketCounts)
+    (refused : PerLine (List ℕ)) (status : VenueStatus) : Type 0 where
+  pub requests_are : status.requests ≡ requests
+  pub packets_are : (line : LineId) → (status_on line status).packets ≡ on_line line packets
+  pub refused_are : (line : LineId) → (status_on line status).refused ≡ on_line line refused
 
 -- What was read under a venue's lock, of which nothing else is known than what it keeps: there is
 -- such a cell of this venue, and the status is that of the cell's history.

@@ -24,6 +24,7 @@ use crate::venue::calls::renew_in;
 use crate::venue::cell::VenueCell;
 use crate::venue::datagram::Datagram;
 use crate::venue::locks::VenueLocks;
+use crate::venue::packet_counts::PacketCounts;
 use crate::venue::per_line::PerLine;
 use crate::venue::refusals::Refusals;
 use crate::venue::seat::LineSeat;
@@ -36,13 +37,15 @@ use mold_packet::Request;
 use std::alloc::Global;
 use std::sync::{Mutex, Wait};
 
-/// The part that a venue's lock guards: the cell, which lines have their seats, and what the lines
-/// were refused.
+/// The part that a venue's lock guards: the cell, which lines have their seats, what the lines were
+/// refused and how many packets they brought, and how many requests were handed out.
 #[derive(Drop)]
 pub(crate) struct Guarded<G: Genuine, N: FeedName> {
     pub(crate) cell: VenueCell<G, N>,
     pub(crate) seated: PerLine<bool>,
     pub(crate) refused: PerLine<Refusals>,
+    pub(crate) packets: PerLine<PacketCounts>,
+    pub(crate) requests: u64,
 }
 
 impl<G: Genuine, N: FeedName> Guarded<G, N> {

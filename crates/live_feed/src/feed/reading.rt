@@ -1,9 +1,9 @@
 //! What is read of an open feed while it runs.
 
-ghost use Rattle.std.specs.Prelude.{◌≡◌, ◌≤◌, ◌↔◌, length, IsSome, IfSome, IsTrue, Err};
+ghost use Rattle.std.specs.Prelude.{◌≡◌, ◌≤◌, ◌↔◌, length, IsSome, IfSome, IfOk, IsTrue, Err};
 ghost use Rattle.nbbo_book.specs.Books.{is_configured};
 ghost use Rattle.live_feed.specs.hub.Nationals.{WasNational};
-ghost use Rattle.live_feed.specs.venue.Statuses.{IsStatusOf};
+ghost use Rattle.live_feed.specs.venue.Statuses.{IsStatusOf, ShowsCounts};
 
 use crate::faults::FeedFault;
 use crate::feed::open_feed::{Guarded, OpenFeed};
@@ -31,13 +31,15 @@ fn status_in<G: Genuine, N: FeedName>(
     guarded: &Guarded<G, N>,
     venue: VenueId,
 ) -> Result<VenueStatus, FeedFault>
-    ensures { IsStatusOf G.Genuine N.lanes venue result }
+    ensures status { IsStatusOf G.Genuine N.lanes venue result }
+    ensures counts { IfOk result (ShowsCounts guarded.now.requests guarded.now.packets
+        guarded.now.refused) }
 {
     guarded.cell.show_lock_invariant();
     if guarded.cell.venue() != venue {
         return Err(FeedFault::UnknownVenue);
     }
-    Ok(VenueStatus::of(&guarded.cell, &guarded.refused))
+    Ok(VenueStatus::of(guarded))
 }
 
 impl<G: Genuine, N: FeedName> OpenFeed<G, N> {

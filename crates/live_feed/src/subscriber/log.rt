@@ -1,6 +1,6 @@
 //! The part of a subscriber beside its strategy.
 
-ghost use Rattle.std.specs.Prelude.{◌≡◌, ◌<◌, [], ◌∷◌, ◌++◌, Some, slice_get, vec_len, vec_capacity};
+ghost use Rattle.std.specs.Prelude.{◌≡◌, ◌<◌, [], ◌∷◌, ◌++◌, Some, IfOk, IfSome, slice_get, vec_len, vec_capacity};
 ghost use Rattle.filter_terms.specs.Allowed.{IsAllowed};
 ghost use Rattle.live_feed.specs.subscriber.Logs.{SubscriberLogInvariant, Polls, logged};
 ghost use Rattle.live_feed.specs.subscriber.Asking.{AsksForAdvice, AsksOnce};
@@ -8,7 +8,8 @@ ghost use Rattle.live_feed.specs.hub.Offers.{AreRising};
 
 use crate::bells::Bells;
 use crate::feed_name::FeedName;
-use crate::subscriber::advising::advise;
+use crate::subscriber::Subscriber;
+use crate::subscriber::advising::{advise, holding_within};
 use crate::subscriber::logged::{Logged, PollFault};
 use feed_types::{Best, National, Notice, SubscriberId, SymbolName, VenueId};
 use fifo_lane::{Receiver, RisingNotices};
@@ -176,5 +177,26 @@ impl<N: FeedName> SubscriberLog<N> {
         self.bells.ring_room(self.owner);
         let advice = log_line(&mut self.lines, strategy, self.bounds, &notice);
         Ok(Some(advice))
+    }
+
+    /// Takes the next notice out of the lane as [`Subscriber::poll`] does, and logs that the advice
+    /// is to hold. A thread that is handed the log alone, with no strategy, may call it.
+    pub fn poll_holding<W: Wait>(&mut self, rt: &W) -> Result<Option<Advice>, PollFault>
+        ensures polls { Polls AreRising result self.old self.new }
+        ensures holds { IfOk result (λ polled. IfSome polled (λ advice. advice ≡ Advice.Hold)) }
+    {
+        self.poll(rt, &mut holding_within(self.bounds))
+    }
+
+    /// Makes it a subscriber again, as [`crate::OpenFeed::run`] and [`crate::OpenFeed::settle`] take
+    /// it, whose strategy always holds.
+    pub fn into_subscriber(self) -> Subscriber<N>
+        ensures { result.log ≡ self }
+    {
+        let strategy = holding_within(self.bounds);
+        Subscriber {
+            log: self,
+            strategy,
+        }
     }
 }

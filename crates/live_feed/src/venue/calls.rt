@@ -5,10 +5,12 @@ ghost use Rattle.line_arbiter.specs.Histories.{History};
 ghost use Rattle.live_feed.specs.Premises.{AreInSequence, IsGenuinePacket};
 ghost use Rattle.live_feed.specs.venue.Seats.{seat_after, seat_refusing};
 ghost use Rattle.live_feed.specs.venue.Cells.{CellFitsHistory};
+ghost use Rattle.live_feed.specs.venue.PacketCounts.{line_counts_after, requests_after};
 ghost use Rattle.live_feed.specs.venue.Sections.{AcceptsTheirPacket, IsDueAt, IsFlushedBy, IsRenewedBy, KeepsButPushed, Pushes, TakesPacket};
 ghost use Rattle.live_feed.specs.venue.Datagrams.{AreGenuineBytes, AcceptsTheirs, IsAnsweredAt, IsTakenBy, bytes_of};
 
 use crate::faults::{RenewalFault, TakeFault};
+use crate::feed::open_feed::Guarded;
 use crate::feed_name::FeedName;
 use crate::unsent::Unsent;
 use crate::venue::cell::VenueCell;
@@ -109,6 +111,29 @@ fn take_in<G: Genuine, N: FeedName, W: Wait>(
     (answer, pushed)
 }
 
+/// Takes the packet as `take_in` does, and counts it on the seat's line where it is accepted.
+fn take_and_count<G: Genuine, N: FeedName, W: Wait>(
+    rt: &W,
+    guarded: &mut Guarded<G, N>,
+    seat: &mut LineSeat<G, N>,
+    packet: &Packet<'_>,
+) -> (Result<Outcome, LineFault>, (u64, bool))
+    requires { IsGenuinePacket G.Genuine seat.old.venue packet.now }
+    ensures seat { seat.new ≡ seat_after seat.old packet.now result.0 }
+    ensures answer { IsAnsweredAt G.Genuine N.lanes seat.old packet.now result.0 }
+    ensures accepts { AcceptsTheirPacket G.Genuine seat.old.venue packet.now result.0 }
+    ensures counted { guarded.new ≡ record guarded.old {
+      cell = guarded.new.cell;
+      packets = line_counts_after seat.old.line result.0 guarded.old.packets;
+    } }
+{
+    let taken = take_in(rt, &mut guarded.cell, seat, packet);
+    if let Ok(outcome) = taken.0 {
+        guarded.packets.count(seat.line(), outcome);
+    }
+    taken
+}
+
 /// Returns the request for the gap to send now, where the cell is of this venue.
 #[tactic(auto, using(crate::proofs::CellMoves::at_venue, crate::proofs::CellMoves::at_another))]
 fn due_in<G: Genuine, N: FeedName>(
@@ -124,6 +149,25 @@ fn due_in<G: Genuine, N: FeedName>(
     }
     let request = cell.due(now_ms);
     cell.show_lock_invariant();
+    request
+}
+
+/// Returns the request for the gap to send now as `due_in` does, and counts it.
+fn due_and_counted<G: Genuine, N: FeedName>(
+    guarded: &mut Guarded<G, N>,
+    venue: VenueId,
+    now_ms: u64,
+) -> Option<Request>
+    ensures due { IsDueAt G.Genuine N.lanes venue now_ms result }
+    ensures counted { guarded.new ≡ record guarded.old {
+      cell = guarded.new.cell;
+      requests = requests_after result guarded.old.requests;
+    } }
+{
+    let request = due_in(&mut guarded.cell, venue, now_ms);
+    if request.is_some() {
+        guarded.requests = guarded.requests.saturating_add(1);
+    }
     request
 }
 
@@ -194,8 +238,8 @@ impl<G: Genuine, N: FeedName> VenueLocks<G, N> {
         }
     }
 
-    /// Takes a packet that was read, under the lock of the seat's venue, pushes what is ready, and
-    /// stores in `gap` whether there is a gap then.
+    /// Takes a packet that was read, under the lock of the seat's venue, pushes what is ready, counts
+    /// the packet, and stores in `gap` whether there is a gap then.
     fn take_packet<W: Wait>(
         &self,
         rt: &W,
@@ -212,7 +256,7 @@ impl<G: Genuine, N: FeedName> VenueLocks<G, N> {
             return Err(LineFault::OtherSession);
         };
         let mut guarded = enter(rt, lock);
-        let (answer, (pushed, is_held_back)) = take_in(rt, &mut guarded.cell, seat, packet);
+        let (answer, (pushed, is_held_back)) = take_and_count(rt, &mut guarded, seat, packet);
         self.set_held_back(seat.venue(), is_held_back);
         *gap = guarded.cell.has_gap();
         drop(guarded);
@@ -241,13 +285,14 @@ impl<G: Genuine, N: FeedName> VenueLocks<G, N> {
         pushed
     }
 
-    /// The request for the venue's gap to send now, if any; None where there is no such venue.
+    /// The request for the venue's gap to send now, if any, which is counted; None where there is no
+    /// such venue.
     pub(crate) fn due<W: Wait>(&self, rt: &W, venue: VenueId, now_ms: u64) -> Option<Request>
         ensures { IsDueAt G.Genuine N.lanes venue now_ms result }
     {
         let Some(lock) = self.get(venue) else {
             return None;
         };
-        due_in(&mut enter(rt, lock).cell, venue, now_ms)
+        due_and_counted(&mut enter(rt, lock), venue, now_ms)
     }
 }

@@ -3,11 +3,12 @@
 ghost use Rattle.std.specs.Prelude.{◌≡◌};
 ghost use Rattle.line_arbiter.specs.Histories.{History};
 ghost use Rattle.live_feed.specs.venue.Cells.{CellFitsHistory};
-ghost use Rattle.live_feed.specs.venue.Statuses.{ShowsHistory, ShowsLine, status_on};
+ghost use Rattle.live_feed.specs.venue.Lines.{on_line};
+ghost use Rattle.live_feed.specs.venue.Statuses.{ShowsCounts, ShowsHistory, ShowsLine, status_on};
 
+use crate::feed::open_feed::Guarded;
 use crate::feed_name::FeedName;
-use crate::venue::cell::VenueCell;
-use crate::venue::per_line::PerLine;
+use crate::venue::packet_counts::PacketCounts;
 use crate::venue::refusals::Refusals;
 use feed_types::{Genuine, LineId};
 use line_arbiter::ArbiterStatus;
@@ -21,6 +22,8 @@ pub struct LineStatus {
     /// The sums of the line's accepted packets, as [`crate::LineSeat::accepted`] has them: one
     /// that has changed says that the line brings packets, also where all are repeats.
     pub accepted: [u64; 4],
+    /// How many packets the line brought that were accepted, by outcome.
+    pub packets: PacketCounts,
     /// How many of the line's datagrams were refused, by fault.
     pub refused: Refusals,
 }
@@ -37,45 +40,47 @@ pub struct VenueStatus {
     pub cursors: ArbiterStatus,
     /// The run of messages to ask for, from the first that is missing; None where none is.
     pub gap: Option<Request>,
+    /// How many requests for a gap were handed out, in all sessions: those that the lines of a run
+    /// sent, and those that [`crate::OpenFeed::due`] returned. It stays at 2^64 - 1 once it is there.
+    pub requests: u64,
     pub a: LineStatus,
     pub b: LineStatus,
     pub recovery: LineStatus,
 }
 
-/// What the line has brought, by the venue's cell and by what it was refused.
-fn line_status<G: Genuine, N: FeedName>(
-    cell: &VenueCell<G, N>,
-    refused: &PerLine<Refusals>,
-    line: LineId,
-) -> LineStatus
-    ensures { (h : History) → CellFitsHistory cell.now h → ShowsLine h line result }
+/// What the line has brought, by what the venue's lock guards.
+fn line_status<G: Genuine, N: FeedName>(guarded: &Guarded<G, N>, line: LineId) -> LineStatus
+    ensures shows { (h : History) → CellFitsHistory guarded.now.cell h → ShowsLine h line result }
+    ensures packets { result.packets ≡ on_line line guarded.now.packets }
+    ensures refused { result.refused ≡ on_line line guarded.now.refused }
 {
     LineStatus {
-        wins: cell.wins(line),
-        accepted: cell.accepted(line).all(),
-        refused: refused.on(line),
+        wins: guarded.cell.wins(line),
+        accepted: guarded.cell.accepted(line).all(),
+        packets: guarded.packets.on(line),
+        refused: guarded.refused.on(line),
     }
 }
 
 impl VenueStatus {
-    /// The status by the venue's cell and by what its lines were refused.
-    pub(crate) fn of<G: Genuine, N: FeedName>(
-        cell: &VenueCell<G, N>,
-        refused: &PerLine<Refusals>,
-    ) -> VenueStatus
-        ensures shows { (h : History) → CellFitsHistory cell.now h
-            → ShowsHistory cell.now.arbiter.window h result }
-        ensures sent { result.cursors.sent ≡ cell.now.arbiter.sent }
+    /// The status by what the venue's lock guards.
+    pub(crate) fn of<G: Genuine, N: FeedName>(guarded: &Guarded<G, N>) -> VenueStatus
+        ensures shows { (h : History) → CellFitsHistory guarded.now.cell h
+            → ShowsHistory guarded.now.cell.arbiter.window h result }
+        ensures sent { result.cursors.sent ≡ guarded.now.cell.arbiter.sent }
+        ensures counts { ShowsCounts guarded.now.requests guarded.now.packets guarded.now.refused
+            result }
     {
-        let arbiter = cell.arbiter();
+        let arbiter = guarded.cell.arbiter();
         VenueStatus {
             ordinal: arbiter.ordinal(),
             session: arbiter.session(),
             cursors: arbiter.status(),
             gap: arbiter.gap(),
-            a: line_status(cell, refused, LineId::A),
-            b: line_status(cell, refused, LineId::B),
-            recovery: line_status(cell, refused, LineId::Recovery),
+            requests: guarded.requests,
+            a: line_status(guarded, LineId::A),
+            b: line_status(guarded, LineId::B),
+            recovery: line_status(guarded, LineId::Recovery),
         }
     }
 

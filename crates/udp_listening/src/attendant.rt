@@ -1,0 +1,229 @@
+//! What is beside a run: it prints what the followed subscriber is offered, says what was counted, and says when the
+//! run is to end.
+ghost use Rattle.feed_text.specs.Devices.{Writing};
+ghost use Rattle.udp_listening.specs.Listening.{HasFollowed, followed_lines};
+
+use crate::desk::{Desk, Following};
+use crate::elapsed::Elapsed;
+use crate::listen_counts::ListenCounts;
+use crate::run_end::RunEnd;
+use crate::run_progress::RunProgress;
+use command_words::ListenSettings;
+use feed_text::devices::TextOut;
+use feed_text::page::LineBuffer;
+use live_feed::{FeedName, SubscriberLog, VenueStatus};
+use std::alloc::{AllocError, Global};
+use std::io::Stdin;
+use std::sync::Wait;
+use std::time::Clock;
+
+/// How long the run may take to begin, in milliseconds. Where no thread can be had, it doesn't begin while an attendant
+/// is there.
+const BEGIN_MS: u64 = 10_000;
+
+/// How long the attendant waits between two looks at a run that hasn't begun, in milliseconds.
+const BEGIN_WAIT_MS: u64 = 1;
+
+/// How long it waits between two looks at a run.
+const WAIT_MS: u64 = 100;
+
+/// How long it waits where lines are printed as they come.
+const FOLLOWING_WAIT_MS: u64 = 5;
+
+/// What a look of the attendant asks for.
+#[derive(Clone, Copy, Debug, PartialEq, Eq)]
+pub enum Turn {
+    /// Nothing more: the run is over, or nobody has to be beside it.
+    Over,
+    /// The run is to be stopped.
+    Stop,
+    /// The status of each venue is to be told.
+    Tell,
+    /// Another look.
+    Look,
+}
+
+/// Who is beside a run.
+#[derive(Drop)]
+pub struct Attendant<C> {
+    elapsed: Elapsed<C>,
+    is_needed: bool,
+    end: RunEnd,
+    text: LineBuffer,
+    counts: Option<ListenCounts>,
+    has_stopped: bool,
+    lacks_thread: bool,
+}
+
+/// Whether somebody is to be beside a run of these settings: to end it, or to print while it goes on.
+fn is_attended(settings: &ListenSettings) -> bool {
+    settings.seconds.is_some()
+        || settings.until_input_ends
+        || settings.follow
+        || settings.stats.is_some()
+}
+
+impl<C: Clock + Clone + Drop> Attendant<C> {
+    /// The attendant that the settings ask for, of a run that begins now.
+    pub fn of(
+        alloc: Global,
+        settings: &ListenSettings,
+        input: Stdin,
+        clock: &C,
+    ) -> Result<Attendant<C>, AllocError> {
+        let counts = match settings.stats {
+            Some(seconds) => Some(ListenCounts::new(alloc, seconds, settings.lines.len() / 2)?),
+            None => None,
+        };
+        Ok(Attendant {
+            elapsed: Elapsed::new(clock.clone()?),
+            is_needed: is_attended(settings),
+            end: RunEnd::of(settings, input),
+            text: LineBuffer::new(alloc),
+            counts,
+            has_stopped: false,
+            lacks_thread: false,
+        })
+    }
+
+    /// Whether the attendant was there before the run, since no thread could be had for it.
+    pub fn lacks_thread(&self) -> bool {
+        self.lacks_thread
+    }
+
+    /// Waits for a run that hasn't begun. Where it doesn't begin, it is to be stopped before.
+    fn await_begin(&mut self) -> Turn {
+        if self.has_stopped {
+            return Turn::Over;
+        }
+        if self.elapsed.ms() >= BEGIN_MS {
+            self.has_stopped = true;
+            self.lacks_thread = true;
+            return Turn::Stop;
+        }
+        self.elapsed.sleep(BEGIN_WAIT_MS);
+        self.elapsed.look(BEGIN_WAIT_MS);
+        Turn::Look
+    }
+
+    /// Whether counts are due.
+    fn are_counts_due(&self) -> bool {
+        match &self.counts {
+            Some(counts) => counts.due_ms() <= self.elapsed.ms(),
+            None => false,
+        }
+    }
+
+    /// How long to wait at most until the next look: not past the time at which counts are due.
+    fn most_ms(&self, following: Following) -> u64 {
+        let most = if following == Following::On {
+            FOLLOWING_WAIT_MS
+        } else {
+            WAIT_MS
+        };
+        match &self.counts {
+            Some(counts) => most.min(counts.due_ms().saturating_sub(self.elapsed.ms())),
+            None => most,
+        }
+    }
+
+    /// What is to be done at a run that goes on, where nothing was printed just now: it waits where nothing is.
+    fn look_on(&mut self, following: Following) -> Turn {
+        let is_to_end = self.end.is_due(&self.elapsed) || following == Following::Failed;
+        if is_to_end && !self.has_stopped {
+            self.has_stopped = true;
+            return Turn::Stop;
+        }
+        if self.are_counts_due() {
+            return Turn::Tell;
+        }
+        let most = self.most_ms(following);
+        self.end.wait(&mut self.elapsed, most);
+        Turn::Look
+    }
+}
+
+/// An attendant at its work: with where the program prints, and with the log of the followed subscriber, if one is.
+#[derive(Drop)]
+pub struct Attendance<N: FeedName, C, W, E> {
+    pub attendant: Attendant<C>,
+    pub desk: Desk<W, E>,
+    pub followed: Option<SubscriberLog<N>>,
+}
+
+impl<N: FeedName, C: Clock + Clone + Drop, W: TextOut, E: TextOut> Attendance<N, C, W, E> {
+    /// Has the desk follow the log, if there is one, and returns whether it has printed anything.
+    fn follow<R: Wait>(&mut self, rt: &R) -> bool
+        ensures shows { (first : W) → HasFollowed (record { adds = W.adds; failures = W.failures })
+            first (followed_lines (λ log. log.lines) self.old.followed) self.old.desk.following
+            self.old.desk.printed self.old.desk.output
+            → HasFollowed (record { adds = W.adds; failures = W.failures })
+            first (followed_lines (λ log. log.lines) self.new.followed) self.new.desk.following
+            self.new.desk.printed self.new.desk.output }
+        ensures errors { self.new.desk.errors ≡ self.old.desk.errors }
+    {
+        match &mut self.followed {
+            Some(log) => self.desk.follow(rt, &mut self.attendant.text, log),
+            None => false,
+        }
+    }
+
+    /// Looks at the run once, prints what is to be printed, and returns what is to be done then. Where there is nothing
+    /// to do it waits before.
+    pub fn turn<R: Wait>(&mut self, rt: &R, progress: &RunProgress) -> Turn
+        ensures shows { (first : W) → HasFollowed (record { adds = W.adds; failures = W.failures })
+            first (followed_lines (λ log. log.lines) self.old.followed) self.old.desk.following
+            self.old.desk.printed self.old.desk.output
+            → HasFollowed (record { adds = W.adds; failures = W.failures })
+            first (followed_lines (λ log. log.lines) self.new.followed) self.new.desk.following
+            self.new.desk.printed self.new.desk.output }
+        ensures errors { self.new.desk.errors ≡ self.old.desk.errors }
+    {
+        if !self.attendant.is_needed {
+            return Turn::Over;
+        }
+        if !progress.has_begun() {
+            return self.attendant.await_begin();
+        }
+        let is_last = progress.is_over();
+        if self.follow(rt) {
+            return Turn::Look;
+        }
+        if is_last {
+            return Turn::Over;
+        }
+        self.attendant.look_on(self.desk.following)
+    }
+
+    /// Says what was counted of the venue at this place, where counts are asked for.
+    pub fn tell(&mut self, place: usize, status: &VenueStatus)
+        ensures desk { self.new.desk ≡ record (self.old.desk) { errors = self.new.desk.errors } }
+        ensures followed { self.new.followed ≡ self.old.followed }
+    {
+        let elapsed_ms = self.attendant.elapsed.ms();
+        if let Some(counts) = &mut self.attendant.counts {
+            counts.tell(elapsed_ms, place, status, &mut self.desk.errors);
+        }
+    }
+
+    /// Has the next counts due after another period.
+    pub fn pass_period(&mut self)
+        ensures desk { self.new.desk ≡ self.old.desk }
+        ensures followed { self.new.followed ≡ self.old.followed }
+    {
+        let elapsed_ms = self.attendant.elapsed.ms();
+        if let Some(counts) = &mut self.attendant.counts {
+            counts.pass(elapsed_ms);
+        }
+    }
+
+    /// Says what was counted of all venues once the run is over, where counts are asked for.
+    pub fn tell_all(&mut self, statuses: &[VenueStatus])
+        ensures desk { self.new.desk ≡ record (self.old.desk) { errors = self.new.desk.errors } }
+        ensures followed { self.new.followed ≡ self.old.followed }
+    {
+        if let Some(counts) = &self.attendant.counts {
+            counts.tell_all(statuses, &mut self.desk.errors);
+        }
+    }
+}
