@@ -30,10 +30,10 @@ hint_text at_terminal =
 
 -- the settings as a replay takes them; it makes at most 1,000,000,000 calls of the reader
 pub record IsConfigOf (settings : ReplaySettings) (config : ReplayConfig) : Type 0 where
-  pub sessions : config.sessions.now ≡ settings.sessions.items
-  pub symbols : config.symbols.now ≡ settings.symbols.items
-  pub window : config.window ≡ settings.window
-  pub journal : config.journal ≡ settings.journal
+  pub sessions : config.sessions.now ≡ settings.feed.sessions.items
+  pub symbols : config.symbols.now ≡ settings.feed.symbols.items
+  pub window : config.window ≡ settings.feed.window
+  pub journal : config.journal ≡ settings.feed.journal
   pub gaps : config.gaps ≡ settings.gaps
   pub turns : config.turns ≡ 1000000000
 

@@ -45,10 +45,10 @@ pub fn config_of(settings: &ReplaySettings) -> ReplayConfig<'_>
     ensures { IsConfigOf settings.now result }
 {
     ReplayConfig {
-        sessions: settings.sessions.as_slice(),
-        symbols: settings.symbols.as_slice(),
-        window: settings.window,
-        journal: settings.journal,
+        sessions: settings.feed.sessions.as_slice(),
+        symbols: settings.feed.symbols.as_slice(),
+        window: settings.feed.window,
+        journal: settings.feed.journal,
         gaps: settings.gaps,
         turns: MAX_TURNS,
     }

@@ -27,12 +27,12 @@ use Rattle.udp_listening.specs.declared.listening.ListenReport.{ListenReport}
 -- the settings as a feed takes them: a lane holds 1,024 items, and a log as many notices as the
 -- journal entries
 pub record IsFeedOf (settings : ListenSettings) (config : FeedConfig) : Type 0 where
-  pub sessions : config.sessions.now ≡ settings.sessions.items
-  pub symbols : config.symbols.now ≡ settings.symbols.items
-  pub window : config.window ≡ settings.window
+  pub sessions : config.sessions.now ≡ settings.feed.sessions.items
+  pub symbols : config.symbols.now ≡ settings.feed.symbols.items
+  pub window : config.window ≡ settings.feed.window
   pub lane : config.lane ≡ 1024
-  pub journal : config.journal ≡ settings.journal
-  pub log : config.log ≡ settings.journal
+  pub journal : config.journal ≡ settings.feed.journal
+  pub log : config.log ≡ settings.feed.journal
 
 -- the line reads datagrams for the venue, as many as the settings say
 pub record IsSourceOf (settings : ListenSettings) (venue : ℕ) (line : UdpLineState) : Type 0 where

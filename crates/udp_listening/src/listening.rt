@@ -62,12 +62,12 @@ pub fn config_of(settings: &ListenSettings) -> FeedConfig<'_>
     ensures { IsFeedOf settings.now result }
 {
     FeedConfig {
-        sessions: settings.sessions.as_slice(),
-        symbols: settings.symbols.as_slice(),
-        window: settings.window,
+        sessions: settings.feed.sessions.as_slice(),
+        symbols: settings.feed.symbols.as_slice(),
+        window: settings.feed.window,
         lane: LANE,
-        journal: settings.journal,
-        log: settings.journal,
+        journal: settings.feed.journal,
+        log: settings.feed.journal,
     }
 }
 
