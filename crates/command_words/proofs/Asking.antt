@@ -8,7 +8,7 @@ use Rattle.clap.specs.Faults.{fault_of}
 use Rattle.clap.specs.declared.error.kind.ErrorKind.{ErrorKind}
 use Rattle.clap.specs.declared.error.kind.ErrorKind.TheVariants.{DisplayHelp, DisplayVersion, OutOfMemory}
 use Rattle.command_words.specs.CapturedLines.{HasCapturedLinesFault}
-use Rattle.command_words.specs.CommandLine.{Gives, GivesBadFormat, GivesBests, GivesCounted, GivesNoConversion, GivesNoCounted, GivesNoListening, GivesNoStats, GivesNoTask, GivesNone, IsAccepted, IsConverting, IsCount, IsCounting, IsFlag, IsGivenCount, IsListening, IsRefused, IsWindowOf, RefusesBy, convert_values_of, lines_refusal_by, listen_values_of, stats_values_of}
+use Rattle.command_words.specs.CommandLine.{Gives, GivesBadFormat, GivesBests, GivesCounted, GivesNoConversion, GivesNoFeed, GivesNoListening, GivesNoStats, GivesNoTask, GivesNone, IsAccepted, IsConverting, IsCount, IsCounting, IsFlag, IsGivenCount, IsListening, IsRefused, IsWindowOf, RefusesBy, convert_values_of, lines_refusal_by, listen_values_of, stats_values_of}
 use Rattle.best_lines.specs.declared.format.Format.{Format}
 use Rattle.capture_stats.specs.declared.format.StatsFormat.{StatsFormat}
 use Rattle.command_words.specs.StatsFormats.{NamesStatsFormat}
@@ -75,26 +75,26 @@ gives_bad_format rows flag text (Ok bests) given e told = tt
 gives_bad_format rows flag text (Err fault) given e told = record { best_only = flag; flag = given; fault = subst (λ (t : Option Text). HasFormatFault flag t) e told }
 
 -- a fault of the list of lines is the refusal, where the settings are right
-pub GivesNone-lines : (rows : List Row) (settings : ReplaySettings) (list : Text) (fault : LinesFault) → Gives rows settings → first_of (codes "lines") rows ≡ Some list → HasCapturedLinesFault list (length settings.sessions.items) fault → GivesNone rows (lines_refusal_by fault)
+pub GivesNone-lines : (rows : List Row) (settings : ReplaySettings) (list : Text) (fault : LinesFault) → Gives rows settings → first_of (codes "lines") rows ≡ Some list → HasCapturedLinesFault list (length settings.feed.sessions.items) fault → GivesNone rows (lines_refusal_by fault)
 GivesNone-lines rows settings list lines.BadLines given listed fault = record { settings = settings; given = given; list = list; listed = listed; fault = fault }
 GivesNone-lines rows settings list lines.NoMemory given listed fault = tt
 
 -- why the values of stats give no settings: as those of a replay, or for the list of lines
-pub GivesNoStats-counted : (rows : List Row) (refusal : Refusal) → GivesNoCounted rows refusal → GivesNoStats rows refusal
-GivesNoStats-counted rows (Shown text) none = absurd none
-GivesNoStats-counted rows (Usage text) none = absurd none
-GivesNoStats-counted rows NotText none = absurd none
-GivesNoStats-counted rows NoMemory none = tt
-GivesNoStats-counted rows BadSession none = none
-GivesNoStats-counted rows TooManySessions none = none
-GivesNoStats-counted rows BadLines none = absurd none
-GivesNoStats-counted rows BadRequest none = absurd none
-GivesNoStats-counted rows BadFormat none = absurd none
-GivesNoStats-counted rows BadSymbol none = none
-GivesNoStats-counted rows TooManySymbols none = none
-GivesNoStats-counted rows DuplicateSymbol none = none
+pub GivesNoStats-feed : (rows : List Row) (refusal : Refusal) → GivesNoFeed rows refusal → GivesNoStats rows refusal
+GivesNoStats-feed rows (Shown text) none = absurd none
+GivesNoStats-feed rows (Usage text) none = absurd none
+GivesNoStats-feed rows NotText none = absurd none
+GivesNoStats-feed rows NoMemory none = tt
+GivesNoStats-feed rows BadSession none = none
+GivesNoStats-feed rows TooManySessions none = none
+GivesNoStats-feed rows BadLines none = absurd none
+GivesNoStats-feed rows BadRequest none = absurd none
+GivesNoStats-feed rows BadFormat none = absurd none
+GivesNoStats-feed rows BadSymbol none = none
+GivesNoStats-feed rows TooManySymbols none = none
+GivesNoStats-feed rows DuplicateSymbol none = none
 
-pub GivesNoStats-lines : (rows : List Row) (settings : ReplaySettings) (format : StatsFormat) (list : Text) (fault : LinesFault) → GivesCounted rows settings → NamesStatsFormat (first_of (codes "format") rows) format → first_of (codes "lines") rows ≡ Some list → HasCapturedLinesFault list (length settings.sessions.items) fault → GivesNoStats rows (lines_refusal_by fault)
+pub GivesNoStats-lines : (rows : List Row) (settings : ReplaySettings) (format : StatsFormat) (list : Text) (fault : LinesFault) → GivesCounted rows settings → NamesStatsFormat (first_of (codes "format") rows) format → first_of (codes "lines") rows ≡ Some list → HasCapturedLinesFault list (length settings.feed.sessions.items) fault → GivesNoStats rows (lines_refusal_by fault)
 GivesNoStats-lines rows settings format list lines.BadLines given named listed fault = record { settings = settings; given = given; format = format; named = named; list = list; listed = listed; fault = fault }
 GivesNoStats-lines rows settings format list lines.NoMemory given named listed fault = tt
 

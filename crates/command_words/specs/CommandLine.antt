@@ -27,6 +27,7 @@ use Rattle.command_words.specs.declared.sessions.SessionsFault.TheVariants as se
 use Rattle.command_words.specs.Symbols.{HasSymbolsFault, NameSymbols}
 use Rattle.command_words.specs.declared.symbols.SymbolsFault.{SymbolsFault}
 use Rattle.command_words.specs.declared.symbols.SymbolsFault.TheVariants as symbols
+use Rattle.command_words.specs.declared.feed_settings.FeedSettings.{FeedSettings}
 use Rattle.command_words.specs.declared.line_replay_settings.LineReplaySettings.{LineReplaySettings}
 use Rattle.command_words.specs.declared.listen_settings.ListenSettings.{ListenSettings}
 use Rattle.command_words.specs.declared.replay_settings.ReplaySettings.{ReplaySettings}
@@ -115,12 +116,16 @@ pub record GivesBadFormat (rows : List Row) : Type 0 where
   pub flag : IsFlag (one_of (codes "best-only") rows) best_only
   pub fault : HasFormatFault best_only (first_of (codes "format") rows)
 
+-- The values of the options give these settings of a feed, whatever its journal.
+pub record GivesFeed (rows : List Row) (feed : FeedSettings) : Type 0 where
+  pub sessions : sessions_in (list_in rows) ≡ Ok feed.sessions.items
+  pub symbols : NameSymbols (symbol_words_in rows) feed.symbols.items
+  pub window : IsWindowOf (one_of (codes "window") rows) feed.window
+
 -- The values of the options of replay give these settings.
 pub record Gives (rows : List Row) (settings : ReplaySettings) : Type 0 where
-  pub sessions : sessions_in (list_in rows) ≡ Ok settings.sessions.items
-  pub symbols : NameSymbols (symbol_words_in rows) settings.symbols.items
-  pub window : IsWindowOf (one_of (codes "window") rows) settings.window
-  pub journal : IsCount (one_of (codes "journal") rows) settings.journal
+  pub feed : GivesFeed rows settings.feed
+  pub journal : IsCount (one_of (codes "journal") rows) settings.feed.journal
   pub gaps : IsFlag (one_of (codes "gaps") rows) settings.gaps
   pub bests : GivesBests rows settings.bests
 
@@ -129,7 +134,8 @@ pub record GivesLineReplay (rows : List Row) (settings : LineReplaySettings) : T
   pub replay : Gives rows settings.replay
   pub list : Text
   pub given : first_of (codes "lines") rows ≡ Some list
-  pub lines : NameCapturedLines list (length settings.replay.sessions.items) settings.lines.items
+  pub lines : NameCapturedLines list (length settings.replay.feed.sessions.items)
+      settings.lines.items
 
 -- The values of the option of convert give these lines.
 abbrev pub GivesConversion : List Row → List CapturedLine → Type 0
@@ -137,13 +143,11 @@ GivesConversion rows lines = NameAllLines (lines_in rows) lines
 
 -- The values of the options of listen give these settings.
 pub record GivesListening (rows : List Row) (settings : ListenSettings) : Type 0 where
-  pub sessions : sessions_in (list_in rows) ≡ Ok settings.sessions.items
-  pub lines : NameLines (lines_in rows) (length settings.sessions.items) settings.lines.items
+  pub feed : GivesFeed rows settings.feed
+  pub journal : IsCount (one_of (codes "journal") rows) settings.feed.journal
+  pub lines : NameLines (lines_in rows) (length settings.feed.sessions.items) settings.lines.items
   pub request : NamesRequest settings.lines.items (first_of (codes "request") rows)
       settings.request
-  pub symbols : NameSymbols (symbol_words_in rows) settings.symbols.items
-  pub window : IsWindowOf (one_of (codes "window") rows) settings.window
-  pub journal : IsCount (one_of (codes "journal") rows) settings.journal
   pub datagrams : IsCount (one_of (codes "datagrams") rows) settings.datagrams
   pub buffer : IsGivenCount (one_of (codes "buffer") rows) settings.buffer
   pub seconds : IsGivenCount (one_of (codes "seconds") rows) settings.seconds
@@ -163,10 +167,8 @@ GivesTask rows (Stats settings) = ⊥
 -- The values of the options of stats give these settings of a replay: gaps are printed, and the
 -- journal has the most room.
 pub record GivesCounted (rows : List Row) (settings : ReplaySettings) : Type 0 where
-  pub sessions : sessions_in (list_in rows) ≡ Ok settings.sessions.items
-  pub symbols : NameSymbols (symbol_words_in rows) settings.symbols.items
-  pub window : IsWindowOf (one_of (codes "window") rows) settings.window
-  pub journal : settings.journal ≡ 4294967295
+  pub feed : GivesFeed rows settings.feed
+  pub journal : settings.feed.journal ≡ 4294967295
   pub gaps : settings.gaps ≡ true
 
 -- The values of the options of stats give these settings for a packet capture.
@@ -174,7 +176,8 @@ pub record GivesCountedLines (rows : List Row) (settings : LineReplaySettings) :
   pub replay : GivesCounted rows settings.replay
   pub list : Text
   pub given : first_of (codes "lines") rows ≡ Some list
-  pub lines : NameCapturedLines list (length settings.replay.sessions.items) settings.lines.items
+  pub lines : NameCapturedLines list (length settings.replay.feed.sessions.items)
+      settings.lines.items
 
 -- with a list of lines the replay is that of a packet capture
 abbrev pub GivesStatsInput : List Row → StatsInput → Type 0
@@ -193,6 +196,22 @@ GivesNoSymbols rows fault =
     (sessions : List Text) × (sessions_in (list_in rows) ≡ Ok sessions)
     × HasSymbolsFault (symbol_words_in rows) fault
 
+-- The values of the options give no settings of a feed, since the list of sessions or the symbols
+-- are wrong, which are looked at in that order, or memory was refused.
+abbrev pub GivesNoFeed : List Row → Refusal → Type 0
+GivesNoFeed rows BadSession = sessions_in (list_in rows) ≡ Err sessions.BadSession
+GivesNoFeed rows TooManySessions = sessions_in (list_in rows) ≡ Err sessions.TooManySessions
+GivesNoFeed rows BadSymbol = GivesNoSymbols rows symbols.BadSymbol
+GivesNoFeed rows TooManySymbols = GivesNoSymbols rows symbols.TooManySymbols
+GivesNoFeed rows DuplicateSymbol = GivesNoSymbols rows symbols.DuplicateSymbol
+GivesNoFeed rows NoMemory = Unit {0}
+GivesNoFeed rows (Shown text) = ⊥
+GivesNoFeed rows (Usage text) = ⊥
+GivesNoFeed rows NotText = ⊥
+GivesNoFeed rows BadLines = ⊥
+GivesNoFeed rows BadRequest = ⊥
+GivesNoFeed rows BadFormat = ⊥
+
 -- The format is wrong, where the list of sessions and the symbols are right.
 pub record ReplaysInNoFormat (rows : List Row) : Type 0 where
   pub sessions : List Text
@@ -207,17 +226,17 @@ pub record GivesNoCapturedLines (rows : List Row) : Type 0 where
   pub given : Gives rows settings
   pub list : Text
   pub listed : first_of (codes "lines") rows ≡ Some list
-  pub fault : HasCapturedLinesFault list (length settings.sessions.items) lines.BadLines
+  pub fault : HasCapturedLinesFault list (length settings.feed.sessions.items) lines.BadLines
 
 -- The values of the options of replay give no settings, since the list of sessions, the symbols,
 -- the format or the list of lines are wrong, which are looked at in that order, or memory was
 -- refused.
 abbrev pub GivesNone : List Row → Refusal → Type 0
-GivesNone rows BadSession = sessions_in (list_in rows) ≡ Err sessions.BadSession
-GivesNone rows TooManySessions = sessions_in (list_in rows) ≡ Err sessions.TooManySessions
-GivesNone rows BadSymbol = GivesNoSymbols rows symbols.BadSymbol
-GivesNone rows TooManySymbols = GivesNoSymbols rows symbols.TooManySymbols
-GivesNone rows DuplicateSymbol = GivesNoSymbols rows symbols.DuplicateSymbol
+GivesNone rows BadSession = GivesNoFeed rows BadSession
+GivesNone rows TooManySessions = GivesNoFeed rows TooManySessions
+GivesNone rows BadSymbol = GivesNoFeed rows BadSymbol
+GivesNone rows TooManySymbols = GivesNoFeed rows TooManySymbols
+GivesNone rows DuplicateSymbol = GivesNoFeed rows DuplicateSymbol
 GivesNone rows BadFormat = ReplaysInNoFormat rows
 GivesNone rows NoMemory = Unit {0}
 GivesNone rows (Shown text) = ⊥
@@ -225,22 +244,6 @@ GivesNone rows (Usage text) = ⊥
 GivesNone rows NotText = ⊥
 GivesNone rows BadLines = GivesNoCapturedLines rows
 GivesNone rows BadRequest = ⊥
-
--- The values of the options of stats give no settings of a replay, since the list of sessions or the
--- symbols are wrong, or memory was refused.
-abbrev pub GivesNoCounted : List Row → Refusal → Type 0
-GivesNoCounted rows BadSession = sessions_in (list_in rows) ≡ Err sessions.BadSession
-GivesNoCounted rows TooManySessions = sessions_in (list_in rows) ≡ Err sessions.TooManySessions
-GivesNoCounted rows BadSymbol = GivesNoSymbols rows symbols.BadSymbol
-GivesNoCounted rows TooManySymbols = GivesNoSymbols rows symbols.TooManySymbols
-GivesNoCounted rows DuplicateSymbol = GivesNoSymbols rows symbols.DuplicateSymbol
-GivesNoCounted rows NoMemory = Unit {0}
-GivesNoCounted rows (Shown text) = ⊥
-GivesNoCounted rows (Usage text) = ⊥
-GivesNoCounted rows NotText = ⊥
-GivesNoCounted rows BadLines = ⊥
-GivesNoCounted rows BadRequest = ⊥
-GivesNoCounted rows BadFormat = ⊥
 
 -- The settings of the replay are right, and the format is wrong.
 pub record CountsInNoFormat (rows : List Row) : Type 0 where
@@ -256,16 +259,16 @@ pub record CountsNoLines (rows : List Row) : Type 0 where
   pub named : NamesStatsFormat (first_of (codes "format") rows) format
   pub list : Text
   pub listed : first_of (codes "lines") rows ≡ Some list
-  pub fault : HasCapturedLinesFault list (length settings.sessions.items) lines.BadLines
+  pub fault : HasCapturedLinesFault list (length settings.feed.sessions.items) lines.BadLines
 
 -- The values of the options of stats give no settings: the sessions are looked at first, then the
 -- symbols, the format and the list of lines.
 abbrev pub GivesNoStats : List Row → Refusal → Type 0
-GivesNoStats rows BadSession = GivesNoCounted rows BadSession
-GivesNoStats rows TooManySessions = GivesNoCounted rows TooManySessions
-GivesNoStats rows BadSymbol = GivesNoCounted rows BadSymbol
-GivesNoStats rows TooManySymbols = GivesNoCounted rows TooManySymbols
-GivesNoStats rows DuplicateSymbol = GivesNoCounted rows DuplicateSymbol
+GivesNoStats rows BadSession = GivesNoFeed rows BadSession
+GivesNoStats rows TooManySessions = GivesNoFeed rows TooManySessions
+GivesNoStats rows BadSymbol = GivesNoFeed rows BadSymbol
+GivesNoStats rows TooManySymbols = GivesNoFeed rows TooManySymbols
+GivesNoStats rows DuplicateSymbol = GivesNoFeed rows DuplicateSymbol
 GivesNoStats rows BadFormat = CountsInNoFormat rows
 GivesNoStats rows BadLines = CountsNoLines rows
 GivesNoStats rows NoMemory = Unit {0}

@@ -5,13 +5,14 @@ ghost use Rattle.clap.specs.Simple.{subcommand_of, subcommand_rows_of};
 ghost use Rattle.clap.specs.Values.{kind_of};
 ghost use Rattle.clap.specs.Walk.{first_of, one_of, rows_of};
 ghost use Rattle.command_words.specs.Addresses.{HasLinesFault, NameLines, NamesNoRequest, NamesRequest};
-ghost use Rattle.command_words.specs.CommandLine.{Asks, Gives, GivesBadFormat, GivesBests, GivesListening, GivesNoListening, GivesNone, IsCount, IsFlag, IsGivenCount, IsRefused, IsAccepted, IsWindowOf, RefusesBy, lines_in, symbol_words_in};
+ghost use Rattle.command_words.specs.CommandLine.{Asks, Gives, GivesBadFormat, GivesBests, GivesFeed, GivesListening, GivesNoFeed, GivesNoListening, GivesNone, IsCount, IsFlag, IsGivenCount, IsRefused, IsAccepted, IsWindowOf, RefusesBy, lines_in, symbol_words_in};
 ghost use Rattle.command_words.specs.Commands.{nbbo_app};
 ghost use Rattle.command_words.specs.Symbols.{HasSymbolsFault, NameSymbols};
 
 use crate::addresses::{LinesFault, RequestFault, read_lines, read_request};
 use crate::best_format::{FormatFault, read_format};
 use crate::commands::nbbo_command;
+use crate::feed_settings::FeedSettings;
 use crate::line_tasks::{conversion_of, replay_task};
 use crate::listen_settings::ListenSettings;
 use crate::refusal::Refusal;
@@ -66,7 +67,7 @@ fn parsed<'a>(alloc: Global, words: &'a [String]) -> Result<ArgMatches<'a>, Refu
 }
 
 /// The window that the option gives. The parser has refused a number that is out of range.
-pub fn window_of(options: &ArgMatches<'_>) -> u32
+fn window_of(options: &ArgMatches<'_>) -> u32
     ensures value { IsWindowOf (one_of (codes "window") (rows_of (found_of options.now))) result }
     ensures some { 1 ≤ result }
     ensures in_range { result ≤ 65535 }
@@ -88,7 +89,7 @@ fn count_of(options: &ArgMatches<'_>, name: &str) -> u32
 }
 
 /// The symbols that the words name.
-pub fn symbols_of(alloc: Global, options: &ArgMatches<'_>) -> Result<Vec<SymbolName>, SymbolsFault>
+fn symbols_of(alloc: Global, options: &ArgMatches<'_>) -> Result<Vec<SymbolName>, SymbolsFault>
     ensures ok { IfOk result (λ symbols.
         NameSymbols (symbol_words_in (rows_of (found_of options.now))) symbols.items) }
     ensures err { IfErr result (HasSymbolsFault
@@ -163,16 +164,31 @@ fn request_of(
     read_request(listen.get_str("request"), lines)
 }
 
+/// The settings of a feed that the options give, with room for `journal` entries.
+pub fn feed_of(
+    alloc: Global,
+    options: &ArgMatches<'_>,
+    journal: u32,
+) -> Result<FeedSettings, Refusal>
+    ensures ok { IfOk result (GivesFeed (rows_of (found_of options.now))) }
+    ensures journal { IfOk result (λ feed. feed.journal ≡ journal) }
+    ensures err { IfErr result (GivesNoFeed (rows_of (found_of options.now))) }
+{
+    Ok(FeedSettings {
+        sessions: read_sessions(alloc, text_of(options, "sessions"))?,
+        symbols: symbols_of(alloc, options)?,
+        window: window_of(options),
+        journal,
+    })
+}
+
 /// The settings that the options of `replay` give.
 pub fn settings_of(alloc: Global, replay: &ArgMatches<'_>) -> Result<ReplaySettings, Refusal>
     ensures ok { IfOk result (Gives (rows_of (found_of replay.now))) }
     ensures err { IfErr result (GivesNone (rows_of (found_of replay.now))) }
 {
     Ok(ReplaySettings {
-        sessions: read_sessions(alloc, text_of(replay, "sessions"))?,
-        symbols: symbols_of(alloc, replay)?,
-        window: window_of(replay),
-        journal: count_of(replay, "journal"),
+        feed: feed_of(alloc, replay, count_of(replay, "journal"))?,
         gaps: flag_of(replay, "gaps"),
         bests: bests_of(replay)?,
     })
@@ -186,13 +202,16 @@ fn listening_of(alloc: Global, listen: &ArgMatches<'_>) -> Result<ListenSettings
     let sessions = read_sessions(alloc, text_of(listen, "sessions"))?;
     let lines = lines_of(alloc, listen, sessions.len())?;
     let request = request_of(listen, lines.as_slice())?;
-    Ok(ListenSettings {
+    let feed = FeedSettings {
         sessions,
-        lines,
-        request,
         symbols: symbols_of(alloc, listen)?,
         window: window_of(listen),
         journal: count_of(listen, "journal"),
+    };
+    Ok(ListenSettings {
+        feed,
+        lines,
+        request,
         datagrams: count_of(listen, "datagrams"),
         buffer: given_count_of(listen, "buffer"),
         seconds: given_count_of(listen, "seconds"),

@@ -13,6 +13,7 @@ mod best_format;
 mod captured_lines;
 mod command_line;
 mod commands;
+mod feed_settings;
 mod help_texts;
 mod line_replay_settings;
 mod line_tasks;
@@ -27,6 +28,7 @@ mod symbols;
 mod task;
 
 pub use command_line::settings;
+pub use feed_settings::FeedSettings;
 pub use line_replay_settings::LineReplaySettings;
 pub use listen_settings::ListenSettings;
 pub use refusal::Refusal;

@@ -12,5 +12,5 @@ pub struct LineReplaySettings {
     pub replay: ReplaySettings,
     /// The lines whose datagrams the packet capture has, two for each venue.
     pub lines: Vec<CapturedLine>,
-    ghost of_venues: { AreOfVenues (vec_len replay.sessions) lines.items },
+    ghost of_venues: { AreOfVenues (vec_len replay.feed.sessions) lines.items },
 }

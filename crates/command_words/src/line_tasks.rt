@@ -21,7 +21,7 @@ pub fn replay_task(alloc: Global, replay: &ArgMatches<'_>) -> Result<Task, Refus
     let settings = settings_of(alloc, replay)?;
     match replay.get_str("lines") {
         Some(list) => {
-            let lines = read_captured_lines(alloc, list, settings.sessions.len())?;
+            let lines = read_captured_lines(alloc, list, settings.feed.sessions.len())?;
             Ok(Task::ReplayLines(LineReplaySettings {
                 replay: settings,
                 lines,

@@ -2,16 +2,15 @@
 ghost use Rattle.std.specs.Prelude.{IfOk, IfErr, codes};
 ghost use Rattle.clap.specs.Matches.{found_of};
 ghost use Rattle.clap.specs.Walk.{first_of, rows_of};
-ghost use Rattle.command_words.specs.CommandLine.{GivesCounted, GivesNoCounted, GivesNoStats, GivesStats};
+ghost use Rattle.command_words.specs.CommandLine.{GivesCounted, GivesNoFeed, GivesNoStats, GivesStats};
 ghost use Rattle.command_words.specs.StatsFormats.{NamesNoStatsFormat, NamesStatsFormat};
 
 use crate::best_format::FormatFault;
 use crate::captured_lines::read_captured_lines;
-use crate::command_line::{symbols_of, text_of, window_of};
+use crate::command_line::feed_of;
 use crate::line_replay_settings::LineReplaySettings;
 use crate::refusal::Refusal;
 use crate::replay_settings::ReplaySettings;
-use crate::sessions::read_sessions;
 use crate::stats_format::read_stats_format;
 use crate::stats_settings::{StatsInput, StatsSettings};
 use capture_stats::StatsFormat;
@@ -24,13 +23,10 @@ const MAX_JOURNAL: u32 = 4_294_967_295;
 /// The settings of the replay whose lines are counted, those of gaps among them.
 fn counted_replay(alloc: Global, stats: &ArgMatches<'_>) -> Result<ReplaySettings, Refusal>
     ensures ok { IfOk result (GivesCounted (rows_of (found_of stats.now))) }
-    ensures err { IfErr result (GivesNoCounted (rows_of (found_of stats.now))) }
+    ensures err { IfErr result (GivesNoFeed (rows_of (found_of stats.now))) }
 {
     Ok(ReplaySettings {
-        sessions: read_sessions(alloc, text_of(stats, "sessions"))?,
-        symbols: symbols_of(alloc, stats)?,
-        window: window_of(stats),
-        journal: MAX_JOURNAL,
+        feed: feed_of(alloc, stats, MAX_JOURNAL)?,
         gaps: true,
         bests: None,
     })
@@ -55,7 +51,7 @@ pub fn stats_of(alloc: Global, stats: &ArgMatches<'_>) -> Result<StatsSettings, 
     let format = stats_format_of(stats)?;
     match stats.get_str("lines") {
         Some(list) => {
-            let lines = read_captured_lines(alloc, list, replay.sessions.len())?;
+            let lines = read_captured_lines(alloc, list, replay.feed.sessions.len())?;
             Ok(StatsSettings {
                 input: StatsInput::Packets(LineReplaySettings { replay, lines }),
                 format,

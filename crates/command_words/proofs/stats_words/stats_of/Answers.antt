@@ -5,13 +5,13 @@ use Rattle.std.proofs.lemmas.Result.{err_from_is_err_and}
 use Rattle.clap.proofs.WalkLemmas.{first_value-rows}
 use Rattle.clap.specs.Matches.{found_of}
 use Rattle.clap.specs.Walk.{Text, first_of, rows_of}
-use Rattle.command_words.proofs.Asking.{GivesNoStats-counted, GivesNoStats-lines}
+use Rattle.command_words.proofs.Asking.{GivesNoStats-feed, GivesNoStats-lines}
 use Rattle.command_words.proofs.stats_words.stats_of.Goals as goal
 
 pub returns-in_err-replay-clause-err : goal.returns-in_err-replay-clause-err
 returns-in_err-replay-clause-err c =
     let p = err_from_is_err_and c.from_residual.result c.from_residual.ensures.1 in
-    rw (p.1, p.2) (GivesNoStats-counted (rows_of (found_of c.args.stats.now)) c.in_err-replay.field-0.0 (search rules))
+    rw (p.1, p.2) (GivesNoStats-feed (rows_of (found_of c.args.stats.now)) c.in_err-replay.field-0.0 (search rules))
 
 pub returns-in_err-format-clause-err : goal.returns-in_err-format-clause-err
 returns-in_err-format-clause-err c =
