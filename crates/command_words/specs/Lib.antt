@@ -3,6 +3,9 @@ pub mod BestFormats
 pub mod CapturedLines
 pub mod CommandLine
 pub mod Commands
+pub mod ListenOptions
+pub mod Options
+pub mod ReplayOptions
 pub mod Sessions
 pub mod StatsFormats
 pub mod Symbols

@@ -13,6 +13,7 @@ use crate::addresses::{LinesFault, RequestFault, read_lines, read_request};
 use crate::best_format::{FormatFault, read_format};
 use crate::commands::nbbo_command;
 use crate::feed_settings::FeedSettings;
+use crate::limits::{DEFAULT_COUNT, DEFAULT_WINDOW};
 use crate::line_tasks::{conversion_of, replay_task};
 use crate::listen_settings::ListenSettings;
 use crate::refusal::Refusal;
@@ -27,13 +28,6 @@ use clap::{ArgMatches, Error};
 use feed_types::{MAX_WINDOW, SymbolName};
 use std::alloc::Global;
 use std::net::SocketAddr;
-
-/// The window where the words give none.
-const DEFAULT_WINDOW: u32 = 4_096;
-
-/// The number of entries for which the journal has room, and of datagrams that a line reads, where
-/// the words don't say.
-const DEFAULT_COUNT: u32 = 1_000_000;
 
 /// The refusal for an error of the parser.
 fn refusal_of(alloc: Global, error: &Error) -> Refusal

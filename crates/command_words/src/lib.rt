@@ -5,7 +5,9 @@
 //! reading of the words (`specs/Commands.antt`) and the definitions of each kind of value
 //! (`specs/Sessions.antt`, `specs/Symbols.antt`, `specs/Addresses.antt`, `specs/CapturedLines.antt`).
 //!
-//! Begin with `command_line.rt`, then `commands.rt`, which has the options, and `help_texts.rt`.
+//! Begin with `command_line.rt`, then `commands.rt` and a command, as `listen_command.rt`. An option stands with its texts
+//! in `options.rt` if commands share it, else in `listen_options.rt`, `replay_options.rt` or with its command; its rule in
+//! the file of that name in `specs/`.
 #![tactic(auto)]
 
 mod addresses;
@@ -13,14 +15,21 @@ mod best_format;
 mod captured_lines;
 mod command_line;
 mod commands;
+mod convert_command;
 mod feed_settings;
-mod help_texts;
+mod limits;
 mod line_replay_settings;
 mod line_tasks;
+mod listen_command;
+mod listen_options;
 mod listen_settings;
+mod options;
 mod refusal;
+mod replay_command;
+mod replay_options;
 mod replay_settings;
 mod sessions;
+mod stats_command;
 mod stats_format;
 mod stats_settings;
 mod stats_words;

@@ -1,0 +1,154 @@
+//! `nbbo listen`: its texts, and its options one after the other.
+ghost use Rattle.std.specs.Prelude.{◌≡◌, IfOk, false, codes};
+ghost use Rattle.clap.specs.Simple.{app_of, new_app};
+ghost use Rattle.clap.specs.declared.builder.command.Command.TheViews.{out-Command as fields_of};
+ghost use Rattle.command_words.specs.Commands.{counts_app, ends_app, lines_app, listen_app};
+
+use crate::listen_options::{
+    buffer_option, datagrams_option, follow_flag, lines_option, request_option, seconds_option,
+    stats_option, until_input_ends_flag,
+};
+use crate::options::{journal_option, sessions_option, symbols_argument, window_option};
+use clap::Command;
+use std::alloc::{AllocError, Global};
+
+/// `listen`, in a line.
+const ABOUT: &str = "Listens on the lines of live venues and prints what they came to";
+
+const LONG_ABOUT: &str = "\
+Listens on the lines of live venues and prints what they came to.
+
+Each venue sends the same MoldUDP64 packets on two lines, A and B. Each line is received by UDP,
+in a thread of its own. What either line brings is put into one sequence, and the national best
+bid and offer of each symbol is kept. A line ends after an end of session, or after as many
+datagrams as --datagrams says; --seconds and --until-input-ends end all lines. Once they have
+ended, what changed is printed; with --follow each change is printed as it comes.";
+
+/// The usage of `listen`.
+const USAGE: &str = "nbbo listen [OPTIONS] --sessions <LIST> --lines <LIST> [SYMBOL]...";
+
+/// An example, for the short help.
+const EXAMPLE: &str = "\
+Example, one venue whose lines are received on two ports:
+  nbbo listen --sessions 0000000001 --lines 127.0.0.1:7001,127.0.0.1:7002 ACME
+
+'--help' also has an example to try at once, and tells what is printed.";
+
+/// The part of the long help after the options.
+const LINES: &str = "\
+Printed lines, once all lines have ended; with --follow each best line as it comes:
+  best NOTICE POSITION SYMBOL BID OFFER STATE
+                                 the journal's entry at POSITION has changed the national best bid
+                                 or offer of the symbol. BID and OFFER are none or V:PRICExSIZE;
+                                 STATE is empty, one-sided, normal, locked or crossed
+  venue V sent SENT wins A B R   for each venue: how many items came in sequence, and how many
+                                 messages each line brought first. R is 0: replies to requests
+                                 come on line A or B
+
+An example to try, from the folder of the program's sources. Start this in the background:
+  ./nbbo listen --sessions NORTH,SOUTH --lines \
+      127.0.0.1:7001,127.0.0.1:7002,127.0.0.1:7003,127.0.0.1:7004 ACME &
+Then send it a capture, each datagram to its line, and an end to each line:
+  tools/send_lines --lines \
+      127.0.0.1:7001,127.0.0.1:7002,127.0.0.1:7003,127.0.0.1:7004 --end \
+      < examples/two-venues.capture
+
+Multicast groups are not joined by the program, but by the system: as root, once a group, on the
+interface that it comes by:
+  ip address add 239.1.1.1/32 dev eth0 autojoin
+Then --lines 239.1.1.1:26400,.. receives what is sent to that group and port, and nothing else.
+
+What a sender does at the end: messages that are missing are asked for after a datagram has come,
+and once more with one that comes 250 ms or more later. So that what both lines lost of the last
+messages is asked for and can be sent again, it sends heartbeats for some seconds, one in each at
+least, before it sends the end of session. What is missing all the same is told.
+
+A line's socket has the system's default buffer, often with room for some 250 small datagrams;
+more are dropped while its thread waits for a processor. --buffer asks for more room; where that
+says that the system allows no more, as root, beforehand:
+  sysctl -w net.core.rmem_max=4194304
+
+A first interrupt from the keyboard ends the program at once, and nothing more is printed: what
+was taken is not kept. To have it printed, send each line an end of session; or have the
+interrupt end what the program reads, and not the program:
+  cat | (trap '' INT; nbbo listen --until-input-ends --sessions .. > best.txt)
+
+Status:
+  0  all lines ended and what they came to was printed, or help was shown. Standard error says
+     what else is to be known:
+       line V L ended by --datagrams
+                        the line has read as many datagrams as it may
+       venue V lacks COUNT messages from NUMBER
+                        they never came, though later ones did: the first that are missing, as far
+                        as the window goes. Nothing past them was printed
+  1  standard error says what went wrong:
+       line V L failed  the line's socket gave a fault, and that line ended there; the others
+                        went on, and what they brought was printed
+       journal full     the journal has no room for a next item, so all lines were ended; what
+                        had room was printed. Give it more room than what comes takes
+       no thread        a thread could not be started; what was taken was printed
+       bind failed      an address of --lines isn't of this machine, or is in use; nothing was
+                        read
+       write failed     standard output can't be written
+       no memory        memory was refused
+  2  the command line was refused; standard error says why. 'bad session', 'too many sessions',
+     'bad symbol', 'too many symbols' and 'duplicate symbol' as of 'nbbo replay'; 'bad lines': not
+     two addresses for each session; 'bad request address': it is none, or none that the lines
+     can send to (port 0, IP address 0.0.0.0 or [::], another version of IP than a line's)";
+
+/// The texts of `listen`, without its options.
+fn listen_texts<'a>(alloc: Global) -> Command<'a>
+    ensures app { app_of result ≡ new_app (codes "listen") }
+    ensures local { (fields_of result).has_globals ≡ false }
+{
+    Command::new(alloc, "listen")
+        .about(ABOUT)
+        .long_about(LONG_ABOUT)
+        .override_usage(USAGE)
+        .after_help(EXAMPLE)
+        .after_long_help(LINES)
+}
+
+/// `listen` with its options that say where.
+fn lines_command<'a>(alloc: Global) -> Result<Command<'a>, AllocError>
+    ensures app { IfOk result (λ c. app_of c ≡ lines_app) }
+    ensures local { IfOk result (λ c. (fields_of c).has_globals ≡ false) }
+{
+    listen_texts(alloc)
+        .arg(sessions_option(alloc))?
+        .arg(lines_option(alloc))?
+        .arg(request_option(alloc))
+}
+
+/// `listen` with its options that say how much, too.
+fn counts_command<'a>(alloc: Global) -> Result<Command<'a>, AllocError>
+    ensures app { IfOk result (λ c. app_of c ≡ counts_app) }
+    ensures local { IfOk result (λ c. (fields_of c).has_globals ≡ false) }
+{
+    lines_command(alloc)?
+        .arg(window_option(alloc))?
+        .arg(journal_option(alloc))?
+        .arg(datagrams_option(alloc))
+}
+
+/// `listen` with its options that say when it ends, too.
+fn ends_command<'a>(alloc: Global) -> Result<Command<'a>, AllocError>
+    ensures app { IfOk result (λ c. app_of c ≡ ends_app) }
+    ensures local { IfOk result (λ c. (fields_of c).has_globals ≡ false) }
+{
+    counts_command(alloc)?
+        .arg(buffer_option(alloc))?
+        .arg(seconds_option(alloc))?
+        .arg(until_input_ends_flag(alloc))
+}
+
+/// The whole of `listen`.
+pub fn listen_command<'a>(alloc: Global) -> Result<Command<'a>, AllocError>
+    ensures app { IfOk result (λ c. app_of c ≡ listen_app) }
+    ensures local { IfOk result (λ c. (fields_of c).has_globals ≡ false) }
+{
+    ends_command(alloc)?
+        .arg(follow_flag(alloc))?
+        .arg(stats_option(alloc))?
+        .arg(symbols_argument(alloc))
+}

@@ -1,0 +1,160 @@
+//! The options of `nbbo listen` alone: of each its texts and its argument, as `clap` takes it. Its rule stands in
+//! `specs/ListenOptions.antt`.
+ghost use Rattle.std.specs.Prelude.{◌≡◌, false};
+ghost use Rattle.clap.specs.Walk.{rule_of};
+ghost use Rattle.command_words.specs.ListenOptions.{buffer_rule, datagrams_rule, follow_rule, request_rule, seconds_rule, stats_rule, until_input_ends_rule};
+ghost use Rattle.command_words.specs.Options.{lines_rule};
+
+use crate::limits::{MAX_BUFFER, text};
+use clap::{Arg, ArgAction, value_parser};
+use std::alloc::Global;
+
+const LINES_HELP: &str = "\
+Where the lines are received: two addresses for each venue, line A's and then line
+B's, venue 0's first, parted by commas. An address is an IP address of this machine
+and a port, as 127.0.0.1:7001 or [::1]:7001; with 0.0.0.0 all of its addresses. For a
+line whose datagrams come by multicast it is the group's, which the system has to have
+joined before: see below";
+
+/// `--lines LIST`.
+pub fn lines_option<'a>(alloc: Global) -> Arg<'a>
+    ensures rule { rule_of result ≡ lines_rule }
+    ensures local { result.global ≡ false }
+{
+    Arg::new(alloc, "lines")
+        .long("lines")
+        .value_name("LIST")
+        .required(true)
+        .help("Where the lines are received: an address for line A and one for B of each venue")
+        .long_help(LINES_HELP)
+}
+
+const REQUEST_HELP: &str = "\
+Where messages that are missing are asked for: the address of a retransmission server.
+A request goes there from the socket of the line that found the gap, at once, and again
+while the gap stands, with the venue's next datagram that comes 250 ms or more later,
+from the line that it came on. A reply is read on the line that asked. The port isn't 0,
+nor the IP address 0.0.0.0 or [::], and it is of each line's version of IP. A fault of the
+socket at a request, as where a firewall refuses it or there is no route, ends the line
+that asks. Without this option nothing is asked for";
+
+/// `--request ADDR`.
+pub fn request_option<'a>(alloc: Global) -> Arg<'a>
+    ensures rule { rule_of result ≡ request_rule }
+    ensures local { result.global ≡ false }
+{
+    Arg::new(alloc, "request")
+        .long("request")
+        .value_name("ADDR")
+        .help("Where messages that are missing are asked for")
+        .long_help(REQUEST_HELP)
+}
+
+const DATAGRAMS_HELP: &str = text!("\
+How many datagrams a line reads at most: 0 to " MAX_COUNT ". A line also ends after a
+datagram that is an end of session, of whichever session");
+
+/// `--datagrams N`.
+pub fn datagrams_option<'a>(alloc: Global) -> Arg<'a>
+    ensures rule { rule_of result ≡ datagrams_rule }
+    ensures local { result.global ≡ false }
+{
+    Arg::new(alloc, "datagrams")
+        .long("datagrams")
+        .value_name("N")
+        .value_parser(value_parser!(u32).range(0..=i64::from(u32::MAX)))
+        .default_value(text!(DEFAULT_COUNT))
+        .help(text!("How many datagrams a line reads at most, 0 to " MAX_COUNT))
+        .long_help(DATAGRAMS_HELP)
+}
+
+const BUFFER_HELP: &str = text!("\
+How many bytes of room to ask for in each line's socket, where the system keeps what has
+come until it is read: 1 to " MAX_BUFFER ". Standard error says how many there are then; the
+system gives no more than its own limit. Without this option it is the system's default");
+
+/// `--buffer BYTES`.
+pub fn buffer_option<'a>(alloc: Global) -> Arg<'a>
+    ensures rule { rule_of result ≡ buffer_rule }
+    ensures local { result.global ≡ false }
+{
+    Arg::new(alloc, "buffer")
+        .long("buffer")
+        .value_name("BYTES")
+        .value_parser(value_parser!(u32).range(1..=i64::from(MAX_BUFFER)))
+        .help(
+            text!("How large a buffer to ask for at each line's socket, 1 to " MAX_BUFFER " bytes"),
+        )
+        .long_help(BUFFER_HELP)
+}
+
+const SECONDS_HELP: &str = text!("\
+After how many seconds the run ends, whether or not anything comes on the lines: 1 to
+" MAX_COUNT ". What came until then is printed as at any other end, and the status is 0");
+
+/// `--seconds N`.
+pub fn seconds_option<'a>(alloc: Global) -> Arg<'a>
+    ensures rule { rule_of result ≡ seconds_rule }
+    ensures local { result.global ≡ false }
+{
+    Arg::new(alloc, "seconds")
+        .long("seconds")
+        .value_name("N")
+        .value_parser(value_parser!(u32).range(1..=i64::from(u32::MAX)))
+        .help(text!("After how many seconds the run ends, 1 to " MAX_COUNT))
+        .long_help(SECONDS_HELP)
+}
+
+const UNTIL_INPUT_ENDS_HELP: &str = "\
+Ends the run when standard input ends, whether or not anything comes on the lines. What
+standard input brings is passed over. What came on the lines until then is printed as at
+any other end, and the status is 0. In a terminal Ctrl-D ends standard input; with
+'< /dev/null' it ends at once";
+
+/// `--until-input-ends`.
+pub fn until_input_ends_flag<'a>(alloc: Global) -> Arg<'a>
+    ensures rule { rule_of result ≡ until_input_ends_rule }
+    ensures local { result.global ≡ false }
+{
+    Arg::new(alloc, "until-input-ends")
+        .long("until-input-ends")
+        .action(ArgAction::SetTrue)
+        .help("Ends the run when standard input ends")
+        .long_help(UNTIL_INPUT_ENDS_HELP)
+}
+
+const FOLLOW_HELP: &str = "\
+Prints each best line as it comes, in the same order as without this option, and the
+lines of the venues once all lines have ended";
+
+/// `--follow`.
+pub fn follow_flag<'a>(alloc: Global) -> Arg<'a>
+    ensures rule { rule_of result ≡ follow_rule }
+    ensures local { result.global ≡ false }
+{
+    Arg::new(alloc, "follow")
+        .long("follow")
+        .action(ArgAction::SetTrue)
+        .help("Prints each best line as it comes")
+        .long_help(FOLLOW_HELP)
+}
+
+const STATS_HELP: &str = text!("\
+Every how many seconds standard error has a line of counts for each venue: 1 to
+" MAX_COUNT ". At the end it has a table of the whole run: packets, messages, and of these
+those that were repeated, refused or ahead of the window, gaps, and requests");
+
+/// `--stats SECONDS`.
+pub fn stats_option<'a>(alloc: Global) -> Arg<'a>
+    ensures rule { rule_of result ≡ stats_rule }
+    ensures local { result.global ≡ false }
+{
+    Arg::new(alloc, "stats")
+        .long("stats")
+        .value_name("SECONDS")
+        .value_parser(value_parser!(u32).range(1..=i64::from(u32::MAX)))
+        .help(text!(
+            "Every how many seconds standard error has counts of each venue, 1 to " MAX_COUNT
+        ))
+        .long_help(STATS_HELP)
+}

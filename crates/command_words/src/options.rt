@@ -1,0 +1,102 @@
+//! The options that several commands share: of each its texts and its argument, as `clap` takes it. Its rule stands in
+//! `specs/Options.antt`.
+ghost use Rattle.std.specs.Prelude.{◌≡◌, false};
+ghost use Rattle.clap.specs.Walk.{rule_of};
+ghost use Rattle.command_words.specs.Options.{captured_lines_rule, journal_rule, sessions_rule, symbols_rule, window_rule};
+
+use crate::limits::text;
+use clap::{Arg, value_parser};
+use feed_types::MAX_WINDOW;
+use std::alloc::Global;
+
+const SESSIONS_HELP: &str = text!("\
+The first session of each venue, venue 0's first: 1 to " MAX_VENUES " names parted by commas. A
+name has 1 to 10 characters of printable ASCII (bytes 20 to 7e) and is filled on the
+right with spaces to ten bytes. Write --sessions=LIST where the list begins with '-'");
+
+/// `--sessions LIST`.
+pub fn sessions_option<'a>(alloc: Global) -> Arg<'a>
+    ensures rule { rule_of result ≡ sessions_rule }
+    ensures local { result.global ≡ false }
+{
+    Arg::new(alloc, "sessions")
+        .long("sessions")
+        .value_name("LIST")
+        .required(true)
+        .help(text!("The first session of each venue, 1 to " MAX_VENUES " names parted by commas"))
+        .long_help(SESSIONS_HELP)
+}
+
+pub const CAPTURED_LINES_HELP: &str = "\
+Says that the input is a packet capture (pcap or pcapng), and where the lines' datagrams
+go in it: two addresses for each venue, line A's and then line B's, venue 0's first,
+parted by commas and each once. An address is an IP address, of a machine or a group,
+and a port, as 239.1.1.1:26400 or [ff02::1]:26400. One of zeros, as 0.0.0.0:26400, takes
+what goes to that port at any address; a datagram goes to the first line that takes it";
+
+/// `--lines LIST` of a command that also reads captures of the project's own format.
+pub fn captured_lines_option<'a>(alloc: Global) -> Arg<'a>
+    ensures rule { rule_of result ≡ captured_lines_rule }
+    ensures local { result.global ≡ false }
+{
+    Arg::new(alloc, "lines")
+        .long("lines")
+        .value_name("LIST")
+        .help(
+            "Reads a packet capture (pcap or pcapng): two addresses for each venue, A's and then B's",
+        )
+        .long_help(CAPTURED_LINES_HELP)
+}
+
+const WINDOW_HELP: &str = text!("\
+How many messages past the last item sent a venue holds while it waits for those
+between: 1 to " MAX_WINDOW ". A packet that goes further is 'ahead': it is known of, not taken");
+
+/// `--window N`.
+pub fn window_option<'a>(alloc: Global) -> Arg<'a>
+    ensures rule { rule_of result ≡ window_rule }
+    ensures local { result.global ≡ false }
+{
+    Arg::new(alloc, "window")
+        .long("window")
+        .value_name("N")
+        .value_parser(value_parser!(u32).range(1..=i64::from(MAX_WINDOW)))
+        .default_value(text!(DEFAULT_WINDOW))
+        .help(text!("How many messages a venue holds past the last item sent, 1 to " MAX_WINDOW))
+        .long_help(WINDOW_HELP)
+}
+
+const JOURNAL_HELP: &str = text!("\
+How many items and declarations of self-help there is room for: 0 to " MAX_COUNT ". A
+run that needs more ends there, with status 1");
+
+/// `--journal N`.
+pub fn journal_option<'a>(alloc: Global) -> Arg<'a>
+    ensures rule { rule_of result ≡ journal_rule }
+    ensures local { result.global ≡ false }
+{
+    Arg::new(alloc, "journal")
+        .long("journal")
+        .value_name("N")
+        .value_parser(value_parser!(u32).range(0..=i64::from(u32::MAX)))
+        .default_value(text!(DEFAULT_COUNT))
+        .help(text!("How many items and declarations of self-help there may be, 0 to " MAX_COUNT))
+        .long_help(JOURNAL_HELP)
+}
+
+const SYMBOLS_HELP: &str = text!("\
+The symbols whose national best bid and offer is printed: at most " MAX_SYMBOLS " words, each
+once, of 1 to 8 characters of printable ASCII without a space (bytes 21 to 7e). Write
+'--' before them where one begins with '-'");
+
+/// The symbols whose national best is printed.
+pub fn symbols_argument<'a>(alloc: Global) -> Arg<'a>
+    ensures rule { rule_of result ≡ symbols_rule }
+    ensures local { result.global ≡ false }
+{
+    Arg::new(alloc, "symbols")
+        .value_name("SYMBOL")
+        .num_args(0..)
+        .help(text!("The symbols whose national best is printed, at most " MAX_SYMBOLS))
+        .long_help(SYMBOLS_HELP)
+}

@@ -1,0 +1,169 @@
+//! `nbbo replay`: its texts, and its options one after the other.
+ghost use Rattle.std.specs.Prelude.{◌≡◌, IfOk, false, codes};
+ghost use Rattle.clap.specs.Simple.{app_of, new_app};
+ghost use Rattle.clap.specs.declared.builder.command.Command.TheViews.{out-Command as fields_of};
+ghost use Rattle.command_words.specs.Commands.{choices_app, options_app, replay_app};
+
+use crate::limits::text;
+use crate::options::{
+    captured_lines_option, journal_option, sessions_option, symbols_argument, window_option,
+};
+use crate::replay_options::{best_only_flag, format_option, gaps_flag};
+use clap::Command;
+use std::alloc::{AllocError, Global};
+
+/// `replay`, in one line.
+const ABOUT: &str = "Replays a capture from standard input and prints what became of it";
+
+const LONG_ABOUT: &str = "\
+Replays a capture from standard input and prints what became of it.
+
+A capture is a list of records, one after the other: the venue (1 byte, from 0), a kind (1 byte),
+a length (2 bytes, big-endian) and that many bytes. Kind A, B or R is a MoldUDP64 datagram that
+came on line A, on line B or from recovery. Kind N has ten bytes, the name of the venue's next
+session. Kind H declares self-help on the venue, which takes its quotations out of the national
+best, and kind W withdraws it; both have length 0.
+
+With --lines the input is a packet capture, pcap or pcapng, as tcpdump and dumpcap write it, and
+what is replayed are the datagrams of its lines, in the order of the capture.";
+
+/// The usage of `replay`.
+const USAGE: &str = "nbbo replay [OPTIONS] --sessions <LIST> [SYMBOL]... < CAPTURE";
+
+/// Examples, for the short help.
+const EXAMPLE: &str = "\
+Examples:
+  nbbo replay --sessions NORTH,SOUTH ACME < capture
+  zcat day.capture.gz | nbbo replay --sessions NORTH,SOUTH --best-only --format csv ACME
+
+'--help' also tells what a capture is and what is printed.";
+
+/// The part of the long help after the options.
+const LINES: &str = text!("\
+Printed lines, V a venue from 0, L a line (A, B or R for recovery):
+  packet V L taken NEW REPEATED  of a datagram's messages NEW came first, REPEATED came again
+  packet V L heartbeat           it has none
+  packet V L ended               it announces the end of the session
+  packet V L ahead               it goes beyond the window
+  packet V L refused N           it is malformed or contradicts what came before: see below
+  item V NUMBER KIND             the next message in sequence: quote, halt, trading or other; or
+                                 end, after the last. It is journaled
+  best NOTICE POSITION SYMBOL BID OFFER STATE
+                                 the journal's entry at POSITION, an item or a declaration, has
+                                 changed the national best bid or offer of the symbol. BID and
+                                 OFFER are none or V:PRICExSIZE; STATE is empty, one-sided,
+                                 normal, locked or crossed
+  gap V NUMBER COUNT             with --gaps: COUNT messages from NUMBER on are to be asked for
+  renew V ORDINAL                the venue's next session has begun, the second as 2
+  renew V refused N              it can't begin: see below
+  declare V on POSITION          self-help stands on the venue; 'off' where it was withdrawn. In
+                                 place of the journal's position 'already' where it was so
+  venue V sent SENT wins A B R   after the last record, for each venue: how many items were sent,
+                                 and how many messages each line brought first
+
+With --lines standard error says at the end what a line may have lost, with a count: fragments of
+datagrams, frames that were cut when they were captured, malformed packets, frames that can't be
+read (of a link type or with an IPv6 extension header that this program doesn't know), frames out
+of time order, and whether no datagram goes to a line.
+
+Examples:
+  $ nbbo replay --sessions NORTH,SOUTH ACME < capture
+  packet 0 A taken 1 0
+  item 0 1 quote
+  best 1 1 ACME 0:10.1500x300 0:10.1700x200 normal
+  packet 0 B taken 0 1
+  venue 0 sent 1 wins 1 0 0
+  venue 1 sent 0 wins 0 0 0
+
+  $ zcat day.capture.gz | nbbo replay --sessions NORTH,SOUTH --best-only ACME
+  best 1 1 ACME 0:10.1500x300 0:10.1700x200 normal
+
+  $ zcat day.capture.gz | nbbo replay --sessions NORTH,SOUTH --best-only --format csv ACME
+  notice,position,symbol,bid_venue,bid_price,bid_size,offer_venue,offer_price,offer_size,state
+  1,1,ACME,0,10.1500,300,0,10.1700,200,normal
+
+  $ zcat day.capture.gz | nbbo replay --sessions NORTH,SOUTH --best-only --format json ACME
+  {\"notice\":1,\"position\":1,\"symbol\":\"ACME\",\"bid\":{\"venue\":0,\"price\":10.1500,\"size\":300},
+   \"offer\":{\"venue\":0,\"price\":10.1700,\"size\":200},\"state\":\"normal\"}           (on one line)
+
+Refusals:
+   1  fewer than the 20 bytes of a packet's header
+   2  a message block is cut
+   3  the number is 0
+   4  a message would have a number past 2^64 - 1
+   7  the packet is of another session than the venue's present one
+   8  it goes past the announced end of the session
+   9  it announces another end than the one before
+  10  it announces an end, and a message at that number or past it came before
+  11  a message differs from the one that is held at its number
+  35  the present session isn't over: its end wasn't sent
+  36  the venue has used the name
+  37  the venue has had " MAX_SESSIONS " sessions
+
+Status:
+  0  the capture was replayed to its end, or help or the version was shown
+  1  the input or the run was refused; the lines of the records before were printed, and no venue
+     lines. Standard error says why:
+       journal full    the next item or declaration has no room in the journal; those of the same
+                       datagram that had room were printed, too
+       bad record      a record's venue isn't below the number of sessions, its kind isn't A, B, R,
+                       N, H or W, a record N hasn't ten bytes, or a record H or W has any
+       short record    the capture ends within a record; with --lines, within a header, a packet
+                       or a block, or before the first
+       bad capture at byte N
+                       with --lines: from that byte on it is no packet capture; how so follows
+       read failed     standard input can't be read
+       write failed    standard output can't be written, as where it is a pipe that 'head' has left
+       too many turns  input was read 1,000,000,000 times and hasn't ended
+       no memory       memory was refused
+  2  the command line was refused; standard error says why. 'bad session': a name is empty, has
+     more than ten characters or one that isn't printable ASCII; 'too many sessions': more than " MAX_VENUES ";
+     'bad symbol': a symbol is empty, has more than eight characters, or a space or one that isn't
+     printable ASCII; 'too many symbols': more than " MAX_SYMBOLS "; 'duplicate symbol': one is named twice;
+     'bad format': --format isn't text, csv or json, or --best-only isn't given;
+     'bad lines': --lines isn't two addresses for each session, or names one twice");
+
+/// The texts of `replay`, without its options.
+fn replay_texts<'a>(alloc: Global) -> Command<'a>
+    ensures app { app_of result ≡ new_app (codes "replay") }
+    ensures local { (fields_of result).has_globals ≡ false }
+{
+    Command::new(alloc, "replay")
+        .about(ABOUT)
+        .long_about(LONG_ABOUT)
+        .override_usage(USAGE)
+        .after_help(EXAMPLE)
+        .after_long_help(LINES)
+}
+
+/// `replay` with its options that have a value.
+fn options_command<'a>(alloc: Global) -> Result<Command<'a>, AllocError>
+    ensures app { IfOk result (λ c. app_of c ≡ options_app) }
+    ensures local { IfOk result (λ c. (fields_of c).has_globals ≡ false) }
+{
+    replay_texts(alloc)
+        .arg(sessions_option(alloc))?
+        .arg(window_option(alloc))?
+        .arg(journal_option(alloc))
+}
+
+/// `replay` with its options that say what is read, and which lines are printed, too.
+fn choices_command<'a>(alloc: Global) -> Result<Command<'a>, AllocError>
+    ensures app { IfOk result (λ c. app_of c ≡ choices_app) }
+    ensures local { IfOk result (λ c. (fields_of c).has_globals ≡ false) }
+{
+    options_command(alloc)?
+        .arg(captured_lines_option(alloc))?
+        .arg(gaps_flag(alloc))?
+        .arg(best_only_flag(alloc))
+}
+
+/// The whole of `replay`.
+pub fn replay_command<'a>(alloc: Global) -> Result<Command<'a>, AllocError>
+    ensures app { IfOk result (λ c. app_of c ≡ replay_app) }
+    ensures local { IfOk result (λ c. (fields_of c).has_globals ≡ false) }
+{
+    choices_command(alloc)?
+        .arg(format_option(alloc))?
+        .arg(symbols_argument(alloc))
+}

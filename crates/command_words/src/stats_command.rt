@@ -1,0 +1,143 @@
+//! `nbbo stats`: its texts and its options, of which each rule stands in `specs/Options.antt`.
+ghost use Rattle.std.specs.Prelude.{◌≡◌, IfOk, false, codes};
+ghost use Rattle.clap.specs.Simple.{app_of, new_app};
+ghost use Rattle.clap.specs.Walk.{rule_of};
+ghost use Rattle.clap.specs.declared.builder.command.Command.TheViews.{out-Command as fields_of};
+ghost use Rattle.command_words.specs.Commands.{counting_app, stats_app};
+ghost use Rattle.command_words.specs.Options.{format_rule, symbols_rule};
+
+use crate::limits::text;
+use crate::options::{captured_lines_option, sessions_option, window_option};
+use clap::{Arg, Command};
+use std::alloc::{AllocError, Global};
+
+/// `stats`, in one line.
+const ABOUT: &str = "Replays a capture and prints what happened in it, counted";
+
+const LONG_ABOUT: &str = "\
+Replays a capture from standard input, as 'nbbo replay --gaps' does, and prints none of its lines,
+but what they tell, counted: of each venue and each of its lines, and of the national bests of the
+symbols that are named. 'nbbo replay --help' says what a capture is.";
+
+/// The usage of `stats`.
+const USAGE: &str = "nbbo stats [OPTIONS] --sessions <LIST> [SYMBOL]... < CAPTURE";
+
+/// Examples, for the short help.
+const EXAMPLE: &str = "\
+Examples:
+  nbbo stats --sessions NORTH,SOUTH ACME < capture
+  nbbo stats --sessions NORTH --lines 239.1.1.1:26400,239.1.1.2:26400 --format json < day.pcap
+
+'--help' also tells what is counted.";
+
+/// The part of the long help after the options.
+const END: &str = "\
+Printed for each venue, from 0:
+  packets                    a line's datagrams, by the answer to each: 'with messages taken', new
+                             or again; 'past the window', of which nothing was taken; and those
+                             refused, by the fault, in rows that stand there only if there are any
+  messages                   those that the line brought first, and those that had come before
+  items in sequence          of all lines together, by kind, with an end for each session that was
+                             taken to its end, and the number of the last item
+  gaps                       how often messages were missing while later ones were there; the
+                             most messages that one gap lacked; and how many are missing still, of
+                             the first gap, and from which number
+  next sessions begun        by records of kind N, and how many of these were refused
+  self-help                  declared, withdrawn, and either where it was so already
+  changes of national bests  after which the best bid, or the best offer, is the venue's; also
+                             those that have changed the other side alone
+and then the changes of national bests, by the state after.
+
+With --lines there follows, by the times of the frames, in nanoseconds: the most messages of a
+second and of a millisecond, on all lines; of each venue how long the second line took with a
+message that the first one had brought: half of them within, 99 of a hundred within (a sixteenth
+more at most), and the longest; and how long messages were missing: the spells that are over, all
+together, the longest, and whether one is open. A frame without a time counts as of the time of the
+one before.
+
+In JSON a venue's 'lines' have 'A', 'B' and 'recovery', 'missing' is null where nothing is,
+'best_bids' and 'best_offers' are those changes, and 'in_time' is there with --lines. The words and
+numbers of refusals are those of 'nbbo replay --help'.
+
+Examples:
+  nbbo stats --sessions NORTH,SOUTH ACME < capture
+  zcat day.capture.gz | nbbo stats --sessions NORTH,SOUTH --format json | jq '.venues[].lines.B'
+  nbbo stats --sessions NORTH --lines 239.1.1.1:26400,239.1.1.2:26400 < day.pcap
+
+Status:
+  0  the capture was replayed to its end and the counts were printed, or help was shown
+  1  the input or the run was refused; standard error says why, as of 'nbbo replay', and the counts
+     of the records before were printed, unless it is 'write failed' or 'no memory'
+  2  the command line was refused: 'bad format' where the format is none of those; else as of
+     'nbbo replay'
+
+With --lines standard error also counts what was passed over, as of 'nbbo replay --lines'.";
+
+const FORMAT_HELP: &str = "\
+The format of the counts: 'table', as without this option, or 'json', an object on a line
+of its own";
+
+/// `--format FORMAT`.
+fn stats_format_option<'a>(alloc: Global) -> Arg<'a>
+    ensures rule { rule_of result ≡ format_rule }
+    ensures local { result.global ≡ false }
+{
+    Arg::new(alloc, "format")
+        .long("format")
+        .value_name("FORMAT")
+        .help("The format of the counts: table or json")
+        .long_help(FORMAT_HELP)
+}
+
+const SYMBOLS_HELP: &str = text!("\
+The symbols of whose national best bid and offer the changes are counted: at most " MAX_SYMBOLS "
+words, each once, of 1 to 8 characters of printable ASCII without a space (bytes 21 to
+7e). Write '--' before them where one begins with '-'. Without a symbol there are none");
+
+/// The symbols of whose national best the changes are counted.
+fn counted_symbols_argument<'a>(alloc: Global) -> Arg<'a>
+    ensures rule { rule_of result ≡ symbols_rule }
+    ensures local { result.global ≡ false }
+{
+    Arg::new(alloc, "symbols")
+        .value_name("SYMBOL")
+        .num_args(0..)
+        .help(text!(
+            "The symbols of whose national best the changes are counted, at most " MAX_SYMBOLS
+        ))
+        .long_help(SYMBOLS_HELP)
+}
+
+/// The texts of `stats`, without its options.
+fn stats_texts<'a>(alloc: Global) -> Command<'a>
+    ensures app { app_of result ≡ new_app (codes "stats") }
+    ensures local { (fields_of result).has_globals ≡ false }
+{
+    Command::new(alloc, "stats")
+        .about(ABOUT)
+        .long_about(LONG_ABOUT)
+        .override_usage(USAGE)
+        .after_help(EXAMPLE)
+        .after_long_help(END)
+}
+
+/// `stats` with its options that say what is read.
+fn counting_command<'a>(alloc: Global) -> Result<Command<'a>, AllocError>
+    ensures app { IfOk result (λ c. app_of c ≡ counting_app) }
+    ensures local { IfOk result (λ c. (fields_of c).has_globals ≡ false) }
+{
+    stats_texts(alloc)
+        .arg(sessions_option(alloc))?
+        .arg(captured_lines_option(alloc))?
+        .arg(window_option(alloc))
+}
+
+/// The whole of `stats`.
+pub fn stats_command<'a>(alloc: Global) -> Result<Command<'a>, AllocError>
+    ensures app { IfOk result (λ c. app_of c ≡ stats_app) }
+    ensures local { IfOk result (λ c. (fields_of c).has_globals ≡ false) }
+{
+    counting_command(alloc)?
+        .arg(stats_format_option(alloc))?
+        .arg(counted_symbols_argument(alloc))
+}
