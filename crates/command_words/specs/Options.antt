@@ -1,5 +1,5 @@
 -- The options that several commands share, as the crate clap sees them.
-use Rattle.std.specs.Prelude.{◌∷◌, [], Some, codes, pos}
+use Rattle.std.specs.Prelude.{◌∷◌, [], Some, codes, pos, true}
 use Rattle.clap.specs.Lexer.{usize_max}
 use Rattle.clap.specs.Walk.{Rule}
 use Rattle.clap.specs.Simple.{new_rule}
