@@ -114,6 +114,19 @@ HasFollowed writing first log Failed printed now =
     Wrote writing.adds first (log_lines log) now
     × (writing.failures now ≡ writing.failures first + 1)
 
+-- the log of the first subscriber of a settled feed, if it has one
+abbrev pub settled_log : SettlementState → List Logged
+settled_log s = first_lines (λ x. x.log) s.subscribers
+
+-- The end of a run: from the output `first` on the best lines of the settled log's first notices were
+-- written; or where there is no report, those of some log.
+abbrev pub HasListened : {W : Type 0} → Writing W → W → Result ListenReport ListenFault
+    → Following → ℕ → W → Type 0
+HasListened writing first (Ok report) following printed now =
+    HasFollowed writing first (settled_log report.settlement) following printed now
+HasListened writing first (Err fault) following printed now =
+    (log : List Logged) × HasFollowed writing first log following printed now
+
 -- ---- texts on standard error
 
 abbrev pub failed_tail : LineId → List ℕ

@@ -1,5 +1,6 @@
 //! What is beside a run: it prints what the followed subscriber is offered, says what was counted, and says when the
 //! run is to end.
+ghost use Rattle.std.specs.Prelude.{◌≡◌, None, IfOk};
 ghost use Rattle.feed_text.specs.Devices.{Writing};
 ghost use Rattle.udp_listening.specs.Listening.{HasFollowed, followed_lines};
 
@@ -50,7 +51,8 @@ pub struct Attendant<C> {
     is_needed: bool,
     end: RunEnd,
     text: LineBuffer,
-    counts: Option<ListenCounts>,
+    /// What is counted, if anything is.
+    pub counts: Option<ListenCounts>,
     has_stopped: bool,
     lacks_thread: bool,
 }
@@ -70,7 +72,9 @@ impl<C: Clock + Clone + Drop> Attendant<C> {
         settings: &ListenSettings,
         input: Stdin,
         clock: &C,
-    ) -> Result<Attendant<C>, AllocError> {
+    ) -> Result<Attendant<C>, AllocError>
+        ensures { settings.now.stats ≡ None → IfOk result (λ attendant. attendant.counts ≡ None) }
+    {
         let counts = match settings.stats {
             Some(seconds) => Some(ListenCounts::new(alloc, seconds, settings.lines.len() / 2)?),
             None => None,
@@ -94,7 +98,9 @@ impl<C: Clock + Drop> Attendant<C> {
     }
 
     /// Waits for a run that hasn't begun. Where it doesn't begin, it is to be stopped before.
-    fn await_begin(&mut self) -> Turn {
+    fn await_begin(&mut self) -> Turn
+        ensures { self.new.counts ≡ self.old.counts }
+    {
         if self.has_stopped {
             return Turn::Over;
         }
@@ -130,7 +136,9 @@ impl<C: Clock + Drop> Attendant<C> {
     }
 
     /// What is to be done at a run that goes on, where nothing was printed just now: it waits where nothing is.
-    fn look_on(&mut self, following: Following) -> Turn {
+    fn look_on(&mut self, following: Following) -> Turn
+        ensures { self.new.counts ≡ self.old.counts }
+    {
         let is_to_end = self.end.is_due(&self.elapsed) || following == Following::Failed;
         if is_to_end && !self.has_stopped {
             self.has_stopped = true;
@@ -163,6 +171,7 @@ impl<N: FeedName, C: Clock + Drop, W: TextOut, E: TextOut> Attendance<N, C, W, E
             first (followed_lines (λ log. log.lines) self.new.followed) self.new.desk.following
             self.new.desk.printed self.new.desk.output }
         ensures errors { self.new.desk.errors ≡ self.old.desk.errors }
+        ensures counts { self.new.attendant.counts ≡ self.old.attendant.counts }
     {
         match &mut self.followed {
             Some(log) => self.desk.follow(rt, &mut self.attendant.text, log),
@@ -180,6 +189,7 @@ impl<N: FeedName, C: Clock + Drop, W: TextOut, E: TextOut> Attendance<N, C, W, E
             first (followed_lines (λ log. log.lines) self.new.followed) self.new.desk.following
             self.new.desk.printed self.new.desk.output }
         ensures errors { self.new.desk.errors ≡ self.old.desk.errors }
+        ensures counts { self.new.attendant.counts ≡ self.old.attendant.counts }
     {
         if !self.attendant.is_needed {
             return Turn::Over;
@@ -201,6 +211,8 @@ impl<N: FeedName, C: Clock + Drop, W: TextOut, E: TextOut> Attendance<N, C, W, E
     pub fn tell(&mut self, place: usize, status: &VenueStatus)
         ensures desk { self.new.desk ≡ record (self.old.desk) { errors = self.new.desk.errors } }
         ensures followed { self.new.followed ≡ self.old.followed }
+        ensures quiet { self.old.attendant.counts ≡ None
+            → (self.new.desk.errors ≡ self.old.desk.errors) × (self.new.attendant.counts ≡ None) }
     {
         let elapsed_ms = self.attendant.elapsed.ms();
         if let Some(counts) = &mut self.attendant.counts {
@@ -212,6 +224,7 @@ impl<N: FeedName, C: Clock + Drop, W: TextOut, E: TextOut> Attendance<N, C, W, E
     pub fn pass_period(&mut self)
         ensures desk { self.new.desk ≡ self.old.desk }
         ensures followed { self.new.followed ≡ self.old.followed }
+        ensures quiet { self.old.attendant.counts ≡ None → self.new.attendant.counts ≡ None }
     {
         let elapsed_ms = self.attendant.elapsed.ms();
         if let Some(counts) = &mut self.attendant.counts {
@@ -223,6 +236,8 @@ impl<N: FeedName, C: Clock + Drop, W: TextOut, E: TextOut> Attendance<N, C, W, E
     pub fn tell_all(&mut self, statuses: &[VenueStatus])
         ensures desk { self.new.desk ≡ record (self.old.desk) { errors = self.new.desk.errors } }
         ensures followed { self.new.followed ≡ self.old.followed }
+        ensures quiet { self.old.attendant.counts ≡ None
+            → (self.new.desk.errors ≡ self.old.desk.errors) × (self.new.attendant.counts ≡ None) }
     {
         if let Some(counts) = &self.attendant.counts {
             counts.tell_all(statuses, &mut self.desk.errors);

@@ -1,7 +1,8 @@
 //! Listening on live lines, until all have ended.
-ghost use Rattle.std.specs.Prelude.{◌≡◌, Err, IfOk};
+ghost use Rattle.std.specs.Prelude.{◌≡◌, ◌≢◌, Err, IfOk, None};
+ghost use Rattle.feed_text.specs.Devices.{Writing};
 ghost use Rattle.feed_types.specs.Prefix.{IsPrefix};
-ghost use Rattle.udp_listening.specs.Listening.{IsFeedOf, first_lines, followed_lines};
+ghost use Rattle.udp_listening.specs.Listening.{HasFollowed, HasListened, IsFeedOf, first_lines, followed_lines};
 
 use crate::attendant::{Attendance, Attendant, Turn};
 use crate::desk::{Desk, Following};
@@ -148,7 +149,13 @@ where
     C: Clock + Drop + Send,
     W: TextOut + Drop + Send,
     E: TextOut + Drop + Send,
-    requires { feed ≡ N.lanes }
+    requires lanes { feed ≡ N.lanes }
+    requires unprinted { task.desk.printed ≡ 0 }
+    requires working { task.desk.following ≢ Following.Failed }
+    ensures listened { HasListened (record { adds = W.adds; failures = W.failures })
+        task.desk.output result.outcome result.desk.following result.desk.printed
+        result.desk.output }
+    ensures quiet { task.attendant.counts ≡ None → result.desk.errors ≡ task.desk.errors }
 {
     let ListenTask {
         sources,
@@ -193,7 +200,18 @@ where
     feed.show_shareable();
     let (attendance, ran) = thread::join(
         rt,
-        || {
+        || -> Attendance<N, C, W, E>
+            ensures shows { (first : W) → HasFollowed
+                (record { adds = W.adds; failures = W.failures }) first
+                (followed_lines (λ log. log.lines) attendance.followed) attendance.desk.following
+                attendance.desk.printed attendance.desk.output
+                → HasFollowed (record { adds = W.adds; failures = W.failures }) first
+                (followed_lines (λ log. log.lines) result.followed) result.desk.following
+                result.desk.printed result.desk.output }
+            ensures quiet { attendance.attendant.counts ≡ None
+                → (result.desk.errors ≡ attendance.desk.errors)
+                × (result.attendant.counts ≡ None) }
+        {
             let mut attendance = attendance;
             let Ok(stop) = feed.stop_handle() else {
                 return attendance;
