@@ -29,7 +29,7 @@ regroup a b r e =
     ∙ ap (λ l. l ++ e) (sym (append_assoc a (b ++ r) []))
     ∙ ap (λ l. (l ++ []) ++ e) (sym (append_assoc a b r))
 
-rest_of : SubscriberEndState → List ℕ
+abbrev pub rest_of : SubscriberEndState → List ℕ
 rest_of x = flat_map best_line x.queued ++ flat_map best_line x.unoffered
 
 -- the printed lines, then the rest of the first subscriber's, then more
@@ -104,7 +104,7 @@ all_of_rest writing telling more report printed first mid after said told status
     let front : List ℕ = log_lines (take printed (settled_log s)) in
     let part : Wrote writing.adds first (summary_text 0 s) mid
     = subst (λ (t : List ℕ). Wrote writing.adds first t mid) (whole_text printed s h.few)
-        (part_of_front writing.adds first mid front (summary_text printed s) h.lines) in
+    (part_of_front writing.adds first mid front (summary_text printed s) h.lines) in
     inr (inl (subst (λ w. Wrote writing.adds first (summary_text 0 s) w) (sym r.0) part, r.1, r.2))
 all_of_rest writing telling more report printed first mid after said told status h (inr (inr r)) =
     let s : SettlementState = report.settlement in
@@ -141,7 +141,7 @@ of_failed writing telling report first mid after silent told status part failed 
     let front = front_text s in
     let of_all : Wrote writing.adds first (summary_text 0 s) mid
     = subst (λ (t : List ℕ). Wrote writing.adds first t mid) front.1
-        (grow_part writing.adds first mid (log_lines (settled_log s)) front.0 part) in
+    (grow_part writing.adds first mid (log_lines (settled_log s)) front.0 part) in
     record {
       said = r.said;
       says = r.says;

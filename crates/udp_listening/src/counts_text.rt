@@ -4,7 +4,8 @@ use crate::live_counts::{LineCounts, REFUSALS, VenueCounts};
 use std::alloc::{AllocError, Global};
 
 /// The heads of the table's columns, of lines and of venues.
-const LINE_HEADS: &str = "nbbo: venue line    packets   messages        new   repeated heartbeats      ahead    refused\n";
+const LINE_HEADS: &str =
+    "nbbo: venue line    packets   messages        new   repeated heartbeats      ahead    refused\n";
 
 const VENUE_HEADS: &str = "nbbo: venue         sent      known        lag      lacks   requests\n";
 

@@ -1,8 +1,7 @@
 //! Listening on live lines, until all have ended.
-ghost use Rattle.std.specs.Prelude.{◌≡◌, ◌≢◌, Err, IfOk, None};
+ghost use Rattle.std.specs.Prelude.{◌≡◌, ◌≢◌, Err, None};
 ghost use Rattle.feed_text.specs.Devices.{Writing};
-ghost use Rattle.feed_types.specs.Prefix.{IsPrefix};
-ghost use Rattle.udp_listening.specs.Listening.{HasFollowed, HasListened, IsFeedOf, first_lines, followed_lines};
+ghost use Rattle.udp_listening.specs.Listening.{HasFollowed, HasListened, IsFeedOf, followed_lines};
 
 use crate::attendant::{Attendance, Attendant, Turn};
 use crate::desk::{Desk, Following};
@@ -15,10 +14,7 @@ use command_words::ListenSettings;
 use feed_text::devices::TextOut;
 use feed_types::{Anything, FeedConfig, LineId, MAX_VENUES, VenueId};
 use filter_terms::{Filter, Strategy, Terms};
-use live_feed::{
-    FeedName, Line, LineSource, LiveFeed, SettleFault, Settlement, Shareable, Stop, Subscriber,
-    SubscriberLog,
-};
+use live_feed::{FeedName, Line, LineSource, LiveFeed, SettleFault, Settlement, Shareable, Stop};
 use std::alloc::{AllocError, Global};
 use std::rt::Clock;
 use std::sync::Wait;
@@ -107,27 +103,6 @@ fn fault_of(fault: SettleFault) -> ListenFault {
         SettleFault::NoMemory => ListenFault::NoMemory,
         _ => ListenFault::Unsettled,
     }
-}
-
-/// All subscribers: the followed one, if there is one, and then those of the run.
-fn subscribers_of<N: FeedName>(
-    alloc: Global,
-    followed: Option<SubscriberLog<N>>,
-    others: Vec<Subscriber<N>>,
-) -> Result<Vec<Subscriber<N>>, AllocError>
-    ensures { IfOk result (λ all. IsPrefix
-        (followed_lines (λ log. log.lines) followed)
-        (first_lines (λ subscriber. subscriber.log.lines) all.items)) }
-{
-    let Some(log) = followed else {
-        return Ok(others);
-    };
-    let mut all = Vec::with_capacity(alloc, 1 + others.len())?;
-    all.push(log.into_subscriber())?;
-    for subscriber in others {
-        all.push(subscriber)?;
-    }
-    Ok(all)
 }
 
 /// Runs the feed over these sources until all lines have ended, with one subscriber, which wants
@@ -263,10 +238,12 @@ where
     } else {
         report.stopped
     };
-    let Ok(subscribers) = subscribers_of(alloc, followed, report.subscribers) else {
-        return unreported(ListenFault::NoMemory, desk);
+    let subscribers = match followed {
+        Some(log) => Vec::from_array(alloc, [log.into_subscriber()]).ok(),
+        None => Some(report.subscribers),
     };
-    let (Ok(ended), Ok(lacking)) = (
+    let (Some(subscribers), Ok(ended), Ok(lacking)) = (
+        subscribers,
         part_lines(alloc, report.lines),
         lacks_in(alloc, statuses.as_slice()),
     ) else {
