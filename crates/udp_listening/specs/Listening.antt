@@ -87,11 +87,6 @@ summary_text printed s =
 
 -- ---- what is printed while a run goes on
 
--- the lines of a log, if there is one
-abbrev pub followed_lines : {S : Type 0} → (S → List Logged) → Option S → List Logged
-followed_lines lines None = []
-followed_lines lines (Some s) = lines s
-
 -- the lines of the first subscriber's log, if there is one
 abbrev pub first_lines : {S : Type 0} → (S → List Logged) → List S → List Logged
 first_lines lines [] = []

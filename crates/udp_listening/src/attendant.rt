@@ -1,8 +1,8 @@
-//! What is beside a run: it prints what the followed subscriber is offered, says what was counted, and says when the
-//! run is to end.
+//! What is beside a run: it takes what the subscriber is offered, prints it where that is asked for, says what was
+//! counted, and says when the run is to end.
 ghost use Rattle.std.specs.Prelude.{◌≡◌, None, IfOk};
 ghost use Rattle.feed_text.specs.Devices.{Writing};
-ghost use Rattle.udp_listening.specs.Listening.{HasFollowed, followed_lines};
+ghost use Rattle.udp_listening.specs.Listening.{HasFollowed};
 
 use crate::desk::{Desk, Following};
 use crate::elapsed::Elapsed;
@@ -26,7 +26,7 @@ const BEGIN_MS: u64 = 10_000;
 const BEGIN_WAIT_MS: u64 = 1;
 
 /// How long it waits between two looks at a run.
-const WAIT_MS: u64 = 100;
+const WAIT_MS: u64 = 20;
 
 /// How long it waits where lines are printed as they come.
 const FOLLOWING_WAIT_MS: u64 = 5;
@@ -34,7 +34,7 @@ const FOLLOWING_WAIT_MS: u64 = 5;
 /// What a look of the attendant asks for.
 #[derive(Clone, Copy, Debug, PartialEq, Eq)]
 pub enum Turn {
-    /// Nothing more: the run is over, or nobody has to be beside it.
+    /// Nothing more: the run is over.
     Over,
     /// The run is to be stopped.
     Stop,
@@ -47,22 +47,14 @@ pub enum Turn {
 /// Who is beside a run.
 #[derive(Drop)]
 pub struct Attendant<C> {
+    progress: RunProgress,
     elapsed: Elapsed<C>,
-    is_needed: bool,
     end: RunEnd,
     text: LineBuffer,
     /// What is counted, if anything is.
     pub counts: Option<ListenCounts>,
     has_stopped: bool,
     lacks_thread: bool,
-}
-
-/// Whether somebody is to be beside a run of these settings: to end it, or to print while it goes on.
-fn is_attended(settings: &ListenSettings) -> bool {
-    settings.seconds.is_some()
-        || settings.until_input_ends
-        || settings.follow
-        || settings.stats.is_some()
 }
 
 impl<C: Clock + Clone + Drop> Attendant<C> {
@@ -80,8 +72,8 @@ impl<C: Clock + Clone + Drop> Attendant<C> {
             None => None,
         };
         Ok(Attendant {
+            progress: RunProgress::new(alloc)?,
             elapsed: Elapsed::new(clock.clone()?),
-            is_needed: is_attended(settings),
             end: RunEnd::of(settings, input),
             text: LineBuffer::new(alloc),
             counts,
@@ -92,6 +84,11 @@ impl<C: Clock + Clone + Drop> Attendant<C> {
 }
 
 impl<C: Clock + Drop> Attendant<C> {
+    /// The progress of the run, for its thread. AllocError where it can't be shared any further.
+    pub fn share_progress(&self) -> Result<RunProgress, AllocError> {
+        self.progress.share()
+    }
+
     /// Whether the attendant was there before the run, since no thread could be had for it.
     pub fn lacks_thread(&self) -> bool {
         self.lacks_thread
@@ -135,7 +132,7 @@ impl<C: Clock + Drop> Attendant<C> {
         }
     }
 
-    /// What is to be done at a run that goes on, where nothing was printed just now: it waits where nothing is.
+    /// What is to be done at a run that goes on, where nothing was taken just now: it waits where nothing is.
     fn look_on(&mut self, following: Following) -> Turn
         ensures { self.new.counts ≡ self.old.counts }
     {
@@ -153,52 +150,35 @@ impl<C: Clock + Drop> Attendant<C> {
     }
 }
 
-/// An attendant at its work: with where the program prints, and with the log of the followed subscriber, if one is.
+/// An attendant at its work: with where the program prints, and with the subscriber's log.
 #[derive(Drop)]
 pub struct Attendance<N: FeedName, C, W, E> {
     pub attendant: Attendant<C>,
     pub desk: Desk<W, E>,
-    pub followed: Option<SubscriberLog<N>>,
+    pub log: SubscriberLog<N>,
 }
 
 impl<N: FeedName, C: Clock + Drop, W: TextOut, E: TextOut> Attendance<N, C, W, E> {
-    /// Has the desk follow the log, if there is one, and returns whether it has printed anything.
-    fn follow<R: Wait>(&mut self, rt: &R) -> bool
+    /// Looks at the run once, takes what the subscriber is offered, and returns what is to be done then. Where there is
+    /// nothing to do it waits before.
+    pub fn turn<R: Wait>(&mut self, rt: &R) -> Turn
         ensures shows { (first : W) → HasFollowed (record { adds = W.adds; failures = W.failures })
-            first (followed_lines (λ log. log.lines) self.old.followed) self.old.desk.following
-            self.old.desk.printed self.old.desk.output
+            first self.old.log.lines self.old.desk.following self.old.desk.printed
+            self.old.desk.output
             → HasFollowed (record { adds = W.adds; failures = W.failures })
-            first (followed_lines (λ log. log.lines) self.new.followed) self.new.desk.following
-            self.new.desk.printed self.new.desk.output }
+            first self.new.log.lines self.new.desk.following self.new.desk.printed
+            self.new.desk.output }
         ensures errors { self.new.desk.errors ≡ self.old.desk.errors }
         ensures counts { self.new.attendant.counts ≡ self.old.attendant.counts }
     {
-        match &mut self.followed {
-            Some(log) => self.desk.follow(rt, &mut self.attendant.text, log),
-            None => false,
-        }
-    }
-
-    /// Looks at the run once, prints what is to be printed, and returns what is to be done then. Where there is nothing
-    /// to do it waits before.
-    pub fn turn<R: Wait>(&mut self, rt: &R, progress: &RunProgress) -> Turn
-        ensures shows { (first : W) → HasFollowed (record { adds = W.adds; failures = W.failures })
-            first (followed_lines (λ log. log.lines) self.old.followed) self.old.desk.following
-            self.old.desk.printed self.old.desk.output
-            → HasFollowed (record { adds = W.adds; failures = W.failures })
-            first (followed_lines (λ log. log.lines) self.new.followed) self.new.desk.following
-            self.new.desk.printed self.new.desk.output }
-        ensures errors { self.new.desk.errors ≡ self.old.desk.errors }
-        ensures counts { self.new.attendant.counts ≡ self.old.attendant.counts }
-    {
-        if !self.attendant.is_needed {
-            return Turn::Over;
-        }
-        if !progress.has_begun() {
+        if !self.attendant.progress.has_begun() {
             return self.attendant.await_begin();
         }
-        let is_last = progress.is_over();
-        if self.follow(rt) {
+        let is_last = self.attendant.progress.is_over();
+        if self
+            .desk
+            .follow(rt, &mut self.attendant.text, &mut self.log)
+        {
             return Turn::Look;
         }
         if is_last {
@@ -210,7 +190,7 @@ impl<N: FeedName, C: Clock + Drop, W: TextOut, E: TextOut> Attendance<N, C, W, E
     /// Says what was counted of the venue at this place, where counts are asked for.
     pub fn tell(&mut self, place: usize, status: &VenueStatus)
         ensures desk { self.new.desk ≡ record (self.old.desk) { errors = self.new.desk.errors } }
-        ensures followed { self.new.followed ≡ self.old.followed }
+        ensures log { self.new.log ≡ self.old.log }
         ensures quiet { self.old.attendant.counts ≡ None
             → (self.new.desk.errors ≡ self.old.desk.errors) × (self.new.attendant.counts ≡ None) }
     {
@@ -223,7 +203,7 @@ impl<N: FeedName, C: Clock + Drop, W: TextOut, E: TextOut> Attendance<N, C, W, E
     /// Has the next counts due after another period.
     pub fn pass_period(&mut self)
         ensures desk { self.new.desk ≡ self.old.desk }
-        ensures followed { self.new.followed ≡ self.old.followed }
+        ensures log { self.new.log ≡ self.old.log }
         ensures quiet { self.old.attendant.counts ≡ None → self.new.attendant.counts ≡ None }
     {
         let elapsed_ms = self.attendant.elapsed.ms();
@@ -235,7 +215,7 @@ impl<N: FeedName, C: Clock + Drop, W: TextOut, E: TextOut> Attendance<N, C, W, E
     /// Says what was counted of all venues once the run is over, where counts are asked for.
     pub fn tell_all(&mut self, statuses: &[VenueStatus])
         ensures desk { self.new.desk ≡ record (self.old.desk) { errors = self.new.desk.errors } }
-        ensures followed { self.new.followed ≡ self.old.followed }
+        ensures log { self.new.log ≡ self.old.log }
         ensures quiet { self.old.attendant.counts ≡ None
             → (self.new.desk.errors ≡ self.old.desk.errors) × (self.new.attendant.counts ≡ None) }
     {

@@ -18,7 +18,7 @@ const MOST: usize = 1_024;
 pub enum Following {
     /// They are printed as they come.
     On,
-    /// They are printed at the end: since that was asked for, or since memory for a line was refused.
+    /// They are printed at the end, since that was asked for, or since memory for a line was refused.
     Off,
     /// The output failed, and nothing more is printed on it.
     Failed,
@@ -44,15 +44,19 @@ fn has_polled<N: FeedName, R: Wait>(rt: &R, log: &mut SubscriberLog<N>) -> bool
     }
 }
 
-/// Takes the notices that the log's subscriber is offered, 1,024 at most.
-fn poll_some<N: FeedName, R: Wait>(rt: &R, log: &mut SubscriberLog<N>)
+/// Takes the notices that the log's subscriber is offered, 1,024 at most, and returns whether there
+/// were any.
+fn poll_some<N: FeedName, R: Wait>(rt: &R, log: &mut SubscriberLog<N>) -> bool
     ensures { IsPrefix log.old.lines log.new.lines }
 {
+    let mut has_taken = false;
     for _ in 0..MOST {
         if !has_polled(rt, log) {
             break;
         }
+        has_taken = true;
     }
+    has_taken
 }
 
 impl<W: TextOut, E> Desk<W, E> {
@@ -73,8 +77,8 @@ impl<W: TextOut, E> Desk<W, E> {
         }
     }
 
-    /// Takes what the log's subscriber is offered, and prints the best lines of the log that aren't
-    /// printed yet; returns whether there were any. Where lines aren't printed while the run goes on nothing is polled.
+    /// Takes what the log's subscriber is offered, 1,024 notices at most, and where lines are printed
+    /// as they come prints those of the log that aren't printed yet. Returns whether it took anything.
     ///
     /// Where memory for the lines is refused they are printed at the end, with all that follow.
     pub fn follow<N: FeedName, R: Wait>(
@@ -90,15 +94,15 @@ impl<W: TextOut, E> Desk<W, E> {
             first log.new.lines self.new.following self.new.printed self.new.output }
         ensures errors { self.new.errors ≡ self.old.errors }
     {
-        if self.following != Following::On {
-            return false;
+        let has_taken = poll_some(rt, log);
+        if self.following == Following::On {
+            self.print_rest(text, log.log());
         }
-        poll_some(rt, log);
-        self.print_rest(text, log.log())
+        has_taken
     }
 
-    /// Prints the best lines of the log that aren't printed yet, and returns whether there were any.
-    fn print_rest(&mut self, text: &mut LineBuffer, log: &[Logged]) -> bool
+    /// Prints the best lines of the log that aren't printed yet.
+    fn print_rest(&mut self, text: &mut LineBuffer, log: &[Logged])
         requires { self.old.following ≡ Following.On }
         ensures shows { (first : W) → HasPrinted (record { adds = W.adds; failures = W.failures })
             first log.now self.old.printed self.old.output
@@ -108,15 +112,14 @@ impl<W: TextOut, E> Desk<W, E> {
     {
         let lines = unprinted(log, self.printed);
         if lines.is_empty() {
-            return false;
+            return;
         }
         text.clear();
         if put_log(text, lines).is_err() {
             self.following = Following::Off;
-            return false;
+            return;
         }
         self.write_rest(text.as_slice(), log);
-        true
     }
 
     /// Writes the text of the log's best lines that aren't printed yet.

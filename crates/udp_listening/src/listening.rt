@@ -1,13 +1,12 @@
 //! Listening on live lines, until all have ended.
 ghost use Rattle.std.specs.Prelude.{◌≡◌, ◌≢◌, Err, None};
 ghost use Rattle.feed_text.specs.Devices.{Writing};
-ghost use Rattle.udp_listening.specs.Listening.{HasFollowed, HasListened, IsFeedOf, followed_lines};
+ghost use Rattle.udp_listening.specs.Listening.{HasFollowed, HasListened, IsFeedOf};
 
 use crate::attendant::{Attendance, Attendant, Turn};
 use crate::desk::{Desk, Following};
 use crate::ended_lines::part_lines;
 use crate::lack::{Lack, lacks_in};
-use crate::run_progress::RunProgress;
 use crate::sources::line_at;
 use crate::udp_line::UdpLine;
 use command_words::ListenSettings;
@@ -106,9 +105,8 @@ fn fault_of(fault: SettleFault) -> ListenFault {
 }
 
 /// Runs the feed over these sources until all lines have ended, with one subscriber, which wants
-/// what meets the terms and whose strategy always holds. The attendant is beside the run, in a thread
-/// of its own. Where lines are printed while the run goes on, it has the subscriber's log, else the
-/// run polls the subscriber.
+/// what meets the terms. The attendant is beside the run, in a thread of its own, with the
+/// subscriber's log, which it polls.
 ///
 /// The feed is opened here and goes nowhere else: a stored closure could be handed to what has its
 /// locks.
@@ -142,10 +140,10 @@ where
         return unreported(ListenFault::NoMemory, desk);
     };
     let made = feed.subscribe(rt, alloc, Filter::of(terms), Strategy::holding());
-    let (Ok(subscriber), Ok(mut lines), Ok(mut subscribers)) = (
+    let (Ok(subscriber), Ok(progress), Ok(mut lines)) = (
         made,
+        attendant.share_progress(),
         Vec::with_capacity(alloc, sources.len()),
-        Vec::with_capacity(alloc, 1),
     ) else {
         return unreported(ListenFault::NoMemory, desk);
     };
@@ -160,29 +158,21 @@ where
             return unreported(ListenFault::NoMemory, desk);
         }
     }
-    let followed = if desk.following == Following::On {
-        Some(subscriber.into_log())
-    } else {
-        subscribers.push_reserved(subscriber);
-        None
-    };
     let attendance = Attendance {
         attendant,
         desk,
-        followed,
+        log: subscriber.into_log(),
     };
-    let progress = RunProgress::new();
     feed.show_shareable();
     let (attendance, ran) = thread::join(
         rt,
         || -> Attendance<N, C, W, E>
             ensures shows { (first : W) → HasFollowed
                 (record { adds = W.adds; failures = W.failures }) first
-                (followed_lines (λ log. log.lines) attendance.followed) attendance.desk.following
-                attendance.desk.printed attendance.desk.output
+                attendance.log.lines attendance.desk.following attendance.desk.printed
+                attendance.desk.output
                 → HasFollowed (record { adds = W.adds; failures = W.failures }) first
-                (followed_lines (λ log. log.lines) result.followed) result.desk.following
-                result.desk.printed result.desk.output }
+                result.log.lines result.desk.following result.desk.printed result.desk.output }
             ensures quiet { attendance.attendant.counts ≡ None
                 → (result.desk.errors ≡ attendance.desk.errors)
                 × (result.attendant.counts ≡ None) }
@@ -192,7 +182,7 @@ where
                 return attendance;
             };
             for _ in rt.forever() {
-                match attendance.turn(rt, &progress) {
+                match attendance.turn(rt) {
                     Turn::Over => break,
                     Turn::Stop => stop.stop(),
                     Turn::Tell => {
@@ -210,7 +200,7 @@ where
         },
         || {
             progress.begin();
-            let ran = feed.run(rt, alloc, lines, subscribers);
+            let ran = feed.run(rt, alloc, lines, Vec::new(alloc));
             progress.end();
             ran.ok()
         },
@@ -228,9 +218,13 @@ where
     let Attendance {
         attendant,
         desk,
-        followed,
+        log,
     } = attendance;
-    let Some(report) = ran else {
+    let (Some(report), Ok(subscribers), Ok(lacking)) = (
+        ran,
+        Vec::from_array(alloc, [log.into_subscriber()]),
+        lacks_in(alloc, statuses.as_slice()),
+    ) else {
         return unreported(ListenFault::NoMemory, desk);
     };
     let stopped = if attendant.lacks_thread() {
@@ -238,15 +232,7 @@ where
     } else {
         report.stopped
     };
-    let subscribers = match followed {
-        Some(log) => Vec::from_array(alloc, [log.into_subscriber()]).ok(),
-        None => Some(report.subscribers),
-    };
-    let (Some(subscribers), Ok(ended), Ok(lacking)) = (
-        subscribers,
-        part_lines(alloc, report.lines),
-        lacks_in(alloc, statuses.as_slice()),
-    ) else {
+    let Ok(ended) = part_lines(alloc, report.lines) else {
         return unreported(ListenFault::NoMemory, desk);
     };
     let outcome = match feed.settle(rt, alloc, ended.seats, subscribers) {
