@@ -125,7 +125,8 @@ pub fn until_input_ends_flag<'a>(alloc: Global) -> Arg<'a>
 
 const FOLLOW_HELP: &str = "\
 Prints each best line as it comes, in the same order as without this option, and the
-lines of the venues once all lines have ended";
+lines of the venues once all lines have ended. Where standard output can't be written any
+more, the run ends with status 1";
 
 /// `--follow`.
 pub fn follow_flag<'a>(alloc: Global) -> Arg<'a>
@@ -141,8 +142,14 @@ pub fn follow_flag<'a>(alloc: Global) -> Arg<'a>
 
 const STATS_HELP: &str = text!("\
 Every how many seconds standard error has a line of counts for each venue: 1 to
-" MAX_COUNT ". At the end it has a table of the whole run: packets, messages, and of these
-those that were repeated, refused or ahead of the window, gaps, and requests");
+" MAX_COUNT ". At the end it has a table of the same counts for the whole run. On one line:
+  nbbo: second N venue V sent S known K lag G lacks L requests R
+      A packets P messages M new W repeated X ahead Y refused Z NUMBER:COUNT.. B packets ..
+S is the number of the last item in sequence, K how far the session is known to go, G how
+many messages are between, and L how many of the first gap are missing. Since the line
+before, R requests were due, and P packets came on line A, or B. Those that were taken had
+M messages: W that came first, and X that had come before. Y packets went past the window
+and Z were refused, COUNT of them by the refusal of this NUMBER in 'nbbo replay --help'");
 
 /// `--stats SECONDS`.
 pub fn stats_option<'a>(alloc: Global) -> Arg<'a>
