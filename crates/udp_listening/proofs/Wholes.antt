@@ -187,3 +187,15 @@ listened writing telling more (Err fault) following printed first mid after sile
   e.1,
   e.2,
 )
+
+-- before anything was printed
+pub nothing_printed : {W : Type 0} (writing : Writing W) → ((s : W) → writing.adds s [] s)
+    → (log : List Logged) (following : Following) (printed : ℕ) (now : W)
+    → printed ≡ 0 → (following ≡ Failed → ⊥) → HasFollowed writing now log following printed now
+nothing_printed writing none log On printed now unprinted working =
+    subst (λ (n : ℕ). HasPrinted writing now log n now) (sym unprinted)
+    (record { few = omega arith; lines = none now; sound = refl })
+nothing_printed writing none log Off printed now unprinted working =
+    subst (λ (n : ℕ). HasPrinted writing now log n now) (sym unprinted)
+    (record { few = omega arith; lines = none now; sound = refl })
+nothing_printed writing none log Failed printed now unprinted working = absurd (working refl)
