@@ -190,8 +190,8 @@ impl<N: FeedName> SubscriberLog<N> {
         self.poll(rt, &mut holding_within(self.bounds))
     }
 
-    /// Makes it a subscriber again, as [`crate::OpenFeed::run`] and [`crate::OpenFeed::settle`] take
-    /// it, whose strategy always holds, within the limits of the one that it had.
+    /// Makes it a subscriber again, as [`crate::OpenFeed::run`] and [`crate::OpenFeed::settle`]
+    /// take it, whose strategy always holds, within the limits of the one that it had.
     pub fn into_subscriber(self) -> Subscriber<N>
         ensures log { result.log ≡ self }
         ensures strategy { (closure_of result.strategy ≡ None)
