@@ -40,7 +40,7 @@ impl<N: FeedName> Subscriber<N> {
         self.log.log()
     }
 
-    /// Returns the lane's end and the log; the strategy goes.
+    /// Returns the lane's end and the log, and drops the strategy.
     /// [`SubscriberLog::into_subscriber`] makes it a subscriber again.
     pub fn into_log(self) -> SubscriberLog<N>
         ensures { result ≡ self.log }

@@ -1,7 +1,8 @@
 //! The part of a subscriber beside its strategy.
 
-ghost use Rattle.std.specs.Prelude.{◌≡◌, ◌<◌, [], ◌∷◌, ◌++◌, Some, IfOk, IfSome, slice_get, vec_len, vec_capacity};
+ghost use Rattle.std.specs.Prelude.{◌≡◌, ◌<◌, [], ◌∷◌, ◌++◌, None, Some, IfOk, IfSome, slice_get, vec_len, vec_capacity};
 ghost use Rattle.filter_terms.specs.Allowed.{IsAllowed};
+ghost use Rattle.filter_terms.specs.Strategies.{closure_of};
 ghost use Rattle.live_feed.specs.subscriber.Logs.{SubscriberLogInvariant, Polls, logged};
 ghost use Rattle.live_feed.specs.subscriber.Asking.{AsksForAdvice, AsksOnce};
 ghost use Rattle.live_feed.specs.hub.Offers.{AreRising};
@@ -189,10 +190,12 @@ impl<N: FeedName> SubscriberLog<N> {
         self.poll(rt, &mut holding_within(self.bounds))
     }
 
-    /// Makes it a subscriber again, as [`crate::OpenFeed::run`] and [`crate::OpenFeed::settle`] take
-    /// it, whose strategy always holds.
+    /// Makes it a subscriber again, as [`crate::OpenFeed::run`] and [`crate::OpenFeed::settle`]
+    /// take it, whose strategy always holds, within the limits of the one that it had.
     pub fn into_subscriber(self) -> Subscriber<N>
-        ensures { result.log ≡ self }
+        ensures log { result.log ≡ self }
+        ensures strategy { (closure_of result.strategy ≡ None)
+            × (result.strategy.limits ≡ self.limits) }
     {
         let strategy = holding_within(self.bounds);
         Subscriber {

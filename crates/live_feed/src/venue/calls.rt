@@ -238,8 +238,8 @@ impl<G: Genuine, N: FeedName> VenueLocks<G, N> {
         }
     }
 
-    /// Takes a packet that was read, under the lock of the seat's venue, pushes what is ready, counts
-    /// the packet, and stores in `gap` whether there is a gap then.
+    /// Takes a packet that was read, under the lock of the seat's venue, pushes what is ready,
+    /// counts the packet, and stores in `gap` whether there is a gap then.
     fn take_packet<W: Wait>(
         &self,
         rt: &W,
@@ -285,8 +285,8 @@ impl<G: Genuine, N: FeedName> VenueLocks<G, N> {
         pushed
     }
 
-    /// The request for the venue's gap to send now, if any, which is counted; None where there is no
-    /// such venue.
+    /// The request for the venue's gap to send now, if any, which is counted; None where there is
+    /// no such venue.
     pub(crate) fn due<W: Wait>(&self, rt: &W, venue: VenueId, now_ms: u64) -> Option<Request>
         ensures { IsDueAt G.Genuine N.lanes venue now_ms result }
     {

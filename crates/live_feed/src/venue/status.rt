@@ -41,7 +41,8 @@ pub struct VenueStatus {
     /// The run of messages to ask for, from the first that is missing; None where none is.
     pub gap: Option<Request>,
     /// How many requests for a gap were handed out, in all sessions: those that the lines of a run
-    /// sent, and those that [`crate::OpenFeed::due`] returned. It stays at 2^64 - 1 once it is there.
+    /// were given to send, and those that [`crate::OpenFeed::due`] returned. It stays at 2^64 - 1
+    /// once it is there.
     pub requests: u64,
     pub a: LineStatus,
     pub b: LineStatus,
