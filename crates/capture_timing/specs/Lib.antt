@@ -1,0 +1,5 @@
+pub mod Durations
+pub mod Figures
+pub mod Leads
+pub mod Rates
+pub mod Spells

@@ -1,4 +1,7 @@
 //! Durations, counted by their size.
+ghost use Rattle.std.specs.Prelude.{◌≡◌, ℕ, List, [], ◌∷◌, IfOk, length};
+ghost use Rattle.capture_timing.specs.Durations.{AreCounted};
+ghost use Rattle.capture_timing.specs.Figures.{capped, longest_of};
 
 use std::alloc::{AllocError, Global};
 
@@ -47,7 +50,9 @@ pub(crate) fn longest_at(place: usize) -> u64 {
 
 impl Durations {
     /// No duration yet. Its memory, some 8 KB, is asked for here and never again.
-    pub(crate) fn new(alloc: Global) -> Result<Durations, AllocError> {
+    pub(crate) fn new(alloc: Global) -> Result<Durations, AllocError>
+        ensures { IfOk result (AreCounted []) }
+    {
         Ok(Durations {
             counts: vec![in alloc; 0u64; COUNTS]?,
             count: 0,
@@ -56,7 +61,10 @@ impl Durations {
     }
 
     /// Counts a duration.
-    pub(crate) fn add(&mut self, duration: u64) {
+    pub(crate) fn add(&mut self, duration: u64)
+        ensures { (durations : List ℕ) → AreCounted durations self.old
+            → AreCounted (duration ∷ durations) self.new }
+    {
         if let Some(count) = self.counts.get_mut(place_of(duration)) {
             *count = count.saturating_add(1);
         }
@@ -65,12 +73,18 @@ impl Durations {
     }
 
     /// Returns how many durations there are.
-    pub fn count(&self) -> u64 {
+    pub fn count(&self) -> u64
+        ensures { (durations : List ℕ) → AreCounted durations self.now
+            → result ≡ capped (length durations) }
+    {
         self.count
     }
 
     /// Returns the longest duration, 0 where there is none.
-    pub fn longest(&self) -> u64 {
+    pub fn longest(&self) -> u64
+        ensures { (durations : List ℕ) → AreCounted durations self.now
+            → result ≡ longest_of durations }
+    {
         self.longest
     }
 
