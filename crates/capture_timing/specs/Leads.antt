@@ -1,7 +1,7 @@
 -- By how much which of two lines is first. Of a list of arrivals the last one stands first.
 use Rattle.std.specs.Prelude.{◌≡◌, ℕ, ◌+◌, ◌-◌, ◌%◌, ◌<◌, ◌==◌, ◌&&◌, ◌||◌, ◌⊎◌, zero, suc, Bool, true, false, not, nat_lt, List, [], ◌∷◌, ◌++◌, length, Option, Some, None, is_some, slice_get, if◌then◌else◌}
 use Rattle.feed_types.specs.declared.line.LineId.{LineId}
-use Rattle.feed_types.specs.declared.line.LineId.TheVariants.{A, B}
+use Rattle.feed_types.specs.declared.line.LineId.TheVariants.{A, B, Recovery}
 use Rattle.line_arbiter.specs.Streams.{is_same_line}
 use Rattle.capture_timing.specs.declared.line_leads.FirstArrival.{FirstArrival}
 use Rattle.capture_timing.specs.declared.line_leads.LineLeads.{LineLeads}
@@ -52,13 +52,32 @@ leads_of window first second (last ∷ earlier) =
     else [])
     ++ leads_of window first second earlier
 
--- what came after these messages, by messages from a number on
+-- what came after these messages, by messages from a number on; none on Recovery counts
 abbrev pub come_on : LineId → ℕ → ℕ → ℕ → List MessageOn → List MessageOn
 come_on line number zero time came = came
 come_on line number (suc count) time came =
-    message_on line (number + count) time ∷ come_on line number count time came
+    if is_same_line line Recovery then came
+    else message_on line (number + count) time ∷ come_on line number count time came
 
--- ---- what is held
+-- what is held at a place after a message of it came
+abbrev pub held_after : FirstArrival → MessageOn → FirstArrival
+held_after held last =
+    if nat_lt held.number last.number then record {
+      number = last.number;
+      time = last.time;
+      line = last.line;
+      is_met = false;
+    }
+    else record held {
+      is_met = held.is_met
+          || (held.number == last.number && not (is_same_line held.line last.line));
+    }
+
+-- how long the second line took, where it now brings the message that is held
+abbrev pub lead_by : FirstArrival → MessageOn → Option ℕ
+lead_by held last =
+    if held.number == last.number && not (held.is_met || is_same_line held.line last.line)
+    then Some (last.time - held.time) else None
 
 -- the message came on the line at the time, and on the other line, too, where `is_met` says so
 pub record IsFirstOn (line other : LineId) (came : List MessageOn) (held : FirstArrival)
