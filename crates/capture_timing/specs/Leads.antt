@@ -52,12 +52,17 @@ leads_of window first second (last ∷ earlier) =
     else [])
     ++ leads_of window first second earlier
 
--- what came after these messages, by messages from a number on; none on Recovery counts
+-- what came once messages came on a line, from a number on
+abbrev pub come_from : LineId → ℕ → ℕ → ℕ → List MessageOn → List MessageOn
+come_from line number zero time came = came
+come_from line number (suc count) time came =
+    message_on line (number + count) time ∷ come_from line number count time came
+
+-- the same; what comes on Recovery doesn't count
 abbrev pub come_on : LineId → ℕ → ℕ → ℕ → List MessageOn → List MessageOn
-come_on line number zero time came = came
-come_on line number (suc count) time came =
-    if is_same_line line Recovery then came
-    else message_on line (number + count) time ∷ come_on line number count time came
+come_on A number count time came = come_from A number count time came
+come_on B number count time came = come_from B number count time came
+come_on Recovery number count time came = came
 
 -- what is held at a place after a message of it came
 abbrev pub held_after : FirstArrival → MessageOn → FirstArrival

@@ -113,8 +113,9 @@ impl LineLeads {
         ensures { (window : ℕ) (came : List MessageOn) → AreLeadsOf window came self.old
             → AreLeadsOf window (come_on line number count time came) self.new }
     {
-        if line == LineId::Recovery {
-            return;
+        match line {
+            LineId::A | LineId::B => {}
+            LineId::Recovery => return,
         }
         for place in 0..u64::from(count) {
             self.note(line, number + place, time);
