@@ -1,5 +1,5 @@
 -- What is held of the first arrivals of messages, and one message more.
-use Rattle.std.proofs.Common.{◌≡◌, ℕ, ◌+◌, ◌-◌, ◌%◌, ◌<◌, ◌≤◌, ◌⊎◌, inl, inr, Bool, true, false, List, [], ◌∷◌, ◌++◌, Option, Some, None, refl, sym, ap, subst, ◌∙◌, arith}
+use Rattle.std.proofs.Common.{◌≡◌, ℕ, ◌%◌, ◌<◌, ◌≤◌, ◌⊎◌, inl, inr, Bool, true, false, List, ◌∷◌, Option, Some, None, refl, sym, ap, subst, ◌∙◌, arith}
 use Rattle.std.specs.Prelude.{◌==◌, ◌&&◌, ◌||◌, not, nat_lt, is_some, if◌then◌else◌}
 use Rattle.std.proofs.lemmas.Bool.{and_left, and_right, cases_order, cond-true, cond-false, eq-eqb, le-ltb, lt-ltb, ne_eqb, or_right}
 use Rattle.feed_types.specs.declared.line.LineId.{LineId}
@@ -7,7 +7,7 @@ use Rattle.feed_types.specs.declared.line.LineId.TheVariants.{A, B, Recovery}
 use Rattle.feed_types.specs.Text.{line_letter}
 use Rattle.line_arbiter.specs.Streams.{is_same_line}
 use Rattle.capture_timing.specs.declared.line_leads.FirstArrival.{FirstArrival}
-use Rattle.capture_timing.specs.Leads.{HoldsFirst, IsFirstOn, MessageOn, first_of_two, first_on, held_after, is_passed, lead_between, lead_by, leads_of, message_on}
+use Rattle.capture_timing.specs.Leads.{HoldsFirst, IsFirstOn, MessageOn, first_of_two, first_on, held_after, is_passed, message_on}
 
 first_alone : (x : Option ℕ) → first_of_two x None ≡ x
 first_alone None = refl
@@ -56,20 +56,23 @@ holds_still : (window : ℕ) (line : LineId) (m t n : ℕ) (came : List MessageO
 holds_still window line m t n came held other passed holds = record {
   before = λ less.
       let was = holds.before less in
-      let apart = other (omega (arith, less)) in
-      (on_other line A m t n came apart ∙ was.0, on_other line B m t n came apart ∙ was.1,
-      passed (omega (arith, less)) ∙ was.2);
+      let apart = other (omega (arith, less)) in (
+        on_other line A m t n came apart ∙ was.0,
+        on_other line B m t n came apart ∙ was.1,
+        passed (omega (arith, less)) ∙ was.2,
+      );
   at = λ same.
       let was = holds.at same in
       let differs : m ≡ held.number → ⊥ = λ now. other (omega (arith, same)) (now ∙ same) in
       let still : (one two : LineId) → IsFirstOn one two came held
-          → IsFirstOn one two (message_on line m t ∷ came) held = λ one two is. record {
+      → IsFirstOn one two (message_on line m t ∷ came) held = λ one two is. record {
         line_is = is.line_is;
         first = on_other line one m t held.number came differs ∙ is.first;
         met = ap is_some (on_other line two m t held.number came differs) ∙ is.met;
-      } in
-      (elim was.0 [ inl is ↦ inl (still A B is) | inr is ↦ inr (still B A is) ],
-      passed (omega (arith, same)) ∙ was.1);
+      } in (
+        elim was.0 [ inl is ↦ inl (still A B is) | inr is ↦ inr (still B A is) ],
+        passed (omega (arith, same)) ∙ was.1,
+      );
   after = λ less. passed_still window line m t n came (holds.after less);
 }
 
@@ -131,13 +134,16 @@ holds_new window line m t n came held two place less here holds =
     record {
       before = λ more.
           let apart : m ≡ n → ⊥ = λ same. absurd (omega (arith, more, same)) in
-          let then_was = holds.before (omega (arith, less, more)) in
-          (on_other line A m t n came apart ∙ then_was.0, on_other line B m t n came apart ∙ then_was.1,
-          passed_by_none window line m t n came (omega (arith, more)) ∙ then_was.2);
-      at = λ same.
-          (first_of_both line m t came two was.0 was.1,
-          subst (λ (k : ℕ). is_passed window k (message_on line m t ∷ came) ≡ false) same
-          (passed_by_none window line m t m came (omega arith) ∙ was.2));
+          let then_was = holds.before (omega (arith, less, more)) in (
+            on_other line A m t n came apart ∙ then_was.0,
+            on_other line B m t n came apart ∙ then_was.1,
+            passed_by_none window line m t n came (omega (arith, more)) ∙ then_was.2,
+          );
+      at = λ same. (
+        first_of_both line m t came two was.0 was.1,
+        subst (λ (k : ℕ). is_passed window k (message_on line m t ∷ came) ≡ false) same
+            (passed_by_none window line m t m came (omega arith) ∙ was.2),
+      );
       after = λ more. passed_now window line m t n came more place;
     }
 
@@ -196,13 +202,16 @@ holds_again : (window : ℕ) (line : LineId) (t n : ℕ) (came : List MessageOn)
 holds_again window line t n came held two holds = record {
   before = λ less.
       let was = holds.before less in
-      let apart : held.number ≡ n → ⊥ = λ same. absurd (omega (arith, less, same)) in
-      (on_other line A held.number t n came apart ∙ was.0, on_other line B held.number t n came apart ∙ was.1,
-      passed_by_none window line held.number t n came (omega (arith, less)) ∙ was.2);
+      let apart : held.number ≡ n → ⊥ = λ same. absurd (omega (arith, less, same)) in (
+        on_other line A held.number t n came apart ∙ was.0,
+        on_other line B held.number t n came apart ∙ was.1,
+        passed_by_none window line held.number t n came (omega (arith, less)) ∙ was.2,
+      );
   at = λ same.
-      let was = holds.at same in
-      (first_then line t came held two was.0,
-      passed_by_none window line held.number t n came (omega (arith, same)) ∙ was.1);
+      let was = holds.at same in (
+        first_then line t came held two was.0,
+        passed_by_none window line held.number t n came (omega (arith, same)) ∙ was.1,
+      );
   after = λ less. passed_still window line held.number t n came (holds.after less);
 }
 

@@ -228,11 +228,12 @@ counted_same : (window : ℕ) (last : MessageOn) (came : List MessageOn) (old ne
     → (leads_of window A B (last ∷ came) ≡ leads_of window A B came)
     × (leads_of window B A (last ∷ came) ≡ leads_of window B A came)
     → AreLeadsOf window came old → new.a ≡ old.a → new.b ≡ old.b → Counts window (last ∷ came) new
-counted_same window last came old new same leads a b =
-    (subst (λ (d : Durations). AreCounted (leads_of window A B (last ∷ came)) d) (sym a)
-    (subst (λ (ds : List ℕ). AreCounted ds old.a) (sym same.0) leads.a),
-    subst (λ (d : Durations). AreCounted (leads_of window B A (last ∷ came)) d) (sym b)
-    (subst (λ (ds : List ℕ). AreCounted ds old.b) (sym same.1) leads.b))
+counted_same window last came old new same leads a b = (
+  subst (λ (d : Durations). AreCounted (leads_of window A B (last ∷ came)) d) (sym a)
+      (subst (λ (ds : List ℕ). AreCounted ds old.a) (sym same.0) leads.a),
+  subst (λ (d : Durations). AreCounted (leads_of window B A (last ∷ came)) d) (sym b)
+      (subst (λ (ds : List ℕ). AreCounted ds old.b) (sym same.1) leads.b),
+)
 
 module _ (window : ℕ) (line : LineId) (m t : ℕ) (came : List MessageOn) (old new : LineLeads) (held : FirstArrival)
     (place : ℕ) (two : (line ≡ A) ⊎ (line ≡ B)) (some : 0 < m) (leads : AreLeadsOf window came old)

@@ -48,7 +48,7 @@ leads_of window first second [] = []
 leads_of window first second (last ∷ earlier) =
     (if is_same_line last.line second && not (is_passed window last.number earlier)
     then lead_between (first_on first last.number earlier) (first_on second last.number earlier)
-        last.time
+    last.time
     else [])
     ++ leads_of window first second earlier
 

@@ -1,6 +1,5 @@
 -- The spells in which messages are missing. Of a list of notes the last one stands first.
 use Rattle.std.specs.Prelude.{◌≡◌, ℕ, ◌-◌, Bool, List, [], ◌∷◌, ◌++◌, length, sum, Option, Some, None, unwrap_or, if◌then◌else◌}
-use Rattle.std.specs.Option.{option_to_list}
 use Rattle.capture_timing.specs.declared.missing_spells.MissingSpells.{MissingSpells}
 use Rattle.capture_timing.specs.Figures.{capped, longest_of}
 

@@ -1,4 +1,4 @@
-use Rattle.std.proofs.Common.{◌≡◌, ◌⊎◌, ℕ, ◌≤◌, List}
+use Rattle.std.proofs.Common.{◌≡◌, ◌⊎◌, ℕ, List}
 use Rattle.feed_types.specs.declared.line.LineId.TheVariants.{A, B}
 use Rattle.capture_timing.specs.Leads.{AreLeadsOf, MessageOn, come_from}
 use Rattle.capture_timing.proofs.line_leads.LineLeads.note_all.Given as goal
