@@ -101,7 +101,7 @@ impl<'a> FrameReader<'a> {
     }
 
     /// Reads bytes that come after those that came before.
-    fn read<S: DatagramSink>(&mut self, bytes: &[u8], sink: &mut S) {
+    fn read_bytes<S: DatagramSink>(&mut self, bytes: &[u8], sink: &mut S) {
         let mut read = 0;
         while read < bytes.len() && !self.is_bad {
             let count = (PIECES_ROOM - self.unread.len()).min(bytes.len() - read);
@@ -201,7 +201,7 @@ impl<R: CaptureIn, S: DatagramSink> CaptureIn for CaptureTap<'_, R, S> {
         match self.inner.read(buf) {
             Ok(count) => {
                 if let Some(frames) = &mut self.frames {
-                    frames.read(&buf[..count], &mut self.sink);
+                    frames.read_bytes(&buf[..count], &mut self.sink);
                 }
                 Ok(count)
             }

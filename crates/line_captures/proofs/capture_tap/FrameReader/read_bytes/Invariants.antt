@@ -1,5 +1,5 @@
 use Rattle.std.proofs.Common.{◌≤◌, ◌-◌, length}
-use Rattle.line_captures.proofs.capture_tap.FrameReader.read.Given as goal
+use Rattle.line_captures.proofs.capture_tap.FrameReader.read_bytes.Given as goal
 
 abbrev pub invariant-loop-read : goal.invariant-loop-read
 invariant-loop-read g l = l.read ≤ length l.bytes
