@@ -4,7 +4,9 @@
 //! A [`CaptureTiming`] is told of each datagram that a frame carries to a line, by a
 //! `line_captures::CaptureTap` on the capture's bytes. [`timing_text`] writes it as a table or as JSON.
 //!
-//! Contract: what the figures are is tested against a model, and not proved.
+//! Contract: each figure, of any list of what was noted: the busiest period (`specs/Rates.antt`), the spells with
+//! messages missing (`specs/Spells.antt`), which line is first (`specs/Leads.antt`), and the durations
+//! (`specs/Durations.antt`). Of which packets it was noted is tested against a model, and not proved.
 //!
 //! Begin at `capture_timing.rt`.
 #![tactic(auto)]
