@@ -1,11 +1,11 @@
 -- The laws of a text that comes in pieces: pieces after pieces are lines after lines.
-use Rattle.std.proofs.Common.{◌≡◌, ◌≢◌, ℕ, zero, suc, ◌<◌, ◌≤◌, ◌⊎◌, inl, inr, List, [], ◌∷◌, ◌++◌, append_assoc, append-nil, refl, sym, ap, subst, ◌∙◌, take, length, arith, codes}
+use Rattle.std.proofs.Common.{◌≡◌, ◌≢◌, ℕ, zero, suc, ◌<◌, ◌⊎◌, inl, inr, List, [], ◌∷◌, ◌++◌, append_assoc, append-nil, refl, sym, ap, subst, ◌∙◌, take, length, arith, codes}
 use Rattle.std.proofs.lemmas.Bool.{cases_lt}
 use Rattle.std.proofs.lemmas.Grind.{flat_map-append}
 use Rattle.std.proofs.lemmas.List.{length-take-le, take_all}
 use Rattle.std.proofs.lemmas.List.Elements.{All-nil, All-cons, All-append}
 use Rattle.std.specs.Prelude.{flat_map}
-use Rattle.best_lines.specs.Cutting.{HasLines, IsLineStart, TakesLines}
+use Rattle.best_lines.specs.Cutting.{IsLineStart, TakesLines}
 use Rattle.best_lines.specs.Lines.{AreLines, IsOpen, ended}
 
 -- lines after lines are lines

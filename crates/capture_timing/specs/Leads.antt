@@ -34,8 +34,8 @@ is_passed window number (last ∷ earlier) =
     (nat_lt number last.number && last.number % window == number % window)
     || is_passed window number earlier
 
--- how long the second line took, where the first one had brought the message by then, and the second
--- one hadn't
+-- how long the second line took, where the first one had brought the message by then, and the
+-- second one hadn't
 abbrev pub lead_between : Option ℕ → Option ℕ → ℕ → List ℕ
 lead_between None second time = []
 lead_between (Some first) None time = (time - first) ∷ []

@@ -1,5 +1,5 @@
--- The places of durations among the counts: one for each below 16 ns, and 16 for each power of two from
--- there on. Only private clauses cite this file.
+-- The places of durations among the counts: one for each below 16 ns, and 16 for each power of two
+-- from there on. Only private clauses cite this file.
 use Rattle.std.specs.Prelude.{ℕ, ◌+◌, ◌-◌, ◌*◌, ◌/◌, ◌%◌, ◌^◌, ◌≤◌, Bool, ◌&&◌, nat_lt, nat_le, if◌then◌else◌}
 
 -- how many durations have a place
