@@ -1,15 +1,16 @@
 -- The laws of a text that comes in pieces: pieces after pieces are lines after lines.
-use Rattle.std.proofs.Common.{◌≡◌, ◌≢◌, ℕ, zero, suc, ◌<◌, ◌≤◌, ◌⊎◌, inl, inr, List, [], ◌∷◌, ◌++◌, append_assoc, append-nil, refl, sym, ap, subst, ◌∙◌, take, length, arith, codes}
+use Rattle.std.proofs.Common.{◌≡◌, ◌≢◌, ℕ, zero, suc, ◌<◌, ◌⊎◌, inl, inr, List, [], ◌∷◌, ◌++◌, append_assoc, append-nil, refl, sym, ap, subst, ◌∙◌, take, length, arith, codes}
 use Rattle.std.proofs.lemmas.Bool.{cases_lt}
 use Rattle.std.proofs.lemmas.Grind.{flat_map-append}
 use Rattle.std.proofs.lemmas.List.{length-take-le, take_all}
 use Rattle.std.proofs.lemmas.List.Elements.{All-nil, All-cons, All-append}
 use Rattle.std.specs.Prelude.{flat_map}
-use Rattle.best_lines.specs.Cutting.{HasLines, IsLineStart, TakesLines}
+use Rattle.best_lines.specs.Cutting.{IsLineStart, TakesLines}
 use Rattle.best_lines.specs.Lines.{AreLines, IsOpen, ended}
 
 -- lines after lines are lines
-pub lines_append : (a b : List ℕ) (xs ys : List (List ℕ)) (mid rest : List ℕ) → AreLines a xs mid → AreLines (mid ++ b) ys rest → AreLines (a ++ b) (xs ++ ys) rest
+pub lines_append : (a b : List ℕ) (xs ys : List (List ℕ)) (mid rest : List ℕ)
+    → AreLines a xs mid → AreLines (mid ++ b) ys rest → AreLines (a ++ b) (xs ++ ys) rest
 lines_append a b xs ys mid rest h k = record {
   each = All-append IsOpen xs ys h.each k.each;
   last = k.last;
@@ -25,7 +26,8 @@ pub no_lines : (line : List ℕ) → IsOpen line → AreLines line [] line
 no_lines line unended = record { each = All-nil IsOpen; last = unended; text_is = refl }
 
 -- no text has no line
-pub takes_no_text : (holds_of : List (List ℕ) → Type 0) → holds_of [] → (start : List ℕ) → TakesLines holds_of start [] start
+pub takes_no_text : (holds_of : List (List ℕ) → Type 0) → holds_of []
+    → (start : List ℕ) → TakesLines holds_of start [] start
 takes_no_text holds_of holds start = λ line kept. record {
   lines = [];
   rest = line;
@@ -60,14 +62,16 @@ take_front (suc n) [] ys = refl
 take_front (suc n) (x ∷ xs) ys = ap (λ (zs : List ℕ). x ∷ zs) (take_front n xs ys)
 
 -- what is kept of a line, and then more of it
-pub kept_more : (start text more line : List ℕ) → IsLineStart start line → IsOpen text → more ≡ take 193 (start ++ text) → IsLineStart more (line ++ text)
+pub kept_more : (start text more line : List ℕ) → IsLineStart start line → IsOpen text
+    → more ≡ take 193 (start ++ text) → IsLineStart more (line ++ text)
 kept_more start text more line kept unended is = record {
   kept = is ∙ ap (λ (xs : List ℕ). take 193 (xs ++ text)) kept.kept ∙ take_front 193 line text;
   unended = All-append (λ (b : ℕ). b ≢ 10) line text kept.unended unended;
 }
 
 -- a text that ends no line is kept
-pub takes_open : (holds_of : List (List ℕ) → Type 0) → holds_of [] → (start text more : List ℕ) → IsOpen text → more ≡ take 193 (start ++ text) → TakesLines holds_of start text more
+pub takes_open : (holds_of : List (List ℕ) → Type 0) → holds_of [] → (start text more : List ℕ)
+    → IsOpen text → more ≡ take 193 (start ++ text) → TakesLines holds_of start text more
 takes_open holds_of holds start text more unended is = λ line kept.
     let grown = kept_more start text more line kept unended is in
     record {
@@ -79,7 +83,8 @@ takes_open holds_of holds start text more unended is = λ line kept.
     }
 
 -- a text that ends one line
-pub takes_ended : (holds_of : List (List ℕ) → Type 0) (start text more : List ℕ) → IsOpen text → more ≡ take 193 (start ++ text)
+pub takes_ended : (holds_of : List (List ℕ) → Type 0) (start text more : List ℕ)
+    → IsOpen text → more ≡ take 193 (start ++ text)
     → ((line : List ℕ) → IsLineStart more line → holds_of (line ∷ [])) → TakesLines holds_of start (ended text) []
 takes_ended holds_of start text more unended is each = λ line kept.
     let grown = kept_more start text more line kept unended is in
@@ -89,15 +94,21 @@ takes_ended holds_of start text more unended is each = λ line kept.
       are = record {
         each = All-cons IsOpen (line ++ text) [] grown.unended (All-nil IsOpen);
         last = All-nil (λ (b : ℕ). b ≢ 10);
-        text_is = sym (append_assoc line text (codes "\n")) ∙ sym (append-nil (ended (line ++ text))) ∙ sym (append-nil (ended (line ++ text) ++ []));
+        text_is = sym (append_assoc line text (codes "\n")) ∙ sym (append-nil (ended (line ++ text)))
+            ∙ sym (append-nil (ended (line ++ text) ++ []));
       };
       start = refl;
       holds = each (line ++ text) grown;
     }
 
 -- a line that isn't too long is kept as a whole, and of one that is 193 bytes are
-pub kept_or_long : (start line : List ℕ) → IsLineStart start line → (start ≡ line) ⊎ ((192 < length start) × (192 < length line))
+pub kept_or_long : (start line : List ℕ) → IsLineStart start line
+    → (start ≡ line) ⊎ ((192 < length start) × (192 < length line))
 kept_or_long start line kept = elim (cases_lt 192 (length line)) [
-  | inl long ↦ inr (let len : length start ≡ 193 = ap length kept.kept ∙ length-take-le 193 line (omega arith) in omega arith, long)
+  | inl long ↦ inr (
+    let len : length start ≡ 193 = ap length kept.kept ∙ length-take-le 193 line (omega arith) in
+        omega arith,
+    long,
+  )
   | inr few ↦ inl (kept.kept ∙ take_all 193 line (omega arith))
 ]

@@ -1,7 +1,6 @@
 pub mod Lines
 pub mod Cutting
 pub mod CuttingLaws
-pub mod Readers
 pub mod Rows
 pub mod Times
 pub mod Writers

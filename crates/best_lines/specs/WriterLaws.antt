@@ -15,7 +15,8 @@ use Rattle.best_lines.specs.Rows.{AreRows, TimedLine, row_of, rows_of}
 use Rattle.best_lines.specs.Writers.{AddsBests, TakesText, is_timed, row_format}
 
 -- lines after lines make rows after rows
-rows_of-append : (format : Format) (xs ys : List (List ℕ)) → rows_of format (xs ++ ys) ≡ rows_of format xs ++ rows_of format ys
+rows_of-append : (format : Format) (xs ys : List (List ℕ))
+    → rows_of format (xs ++ ys) ≡ rows_of format xs ++ rows_of format ys
 unfolding rows_of
 rows_of-append format xs ys =
     ap (λ (ls : List (List ℕ)). flat_map (row_of format Absent) ls) (filter-append is_best xs ys)
@@ -27,7 +28,8 @@ unfolding rows_of
 no_rows format false = refl
 no_rows format true = record { best = []; lines_are = refl; rows_are = refl }
 
-pub rows_append : (format : Format) (timed : Bool) (xs ys : List (List ℕ)) (r q : List ℕ) → AreRows format timed xs r → AreRows format timed ys q → AreRows format timed (xs ++ ys) (r ++ q)
+pub rows_append : (format : Format) (timed : Bool) (xs ys : List (List ℕ)) (r q : List ℕ)
+    → AreRows format timed xs r → AreRows format timed ys q → AreRows format timed (xs ++ ys) (r ++ q)
 rows_append format false xs ys r q a b =
     ap (λ (f : List ℕ). f ++ q) a ∙ ap (λ (f : List ℕ). rows_of format xs ++ f) b ∙ sym (rows_of-append format xs ys)
 rows_append format true xs ys r q a b =
@@ -49,14 +51,18 @@ pub takes_nothing : (format : Format) (timed : Bool) (start : List ℕ) → Take
 takes_nothing format timed start = takes_no_text (λ lines. AreRows format timed lines []) (no_rows format timed) start
 
 -- a text and then another
-pub takes_more : (format : Format) (timed : Bool) (s t u x y r q : List ℕ) → TakesText format timed s x t r → TakesText format timed t y u q → TakesText format timed s (x ++ y) u (r ++ q)
+pub takes_more : (format : Format) (timed : Bool) (s t u x y r q : List ℕ)
+    → TakesText format timed s x t r → TakesText format timed t y u q → TakesText format timed s (x ++ y) u (r ++ q)
 takes_more format timed s t u x y r q =
-    takes_both (λ lines. AreRows format timed lines r) (λ lines. AreRows format timed lines q) (λ lines. AreRows format timed lines (r ++ q))
+    takes_both (λ lines. AreRows format timed lines r) (λ lines. AreRows format timed lines q)
+    (λ lines. AreRows format timed lines (r ++ q))
     (λ xs ys a b. rows_append format timed xs ys r q a b) s t u x y
 
 -- what was moved, and then more
-pub moved_more : {W : Type 0} (adds : W → List ℕ → W → Type 0) → ((s t u : W) (xs ys : List ℕ) → adds s xs t → adds t ys u → adds s (xs ++ ys) u)
-    → (s t u : W) (p q r x y : List ℕ) → Moved adds s t (p ++ x) q → Moved adds t u (q ++ y) r → Moved adds s u (p ++ (x ++ y)) r
+pub moved_more : {W : Type 0} (adds : W → List ℕ → W → Type 0)
+    → ((s t u : W) (xs ys : List ℕ) → adds s xs t → adds t ys u → adds s (xs ++ ys) u)
+    → (s t u : W) (p q r x y : List ℕ)
+    → Moved adds s t (p ++ x) q → Moved adds t u (q ++ y) r → Moved adds s u (p ++ (x ++ y)) r
 moved_more adds law s t u p q r x y a b = record {
   shown = a.shown ++ b.shown;
   taken = law s t u a.shown b.shown a.taken b.taken;
@@ -68,10 +74,12 @@ moved_more adds law s t u p q r x y a b = record {
 }
 
 -- nothing moves
-pub moved_none : {W : Type 0} (adds : W → List ℕ → W → Type 0) → ((s : W) → adds s [] s) → (s : W) (p : List ℕ) → Moved adds s s (p ++ []) p
+pub moved_none : {W : Type 0} (adds : W → List ℕ → W → Type 0) → ((s : W) → adds s [] s)
+    → (s : W) (p : List ℕ) → Moved adds s s (p ++ []) p
 moved_none adds law s p = record { shown = []; taken = law s; left = append-nil p }
 
-pub adds_no_bests : {W : Type 0} (adds : W → List ℕ → W → Type 0) → ((s : W) → adds s [] s) → (s : BestsOut W) → AddsBests adds s [] s
+pub adds_no_bests : {W : Type 0} (adds : W → List ℕ → W → Type 0) → ((s : W) → adds s [] s)
+    → (s : BestsOut W) → AddsBests adds s [] s
 adds_no_bests adds law s = record {
   style = refl;
   rows = [];
@@ -79,12 +87,15 @@ adds_no_bests adds law s = record {
   moved = moved_none adds law s.inner s.pending;
 }
 
-pub adds_more_bests : {W : Type 0} (adds : W → List ℕ → W → Type 0) → ((s t u : W) (xs ys : List ℕ) → adds s xs t → adds t ys u → adds s (xs ++ ys) u)
-    → (s t u : BestsOut W) (xs ys : List ℕ) → AddsBests adds s xs t → AddsBests adds t ys u → AddsBests adds s (xs ++ ys) u
+pub adds_more_bests : {W : Type 0} (adds : W → List ℕ → W → Type 0)
+    → ((s t u : W) (xs ys : List ℕ) → adds s xs t → adds t ys u → adds s (xs ++ ys) u)
+    → (s t u : BestsOut W) (xs ys : List ℕ)
+    → AddsBests adds s xs t → AddsBests adds t ys u → AddsBests adds s (xs ++ ys) u
 adds_more_bests adds law s t u xs ys a b = record {
   style = b.style ∙ a.style;
   rows = a.rows ++ b.rows;
   takes = takes_more (row_format s) (is_timed s) s.start t.start u.start xs ys a.rows b.rows a.takes
-      (subst (λ (style : RowStyle). TakesText style.format (is_some style.times) t.start ys u.start b.rows) a.style b.takes);
+      (subst (λ (style : RowStyle). TakesText style.format (is_some style.times) t.start ys u.start b.rows)
+      a.style b.takes);
   moved = moved_more adds law s.inner t.inner u.inner s.pending t.pending u.pending a.rows b.rows a.moved b.moved;
 }

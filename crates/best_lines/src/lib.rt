@@ -9,7 +9,7 @@
 //! `specs/Lines.antt` and `specs/Rows.antt`: a filter, then a map). After [`BestsOut::finish`] all of it
 //! was passed on, unless the other writer failed: its clause `passed` says so of any text.
 //!
-//! Rows may have times: a [`TimesIn`] reads a packet capture along and adds the time of each frame to
+//! Rows may have times: a [`TimesIn`], a tap on a packet capture, adds the time of each datagram to
 //! [`FrameTimes`], from which a [`BestsOut::with_times`] takes one at each packet line. The contract says
 //! that each row has some time or none; which one is tested, not proved.
 //!
@@ -31,4 +31,4 @@ pub mod words;
 pub use bests_out::BestsOut;
 pub use format::Format;
 pub use frame_times::FrameTimes;
-pub use times_in::TimesIn;
+pub use times_in::{TimesIn, TimesSink, tap_times};

@@ -28,17 +28,22 @@ raised_twice count (suc m) (suc n) =
     let one : count_after (count_after count (suc m)) (suc n) ≡ count_after count (suc (m + suc n)) = omega arith in
     one ∙ ap (count_after count) (sym sum)
 
-summed : {X : Type 0} (f : X → ℕ) (count : ℕ) (xs ys : List X) → count_after (count_after count (sum_by f xs)) (sum_by f ys) ≡ count_after count (sum_by f (xs ++ ys))
-summed f count xs ys = raised_twice count (sum_by f xs) (sum_by f ys) ∙ ap (count_after count) (sym (sum_by-append f xs ys))
+summed : {X : Type 0} (f : X → ℕ) (count : ℕ) (xs ys : List X)
+    → count_after (count_after count (sum_by f xs)) (sum_by f ys) ≡ count_after count (sum_by f (xs ++ ys))
+summed f count xs ys =
+    raised_twice count (sum_by f xs) (sum_by f ys) ∙ ap (count_after count) (sym (sum_by-append f xs ys))
 
-counted : {X : Type 0} (p : X → Bool) (count : ℕ) (xs ys : List X) → count_after (count_after count (count_by p xs)) (count_by p ys) ≡ count_after count (count_by p (xs ++ ys))
+counted : {X : Type 0} (p : X → Bool) (count : ℕ) (xs ys : List X)
+    → count_after (count_after count (count_by p xs)) (count_by p ys) ≡ count_after count (count_by p (xs ++ ys))
 counted p count xs ys = summed (λ x. cond (p x) 1 0) count xs ys
 
-folded : {X S : Type 0} (step : S → X → S) (s : S) (xs ys : List X) → fold step (fold step s xs) ys ≡ fold step s (xs ++ ys)
+folded : {X S : Type 0} (step : S → X → S) (s : S) (xs ys : List X)
+    → fold step (fold step s xs) ys ≡ fold step s (xs ++ ys)
 folded step s [] ys = refl
 folded step s (x ∷ xs) ys = folded step (step s x) xs ys
 
-refusals_twice : (s : Refusals) (xs ys : List PacketAnswer) → refused_after (refused_after s xs) ys ≡ refused_after s (xs ++ ys)
+refusals_twice : (s : Refusals) (xs ys : List PacketAnswer)
+    → refused_after (refused_after s xs) ys ≡ refused_after s (xs ++ ys)
 refusals_twice s xs ys =
     let a = counted (is_refused 1) s.short_header xs ys in
     let b = counted (is_refused 2) s.truncated_block xs ys in
@@ -63,8 +68,11 @@ line_twice s xs ys =
     let h = refusals_twice s.refused xs ys in
     cc
 
-line_of_venue : (s : LineStats) (line : LineId) (xs ys : List AtVenue) → line_after (line_after s (answers_on line xs)) (answers_on line ys) ≡ line_after s (answers_on line (xs ++ ys))
-line_of_venue s line xs ys = line_twice s (answers_on line xs) (answers_on line ys) ∙ ap (line_after s) (sym (flat_map-append (answer_on line) xs ys))
+line_of_venue : (s : LineStats) (line : LineId) (xs ys : List AtVenue)
+    → line_after (line_after s (answers_on line xs)) (answers_on line ys) ≡ line_after s (answers_on line (xs ++ ys))
+line_of_venue s line xs ys =
+    line_twice s (answers_on line xs) (answers_on line ys)
+    ∙ ap (line_after s) (sym (flat_map-append (answer_on line) xs ys))
 
 items_twice : (s : ItemStats) (xs ys : List AtVenue) → items_after (items_after s xs) ys ≡ items_after s (xs ++ ys)
 items_twice s xs ys =
@@ -92,14 +100,17 @@ venue_twice s xs ys =
     let l = counted leads_offer s.offers xs ys in
     cc
 
-venues_twice : (venue : ℕ) (ss : List VenueStats) (xs ys : List Happening) → venues_after venue (venues_after venue ss xs) ys ≡ venues_after venue ss (xs ++ ys)
+venues_twice : (venue : ℕ) (ss : List VenueStats) (xs ys : List Happening)
+    → venues_after venue (venues_after venue ss xs) ys ≡ venues_after venue ss (xs ++ ys)
 venues_twice venue [] xs ys = refl
 venues_twice venue (s ∷ ss) xs ys =
-    let a = venue_twice s (all_at venue xs) (all_at venue ys) ∙ ap (venue_after s) (sym (flat_map-append (what_at venue) xs ys)) in
+    let a = venue_twice s (all_at venue xs) (all_at venue ys)
+    ∙ ap (venue_after s) (sym (flat_map-append (what_at venue) xs ys)) in
     let b = venues_twice (venue + 1) ss xs ys in
     cc
 
-states_twice : (s : StateStats) (xs ys : List Happening) → states_after (states_after s xs) ys ≡ states_after s (xs ++ ys)
+states_twice : (s : StateStats) (xs ys : List Happening)
+    → states_after (states_after s xs) ys ≡ states_after s (xs ++ ys)
 states_twice s xs ys =
     let a = counted (is_change is_empty_state) s.empty xs ys in
     let b = counted (is_change is_one_sided) s.one_sided xs ys in
@@ -109,7 +120,8 @@ states_twice s xs ys =
     cc
 
 -- happenings after happenings
-pub counted_twice : (c : Counted) (xs ys : List Happening) → counted_after (counted_after c xs) ys ≡ counted_after c (xs ++ ys)
+pub counted_twice : (c : Counted) (xs ys : List Happening)
+    → counted_after (counted_after c xs) ys ≡ counted_after c (xs ++ ys)
 counted_twice c xs ys =
     let a = venues_twice 0 c.venues xs ys in
     let b = states_twice c.states xs ys in
@@ -121,4 +133,5 @@ venues_none venue (s ∷ ss) = ap (λ (rest : List VenueStats). s ∷ rest) (ven
 
 -- nothing happened
 pub counted_none : (c : Counted) → counted_after c [] ≡ c
-counted_none c = ap (λ (venues : List VenueStats). record { venues = venues; states = c.states }) (venues_none 0 c.venues)
+counted_none c =
+    ap (λ (venues : List VenueStats). record { venues = venues; states = c.states }) (venues_none 0 c.venues)

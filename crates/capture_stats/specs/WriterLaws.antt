@@ -13,13 +13,17 @@ adds_no_stats s =
     takes_no_text (λ lines. s.stats ≡ counted_after s.stats (told_by_all lines)) (sym (counted_none s.stats)) s.start
 
 -- lines after lines
-counts_both : (a b c : Counted) (xs ys : List (List ℕ)) → b ≡ counted_after a (told_by_all xs) → c ≡ counted_after b (told_by_all ys) → c ≡ counted_after a (told_by_all (xs ++ ys))
+counts_both : (a b c : Counted) (xs ys : List (List ℕ)) → b ≡ counted_after a (told_by_all xs)
+    → c ≡ counted_after b (told_by_all ys) → c ≡ counted_after a (told_by_all (xs ++ ys))
 counts_both a b c xs ys first second =
     second ∙ ap (λ (x : Counted). counted_after x (told_by_all ys)) first
     ∙ counted_twice a (told_by_all xs) (told_by_all ys)
     ∙ ap (counted_after a) (sym (flat_map-append told_by xs ys))
 
-pub adds_more_stats : (s t u : StatsOut) (xs ys : List ℕ) → AddsStats s xs t → AddsStats t ys u → AddsStats s (xs ++ ys) u
+pub adds_more_stats : (s t u : StatsOut) (xs ys : List ℕ)
+    → AddsStats s xs t → AddsStats t ys u → AddsStats s (xs ++ ys) u
 adds_more_stats s t u =
-    takes_both (λ lines. t.stats ≡ counted_after s.stats (told_by_all lines)) (λ lines. u.stats ≡ counted_after t.stats (told_by_all lines))
-    (λ lines. u.stats ≡ counted_after s.stats (told_by_all lines)) (counts_both s.stats t.stats u.stats) s.start t.start u.start
+    takes_both (λ lines. t.stats ≡ counted_after s.stats (told_by_all lines))
+    (λ lines. u.stats ≡ counted_after t.stats (told_by_all lines))
+    (λ lines. u.stats ≡ counted_after s.stats (told_by_all lines))
+    (counts_both s.stats t.stats u.stats) s.start t.start u.start

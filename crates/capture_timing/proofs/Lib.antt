@@ -1,0 +1,4 @@
+pub mod Leading
+pub mod Noting
+pub mod Places
+pub mod Sharing

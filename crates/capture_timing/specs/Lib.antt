@@ -1,1 +1,6 @@
-pub mod Readers
+pub mod Durations
+pub mod Figures
+pub mod Leads
+pub mod Places
+pub mod Rates
+pub mod Spells

@@ -3,9 +3,8 @@
 use crate::peak_rate::PeakRate;
 use crate::venue_timing::VenueTiming;
 use feed_types::VenueId;
-use line_captures::LineTable;
+use line_captures::{DatagramSink, LineDatagram};
 use mold_packet::read_packet;
-use packet_capture::{Frame, read_datagram};
 use std::alloc::{AllocError, Global};
 
 /// The nanoseconds of a second.
@@ -17,8 +16,6 @@ const MILLISECOND: u64 = 1_000_000;
 /// How the lines of a packet capture run in time.
 #[derive(Drop)]
 pub struct CaptureTiming {
-    /// The time of the frame at hand, in nanoseconds from 1970 on.
-    now: u64,
     /// The most messages of a second, on all lines.
     pub in_second: PeakRate,
     /// The most messages of a millisecond, on all lines.
@@ -42,33 +39,26 @@ impl CaptureTiming {
             }
         }
         Ok(CaptureTiming {
-            now: 0,
             in_second: PeakRate::new(SECOND),
             in_millisecond: PeakRate::new(MILLISECOND),
             venues,
         })
     }
+}
 
-    /// Takes a frame. One without a time counts as of the time of the one before. One that carries no
-    /// packet to a line counts for nothing else.
-    pub(crate) fn take(&mut self, lines: &LineTable<'_>, frame: &Frame<'_>) {
-        if let Some(time) = frame.time {
-            self.now = time;
-        }
-        let Ok(datagram) = read_datagram(frame.link, frame.bytes) else {
-            return;
-        };
-        let Some(line) = lines.line_to(&datagram) else {
-            return;
-        };
+impl DatagramSink for CaptureTiming {
+    /// Takes the packet that a datagram is. Before the first time it counts as of 1970. A datagram that is
+    /// no packet counts for nothing.
+    fn take(&mut self, datagram: &LineDatagram<'_>, time: Option<u64>) {
         let Ok(packet) = read_packet(datagram.bytes) else {
             return;
         };
+        let time = time.unwrap_or(0);
         let messages = u64::from(packet.count());
-        self.in_second.add(self.now, messages);
-        self.in_millisecond.add(self.now, messages);
-        if let Some(venue) = self.venues.get_mut(line.venue.index()) {
-            venue.take(line.line, self.now, &packet);
+        self.in_second.add(time, messages);
+        self.in_millisecond.add(time, messages);
+        if let Some(venue) = self.venues.get_mut(datagram.line.venue.index()) {
+            venue.take(datagram.line.line, time, &packet);
         }
     }
 }

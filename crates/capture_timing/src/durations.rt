@@ -1,4 +1,8 @@
 //! Durations, counted by their size.
+ghost use Rattle.std.specs.Prelude.{◌≡◌, ℕ, ◌^◌, ◌<◌, ◌≤◌, List, [], ◌∷◌, IfOk, length};
+ghost use Rattle.capture_timing.specs.Durations.{AreCounted, IsShareBound};
+ghost use Rattle.capture_timing.specs.Figures.{capped, longest_of};
+ghost use Rattle.capture_timing.specs.Places.{IsAt, last_at};
 
 use std::alloc::{AllocError, Global};
 
@@ -22,7 +26,10 @@ pub struct Durations {
 }
 
 /// The place of a duration among the counts.
-pub(crate) fn place_of(duration: u64) -> usize {
+pub(crate) fn place_of(duration: u64) -> usize
+    ensures within { result < 976 }
+    ensures at { IsAt duration result }
+{
     if duration < PARTS {
         return duration as usize;
     }
@@ -33,7 +40,9 @@ pub(crate) fn place_of(duration: u64) -> usize {
 }
 
 /// The longest duration that has this place among the counts.
-pub(crate) fn longest_at(place: usize) -> u64 {
+pub(crate) fn longest_at(place: usize) -> u64
+    ensures { place < 976 → result ≡ last_at place }
+{
     let place = place as u64;
     if place < PARTS {
         return place;
@@ -47,7 +56,9 @@ pub(crate) fn longest_at(place: usize) -> u64 {
 
 impl Durations {
     /// No duration yet. Its memory, some 8 KB, is asked for here and never again.
-    pub(crate) fn new(alloc: Global) -> Result<Durations, AllocError> {
+    pub(crate) fn new(alloc: Global) -> Result<Durations, AllocError>
+        ensures { IfOk result (AreCounted []) }
+    {
         Ok(Durations {
             counts: vec![in alloc; 0u64; COUNTS]?,
             count: 0,
@@ -56,7 +67,10 @@ impl Durations {
     }
 
     /// Counts a duration.
-    pub(crate) fn add(&mut self, duration: u64) {
+    pub(crate) fn add(&mut self, duration: u64)
+        ensures { (durations : List ℕ) → AreCounted durations self.old
+            → AreCounted (duration ∷ durations) self.new }
+    {
         if let Some(count) = self.counts.get_mut(place_of(duration)) {
             *count = count.saturating_add(1);
         }
@@ -65,18 +79,27 @@ impl Durations {
     }
 
     /// Returns how many durations there are.
-    pub fn count(&self) -> u64 {
+    pub fn count(&self) -> u64
+        ensures { (durations : List ℕ) → AreCounted durations self.now
+            → result ≡ capped (length durations) }
+    {
         self.count
     }
 
     /// Returns the longest duration, 0 where there is none.
-    pub fn longest(&self) -> u64 {
+    pub fn longest(&self) -> u64
+        ensures { (durations : List ℕ) → AreCounted durations self.now
+            → result ≡ longest_of durations }
+    {
         self.longest
     }
 
     /// Returns a bound of the shortest `percent` of a hundred of the durations, which is one of them, or
     /// at most one sixteenth longer: with 50 the median.
-    pub fn bound_of(&self, percent: u64) -> u64 {
+    pub fn bound_of(&self, percent: u64) -> u64
+        ensures { (durations : List ℕ) → AreCounted durations self.now → length durations < 2 ^ 64
+            → percent ≤ 100 → IsShareBound percent durations result }
+    {
         let wanted = (u128::from(self.count) * u128::from(percent)).div_ceil(100);
         let mut seen: u128 = 0;
         for place in 0..self.counts.len() {
@@ -85,6 +108,6 @@ impl Durations {
                 return longest_at(place).min(self.longest);
             }
         }
-        self.longest
+        self.longest()
     }
 }

@@ -1,4 +1,7 @@
 //! By how much which line of a venue is first.
+ghost use Rattle.std.specs.Prelude.{◌≡◌, ◌⊎◌, ℕ, ◌+◌, ◌^◌, ◌<◌, ◌≤◌, List, [], IfOk, ◌∷◌};
+ghost use Rattle.feed_types.specs.declared.line.LineId.TheVariants.{A, B};
+ghost use Rattle.capture_timing.specs.Leads.{AreLeadsOf, MessageOn, come_on, held_after, lead_by, message_on};
 
 use crate::durations::Durations;
 use feed_types::LineId;
@@ -13,6 +16,39 @@ struct FirstArrival {
     line: LineId,
     /// Whether the other line has brought it, too.
     is_met: bool,
+}
+
+impl FirstArrival {
+    /// Returns what is held after a message of the same place came.
+    fn after(self, line: LineId, number: u64, time: u64) -> FirstArrival
+        ensures { result ≡ held_after self (message_on line number time) }
+    {
+        if self.number < number {
+            return FirstArrival {
+                number,
+                time,
+                line,
+                is_met: false,
+            };
+        }
+        let is_second = self.number == number && self.line != line;
+        FirstArrival {
+            number: self.number,
+            time: self.time,
+            line: self.line,
+            is_met: self.is_met || is_second,
+        }
+    }
+
+    /// Returns how long the second line took, where it now brings the message that is held.
+    fn lead(self, line: LineId, number: u64, time: u64) -> Option<u64>
+        ensures { result ≡ lead_by self (message_on line number time) }
+    {
+        if self.number != number || self.is_met || self.line == line {
+            return None;
+        }
+        Some(time.saturating_sub(self.time))
+    }
 }
 
 /// No arrival.
@@ -37,7 +73,9 @@ pub struct LineLeads {
 
 impl LineLeads {
     /// No arrival yet.
-    pub(crate) fn new(alloc: Global, window: usize) -> Result<LineLeads, AllocError> {
+    pub(crate) fn new(alloc: Global, window: usize) -> Result<LineLeads, AllocError>
+        ensures { IfOk result (λ leads. 0 < window → AreLeadsOf window [] leads) }
+    {
         Ok(LineLeads {
             arrivals: vec![in alloc; NONE; window]?,
             a: Durations::new(alloc)?,
@@ -46,26 +84,22 @@ impl LineLeads {
     }
 
     /// Notes that a message came on line A or B at a time in nanoseconds.
-    fn note(&mut self, line: LineId, number: u64, time: u64) {
-        let place = number % (self.arrivals.len() as u64).max(1);
-        let Some(first) = self.arrivals.get_mut(place as usize) else {
+    fn note(&mut self, line: LineId, number: u64, time: u64)
+        requires line { (line ≡ A) ⊎ (line ≡ B) }
+        requires number { 0 < number }
+        ensures { (window : ℕ) (came : List MessageOn) → AreLeadsOf window came self.old
+            → AreLeadsOf window (message_on line number time ∷ came) self.new }
+    {
+        let place = (number % (self.arrivals.len() as u64).max(1)) as usize;
+        let Some(first) = self.arrivals.get_mut(place) else {
             return;
         };
-        if first.number < number {
-            *first = FirstArrival {
-                number,
-                time,
-                line,
-                is_met: false,
-            };
+        let held = *first;
+        *first = held.after(line, number, time);
+        let Some(took) = held.lead(line, number, time) else {
             return;
-        }
-        if first.number > number || first.is_met || first.line == line {
-            return;
-        }
-        first.is_met = true;
-        let took = time.saturating_sub(first.time);
-        match first.line {
+        };
+        match held.line {
             LineId::B => self.b.add(took),
             _ => self.a.add(took),
         }
@@ -73,12 +107,18 @@ impl LineLeads {
 
     /// Notes that messages from a number on came on a line at a time in nanoseconds. What comes on
     /// Recovery doesn't count.
-    pub(crate) fn note_all(&mut self, line: LineId, number: u64, count: u16, time: u64) {
-        if line == LineId::Recovery {
-            return;
+    pub(crate) fn note_all(&mut self, line: LineId, number: u64, count: u16, time: u64)
+        requires number { 0 < number }
+        requires last { number + count ≤ 2 ^ 64 }
+        ensures { (window : ℕ) (came : List MessageOn) → AreLeadsOf window came self.old
+            → AreLeadsOf window (come_on line number count time came) self.new }
+    {
+        match line {
+            LineId::A | LineId::B => {}
+            LineId::Recovery => return,
         }
         for place in 0..u64::from(count) {
-            self.note(line, number.saturating_add(place), time);
+            self.note(line, number + place, time);
         }
     }
 }

@@ -1,8 +1,10 @@
 //! How long messages are missing.
+ghost use Rattle.std.specs.Prelude.{◌≡◌, ℕ, List, [], ◌∷◌, is_some};
+ghost use Rattle.capture_timing.specs.Spells.{AreSpellsOf, MissingAt, missing_at, missing_since};
 
 /// The spells in which a venue lacks messages: from the packet that shows that there are more than came
 /// without a gap, to the one after which none is missing.
-#[derive(Clone, Copy, Debug, Default, PartialEq, Eq)]
+#[derive(Clone, Copy, Debug, PartialEq, Eq)]
 pub struct MissingSpells {
     /// The time at which the spell at hand began, if there is one.
     since: Option<u64>,
@@ -15,8 +17,23 @@ pub struct MissingSpells {
 }
 
 impl MissingSpells {
+    /// No spell yet.
+    pub(crate) fn new() -> MissingSpells
+        ensures { AreSpellsOf [] result }
+    {
+        MissingSpells {
+            since: None,
+            count: 0,
+            total: 0,
+            longest: 0,
+        }
+    }
+
     /// Notes whether messages are missing after a packet at this time in nanoseconds.
-    pub(crate) fn note(&mut self, time: u64, is_missing: bool) {
+    pub(crate) fn note(&mut self, time: u64, is_missing: bool)
+        ensures { (notes : List MissingAt) → AreSpellsOf notes self.old
+            → AreSpellsOf (missing_at time is_missing ∷ notes) self.new }
+    {
         match (self.since, is_missing) {
             (None, true) => self.since = Some(time),
             (Some(since), false) => {
@@ -31,7 +48,10 @@ impl MissingSpells {
     }
 
     /// Returns whether messages are missing at the end.
-    pub fn is_open(&self) -> bool {
+    pub fn is_open(&self) -> bool
+        ensures { (notes : List MissingAt) → AreSpellsOf notes self.now
+            → result ≡ is_some (missing_since notes) }
+    {
         self.since.is_some()
     }
 }

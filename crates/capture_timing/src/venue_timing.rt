@@ -31,7 +31,7 @@ impl VenueTiming {
         Ok(VenueTiming {
             arbiter,
             leads: LineLeads::new(alloc, window as usize)?,
-            missing: MissingSpells::default(),
+            missing: MissingSpells::new(),
         })
     }
 

@@ -5,6 +5,7 @@ pub mod Records
 pub mod Readers
 pub mod ReaderLaws
 pub mod Steps
+pub mod Taps
 pub mod Reports
 pub mod Conversions
 pub mod Counts

@@ -13,10 +13,10 @@ use packet_capture::{Frame, read_datagram};
 
 /// What came on a line.
 #[derive(Clone, Copy, Debug, PartialEq, Eq)]
-pub(crate) struct LineDatagram<'a> {
-    pub(crate) line: CapturedLine,
+pub struct LineDatagram<'a> {
+    pub line: CapturedLine,
     /// What the datagram holds, at most 65,527 bytes.
-    pub(crate) bytes: &'a [u8],
+    pub bytes: &'a [u8],
 }
 
 /// The datagram that a frame carries to a line, or `None`, and then the frame is counted.

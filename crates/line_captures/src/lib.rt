@@ -8,9 +8,12 @@
 //! Contract: what it gave, then what is pending, are the records of the frames of whole pieces, in file
 //! order, each frame's datagram for the first line that takes it, and nothing else
 //! (`specs/Readers.antt`, over `specs/Records.antt` and `specs/Lines.antt`). [`convert`] writes those
-//! records, and `replay_run::replay_lines` replays them. Begin at `lines_in.rt`.
+//! records, and `replay_run::replay_lines` replays them. A [`CaptureTap`] gives exactly what the reader below
+//! it gives, and tells a [`DatagramSink`] of the datagrams (`specs/Taps.antt`); which ones is tested, not proved.
+//! Begin at `lines_in.rt`.
 #![tactic(auto)]
 
+mod capture_tap;
 mod captured_line;
 mod conversion;
 mod fault;
@@ -22,9 +25,11 @@ mod passed_over;
 mod pieces;
 mod report;
 
+pub use capture_tap::{CaptureTap, DatagramSink};
 pub use captured_line::CapturedLine;
 pub use conversion::convert;
 pub use fault::InputFault;
+pub use frames::LineDatagram;
 pub use line_list::{are_apart, lines_at};
 pub use line_table::LineTable;
 pub use lines_in::{LineBuffers, LinesIn};

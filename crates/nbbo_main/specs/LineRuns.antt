@@ -7,10 +7,9 @@ use Rattle.feed_text.specs.declared.replay.ReplayConfig.{ReplayConfig}
 use Rattle.feed_text.specs.declared.fault.ReplayFault.TheVariants as replay
 use Rattle.feed_text.specs.Devices.{Reading, Writing}
 use Rattle.feed_text.specs.StandardError.{Says, SaysEach}
-use Rattle.best_lines.specs.Readers.{reader_below, reading_along}
 use Rattle.best_lines.specs.Rows.{has_times}
 use Rattle.best_lines.specs.Writers.{IsNewOver, below}
-use Rattle.best_lines.specs.declared.times_in.TimesIn.{TimesIn}
+use Rattle.best_lines.specs.declared.times_in.TimesSink.{TimesSink}
 use Rattle.best_lines.specs.declared.bests_out.BestsOut.{BestsOut}
 use Rattle.best_lines.specs.declared.format.Format.{Format}
 use Rattle.line_captures.specs.declared.captured_line.CapturedLine.{CapturedLine}
@@ -20,7 +19,9 @@ use Rattle.line_captures.specs.declared.passed_over.PassedOver.{PassedOver}
 use Rattle.line_captures.specs.declared.report.CaptureReport.{CaptureReport}
 use Rattle.line_captures.specs.declared.report.LinesFault.{LinesFault}
 use Rattle.line_captures.specs.declared.report.LinesFault.TheVariants.{Input, Run}
+use Rattle.line_captures.specs.declared.capture_tap.CaptureTap.{CaptureTap}
 use Rattle.line_captures.specs.Conversions.{Converts}
+use Rattle.line_captures.specs.Taps.{reader_below, reading_along}
 use Rattle.replay_run.specs.LineReplays.{ReplaysLines}
 use Rattle.command_words.specs.CommandLine.{AsksConversion, AsksLineReplay}
 use Rattle.nbbo_main.specs.Ending.{fault_text}
@@ -125,11 +126,11 @@ pub record PassesLineBests {R W : Type 0} (reading : Reading R) (writing : Writi
     (from : R) (report : CaptureReport R) (before after : W) : Type 0 where
   pub config : ReplayConfig
   pub is : IsConfigOf settings.replay config
-  pub along : TimesIn R
+  pub along : CaptureTap R TimesSink
   pub over : reader_below along ≡ from
   pub start : BestsOut W
   pub new : IsNewOver before format (has_times format) start
-  pub seen : CaptureReport (TimesIn R)
+  pub seen : CaptureReport (CaptureTap R TimesSink)
   pub mid : BestsOut W
   pub replays : ReplaysLines (reading_along reading) (bests_writing writing) config
       settings.lines.items along seen start mid

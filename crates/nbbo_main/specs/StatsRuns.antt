@@ -14,8 +14,9 @@ use Rattle.capture_stats.specs.Texts.{text_of_stats}
 use Rattle.capture_stats.specs.Writers.{AddsStats, IsNewFor}
 use Rattle.capture_stats.specs.declared.format.StatsFormat.{StatsFormat}
 use Rattle.capture_stats.specs.declared.stats_out.StatsOut.{StatsOut}
-use Rattle.capture_timing.specs.declared.timing_in.TimingIn.{TimingIn}
-use Rattle.capture_timing.specs.Readers.{timed_reader}
+use Rattle.capture_timing.specs.declared.capture_timing.CaptureTiming.{CaptureTiming}
+use Rattle.line_captures.specs.Taps.{reader_below, reading_along}
+use Rattle.line_captures.specs.declared.capture_tap.CaptureTap.{CaptureTap}
 use Rattle.line_captures.specs.declared.captured_line.CapturedLine.{CapturedLine}
 use Rattle.line_captures.specs.declared.report.CaptureReport.{CaptureReport}
 use Rattle.line_captures.specs.declared.report.LinesFault.{LinesFault}
@@ -131,15 +132,6 @@ pub record RunsOwnStats {R W E : Type 0}
   pub line : Says telling (ending_text outcome) hinted told
   pub ends : status ≡ ending_status outcome
 
--- the calls of a reader that reads along, as calls of the reader below
-abbrev pub timed_reading : {R : Type 0} → Reading R → Reading (TimingIn R)
-timed_reading reading = record {
-  gives = λ s calls bytes t. reading.gives (timed_reader s) calls bytes (timed_reader t);
-  ends = λ s t. reading.ends (timed_reader s) (timed_reader t);
-  failures = λ s. reading.failures (timed_reader s);
-  fails = λ s t. reading.fails (timed_reader s) (timed_reader t);
-}
-
 -- A packet capture, which was read along, was replayed onto a new writer that counts, and then the
 -- counts were printed. The report is that of the replay, but for its outcome, and of the reader below.
 pub record PrintsLineCounts {R W : Type 0} (reading : Reading R) (writing : Writing W)
@@ -147,17 +139,17 @@ pub record PrintsLineCounts {R W : Type 0} (reading : Reading R) (writing : Writ
     (from : R) (report : CaptureReport R) (before after : W) : Type 0 where
   pub start : StatsOut
   pub new : IsNewFor (venues_in config) start
-  pub along : TimingIn R
-  pub over : timed_reader along ≡ from
-  pub seen : CaptureReport (TimingIn R)
+  pub along : CaptureTap R CaptureTiming
+  pub over : reader_below along ≡ from
+  pub seen : CaptureReport (CaptureTap R CaptureTiming)
   pub mid : StatsOut
-  pub replays : ReplaysLines (timed_reading reading) stats_writing config lines along seen start mid
+  pub replays : ReplaysLines (reading_along reading) stats_writing config lines along seen start mid
   pub printed : Result (Unit {0}) ReplayFault
   pub prints : PrintsTimedStats writing mid format before after printed
   pub ends : report.outcome ≡ lines_ended_by seen.outcome printed
   pub position : report.position ≡ seen.position
   pub passed : report.passed ≡ seen.passed
-  pub input : report.input ≡ timed_reader seen.input
+  pub input : report.input ≡ reader_below seen.input
   pub whole : (done : Unit {0}) → report.outcome ≡ Ok done
       → WroteCaptureText reading writing config lines (counts_texts config format)
       from report.input before after replays.point

@@ -1,15 +1,15 @@
 //! Runs of the program that print all lines, or the best ones alone.
 ghost use Rattle.std.specs.Prelude.{◌≡◌, ◌≢◌, Err, IfErr, IfOk, is_some, true, false};
-ghost use Rattle.best_lines.specs.Readers.{reader_below};
 ghost use Rattle.best_lines.specs.Rows.{has_times};
 ghost use Rattle.best_lines.specs.Writers.{IsNewOver};
+ghost use Rattle.line_captures.specs.Taps.{reader_below};
 ghost use Rattle.nbbo_main.specs.LineRuns.{PassesLines, RunsLineBests, RunsLinesBy};
 ghost use Rattle.nbbo_main.specs.Runs.{ClosesBests, RunsBests, RunsBy};
 
 use crate::ending::ending;
 use crate::line_runs::{EndedRun, run_line_replay, tell_capture};
 use crate::run::{config_of, hint, run_replay};
-use best_lines::{BestsOut, Format, FrameTimes, TimesIn};
+use best_lines::{BestsOut, Format, FrameTimes, TimesIn, tap_times};
 use command_words::{LineReplaySettings, ReplaySettings};
 use feed_text::devices::{CaptureIn, TextOut};
 use feed_text::fault::ReplayFault;
@@ -135,7 +135,7 @@ fn timed_run<'a, R, W>(
     ensures input { IfErr result (λ pair. pair.0 ≡ input) }
     ensures output { IfErr result (λ pair. pair.1 ≡ output) }
 {
-    let input = match TimesIn::new(alloc, lines, times, input) {
+    let input = match tap_times(alloc, lines, times, input) {
         Ok(input) => input,
         Err(input) => return Err((input, output)),
     };

@@ -2,22 +2,22 @@
 ghost use Rattle.std.specs.Prelude.{◌≡◌, [], IfOk, IfErr};
 ghost use Rattle.capture_stats.specs.Texts.{text_of_stats};
 ghost use Rattle.capture_stats.specs.Writers.{IsNewFor};
-ghost use Rattle.capture_timing.specs.Readers.{timed_reader};
 ghost use Rattle.feed_text.specs.Replays.{venues_in};
+ghost use Rattle.line_captures.specs.Taps.{reader_below};
 ghost use Rattle.nbbo_main.specs.StatsRuns.{PrintsStats, PrintsText, PrintsTimedStats, RunsLineStats, RunsOwnStats, RunsStats, ended_by, lines_ended_by};
 
 use crate::ending::ending;
 use crate::line_runs::{EndedRun, tell_capture};
 use crate::run::{config_of, hint};
 use capture_stats::{Stats, StatsFormat, StatsOut, stats_text};
-use capture_timing::{CaptureTiming, TimingIn, timing_text};
+use capture_timing::{CaptureTiming, timing_text};
 use command_words::{LineReplaySettings, ReplaySettings, StatsInput, StatsSettings};
 use feed_text::devices::{CaptureIn, TextOut};
 use feed_text::fault::ReplayFault;
 use feed_text::output::write_all;
 use feed_text::replay::ReplayConfig;
 use feed_text::standard_error::write_stderr;
-use line_captures::{CaptureReport, CapturedLine, LinesFault};
+use line_captures::{CaptureReport, CaptureTap, CapturedLine, LinesFault};
 use replay_run::{replay, replay_lines};
 use std::alloc::Global;
 
@@ -141,9 +141,9 @@ fn make_counts<'a, R>(
     config: &ReplayConfig<'_>,
     lines: &'a [CapturedLine],
     input: R,
-) -> Result<(StatsOut, TimingIn<'a, R>), R>
+) -> Result<(StatsOut, CaptureTap<'a, R, CaptureTiming>), R>
     ensures new { IfOk result (λ made. IsNewFor (venues_in config.now) made.0) }
-    ensures over { IfOk result (λ made. timed_reader made.1 ≡ input) }
+    ensures over { IfOk result (λ made. reader_below made.1 ≡ input) }
     ensures refused { IfErr result (λ back. back ≡ input) }
 {
     let Ok(counts) = StatsOut::new(alloc, config.sessions.len()) else {
@@ -152,7 +152,7 @@ fn make_counts<'a, R>(
     let Ok(timing) = CaptureTiming::new(alloc, config.sessions, config.window) else {
         return Err(input);
     };
-    match TimingIn::new(alloc, lines, timing, input) {
+    match CaptureTap::new(alloc, lines, timing, input) {
         Ok(reader) => Ok((counts, reader)),
         Err(input) => Err(input),
     }

@@ -1,8 +1,8 @@
 use Rattle.std.proofs.Common.{Bool, List, inl, refl, subst, ◌∙◌}
 use Rattle.feed_text.specs.Devices.{Reading, Writing}
-use Rattle.best_lines.specs.Readers.{reading_along}
 use Rattle.best_lines.specs.Writers.{IsNewOver}
 use Rattle.line_captures.specs.declared.captured_line.CapturedLine.{CapturedLine}
+use Rattle.line_captures.specs.Taps.{reading_along}
 use Rattle.replay_run.specs.LineReplays.{ReplaysLines}
 use Rattle.nbbo_main.specs.Runs.{bests_writing}
 use Rattle.nbbo_main.proofs.best_runs.pass_line_bests.Goals as goal

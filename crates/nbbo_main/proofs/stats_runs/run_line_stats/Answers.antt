@@ -9,34 +9,35 @@ use Rattle.capture_stats.specs.Texts.{text_of_stats}
 use Rattle.capture_stats.specs.Writers.{IsNewFor}
 use Rattle.capture_stats.specs.declared.format.StatsFormat.{StatsFormat}
 use Rattle.capture_stats.specs.declared.stats_out.StatsOut.{StatsOut}
-use Rattle.capture_timing.specs.Readers.{timed_reader}
-use Rattle.capture_timing.specs.declared.timing_in.TimingIn.{TimingIn}
+use Rattle.capture_timing.specs.declared.capture_timing.CaptureTiming.{CaptureTiming}
+use Rattle.line_captures.specs.Taps.{reader_below, reading_along}
+use Rattle.line_captures.specs.declared.capture_tap.CaptureTap.{CaptureTap}
 use Rattle.line_captures.specs.Readers.{CapturePoint}
 use Rattle.line_captures.specs.declared.captured_line.CapturedLine.{CapturedLine}
 use Rattle.line_captures.specs.declared.report.LinesFault.{LinesFault}
 use Rattle.line_captures.specs.declared.report.LinesFault.TheVariants.{Run}
 use Rattle.replay_run.specs.LineReplays.{AnswersLineReplay, ReplaysLines, WroteCaptureText}
 use Rattle.replay_run.specs.Printed.{texts_of_run}
-use Rattle.nbbo_main.specs.StatsRuns.{PrintsTimedStats, counts_texts, lines_ended_by, stats_writing, timed_reading}
+use Rattle.nbbo_main.specs.StatsRuns.{PrintsTimedStats, counts_texts, lines_ended_by, stats_writing}
 use Rattle.nbbo_main.proofs.stats_runs.run_line_stats.Goals as goal
 
 -- where nothing went wrong the counts are those of a whole packet capture
 counts_whole : {R W : Type 0} (reading : Reading R) (writing : Writing W)
     (config : ReplayConfig) (lines : List CapturedLine) (format : StatsFormat)
-    (along to : TimingIn R) (start mid : StatsOut) (before after : W) (point : CapturePoint)
+    (along to : CaptureTap R CaptureTiming) (start mid : StatsOut) (before after : W) (point : CapturePoint)
     (seen : Result (Unit {0}) LinesFault) (printed : Result (Unit {0}) ReplayFault)
     (outcome : Result (Unit {0}) LinesFault)
     → IsNewFor (venues_in config) start
-    → AnswersLineReplay (timed_reading reading) stats_writing config lines (texts_of_run config) along to start mid point seen
+    → AnswersLineReplay (reading_along reading) stats_writing config lines (texts_of_run config) along to start mid point seen
     → PrintsTimedStats writing mid format before after printed → outcome ≡ lines_ended_by seen printed
     → (done : Unit {0}) → outcome ≡ Ok done
     → WroteCaptureText reading writing config lines (counts_texts config format)
-    (timed_reader along) (timed_reader to) before after point
+    (reader_below along) (reader_below to) before after point
 counts_whole reading writing config lines format along to start mid before after point (Ok read) (Ok wrote)
     outcome new run prints ends done ok = record {
       calls = run.calls;
       within = run.within;
-      mid = timed_reader run.mid;
+      mid = reader_below run.mid;
       records = run.records;
       read = record {
         bytes = run.read.bytes;
@@ -107,8 +108,8 @@ returns g c =
     let hinted = c.write_stderr.new.errors in
     let lines = c.args.settings.now.lines.items in
     let printed = c.print_timed_stats-printed.new.output in
-    let replays : ReplaysLines (timed_reading reading) stats_writing config lines along seen start mid =
-    subst (λ (lines : List CapturedLine). ReplaysLines (timed_reading reading) stats_writing config lines along seen start mid)
+    let replays : ReplaysLines (reading_along reading) stats_writing config lines along seen start mid =
+    subst (λ (lines : List CapturedLine). ReplaysLines (reading_along reading) stats_writing config lines along seen start mid)
     c.as_slice-lines.ensures.value c.replay_lines-seen.ensures in
     let Whole : g.row.R.Denot → g.row.R.Denot → Type 0 = λ a b.
     WroteCaptureText reading writing config lines (counts_texts config c.args.format) a b c.args.output.now printed replays.point in
@@ -137,7 +138,7 @@ returns g c =
         input = c.into_parts-input.ensures;
         whole = λ done ok.
             subst (λ a. Whole a c.into_parts-input.result.0) c.in-Ok.ensures.over
-            (subst (λ b. Whole (timed_reader along) b) (sym c.into_parts-input.ensures)
+            (subst (λ b. Whole (reader_below along) b) (sym c.into_parts-input.ensures)
             (counts_whole reading writing config lines c.args.format along seen.input start mid c.args.output.now printed
             replays.point seen.outcome c.print_timed_stats-printed.result c.lines_ended_by.result
             c.in-Ok.ensures.new replays.answers c.print_timed_stats-printed.ensures c.lines_ended_by.ensures done ok));
