@@ -8,8 +8,7 @@ use crate::lines::{LineStart, keep, line_end, put_lines};
 use crate::row_time::{RowClock, RowStyle};
 use crate::rows::{Pending, put_line};
 use crate::sending::{send, send_some};
-use feed_text::devices::{TextOut, WriteStop};
-use feed_text::unread::ReadBuffer;
+use feed_text::{ReadBuffer, TextOut, WriteStop};
 use std::alloc::Global;
 
 /// A writer of lines over another writer: of the lines that are written to it, it passes on the best

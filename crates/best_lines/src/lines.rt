@@ -5,7 +5,7 @@ ghost use Rattle.best_lines.specs.Taking.{PutsLines};
 
 use crate::row_time::{RowClock, RowStyle};
 use crate::rows::{Pending, put_line};
-use feed_text::unread::ReadBuffer;
+use feed_text::ReadBuffer;
 use memchr::memchr;
 
 /// What is kept of a line that isn't ended.

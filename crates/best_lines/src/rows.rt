@@ -12,7 +12,7 @@ use crate::format::Format;
 use crate::row_time::{RowClock, RowStyle, RowTime};
 use crate::seconds::put_seconds;
 use crate::words::{LineWords, parts_of, words_of};
-use feed_text::unread::{RECORDS_ROOM, ReadBuffer};
+use feed_text::{RECORDS_ROOM, ReadBuffer};
 
 /// The bytes that are to be written.
 pub(crate) type Pending = ReadBuffer<RECORDS_ROOM>;

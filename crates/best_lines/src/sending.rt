@@ -3,7 +3,7 @@ ghost use Rattle.std.specs.Prelude.{◌≡◌, ◌+◌, [], OnErr, OnOk};
 ghost use Rattle.feed_text.specs.Devices.{Moved};
 
 use crate::rows::Pending;
-use feed_text::devices::{TextOut, WriteStop};
+use feed_text::{TextOut, WriteStop};
 
 /// Writes some of what is pending, if there is any, by one call.
 pub(crate) fn send_some<W: TextOut>(pending: &mut Pending, writer: &mut W) -> Result<(), WriteStop>

@@ -4,8 +4,7 @@ ghost use Rattle.best_lines.specs.Lines.{IsOpen, ended};
 
 use crate::stats::Stats;
 use best_lines::lines::{LineStart, keep, line_end};
-use feed_text::devices::{TextOut, WriteStop};
-use feed_text::unread::ReadBuffer;
+use feed_text::{ReadBuffer, TextOut, WriteStop};
 use std::alloc::{AllocError, Global};
 
 /// A writer that counts what the lines tell that are written to it, and passes nothing on. No call of it

@@ -9,37 +9,50 @@
 //! The text (`specs/Texts.antt`) is the line of each event, after it the best lines of the changes
 //! of the national best that its entry makes, and at the end a line for each venue.
 //!
-//! The contract is that of `replay::replay`: where it answers Ok, what was read is a whole capture
+//! The contract is that of [`replay::replay`]: where it answers Ok, what was read is a whole capture
 //! that has room in the journal, and what was written is its text and nothing else. Each fault
 //! comes only when its cause did. JournalFull says exactly where the journal was full: what was
 //! written is the lines up to there. After the other faults it is the text of the records read, or
 //! a prefix of it where the writer failed (`specs/Replays.antt`).
 //!
-//! A replay reads and writes through two traits, `devices::CaptureIn` and `devices::TextOut`, whose
-//! laws say what a call does. `memory` has devices over memory, `system` over the standard streams.
+//! A replay reads and writes through two traits, [`CaptureIn`] and [`TextOut`], whose
+//! laws say what a call does. `memory.rt` has devices over memory, `system.rt` over the standard streams.
 //!
-//! `laws` says that a capture has one reading, and its records one text.
+//! `laws.rt` says that a capture has one reading, and its records one text.
 //!
 //! Begin with `replay.rt`, then `specs/Texts.antt`; `venue.rt` has a venue, `report.rt` the journal
 //! and the text of all venues, `lines.rt` the lines.
 #![tactic(auto)]
 
-pub mod capture;
-pub mod count;
-pub mod devices;
+mod capture;
+mod count;
+mod devices;
 mod digit_tables;
-pub mod fault;
+mod fault;
 mod fields;
 mod input;
-pub mod laws;
-pub mod lines;
-pub mod memory;
-pub mod output;
-pub mod page;
+mod laws;
+mod lines;
+mod memory;
+mod output;
+mod page;
 pub mod replay;
 mod report;
-pub mod standard_error;
-pub mod system;
-pub mod unread;
+mod standard_error;
+mod system;
+mod unread;
 mod venue;
 mod venues;
+
+pub use capture::{Parse, Record, parse_record};
+pub use count::Count;
+pub use devices::{CaptureIn, ReadStop, TextOut, WriteStop};
+pub use fault::ReplayFault;
+pub use laws::{every_capture_tells, items_are_the_streams, one_reading, one_text};
+pub use lines::{put_best, put_venue};
+pub use memory::{MemoryIn, MemoryOut};
+pub use output::write_all;
+pub use page::LineBuffer;
+pub use standard_error::{write_number, write_stderr};
+pub use system::{StreamIn, StreamOut};
+pub use unread::{RECORDS_ROOM, ReadBuffer, ReadStep};

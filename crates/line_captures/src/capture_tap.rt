@@ -10,8 +10,7 @@ use crate::captured_line::CapturedLine;
 use crate::frames::LineDatagram;
 use crate::line_table::LineTable;
 use crate::pieces::PIECES_ROOM;
-use feed_text::devices::{CaptureIn, ReadStop};
-use feed_text::unread::ReadBuffer;
+use feed_text::{CaptureIn, ReadBuffer, ReadStop};
 use packet_capture::{CaptureReader, Frame, Stop, read_datagram};
 use std::alloc::{AllocError, Global};
 

@@ -5,9 +5,7 @@ ghost use Rattle.line_captures.specs.Conversions.{Converts, Copies};
 use crate::captured_line::CapturedLine;
 use crate::lines_in::{LineBuffers, LinesIn};
 use crate::report::CaptureReport;
-use feed_text::devices::{CaptureIn, ReadStop, TextOut};
-use feed_text::fault::ReplayFault;
-use feed_text::output::write_all;
+use feed_text::{CaptureIn, ReadStop, ReplayFault, TextOut, write_all};
 use std::alloc::{AllocError, Global};
 
 /// How many bytes of records are copied at once.

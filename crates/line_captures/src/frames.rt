@@ -8,7 +8,7 @@ ghost use Rattle.line_captures.specs.Steps.{CountsFrame, PutsFrame, datagram_rec
 use crate::captured_line::CapturedLine;
 use crate::line_table::LineTable;
 use crate::passed_over::PassedOver;
-use feed_text::unread::{RECORDS_ROOM, ReadBuffer};
+use feed_text::{RECORDS_ROOM, ReadBuffer};
 use packet_capture::{Frame, read_datagram};
 
 /// What came on a line.

@@ -8,7 +8,7 @@ use crate::captured_line::CapturedLine;
 use crate::frames::put_frame;
 use crate::line_table::LineTable;
 use crate::passed_over::Progress;
-use feed_text::unread::{RECORDS_ROOM, ReadBuffer};
+use feed_text::{RECORDS_ROOM, ReadBuffer};
 use packet_capture::{CaptureReader, Piece, Stop, read_as_bytes_come};
 
 /// How many bytes of a packet capture are held at most: a longest piece, which has 1,048,592, and

@@ -5,7 +5,7 @@ ghost use Rattle.line_captures.specs.Reports.{ReportsPoint, outcome_by};
 
 use crate::fault::InputFault;
 use crate::passed_over::PassedOver;
-use feed_text::fault::ReplayFault;
+use feed_text::ReplayFault;
 
 /// Why a packet capture wasn't used to its end.
 #[derive(Clone, Copy, Debug, PartialEq, Eq)]

@@ -2,7 +2,7 @@
 ghost use Rattle.std.specs.Prelude.{◌≡◌};
 ghost use Rattle.nbbo_main.specs.Ending.{ending_status, ending_text, fault_text};
 
-use feed_text::fault::ReplayFault;
+use feed_text::ReplayFault;
 
 /// The line for a fault.
 pub fn fault_line(fault: ReplayFault) -> &'static str

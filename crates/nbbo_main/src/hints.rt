@@ -2,8 +2,7 @@
 ghost use Rattle.std.specs.Prelude.{◌≡◌};
 ghost use Rattle.nbbo_main.specs.Hints.{format_hint, is_packets};
 
-use feed_text::devices::TextOut;
-use feed_text::standard_error::write_stderr;
+use feed_text::{TextOut, write_stderr};
 use std::fs::{self, File, Files};
 
 /// What packet captures begin with: pcap in either order of bytes, with microseconds and with nanoseconds, and pcapng.

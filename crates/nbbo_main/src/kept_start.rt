@@ -1,7 +1,7 @@
 //! The start of a capture, kept while it is read.
 ghost use Rattle.std.specs.Prelude.{◌≡◌};
 
-use feed_text::devices::{CaptureIn, ReadStop};
+use feed_text::{CaptureIn, ReadStop};
 
 /// The number of the first four bytes, the first of them the highest; 0 where there are fewer.
 fn word_of(bytes: &[u8]) -> u32 {

@@ -7,8 +7,7 @@ ghost use Rattle.nbbo_main.specs.LineRuns.{RunsConversion, RunsLineReplay, Tells
 use crate::ending::fault_line;
 use crate::run::{MAX_TURNS, config_of, hint};
 use command_words::LineReplaySettings;
-use feed_text::devices::{CaptureIn, TextOut};
-use feed_text::standard_error::{write_number, write_stderr};
+use feed_text::{CaptureIn, TextOut, write_number, write_stderr};
 use line_captures::{CaptureReport, CapturedLine, InputFault, LinesFault, PassedOver, convert};
 use packet_capture::CaptureFault;
 use replay_run::replay_lines;

@@ -33,14 +33,10 @@ mod run;
 mod stats_runs;
 
 use command_words::{ListenSettings, Refusal};
-use feed_text::count::Count;
-use feed_text::devices::{CaptureIn, TextOut};
-use feed_text::standard_error::write_stderr;
-use feed_text::system::{StreamIn, StreamOut};
+use feed_text::{CaptureIn, Count, StreamIn, StreamOut, TextOut, write_stderr};
 use hints::{asks_for_packets, format_hint, hint_at_file};
 use kept_start::KeptStart;
 use run::{Next, refuse, run};
-use udp_listening::{NO_MEMORY, bind_sockets, enlarge, listen_with, listening_line};
 use std::alloc::{AllocError, Global};
 use std::io::{ErrorKind, IsTerminal, Stderr, Stdin, Stdout};
 use std::marker::Brand;
@@ -50,6 +46,7 @@ use std::sync::Wait;
 use std::sync::ledger::{Blank, Ledger};
 use std::thread::Threads;
 use std::{env, io};
+use udp_listening::{NO_MEMORY, bind_sockets, enlarge, listen_with, listening_line};
 
 /// The words of the command line, the program's name first.
 fn words_of(rt: &HostRuntime) -> io::Result<Vec<String>> {

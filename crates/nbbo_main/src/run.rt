@@ -8,12 +8,9 @@ use crate::best_runs::{run_lines, run_settings};
 use crate::ending::ending;
 use crate::line_runs::run_conversion;
 use crate::stats_runs::run_stats;
-use command_words::{settings, ListenSettings, Refusal, ReplaySettings, Task};
-use feed_text::devices::{CaptureIn, TextOut};
-use feed_text::fault::ReplayFault;
-use feed_text::output::write_all;
+use command_words::{ListenSettings, Refusal, ReplaySettings, Task, settings};
 use feed_text::replay::ReplayConfig;
-use feed_text::standard_error::write_stderr;
+use feed_text::{CaptureIn, ReplayFault, TextOut, write_all, write_stderr};
 use replay_run::replay;
 use std::alloc::Global;
 

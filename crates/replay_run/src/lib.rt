@@ -26,9 +26,8 @@ ghost use Rattle.replay_run.specs.Printed.{AreLinesOfRun, AreLinesOfRunToFull, I
 
 mod lines;
 
-use feed_text::devices::{CaptureIn, TextOut};
-use feed_text::fault::ReplayFault;
 use feed_text::replay::ReplayConfig;
+use feed_text::{CaptureIn, ReplayFault, TextOut};
 pub use lines::replay_lines;
 use std::alloc::Global;
 

@@ -6,8 +6,8 @@ ghost use Rattle.line_captures.specs.Lists.{AreOfVenues};
 ghost use Rattle.replay_run.specs.LineReplays.{ReplaysLines};
 
 use crate::replay;
-use feed_text::devices::{CaptureIn, TextOut};
 use feed_text::replay::ReplayConfig;
+use feed_text::{CaptureIn, TextOut};
 use line_captures::{CaptureReport, CapturedLine, LineBuffers, LinesIn};
 use std::alloc::Global;
 

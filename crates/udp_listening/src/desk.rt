@@ -4,9 +4,7 @@ ghost use Rattle.feed_types.specs.Prefix.{IsPrefix};
 ghost use Rattle.udp_listening.specs.Listening.{HasFollowed, HasPrinted, log_lines};
 
 use crate::summary::{put_log, unprinted};
-use feed_text::devices::TextOut;
-use feed_text::output::write_all;
-use feed_text::page::LineBuffer;
+use feed_text::{LineBuffer, TextOut, write_all};
 use live_feed::{FeedName, Logged, SubscriberLog};
 use std::sync::Wait;
 

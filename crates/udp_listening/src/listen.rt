@@ -11,9 +11,7 @@ use crate::listening::{ListenFault, ListenReport, ListenTask, Listened, config_o
 use crate::sources::sources_over;
 use crate::summary::summary_of;
 use command_words::ListenSettings;
-use feed_text::devices::TextOut;
-use feed_text::output::write_all;
-use feed_text::standard_error::write_stderr;
+use feed_text::{TextOut, write_all, write_stderr};
 use feed_types::{Anything, LineId, VenueId};
 use filter_terms::Terms;
 use live_feed::{LiveFeed, Stop};

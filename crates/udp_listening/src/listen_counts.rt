@@ -2,8 +2,7 @@
 
 use crate::counts_text::{period_text, table_text};
 use crate::live_counts::VenueCounts;
-use feed_text::devices::TextOut;
-use feed_text::standard_error::write_stderr;
+use feed_text::{TextOut, write_stderr};
 use live_feed::VenueStatus;
 use std::alloc::{AllocError, Global};
 

@@ -6,8 +6,7 @@ ghost use Rattle.udp_listening.specs.Listening.{failed_tail, failed_texts, lack_
 
 use crate::lack::Lack;
 use crate::listening::ListenReport;
-use feed_text::devices::TextOut;
-use feed_text::standard_error::{write_number, write_stderr};
+use feed_text::{TextOut, write_number, write_stderr};
 use feed_types::{LineId, VenueId};
 use live_feed::Stop;
 

@@ -10,7 +10,7 @@ use crate::lack::{Lack, lacks_in};
 use crate::sources::line_at;
 use crate::udp_line::UdpLine;
 use command_words::ListenSettings;
-use feed_text::devices::TextOut;
+use feed_text::TextOut;
 use feed_types::{Anything, FeedConfig, LineId, MAX_VENUES, VenueId};
 use filter_terms::{Filter, Strategy, Terms};
 use live_feed::{FeedName, Line, LineSource, LiveFeed, SettleFault, Settlement, Shareable, Stop};

@@ -3,8 +3,7 @@ ghost use Rattle.std.specs.Prelude.{◌≡◌, ◌++◌, ◌<◌, drop, flat_map
 ghost use Rattle.feed_text.specs.Lines.{best_line};
 ghost use Rattle.udp_listening.specs.Listening.{end_line, end_lines, subscriber_lines, summary_text};
 
-use feed_text::lines::{put_best, put_venue};
-use feed_text::page::LineBuffer;
+use feed_text::{LineBuffer, put_best, put_venue};
 use feed_types::{LineId, Notice, SubscriberId, VenueId};
 use live_feed::{Logged, Settlement};
 use std::alloc::{AllocError, Global};
