@@ -1,5 +1,5 @@
 -- A packet that needed no place in the window, and its items emitted one after the other.
-use Rattle.std.proofs.Common.{◌≡◌, ℕ, ◌+◌, List, [], ◌∷◌, ◌++◌, length, sym, ap, subst, ◌∙◌}
+use Rattle.std.proofs.Common.{◌≡◌, ℕ, ◌+◌, List, [], ◌∷◌, ◌++◌, sym, ap, subst, ◌∙◌}
 use Rattle.std.specs.Prelude.{drop, map, Result, Ok, Err, OnOk}
 use Rattle.std.proofs.lemmas.List.{map-append}
 use Rattle.feed_types.specs.declared.item.Numbered.{Numbered}
@@ -12,18 +12,17 @@ use Rattle.line_arbiter.specs.Packets.{Arrival, arrival_of}
 use Rattle.line_arbiter.specs.Streams.{stream_of}
 use Rattle.line_arbiter.specs.Histories.{History}
 use Rattle.line_arbiter.specs.Outcomes.{IsOutcome}
-use Rattle.line_arbiter.specs.States.{State, KeepsItsPlace, KeepsItsSession, KeepsAllButSent}
+use Rattle.line_arbiter.specs.States.{State, KeepsItsPlace, KeepsItsSession}
 use Rattle.line_arbiter.specs.declared.in_order.InOrder.{InOrder}
 use Rattle.line_arbiter.specs.declared.in_order.InOrder.TheVariants.{Next, Repeat}
 use Rattle.line_arbiter.specs.InOrder.{SendsInOrder, SendsPacket, sent_in_order}
 use Rattle.line_arbiter.specs.Fits.{Fits}
-use Rattle.line_arbiter.specs.laws.FitsHistory.{keeps_sent}
 use Rattle.feed_text.specs.declared.report.PublishStop.{PublishStop}
 use Rattle.feed_text.specs.ReplayEvents.{ReplayEvent, packet_answered, item_taken}
 use Rattle.feed_text.specs.ReplayStates.{ReplayState, GoesOn, EmitsInto}
-use Rattle.feed_text.specs.Following.{ReplayVenue, Follows, EmitsOutcome}
+use Rattle.feed_text.specs.Following.{ReplayVenue, Follows, SendsReady, EmitsOutcome}
 use Rattle.feed_text.proofs.Tales.{goes_more, tells_more, tells_stop, tells_as}
-use Rattle.feed_text.proofs.VenueSteps.{Left, outcome_told}
+use Rattle.feed_text.proofs.VenueSteps.{left_ready, outcome_told}
 
 -- the items of a packet from this number on, one by one
 pub one_more : (venue n k : ℕ) (m : List ℕ) (now rest : List (List ℕ)) → n + 1 ≡ k → now ≡ m ∷ rest
@@ -88,20 +87,10 @@ pub passed_told : (width place : ℕ) (h : History) (v : ReplayVenue) (mid new :
     → KeepsItsSession v.arbiter mid
     → ((from : ℕ) (packets : List Arrival) → Fits mid packets → SendsPacket from mid.sent p packets
     → EmitsInto t0 (packet_answered place line (Ok o) ∷ map (item_taken place) (drop from (stream_of packets))) t1 done)
-    → OnOk done ((packets : List Arrival) → Fits mid packets → Fits new packets × (new.sent ≡ length (stream_of packets)))
-    → OnOk done (KeepsAllButSent mid new)
+    → OnOk done (SendsReady mid new)
     → EmitsOutcome width place line p h t0 t1 (record { arbiter = new; sent_before = v.sent_before }) done
-passed_told width place h v mid new line p o t0 t1 done f outcome fits sends kept emits left stays =
+passed_told width place h v mid new line p o t0 t1 done f outcome fits sends kept emits ready =
     let Q = h.present.packets ++ arrival_of line p (Ok o) ∷ [] in
     outcome_told width place h v new line p (Ok o) t0 t1 done f (outcome h.present.packets f.history.present)
     (emits v.arbiter.sent Q (fits h.present.packets f.history.present) (sends h.present.packets f.history.present))
-    (both done left stays)
-  where
-    both : (r : Result (Unit {0}) PublishStop)
-        → OnOk r ((packets : List Arrival) → Fits mid packets → Fits new packets × (new.sent ≡ length (stream_of packets)))
-        → OnOk r (KeepsAllButSent mid new)
-        → OnOk r (Left v (h.present.packets ++ arrival_of line p (Ok o) ∷ []) new)
-    both (Ok u) a b =
-        let x = a (h.present.packets ++ arrival_of line p (Ok o) ∷ []) (fits h.present.packets f.history.present) in
-        record { fits = x.0; sent = x.1; stays = keeps_sent kept b }
-    both (Err e) a b = tt
+    (left_ready v Q mid new done (fits h.present.packets f.history.present) kept ready)

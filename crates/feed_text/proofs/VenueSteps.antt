@@ -1,8 +1,7 @@
 -- What a venue's steps leave, in terms of plain states.
-use Rattle.std.proofs.Common.{◌≡◌, ℕ, ◌+◌, Bool, true, false, List, [], ◌∷◌, ◌++◌, length, refl, sym, ap, subst, ◌∙◌, append-nil, arith, length-append, inl, inr}
-use Rattle.std.specs.Prelude.{Option, Result, Ok, Err, OnOk, drop, map}
+use Rattle.std.proofs.Common.{◌≡◌, ℕ, ◌+◌, Bool, true, false, List, [], ◌∷◌, ◌++◌, length, refl, sym, ap, subst, ◌∙◌, append-nil, length-append, inl, inr}
+use Rattle.std.specs.Prelude.{Result, Ok, Err, OnOk, drop, map}
 use Rattle.std.proofs.lemmas.Result.{on_ok_weaker}
-use Rattle.feed_types.specs.declared.item.Numbered.{Numbered}
 use Rattle.feed_types.specs.declared.line.LineId.{LineId}
 use Rattle.feed_types.specs.declared.line.LineId.TheVariants.{A, B, Recovery}
 use Rattle.mold_packet.specs.declared.fault.PacketFault.{PacketFault}
@@ -12,7 +11,7 @@ use Rattle.line_arbiter.specs.declared.outcome.Outcome.{Outcome}
 use Rattle.line_arbiter.specs.declared.outcome.LineFault.{LineFault}
 use Rattle.line_arbiter.specs.declared.faults.RenewFault.{RenewFault}
 use Rattle.line_arbiter.specs.Packets.{Arrival, arrival_of, end_of}
-use Rattle.line_arbiter.specs.Streams.{stream_of, gap_of, wins_of}
+use Rattle.line_arbiter.specs.Streams.{stream_of, gap_of}
 use Rattle.line_arbiter.specs.Histories.{History, after_arrival, all_begun, history_after, items_of, names_of, new_history, streams_of, wins_in}
 use Rattle.line_arbiter.specs.Outcomes.{IsOutcome}
 use Rattle.line_arbiter.specs.Renewals.{IsRenewal}
@@ -28,7 +27,7 @@ use Rattle.feed_text.specs.ReplayEvents.{ReplayEvent, packet_answered, packet_re
 use Rattle.feed_text.specs.Emitted.{stream_length, items_emitted, gap_event, gap_emitted, EmitsAt}
 use Rattle.feed_text.specs.Texts.{last_line}
 use Rattle.feed_text.specs.ReplayStates.{ReplayState, EmitsInto}
-use Rattle.feed_text.specs.Following.{ReplayVenue, Follows, EmitsOutcome, EmitsOne, Renews}
+use Rattle.feed_text.specs.Following.{ReplayVenue, Follows, SendsReady, EmitsOutcome, EmitsOne, Renews}
 use Rattle.feed_text.proofs.Tales.{tells_more, tells_stop, tells_as}
 
 -- nothing was sent yet
@@ -170,6 +169,14 @@ pub record Left (v : ReplayVenue) (Q : List Arrival) (new : State) : Type 0 wher
   pub sent : new.sent ≡ length (stream_of Q)
   pub stays : KeepsItsSession v.arbiter new
 
+-- all that the packet made ready was sent
+pub left_ready : (v : ReplayVenue) (Q : List Arrival) (mid new : State) (done : Result (Unit {0}) PublishStop)
+    → Fits mid Q → KeepsItsSession v.arbiter mid → OnOk done (SendsReady mid new) → OnOk done (Left v Q new)
+left_ready v Q mid new done fits kept sends =
+    let left : SendsReady mid new → Left v Q new = λ s.
+    record { fits = (s.fits Q fits).0; sent = (s.fits Q fits).1; stays = keeps_sent kept s.kept } in
+    on_ok_weaker done left sends
+
 left_follows : (width place : ℕ) (h : History) (v : ReplayVenue) (new : State) (a : Arrival)
     → Follows width place v h → Left v (h.present.packets ++ a ∷ []) new
     → Follows width place (record { arbiter = new; sent_before = v.sent_before }) (after_arrival h a)
@@ -204,24 +211,14 @@ pub answered_told : (width place : ℕ) (h : History) (v : ReplayVenue) (mid new
     → ((packets : List Arrival) → Fits v.arbiter packets → Fits mid (packets ++ arrival_of line p answer ∷ []))
     → KeepsItsPlace v.arbiter mid
     → ((packets : List Arrival) → Fits mid packets → EmitsInto t0 (packet_answered place line answer ∷ map (item_taken place) (drop mid.sent (stream_of packets))) t1 done)
-    → OnOk done ((packets : List Arrival) → Fits mid packets → Fits new packets × (new.sent ≡ length (stream_of packets)))
-    → OnOk done (KeepsAllButSent mid new)
+    → OnOk done (SendsReady mid new)
     → EmitsOutcome width place line p h t0 t1 (record { arbiter = new; sent_before = v.sent_before }) done
-answered_told width place h v mid new line p answer t0 t1 done f outcome fits kept emits left stays =
+answered_told width place h v mid new line p answer t0 t1 done f outcome fits kept emits sends =
     let Q = h.present.packets ++ arrival_of line p answer ∷ [] in
     outcome_told width place h v new line p answer t0 t1 done f (outcome h.present.packets f.history.present)
     (tells_as t0 t1 done (ap (λ (n : ℕ). packet_answered place line answer ∷ map (item_taken place) (drop n (stream_of Q))) kept.sent)
     (emits Q (fits h.present.packets f.history.present)))
-    (both done left stays)
-  where
-    both : (r : Result (Unit {0}) PublishStop)
-        → OnOk r ((packets : List Arrival) → Fits mid packets → Fits new packets × (new.sent ≡ length (stream_of packets)))
-        → OnOk r (KeepsAllButSent mid new)
-        → OnOk r (Left v (h.present.packets ++ arrival_of line p answer ∷ []) new)
-    both (Ok u) a b =
-        let x = a (h.present.packets ++ arrival_of line p answer ∷ []) (fits h.present.packets f.history.present) in
-        record { fits = x.0; sent = x.1; stays = keeps_sent (keeps_session kept) b }
-    both (Err e) a b = tt
+    (left_ready v Q mid new done (fits h.present.packets f.history.present) (keeps_session kept) sends)
 
 -- the next session began
 pub renewed_follows : (width place : ℕ) (h : History) (v : ReplayVenue) (new : State) (name : List ℕ) (ordinal sent : ℕ)

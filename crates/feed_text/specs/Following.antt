@@ -40,15 +40,18 @@ pub record Follows (width place : ℕ) (v : ReplayVenue) (h : History) : Type 0 
   pub sent : v.arbiter.sent ≡ stream_length h
   pub sent_before : v.sent_before ≡ shown (length (items_of h.earlier))
 
+-- All that is ready was sent, and the rest is kept.
+pub record SendsReady (from to : State) : Type 0 where
+  pub fits : (P : List Arrival) → Fits from P → Fits to P × (to.sent ≡ length (stream_of P))
+  pub kept : KeepsAllButSent from to
+
 -- The items that are ready were taken, each once and in sequence. Where all of them were, the
 -- arbiter has sent them, and keeps the rest.
 pub record TakesReady (venue : ℕ) (from to : State) (old new : ReplayState)
     (done : Result (Unit {0}) PublishStop) : Type 0 where
   pub emits : (P : List Arrival) → Fits from P
       → EmitsInto old (map (item_taken venue) (drop from.sent (stream_of P))) new done
-  pub fits : OnOk done ((P : List Arrival) → Fits from P
-      → Fits to P × (to.sent ≡ length (stream_of P)))
-  pub kept : OnOk done (KeepsAllButSent from to)
+  pub sent : OnOk done (SendsReady from to)
 
 -- A packet's answer and then the items that it made ready were emitted. Where all of them were, the
 -- venue follows the history with this packet.

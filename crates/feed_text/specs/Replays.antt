@@ -1,11 +1,23 @@
 -- The results of a replay.
 use Rattle.std.specs.Prelude.{◌≡◌, ◌⊎◌, ⊤, ℕ, ◌+◌, ◌≤◌, List, [], length, All, Result, Ok, Err}
+use Rattle.std.specs.List.{IsDistinct}
+use Rattle.std.specs.Str.{bytes_eq}
 use Rattle.feed_text.specs.declared.fault.ReplayFault.{ReplayFault}
 use Rattle.feed_text.specs.declared.fault.ReplayFault.TheVariants.{ReadFailed, WriteFailed, BadRecord, ShortRecord, TooManyTurns, JournalFull, NoMemory}
 use Rattle.feed_text.specs.declared.replay.ReplayConfig.{ReplayConfig}
 use Rattle.feed_text.specs.Capture.{CaptureRecord, IsRecord, IsBadRecord, IsShort, IsUnfinished, capture_of}
 use Rattle.feed_text.specs.Devices.{Reading, Writing, Wrote}
 use Rattle.feed_text.specs.Texts.{IsLinesOf, IsTextOf, IsLinesToFull}
+
+-- What a replay asks of its settings: 1 to 16 sessions, a window of 1 to 65,535, and at most 4,096
+-- symbols, each once.
+pub record CanReplay (config : ReplayConfig) : Type 0 where
+  pub some : 1 ≤ length config.sessions.now
+  pub few : length config.sessions.now ≤ 16
+  pub least : 1 ≤ config.window
+  pub most : config.window ≤ 65535
+  pub symbols : length config.symbols.now ≤ 4096
+  pub distinct : IsDistinct bytes_eq config.symbols.now
 
 -- the number of venues
 abbrev pub venues_in : ReplayConfig → ℕ

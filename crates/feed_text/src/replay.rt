@@ -4,7 +4,7 @@ ghost use Rattle.std.specs.List.{IsDistinct};
 ghost use Rattle.std.specs.Str.{bytes_eq};
 ghost use Rattle.journal_book.specs.Streaming.{new_streaming};
 ghost use Rattle.feed_text.specs.Following.{Closes, Stops, fault_by, left_by};
-ghost use Rattle.feed_text.specs.Replays.{Replays};
+ghost use Rattle.feed_text.specs.Replays.{CanReplay, Replays};
 
 use crate::capture::{Parse, parse_record};
 use crate::devices::{CaptureIn, TextOut};
@@ -119,12 +119,7 @@ pub fn replay<R: CaptureIn, W: TextOut>(
     reader: &mut R,
     writer: &mut W,
 ) -> Result<(), ReplayFault>
-    requires some { 1 ≤ length config.now.sessions.now }
-    requires few { length config.now.sessions.now ≤ 16 }
-    requires least { 1 ≤ config.now.window }
-    requires most { config.now.window ≤ 65535 }
-    requires symbols { length config.now.symbols.now ≤ 4096 }
-    requires distinct { IsDistinct bytes_eq config.now.symbols.now }
+    requires { CanReplay config.now }
     ensures { Replays
         (record { gives = R.gives; ends = R.ends; failures = R.failures; fails = R.fails })
         (record { adds = W.adds; failures = W.failures })

@@ -6,7 +6,6 @@ ghost use Rattle.line_arbiter.specs.InOrder.{SendsPacket};
 ghost use Rattle.line_arbiter.specs.Packets.{Arrival};
 ghost use Rattle.line_arbiter.specs.Streams.{gap_of, stream_of};
 ghost use Rattle.line_arbiter.specs.Counts.{shown};
-ghost use Rattle.line_arbiter.specs.States.{KeepsAllButSent};
 ghost use Rattle.line_arbiter.specs.Fits.{Fits};
 ghost use Rattle.line_arbiter.specs.Histories.{History, new_history, streams_of};
 ghost use Rattle.feed_text.specs.Capture.{datagram_record, renewal_record};
@@ -14,7 +13,7 @@ ghost use Rattle.feed_text.specs.ReplayEvents.{item_taken, packet_answered};
 ghost use Rattle.feed_text.specs.Emitted.{gap_event};
 ghost use Rattle.feed_text.specs.Texts.{last_line};
 ghost use Rattle.feed_text.specs.ReplayStates.{EmitsInto, state_of_replay};
-ghost use Rattle.feed_text.specs.Following.{Follows, TakesReady, PublishesPacket, EmitsOne, Renews};
+ghost use Rattle.feed_text.specs.Following.{Follows, SendsReady, TakesReady, PublishesPacket, EmitsOne, Renews};
 
 use crate::lines::{put_fault, put_gap, put_packet, put_renewal, put_venue};
 use crate::page::LineBuffer;
@@ -153,9 +152,7 @@ fn take_next(
         (packet_answered venue line (Ok outcome)
         ∷ map (item_taken venue) (drop from (stream_of packets)))
         (state_of_replay report.new) result }
-    ensures fits { OnOk result ((packets : List Arrival) → Fits arbiter.old packets
-        → Fits arbiter.new packets × (arbiter.new.sent ≡ length (stream_of packets))) }
-    ensures kept { OnOk result (KeepsAllButSent arbiter.old arbiter.new) }
+    ensures sent { OnOk result (SendsReady arbiter.old arbiter.new) }
 {
     put_packet(&mut report.text, venue, line, &Ok(outcome))?;
     publish_messages(venue, packet, report)?;
@@ -177,9 +174,7 @@ fn publish_answer(
         (packet_answered venue line answer.now
         ∷ map (item_taken venue) (drop arbiter.old.sent (stream_of packets)))
         (state_of_replay report.new) result }
-    ensures fits { OnOk result ((packets : List Arrival) → Fits arbiter.old packets
-        → Fits arbiter.new packets × (arbiter.new.sent ≡ length (stream_of packets))) }
-    ensures kept { OnOk result (KeepsAllButSent arbiter.old arbiter.new) }
+    ensures sent { OnOk result (SendsReady arbiter.old arbiter.new) }
 {
     put_packet(&mut report.text, venue, line, answer)?;
     publish_ready(arbiter, venue, report)

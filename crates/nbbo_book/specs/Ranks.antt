@@ -1,5 +1,5 @@
 -- The ranks of one side of a symbol, best first. Cited by private clauses alone.
-use Rattle.std.specs.Prelude.{◌≡◌, ℕ, ◌<◌, ◌≤◌, ◌+◌, ◌⊎◌, ◌↔◌, nat_lt, ◌==◌, Bool, false, true, List, [], ◌∷◌, length, slice_index_or, Option, Some, None, ⊤, if◌then◌else◌}
+use Rattle.std.specs.Prelude.{◌≡◌, ℕ, ◌<◌, ◌≤◌, ◌+◌, ◌⊎◌, ◌↔◌, nat_lt, ◌==◌, Bool, false, true, List, [], ◌∷◌, length, slice_index_or, slice_set, Option, Some, None, ⊤, if◌then◌else◌}
 use Rattle.std.specs.List.{AllByRecursion}
 use Rattle.feed_types.specs.declared.line.Side.{Side}
 use Rattle.feed_types.specs.declared.national.Best.{Best}
@@ -89,6 +89,14 @@ abbrev pub AreNoted : List ℕ → List Best → Type 0
 AreNoted places ranks =
     (k : ℕ) (x : Best) → k < length ranks
     → slice_index_or places (slice_index_or ranks k x).venue 16 ≡ k
+
+-- What code asks before x moves to its rank from this place: with x at it, the places are noted.
+pub record CanMove
+    (places : List ℕ) (ranks : List Best) (from : ℕ) (x : Best) : Type 0 where
+  pub below : from < length ranks
+  pub few : length ranks ≤ 16
+  pub venue : x.venue < 16
+  pub noted : AreNoted places (slice_set ranks from x)
 
 -- the ranks are what the venues are ranked with, best first
 pub record IsRankingOf

@@ -4,7 +4,7 @@ ghost use Rattle.std.specs.Prelude.{◌≡◌, ℕ, ◌+◌, ◌<◌, ◌≤◌,
 ghost use Rattle.nbbo_book.specs.Changes.{is_same_best};
 ghost use Rattle.nbbo_book.specs.Nationals.{is_better as is_better_side, beats as beats_side};
 ghost use Rattle.nbbo_book.specs.VenueSides.{age_at};
-ghost use Rattle.nbbo_book.specs.Ranks.{is_ahead as is_ahead_side, ages_in, AreNoted, CanUpdate, HasNone, IsPlace, without, with_rank, placed, best_of_ranks};
+ghost use Rattle.nbbo_book.specs.Ranks.{is_ahead as is_ahead_side, ages_in, AreNoted, CanMove, CanUpdate, HasNone, IsPlace, without, with_rank, placed, best_of_ranks};
 
 use crate::venue_side::{VenueSide, venue_side_at};
 use arrayvec::ArrayVec;
@@ -96,10 +96,7 @@ fn rise(
     from: usize,
     x: &Best,
 ) -> usize
-    requires below { from < length ranks.old }
-    requires few { length ranks.old ≤ 16 }
-    requires venue { x.now.venue < 16 }
-    requires noted { AreNoted places.old (slice_set ranks.old from x.now) }
+    requires { CanMove places.old ranks.old from x.now }
     ensures noted { AreNoted (slice_set places.new x.now.venue result)
         (slice_set ranks.new result x.now) }
     ensures moved { slice_set ranks.new result x.now ≡ insert (remove ranks.old from) result x.now }
@@ -132,11 +129,7 @@ fn fall(
     from: usize,
     x: &Best,
 ) -> usize
-    requires below { from < length ranks.old }
-    requires few { length ranks.old ≤ 16 }
-    requires venue { x.now.venue < 16 }
-    requires noted { AreNoted (slice_set places.old x.now.venue from)
-        (slice_set ranks.old from x.now) }
+    requires ready { CanMove (slice_set places.old x.now.venue from) ranks.old from x.now }
     requires stopped { (k : ℕ) → from ≡ k + 1 → is_ahead_side order.now x.now
         (slice_index_or (remove ranks.old from) k x.now) ≡ false }
     ensures moved { slice_set ranks.new result x.now ≡ insert (remove ranks.old from) result x.now }
@@ -168,10 +161,7 @@ fn settle(
     from: usize,
     x: &Best,
 ) -> usize
-    requires below { from < length ranks.old }
-    requires few { length ranks.old ≤ 16 }
-    requires venue { x.now.venue < 16 }
-    requires noted { AreNoted places.old (slice_set ranks.old from x.now) }
+    requires { CanMove places.old ranks.old from x.now }
     ensures ranks { ranks.new ≡ insert (remove ranks.old from) result x.now }
     ensures place { IsPlace order.now x.now (remove ranks.old from) result }
     ensures noted { AreNoted places.new ranks.new }

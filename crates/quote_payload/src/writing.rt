@@ -1,13 +1,11 @@
 //! The writing of a message.
 
-ghost use Rattle.std.specs.Prelude.{◌≡◌, ◌+◌, ◌≤◌, ◌↔◌, IsTrue, ◌++◌, if◌then◌else◌, length, take};
+ghost use Rattle.std.specs.Prelude.{◌≡◌, ◌+◌, ◌^◌, ◌<◌, ◌≤◌, ◌↔◌, IsTrue, ◌++◌, if◌then◌else◌, length, take};
+ghost use Rattle.feed_types.specs.Symbols.{is_symbol_field};
 ghost use Rattle.quote_payload.specs.Payload.{item_of};
-ghost use Rattle.quote_payload.specs.Written.{FitsVersion1, flags_of, version1_bytes, version2_bytes, halt_bytes};
+ghost use Rattle.quote_payload.specs.Written.{FitsVersion1, flags_of, quote_bytes, version1_bytes, version2_bytes, halt_bytes};
 
-use crate::form::{
-    BID_AUTO, HALT, HALT_LEN, HALTED, OFFER_AUTO, TRADING, VERSION_1, VERSION_1_LEN, VERSION_2,
-    VERSION_2_LEN,
-};
+use crate::form::{BID_AUTO, HALT, HALT_LEN, HALTED, OFFER_AUTO, TRADING, VERSION_1, VERSION_2};
 use feed_types::{Item, Quote, SymbolName};
 
 /// Puts a field after the fields that were written before it.
@@ -33,6 +31,38 @@ pub fn fits_v1(quote: &Quote) -> bool
     quote.bid_size <= u32::MAX.into() && quote.offer_size <= u32::MAX.into()
 }
 
+/// A quotation as a message of `LEN` bytes, with its sizes in `N` bytes each.
+#[inline(always)]
+fn message_of<const N: usize, const LEN: usize>(
+    version: u8,
+    quote: &Quote,
+    bid_size: [u8; N],
+    offer_size: [u8; N],
+) -> [u8; LEN]
+    requires { LEN ≡ 18 + N + N }
+    ensures bytes { result ≡ quote_bytes version quote.now bid_size.entry offer_size.entry }
+    ensures symbol { IsTrue (is_symbol_field quote.now.symbol) }
+    ensures bid { quote.now.bid_price < 2 ^ 32 }
+    ensures offer { quote.now.offer_price < 2 ^ 32 }
+{
+    let Quote {
+        symbol,
+        bid_price,
+        offer_price,
+        ..
+    } = *quote;
+    let offer = 13 + N;
+    let mut message = [0; LEN];
+    put(&mut message, 0, [version]);
+    put(&mut message, 1, symbol.field());
+    put(&mut message, 9, bid_price.to_be_bytes());
+    put(&mut message, 13, bid_size);
+    put(&mut message, offer, offer_price.to_be_bytes());
+    put(&mut message, offer + 4, offer_size);
+    put(&mut message, offer + 4 + N, [flags(quote)]);
+    message
+}
+
 /// A quotation as a message of version 1, whose sizes have 32 bits: [`fits_v1`] says whether it can
 /// be one.
 ///
@@ -42,23 +72,9 @@ pub fn write_quote(quote: &Quote) -> [u8; 26]
     ensures bytes { result ≡ version1_bytes quote.now }
     ensures item { item_of result ≡ Item.Quote quote.now }
 {
-    let Quote {
-        symbol,
-        bid_price,
-        bid_size,
-        offer_price,
-        offer_size,
-        ..
-    } = *quote;
-    let mut message = [0; VERSION_1_LEN];
-    put(&mut message, 0, [VERSION_1]);
-    put(&mut message, 1, symbol.field());
-    put(&mut message, 9, bid_price.to_be_bytes());
-    put(&mut message, 13, (bid_size as u32).to_be_bytes());
-    put(&mut message, 17, offer_price.to_be_bytes());
-    put(&mut message, 21, (offer_size as u32).to_be_bytes());
-    put(&mut message, 25, [flags(quote)]);
-    message
+    let bid_size = (quote.bid_size as u32).to_be_bytes();
+    let offer_size = (quote.offer_size as u32).to_be_bytes();
+    message_of(VERSION_1, quote, bid_size, offer_size)
 }
 
 /// A quotation as a message of version 2, whose sizes have 64 bits, so that it can carry every
@@ -69,23 +85,9 @@ pub fn write_quote2(quote: &Quote) -> [u8; 34]
     ensures bytes { result ≡ version2_bytes quote.now }
     ensures item { item_of result ≡ Item.Quote quote.now }
 {
-    let Quote {
-        symbol,
-        bid_price,
-        bid_size,
-        offer_price,
-        offer_size,
-        ..
-    } = *quote;
-    let mut message = [0; VERSION_2_LEN];
-    put(&mut message, 0, [VERSION_2]);
-    put(&mut message, 1, symbol.field());
-    put(&mut message, 9, bid_price.to_be_bytes());
-    put(&mut message, 13, bid_size.to_be_bytes());
-    put(&mut message, 21, offer_price.to_be_bytes());
-    put(&mut message, 25, offer_size.to_be_bytes());
-    put(&mut message, 33, [flags(quote)]);
-    message
+    let bid_size = quote.bid_size.to_be_bytes();
+    let offer_size = quote.offer_size.to_be_bytes();
+    message_of(VERSION_2, quote, bid_size, offer_size)
 }
 
 fn state(halted: bool) -> u8

@@ -9,8 +9,7 @@
 #![tactic(auto)]
 
 ghost use Rattle.std.specs.Prelude.{◌≡◌, ◌<◌, ◌≤◌, ◌+◌, ◌^◌, ℕ, List, Some, length, slice_get};
-ghost use Rattle.std.specs.List.{AllByRecursion, IsDistinct};
-ghost use Rattle.std.specs.Str.{bytes_eq};
+ghost use Rattle.std.specs.List.{AllByRecursion};
 ghost use Rattle.mold_packet.specs.Block.{IsMessage};
 ghost use Rattle.line_arbiter.specs.Histories.{History};
 ghost use Rattle.filter_terms.specs.declared.terms.Terms.{Terms};
@@ -19,7 +18,7 @@ ghost use Rattle.feed_text.specs.declared.replay.ReplayConfig.{ReplayConfig};
 ghost use Rattle.feed_text.specs.Capture.{CaptureRecord};
 ghost use Rattle.feed_text.specs.ReplayEvents.{ReplayEvent};
 ghost use Rattle.feed_text.specs.Texts.{EmitsAll, HasJournalRoom, IsLinesOf, IsLinesToFull, IsTextOf};
-ghost use Rattle.feed_text.specs.Replays.{Replays, AnswersReplay};
+ghost use Rattle.feed_text.specs.Replays.{CanReplay, Replays, AnswersReplay};
 ghost use Rattle.replay_run.specs.Events.{IsReplayRun, replay_setting};
 ghost use Rattle.replay_run.specs.Moving.{ComesThrough, session_of};
 ghost use Rattle.replay_run.specs.Printed.{AreLinesOfRun, AreLinesOfRunToFull, IsTextOfRun, texts_of_run};
@@ -73,12 +72,7 @@ pub fn replay<R: CaptureIn, W: TextOut>(
     reader: &mut R,
     writer: &mut W,
 ) -> Result<(), ReplayFault>
-    requires some { 1 ≤ length config.now.sessions.now }
-    requires few { length config.now.sessions.now ≤ 16 }
-    requires least { 1 ≤ config.now.window }
-    requires most { config.now.window ≤ 65535 }
-    requires symbols { length config.now.symbols.now ≤ 4096 }
-    requires distinct { IsDistinct bytes_eq config.now.symbols.now }
+    requires { CanReplay config.now }
     ensures replays { Replays
         (record { gives = R.gives; ends = R.ends; failures = R.failures; fails = R.fails })
         (record { adds = W.adds; failures = W.failures })

@@ -1,7 +1,6 @@
 //! The replay of a packet capture for lines.
-ghost use Rattle.std.specs.Prelude.{◌≤◌, length};
-ghost use Rattle.std.specs.List.{IsDistinct};
-ghost use Rattle.std.specs.Str.{bytes_eq};
+ghost use Rattle.std.specs.Prelude.{length};
+ghost use Rattle.feed_text.specs.Replays.{CanReplay};
 ghost use Rattle.line_captures.specs.Lists.{AreOfVenues};
 ghost use Rattle.replay_run.specs.LineReplays.{ReplaysLines};
 
@@ -24,12 +23,7 @@ pub fn replay_lines<R: CaptureIn + Drop, W: TextOut>(
     input: R,
     writer: &mut W,
 ) -> CaptureReport<R>
-    requires some { 1 ≤ length config.now.sessions.now }
-    requires few { length config.now.sessions.now ≤ 16 }
-    requires least { 1 ≤ config.now.window }
-    requires most { config.now.window ≤ 65535 }
-    requires symbols { length config.now.symbols.now ≤ 4096 }
-    requires distinct { IsDistinct bytes_eq config.now.symbols.now }
+    requires config { CanReplay config.now }
     requires venues { AreOfVenues (length config.now.sessions.now) lines.now }
     ensures { ReplaysLines
         (record { gives = R.gives; ends = R.ends; failures = R.failures; fails = R.fails })

@@ -34,13 +34,15 @@ returns c = record {
   emits = λ P f.
       let here = c.next_ready.ensures.stream P (c.loop-next.invariant.fits P f) in
       took_all (ap (map (item_taken c.args.venue)) (rest_end (stream_of P) c.loop-next.arbiter.sent (sym c.in_default.is ∙ here))) (c.loop-next.invariant.emitted P f);
-  fits = λ P f.
-      let fits = c.loop-next.invariant.fits P f in
-      let here = c.next_ready.ensures.stream P fits in
-      let most : length (stream_of P) ≤ c.loop-next.arbiter.sent = no_more (stream_of P) c.loop-next.arbiter.sent (sym c.in_default.is ∙ here) in
-      let least : c.loop-next.arbiter.sent ≤ length (stream_of P) = fits.sent in
-      (fits, omega arith);
-  kept = c.loop-next.invariant.kept;
+  sent = record {
+    fits = λ P f.
+        let fits = c.loop-next.invariant.fits P f in
+        let here = c.next_ready.ensures.stream P fits in
+        let most : length (stream_of P) ≤ c.loop-next.arbiter.sent = no_more (stream_of P) c.loop-next.arbiter.sent (sym c.in_default.is ∙ here) in
+        let least : c.loop-next.arbiter.sent ≤ length (stream_of P) = fits.sent in
+        (fits, omega arith);
+    kept = c.loop-next.invariant.kept;
+  };
 }
 
 pub returns-in_err-take_item : goal.returns-in_err-take_item
@@ -51,6 +53,5 @@ returns-in_err-take_item c =
           took_stop (state_of_replay c.take_item.new.self) (item_taken c.args.venue c.in-Some.next) _ c.in_err-take_item.field-0.0
           (ap (map (item_taken c.args.venue)) (rest_at (stream_of P) c.loop-next.arbiter.sent c.in-Some.next (c.in-Some.ensures.stream P (c.loop-next.invariant.fits P f))))
           (c.loop-next.invariant.emitted P f) c.in_err-take_item.ensures;
-      fits = tt;
-      kept = tt;
+      sent = tt;
     })

@@ -13,10 +13,12 @@ returns-in-None c = record {
   emits = λ P f.
       let here = c.next_ready.ensures.stream P f in
       took_all (ap (map (item_taken c.args.venue)) (rest_end (stream_of P) c.args.arbiter.now.sent (sym c.in-None.is ∙ here))) (took_none _ (state_of_replay c.args.report.now));
-  fits = λ P f.
-      let here = c.next_ready.ensures.stream P f in
-      let most : length (stream_of P) ≤ c.args.arbiter.now.sent = no_more (stream_of P) c.args.arbiter.now.sent (sym c.in-None.is ∙ here) in
-      let least : c.args.arbiter.now.sent ≤ length (stream_of P) = f.sent in
-      (f, omega arith);
-  kept = kept_none c.args.arbiter.now;
+  sent = record {
+    fits = λ P f.
+        let here = c.next_ready.ensures.stream P f in
+        let most : length (stream_of P) ≤ c.args.arbiter.now.sent = no_more (stream_of P) c.args.arbiter.now.sent (sym c.in-None.is ∙ here) in
+        let least : c.args.arbiter.now.sent ≤ length (stream_of P) = f.sent in
+        (f, omega arith);
+    kept = kept_none c.args.arbiter.now;
+  };
 }

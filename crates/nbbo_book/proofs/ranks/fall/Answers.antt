@@ -10,10 +10,10 @@ use Rattle.nbbo_book.proofs.ranks.fall.Goals as goal
 
 pub loop-at-init : goal.loop-at-init
 loop-at-init c = record {
-  within = omega (arith, length-remove c.args.ranks.now c.args.from c.requires.below, c.requires.below);
-  moved = set_in_place c.args.ranks.now c.args.from c.args.x.now c.requires.below;
+  within = omega (arith, length-remove c.args.ranks.now c.args.from c.requires.ready.below, c.requires.ready.below);
+  moved = set_in_place c.args.ranks.now c.args.from c.args.x.now c.requires.ready.below;
   stopped = c.requires.stopped;
-  noted = c.requires.noted;
+  noted = c.requires.ready.noted;
 }
 
 pub returns-then-is_ahead-clause-place : goal.returns-then-is_ahead-clause-place
@@ -59,7 +59,7 @@ loop-at-preserved c =
           (noted_past c.loop-at.places c.loop-at.ranks c.loop-at.at (c.loop-at.at + 1) c.args.x.now
           c.index-ranks-at-in-loop-at.result
           (omega arith) (omega arith) (λ e. (let no : c.loop-at.at ≡ c.loop-at.at + 1 = e in omega (arith, no)))
-          (omega (arith, c.requires.venue)) (omega (arith, own, c.index.ensures.in_range))
+          (omega (arith, c.requires.ready.venue)) (omega (arith, own, c.index.ensures.in_range))
           c.loop-at.invariant.noted c.index-ranks-at-in-loop-at.is);
     }
 

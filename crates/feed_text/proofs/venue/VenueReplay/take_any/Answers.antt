@@ -12,7 +12,7 @@ returns-in-Ok c = λ width h f.
     (state_of_replay c.args.report.now) (state_of_replay c.publish_answer.new.report) c.publish_answer.result
     (subst (λ (v : ReplayVenue). Follows width c.args.venue v h) (sym c.self.view_is) f)
     c.in-Ok.ensures.outcome c.in-Ok.ensures.fits c.in-Ok.ensures.kept
-    c.publish_answer.ensures.emits c.publish_answer.ensures.fits c.publish_answer.ensures.kept
+    c.publish_answer.ensures.emits c.publish_answer.ensures.sent
 
 pub returns-in-Err : goal.returns-in-Err
 returns-in-Err c = λ width h f.
@@ -22,4 +22,4 @@ returns-in-Err c = λ width h f.
     (state_of_replay c.args.report.now) (state_of_replay c.publish_answer-in-Err.new.report) c.publish_answer-in-Err.result
     (subst (λ (v : ReplayVenue). Follows width c.args.venue v h) (sym c.self.view_is) f)
     c.in-Err.ensures.outcome c.in-Err.ensures.fits c.in-Err.ensures.kept
-    c.publish_answer-in-Err.ensures.emits c.publish_answer-in-Err.ensures.fits c.publish_answer-in-Err.ensures.kept
+    c.publish_answer-in-Err.ensures.emits c.publish_answer-in-Err.ensures.sent

@@ -18,7 +18,7 @@ returns-in-Next c = λ width h f.
     c.take_in_order-outcome.ensures.outcome c.take_in_order-outcome.ensures.fits
     (λ packets fits. sends_next _ c.in-Next.last _ _ _ _ c.in-Next.is c.take_in_order-outcome.ensures.sent (c.take_in_order-outcome.ensures.items packets fits))
     c.take_in_order-outcome.ensures.kept
-    c.take_next.ensures.emits c.take_next.ensures.fits c.take_next.ensures.kept)
+    c.take_next.ensures.emits c.take_next.ensures.sent)
 
 pub returns-in-Repeat : goal.returns-in-Repeat
 returns-in-Repeat c = λ width h f.
@@ -29,4 +29,4 @@ returns-in-Repeat c = λ width h f.
     (subst (λ (v : ReplayVenue). Follows width c.args.venue v h) (sym c.self.view_is) f)
     c.take_in_order-outcome.ensures.outcome c.take_in_order-outcome.ensures.fits
     (stays_repeated _ c.in-Repeat.last _ _ c.in-Repeat.is c.take_in_order-outcome.ensures.sent c.take_in_order-outcome.ensures.kept)
-    c.publish_answer.ensures.emits c.publish_answer.ensures.fits c.publish_answer.ensures.kept
+    c.publish_answer.ensures.emits c.publish_answer.ensures.sent

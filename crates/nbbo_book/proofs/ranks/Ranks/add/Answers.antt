@@ -1,4 +1,4 @@
-use Rattle.std.proofs.Common.{ℕ, List, [], ◌∷◌, ◌++◌, ◌≡◌, ◌∙◌, refl, ap, sym, subst, arith, length, set}
+use Rattle.std.proofs.Common.{rules, ℕ, List, [], ◌∷◌, ◌++◌, ◌≡◌, ◌∙◌, refl, ap, sym, subst, arith, length, set}
 use Rattle.std.specs.List.{insert, remove}
 use Rattle.feed_types.specs.declared.national.Best.{Best}
 use Rattle.nbbo_book.specs.declared.ranks.Cause.{Cause}
@@ -32,20 +32,25 @@ returns-clause-ranks c =
     ∙ walked_here order.cause order.side ages x xs to place.within place.before place.at
     (subst (λ (t : List Best). InRank order.side ages t) c.requires.absent c.requires.ready.others) newest
 
-pub settle-requires-clause-noted : goal.settle-requires-clause-noted
-settle-requires-clause-noted c =
+pub settle-requires : goal.settle-requires
+settle-requires c =
     let x : Best = c.args.x in
     let P : List ℕ = c.self.inside.places in
     let xs : List Best = c.self.inside.best_first.items in
     let from : ℕ = c.len-from.result in
     let none : HasNone x.venue xs =
     subst (λ (t : List Best). HasNone x.venue t) (c.requires.absent ∙ sym c.self.view_is) c.requires.ready.once in
-    subst (λ (t : List Best). AreNoted (set P c.index.result from) t)
-    (sym (ap (λ (t : List Best). set t from x) (c.as_mut_slice-ranks.ensures.value ∙ c.push.ensures.items)
-    ∙ ap (λ (n : ℕ). set (xs ++ x ∷ []) n x) c.len-from.ensures.value ∙ set_the_end xs x))
-    (subst (λ (i : ℕ). AreNoted (set P i from) (xs ++ x ∷ [])) (sym c.index.ensures.value)
-    (subst (λ (n : ℕ). AreNoted (set P x.venue n) (xs ++ x ∷ [])) (sym c.len-from.ensures.value)
-    (noted_pushed P xs x (omega (arith, c.index.ensures.value, c.index.ensures.in_range)) none c.self.invariant)))
+    record {
+      below = search rules;
+      few = search rules;
+      venue = search rules;
+      noted = subst (λ (t : List Best). AreNoted (set P c.index.result from) t)
+          (sym (ap (λ (t : List Best). set t from x) (c.as_mut_slice-ranks.ensures.value ∙ c.push.ensures.items)
+          ∙ ap (λ (n : ℕ). set (xs ++ x ∷ []) n x) c.len-from.ensures.value ∙ set_the_end xs x))
+          (subst (λ (i : ℕ). AreNoted (set P i from) (xs ++ x ∷ [])) (sym c.index.ensures.value)
+          (subst (λ (n : ℕ). AreNoted (set P x.venue n) (xs ++ x ∷ [])) (sym c.len-from.ensures.value)
+          (noted_pushed P xs x (omega (arith, c.index.ensures.value, c.index.ensures.in_range)) none c.self.invariant)));
+    }
 
 pub invariant_of-self : goal.invariant_of-self
 invariant_of-self c =

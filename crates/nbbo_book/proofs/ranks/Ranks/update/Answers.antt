@@ -1,4 +1,4 @@
-use Rattle.std.proofs.Common.{ℕ, List, ◌≡◌, ◌<◌, ◌∙◌, ap, sym, subst, length, not, get_or, set}
+use Rattle.std.proofs.Common.{rules, ℕ, List, ◌≡◌, ◌<◌, ◌∙◌, ap, sym, subst, length, not, get_or, set}
 use Rattle.std.specs.List.{insert, remove}
 use Rattle.feed_types.specs.declared.national.Best.{Best}
 use Rattle.nbbo_book.specs.declared.ranks.Cause.{Cause}
@@ -89,8 +89,8 @@ returns-in-Rechecked-clause-ranks c =
     ∙ ap (λ (n : ℕ). with_rank order.side ages x (without n xs)) (sym own)
     ∙ ranked_stays order.side ages x xs cause.0 among cause.1)
 
-pub settle-to-requires-clause-noted : goal.settle-to-requires-clause-noted
-settle-to-requires-clause-noted c =
+pub settle-to-requires : goal.settle-to-requires
+settle-to-requires c =
     let x : Best = c.in-Some.x in
     let xs : List Best = c.self.inside.best_first.items in
     let from : ℕ = c.in-Some-place_of.from in
@@ -99,5 +99,11 @@ settle-to-requires-clause-noted c =
     let its : (get_or xs from x).venue ≡ x.venue =
     subst (λ (t : List Best). (get_or t from x).venue ≡ c.args.venue) c.as_slice.ensures.value
     (c.in-Some-place_of.ensures.own x) ∙ sym (c.requires.own x c.in-Some.is) in
-    subst (λ (t : List Best). AreNoted c.self.inside.places (set t from x)) (sym c.as_mut_slice-ranks.ensures.value)
-    (noted_in_place c.self.inside.places xs from x found its c.self.invariant)
+    record {
+      below = search rules;
+      few = search rules;
+      venue = search rules;
+      noted = subst (λ (t : List Best). AreNoted c.self.inside.places (set t from x))
+          (sym c.as_mut_slice-ranks.ensures.value)
+          (noted_in_place c.self.inside.places xs from x found its c.self.invariant);
+    }
