@@ -34,6 +34,7 @@ mod stats_runs;
 
 use command_words::{ListenSettings, Refusal};
 use feed_text::{CaptureIn, Count, StreamIn, StreamOut, TextOut, write_stderr};
+use filter_terms::Terms;
 use hints::{asks_for_packets, format_hint, hint_at_file};
 use kept_start::KeptStart;
 use run::{Next, refuse, run};
@@ -95,10 +96,10 @@ fn run_streams<H: Threads + Wait + Sync, C: Ledger, R: Ledger, W: Ledger, E: Led
     );
     let output: StreamOut<Stdout, W> = StreamOut::new(rt.stdout(), Count::new(of_writes));
     let mut errors: StreamOut<Stderr, E> = StreamOut::new(rt.stderr(), Count::new(of_errors));
-    let (next, output) = run_words(rt, KeptStart::new(input), output, &mut errors);
+    let (next, mut output) = run_words(rt, KeptStart::new(input), output, &mut errors);
     match next {
         Next::Ended(status) => status,
-        Next::Listens(settings) => listen_live(rt, threads, &settings, output, errors),
+        Next::Listens(settings) => { listen_live(rt, threads, &settings, &mut output, &mut errors) }
     }
 }
 
@@ -152,42 +153,35 @@ fn tell_sockets<E: TextOut>(
     Ok(())
 }
 
-/// Listens on the lines of the settings, and returns the status of the program.
-fn listen_live<H, W, E>(
+/// Listens on the lines of the settings.
+fn listen_live<H: Threads + Wait + Sync, W: TextOut, E: TextOut>(
     rt: &HostRuntime,
     threads: &H,
     settings: &ListenSettings,
-    output: W,
-    errors: E,
-) -> u8
-where
-    H: Threads + Wait + Sync,
-    W: TextOut + Drop + Send,
-    E: TextOut + Drop + Send,
-{
-    let mut errors = errors;
+    output: &mut W,
+    errors: &mut E,
+) -> u8 {
     let sockets = match bind_sockets(rt, rt.alloc(), settings.lines.as_slice()) {
         Ok(sockets) => sockets,
         Err(text) => {
-            write_stderr(text, &mut errors);
+            write_stderr(text, errors);
             return 1;
         }
     };
-    if tell_sockets(rt.alloc(), settings, sockets.as_slice(), &mut errors).is_err() {
-        write_stderr(NO_MEMORY, &mut errors);
+    if tell_sockets(rt.alloc(), settings, sockets.as_slice(), errors).is_err() {
+        write_stderr(NO_MEMORY, errors);
         return 1;
     }
-    let (status, _output, _errors) = listen_with(
+    listen_with(
         threads,
         rt,
         rt.alloc(),
         settings,
         sockets,
-        rt.stdin(),
+        Terms::All,
         output,
         errors,
-    );
-    status
+    )
 }
 
 fn main(rt: HostRuntime) -> ExitCode {

@@ -1,4 +1,2 @@
 pub mod Ends
-pub mod Following
 pub mod Seeing
-pub mod Wholes
