@@ -1,12 +1,16 @@
 -- What was printed while a run went on, and then its end, are together the whole text.
 use Rattle.std.proofs.Common.{◌≡◌, ◌⊎◌, inl, inr, ℕ, zero, suc, ◌+◌, ◌≤◌, List, [], ◌∷◌, ◌++◌, length, drop, take, min, refl, sym, ap, ◌∙◌, subst, arith, length-append, append_assoc, append-nil}
-use Rattle.std.specs.Prelude.{Result, Ok, Err, codes, flat_map}
+use Rattle.std.specs.Prelude.{Result, Ok, Err, Some, codes, flat_map, slice_get}
 use Rattle.std.proofs.lemmas.List.{take-append-le, take_all}
 use Rattle.feed_text.specs.Devices.{Writing, Wrote}
 use Rattle.feed_text.specs.Lines.{best_line}
 use Rattle.feed_text.specs.StandardError.{Says}
 use Rattle.live_feed.specs.declared.subscriber.logged.Logged.{Logged}
-use Rattle.live_feed.specs.settle.Settlements.{SettlementState, VenueEndState, SubscriberEndState}
+use Rattle.feed_types.specs.declared.genuine.Genuine.{Ghosts as Genuine}
+use Rattle.live_feed.specs.Lanes.{FeedLanes}
+use Rattle.live_feed.specs.venue.Seats.{SeatState}
+use Rattle.live_feed.specs.settle.Settlements.{IsSettlement, SettlementState, SubscriberEndState}
+use Rattle.live_feed.specs.subscriber.Logs.{SubscriberLogState}
 use Rattle.udp_listening.specs.Listening.{HasFollowed, HasListened, HasPrinted, ListensToEnd, PrintsAll, PrintsEnd, PrintsFailedReport, PrintsReport, end_lines, first_lines, log_lines, report_status, settled_log, subscriber_lines, summary_text}
 use Rattle.udp_listening.specs.declared.desk.Following.{Following}
 use Rattle.udp_listening.specs.declared.desk.Following.TheVariants.{On, Off, Failed}
@@ -199,3 +203,18 @@ nothing_printed writing none log Off printed now unprinted working =
     subst (λ (n : ℕ). HasPrinted writing now log n now) (sym unprinted)
     (record { few = omega arith; lines = none now; sound = refl })
 nothing_printed writing none log Failed printed now unprinted working = absurd (working refl)
+
+-- the log of a feed's one subscriber
+log_of_one : (lines : List Logged) (xs : List SubscriberEndState) → length xs ≡ 1
+    → ((x : SubscriberEndState) → slice_get xs 0 ≡ Some x → x.log ≡ lines)
+    → first_lines (λ x. x.log) xs ≡ lines
+log_of_one lines [] one at = absurd (omega (arith, one))
+log_of_one lines (x ∷ xs) one at = at x refl
+
+-- the settled log is the log that was handed in
+pub settled_log_of : {S : Type 0} {premise : Genuine S} {lanes : FeedLanes} {seats : List SeatState}
+    {logs : List SubscriberLogState} {s : SettlementState} (t : SubscriberLogState)
+    → logs ≡ t ∷ [] → IsSettlement premise lanes seats logs s → settled_log s ≡ t.lines
+settled_log_of {s = s} t one settled =
+    log_of_one t.lines s.subscribers (settled.all ∙ ap (λ l. length l) one)
+    (λ x there. (settled.subscribers 0 t x (ap (λ l. slice_get l 0) one) there).own.1)

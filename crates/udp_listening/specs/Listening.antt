@@ -109,6 +109,11 @@ HasFollowed writing first log Failed printed now =
     Wrote writing.adds first (log_lines log) now
     × (writing.failures now ≡ writing.failures first + 1)
 
+-- nothing is printed yet, of whatever log, and the output hasn't failed
+abbrev pub IsUnprinted : {W : Type 0} → Writing W → Following → ℕ → W → Type 0
+IsUnprinted writing following printed now =
+    (log : List Logged) → HasFollowed writing now log following printed now
+
 -- the log of the first subscriber of a settled feed, if it has one
 abbrev pub settled_log : SettlementState → List Logged
 settled_log s = first_lines (λ x. x.log) s.subscribers

@@ -1,7 +1,7 @@
 //! Where the program prints while a run goes on.
-ghost use Rattle.std.specs.Prelude.{◌≡◌, drop};
+ghost use Rattle.std.specs.Prelude.{◌≡◌, ◌≢◌, drop};
 ghost use Rattle.feed_types.specs.Prefix.{IsPrefix};
-ghost use Rattle.udp_listening.specs.Listening.{HasFollowed, HasPrinted, log_lines};
+ghost use Rattle.udp_listening.specs.Listening.{HasFollowed, HasPrinted, IsUnprinted, log_lines};
 
 use crate::summary::{put_log, unprinted};
 use feed_text::{LineBuffer, TextOut, write_all};
@@ -58,14 +58,17 @@ fn poll_some<N: FeedName, R: Wait>(rt: &R, log: &mut SubscriberLog<N>) -> bool
 }
 
 impl<W: TextOut, E> Desk<W, E> {
-    /// Where nothing was printed yet.
+    /// Where nothing was printed yet, and the output hasn't failed.
     pub fn new(output: W, errors: E, following: Following) -> Desk<W, E>
-        ensures { result ≡ record {
+        requires { following ≢ Following.Failed }
+        ensures desk { result ≡ record {
           output = output;
           errors = errors;
           following = following;
           printed = 0;
         } }
+        ensures unprinted { IsUnprinted (record { adds = W.adds; failures = W.failures })
+            result.following result.printed result.output }
     {
         Desk {
             output,

@@ -1,12 +1,13 @@
 //! Listening on live lines, until all have ended.
-ghost use Rattle.std.specs.Prelude.{◌≡◌, ◌≢◌, Err, None};
+ghost use Rattle.std.specs.Prelude.{◌≡◌, Err, None};
 ghost use Rattle.feed_text.specs.Devices.{Writing};
-ghost use Rattle.udp_listening.specs.Listening.{HasFollowed, HasListened, IsFeedOf};
+ghost use Rattle.udp_listening.specs.Listening.{HasFollowed, HasListened, IsFeedOf, IsUnprinted};
 
 use crate::attendant::{Attendance, Attendant, Turn};
-use crate::desk::{Desk, Following};
+use crate::desk::Desk;
 use crate::ended_lines::part_lines;
 use crate::lack::{Lack, lacks_in};
+use crate::sending::Sendable;
 use crate::sources::line_at;
 use crate::udp_line::UdpLine;
 use command_words::ListenSettings;
@@ -123,8 +124,8 @@ where
     W: TextOut + Drop + Send,
     E: TextOut + Drop + Send,
     requires lanes { feed ≡ N.lanes }
-    requires unprinted { task.desk.printed ≡ 0 }
-    requires working { task.desk.following ≢ Following.Failed }
+    requires unprinted { IsUnprinted (record { adds = W.adds; failures = W.failures })
+        task.desk.following task.desk.printed task.desk.output }
     ensures listened { HasListened (record { adds = W.adds; failures = W.failures })
         task.desk.output result.outcome result.desk.following result.desk.printed
         result.desk.output }
@@ -164,6 +165,7 @@ where
         log: subscriber.into_log(),
     };
     feed.show_shareable();
+    attendance.show_sendable();
     let (attendance, ran) = thread::join(
         rt,
         || -> Attendance<N, C, W, E>
