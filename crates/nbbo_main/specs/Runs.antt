@@ -10,6 +10,7 @@ use Rattle.feed_text.specs.declared.fault.ReplayFault.TheVariants.{NoMemory, Wri
 use Rattle.feed_text.specs.declared.replay.ReplayConfig.{ReplayConfig}
 use Rattle.feed_text.specs.Devices.{Reading, Writing, Wrote}
 use Rattle.feed_text.specs.Replays.{Replays, AnswersReplay}
+use Rattle.feed_text.specs.StandardError.{Says}
 use Rattle.best_lines.specs.Writers.{AddsBests, IsNewOver, PassedOn, below, pending_of}
 use Rattle.best_lines.specs.declared.bests_out.BestsOut.{BestsOut}
 use Rattle.best_lines.specs.declared.format.Format.{Format}

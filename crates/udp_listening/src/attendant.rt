@@ -17,14 +17,7 @@ use std::io::Stdin;
 use std::sync::Wait;
 use std::time::Clock;
 
-/// How long the run may take to begin, in milliseconds. Where no thread can be had, it doesn't begin while an attendant
-/// is there.
-const BEGIN_MS: u64 = 10_000;
-
-/// How long the attendant waits between two looks at a run that hasn't begun, in milliseconds.
-const BEGIN_WAIT_MS: u64 = 1;
-
-/// How long it waits between two looks at a run.
+/// How long the attendant waits between two looks at a run, in milliseconds.
 const WAIT_MS: u64 = 20;
 
 /// How long it waits where lines are printed as they come.
@@ -53,7 +46,6 @@ pub struct Attendant<C> {
     /// What is counted, if anything is.
     pub counts: Option<ListenCounts>,
     has_stopped: bool,
-    lacks_thread: bool,
 }
 
 impl<C: Clock + Clone + Drop> Attendant<C> {
@@ -77,7 +69,6 @@ impl<C: Clock + Clone + Drop> Attendant<C> {
             text: LineBuffer::new(alloc),
             counts,
             has_stopped: false,
-            lacks_thread: false,
         })
     }
 }
@@ -86,28 +77,6 @@ impl<C: Clock + Drop> Attendant<C> {
     /// The progress of the run, for its thread. AllocError where it can't be shared any further.
     pub fn share_progress(&self) -> Result<RunProgress, AllocError> {
         self.progress.share()
-    }
-
-    /// Whether the attendant was there before the run, since no thread could be had for it.
-    pub fn lacks_thread(&self) -> bool {
-        self.lacks_thread
-    }
-
-    /// Waits for a run that hasn't begun. Where it doesn't begin, it is to be stopped before.
-    fn await_begin(&mut self) -> Turn
-        ensures { self.new.counts ≡ self.old.counts }
-    {
-        if self.has_stopped {
-            return Turn::Over;
-        }
-        if self.elapsed.ms() >= BEGIN_MS {
-            self.has_stopped = true;
-            self.lacks_thread = true;
-            return Turn::Stop;
-        }
-        self.elapsed.sleep(BEGIN_WAIT_MS);
-        self.elapsed.look(BEGIN_WAIT_MS);
-        Turn::Look
     }
 
     /// Whether counts are due.
@@ -170,9 +139,6 @@ impl<N: FeedName, C: Clock + Drop, W: TextOut, E: TextOut> Attendance<N, C, W, E
         ensures errors { self.new.desk.errors ≡ self.old.desk.errors }
         ensures counts { self.new.attendant.counts ≡ self.old.attendant.counts }
     {
-        if !self.attendant.progress.has_begun() {
-            return self.attendant.await_begin();
-        }
         let is_last = self.attendant.progress.is_over();
         if self
             .desk

@@ -26,7 +26,6 @@ mod listening;
 mod live_counts;
 mod run_end;
 mod run_progress;
-mod sending;
 mod socket_buffers;
 mod sockets;
 mod sources;

@@ -7,14 +7,15 @@ use crate::attendant::{Attendance, Attendant, Turn};
 use crate::desk::Desk;
 use crate::ended_lines::part_lines;
 use crate::lack::{Lack, lacks_in};
-use crate::sending::Sendable;
 use crate::sources::line_at;
 use crate::udp_line::UdpLine;
 use command_words::ListenSettings;
 use feed_text::TextOut;
 use feed_types::{Anything, FeedConfig, LineId, MAX_VENUES, VenueId};
 use filter_terms::{Filter, Strategy, Terms};
-use live_feed::{FeedName, Line, LineSource, LiveFeed, SettleFault, Settlement, Shareable, Stop};
+use live_feed::{
+    FeedName, Line, LineSource, LiveFeed, SettleFault, Settlement, Shareable, Stop, SubscriberLog,
+};
 use std::alloc::{AllocError, Global};
 use std::rt::Clock;
 use std::sync::Wait;
@@ -97,6 +98,9 @@ fn unreported<W, E>(fault: ListenFault, desk: Desk<W, E>) -> Listened<W, E>
     }
 }
 
+/// A line that is received by UDP, of the feed N.
+type UdpLineOf<N, C> = Line<Anything, N, UdpLine<C>>;
+
 /// The fault of listening where the feed wasn't settled.
 fn fault_of(fault: SettleFault) -> ListenFault {
     match fault {
@@ -140,32 +144,38 @@ where
     let Ok(feed) = feed.open::<N>(alloc) else {
         return unreported(ListenFault::NoMemory, desk);
     };
-    let made = feed.subscribe(rt, alloc, Filter::of(terms), Strategy::holding());
-    let (Ok(subscriber), Ok(progress), Ok(mut lines)) = (
-        made,
-        attendant.share_progress(),
-        Vec::with_capacity(alloc, sources.len()),
-    ) else {
+    let prepare = || -> Result<(SubscriberLog<N>, Vec<UdpLineOf<N, C>>), ListenFault> {
+        let made = feed.subscribe(rt, alloc, Filter::of(terms), Strategy::holding());
+        let (Ok(subscriber), Ok(mut lines)) = (made, Vec::with_capacity(alloc, sources.len()))
+        else {
+            return Err(ListenFault::NoMemory);
+        };
+        for (place, source) in sources.into_iter().enumerate() {
+            let Ok(seat) = feed.line_seat(rt, source.venue(), line_at(place)) else {
+                return Err(ListenFault::Unsettled);
+            };
+            let Ok(line) = Line::new(seat, source) else {
+                return Err(ListenFault::Unsettled);
+            };
+            if lines.push(line).is_err() {
+                return Err(ListenFault::NoMemory);
+            }
+        }
+        Ok((subscriber.into_log(), lines))
+    };
+    let (log, lines) = match prepare() {
+        Ok(prepared) => prepared,
+        Err(fault) => return unreported(fault, desk),
+    };
+    let Ok(progress) = attendant.share_progress() else {
         return unreported(ListenFault::NoMemory, desk);
     };
-    for (place, source) in sources.into_iter().enumerate() {
-        let Ok(seat) = feed.line_seat(rt, source.venue(), line_at(place)) else {
-            return unreported(ListenFault::Unsettled, desk);
-        };
-        let Ok(line) = Line::new(seat, source) else {
-            return unreported(ListenFault::Unsettled, desk);
-        };
-        if lines.push(line).is_err() {
-            return unreported(ListenFault::NoMemory, desk);
-        }
-    }
     let attendance = Attendance {
         attendant,
         desk,
-        log: subscriber.into_log(),
+        log,
     };
     feed.show_shareable();
-    attendance.show_sendable();
     let (attendance, ran) = thread::join(
         rt,
         || -> Attendance<N, C, W, E>
@@ -201,7 +211,6 @@ where
             attendance
         },
         || {
-            progress.begin();
             let ran = feed.run(rt, alloc, lines, Vec::new(alloc));
             progress.end();
             ran.ok()
@@ -218,9 +227,9 @@ where
     let mut attendance = attendance;
     attendance.tell_all(statuses.as_slice());
     let Attendance {
-        attendant,
         desk,
         log,
+        attendant: _,
     } = attendance;
     let (Some(report), Ok(subscribers), Ok(lacking)) = (
         ran,
@@ -229,18 +238,13 @@ where
     ) else {
         return unreported(ListenFault::NoMemory, desk);
     };
-    let stopped = if attendant.lacks_thread() {
-        Some(Stop::NoThread)
-    } else {
-        report.stopped
-    };
     let Ok(ended) = part_lines(alloc, report.lines) else {
         return unreported(ListenFault::NoMemory, desk);
     };
     let outcome = match feed.settle(rt, alloc, ended.seats, subscribers) {
         Ok(settlement) => Ok(ListenReport {
             failed: ended.failed,
-            stopped,
+            stopped: report.stopped,
             read_out: ended.read_out,
             lacking,
             settlement,
