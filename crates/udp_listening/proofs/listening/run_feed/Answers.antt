@@ -1,4 +1,6 @@
 use Rattle.std.proofs.Common.{◌≡◌, [], ◌∷◌, ◌∙◌, ap, map, rules, subst, sym}
+use denote.Param.Send.{arg_send, param_send}
+use denote.Param.SendFields.{as_row_send, declared_send}
 use Rattle.feed_text.specs.Devices.{Writing}
 use Rattle.udp_listening.specs.Listening.{HasFollowed, HasListened}
 use Rattle.udp_listening.proofs.Wholes.{settled_log_of}
@@ -87,3 +89,6 @@ returns-in_default-part_lines-clause-quiet g c =
     let beside = c.join-attendance.ensures.first.1 none in
     ap (λ r. r.desk.errors) c.unreported-in_default-part_lines.ensures
     ∙ (c.tell_all.ensures.quiet beside.1).0 ∙ beside.0
+
+pub join-attendance-requires-send-F : goal.join-attendance-requires-send-F
+join-attendance-requires-send-F g c κs within = param_send _ _ (arg_send _ _ _ (declared_send _ ?))
