@@ -1,13 +1,14 @@
 //! What the words of the command line ask for.
 //!
-//! Contract: of any words, [`settings`] returns the [`Task`] that they ask for, with its settings, or the
-//! [`Refusal`] that they get: a text and a status. `specs/CommandLine.antt` says which of them, over clap's
-//! reading of the words (`specs/Commands.antt`) and the definitions of each kind of value
-//! (`specs/Sessions.antt`, `specs/Symbols.antt`, `specs/Addresses.antt`, `specs/CapturedLines.antt`).
+//! Contract: of any words, [`settings`] returns the [`Task`] that they ask for, with its settings,
+//! or the [`Refusal`] that they get: a text and a status. `specs/CommandLine.antt` says which of
+//! them, over clap's reading of the words (`specs/Commands.antt`) and the definitions of each kind
+//! of value (`specs/Sessions.antt`, `specs/Symbols.antt`, `specs/Addresses.antt`,
+//! `specs/CapturedLines.antt`).
 //!
-//! Begin with `command_line.rt`, then `commands.rt` and a command, as `listen_command.rt`. An option stands with its texts
-//! in `options.rt` if commands share it, else in `listen_options.rt`, `replay_options.rt` or with its command; its rule in
-//! the file of that name in `specs/`.
+//! Begin with `command_line.rt`, then `commands.rt` and a command, as `listen_command.rt`. An option
+//! stands with its texts in `options.rt` if commands share it, else in `listen_options.rt`,
+//! `replay_options.rt` or with its command; its rule in the file of that name in `specs/`.
 #![tactic(auto)]
 
 mod addresses;
