@@ -53,8 +53,8 @@ fn publish_each(
     report: &mut ReplaySink,
 ) -> Result<(), PublishStop>
     requires { venue < report.old.journal.venues }
-    ensures { TakesReady venue arbiter.old arbiter.new (state_of_replay report.old) (state_of_replay report.new)
-        result }
+    ensures { TakesReady venue arbiter.old arbiter.new (state_of_replay report.old)
+        (state_of_replay report.new) result }
 {
     while let Some(next) = arbiter.next_ready() {
         report.take_item(venue, &next)?;
@@ -71,8 +71,8 @@ fn publish_ready(
     report: &mut ReplaySink,
 ) -> Result<(), PublishStop>
     requires { venue < report.old.journal.venues }
-    ensures { TakesReady venue arbiter.old arbiter.new (state_of_replay report.old) (state_of_replay report.new)
-        result }
+    ensures { TakesReady venue arbiter.old arbiter.new (state_of_replay report.old)
+        (state_of_replay report.new) result }
 {
     match arbiter.next_ready() {
         Some(_) => publish_each(arbiter, venue, report),

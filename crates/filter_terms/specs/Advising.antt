@@ -1,4 +1,4 @@
--- Laws of what a closure that keeps limits answers to one more call; proved here, and nobody has to read them.
+-- Laws of what a closure that keeps limits answers to one more call. They are proved here.
 use Rattle.std.proofs.Common.{[], ◌∷◌, Bor}
 use Rattle.std.specs.Fn.{Called, Mut}
 use Rattle.feed_types.specs.declared.journal.Notice.{Notice}
@@ -7,7 +7,9 @@ use Rattle.filter_terms.specs.declared.advice.Limits.{Limits}
 use Rattle.filter_terms.specs.Allowed.{IsAllowed}
 use Rattle.filter_terms.specs.StoredStrategies.{AlwaysAllowed}
 
-module _ {F : Type 0} (members : Mut F (Bor Notice × Unit {0}) Advice) (limits : Limits) (old new : F) (asked : Bor Notice × Unit {0}) (advice : Advice) (keeps : AlwaysAllowed members limits old) (called : Called members old asked advice new) where
+module _ {F : Type 0} (members : Mut F (Bor Notice × Unit {0}) Advice) (limits : Limits)
+    (old new : F) (asked : Bor Notice × Unit {0}) (advice : Advice)
+    (keeps : AlwaysAllowed members limits old) (called : Called members old asked advice new) where
   -- the answer is allowed
   pub one_allowed : IsAllowed limits asked.0.now advice
   one_allowed = (keeps.at (asked ∷ []) advice new called).0

@@ -19,7 +19,7 @@
 //! consumed, is in the lane and is ready are the sessions' streams; per subscriber, its log, what
 //! is queued and what wasn't offered are what it wants (`specs/settle/Settlements.antt`).
 //! `settle/venue_lane.rt` closes a venue's lane, `settle/subscriber_lane.rt` a subscriber's,
-//! `settle/closing.rt` all. `run.rt` runs a feed by threads: a [`Line`] brings what its
+//! `settle.rt` all. `run.rt` runs a feed by threads: a [`Line`] brings what its
 //! [`LineSource`] returns (`specs/run/Runs.antt`), and a [`StopHandle`] ends the run.
 #![tactic(auto)]
 

@@ -61,7 +61,8 @@ pub record PrintsStats {W : Type 0} (writing : Writing W) (counts : StatsOut) (f
       → IsNewFor venues start → AddsStats start text counts → IsCountOf venues text stats
   pub prints : PrintsText writing (text_of_stats format stats more) before after printed
 
--- Counts are printed, and with them how the lines ran in time: a text of which nothing else is said.
+-- Counts are printed, and with them how the lines ran in time: a text of which nothing else is
+-- said.
 pub record PrintsTimedStats {W : Type 0} (writing : Writing W) (counts : StatsOut)
     (format : StatsFormat) (before after : W) (printed : Result (Unit {0}) ReplayFault)
     : Type 0 where
@@ -133,7 +134,8 @@ pub record RunsOwnStats {R W E : Type 0}
   pub ends : status ≡ ending_status outcome
 
 -- A packet capture, which was read along, was replayed onto a new writer that counts, and then the
--- counts were printed. The report is that of the replay, but for its outcome, and of the reader below.
+-- counts were printed. The report is that of the replay, but for its outcome, and of the reader
+-- below.
 pub record PrintsLineCounts {R W : Type 0} (reading : Reading R) (writing : Writing W)
     (config : ReplayConfig) (lines : List CapturedLine) (format : StatsFormat)
     (from : R) (report : CaptureReport R) (before after : W) : Type 0 where
