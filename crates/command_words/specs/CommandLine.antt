@@ -150,6 +150,10 @@ pub record GivesListening (rows : List Row) (settings : ListenSettings) : Type 0
       settings.request
   pub datagrams : IsCount (one_of (codes "datagrams") rows) settings.datagrams
   pub buffer : IsGivenCount (one_of (codes "buffer") rows) settings.buffer
+  pub seconds : IsGivenCount (one_of (codes "seconds") rows) settings.seconds
+  pub until_input_ends : IsFlag (one_of (codes "until-input-ends") rows) settings.until_input_ends
+  pub follow : IsFlag (one_of (codes "follow") rows) settings.follow
+  pub stats : IsGivenCount (one_of (codes "stats") rows) settings.stats
 
 -- The values of the options of replay give this task: with a list of lines that of a packet
 -- capture.

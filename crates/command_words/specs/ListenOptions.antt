@@ -2,6 +2,7 @@
 use Rattle.std.specs.Prelude.{◌∷◌, [], Some, codes, pos}
 use Rattle.clap.specs.Walk.{Rule}
 use Rattle.clap.specs.Simple.{new_rule}
+use Rattle.clap.specs.declared.builder.action.ArgAction.TheVariants.{SetTrue}
 use Rattle.clap.specs.declared.builder.value_parser.ValueParser.TheVariants.{Signed}
 
 -- --request ADDR
@@ -26,4 +27,34 @@ buffer_rule = record (new_rule (codes "buffer")) {
   long = Some (codes "buffer");
   value_names = 1;
   parser = Some (Signed (pos 1) (pos 1073741823));
+}
+
+-- --seconds N, a number from 1 to 4294967295
+abbrev pub seconds_rule : Rule
+seconds_rule = record (new_rule (codes "seconds")) {
+  long = Some (codes "seconds");
+  value_names = 1;
+  parser = Some (Signed (pos 1) (pos 4294967295));
+}
+
+-- --until-input-ends
+abbrev pub until_input_ends_rule : Rule
+until_input_ends_rule = record (new_rule (codes "until-input-ends")) {
+  long = Some (codes "until-input-ends");
+  action = Some SetTrue;
+}
+
+-- --follow
+abbrev pub follow_rule : Rule
+follow_rule = record (new_rule (codes "follow")) {
+  long = Some (codes "follow");
+  action = Some SetTrue;
+}
+
+-- --stats SECONDS, a number from 1 to 4294967295
+abbrev pub stats_rule : Rule
+stats_rule = record (new_rule (codes "stats")) {
+  long = Some (codes "stats");
+  value_names = 1;
+  parser = Some (Signed (pos 1) (pos 4294967295));
 }

@@ -208,6 +208,10 @@ fn listening_of(alloc: Global, listen: &ArgMatches<'_>) -> Result<ListenSettings
         request,
         datagrams: count_of(listen, "datagrams"),
         buffer: given_count_of(listen, "buffer"),
+        seconds: given_count_of(listen, "seconds"),
+        until_input_ends: flag_of(listen, "until-input-ends"),
+        follow: flag_of(listen, "follow"),
+        stats: given_count_of(listen, "stats"),
     })
 }
 

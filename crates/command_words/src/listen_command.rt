@@ -2,9 +2,12 @@
 ghost use Rattle.std.specs.Prelude.{◌≡◌, IfOk, false, codes};
 ghost use Rattle.clap.specs.Simple.{app_of, new_app};
 ghost use Rattle.clap.specs.declared.builder.command.Command.TheViews.{out-Command as fields_of};
-ghost use Rattle.command_words.specs.Commands.{counts_app, lines_app, listen_app};
+ghost use Rattle.command_words.specs.Commands.{counts_app, ends_app, lines_app, listen_app};
 
-use crate::listen_options::{buffer_option, datagrams_option, lines_option, request_option};
+use crate::listen_options::{
+    buffer_option, datagrams_option, follow_flag, lines_option, request_option, seconds_option,
+    stats_option, until_input_ends_flag,
+};
 use crate::options::{journal_option, sessions_option, symbols_argument, window_option};
 use clap::Command;
 use std::alloc::{AllocError, Global};
@@ -18,8 +21,8 @@ Listens on the lines of live venues and prints what they came to.
 Each venue sends the same MoldUDP64 packets on two lines, A and B. Each line is received by UDP,
 in a thread of its own. What either line brings is put into one sequence, and the national best
 bid and offer of each symbol is kept. A line ends after an end of session, or after as many
-datagrams as --datagrams says. Once all lines have ended, what changed is printed, and not
-before.";
+datagrams as --datagrams says; --seconds and --until-input-ends end all lines. Once they have
+ended, what changed is printed; with --follow each change is printed as it comes.";
 
 /// The usage of `listen`.
 const USAGE: &str = "nbbo listen [OPTIONS] --sessions <LIST> --lines <LIST> [SYMBOL]...";
@@ -33,7 +36,7 @@ Example, one venue whose lines are received on two ports:
 
 /// The part of the long help after the options.
 const LINES: &str = "\
-Printed lines, once all lines have ended:
+Printed lines, once all lines have ended; with --follow each best line as it comes:
   best NOTICE POSITION SYMBOL BID OFFER STATE
                                  the journal's entry at POSITION has changed the national best bid
                                  or offer of the symbol. BID and OFFER are none or V:PRICExSIZE;
@@ -65,8 +68,10 @@ more are dropped while its thread waits for a processor. --buffer asks for more 
 says that the system allows no more, as root, beforehand:
   sysctl -w net.core.rmem_max=4194304
 
-A first interrupt from the keyboard ends the program at once, and nothing is printed: what
-was taken is not kept. To have it printed, send each line an end of session.
+A first interrupt from the keyboard ends the program at once, and nothing more is printed: what
+was taken is not kept. To have it printed, send each line an end of session; or have the
+interrupt end what the program reads, and not the program:
+  cat | (trap '' INT; nbbo listen --until-input-ends --sessions .. > best.txt)
 
 Status:
   0  all lines ended and what they came to was printed, or help was shown. Standard error says
@@ -126,12 +131,24 @@ fn counts_command<'a>(alloc: Global) -> Result<Command<'a>, AllocError>
         .arg(datagrams_option(alloc))
 }
 
+/// `listen` with its options that say when it ends, too.
+fn ends_command<'a>(alloc: Global) -> Result<Command<'a>, AllocError>
+    ensures app { IfOk result (λ c. app_of c ≡ ends_app) }
+    ensures local { IfOk result (λ c. (fields_of c).has_globals ≡ false) }
+{
+    counts_command(alloc)?
+        .arg(buffer_option(alloc))?
+        .arg(seconds_option(alloc))?
+        .arg(until_input_ends_flag(alloc))
+}
+
 /// The whole of `listen`.
 pub fn listen_command<'a>(alloc: Global) -> Result<Command<'a>, AllocError>
     ensures app { IfOk result (λ c. app_of c ≡ listen_app) }
     ensures local { IfOk result (λ c. (fields_of c).has_globals ≡ false) }
 {
-    counts_command(alloc)?
-        .arg(buffer_option(alloc))?
+    ends_command(alloc)?
+        .arg(follow_flag(alloc))?
+        .arg(stats_option(alloc))?
         .arg(symbols_argument(alloc))
 }

@@ -2,11 +2,11 @@
 //! `specs/ListenOptions.antt`.
 ghost use Rattle.std.specs.Prelude.{◌≡◌, false};
 ghost use Rattle.clap.specs.Walk.{rule_of};
-ghost use Rattle.command_words.specs.ListenOptions.{buffer_rule, datagrams_rule, request_rule};
+ghost use Rattle.command_words.specs.ListenOptions.{buffer_rule, datagrams_rule, follow_rule, request_rule, seconds_rule, stats_rule, until_input_ends_rule};
 ghost use Rattle.command_words.specs.Options.{lines_rule};
 
 use crate::limits::{MAX_BUFFER, text};
-use clap::{Arg, value_parser};
+use clap::{Arg, ArgAction, value_parser};
 use std::alloc::Global;
 
 const LINES_HELP: &str = "\
@@ -86,4 +86,82 @@ pub fn buffer_option<'a>(alloc: Global) -> Arg<'a>
             text!("How large a buffer to ask for at each line's socket, 1 to " MAX_BUFFER " bytes"),
         )
         .long_help(BUFFER_HELP)
+}
+
+const SECONDS_HELP: &str = text!("\
+After how many seconds the run ends, whether or not anything comes on the lines: 1 to
+" MAX_COUNT ". What came until then is printed as at any other end, and the status is 0");
+
+/// `--seconds N`.
+pub fn seconds_option<'a>(alloc: Global) -> Arg<'a>
+    ensures rule { rule_of result ≡ seconds_rule }
+    ensures local { result.global ≡ false }
+{
+    Arg::new(alloc, "seconds")
+        .long("seconds")
+        .value_name("N")
+        .value_parser(value_parser!(u32).range(1..=i64::from(u32::MAX)))
+        .help(text!("After how many seconds the run ends, 1 to " MAX_COUNT))
+        .long_help(SECONDS_HELP)
+}
+
+const UNTIL_INPUT_ENDS_HELP: &str = "\
+Ends the run when standard input ends, whether or not anything comes on the lines. What
+standard input brings is passed over. What came on the lines until then is printed as at
+any other end, and the status is 0. In a terminal Ctrl-D ends standard input; with
+'< /dev/null' it ends at once";
+
+/// `--until-input-ends`.
+pub fn until_input_ends_flag<'a>(alloc: Global) -> Arg<'a>
+    ensures rule { rule_of result ≡ until_input_ends_rule }
+    ensures local { result.global ≡ false }
+{
+    Arg::new(alloc, "until-input-ends")
+        .long("until-input-ends")
+        .action(ArgAction::SetTrue)
+        .help("Ends the run when standard input ends")
+        .long_help(UNTIL_INPUT_ENDS_HELP)
+}
+
+const FOLLOW_HELP: &str = "\
+Prints each best line as it comes, in the same order as without this option, and the
+lines of the venues once all lines have ended. Where standard output can't be written any
+more, the run ends with status 1";
+
+/// `--follow`.
+pub fn follow_flag<'a>(alloc: Global) -> Arg<'a>
+    ensures rule { rule_of result ≡ follow_rule }
+    ensures local { result.global ≡ false }
+{
+    Arg::new(alloc, "follow")
+        .long("follow")
+        .action(ArgAction::SetTrue)
+        .help("Prints each best line as it comes")
+        .long_help(FOLLOW_HELP)
+}
+
+const STATS_HELP: &str = text!("\
+Every how many seconds standard error has a line of counts for each venue: 1 to
+" MAX_COUNT ". At the end it has a table of the same counts for the whole run. On one line:
+  nbbo: second N venue V sent S known K lag G lacks L requests R
+      A packets P messages M new W repeated X ahead Y refused Z NUMBER:COUNT.. B packets ..
+S is the number of the last item in sequence, K how far the session is known to go, G how
+many messages are between, and L how many of the first gap are missing. Since the line
+before, R requests were due, and P packets came on line A, or B. Those that were taken had
+M messages: W that came first, and X that had come before. Y packets went past the window
+and Z were refused, COUNT of them by the refusal of this NUMBER in 'nbbo replay --help'");
+
+/// `--stats SECONDS`.
+pub fn stats_option<'a>(alloc: Global) -> Arg<'a>
+    ensures rule { rule_of result ≡ stats_rule }
+    ensures local { result.global ≡ false }
+{
+    Arg::new(alloc, "stats")
+        .long("stats")
+        .value_name("SECONDS")
+        .value_parser(value_parser!(u32).range(1..=i64::from(u32::MAX)))
+        .help(text!(
+            "Every how many seconds standard error has counts of each venue, 1 to " MAX_COUNT
+        ))
+        .long_help(STATS_HELP)
 }

@@ -17,5 +17,13 @@ pub struct ListenSettings {
     pub datagrams: u32,
     /// How many bytes a socket's buffer is asked for, if any number.
     pub buffer: Option<u32>,
+    /// After how many seconds the run ends, if after any number.
+    pub seconds: Option<u32>,
+    /// Whether the run ends when standard input ends.
+    pub until_input_ends: bool,
+    /// Whether each best line is printed as it comes.
+    pub follow: bool,
+    /// Every how many seconds standard error has counts of each venue, if it has any.
+    pub stats: Option<u32>,
     ghost two_lines_each: { vec_len lines ≡ 2 * vec_len feed.sessions },
 }

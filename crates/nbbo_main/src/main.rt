@@ -15,10 +15,10 @@
 //! it says what is read, what is written where, and the status, or that the words ask to listen
 //! (`specs/Runs.antt`). Outside of it stand, in this file, the opening of the three streams and of
 //! the sockets, the words as the system gives them, what a terminal is told beside it (`hints.rt`),
-//! and the exit; and listening itself (`udp_listening`), which tests show.
+//! and the exit; and listening itself (`listen.rt`), which tests show.
 //!
-//! Begin with `run.rt`, then `command_words` for what the words ask for, and `udp_listening` for live
-//! lines. `ending.rt` has the texts of faults.
+//! Begin with `run.rt`, then `specs/CommandLine.antt` and `command_line.rt`; `listen.rt` and
+//! `listening.rt` for live lines. `ending.rt` has the texts of faults.
 #![tactic(auto)]
 
 ghost use Rattle.std.specs.Prelude.{◌≡◌, ◌≢◌, ◌<◌};
@@ -34,7 +34,6 @@ mod stats_runs;
 
 use command_words::{ListenSettings, Refusal};
 use feed_text::{CaptureIn, Count, StreamIn, StreamOut, TextOut, write_stderr};
-use filter_terms::Terms;
 use hints::{asks_for_packets, format_hint, hint_at_file};
 use kept_start::KeptStart;
 use run::{Next, refuse, run};
@@ -96,10 +95,10 @@ fn run_streams<H: Threads + Wait + Sync, C: Ledger, R: Ledger, W: Ledger, E: Led
     );
     let output: StreamOut<Stdout, W> = StreamOut::new(rt.stdout(), Count::new(of_writes));
     let mut errors: StreamOut<Stderr, E> = StreamOut::new(rt.stderr(), Count::new(of_errors));
-    let (next, mut output) = run_words(rt, KeptStart::new(input), output, &mut errors);
+    let (next, output) = run_words(rt, KeptStart::new(input), output, &mut errors);
     match next {
         Next::Ended(status) => status,
-        Next::Listens(settings) => { listen_live(rt, threads, &settings, &mut output, &mut errors) }
+        Next::Listens(settings) => listen_live(rt, threads, &settings, output, errors),
     }
 }
 
@@ -153,35 +152,42 @@ fn tell_sockets<E: TextOut>(
     Ok(())
 }
 
-/// Listens on the lines of the settings.
-fn listen_live<H: Threads + Wait + Sync, W: TextOut, E: TextOut>(
+/// Listens on the lines of the settings, and returns the status of the program.
+fn listen_live<H, W, E>(
     rt: &HostRuntime,
     threads: &H,
     settings: &ListenSettings,
-    output: &mut W,
-    errors: &mut E,
-) -> u8 {
+    output: W,
+    errors: E,
+) -> u8
+where
+    H: Threads + Wait + Sync,
+    W: TextOut + Drop + Send,
+    E: TextOut + Drop + Send,
+{
+    let mut errors = errors;
     let sockets = match bind_sockets(rt, rt.alloc(), settings.lines.as_slice()) {
         Ok(sockets) => sockets,
         Err(text) => {
-            write_stderr(text, errors);
+            write_stderr(text, &mut errors);
             return 1;
         }
     };
-    if tell_sockets(rt.alloc(), settings, sockets.as_slice(), errors).is_err() {
-        write_stderr(NO_MEMORY, errors);
+    if tell_sockets(rt.alloc(), settings, sockets.as_slice(), &mut errors).is_err() {
+        write_stderr(NO_MEMORY, &mut errors);
         return 1;
     }
-    listen_with(
+    let (status, _output, _errors) = listen_with(
         threads,
         rt,
         rt.alloc(),
         settings,
         sockets,
-        Terms::All,
+        rt.stdin(),
         output,
         errors,
-    )
+    );
+    status
 }
 
 fn main(rt: HostRuntime) -> ExitCode {

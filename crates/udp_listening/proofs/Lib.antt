@@ -1,2 +1,4 @@
 pub mod Ends
+pub mod Following
 pub mod Seeing
+pub mod Wholes

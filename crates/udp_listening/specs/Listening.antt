@@ -1,17 +1,21 @@
 -- `nbbo listen`: its settings, what it prints of what came, and how it ends. The texts are this
 -- project's own.
-use Rattle.std.specs.Prelude.{◌≡◌, ◌⊎◌, ℕ, ◌+◌, ◌%◌, ◌==◌, false, List, [], ◌∷◌, ◌++◌, length, flat_map, take, Option, Some, None, if◌then◌else◌, codes, decimal}
+use Rattle.std.specs.Prelude.{◌≡◌, ◌⊎◌, ℕ, ◌+◌, ◌≤◌, ◌%◌, ◌==◌, ◌||◌, Bool, false, List, [], ◌∷◌, ◌++◌, length, drop, flat_map, take, Option, Some, None, is_some, Result, Ok, Err, if◌then◌else◌, codes, decimal}
 use Rattle.feed_types.specs.declared.config.FeedConfig.{FeedConfig}
 use Rattle.feed_types.specs.declared.line.LineId.{LineId}
 use Rattle.feed_types.specs.declared.line.LineId.TheVariants.{A, B, Recovery}
 use Rattle.line_arbiter.specs.Counts.{count_on}
 use Rattle.feed_text.specs.Devices.{Writing, Wrote}
 use Rattle.feed_text.specs.Lines.{best_line, venue_line}
-use Rattle.feed_text.specs.StandardError.{Says, SaysEach}
 use Rattle.live_feed.specs.declared.run.report.Stop.{Stop}
 use Rattle.live_feed.specs.declared.run.report.Stop.TheVariants as stops
+use Rattle.live_feed.specs.declared.subscriber.logged.Logged.{Logged}
+use Rattle.live_feed.specs.venue.Seats.{SeatState}
 use Rattle.live_feed.specs.settle.Settlements.{SettlementState, VenueEndState, SubscriberEndState}
+use Rattle.feed_text.specs.StandardError.{Says, SaysEach}
 use Rattle.udp_listening.specs.UdpLines.{UdpLineState}
+use Rattle.udp_listening.specs.declared.desk.Following.{Following}
+use Rattle.udp_listening.specs.declared.desk.Following.TheVariants.{On, Off, Failed}
 use Rattle.udp_listening.specs.declared.lack.Lack.{Lack}
 use Rattle.command_words.specs.declared.listen_settings.ListenSettings.{ListenSettings}
 use Rattle.udp_listening.specs.declared.listening.ListenFault.{ListenFault}
@@ -41,13 +45,27 @@ pub record IsSourceOf (settings : ListenSettings) (venue : ℕ) (line : UdpLineS
 abbrev pub line_at : ℕ → LineId
 line_at place = if place % 2 == 0 then A else B
 
+-- ---- the lines at the end
+
+-- the line of a seat, by its venue
+abbrev pub seat_line : SeatState → ℕ × LineId
+seat_line seat = (seat.venue, seat.line)
+
+-- the line, where it is one of these
+abbrev pub line_if : Bool → ℕ × LineId → List (ℕ × LineId)
+line_if is_one line = if is_one then line ∷ [] else []
+
 -- ---- what is printed on the output
 
--- of a subscriber: the best lines of the notices that it took, then of those that were still in its
--- lane, and then of those that were not offered
-abbrev pub subscriber_lines : SubscriberEndState → List ℕ
-subscriber_lines x =
-    flat_map (λ logged. best_line logged.notice) x.log
+-- the best lines of the notices of a log
+abbrev pub log_lines : List Logged → List ℕ
+log_lines log = flat_map (λ logged. best_line logged.notice) log
+
+-- of a subscriber: the best lines of the notices that it took, after the first ones, which are
+-- printed already, then of those that were still in its lane, and then of those that were not offered
+abbrev pub subscriber_lines : ℕ → SubscriberEndState → List ℕ
+subscriber_lines printed x =
+    log_lines (drop printed x.log)
     ++ (flat_map best_line x.queued ++ flat_map best_line x.unoffered)
 
 -- the last line of a venue: how many of its items were consumed, and how many numbers each line
@@ -60,11 +78,54 @@ abbrev pub end_lines : ℕ → List VenueEndState → List ℕ
 end_lines venue [] = []
 end_lines venue (v ∷ vs) = end_line venue v ++ end_lines (venue + 1) vs
 
--- the text of a feed that was settled: the lines of its first subscriber, and then the last lines
--- of its venues, of which it has 16 at most
-abbrev pub summary_text : SettlementState → List ℕ
-summary_text s =
-    flat_map subscriber_lines (take 1 s.subscribers) ++ end_lines 0 (take 16 s.venues)
+-- the text of a feed that was settled: the lines of its first subscriber that aren't printed yet, and
+-- then the last lines of its venues, of which it has 16 at most
+abbrev pub summary_text : ℕ → SettlementState → List ℕ
+summary_text printed s =
+    flat_map (λ x. subscriber_lines printed x) (take 1 s.subscribers)
+    ++ end_lines 0 (take 16 s.venues)
+
+-- ---- what is printed while a run goes on
+
+-- the lines of the first subscriber's log, if there is one
+abbrev pub first_lines : {S : Type 0} → (S → List Logged) → List S → List Logged
+first_lines lines [] = []
+first_lines lines (s ∷ more) = lines s
+
+-- From this output on the best lines of the log's first notices were written, as many as are counted,
+-- and no call failed.
+pub record HasPrinted {W : Type 0} (writing : Writing W) (first : W) (log : List Logged)
+    (printed : ℕ) (now : W) : Type 0 where
+  pub few : printed ≤ length log
+  pub lines : writing.adds first (log_lines (take printed log)) now
+  pub sound : writing.failures now ≡ writing.failures first
+
+-- The same, or where the output has failed a part of the log's best lines, by calls of which the last
+-- one failed.
+abbrev pub HasFollowed : {W : Type 0} → Writing W → W → List Logged → Following → ℕ → W → Type 0
+HasFollowed writing first log On printed now = HasPrinted writing first log printed now
+HasFollowed writing first log Off printed now = HasPrinted writing first log printed now
+HasFollowed writing first log Failed printed now =
+    Wrote writing.adds first (log_lines log) now
+    × (writing.failures now ≡ writing.failures first + 1)
+
+-- nothing is printed yet, of whatever log, and the output hasn't failed
+abbrev pub IsUnprinted : {W : Type 0} → Writing W → Following → ℕ → W → Type 0
+IsUnprinted writing following printed now =
+    (log : List Logged) → HasFollowed writing now log following printed now
+
+-- the log of the first subscriber of a settled feed, if it has one
+abbrev pub settled_log : SettlementState → List Logged
+settled_log s = first_lines (λ x. x.log) s.subscribers
+
+-- The end of a run: from the output `first` on the best lines of the settled log's first notices were
+-- written; or where there is no report, those of some log.
+abbrev pub HasListened : {W : Type 0} → Writing W → W → Result ListenReport ListenFault
+    → Following → ℕ → W → Type 0
+HasListened writing first (Ok report) following printed now =
+    HasFollowed writing first (settled_log report.settlement) following printed now
+HasListened writing first (Err fault) following printed now =
+    (log : List Logged) × HasFollowed writing first log following printed now
 
 -- ---- texts on standard error
 
@@ -131,14 +192,14 @@ report_status failed stopped = 1
 -- A report is printed: its texts are on standard error, and the summary on the output. Where that
 -- couldn't be written, standard error says so at the end.
 pub record PrintsReport {W E : Type 0} (writing : Writing W) (telling : Writing E)
-    (report : ListenReport) (before after : W) (silent told : E) (status : ℕ) : Type 0 where
+    (report : ListenReport) (printed : ℕ) (before after : W) (silent told : E) (status : ℕ) : Type 0 where
   pub said : E
   pub says : SaysEach telling (report_texts report) silent said
   pub prints :
-      (writing.adds before (summary_text report.settlement) after × (told ≡ said)
+      (writing.adds before (summary_text printed report.settlement) after × (told ≡ said)
       × (status ≡ report_status report.failed.items report.stopped))
       ⊎ ((after ≡ before) × Says telling (codes "nbbo: no memory\n") said told × (status ≡ 1))
-      ⊎ (Wrote writing.adds before (summary_text report.settlement) after
+      ⊎ (Wrote writing.adds before (summary_text printed report.settlement) after
       × (writing.failures after ≡ writing.failures before + 1)
       × Says telling (codes "nbbo: write failed\n") said told × (status ≡ 1))
 
@@ -146,10 +207,60 @@ abbrev pub listen_fault_text : ListenFault → List ℕ
 listen_fault_text NoMemory = codes "nbbo: no memory\n"
 listen_fault_text Unsettled = codes "nbbo: not settled\n"
 
--- Listening ends with a report, which is printed; or with none, which standard error says.
-abbrev pub Listens : {W E : Type 0} (writing : Writing W) (telling : Writing E)
+-- A report is printed where the output has failed before: its texts are on standard error, and then
+-- that the output failed.
+pub record PrintsFailedReport {E : Type 0} (telling : Writing E) (report : ListenReport)
+    (silent told : E) (status : ℕ) : Type 0 where
+  pub said : E
+  pub says : SaysEach telling (report_texts report) silent said
+  pub fails : Says telling (codes "nbbo: write failed\n") said told
+  pub ends : status ≡ 1
+
+-- The end is printed: a report, after the best lines that were printed before, if the output hasn't
+-- failed at these; or with none, which standard error says.
+abbrev pub PrintsEnd : {W E : Type 0} (writing : Writing W) (telling : Writing E)
+    (outcome : Result ListenReport ListenFault) (following : Following) (printed : ℕ)
     (before after : W) (silent told : E) → ℕ → Type 0
-Listens writing telling before after silent told status =
-    ((report : ListenReport) × PrintsReport writing telling report before after silent told status)
-    ⊎ ((fault : ListenFault) × (after ≡ before) × Says telling (listen_fault_text fault) silent told
-    × (status ≡ 1))
+PrintsEnd writing telling (Ok report) Failed printed before after silent told status =
+    (after ≡ before) × PrintsFailedReport telling report silent told status
+PrintsEnd writing telling (Ok report) On printed before after silent told status =
+    PrintsReport writing telling report printed before after silent told status
+PrintsEnd writing telling (Ok report) Off printed before after silent told status =
+    PrintsReport writing telling report printed before after silent told status
+PrintsEnd writing telling (Err fault) following printed before after silent told status =
+    (after ≡ before) × Says telling (listen_fault_text fault) silent told × (status ≡ 1)
+
+-- A report is printed, and all that its lines came to, from the beginning of the run on: its texts
+-- are on standard error, and the whole summary on the output, or a part of it where memory is refused
+-- or the output fails, which standard error says at the end.
+pub record PrintsAll {W E : Type 0} (writing : Writing W) (telling : Writing E)
+    (report : ListenReport) (before after : W) (silent told : E) (status : ℕ) : Type 0 where
+  pub said : E
+  pub says : SaysEach telling (report_texts report) silent said
+  pub prints :
+      (writing.adds before (summary_text 0 report.settlement) after × (told ≡ said)
+      × (status ≡ report_status report.failed.items report.stopped))
+      ⊎ (Wrote writing.adds before (summary_text 0 report.settlement) after
+      × Says telling (codes "nbbo: no memory\n") said told × (status ≡ 1))
+      ⊎ (Wrote writing.adds before (summary_text 0 report.settlement) after
+      × (writing.failures after ≡ writing.failures before + 1)
+      × Says telling (codes "nbbo: write failed\n") said told × (status ≡ 1))
+
+-- Listening ends with a report, of which all is printed; or with none, which standard error says,
+-- and then the best lines of a log or a part of them are printed.
+abbrev pub ListensToEnd : {W E : Type 0} (writing : Writing W) (telling : Writing E)
+    (outcome : Result ListenReport ListenFault) (before after : W) (silent told : E) → ℕ → Type 0
+ListensToEnd writing telling (Ok report) before after silent told status =
+    PrintsAll writing telling report before after silent told status
+ListensToEnd writing telling (Err fault) before after silent told status =
+    ((log : List Logged) × Wrote writing.adds before (log_lines log) after)
+    × Says telling (listen_fault_text fault) silent told × (status ≡ 1)
+
+-- However it is asked to end and to print, listening ends in one of these ways. Before, standard
+-- error has whatever counts the settings ask for, and where they ask for none nothing.
+pub record Listens {W E : Type 0} (writing : Writing W) (telling : Writing E)
+    (settings : ListenSettings) (before after : W) (silent told : E) (status : ℕ) : Type 0 where
+  pub outcome : Result ListenReport ListenFault
+  pub counted : E
+  pub quiet : settings.stats ≡ None → counted ≡ silent
+  pub ends : ListensToEnd writing telling outcome before after counted told status

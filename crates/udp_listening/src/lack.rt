@@ -2,7 +2,9 @@
 ghost use Rattle.std.specs.Prelude.{◌≡◌};
 
 use feed_types::VenueId;
+use live_feed::VenueStatus;
 use mold_packet::Request;
+use std::alloc::{AllocError, Global};
 
 /// Messages that a venue lacks: the first run of them, as far as the window and what is known of the session go.
 #[derive(Clone, Copy, Debug, PartialEq, Eq)]
@@ -26,4 +28,15 @@ impl Lack {
             count: gap.count,
         }
     }
+}
+
+/// What venues lack that have these statuses, in order, of each that lacks anything.
+pub fn lacks_in(alloc: Global, statuses: &[VenueStatus]) -> Result<Vec<Lack>, AllocError> {
+    let mut lacking = Vec::new(alloc);
+    for (place, status) in statuses.iter().enumerate() {
+        if let (Some(venue), Some(gap)) = (VenueId::from_index(place), &status.gap) {
+            lacking.push(Lack::of(venue, gap))?;
+        }
+    }
+    Ok(lacking)
 }

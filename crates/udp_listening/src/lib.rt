@@ -1,22 +1,34 @@
 //! Listening on live lines by UDP.
 //!
-//! Lines that are received by UDP ([`UdpLine`], a source of `live_feed`) are run as a live feed, and once
-//! all have ended the best lines, and a line for each venue, are printed.
+//! Lines that are received by UDP ([`UdpLine`], a source of `live_feed`) are run as a live feed. Beside the
+//! run stands an attendant, which ends it where it is to end from outside, prints best lines as they come,
+//! and tells counts. Once all has ended the best lines, and a line for each venue, are printed.
 //!
-//! Contract: of any report, [`listen_with`] prints its lines on standard error, the summary on the output,
-//! and returns its status; without one it says why (`specs/Listening.antt`). A line brings what its socket
-//! brings, up to an end of session, to its count of datagrams, or to a fault (`specs/UdpLines.antt`). What
-//! the sockets bring, tests show.
+//! Contract: [`listen_with`] prints, in all, the text of the settled feed, or says why it doesn't
+//! (`specs/Listening.antt`). A line brings what its socket brings, up to an end of session, to its count of
+//! datagrams, or to a fault (`specs/UdpLines.antt`). What the sockets bring, when the run is ended from
+//! outside and what is counted, tests show.
 //!
-//! Begin with `listen.rt`, then `listening.rt` and `udp_line.rt`.
+//! Begin with `listen.rt`, then `listening.rt`, `udp_line.rt`, and `attendant.rt` for what is beside a run.
 #![tactic(auto)]
 
+mod attendant;
+mod counts_text;
+mod desk;
+mod elapsed;
+mod ended_lines;
+mod input_end;
 mod lack;
 mod listen;
+mod listen_counts;
 mod listen_lines;
 mod listening;
+mod live_counts;
+mod run_end;
+mod run_progress;
 mod socket_buffers;
 mod sockets;
+mod sources;
 mod summary;
 mod udp_line;
 

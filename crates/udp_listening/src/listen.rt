@@ -1,11 +1,14 @@
 //! `nbbo listen`.
-ghost use Rattle.std.specs.Prelude.{◌≡◌};
+ghost use Rattle.std.specs.Prelude.{◌≡◌, ◌≢◌};
 ghost use Rattle.feed_text.specs.Devices.{Writing};
 ghost use Rattle.feed_text.specs.StandardError.{Says};
-ghost use Rattle.udp_listening.specs.Listening.{Listens, PrintsReport, listen_fault_text, report_status};
+ghost use Rattle.udp_listening.specs.Listening.{HasListened, Listens, ListensToEnd, PrintsEnd, PrintsFailedReport, PrintsReport, listen_fault_text, report_status};
 
+use crate::attendant::Attendant;
+use crate::desk::{Desk, Following};
 use crate::listen_lines::write_report_lines;
-use crate::listening::{ListenFault, ListenReport, config_of, run_feed};
+use crate::listening::{ListenFault, ListenReport, ListenTask, Listened, config_of, run_feed};
+use crate::sources::sources_over;
 use crate::summary::summary_of;
 use command_words::ListenSettings;
 use feed_text::{TextOut, write_all, write_stderr};
@@ -13,6 +16,7 @@ use feed_types::{Anything, LineId, VenueId};
 use filter_terms::Terms;
 use live_feed::{LiveFeed, Stop};
 use std::alloc::Global;
+use std::io::Stdin;
 use std::marker::Brand;
 use std::net::UdpSocket;
 use std::rt::Clock;
@@ -21,6 +25,9 @@ use std::thread::Threads;
 
 /// The line on standard error where memory was refused.
 pub const NO_MEMORY: &str = "nbbo: no memory\n";
+
+/// The line on standard error where standard output can't be written.
+const WRITE_FAILED: &str = "nbbo: write failed\n";
 
 /// The status of the program after such a report: 0 where no line failed and nothing stopped the
 /// run early, else 1.
@@ -40,26 +47,37 @@ fn fail<E: TextOut>(text: &str, errors: &mut E) -> u8
     1
 }
 
-/// Prints the report of listening, and returns the status of the program.
+/// Prints the report of listening, after the best lines that were printed while it went on, and returns
+/// the status of the program.
 fn print_report<W: TextOut, E: TextOut>(
     alloc: Global,
     report: &ListenReport,
+    printed: usize,
     output: &mut W,
     errors: &mut E,
 ) -> u8
     ensures { PrintsReport
         (record { adds = W.adds; failures = W.failures })
         (record { adds = E.adds; failures = E.failures })
-        report.now output.old output.new errors.old errors.new result }
+        report.now printed output.old output.new errors.old errors.new result }
 {
     write_report_lines(report, errors);
-    let Ok(text) = summary_of(alloc, &report.settlement) else {
+    let Ok(text) = summary_of(alloc, &report.settlement, printed) else {
         return fail(NO_MEMORY, errors);
     };
     if write_all(text.as_slice(), output).is_err() {
-        return fail("nbbo: write failed\n", errors);
+        return fail(WRITE_FAILED, errors);
     }
     status_of(report.failed.as_slice(), report.stopped)
+}
+
+/// Prints the report of listening after the output has failed, and returns the status of the program.
+fn print_failed_report<E: TextOut>(report: &ListenReport, errors: &mut E) -> u8
+    ensures { PrintsFailedReport (record { adds = E.adds; failures = E.failures })
+        report.now errors.old errors.new result }
+{
+    write_report_lines(report, errors);
+    fail(WRITE_FAILED, errors)
 }
 
 /// The line for a fault.
@@ -72,34 +90,96 @@ fn fault_line(fault: ListenFault) -> &'static str
     }
 }
 
-/// Listens on these sockets, in the order of the settings' lines, until all have ended; then prints
-/// the report for a subscriber with these terms, and returns the status of the program: 0, or 1
-/// where a line failed, the run stopped early, or nothing was printed.
+/// Prints the end of listening, and returns the status of the program: 0, or 1 where a line failed, the
+/// run stopped early, or not all was printed.
+fn print_end<W: TextOut, E: TextOut>(
+    alloc: Global,
+    outcome: &Result<ListenReport, ListenFault>,
+    desk: &mut Desk<W, E>,
+) -> u8
+    ensures end { PrintsEnd
+        (record { adds = W.adds; failures = W.failures })
+        (record { adds = E.adds; failures = E.failures })
+        outcome.now desk.old.following desk.old.printed
+        desk.old.output desk.new.output desk.old.errors desk.new.errors result }
+    ensures whole { (first : W) → HasListened (record { adds = W.adds; failures = W.failures })
+        first outcome.now desk.old.following desk.old.printed desk.old.output
+        → ListensToEnd
+        (record { adds = W.adds; failures = W.failures })
+        (record { adds = E.adds; failures = E.failures })
+        outcome.now first desk.new.output desk.old.errors desk.new.errors result }
+{
+    match outcome {
+        Ok(report) => {
+            if desk.following == Following::Failed {
+                print_failed_report(report, &mut desk.errors)
+            } else {
+                print_report(
+                    alloc,
+                    report,
+                    desk.printed,
+                    &mut desk.output,
+                    &mut desk.errors,
+                )
+            }
+        }
+        Err(fault) => fail(fault_line(*fault), &mut desk.errors),
+    }
+}
+
+/// Whether lines are printed while a run of these settings goes on.
+fn following_of(settings: &ListenSettings) -> Following
+    ensures { result ≢ Following.Failed }
+{
+    if settings.follow {
+        Following::On
+    } else {
+        Following::Off
+    }
+}
+
+/// Listens on these sockets, in the order of the settings' lines, until all have ended or the settings
+/// end the run; then prints the report for a subscriber that wants every change. Returns the status of
+/// the program: 0, or 1 where a line failed, the run stopped early, or not all was printed.
+///
+/// Where the settings ask for it, best lines are printed as they come, and counts are told on standard
+/// error.
 pub fn listen_with<R, C, W, E>(
     rt: &R,
     clock: &C,
     alloc: Global,
     settings: &ListenSettings,
     sockets: Vec<UdpSocket>,
-    terms: Terms,
-    output: &mut W,
-    errors: &mut E,
-) -> u8
+    input: Stdin,
+    output: W,
+    errors: E,
+) -> (u8, W, E)
 where
     R: Threads + Wait + Sync,
     C: Clock + Clone + Drop + Send,
-    W: TextOut,
-    E: TextOut,
+    W: TextOut + Drop + Send,
+    E: TextOut + Drop + Send,
     ensures { Listens
         (record { adds = W.adds; failures = W.failures })
         (record { adds = E.adds; failures = E.failures })
-        output.old output.new errors.old errors.new result }
+        settings.now output result.1 errors result.2 result.0 }
 {
-    let Ok(feed) = LiveFeed::<Anything>::new(alloc, &config_of(settings)) else {
-        return fail(NO_MEMORY, errors);
+    let mut desk = Desk::new(output, errors, following_of(settings));
+    let (Ok(feed), Ok(sources), Ok(attendant)) = (
+        LiveFeed::<Anything>::new(alloc, &config_of(settings)),
+        sources_over(alloc, settings, sockets, clock),
+        Attendant::of(alloc, settings, input, clock),
+    ) else {
+        let status = print_end(alloc, &Err(ListenFault::NoMemory), &mut desk);
+        return (status, desk.output, desk.errors);
     };
-    match run_feed::<Brand, R, C>(rt, alloc, feed, settings, sockets, terms, clock) {
-        Ok(report) => print_report(alloc, &report, output, errors),
-        Err(fault) => fail(fault_line(fault), errors),
-    }
+    let task = ListenTask {
+        sources,
+        terms: Terms::All,
+        attendant,
+        desk,
+    };
+    let Listened { outcome, mut desk } = run_feed::<Brand, R, C, W, E>(rt, alloc, feed, task);
+    let status = print_end(alloc, &outcome, &mut desk);
+    (status, desk.output, desk.errors)
 }

@@ -1,17 +1,25 @@
 //! Listening on live lines, until all have ended.
-ghost use Rattle.std.specs.Prelude.{◌≡◌, ◌/◌, ◌≤◌, IfOk, OnErr};
-ghost use Rattle.udp_listening.specs.Listening.{IsFeedOf, IsSourceOf, line_at};
+ghost use Rattle.std.specs.Prelude.{◌≡◌, Err, None};
+ghost use Rattle.feed_text.specs.Devices.{Writing};
+ghost use Rattle.udp_listening.specs.Listening.{HasFollowed, HasListened, IsFeedOf, IsUnprinted};
 
-use crate::lack::Lack;
+use crate::attendant::{Attendance, Attendant, Turn};
+use crate::desk::Desk;
+use crate::ended_lines::part_lines;
+use crate::lack::{Lack, lacks_in};
+use crate::sources::line_at;
 use crate::udp_line::UdpLine;
 use command_words::ListenSettings;
-use feed_types::{Anything, FeedConfig, LineId, VenueId};
+use feed_text::TextOut;
+use feed_types::{Anything, FeedConfig, LineId, MAX_VENUES, VenueId};
 use filter_terms::{Filter, Strategy, Terms};
-use live_feed::{FeedName, Line, LineEnd, LineSeat, LiveFeed, SettleFault, Settlement, Stop};
+use live_feed::{
+    FeedName, Line, LineSource, LiveFeed, SettleFault, Settlement, Shareable, Stop, SubscriberLog,
+};
 use std::alloc::{AllocError, Global};
-use std::net::UdpSocket;
 use std::rt::Clock;
 use std::sync::Wait;
+use std::thread;
 use std::thread::Threads;
 
 /// The number of items that a venue's lane, and a subscriber's, holds.
@@ -61,93 +69,39 @@ pub fn config_of(settings: &ListenSettings) -> FeedConfig<'_>
     }
 }
 
-/// The venue and the line at a place of the settings, of which there are 32 at most.
-fn place_of(place: usize) -> Result<(VenueId, LineId), ListenFault>
-    ensures at { IfOk result (λ at. (at.0 ≡ place / 2) × (at.1 ≡ line_at place)) }
-    ensures past { OnErr result (32 ≤ place) }
-{
-    let Some(venue) = VenueId::from_index(place / 2) else {
-        return Err(ListenFault::Unsettled);
-    };
-    let line = if place % 2 == 0 { LineId::A } else { LineId::B };
-    Ok((venue, line))
-}
-
-/// Makes the line of this seat, which the socket receives.
-fn line_over<N: FeedName, C: Clock + Drop>(
-    alloc: Global,
-    settings: &ListenSettings,
-    seat: LineSeat<Anything, N>,
-    socket: UdpSocket,
-    clock: C,
-) -> Result<Line<Anything, N, UdpLine<C>>, ListenFault>
-    ensures seat { IfOk result (λ line. line.seat ≡ seat) }
-    ensures source { IfOk result (λ line. IsSourceOf settings.now seat.venue line.source) }
-{
-    let venue = seat.venue();
-    let source = UdpLine::new(
-        alloc,
-        venue,
-        socket,
-        settings.datagrams,
-        settings.request,
-        clock,
-    )?;
-    match Line::new(seat, source) {
-        Ok(line) => Ok(line),
-        Err(_) => Err(ListenFault::Unsettled),
-    }
-}
-
-/// Appends it to the list. NoMemory where memory was refused.
-fn append<T: Drop>(list: &mut Vec<T>, item: T) -> Result<(), ListenFault> {
-    match list.push(item) {
-        Ok(()) => Ok(()),
-        Err(_) => Err(ListenFault::NoMemory),
-    }
-}
-
-/// What is left of the lines of a run.
+/// What is run: the lines' sources in the order of the settings, what the subscriber wants, and who is beside the run,
+/// with where the program prints.
 #[derive(Drop)]
-struct Ended<N> {
-    /// Their seats.
-    seats: Vec<LineSeat<Anything, N>>,
-    /// Those that failed.
-    failed: Vec<(VenueId, LineId)>,
-    /// Those that have read as many datagrams as they may.
-    read_out: Vec<(VenueId, LineId)>,
+pub struct ListenTask<C, W, E> {
+    pub sources: Vec<UdpLine<C>>,
+    pub terms: Terms,
+    pub attendant: Attendant<C>,
+    pub desk: Desk<W, E>,
 }
 
-/// Parts lines that have ended.
-fn part_lines<N: FeedName, C: Drop>(
-    alloc: Global,
-    ends: Vec<LineEnd<Anything, N, UdpLine<C>>>,
-) -> Result<Ended<N>, ListenFault> {
-    let mut seats = Vec::with_capacity(alloc, ends.len())?;
-    let mut failed = Vec::new(alloc);
-    let mut read_out = Vec::new(alloc);
-    for end in ends {
-        let LineEnd {
-            seat,
-            source,
-            fault,
-            ..
-        } = end;
-        if fault.is_some() {
-            append(&mut failed, (seat.venue(), seat.line()))?;
-        }
-        if source.is_read_out() {
-            append(&mut read_out, (seat.venue(), seat.line()))?;
-        }
-        append(&mut seats, seat)?;
+/// The end of listening: a report, or why there is none, and where the program prints.
+#[derive(Drop)]
+pub struct Listened<W, E> {
+    /// The report, or why there is none.
+    pub outcome: Result<ListenReport, ListenFault>,
+    /// Where the program prints.
+    pub desk: Desk<W, E>,
+}
+
+/// The end of listening without a report.
+fn unreported<W, E>(fault: ListenFault, desk: Desk<W, E>) -> Listened<W, E>
+    ensures { result ≡ record { outcome = Err fault; desk = desk } }
+{
+    Listened {
+        outcome: Err(fault),
+        desk,
     }
-    Ok(Ended {
-        seats,
-        failed,
-        read_out,
-    })
 }
 
+/// A line that is received by UDP, of the feed N.
+type UdpLineOf<N, C> = Line<Anything, N, UdpLine<C>>;
+
+/// The fault of listening where the feed wasn't settled.
 fn fault_of(fault: SettleFault) -> ListenFault {
     match fault {
         SettleFault::NoMemory => ListenFault::NoMemory,
@@ -155,61 +109,139 @@ fn fault_of(fault: SettleFault) -> ListenFault {
     }
 }
 
-/// Runs the feed over these sockets until all lines have ended, with one subscriber, which wants
-/// what meets the terms and whose strategy always holds.
+/// Runs the feed over these sources until all lines have ended, with one subscriber, which wants
+/// what meets the terms. The attendant is beside the run, in a thread of its own, with the
+/// subscriber's log, which it polls.
 ///
 /// The feed is opened here and goes nowhere else: a stored closure could be handed to what has its
 /// locks.
-pub fn run_feed<N, R, C>(
+pub fn run_feed<N, R, C, W, E>(
     rt: &R,
     alloc: Global,
     feed: LiveFeed<Anything>,
-    settings: &ListenSettings,
-    sockets: Vec<UdpSocket>,
-    terms: Terms,
-    clock: &C,
-) -> Result<ListenReport, ListenFault>
+    task: ListenTask<C, W, E>,
+) -> Listened<W, E>
 where
     N: FeedName + Send + Sync,
     R: Threads + Wait + Sync,
-    C: Clock + Clone + Drop + Send,
-    requires { feed ≡ N.lanes }
+    C: Clock + Drop + Send,
+    W: TextOut + Drop + Send,
+    E: TextOut + Drop + Send,
+    requires lanes { feed ≡ N.lanes }
+    requires unprinted { IsUnprinted (record { adds = W.adds; failures = W.failures })
+        task.desk.following task.desk.printed task.desk.output }
+    ensures listened { HasListened (record { adds = W.adds; failures = W.failures })
+        task.desk.output result.outcome result.desk.following result.desk.printed
+        result.desk.output }
+    ensures quiet { task.attendant.counts ≡ None → result.desk.errors ≡ task.desk.errors }
 {
+    let ListenTask {
+        sources,
+        terms,
+        attendant,
+        desk,
+    } = task;
     let Ok(feed) = feed.open::<N>(alloc) else {
-        return Err(ListenFault::NoMemory);
+        return unreported(ListenFault::NoMemory, desk);
     };
-    let made = feed.subscribe(rt, alloc, Filter::of(terms), Strategy::holding());
-    let Ok(subscriber) = made else {
-        return Err(ListenFault::NoMemory);
-    };
-    let Ok(subscribers) = Vec::from_array(alloc, [subscriber]) else {
-        return Err(ListenFault::NoMemory);
-    };
-    let mut lines = Vec::with_capacity(alloc, sockets.len())?;
-    for (place, socket) in sockets.into_iter().enumerate() {
-        let (venue, id) = place_of(place)?;
-        let Ok(seat) = feed.line_seat(rt, venue, id) else {
-            return Err(ListenFault::Unsettled);
-        };
-        let line = line_over(alloc, settings, seat, socket, clock.clone()?)?;
-        if lines.push(line).is_err() {
+    let prepare = || -> Result<(SubscriberLog<N>, Vec<UdpLineOf<N, C>>), ListenFault> {
+        let made = feed.subscribe(rt, alloc, Filter::of(terms), Strategy::holding());
+        let (Ok(subscriber), Ok(mut lines)) = (made, Vec::with_capacity(alloc, sources.len()))
+        else {
             return Err(ListenFault::NoMemory);
-        }
-    }
-    let Ok(report) = feed.run(rt, alloc, lines, subscribers) else {
-        return Err(ListenFault::NoMemory);
-    };
-    let mut lacking = Vec::new(alloc);
-    for place in 0..settings.feed.sessions.len() {
-        let Some(venue) = VenueId::from_index(place) else {
-            break;
         };
-        if let Ok(Some(gap)) = feed.due(rt, venue, u64::MAX) {
-            append(&mut lacking, Lack::of(venue, &gap))?;
+        for (place, source) in sources.into_iter().enumerate() {
+            let Ok(seat) = feed.line_seat(rt, source.venue(), line_at(place)) else {
+                return Err(ListenFault::Unsettled);
+            };
+            let Ok(line) = Line::new(seat, source) else {
+                return Err(ListenFault::Unsettled);
+            };
+            if lines.push(line).is_err() {
+                return Err(ListenFault::NoMemory);
+            }
+        }
+        Ok((subscriber.into_log(), lines))
+    };
+    let (log, lines) = match prepare() {
+        Ok(prepared) => prepared,
+        Err(fault) => return unreported(fault, desk),
+    };
+    let Ok(progress) = attendant.share_progress() else {
+        return unreported(ListenFault::NoMemory, desk);
+    };
+    let attendance = Attendance {
+        attendant,
+        desk,
+        log,
+    };
+    feed.show_shareable();
+    let (attendance, ran) = thread::join(
+        rt,
+        || -> Attendance<N, C, W, E>
+            ensures shows { (first : W) → HasFollowed
+                (record { adds = W.adds; failures = W.failures }) first
+                attendance.log.lines attendance.desk.following attendance.desk.printed
+                attendance.desk.output
+                → HasFollowed (record { adds = W.adds; failures = W.failures }) first
+                result.log.lines result.desk.following result.desk.printed result.desk.output }
+            ensures quiet { attendance.attendant.counts ≡ None
+                → (result.desk.errors ≡ attendance.desk.errors)
+                × (result.attendant.counts ≡ None) }
+        {
+            let mut attendance = attendance;
+            let Ok(stop) = feed.stop_handle() else {
+                return attendance;
+            };
+            for _ in rt.forever() {
+                match attendance.turn(rt) {
+                    Turn::Over => break,
+                    Turn::Stop => stop.stop(),
+                    Turn::Tell => {
+                        for place in 0..MAX_VENUES {
+                            if let Ok(status) = feed.status(rt, VenueId::at(place)) {
+                                attendance.tell(place, &status);
+                            }
+                        }
+                        attendance.pass_period();
+                    }
+                    Turn::Look => {}
+                }
+            }
+            attendance
+        },
+        || {
+            let ran = feed.run(rt, alloc, lines, Vec::new(alloc));
+            progress.end();
+            ran.ok()
+        },
+    );
+    let mut statuses = Vec::new(alloc);
+    for place in 0..MAX_VENUES {
+        if let Ok(status) = feed.status(rt, VenueId::at(place)) {
+            if statuses.push(status).is_err() {
+                return unreported(ListenFault::NoMemory, attendance.desk);
+            }
         }
     }
-    let ended = part_lines(alloc, report.lines)?;
-    match feed.settle(rt, alloc, ended.seats, report.subscribers) {
+    let mut attendance = attendance;
+    attendance.tell_all(statuses.as_slice());
+    let Attendance {
+        desk,
+        log,
+        attendant: _,
+    } = attendance;
+    let (Some(report), Ok(subscribers), Ok(lacking)) = (
+        ran,
+        Vec::from_array(alloc, [log.into_subscriber()]),
+        lacks_in(alloc, statuses.as_slice()),
+    ) else {
+        return unreported(ListenFault::NoMemory, desk);
+    };
+    let Ok(ended) = part_lines(alloc, report.lines) else {
+        return unreported(ListenFault::NoMemory, desk);
+    };
+    let outcome = match feed.settle(rt, alloc, ended.seats, subscribers) {
         Ok(settlement) => Ok(ListenReport {
             failed: ended.failed,
             stopped: report.stopped,
@@ -218,5 +250,6 @@ where
             settlement,
         }),
         Err(unsettled) => Err(fault_of(unsettled.fault)),
-    }
+    };
+    Listened { outcome, desk }
 }

@@ -1,5 +1,5 @@
 //! The text of a settled feed.
-ghost use Rattle.std.specs.Prelude.{◌≡◌, ◌++◌, ◌<◌, flat_map, length, IfOk, IfSome, OnOk, slice_get, take};
+ghost use Rattle.std.specs.Prelude.{◌≡◌, ◌++◌, ◌<◌, drop, flat_map, length, IfOk, IfSome, OnOk, slice_get, take};
 ghost use Rattle.feed_text.specs.Lines.{best_line};
 ghost use Rattle.udp_listening.specs.Listening.{end_line, end_lines, subscriber_lines, summary_text};
 
@@ -18,8 +18,19 @@ fn put_notices(text: &mut LineBuffer, notices: &[Notice]) -> Result<(), AllocErr
     Ok(())
 }
 
+/// What is left of a log after its first `printed` lines.
+pub fn unprinted(log: &[Logged], printed: usize) -> &[Logged]
+    ensures { result.now ≡ drop printed log.now }
+{
+    if printed <= log.len() {
+        &log[printed..]
+    } else {
+        &[]
+    }
+}
+
 /// Appends the best lines of the notices that a subscriber took.
-fn put_log(text: &mut LineBuffer, log: &[Logged]) -> Result<(), AllocError>
+pub fn put_log(text: &mut LineBuffer, log: &[Logged]) -> Result<(), AllocError>
     ensures { OnOk result (text.new.items
         ≡ text.old.items ++ flat_map (λ logged. best_line logged.notice) log.now) }
 {
@@ -42,32 +53,38 @@ fn put_end(text: &mut LineBuffer, settlement: &Settlement, venue: VenueId) -> Re
     put_venue(text, venue, sent, a, b, recovery)
 }
 
-/// Appends the best lines of everything that the subscriber wanted: what it took, what was still in
-/// its lane, and what was not offered. The id is below the number of subscribers.
+/// Appends the best lines of everything that the subscriber wanted: what it took, but for what was
+/// printed, what was still in its lane, and what was not offered. The id is below the number of
+/// subscribers.
 fn put_bests(
     text: &mut LineBuffer,
     settlement: &Settlement,
     id: SubscriberId,
+    printed: usize,
 ) -> Result<(), AllocError>
     requires { id < length settlement.now.subscribers }
     ensures { OnOk result (IfSome (slice_get settlement.now.subscribers id)
-        (λ x. text.new.items ≡ text.old.items ++ subscriber_lines x)) }
+        (λ x. text.new.items ≡ text.old.items ++ subscriber_lines printed x)) }
 {
-    put_log(text, settlement.log(id))?;
+    put_log(text, unprinted(settlement.log(id), printed))?;
     put_notices(text, settlement.queued(id))?;
     put_notices(text, settlement.unoffered(id))
 }
 
-/// Appends the best lines of the first subscriber, if there is one.
-fn put_first_bests(text: &mut LineBuffer, settlement: &Settlement) -> Result<(), AllocError>
-    ensures { OnOk result (text.new.items
-        ≡ text.old.items ++ flat_map subscriber_lines (take 1 settlement.now.subscribers)) }
+/// Appends the best lines of the first subscriber, if there is one, but for the printed ones.
+fn put_first_bests(
+    text: &mut LineBuffer,
+    settlement: &Settlement,
+    printed: usize,
+) -> Result<(), AllocError>
+    ensures { OnOk result (text.new.items ≡ text.old.items
+        ++ flat_map (λ x. subscriber_lines printed x) (take 1 settlement.now.subscribers)) }
 {
     if settlement.subscriber_count() == 0 {
         return Ok(());
     }
     match SubscriberId::new(0) {
-        Some(id) => put_bests(text, settlement, id),
+        Some(id) => put_bests(text, settlement, id, printed),
         None => unreachable!(),
     }
 }
@@ -85,13 +102,17 @@ fn put_ends(text: &mut LineBuffer, settlement: &Settlement) -> Result<(), AllocE
     Ok(())
 }
 
-/// The text that is printed once all lines have ended: the best lines of the first subscriber, and
-/// then a line for each venue.
-pub fn summary_of(alloc: Global, settlement: &Settlement) -> Result<LineBuffer, AllocError>
-    ensures { IfOk result (λ text. text.items ≡ summary_text settlement.now) }
+/// The text that is printed once all lines have ended: the best lines of the first subscriber, but for
+/// the first `printed` ones of its log, and then a line for each venue.
+pub fn summary_of(
+    alloc: Global,
+    settlement: &Settlement,
+    printed: usize,
+) -> Result<LineBuffer, AllocError>
+    ensures { IfOk result (λ text. text.items ≡ summary_text printed settlement.now) }
 {
     let mut text = LineBuffer::new(alloc);
-    put_first_bests(&mut text, settlement)?;
+    put_first_bests(&mut text, settlement, printed)?;
     put_ends(&mut text, settlement)?;
     Ok(text)
 }

@@ -131,7 +131,7 @@ fn is_end(bytes: &[u8]) -> bool
 }
 
 /// The whole milliseconds of a time, 2^64 - 1 at most.
-fn millis(time: Duration) -> u64
+pub fn millis(time: Duration) -> u64
     ensures { result ≡ min (as_nanos time / 1_000_000) (2 ^ 64 - 1) }
 {
     let rest = u64::from(time.subsec_millis());

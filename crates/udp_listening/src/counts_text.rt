@@ -1,0 +1,116 @@
+//! The counts of venues and lines as text: a line for each venue and period, and a table at the end.
+
+use crate::live_counts::{LineCounts, REFUSALS, VenueCounts};
+use std::alloc::{AllocError, Global};
+
+/// The heads of the table's columns, of lines and of venues.
+const LINE_HEADS: &str =
+    "nbbo: venue line    packets   messages        new   repeated heartbeats      ahead    refused\n";
+
+const VENUE_HEADS: &str = "nbbo: venue         sent      known        lag      lacks   requests\n";
+
+/// The numbers of the refusals that there were, each with how many: ` 7:2 10:1`.
+fn refusals_text(alloc: Global, refused: &[u64; REFUSALS]) -> Result<String, AllocError> {
+    let mut text = String::new(alloc);
+    for (number, count) in refused.iter().enumerate() {
+        if *count > 0 {
+            text.push_str(format!(in alloc; " {number}:{count}")?.as_str())?;
+        }
+    }
+    Ok(text)
+}
+
+/// What a line has brought in a period.
+fn line_text(alloc: Global, counts: &LineCounts) -> Result<String, AllocError> {
+    let packets = counts.datagrams();
+    let messages = counts.messages();
+    let LineCounts {
+        new,
+        repeated,
+        ahead,
+        ..
+    } = *counts;
+    let refused = counts.refusals();
+    let numbers = refusals_text(alloc, &counts.refused)?;
+    let numbers = numbers.as_str();
+    format!(in alloc;
+        "packets {packets} messages {messages} new {new} repeated {repeated} ahead {ahead} refused {refused}{numbers}"
+    )
+}
+
+/// Returns the line of a venue after `seconds` seconds, of what was counted in a period.
+pub fn period_text(
+    alloc: Global,
+    seconds: u64,
+    place: usize,
+    counts: &VenueCounts,
+) -> Result<String, AllocError> {
+    let VenueCounts {
+        sent,
+        known,
+        lacking,
+        requests,
+        ..
+    } = *counts;
+    let lag = counts.lag();
+    let a = line_text(alloc, &counts.a)?;
+    let b = line_text(alloc, &counts.b)?;
+    let (a, b) = (a.as_str(), b.as_str());
+    format!(in alloc;
+        "nbbo: second {seconds} venue {place} sent {sent} known {known} lag {lag} lacks {lacking} requests {requests} A {a} B {b}\n"
+    )
+}
+
+/// The table's row of a line.
+fn line_row(
+    alloc: Global,
+    place: usize,
+    line: &str,
+    counts: &LineCounts,
+) -> Result<String, AllocError> {
+    let packets = counts.datagrams();
+    let messages = counts.messages();
+    let LineCounts {
+        new,
+        repeated,
+        heartbeats,
+        ahead,
+        ..
+    } = *counts;
+    let refused = counts.refusals();
+    let numbers = refusals_text(alloc, &counts.refused)?;
+    let numbers = numbers.as_str();
+    format!(in alloc;
+        "nbbo: {place:>5} {line:>4} {packets:>10} {messages:>10} {new:>10} {repeated:>10} {heartbeats:>10} {ahead:>10} {refused:>10}{numbers}\n"
+    )
+}
+
+/// The table's row of a venue.
+fn venue_row(alloc: Global, place: usize, counts: &VenueCounts) -> Result<String, AllocError> {
+    let VenueCounts {
+        sent,
+        known,
+        lacking,
+        requests,
+        ..
+    } = *counts;
+    let lag = counts.lag();
+    format!(in alloc;
+        "nbbo: {place:>5}   {sent:>10} {known:>10} {lag:>10} {lacking:>10} {requests:>10}\n"
+    )
+}
+
+/// Returns the table of all venues' counts: a row for each line, and then one for each venue.
+pub fn table_text(alloc: Global, venues: &[VenueCounts]) -> Result<String, AllocError> {
+    let mut text = String::new(alloc);
+    text.push_str(LINE_HEADS)?;
+    for (place, counts) in venues.iter().enumerate() {
+        text.push_str(line_row(alloc, place, "A", &counts.a)?.as_str())?;
+        text.push_str(line_row(alloc, place, "B", &counts.b)?.as_str())?;
+    }
+    text.push_str(VENUE_HEADS)?;
+    for (place, counts) in venues.iter().enumerate() {
+        text.push_str(venue_row(alloc, place, counts)?.as_str())?;
+    }
+    Ok(text)
+}

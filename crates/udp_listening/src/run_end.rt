@@ -1,0 +1,68 @@
+//! When a run is ended from outside.
+
+use crate::elapsed::Elapsed;
+use crate::input_end::InputEnd;
+use command_words::ListenSettings;
+use std::io::Stdin;
+use std::time::Clock;
+
+/// The most milliseconds between two looks.
+const LOOK_MS: u64 = 100;
+
+/// When a run is ended from outside: after some seconds, when standard input ends, or never.
+#[derive(Drop)]
+pub struct RunEnd {
+    after_ms: Option<u64>,
+    input: Option<InputEnd>,
+}
+
+impl RunEnd {
+    /// The end that the settings ask for.
+    pub fn of(settings: &ListenSettings, input: Stdin) -> RunEnd {
+        RunEnd {
+            after_ms: settings.seconds.map(|seconds| u64::from(seconds) * 1_000),
+            input: if settings.until_input_ends {
+                Some(InputEnd::new(input))
+            } else {
+                None
+            },
+        }
+    }
+
+    /// Whether the run is to end, so long after it began.
+    pub fn is_due<C: Clock>(&self, elapsed: &Elapsed<C>) -> bool {
+        let is_over = match self.after_ms {
+            Some(after_ms) => elapsed.ms() >= after_ms,
+            None => false,
+        };
+        let has_ended = match &self.input {
+            Some(input) => input.is_seen(),
+            None => false,
+        };
+        is_over || has_ended
+    }
+
+    /// How long to wait at most until the next look: `most` milliseconds, 100, or until the seconds are
+    /// over.
+    fn wait_ms<C: Clock>(&self, elapsed: &Elapsed<C>, most: u64) -> u16 {
+        let most = most.min(LOOK_MS);
+        let left = match self.after_ms {
+            Some(after_ms) => most.min(after_ms.saturating_sub(elapsed.ms())),
+            None => most,
+        };
+        left.min(LOOK_MS) as u16
+    }
+
+    /// Waits at most `most` milliseconds, and less where the run is to end before.
+    pub fn wait<C: Clock>(&mut self, elapsed: &mut Elapsed<C>, most: u64) {
+        let ms = self.wait_ms(elapsed, most);
+        let has_waited = match &mut self.input {
+            Some(input) if !input.is_seen() => input.wait(ms),
+            _ => false,
+        };
+        if !has_waited && ms > 0 {
+            elapsed.sleep(u64::from(ms));
+        }
+        elapsed.look(u64::from(ms));
+    }
+}

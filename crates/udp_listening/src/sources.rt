@@ -1,0 +1,54 @@
+//! The sources of a feed's lines.
+ghost use Rattle.std.specs.Prelude.{◌≡◌, ◌/◌, ◌<◌, IfOk};
+ghost use Rattle.udp_listening.specs.Listening.{IsSourceOf, line_at};
+
+use crate::udp_line::UdpLine;
+use command_words::ListenSettings;
+use feed_types::{LineId, MAX_VENUES, VenueId};
+use std::alloc::{AllocError, Global};
+use std::net::UdpSocket;
+use std::rt::Clock;
+
+/// The line at a place of the settings: line A's and then line B's, those of venue 0 first.
+pub fn line_at(place: usize) -> LineId
+    ensures { result ≡ line_at place }
+{
+    if place % 2 == 0 { LineId::A } else { LineId::B }
+}
+
+/// The source at a place of the settings, which the socket receives.
+fn source_at<C: Clock + Drop>(
+    alloc: Global,
+    settings: &ListenSettings,
+    place: usize,
+    socket: UdpSocket,
+    clock: C,
+) -> Result<UdpLine<C>, AllocError>
+    requires { place < 32 }
+    ensures { IfOk result (IsSourceOf settings.now (place / 2)) }
+{
+    UdpLine::new(
+        alloc,
+        VenueId::at(place / 2),
+        socket,
+        settings.datagrams,
+        settings.request,
+        clock,
+    )
+}
+
+/// Makes the sources of the settings' lines, which these sockets receive, in the order of the settings. There are 32
+/// lines at most.
+pub fn sources_over<C: Clock + Clone + Drop>(
+    alloc: Global,
+    settings: &ListenSettings,
+    sockets: Vec<UdpSocket>,
+    clock: &C,
+) -> Result<Vec<UdpLine<C>>, AllocError> {
+    let mut sources = Vec::with_capacity(alloc, sockets.len())?;
+    for (place, socket) in sockets.into_iter().take(2 * MAX_VENUES).enumerate() {
+        let source = source_at(alloc, settings, place, socket, clock.clone()?)?;
+        sources.push(source)?;
+    }
+    Ok(sources)
+}
