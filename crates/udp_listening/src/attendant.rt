@@ -1,5 +1,5 @@
-//! What is beside a run: it takes what the subscriber is offered, prints it where that is asked for, says what was
-//! counted, and says when the run is to end.
+//! The attendant of a run, in a thread beside it: it takes what the subscriber is offered, prints it where that is
+//! asked for, says what was counted, and says when the run is to end.
 ghost use Rattle.std.specs.Prelude.{◌≡◌, None, IfOk};
 ghost use Rattle.feed_text.specs.Devices.{Writing};
 ghost use Rattle.udp_listening.specs.Listening.{HasFollowed};
@@ -36,7 +36,7 @@ pub enum Turn {
     Look,
 }
 
-/// Who is beside a run.
+/// When a run is ended from outside, and what is said of it meanwhile.
 #[derive(Drop)]
 pub struct Attendant<C> {
     progress: RunProgress,
@@ -100,8 +100,8 @@ impl<C: Clock + Drop> Attendant<C> {
         }
     }
 
-    /// What is to be done at a run that goes on, where nothing was taken just now: it waits where nothing is.
-    fn look_on(&mut self, following: Following) -> Turn
+    /// What is to be done at a run that goes on. Where nothing is, and nothing was taken just now either, it waits.
+    fn look_on(&mut self, following: Following, has_taken: bool) -> Turn
         ensures { self.new.counts ≡ self.old.counts }
     {
         let is_to_end = self.end.is_due(&self.elapsed) || following == Following::Failed;
@@ -112,13 +112,17 @@ impl<C: Clock + Drop> Attendant<C> {
         if self.are_counts_due() {
             return Turn::Tell;
         }
-        let most = self.most_ms(following);
+        let most = if has_taken {
+            0
+        } else {
+            self.most_ms(following)
+        };
         self.end.wait(&mut self.elapsed, most);
         Turn::Look
     }
 }
 
-/// An attendant at its work: with where the program prints, and with the subscriber's log.
+/// An attendant at its work: with where the program prints, and the subscriber's log.
 #[derive(Drop)]
 pub struct Attendance<N: FeedName, C, W, E> {
     pub attendant: Attendant<C>,
@@ -139,17 +143,14 @@ impl<N: FeedName, C: Clock + Drop, W: TextOut, E: TextOut> Attendance<N, C, W, E
         ensures errors { self.new.desk.errors ≡ self.old.desk.errors }
         ensures counts { self.new.attendant.counts ≡ self.old.attendant.counts }
     {
-        let is_last = self.attendant.progress.is_over();
-        if self
+        let is_over = self.attendant.progress.is_over();
+        let has_taken = self
             .desk
-            .follow(rt, &mut self.attendant.text, &mut self.log)
-        {
-            return Turn::Look;
-        }
-        if is_last {
+            .follow(rt, &mut self.attendant.text, &mut self.log);
+        if is_over && !has_taken {
             return Turn::Over;
         }
-        self.attendant.look_on(self.desk.following)
+        self.attendant.look_on(self.desk.following, has_taken)
     }
 
     /// Says what was counted of the venue at this place, where counts are asked for.

@@ -69,8 +69,8 @@ pub fn config_of(settings: &ListenSettings) -> FeedConfig<'_>
     }
 }
 
-/// What is run: the lines' sources in the order of the settings, what the subscriber wants, and who is beside the run,
-/// with where the program prints.
+/// What is run: the lines' sources in the order of the settings, what the subscriber wants, the run's
+/// attendant, and where the program prints.
 #[derive(Drop)]
 pub struct ListenTask<C, W, E> {
     pub sources: Vec<UdpLine<C>>,
@@ -111,7 +111,8 @@ fn fault_of(fault: SettleFault) -> ListenFault {
 
 /// Runs the feed over these sources until all lines have ended, with one subscriber, which wants
 /// what meets the terms. The attendant is beside the run, in a thread of its own, with the
-/// subscriber's log, which it polls.
+/// subscriber's log, which it polls. Where no thread can be had for it, `join` calls it once the run
+/// is over.
 ///
 /// The feed is opened here and goes nowhere else: a stored closure could be handed to what has its
 /// locks.
@@ -176,8 +177,13 @@ where
         log,
     };
     feed.show_shareable();
-    let (attendance, ran) = thread::join(
+    let (ran, attendance) = thread::join(
         rt,
+        || {
+            let ran = feed.run(rt, alloc, lines, Vec::new(alloc));
+            progress.end();
+            ran.ok()
+        },
         || -> Attendance<N, C, W, E>
             ensures shows { (first : W) → HasFollowed
                 (record { adds = W.adds; failures = W.failures }) first
@@ -209,11 +215,6 @@ where
                 }
             }
             attendance
-        },
-        || {
-            let ran = feed.run(rt, alloc, lines, Vec::new(alloc));
-            progress.end();
-            ran.ok()
         },
     );
     let mut statuses = Vec::new(alloc);

@@ -29,7 +29,7 @@ impl RunEnd {
         }
     }
 
-    /// Whether the run is to end, so long after it began.
+    /// Whether the run is to end now, by the time since it began.
     pub fn is_due<C: Clock>(&self, elapsed: &Elapsed<C>) -> bool {
         let is_over = match self.after_ms {
             Some(after_ms) => elapsed.ms() >= after_ms,

@@ -1,7 +1,7 @@
 use Rattle.std.proofs.Common.{◌≡◌, None}
 use Rattle.feed_text.specs.Devices.{Writing}
 use Rattle.udp_listening.specs.Listening.{HasFollowed}
-use Rattle.udp_listening.proofs.listening.fn.run_feed.join+arg2.Given as goal
+use Rattle.udp_listening.proofs.listening.fn.run_feed.join+arg3.Given as goal
 
 abbrev pub invariant-loop-place : goal.invariant-loop-place
 invariant-loop-place g l =
