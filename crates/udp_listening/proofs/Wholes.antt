@@ -11,7 +11,7 @@ use Rattle.live_feed.specs.Lanes.{FeedLanes}
 use Rattle.live_feed.specs.venue.Seats.{SeatState}
 use Rattle.live_feed.specs.settle.Settlements.{IsSettlement, SettlementState, SubscriberEndState}
 use Rattle.live_feed.specs.subscriber.Logs.{SubscriberLogState}
-use Rattle.udp_listening.specs.Listening.{HasFollowed, HasListened, HasPrinted, ListensToEnd, PrintsAll, PrintsEnd, PrintsFailedReport, PrintsReport, end_lines, first_lines, log_lines, report_status, settled_log, subscriber_lines, summary_text}
+use Rattle.udp_listening.specs.Listening.{HasFollowed, HasListened, HasPrinted, ListensToEnd, PrintsAll, PrintsEnd, PrintsFailedReport, PrintsReport, PrintsRest, PrintsWhole, end_lines, first_lines, log_lines, settled_log, subscriber_lines, summary_text}
 use Rattle.udp_listening.specs.declared.desk.Following.{Following}
 use Rattle.udp_listening.specs.declared.desk.Following.TheVariants.{On, Off, Failed}
 use Rattle.udp_listening.specs.declared.listening.ListenFault.{ListenFault}
@@ -62,29 +62,6 @@ front_text s =
       ap (λ l. log_lines l ++ summary_text (length log) s) (sym all) ∙ whole_text (length log) s (omega arith),
     )
 
--- what is printed of a report in all: the text, or a part of it and why there is no more
-abbrev pub AllOf : {W E : Type 0} (writing : Writing W) (telling : Writing E)
-    (report : ListenReport) (first after : W) (said told : E) → ℕ → Type 0
-AllOf writing telling report first after said told status =
-    (writing.adds first (summary_text 0 report.settlement) after × (told ≡ said)
-    × (status ≡ report_status report.failed.items report.stopped))
-    ⊎ (Wrote writing.adds first (summary_text 0 report.settlement) after
-    × Says telling (codes "nbbo: no memory\n") said told × (status ≡ 1))
-    ⊎ (Wrote writing.adds first (summary_text 0 report.settlement) after
-    × (writing.failures after ≡ writing.failures first + 1)
-    × Says telling (codes "nbbo: write failed\n") said told × (status ≡ 1))
-
--- the same after lines that were printed
-abbrev pub RestOf : {W E : Type 0} (writing : Writing W) (telling : Writing E)
-    (report : ListenReport) (printed : ℕ) (mid after : W) (said told : E) → ℕ → Type 0
-RestOf writing telling report printed mid after said told status =
-    (writing.adds mid (summary_text printed report.settlement) after × (told ≡ said)
-    × (status ≡ report_status report.failed.items report.stopped))
-    ⊎ ((after ≡ mid) × Says telling (codes "nbbo: no memory\n") said told × (status ≡ 1))
-    ⊎ (Wrote writing.adds mid (summary_text printed report.settlement) after
-    × (writing.failures after ≡ writing.failures mid + 1)
-    × Says telling (codes "nbbo: write failed\n") said told × (status ≡ 1))
-
 abbrev pub More : {W : Type 0} → Writing W → Type 0
 More {W} writing =
     (s t u : W) (xs ys : List ℕ) → writing.adds s xs t → writing.adds t ys u → writing.adds s (xs ++ ys) u
@@ -92,8 +69,8 @@ More {W} writing =
 all_of_rest : {W E : Type 0} (writing : Writing W) (telling : Writing E) → More writing
     → (report : ListenReport) (printed : ℕ) (first mid after : W) (said told : E) (status : ℕ)
     → HasPrinted writing first (settled_log report.settlement) printed mid
-    → RestOf writing telling report printed mid after said told status
-    → AllOf writing telling report first after said told status
+    → PrintsRest writing telling report printed mid after said told status
+    → PrintsWhole writing telling report first after said told status
 all_of_rest writing telling more report printed first mid after said told status h (inl r) =
     let s : SettlementState = report.settlement in
     let front : List ℕ = log_lines (take printed (settled_log s)) in

@@ -189,19 +189,25 @@ abbrev pub report_status : List (ℕ × LineId) → Option Stop → ℕ
 report_status [] None = 0
 report_status failed stopped = 1
 
--- A report is printed: its texts are on standard error, and the summary on the output. Where that
--- couldn't be written, standard error says so at the end.
+-- The summary's lines that aren't printed yet are written; or memory for them is refused; or the
+-- output fails within them. Standard error says so.
+abbrev pub PrintsRest : {W E : Type 0} (writing : Writing W) (telling : Writing E)
+    (report : ListenReport) (printed : ℕ) (before after : W) (said told : E) → ℕ → Type 0
+PrintsRest writing telling report printed before after said told status =
+    (writing.adds before (summary_text printed report.settlement) after × (told ≡ said)
+    × (status ≡ report_status report.failed.items report.stopped))
+    ⊎ ((after ≡ before) × Says telling (codes "nbbo: no memory\n") said told × (status ≡ 1))
+    ⊎ (Wrote writing.adds before (summary_text printed report.settlement) after
+    × (writing.failures after ≡ writing.failures before + 1)
+    × Says telling (codes "nbbo: write failed\n") said told × (status ≡ 1))
+
+-- A report is printed: its texts are on standard error, and then the summary's rest on the output.
 pub record PrintsReport {W E : Type 0} (writing : Writing W) (telling : Writing E)
-    (report : ListenReport) (printed : ℕ) (before after : W) (silent told : E) (status : ℕ) : Type 0 where
+    (report : ListenReport) (printed : ℕ) (before after : W) (silent told : E)
+    (status : ℕ) : Type 0 where
   pub said : E
   pub says : SaysEach telling (report_texts report) silent said
-  pub prints :
-      (writing.adds before (summary_text printed report.settlement) after × (told ≡ said)
-      × (status ≡ report_status report.failed.items report.stopped))
-      ⊎ ((after ≡ before) × Says telling (codes "nbbo: no memory\n") said told × (status ≡ 1))
-      ⊎ (Wrote writing.adds before (summary_text printed report.settlement) after
-      × (writing.failures after ≡ writing.failures before + 1)
-      × Says telling (codes "nbbo: write failed\n") said told × (status ≡ 1))
+  pub prints : PrintsRest writing telling report printed before after said told status
 
 abbrev pub listen_fault_text : ListenFault → List ℕ
 listen_fault_text NoMemory = codes "nbbo: no memory\n"
@@ -230,21 +236,26 @@ PrintsEnd writing telling (Ok report) Off printed before after silent told statu
 PrintsEnd writing telling (Err fault) following printed before after silent told status =
     (after ≡ before) × Says telling (listen_fault_text fault) silent told × (status ≡ 1)
 
--- A report is printed, and all that its lines came to, from the beginning of the run on: its texts
--- are on standard error, and the whole summary on the output, or a part of it where memory is refused
--- or the output fails, which standard error says at the end.
+-- From the beginning of the run on the whole summary is written; or a part of it, where memory is
+-- refused or the output fails. Standard error says so.
+abbrev pub PrintsWhole : {W E : Type 0} (writing : Writing W) (telling : Writing E)
+    (report : ListenReport) (before after : W) (said told : E) → ℕ → Type 0
+PrintsWhole writing telling report before after said told status =
+    (writing.adds before (summary_text 0 report.settlement) after × (told ≡ said)
+    × (status ≡ report_status report.failed.items report.stopped))
+    ⊎ (Wrote writing.adds before (summary_text 0 report.settlement) after
+    × Says telling (codes "nbbo: no memory\n") said told × (status ≡ 1))
+    ⊎ (Wrote writing.adds before (summary_text 0 report.settlement) after
+    × (writing.failures after ≡ writing.failures before + 1)
+    × Says telling (codes "nbbo: write failed\n") said told × (status ≡ 1))
+
+-- A report is printed, and all that its lines came to: its texts are on standard error, and the
+-- whole summary on the output, of which some may be there before.
 pub record PrintsAll {W E : Type 0} (writing : Writing W) (telling : Writing E)
     (report : ListenReport) (before after : W) (silent told : E) (status : ℕ) : Type 0 where
   pub said : E
   pub says : SaysEach telling (report_texts report) silent said
-  pub prints :
-      (writing.adds before (summary_text 0 report.settlement) after × (told ≡ said)
-      × (status ≡ report_status report.failed.items report.stopped))
-      ⊎ (Wrote writing.adds before (summary_text 0 report.settlement) after
-      × Says telling (codes "nbbo: no memory\n") said told × (status ≡ 1))
-      ⊎ (Wrote writing.adds before (summary_text 0 report.settlement) after
-      × (writing.failures after ≡ writing.failures before + 1)
-      × Says telling (codes "nbbo: write failed\n") said told × (status ≡ 1))
+  pub prints : PrintsWhole writing telling report before after said told status
 
 -- Listening ends with a report, of which all is printed; or with none, which standard error says,
 -- and then the best lines of a log or a part of them are printed.
