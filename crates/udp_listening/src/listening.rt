@@ -182,7 +182,10 @@ where
         || {
             let ran = feed.run(rt, alloc, lines, Vec::new(alloc));
             progress.end();
-            ran.ok()
+            match ran {
+                Ok(report) => Some((report.lines, report.stopped)),
+                Err(_) => None,
+            }
         },
         || -> Attendance<N, C, W, E>
             ensures shows { (first : W) → HasFollowed
@@ -232,20 +235,20 @@ where
         log,
         attendant: _,
     } = attendance;
-    let (Some(report), Ok(subscribers), Ok(lacking)) = (
+    let (Some((lines, stopped)), Ok(subscribers), Ok(lacking)) = (
         ran,
         Vec::from_array(alloc, [log.into_subscriber()]),
         lacks_in(alloc, statuses.as_slice()),
     ) else {
         return unreported(ListenFault::NoMemory, desk);
     };
-    let Ok(ended) = part_lines(alloc, report.lines) else {
+    let Ok(ended) = part_lines(alloc, lines) else {
         return unreported(ListenFault::NoMemory, desk);
     };
     let outcome = match feed.settle(rt, alloc, ended.seats, subscribers) {
         Ok(settlement) => Ok(ListenReport {
             failed: ended.failed,
-            stopped: report.stopped,
+            stopped,
             read_out: ended.read_out,
             lacking,
             settlement,

@@ -1,10 +1,33 @@
 use Rattle.std.proofs.Common.{◌≡◌, [], ◌∷◌, ◌∙◌, ap, map, rules, subst, sym}
-use denote.Param.Send.{arg_send, param_send}
-use denote.Param.SendFields.{as_row_send, declared_send}
+use Rattle.std.specs.Prelude.{codes}
+use mir.Syntax.{named}
+use denote.RattleType.{RattleType}
+use denote.Ref.{ShrRef}
+use denote.Struct.Tuple.{TupleAt}
+use denote.Param.{param}
+use denote.Param.Callables.{held_fn}
+use denote.Param.Object.{Vt, ghosts_of}
+use denote.Param.Send.{IsSend, IsSync, arg_send, param_send, shr_send}
+use Rattle.std.proofs.Crossing.{sync}
+use Rattle.std.specs.contracts.vec.Vec as Vec
+use Rattle.std.specs.contracts.alloc.Global as Global
+use Rattle.std.specs.contracts.impls.GlobalAllocator.TheImpl.{ghosts as heap}
+use Rattle.feed_types.specs.contracts.genuine.Anything as Anything
+use Rattle.feed_types.specs.contracts.genuine.AnythingGenuine.TheImpl.{ghosts as anything}
 use Rattle.feed_text.specs.Devices.{Writing}
+use Rattle.live_feed.specs.contracts.feed.open_feed.OpenFeed as OpenFeed
+use Rattle.live_feed.specs.contracts.run.line.Line as Line
 use Rattle.udp_listening.specs.Listening.{HasFollowed, HasListened}
+use Rattle.udp_listening.specs.contracts.run_progress.RunProgress as RunProgress
+use Rattle.udp_listening.specs.contracts.udp_line.UdpLine as UdpLine
+use Rattle.udp_listening.specs.contracts.udp_line.UdpLineLineSourceAnything.TheImpl.{ghosts as source, no_dict}
+use Rattle.udp_listening.proofs.run_progress.RunProgress.TheSendSync.{the_send as progress_send}
+use Rattle.udp_listening.proofs.Crossing.{five_send, lines_send}
 use Rattle.udp_listening.proofs.Wholes.{settled_log_of}
 use Rattle.udp_listening.proofs.listening.run_feed.Goals.{in-Ok-settle, in-Err-settle}
+use Rattle.udp_listening.proofs.listening.run_feed.Lts.{arg-33-1}
+use Rattle.udp_listening.proofs.listening.run_feed.Object-1.{slots}
+use Rattle.udp_listening.proofs.listening.run_feed.OwnLists.{own-1, lawful-own-1}
 use Rattle.udp_listening.proofs.listening.run_feed.Goals as goal
 
 pub returns-in_default-clause-listened : goal.returns-in_default-clause-listened
@@ -90,5 +113,21 @@ returns-in_default-part_lines-clause-quiet g c =
     ap (λ r. r.desk.errors) c.unreported-in_default-part_lines.ensures
     ∙ (c.tell_all.ensures.quiet beside.1).0 ∙ beside.0
 
-pub join-ran-requires-send-G : goal.join-ran-requires-send-G
-join-ran-requires-send-G g c κs within = param_send _ _ (arg_send _ _ _ (declared_send _ ?))
+pub join-ran-requires-send-F : goal.join-ran-requires-send-F
+join-ran-requires-send-F g c κs within =
+    let Feed : RattleType = OpenFeed.the_row Anything.the_row (param 0 g.row.N) (Vt slots own-1) anything g.N.FeedName (ghosts_of slots own-1 lawful-own-1) (held_fn own-1) in
+    let feed : IsSync Feed = record { shared = c.show_shareable.ensures.shared } in
+    let Lines : RattleType = Vec.the_row (Line.the_row Anything.the_row (param 0 g.row.N) (UdpLine.the_row (param 2 g.row.C)) anything (source (param 2 g.row.C) g.C.Clock no_dict no_dict)) Global.the_row heap in
+    let n : IsSend (param 0 g.row.N) = c.type_bounds.send-N in
+    let k : IsSend (param 2 g.row.C) = search (param_send, c.type_bounds.send-C) in
+    let lines : IsSend Lines = lines_send (param 0 g.row.N) (param 2 g.row.C) g.C.Clock n k in
+    let A : RattleType = ShrRef (named 6) κs.1.1.1.1.1.1.0 Feed in
+    let B : RattleType = ShrRef (named 7) κs.1.1.1.1.1.1.1.0 (param 1 g.row.R) in
+    let C : RattleType = ShrRef (named 8) κs.1.1.1.1.1.1.1.1.0 Global.the_row in
+    let all : IsSend (TupleAt (codes "udp_listening::listening::fn::run_feed::join+arg2+Self") (A ∷ B ∷ C ∷ Lines ∷ RunProgress.the_row ∷ [])) =
+    five_send (codes "udp_listening::listening::fn::run_feed::join+arg2+Self") A B C Lines RunProgress.the_row
+    (shr_send (named 6) κs.1.1.1.1.1.1.0 Feed feed)
+    (shr_send (named 7) κs.1.1.1.1.1.1.1.0 (param 1 g.row.R) c.type_bounds.sync-R)
+    (shr_send (named 8) κs.1.1.1.1.1.1.1.1.0 Global.the_row sync)
+    lines progress_send in
+    param_send 1 (arg-33-1 g.row.N g.row.R g.row.C g.row.W g.row.E g.N.laws g.R.laws g.C.laws g.W.laws g.E.laws g.N.FeedName g.N.FeedName-dict g.R.Threads g.R.Threads-dict g.R.Wait g.R.Wait-dict g.C.Clock g.C.Clock-dict g.W.TextOut g.W.TextOut-dict g.E.TextOut g.E.TextOut-dict g.C.Destruct-dict g.W.Destruct-dict g.E.Destruct-dict κs) (search (arg_send) depth 4)
