@@ -2,7 +2,7 @@
 ghost use Rattle.std.specs.Prelude.{◌≡◌, ◌≢◌};
 ghost use Rattle.feed_text.specs.Devices.{Writing};
 ghost use Rattle.feed_text.specs.StandardError.{Says};
-ghost use Rattle.udp_listening.specs.Listening.{HasListened, Listens, ListensToEnd, PrintsEnd, PrintsFailedReport, PrintsReport, listen_fault_text, report_status};
+ghost use Rattle.udp_listening.specs.Listening.{Listens, PrintsEnd, PrintsFailedReport, PrintsReport, listen_fault_text, report_status};
 
 use crate::attendant::Attendant;
 use crate::desk::{Desk, Following};
@@ -97,17 +97,11 @@ fn print_end<W: TextOut, E: TextOut>(
     outcome: &Result<ListenReport, ListenFault>,
     desk: &mut Desk<W, E>,
 ) -> u8
-    ensures end { PrintsEnd
+    ensures { PrintsEnd
         (record { adds = W.adds; failures = W.failures })
         (record { adds = E.adds; failures = E.failures })
         outcome.now desk.old.following desk.old.printed
         desk.old.output desk.new.output desk.old.errors desk.new.errors result }
-    ensures whole { (first : W) → HasListened (record { adds = W.adds; failures = W.failures })
-        first outcome.now desk.old.following desk.old.printed desk.old.output
-        → ListensToEnd
-        (record { adds = W.adds; failures = W.failures })
-        (record { adds = E.adds; failures = E.failures })
-        outcome.now first desk.new.output desk.old.errors desk.new.errors result }
 {
     match outcome {
         Ok(report) => {

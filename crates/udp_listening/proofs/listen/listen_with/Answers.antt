@@ -1,5 +1,46 @@
-use Rattle.std.proofs.Common.{inl}
+use Rattle.std.proofs.Common.{[], ◌≡◌, ◌∙◌, Err, ap, subst}
+use Rattle.feed_text.specs.Devices.{Writing}
+use Rattle.udp_listening.specs.Listening.{ListensToEnd}
+use Rattle.udp_listening.specs.declared.listening.ListenFault.TheVariants.{NoMemory}
+use Rattle.udp_listening.proofs.Wholes.{listened}
 use Rattle.udp_listening.proofs.listen.listen_with.Goals as goal
 
-pub returns-in-Ok-run_feed : goal.returns-in-Ok-run_feed
-returns-in-Ok-run_feed g c = inl (c.in-Ok-run_feed.report, c.print_report.ensures)
+pub returns-in_default : goal.returns-in_default
+returns-in_default g c =
+    let writing : Writing g.row.W.Denot = record { adds = g.W.TextOut.adds; failures = g.W.TextOut.failures } in
+    let telling : Writing g.row.E.Denot = record { adds = g.E.TextOut.adds; failures = g.E.TextOut.failures } in
+    let desk = c.new-desk.result in
+    let ended = c.print_end-status in
+    let output : desk.output ≡ c.args.output = ap (λ d. d.output) c.new-desk.ensures.desk in
+    record {
+      outcome = Err NoMemory;
+      counted = desk.errors;
+      quiet = λ none. ap (λ d. d.errors) c.new-desk.ensures.desk;
+      ends =
+          subst (λ (first : g.row.W.Denot). ListensToEnd writing telling (Err NoMemory) first ended.new.desk.output desk.errors ended.new.desk.errors ended.result)
+          output
+          (listened writing telling g.met.W.TextOut.adds_more (Err NoMemory) desk.following desk.printed
+          desk.output desk.output ended.new.desk.output desk.errors ended.new.desk.errors ended.result
+          ([], c.new-desk.ensures.unprinted []) ended.ensures);
+    }
+
+pub returns : goal.returns
+returns g c =
+    let writing : Writing g.row.W.Denot = record { adds = g.W.TextOut.adds; failures = g.W.TextOut.failures } in
+    let telling : Writing g.row.E.Denot = record { adds = g.E.TextOut.adds; failures = g.E.TextOut.failures } in
+    let before = c.new-desk.result in
+    let outcome = c.run_feed-outcome.result.outcome in
+    let desk = c.run_feed-outcome.result.desk in
+    let ended = c.print_end-status-2 in
+    let output : before.output ≡ c.args.output = ap (λ d. d.output) c.new-desk.ensures.desk in
+    record {
+      outcome = outcome;
+      counted = desk.errors;
+      quiet = λ none. c.run_feed-outcome.ensures.quiet (c.in-Ok-Ok-Ok.ensures'' none) ∙ ap (λ d. d.errors) c.new-desk.ensures.desk;
+      ends =
+          subst (λ (first : g.row.W.Denot). ListensToEnd writing telling outcome first ended.new.desk.output desk.errors ended.new.desk.errors ended.result)
+          output
+          (listened writing telling g.met.W.TextOut.adds_more outcome desk.following desk.printed
+          before.output desk.output ended.new.desk.output desk.errors ended.new.desk.errors ended.result
+          c.run_feed-outcome.ensures.listened ended.ensures);
+    }
