@@ -1,5 +1,5 @@
 -- A closure may go to another thread where all that it captures may.
-use Rattle.std.proofs.Common.{[], ◌∷◌, ℕ, List}
+use Rattle.std.proofs.Common.{[], ◌∷◌}
 use mir.Syntax.{Sym}
 use denote.RattleType.{RattleType}
 use denote.Param.Send.{IsSend, sendable}

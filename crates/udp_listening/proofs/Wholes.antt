@@ -1,10 +1,9 @@
 -- What was printed while a run went on, and then its end, are together the whole text.
-use Rattle.std.proofs.Common.{◌≡◌, ◌⊎◌, inl, inr, ℕ, zero, suc, ◌+◌, ◌≤◌, List, [], ◌∷◌, ◌++◌, length, drop, take, min, refl, sym, ap, ◌∙◌, subst, arith, length-append, append_assoc, append-nil}
-use Rattle.std.specs.Prelude.{Result, Ok, Err, Some, codes, flat_map, slice_get}
+use Rattle.std.proofs.Common.{◌≡◌, inl, inr, ℕ, zero, suc, ◌+◌, ◌≤◌, List, [], ◌∷◌, ◌++◌, length, drop, take, refl, sym, ap, ◌∙◌, subst, arith, append_assoc}
+use Rattle.std.specs.Prelude.{Result, Ok, Err, Some, flat_map, slice_get}
 use Rattle.std.proofs.lemmas.List.{take-append-le, take_all}
 use Rattle.feed_text.specs.Devices.{Writing, Wrote}
 use Rattle.feed_text.specs.Lines.{best_line}
-use Rattle.feed_text.specs.StandardError.{Says}
 use Rattle.live_feed.specs.declared.subscriber.logged.Logged.{Logged}
 use Rattle.feed_types.specs.declared.genuine.Genuine.{Ghosts as Genuine}
 use Rattle.live_feed.specs.Lanes.{FeedLanes}

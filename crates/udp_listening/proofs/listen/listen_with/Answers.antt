@@ -19,7 +19,7 @@ returns-in_default g c =
       ends =
           subst (λ (first : g.row.W.Denot). ListensToEnd writing telling (Err NoMemory) first ended.new.desk.output desk.errors ended.new.desk.errors ended.result)
           output
-          (listened writing telling g.met.W.TextOut.adds_more (Err NoMemory) desk.following desk.printed
+          (listened writing telling (g.met.W.TextOut g.world.𝓛 g.world.𝓜 g.world.𝓡 (λ s x. x, λ x. x, λ x. x, λ x. x)).adds_more (Err NoMemory) desk.following desk.printed
           desk.output desk.output ended.new.desk.output desk.errors ended.new.desk.errors ended.result
           ([], c.new-desk.ensures.unprinted []) ended.ensures);
     }
@@ -40,7 +40,7 @@ returns g c =
       ends =
           subst (λ (first : g.row.W.Denot). ListensToEnd writing telling outcome first ended.new.desk.output desk.errors ended.new.desk.errors ended.result)
           output
-          (listened writing telling g.met.W.TextOut.adds_more outcome desk.following desk.printed
+          (listened writing telling (g.met.W.TextOut g.world.𝓛 g.world.𝓜 g.world.𝓡 (λ s x. x, λ x. x, λ x. x, λ x. x)).adds_more outcome desk.following desk.printed
           before.output desk.output ended.new.desk.output desk.errors ended.new.desk.errors ended.result
           c.run_feed-outcome.ensures.listened ended.ensures);
     }

@@ -1,4 +1,4 @@
-use Rattle.std.proofs.Common.{◌≡◌, [], ◌∷◌, ◌∙◌, ap, map, rules, subst, sym}
+use Rattle.std.proofs.Common.{◌≡◌, [], ◌∷◌, ◌∙◌, ap, map, subst, sym}
 use Rattle.std.specs.Prelude.{codes}
 use mir.Syntax.{named}
 use denote.RattleType.{RattleType}
@@ -119,7 +119,7 @@ join-ran-requires-send-F g c κs within =
     let feed : IsSync Feed = record { shared = c.show_shareable.ensures.shared } in
     let Lines : RattleType = Vec.the_row (Line.the_row Anything.the_row (param 0 g.row.N) (UdpLine.the_row (param 2 g.row.C)) anything (source (param 2 g.row.C) g.C.Clock no_dict no_dict)) Global.the_row heap in
     let n : IsSend (param 0 g.row.N) = c.type_bounds.send-N in
-    let k : IsSend (param 2 g.row.C) = search (param_send, c.type_bounds.send-C) in
+    let k : IsSend (param 2 g.row.C) = c.type_bounds.send-C in
     let lines : IsSend Lines = lines_send (param 0 g.row.N) (param 2 g.row.C) g.C.Clock n k in
     let A : RattleType = ShrRef (named 6) κs.1.1.1.1.1.1.0 Feed in
     let B : RattleType = ShrRef (named 7) κs.1.1.1.1.1.1.1.0 (param 1 g.row.R) in

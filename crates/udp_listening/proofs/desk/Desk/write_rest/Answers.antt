@@ -2,7 +2,6 @@ use Rattle.std.proofs.Common.{◌≡◌, ◌+◌, ◌∙◌, ap, drop, length, r
 use Rattle.feed_text.specs.Devices.{Writing, Wrote}
 use Rattle.udp_listening.specs.Listening.{HasFollowed, log_lines}
 use Rattle.udp_listening.specs.declared.desk.Following.{Following}
-use Rattle.udp_listening.specs.declared.desk.Following.TheVariants.{On}
 use Rattle.udp_listening.proofs.Following.{printed_all, printed_part}
 use Rattle.udp_listening.proofs.desk.Desk.write_rest.Goals as goal
 

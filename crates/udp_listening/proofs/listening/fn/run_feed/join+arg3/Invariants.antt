@@ -1,5 +1,4 @@
 use Rattle.std.proofs.Common.{◌≡◌, None}
-use Rattle.feed_text.specs.Devices.{Writing}
 use Rattle.udp_listening.specs.Listening.{HasFollowed}
 use Rattle.udp_listening.proofs.listening.fn.run_feed.join+arg3.Given as goal
 
