@@ -33,5 +33,7 @@ five_send name A B C D E a b c d e =
 
 -- the lines of a run
 pub lines_send : (N C : RattleType) (clock : Clock C.Denot) → IsSend N → IsSend C
-    → IsSend (Vec.the_row (Line.the_row Anything.the_row N (UdpLine.the_row C) anything (source C clock no_dict no_dict)) Global.the_row heap)
+    → IsSend (Vec.the_row
+    (Line.the_row Anything.the_row N (UdpLine.the_row C) anything (source C clock no_dict no_dict))
+    Global.the_row heap)
 lines_send N C clock n c = search (crosses, sendable, line_send, source_send) depth 40

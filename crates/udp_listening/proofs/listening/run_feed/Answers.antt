@@ -1,6 +1,6 @@
-use Rattle.std.proofs.Common.{◌≡◌, [], ◌∷◌, ◌∙◌, ap, map, subst, sym}
-use Rattle.std.specs.Prelude.{codes}
-use mir.Syntax.{named}
+use Rattle.std.proofs.Common.{◌≡◌, [], ◌∷◌, ◌∙◌, ap, map, subst, sym, List}
+use Rattle.std.specs.Prelude.{Result, codes}
+use mir.Syntax.{Sym, named}
 use denote.RattleType.{RattleType}
 use denote.Ref.{ShrRef}
 use denote.Struct.Tuple.{TupleAt}
@@ -17,7 +17,11 @@ use Rattle.feed_types.specs.contracts.genuine.AnythingGenuine.TheImpl.{ghosts as
 use Rattle.feed_text.specs.Devices.{Writing}
 use Rattle.live_feed.specs.contracts.feed.open_feed.OpenFeed as OpenFeed
 use Rattle.live_feed.specs.contracts.run.line.Line as Line
+use Rattle.live_feed.specs.declared.subscriber.logged.Logged.{Logged}
 use Rattle.udp_listening.specs.Listening.{HasFollowed, HasListened}
+use Rattle.udp_listening.specs.declared.desk.Desk.{Desk}
+use Rattle.udp_listening.specs.declared.listening.ListenFault.{ListenFault}
+use Rattle.udp_listening.specs.declared.listening.ListenReport.{ListenReport}
 use Rattle.udp_listening.specs.contracts.run_progress.RunProgress as RunProgress
 use Rattle.udp_listening.specs.contracts.udp_line.UdpLine as UdpLine
 use Rattle.udp_listening.specs.contracts.udp_line.UdpLineLineSourceAnything.TheImpl.{ghosts as source, no_dict}
@@ -30,32 +34,41 @@ use Rattle.udp_listening.proofs.listening.run_feed.Object-1.{slots}
 use Rattle.udp_listening.proofs.listening.run_feed.OwnLists.{own-1, lawful-own-1}
 use Rattle.udp_listening.proofs.listening.run_feed.Goals as goal
 
+-- what a desk has printed of a log
+abbrev Shows : {W E : Type 0} → Writing W → W → List Logged → Desk W E → Type 0
+Shows writing first log desk = HasFollowed writing first log desk.following desk.printed desk.output
+
+-- what a desk has printed at the end of a run
+abbrev Ends : {W E : Type 0} → Writing W → W → Result ListenReport ListenFault → Desk W E → Type 0
+Ends writing first outcome desk = HasListened writing first outcome desk.following desk.printed desk.output
+
 pub returns-in_default-clause-listened : goal.returns-in_default-clause-listened
 returns-in_default-clause-listened g c =
     let w : Writing g.row.W.Denot = record { adds = g.W.TextOut.adds; failures = g.W.TextOut.failures } in
-    subst (λ r. HasListened w c.args.task.desk.output r.outcome r.desk.following r.desk.printed r.desk.output)
+    subst (λ r. Ends w c.args.task.desk.output r.outcome r.desk)
     (sym c.unreported.ensures) ([], c.requires.unprinted [])
 
 pub returns-clause-listened : goal.returns-clause-listened
 returns-clause-listened g c =
     let w : Writing g.row.W.Denot = record { adds = g.W.TextOut.adds; failures = g.W.TextOut.failures } in
-    let shown : HasFollowed w c.args.task.desk.output c.join-ran.result.1.log.lines c.join-ran.result.1.desk.following c.join-ran.result.1.desk.printed c.join-ran.result.1.desk.output
-    = c.join-ran.ensures.second.0 c.args.task.desk.output (c.requires.unprinted _) in
-    let told : HasFollowed w c.args.task.desk.output c.join-ran.result.1.log.lines c.tell_all.new.self.desk.following c.tell_all.new.self.desk.printed c.tell_all.new.self.desk.output
-    = subst (λ d. HasFollowed w c.args.task.desk.output c.join-ran.result.1.log.lines d.following d.printed d.output) (sym c.tell_all.ensures.desk) shown in
+    let first = c.args.task.desk.output in
+    let attended = c.join-ran.result.1 in
+    let desk = c.tell_all.new.self.desk in
+    let shown : Shows w first attended.log.lines attended.desk
+    = c.join-ran.ensures.second.0 first (c.requires.unprinted _) in
+    let told : Shows w first attended.log.lines desk
+    = subst (λ d. Shows w first attended.log.lines d) (sym c.tell_all.ensures.desk) shown in
     let t = c.into_subscriber.result.log in
-    let own : t.lines ≡ c.join-ran.result.1.log.lines
+    let own : t.lines ≡ attended.log.lines
     = ap (λ l. l.lines) (c.into_subscriber.ensures.log ∙ c.tell_all.ensures.log) in
     elim c.match-settle.branch [
       | in-Ok-settle w' ↦
           let same = settled_log_of t (ap (λ l. map (λ s. s.log) l) c.in-Some-Ok-Ok.ensures.items)
           w'.in-Ok-settle.ensures.settled in
-          subst (λ o. HasListened w c.args.task.desk.output o c.tell_all.new.self.desk.following c.tell_all.new.self.desk.printed c.tell_all.new.self.desk.output)
-          (sym w'.outcome-is)
-          (subst (λ l. HasFollowed w c.args.task.desk.output l c.tell_all.new.self.desk.following c.tell_all.new.self.desk.printed c.tell_all.new.self.desk.output) (sym (same ∙ own)) told)
+          subst (λ o. Ends w first o desk) (sym w'.outcome-is)
+          (subst (λ l. Shows w first l desk) (sym (same ∙ own)) told)
       | in-Err-settle w' ↦
-          subst (λ o. HasListened w c.args.task.desk.output o c.tell_all.new.self.desk.following c.tell_all.new.self.desk.printed c.tell_all.new.self.desk.output)
-          (sym w'.outcome-is) (c.join-ran.result.1.log.lines, told)
+          subst (λ o. Ends w first o desk) (sym w'.outcome-is) (attended.log.lines, told)
     ]
 
 pub returns-clause-quiet : goal.returns-clause-quiet
@@ -67,27 +80,30 @@ returns-clause-quiet g c =
 pub returns-then-is_err-clause-listened : goal.returns-then-is_err-clause-listened
 returns-then-is_err-clause-listened g c =
     let w : Writing g.row.W.Denot = record { adds = g.W.TextOut.adds; failures = g.W.TextOut.failures } in
-    let shown : HasFollowed w c.args.task.desk.output c.join-ran.result.1.log.lines c.join-ran.result.1.desk.following c.join-ran.result.1.desk.printed c.join-ran.result.1.desk.output
-    = c.join-ran.ensures.second.0 c.args.task.desk.output (c.requires.unprinted _) in
-    subst (λ r. HasListened w c.args.task.desk.output r.outcome r.desk.following r.desk.printed r.desk.output)
-    (sym c.unreported-then-is_err.ensures) (c.join-ran.result.1.log.lines, shown)
+    let first = c.args.task.desk.output in
+    let attended = c.join-ran.result.1 in
+    let shown : Shows w first attended.log.lines attended.desk
+    = c.join-ran.ensures.second.0 first (c.requires.unprinted _) in
+    subst (λ r. Ends w first r.outcome r.desk)
+    (sym c.unreported-then-is_err.ensures) (attended.log.lines, shown)
 
 pub returns-then-is_err-clause-quiet : goal.returns-then-is_err-clause-quiet
 returns-then-is_err-clause-quiet g c =
     λ none.
     let beside = c.join-ran.ensures.second.1 none in
-    ap (λ r. r.desk.errors) c.unreported-then-is_err.ensures
-    ∙ beside.0
+    ap (λ r. r.desk.errors) c.unreported-then-is_err.ensures ∙ beside.0
 
 pub returns-in_default-2-clause-listened : goal.returns-in_default-2-clause-listened
 returns-in_default-2-clause-listened g c =
     let w : Writing g.row.W.Denot = record { adds = g.W.TextOut.adds; failures = g.W.TextOut.failures } in
-    let shown : HasFollowed w c.args.task.desk.output c.join-ran.result.1.log.lines c.join-ran.result.1.desk.following c.join-ran.result.1.desk.printed c.join-ran.result.1.desk.output
-    = c.join-ran.ensures.second.0 c.args.task.desk.output (c.requires.unprinted _) in
-    let told : HasFollowed w c.args.task.desk.output c.join-ran.result.1.log.lines c.tell_all.new.self.desk.following c.tell_all.new.self.desk.printed c.tell_all.new.self.desk.output
-    = subst (λ d. HasFollowed w c.args.task.desk.output c.join-ran.result.1.log.lines d.following d.printed d.output) (sym c.tell_all.ensures.desk) shown in
-    subst (λ r. HasListened w c.args.task.desk.output r.outcome r.desk.following r.desk.printed r.desk.output)
-    (sym c.unreported-in_default-2.ensures) (c.join-ran.result.1.log.lines, told)
+    let first = c.args.task.desk.output in
+    let attended = c.join-ran.result.1 in
+    let shown : Shows w first attended.log.lines attended.desk
+    = c.join-ran.ensures.second.0 first (c.requires.unprinted _) in
+    let told : Shows w first attended.log.lines c.tell_all.new.self.desk
+    = subst (λ d. Shows w first attended.log.lines d) (sym c.tell_all.ensures.desk) shown in
+    subst (λ r. Ends w first r.outcome r.desk)
+    (sym c.unreported-in_default-2.ensures) (attended.log.lines, told)
 
 pub returns-in_default-2-clause-quiet : goal.returns-in_default-2-clause-quiet
 returns-in_default-2-clause-quiet g c =
@@ -99,12 +115,14 @@ returns-in_default-2-clause-quiet g c =
 pub returns-in_default-part_lines-clause-listened : goal.returns-in_default-part_lines-clause-listened
 returns-in_default-part_lines-clause-listened g c =
     let w : Writing g.row.W.Denot = record { adds = g.W.TextOut.adds; failures = g.W.TextOut.failures } in
-    let shown : HasFollowed w c.args.task.desk.output c.join-ran.result.1.log.lines c.join-ran.result.1.desk.following c.join-ran.result.1.desk.printed c.join-ran.result.1.desk.output
-    = c.join-ran.ensures.second.0 c.args.task.desk.output (c.requires.unprinted _) in
-    let told : HasFollowed w c.args.task.desk.output c.join-ran.result.1.log.lines c.tell_all.new.self.desk.following c.tell_all.new.self.desk.printed c.tell_all.new.self.desk.output
-    = subst (λ d. HasFollowed w c.args.task.desk.output c.join-ran.result.1.log.lines d.following d.printed d.output) (sym c.tell_all.ensures.desk) shown in
-    subst (λ r. HasListened w c.args.task.desk.output r.outcome r.desk.following r.desk.printed r.desk.output)
-    (sym c.unreported-in_default-part_lines.ensures) (c.join-ran.result.1.log.lines, told)
+    let first = c.args.task.desk.output in
+    let attended = c.join-ran.result.1 in
+    let shown : Shows w first attended.log.lines attended.desk
+    = c.join-ran.ensures.second.0 first (c.requires.unprinted _) in
+    let told : Shows w first attended.log.lines c.tell_all.new.self.desk
+    = subst (λ d. Shows w first attended.log.lines d) (sym c.tell_all.ensures.desk) shown in
+    subst (λ r. Ends w first r.outcome r.desk)
+    (sym c.unreported-in_default-part_lines.ensures) (attended.log.lines, told)
 
 pub returns-in_default-part_lines-clause-quiet : goal.returns-in_default-part_lines-clause-quiet
 returns-in_default-part_lines-clause-quiet g c =
@@ -113,21 +131,32 @@ returns-in_default-part_lines-clause-quiet g c =
     ap (λ r. r.desk.errors) c.unreported-in_default-part_lines.ensures
     ∙ (c.tell_all.ensures.quiet beside.1).0 ∙ beside.0
 
+-- The closure that runs the feed has references to the feed, to the machine's handle and to the heap,
+-- the lines, and where it marks its end. `search` reaches its limits at the whole of it.
 pub join-ran-requires-send-F : goal.join-ran-requires-send-F
 join-ran-requires-send-F g c κs within =
-    let Feed : RattleType = OpenFeed.the_row Anything.the_row (param 0 g.row.N) (Vt slots own-1) anything g.N.FeedName (ghosts_of slots own-1 lawful-own-1) (held_fn own-1) in
+    let N : RattleType = param 0 g.row.N in
+    let R : RattleType = param 1 g.row.R in
+    let C : RattleType = param 2 g.row.C in
+    let name : Sym = codes "udp_listening::listening::fn::run_feed::join+arg2+Self" in
+    let Feed : RattleType = OpenFeed.the_row Anything.the_row N (Vt slots own-1) anything g.N.FeedName
+    (ghosts_of slots own-1 lawful-own-1) (held_fn own-1) in
     let feed : IsSync Feed = record { shared = c.show_shareable.ensures.shared } in
-    let Lines : RattleType = Vec.the_row (Line.the_row Anything.the_row (param 0 g.row.N) (UdpLine.the_row (param 2 g.row.C)) anything (source (param 2 g.row.C) g.C.Clock no_dict no_dict)) Global.the_row heap in
-    let n : IsSend (param 0 g.row.N) = c.type_bounds.send-N in
-    let k : IsSend (param 2 g.row.C) = c.type_bounds.send-C in
-    let lines : IsSend Lines = lines_send (param 0 g.row.N) (param 2 g.row.C) g.C.Clock n k in
-    let A : RattleType = ShrRef (named 6) κs.1.1.1.1.1.1.0 Feed in
-    let B : RattleType = ShrRef (named 7) κs.1.1.1.1.1.1.1.0 (param 1 g.row.R) in
-    let C : RattleType = ShrRef (named 8) κs.1.1.1.1.1.1.1.1.0 Global.the_row in
-    let all : IsSend (TupleAt (codes "udp_listening::listening::fn::run_feed::join+arg2+Self") (A ∷ B ∷ C ∷ Lines ∷ RunProgress.the_row ∷ [])) =
-    five_send (codes "udp_listening::listening::fn::run_feed::join+arg2+Self") A B C Lines RunProgress.the_row
+    let Lines : RattleType = Vec.the_row
+    (Line.the_row Anything.the_row N (UdpLine.the_row C) anything (source C g.C.Clock no_dict no_dict))
+    Global.the_row heap in
+    let lines : IsSend Lines = lines_send N C g.C.Clock c.type_bounds.send-N c.type_bounds.send-C in
+    let AtFeed : RattleType = ShrRef (named 6) κs.1.1.1.1.1.1.0 Feed in
+    let AtHandle : RattleType = ShrRef (named 7) κs.1.1.1.1.1.1.1.0 R in
+    let AtHeap : RattleType = ShrRef (named 8) κs.1.1.1.1.1.1.1.1.0 Global.the_row in
+    let all : IsSend (TupleAt name (AtFeed ∷ AtHandle ∷ AtHeap ∷ Lines ∷ RunProgress.the_row ∷ [])) =
+    five_send name AtFeed AtHandle AtHeap Lines RunProgress.the_row
     (shr_send (named 6) κs.1.1.1.1.1.1.0 Feed feed)
-    (shr_send (named 7) κs.1.1.1.1.1.1.1.0 (param 1 g.row.R) c.type_bounds.sync-R)
+    (shr_send (named 7) κs.1.1.1.1.1.1.1.0 R c.type_bounds.sync-R)
     (shr_send (named 8) κs.1.1.1.1.1.1.1.1.0 Global.the_row sync)
     lines progress_send in
-    param_send 1 (arg-33-1 g.row.N g.row.R g.row.C g.row.W g.row.E g.N.laws g.R.laws g.C.laws g.W.laws g.E.laws g.N.FeedName g.N.FeedName-dict g.R.Threads g.R.Threads-dict g.R.Wait g.R.Wait-dict g.C.Clock g.C.Clock-dict g.W.TextOut g.W.TextOut-dict g.E.TextOut g.E.TextOut-dict g.C.Destruct-dict g.W.Destruct-dict g.E.Destruct-dict κs) (search (arg_send) depth 4)
+    param_send 1
+    (arg-33-1 g.row.N g.row.R g.row.C g.row.W g.row.E g.N.laws g.R.laws g.C.laws g.W.laws g.E.laws
+    g.N.FeedName g.N.FeedName-dict g.R.Threads g.R.Threads-dict g.R.Wait g.R.Wait-dict g.C.Clock g.C.Clock-dict
+    g.W.TextOut g.W.TextOut-dict g.E.TextOut g.E.TextOut-dict g.C.Destruct-dict g.W.Destruct-dict g.E.Destruct-dict κs)
+    (search (arg_send) depth 4)

@@ -6,7 +6,8 @@ abbrev pub invariant-loop-place : goal.invariant-loop-place
 invariant-loop-place g l =
     ((first : g.row.W.Denot)
     → HasFollowed (record { adds = g.W.TextOut.adds; failures = g.W.TextOut.failures }) first
-    l.initial.attendance.log.lines l.initial.attendance.desk.following l.initial.attendance.desk.printed l.initial.attendance.desk.output
+    l.initial.attendance.log.lines l.initial.attendance.desk.following
+    l.initial.attendance.desk.printed l.initial.attendance.desk.output
     → HasFollowed (record { adds = g.W.TextOut.adds; failures = g.W.TextOut.failures }) first
     l.attendance.log.lines l.attendance.desk.following l.attendance.desk.printed l.attendance.desk.output)
     × (l.initial.attendance.attendant.counts ≡ None
@@ -17,7 +18,8 @@ invariant-loop g l =
     (goal.iterator-loop g).can_next l.iterator' × (goal.iterator-loop g).is_finite l.iterator'
     × ((first : g.row.W.Denot)
     → HasFollowed (record { adds = g.W.TextOut.adds; failures = g.W.TextOut.failures }) first
-    l.initial.attendance.log.lines l.initial.attendance.desk.following l.initial.attendance.desk.printed l.initial.attendance.desk.output
+    l.initial.attendance.log.lines l.initial.attendance.desk.following
+    l.initial.attendance.desk.printed l.initial.attendance.desk.output
     → HasFollowed (record { adds = g.W.TextOut.adds; failures = g.W.TextOut.failures }) first
     l.attendance.log.lines l.attendance.desk.following l.attendance.desk.printed l.attendance.desk.output)
     × (l.initial.attendance.attendant.counts ≡ None
