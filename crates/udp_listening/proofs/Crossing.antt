@@ -26,9 +26,13 @@ pub five_send : (name : Sym) (A B C D E : RattleType)
 five_send name A B C D E a b c d e =
     declared_send (type_at name (A ∷ B ∷ C ∷ D ∷ E ∷ [])) (
       as_row_send (row_field A) a,
-      (as_row_send (row_field B) b,
-      (as_row_send (row_field C) c,
-      (as_row_send (row_field D) d, (as_row_send (row_field E) e, tt)))),
+      (
+        as_row_send (row_field B) b,
+        (
+          as_row_send (row_field C) c,
+          (as_row_send (row_field D) d, (as_row_send (row_field E) e, tt)),
+        ),
+      ),
     )
 
 -- the lines of a run

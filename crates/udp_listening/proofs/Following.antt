@@ -69,7 +69,8 @@ pub part_of_longer : {W : Type 0} (writing : Writing W) (first : W) (log longer 
 part_of_longer writing first log longer now grown w =
     let same : log_lines longer ≡ log_lines log ++ log_lines grown.rest
     = ap (λ l. log_lines l) grown.is ∙ flat_map-append logged_line log grown.rest in
-    subst (λ t. Wrote writing.adds first t now) (sym same) (grow_part writing.adds first now (log_lines log) (log_lines grown.rest) w)
+    subst (λ t. Wrote writing.adds first t now) (sym same)
+    (grow_part writing.adds first now (log_lines log) (log_lines grown.rest) w)
 
 -- the rest is printed
 pub printed_all : {W : Type 0} (writing : Writing W)
@@ -97,14 +98,17 @@ pub printed_part : {W : Type 0} (writing : Writing W)
     → Wrote writing.adds first (log_lines log) now
 printed_part writing more first mid now log printed h written =
     subst (λ t. Wrote writing.adds first t now) (sym (lines_split printed log))
-    (part_after writing.adds more first mid now (log_lines (take printed log)) (log_lines (drop printed log)) h.lines written)
+    (part_after writing.adds more first mid now (log_lines (take printed log)) (log_lines (drop printed log))
+    h.lines written)
 
 -- what is shown of a log is so of one that has grown
 pub followed_longer : {W : Type 0} (writing : Writing W) (first : W) (log longer : List Logged) (following : Following)
     (printed : ℕ) (now : W) → IsPrefix log longer → HasFollowed writing first log following printed now
     → HasFollowed writing first longer following printed now
-followed_longer writing first log longer On printed now grown h = printed_of_longer writing first log longer printed now grown h
-followed_longer writing first log longer Off printed now grown h = printed_of_longer writing first log longer printed now grown h
+followed_longer writing first log longer On printed now grown h =
+    printed_of_longer writing first log longer printed now grown h
+followed_longer writing first log longer Off printed now grown h =
+    printed_of_longer writing first log longer printed now grown h
 followed_longer writing first log longer Failed printed now grown h =
     (part_of_longer writing first log longer now grown h.0, h.1)
 
