@@ -162,8 +162,8 @@ fn listen_live<H, W, E>(
 ) -> u8
 where
     H: Threads + Wait + Sync,
-    W: TextOut + Drop + Send,
-    E: TextOut + Drop + Send,
+    W: TextOut + Drop,
+    E: TextOut + Drop,
 {
     let mut errors = errors;
     let sockets = match bind_sockets(rt, rt.alloc(), settings.lines.as_slice()) {

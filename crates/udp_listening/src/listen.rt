@@ -151,8 +151,8 @@ pub fn listen_with<R, C, W, E>(
 where
     R: Threads + Wait + Sync,
     C: Clock + Clone + Drop + Send,
-    W: TextOut + Drop + Send,
-    E: TextOut + Drop + Send,
+    W: TextOut + Drop,
+    E: TextOut + Drop,
     ensures { Listens
         (record { adds = W.adds; failures = W.failures })
         (record { adds = E.adds; failures = E.failures })

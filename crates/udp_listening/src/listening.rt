@@ -126,8 +126,8 @@ where
     N: FeedName + Send + Sync,
     R: Threads + Wait + Sync,
     C: Clock + Drop + Send,
-    W: TextOut + Drop + Send,
-    E: TextOut + Drop + Send,
+    W: TextOut + Drop,
+    E: TextOut + Drop,
     requires lanes { feed ≡ N.lanes }
     requires unprinted { IsUnprinted (record { adds = W.adds; failures = W.failures })
         task.desk.following task.desk.printed task.desk.output }

@@ -9,7 +9,6 @@ pub returns-in_default : goal.returns-in_default
 returns-in_default g c =
     let writing : Writing g.row.W.Denot = record { adds = g.W.TextOut.adds; failures = g.W.TextOut.failures } in
     let telling : Writing g.row.E.Denot = record { adds = g.E.TextOut.adds; failures = g.E.TextOut.failures } in
-    let laws = g.met.W.TextOut g.world.𝓛 g.world.𝓜 g.world.𝓡 (λ s x. x, λ x. x, λ x. x, λ x. x) in
     let desk = c.new-desk.result in
     let ended = c.print_end-status in
     let output : desk.output ≡ c.args.output = ap (λ d. d.output) c.new-desk.ensures.desk in
@@ -20,7 +19,7 @@ returns-in_default g c =
       ends =
           subst (λ (first : g.row.W.Denot). ListensToEnd writing telling (Err NoMemory) first
           ended.new.desk.output desk.errors ended.new.desk.errors ended.result) output
-          (listened writing telling laws.adds_more (Err NoMemory) desk.following desk.printed
+          (listened writing telling g.met.W.TextOut.adds_more (Err NoMemory) desk.following desk.printed
           desk.output desk.output ended.new.desk.output desk.errors ended.new.desk.errors ended.result
           ([], c.new-desk.ensures.unprinted []) ended.ensures);
     }
@@ -29,7 +28,6 @@ pub returns : goal.returns
 returns g c =
     let writing : Writing g.row.W.Denot = record { adds = g.W.TextOut.adds; failures = g.W.TextOut.failures } in
     let telling : Writing g.row.E.Denot = record { adds = g.E.TextOut.adds; failures = g.E.TextOut.failures } in
-    let laws = g.met.W.TextOut g.world.𝓛 g.world.𝓜 g.world.𝓡 (λ s x. x, λ x. x, λ x. x, λ x. x) in
     let before = c.new-desk.result in
     let outcome = c.run_feed-outcome.result.outcome in
     let desk = c.run_feed-outcome.result.desk in
@@ -44,7 +42,7 @@ returns g c =
       ends =
           subst (λ (first : g.row.W.Denot). ListensToEnd writing telling outcome first
           ended.new.desk.output desk.errors ended.new.desk.errors ended.result) output
-          (listened writing telling laws.adds_more outcome desk.following desk.printed
+          (listened writing telling g.met.W.TextOut.adds_more outcome desk.following desk.printed
           before.output desk.output ended.new.desk.output desk.errors ended.new.desk.errors ended.result
           c.run_feed-outcome.ensures.listened ended.ensures);
     }
