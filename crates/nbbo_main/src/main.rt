@@ -15,10 +15,10 @@
 //! it says what is read, what is written where, and the status, or that the words ask to listen
 //! (`specs/Runs.antt`). Outside of it stand, in this file, the opening of the three streams and of
 //! the sockets, the words as the system gives them, what a terminal is told beside it (`hints.rt`),
-//! and the exit; and listening itself (`listen.rt`), which tests show.
+//! and the exit; and listening itself (`udp_listening`), which tests show.
 //!
-//! Begin with `run.rt`, then `specs/CommandLine.antt` and `command_line.rt`; `listen.rt` and
-//! `listening.rt` for live lines. `ending.rt` has the texts of faults.
+//! Begin with `run.rt`, then `command_words` for what the words ask for, and `udp_listening` for live
+//! lines. `ending.rt` has the texts of faults.
 #![tactic(auto)]
 
 ghost use Rattle.std.specs.Prelude.{◌≡◌, ◌≢◌, ◌<◌};
@@ -158,14 +158,13 @@ fn listen_live<H, W, E>(
     threads: &H,
     settings: &ListenSettings,
     output: W,
-    errors: E,
+    mut errors: E,
 ) -> u8
 where
     H: Threads + Wait + Sync,
     W: TextOut + Drop,
     E: TextOut + Drop,
 {
-    let mut errors = errors;
     let sockets = match bind_sockets(rt, rt.alloc(), settings.lines.as_slice()) {
         Ok(sockets) => sockets,
         Err(text) => {

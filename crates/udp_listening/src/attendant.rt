@@ -1,5 +1,5 @@
-//! The attendant of a run, in a thread beside it: it takes what the subscriber is offered, prints it where that is
-//! asked for, says what was counted, and says when the run is to end.
+//! The attendant of a run, beside its thread: it takes what the subscriber is offered, prints it where that is asked
+//! for, says what was counted, and says when the run is to end.
 ghost use Rattle.std.specs.Prelude.{◌≡◌, None, IfOk};
 ghost use Rattle.feed_text.specs.Devices.{Writing};
 ghost use Rattle.udp_listening.specs.Listening.{HasFollowed};

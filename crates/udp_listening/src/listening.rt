@@ -110,9 +110,9 @@ fn fault_of(fault: SettleFault) -> ListenFault {
 }
 
 /// Runs the feed over these sources until all lines have ended, with one subscriber, which wants
-/// what meets the terms. The attendant is beside the run, in a thread of its own, with the
-/// subscriber's log, which it polls. Where no thread can be had for it, `join` calls it once the run
-/// is over.
+/// what meets the terms. The run has a thread of its own; the calling thread is its attendant, with
+/// the subscriber's log, which it polls. Where no thread can be had for the run, `join` calls it
+/// here, and the attendant once it is over.
 ///
 /// The feed is opened here and goes nowhere else: a stored closure could be handed to what has its
 /// locks.
