@@ -23,10 +23,14 @@ const WAIT_MS: u64 = 20;
 /// How long it waits where lines are printed as they come.
 const FOLLOWING_WAIT_MS: u64 = 5;
 
+/// How long it waits for a run to begin, in milliseconds: where no thread can be had for the run, the attendant is called
+/// before it.
+const MOST_BEFORE_MS: u64 = 10_000;
+
 /// What a look of the attendant asks for.
 #[derive(Clone, Copy, Debug, PartialEq, Eq)]
 pub enum Turn {
-    /// Nothing more: the run is over.
+    /// Nothing more: the run is over, or doesn't begin.
     Over,
     /// The run is to be stopped.
     Stop,
@@ -77,6 +81,11 @@ impl<C: Clock + Drop> Attendant<C> {
     /// The progress of the run, for its thread. AllocError where it can't be shared any further.
     pub fn share_progress(&self) -> Result<RunProgress, AllocError> {
         self.progress.share()
+    }
+
+    /// Whether the run hasn't begun for long, since there is no thread for it.
+    fn waits_in_vain(&self) -> bool {
+        !self.progress.has_begun() && self.elapsed.ms() >= MOST_BEFORE_MS
     }
 
     /// Whether counts are due.
@@ -147,7 +156,7 @@ impl<N: FeedName, C: Clock + Drop, W: TextOut, E: TextOut> Attendance<N, C, W, E
         let has_taken = self
             .desk
             .follow(rt, &mut self.attendant.text, &mut self.log);
-        if is_over && !has_taken {
+        if is_over && !has_taken || self.attendant.waits_in_vain() {
             return Turn::Over;
         }
         self.attendant.look_on(self.desk.following, has_taken)

@@ -111,8 +111,8 @@ fn fault_of(fault: SettleFault) -> ListenFault {
 
 /// Runs the feed over these sources until all lines have ended, with one subscriber, which wants
 /// what meets the terms. The run has a thread of its own; the calling thread is its attendant, with
-/// the subscriber's log, which it polls. Where no thread can be had for the run, `join` calls it
-/// here, and the attendant once it is over.
+/// the subscriber's log, which it polls. Where no thread can be had for the run, `join` calls the
+/// attendant, which gives up after 10 seconds, and then the run.
 ///
 /// The feed is opened here and goes nowhere else: a stored closure could be handed to what has its
 /// locks.
@@ -180,6 +180,7 @@ where
     let (ran, attendance) = thread::join(
         rt,
         || {
+            progress.begin();
             let ran = feed.run(rt, alloc, lines, Vec::new(alloc));
             progress.end();
             match ran {

@@ -131,8 +131,8 @@ returns-in_default-part_lines-clause-quiet g c =
     ap (λ r. r.desk.errors) c.unreported-in_default-part_lines.ensures
     ∙ (c.tell_all.ensures.quiet beside.1).0 ∙ beside.0
 
--- The closure that runs the feed has references to the feed, to the machine's handle and to the heap,
--- the lines, and where it marks its end. `search` reaches its limits at the whole of it.
+-- The closure that runs the feed has where it marks its progress, references to the feed, to the
+-- machine's handle and to the heap, and the lines. `search` reaches its limits at the whole of it.
 pub join-ran-requires-send-F : goal.join-ran-requires-send-F
 join-ran-requires-send-F g c κs within =
     let N : RattleType = param 0 g.row.N in
@@ -149,12 +149,13 @@ join-ran-requires-send-F g c κs within =
     let AtFeed : RattleType = ShrRef (named 6) κs.1.1.1.1.1.1.0 Feed in
     let AtHandle : RattleType = ShrRef (named 7) κs.1.1.1.1.1.1.1.0 R in
     let AtHeap : RattleType = ShrRef (named 8) κs.1.1.1.1.1.1.1.1.0 Global.the_row in
-    let all : IsSend (TupleAt name (AtFeed ∷ AtHandle ∷ AtHeap ∷ Lines ∷ RunProgress.the_row ∷ [])) =
-    five_send name AtFeed AtHandle AtHeap Lines RunProgress.the_row
+    let all : IsSend (TupleAt name (RunProgress.the_row ∷ AtFeed ∷ AtHandle ∷ AtHeap ∷ Lines ∷ [])) =
+    five_send name RunProgress.the_row AtFeed AtHandle AtHeap Lines
+    progress_send
     (shr_send (named 6) κs.1.1.1.1.1.1.0 Feed feed)
     (shr_send (named 7) κs.1.1.1.1.1.1.1.0 R c.type_bounds.sync-R)
     (shr_send (named 8) κs.1.1.1.1.1.1.1.1.0 Global.the_row sync)
-    lines progress_send in
+    lines in
     param_send 1
     (arg-33-1 g.row.N g.row.R g.row.C g.row.W g.row.E g.N.laws g.R.laws g.C.laws g.W.laws g.E.laws
     g.N.FeedName g.N.FeedName-dict g.R.Threads g.R.Threads-dict g.R.Wait g.R.Wait-dict g.C.Clock g.C.Clock-dict
