@@ -1,5 +1,5 @@
-/* Makes a call of the system fail, which a sound system seldom does: recv, sendto or clock_gettime, as
-   FAIL_CALL names it. The calls are counted from 1, and where FAIL_PORT is set, those alone whose socket
+/* Makes a call of the system fail, which a sound system seldom does: recv, sendto, clock_gettime or
+   pthread_create, as FAIL_CALL names it. The calls are counted from 1, and where FAIL_PORT is set, those alone whose socket
    has this local port. All from FAIL_FROM to FAIL_TO fail, with the error number in FAIL_ERRNO; all
    others are made. A call of recv that brings nothing in time, before any other has brought something,
    isn't counted where the first one isn't to fail. Where FAILED names a file, it is made at a failure.
@@ -10,6 +10,7 @@
 #include <errno.h>
 #include <fcntl.h>
 #include <netinet/in.h>
+#include <pthread.h>
 #include <stdlib.h>
 #include <string.h>
 #include <sys/socket.h>
@@ -90,4 +91,12 @@ int clock_gettime(clockid_t clock, struct timespec *time)
     if (next == NULL)
         next = (int (*)(clockid_t, struct timespec *))dlsym(RTLD_NEXT, "clock_gettime");
     return fails("clock_gettime", -1) ? -1 : next(clock, time);
+}
+
+int pthread_create(pthread_t *thread, const pthread_attr_t *attributes, void *(*routine)(void *), void *argument)
+{
+    static int (*next)(pthread_t *, const pthread_attr_t *, void *(*)(void *), void *);
+    if (next == NULL)
+        next = (int (*)(pthread_t *, const pthread_attr_t *, void *(*)(void *), void *))dlsym(RTLD_NEXT, "pthread_create");
+    return fails("pthread_create", -1) ? errno : next(thread, attributes, routine, argument);
 }
