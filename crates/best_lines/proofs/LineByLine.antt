@@ -4,14 +4,14 @@ use Rattle.std.specs.Prelude.{flat_map}
 use Rattle.std.proofs.Math.Seq.{take-add}
 use Rattle.std.proofs.lemmas.Grind.{flat_map-append}
 use Rattle.std.proofs.lemmas.List.Elements.{All-push}
-use Rattle.best_lines.specs.declared.format.Format.{Format}
+use Rattle.feed_text.specs.declared.formats.BestFormat.{BestFormat}
 use Rattle.best_lines.specs.Lines.{EndsAt, IsOpen, ended}
 use Rattle.best_lines.specs.Taking.{PutsLines, PutsRows}
 use Rattle.best_lines.proofs.Finding.{rest_slice}
 use Rattle.best_lines.specs.WriterLaws.{rows_append}
 
 -- rows after rows
-pub rows_put : (format : Format) (timed : Bool) (xs ys : List (List ℕ)) (p q r : List ℕ) → PutsRows format timed xs p q → PutsRows format timed ys q r → PutsRows format timed (xs ++ ys) p r
+pub rows_put : (format : BestFormat) (timed : Bool) (xs ys : List (List ℕ)) (p q r : List ℕ) → PutsRows format timed xs p q → PutsRows format timed ys q r → PutsRows format timed (xs ++ ys) p r
 rows_put format timed xs ys p q r a b = record {
   rows = a.rows ++ b.rows;
   are = rows_append format timed xs ys a.rows b.rows a.are b.are;
@@ -19,7 +19,7 @@ rows_put format timed xs ys p q r a b = record {
 }
 
 -- one line more
-pub line_put : (format : Format) (timed : Bool) (text rest p q r : List ℕ) (t e : ℕ) → rest ≡ drop t text → PutsLines format timed text t p q → EndsAt rest e → PutsRows format timed (take e rest ∷ []) q r → PutsLines format timed text (t + (e + 1)) p r
+pub line_put : (format : BestFormat) (timed : Bool) (text rest p q r : List ℕ) (t e : ℕ) → rest ≡ drop t text → PutsLines format timed text t p q → EndsAt rest e → PutsRows format timed (take e rest ∷ []) q r → PutsLines format timed text (t + (e + 1)) p r
 line_put format timed text rest p q r t e same h ends more =
     let line = take e rest in record {
       lines = h.lines ++ line ∷ [];

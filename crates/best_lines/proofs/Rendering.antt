@@ -3,7 +3,7 @@ use Rattle.std.proofs.Common.{◌≡◌, ℕ, ◌≤◌, Bool, true, false, ◌&
 use Rattle.std.proofs.lemmas.List.{take_all}
 use Rattle.std.specs.Prelude.{filter, flat_map, nat_le, nat_eq}
 use Rattle.std.specs.List.{starts_with}
-use Rattle.best_lines.specs.declared.format.Format.{Format}
+use Rattle.feed_text.specs.declared.formats.BestFormat.{BestFormat}
 use Rattle.best_lines.specs.Lines.{is_best}
 use Rattle.best_lines.specs.declared.row_time.RowTime.{RowTime}
 use Rattle.best_lines.specs.declared.row_time.RowTime.TheVariants.{Absent, Given}
@@ -22,7 +22,7 @@ unfolding is_best
 best_short line e = leb-true (length line) 192 (and_first (nat_le (length line) 192) (starts_with nat_eq line (codes "best ")) e)
 
 -- the rows of lines are those of the best ones among them
-pub same_best : (format : Format) (timed : Bool) (xs ys : List (List ℕ)) (rows : List ℕ) → filter is_best xs ≡ filter is_best ys → AreRows format timed xs rows → AreRows format timed ys rows
+pub same_best : (format : BestFormat) (timed : Bool) (xs ys : List (List ℕ)) (rows : List ℕ) → filter is_best xs ≡ filter is_best ys → AreRows format timed xs rows → AreRows format timed ys rows
 unfolding rows_of
 same_best format false xs ys rows e h = h ∙ ap (λ (ls : List (List ℕ)). flat_map (row_of format Absent) ls) e
 same_best format true xs ys rows e h = record { best = h.best; lines_are = h.lines_are ∙ e; rows_are = h.rows_are }
@@ -34,7 +34,7 @@ best_one : (line : List ℕ) → is_best line ≡ true → filter is_best (line 
 best_one line e = ap (λ (b : Bool). cond b (line ∷ []) []) e
 
 -- the row of one line
-pub row_one : (format : Format) (timed : Bool) (line : List ℕ) (time : RowTime) → is_best line ≡ true → IsTimeOf timed time → AreRows format timed (line ∷ []) (row_of format time line)
+pub row_one : (format : BestFormat) (timed : Bool) (line : List ℕ) (time : RowTime) → is_best line ≡ true → IsTimeOf timed time → AreRows format timed (line ∷ []) (row_of format time line)
 unfolding rows_of
 row_one format false line time e is =
     ap (λ (t : RowTime). row_of format t line) is
@@ -45,14 +45,14 @@ row_one format true line time e is = record {
   rows_are = ap (λ (t : RowTime). row_of format t line) is.1 ∙ sym (append-nil (row_of format (Given is.0) line));
 }
 
-pub nothing_added : (format : Format) (timed : Bool) (line old : List ℕ) → is_best line ≡ false → PutsRows format timed (line ∷ []) old old
+pub nothing_added : (format : BestFormat) (timed : Bool) (line old : List ℕ) → is_best line ≡ false → PutsRows format timed (line ∷ []) old old
 nothing_added format timed line old e = record {
   rows = [];
   are = same_best format timed [] (line ∷ []) [] (sym (best_none line e)) (no_rows format timed);
   pending_is = sym (append-nil old);
 }
 
-pub row_added : (format : Format) (timed : Bool) (line old new : List ℕ) (time : RowTime) → is_best line ≡ true → IsTimeOf timed time → new ≡ old ++ row_of format time line → PutsRows format timed (line ∷ []) old new
+pub row_added : (format : BestFormat) (timed : Bool) (line old new : List ℕ) (time : RowTime) → is_best line ≡ true → IsTimeOf timed time → new ≡ old ++ row_of format time line → PutsRows format timed (line ∷ []) old new
 row_added format timed line old new time best is added = record {
   rows = row_of format time line;
   are = row_one format timed line time best is;

@@ -5,7 +5,7 @@ use Rattle.std.specs.List.{starts_with}
 use Rattle.std.proofs.lemmas.List.Elements.{All-nil, All-cons}
 use Rattle.std.proofs.Math.Seq.{take-length}
 use Rattle.feed_text.specs.Devices.{Moved}
-use Rattle.best_lines.specs.declared.format.Format.{Format}
+use Rattle.feed_text.specs.declared.formats.BestFormat.{BestFormat}
 use Rattle.best_lines.specs.declared.bests_out.BestsOut.{BestsOut}
 use Rattle.best_lines.specs.Cutting.{IsLineStart}
 use Rattle.best_lines.specs.CuttingLaws.{kept_or_long, takes_open}
@@ -23,7 +23,7 @@ none [] = refl
 none (x ∷ xs) = refl
 
 -- a text that ends no line is kept
-pub keeps_text : (format : Format) (timed : Bool) (start text more : List ℕ) → IsOpen text → more ≡ take 193 (start ++ text) → TakesText format timed start text more []
+pub keeps_text : (format : BestFormat) (timed : Bool) (start text more : List ℕ) → IsOpen text → more ≡ take 193 (start ++ text) → TakesText format timed start text more []
 keeps_text format timed = takes_open (λ lines. AreRows format timed lines []) (no_rows format timed)
 
 kept_none : (line : List ℕ) → [] ≡ take 193 line → line ≡ []
@@ -31,7 +31,7 @@ kept_none [] e = refl
 kept_none (x ∷ xs) e = absurd cc
 
 -- whole lines, where none was begun
-pub takes_lines : (format : Format) (timed : Bool) (start text rows : List ℕ) (n : ℕ) → start ≡ [] → PutsLines format timed text n [] rows → TakesText format timed start (take n text) [] rows
+pub takes_lines : (format : BestFormat) (timed : Bool) (start text rows : List ℕ) (n : ℕ) → start ≡ [] → PutsLines format timed text n [] rows → TakesText format timed start (take n text) [] rows
 takes_lines format timed start text rows n empty h = λ line kept.
     let same : line ≡ [] = kept_none line (sym empty ∙ kept.kept) in
     record {
@@ -63,7 +63,7 @@ kept_best start line kept = elim (kept_or_long start line kept) [
 ]
 
 -- the end of a line that was begun
-pub takes_end : (format : Format) (timed : Bool) (start text rows : List ℕ) (end : ℕ) → EndsAt text end → end ≡ 0 → AreRows format timed (start ∷ []) rows → TakesText format timed start (take 1 text) [] rows
+pub takes_end : (format : BestFormat) (timed : Bool) (start text rows : List ℕ) (end : ℕ) → EndsAt text end → end ≡ 0 → AreRows format timed (start ∷ []) rows → TakesText format timed start (take 1 text) [] rows
 takes_end format timed start text rows end ends zero_end is = λ line kept.
     let E : ℕ → Type 0 = λ n. take (n + 1) text ≡ ended (take n text) in
     let first : take 1 text ≡ 10 ∷ [] = subst E zero_end ends.text_is ∙ ap ended (none text) in
@@ -178,14 +178,14 @@ then_err adds law s m t (Err e) a b = adds_more_bests adds law s m t [] [] a b
 -- ---- a whole text
 
 pub passed_on : {W : Type 0} (adds : W → List ℕ → W → Type 0) → ((s t u : W) (xs ys : List ℕ) → adds s xs t → adds t ys u → adds s (xs ++ ys) u)
-    → (format : Format) (timed : Bool) (before after : W) (s m : BestsOut W) (text : List ℕ)
+    → (format : BestFormat) (timed : Bool) (before after : W) (s m : BestsOut W) (text : List ℕ)
     → IsNewOver before format timed s → AddsBests adds s text m → adds m.inner m.pending after → PassedOn adds format timed text before after
 passed_on {W} adds law format timed before after s m text new a last =
     let kept : IsLineStart s.start [] = record { kept = new.start; unended = All-nil (λ (b : ℕ). b ≢ 10) } in
     let has = a.takes [] kept in
     let P : W → Type 0 = λ x. adds x a.moved.shown m.inner in
     let Q : List ℕ → Type 0 = λ x. adds before x after in
-    let F : Format → Type 0 = λ f. AreRows f (is_timed s) has.lines a.rows in
+    let F : BestFormat → Type 0 = λ f. AreRows f (is_timed s) has.lines a.rows in
     let T : Bool → Type 0 = λ b. AreRows format b has.lines a.rows in
     record {
       lines = has.lines;
@@ -199,7 +199,7 @@ passed_on {W} adds law format timed before after s m text new a last =
 
 pub passed_ok : {W E : Type 0} (adds : W → List ℕ → W → Type 0) → ((s t u : W) (xs ys : List ℕ) → adds s xs t → adds t ys u → adds s (xs ++ ys) u)
     → (m : BestsOut W) (after : W) (q : List ℕ) (r : Result (Unit {0}) E) → Moved adds m.inner after m.pending q → OnOk r (q ≡ [])
-    → OnOk r ((format : Format) (timed : Bool) (before : W) (s : BestsOut W) (text : List ℕ)
+    → OnOk r ((format : BestFormat) (timed : Bool) (before : W) (s : BestsOut W) (text : List ℕ)
     → IsNewOver before format timed s → AddsBests adds s text m → PassedOn adds format timed text before after)
 passed_ok {W} adds law m after q (Ok x) moved all =
     let P : List ℕ → Type 0 = λ x. adds m.inner x after in

@@ -2,8 +2,8 @@
 use Rattle.std.specs.Prelude.{◌≡◌, ℕ, Bool, true, false, ◌==◌, ◌||◌, List, [], ◌∷◌, ◌++◌, codes, flat_map, filter, map, suc, zero, if◌then◌else◌, Option}
 use Rattle.std.specs.List.{before_first, after_first, list_any}
 use Rattle.std.specs.Str.{bytes_eq}
-use Rattle.best_lines.specs.declared.format.Format.{Format}
-use Rattle.best_lines.specs.declared.format.Format.TheVariants.{Text, Csv, Json}
+use Rattle.feed_text.specs.declared.formats.BestFormat.{BestFormat}
+use Rattle.feed_text.specs.declared.formats.BestFormat.TheVariants.{Text, Csv, Json}
 use Rattle.best_lines.specs.declared.row_time.RowTime.{RowTime}
 use Rattle.best_lines.specs.declared.row_time.RowTime.TheVariants.{Absent, Given}
 use Rattle.best_lines.specs.Lines.{ended, is_best}
@@ -101,13 +101,13 @@ json_row time w =
 -- ---- by format
 
 -- whether rows can have times
-abbrev pub has_times : Format → Bool
+abbrev pub has_times : BestFormat → Bool
 has_times Text = false
 has_times Csv = true
 has_times Json = true
 
 -- what stands before the first row, and whether the rows have times
-abbrev pub header_of : Format → Bool → List ℕ
+abbrev pub header_of : BestFormat → Bool → List ℕ
 header_of Text timed = []
 header_of Csv false =
     codes "notice,position,symbol,bid_venue,bid_price,bid_size,offer_venue,offer_price,offer_size,state\n"
@@ -116,13 +116,13 @@ header_of Csv true =
 header_of Json timed = []
 
 -- a best line as a row
-abbrev pub row_of : Format → RowTime → List ℕ → List ℕ
+abbrev pub row_of : BestFormat → RowTime → List ℕ → List ℕ
 row_of Text time line = ended line
 row_of Csv time line = csv_row time (words_of line)
 row_of Json time line = json_row time (words_of line)
 
 -- the rows of the best lines among these lines, without times
-unfoldable pub rows_of : Format → List (List ℕ) → List ℕ
+unfoldable pub rows_of : BestFormat → List (List ℕ) → List ℕ
 rows_of format lines = flat_map (row_of format Absent) (filter is_best lines)
 
 -- a best line, and the time of its datagram, if it is known
@@ -131,12 +131,12 @@ pub record TimedLine : Type 0 where
   pub time : Option ℕ
 
 -- The rows of the best lines among these lines, in order, each with some time or none.
-pub record AreTimedRows (format : Format) (lines : List (List ℕ)) (rows : List ℕ) : Type 0 where
+pub record AreTimedRows (format : BestFormat) (lines : List (List ℕ)) (rows : List ℕ) : Type 0 where
   pub best : List TimedLine
   pub lines_are : map (λ b. b.line) best ≡ filter is_best lines
   pub rows_are : rows ≡ flat_map (λ b. row_of format (Given b.time) b.line) best
 
 -- the rows of the best lines among these lines, with times or without
-abbrev pub AreRows : Format → Bool → List (List ℕ) → List ℕ → Type 0
+abbrev pub AreRows : BestFormat → Bool → List (List ℕ) → List ℕ → Type 0
 AreRows format false lines rows = rows ≡ rows_of format lines
 AreRows format true lines rows = AreTimedRows format lines rows

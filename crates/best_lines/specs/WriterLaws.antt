@@ -5,7 +5,7 @@ use Rattle.std.proofs.lemmas.List.{map-append}
 use Rattle.std.proofs.lemmas.List.Elements.{filter-append}
 use Rattle.std.specs.Prelude.{filter, flat_map, is_some, map}
 use Rattle.feed_text.specs.Devices.{Moved}
-use Rattle.best_lines.specs.declared.format.Format.{Format}
+use Rattle.feed_text.specs.declared.formats.BestFormat.{BestFormat}
 use Rattle.best_lines.specs.declared.bests_out.BestsOut.{BestsOut}
 use Rattle.best_lines.specs.CuttingLaws.{takes_both, takes_no_text}
 use Rattle.best_lines.specs.Lines.{is_best}
@@ -15,7 +15,7 @@ use Rattle.best_lines.specs.Rows.{AreRows, TimedLine, row_of, rows_of}
 use Rattle.best_lines.specs.Writers.{AddsBests, TakesText, is_timed, row_format}
 
 -- lines after lines make rows after rows
-rows_of-append : (format : Format) (xs ys : List (List ℕ))
+rows_of-append : (format : BestFormat) (xs ys : List (List ℕ))
     → rows_of format (xs ++ ys) ≡ rows_of format xs ++ rows_of format ys
 unfolding rows_of
 rows_of-append format xs ys =
@@ -23,12 +23,12 @@ rows_of-append format xs ys =
     ∙ flat_map-append (row_of format Absent) (filter is_best xs) (filter is_best ys)
 
 -- no line makes no row
-pub no_rows : (format : Format) (timed : Bool) → AreRows format timed [] []
+pub no_rows : (format : BestFormat) (timed : Bool) → AreRows format timed [] []
 unfolding rows_of
 no_rows format false = refl
 no_rows format true = record { best = []; lines_are = refl; rows_are = refl }
 
-pub rows_append : (format : Format) (timed : Bool) (xs ys : List (List ℕ)) (r q : List ℕ)
+pub rows_append : (format : BestFormat) (timed : Bool) (xs ys : List (List ℕ)) (r q : List ℕ)
     → AreRows format timed xs r → AreRows format timed ys q → AreRows format timed (xs ++ ys) (r ++ q)
 rows_append format false xs ys r q a b =
     ap (λ (f : List ℕ). f ++ q) a ∙ ap (λ (f : List ℕ). rows_of format xs ++ f) b ∙ sym (rows_of-append format xs ys)
@@ -47,11 +47,11 @@ rows_append format true xs ys r q a b =
     }
 
 -- nothing is taken
-pub takes_nothing : (format : Format) (timed : Bool) (start : List ℕ) → TakesText format timed start [] start []
+pub takes_nothing : (format : BestFormat) (timed : Bool) (start : List ℕ) → TakesText format timed start [] start []
 takes_nothing format timed start = takes_no_text (λ lines. AreRows format timed lines []) (no_rows format timed) start
 
 -- a text and then another
-pub takes_more : (format : Format) (timed : Bool) (s t u x y r q : List ℕ)
+pub takes_more : (format : BestFormat) (timed : Bool) (s t u x y r q : List ℕ)
     → TakesText format timed s x t r → TakesText format timed t y u q → TakesText format timed s (x ++ y) u (r ++ q)
 takes_more format timed s t u x y r q =
     takes_both (λ lines. AreRows format timed lines r) (λ lines. AreRows format timed lines q)

@@ -1,14 +1,14 @@
 -- A writer of lines that passes on the best ones, over any writer.
 use Rattle.std.specs.Prelude.{◌≡◌, ℕ, Bool, List, [], ◌++◌, is_some}
 use Rattle.feed_text.specs.Devices.{Moved}
-use Rattle.best_lines.specs.declared.format.Format.{Format}
+use Rattle.feed_text.specs.declared.formats.BestFormat.{BestFormat}
 use Rattle.best_lines.specs.declared.bests_out.BestsOut.{BestsOut}
 use Rattle.best_lines.specs.Cutting.{TakesLines}
 use Rattle.best_lines.specs.Lines.{AreLines}
 use Rattle.best_lines.specs.Rows.{AreRows, header_of}
 
 -- A text comes after what was kept: the best ones of its lines make these rows.
-abbrev pub TakesText : Format → Bool → List ℕ → List ℕ → List ℕ → List ℕ → Type 0
+abbrev pub TakesText : BestFormat → Bool → List ℕ → List ℕ → List ℕ → List ℕ → Type 0
 TakesText format timed start text new_start rows =
     TakesLines (λ lines. AreRows format timed lines rows) start text new_start
 
@@ -17,7 +17,7 @@ abbrev pub below : {W : Type 0} → BestsOut W → W
 below w = w.inner
 
 -- the format of the rows
-abbrev pub row_format : {W : Type 0} → BestsOut W → Format
+abbrev pub row_format : {W : Type 0} → BestsOut W → BestFormat
 row_format w = w.style.format
 
 -- whether the rows have times
@@ -38,7 +38,7 @@ pub record AddsBests {W : Type 0} (adds : W → List ℕ → W → Type 0)
   pub moved : Moved adds before.inner after.inner (before.pending ++ rows) after.pending
 
 -- a writer to which nothing was written, of rows with times or without
-pub record IsNewOver {W : Type 0} (inner : W) (format : Format) (timed : Bool) (w : BestsOut W)
+pub record IsNewOver {W : Type 0} (inner : W) (format : BestFormat) (timed : Bool) (w : BestsOut W)
     : Type 0 where
   pub inner_is : w.inner ≡ inner
   pub format_is : row_format w ≡ format
@@ -47,7 +47,7 @@ pub record IsNewOver {W : Type 0} (inner : W) (format : Format) (timed : Bool) (
   pub header : w.pending ≡ header_of format timed
 
 -- The header and the rows of the best lines of a text were passed on, and nothing else.
-pub record PassedOn {W : Type 0} (adds : W → List ℕ → W → Type 0) (format : Format) (timed : Bool)
+pub record PassedOn {W : Type 0} (adds : W → List ℕ → W → Type 0) (format : BestFormat) (timed : Bool)
     (text : List ℕ) (before after : W) : Type 0 where
   pub lines : List (List ℕ)
   pub rest : List ℕ

@@ -2,13 +2,12 @@
 ghost use Rattle.std.specs.Prelude.{◌≡◌, ◌⊎◌, ℕ, Bool, List, ◌+◌, ◌<◌, ◌≤◌, [], IfErr, IfOk, OnErr, OnOk, false, is_some, length, take};
 ghost use Rattle.feed_text.specs.Devices.{Wrote};
 
-use crate::format::Format;
 use crate::frame_times::FrameTimes;
 use crate::lines::{LineStart, keep, line_end, put_lines};
 use crate::row_time::{RowClock, RowStyle};
 use crate::rows::{Pending, put_line};
 use crate::sending::{send, send_some};
-use feed_text::{ReadBuffer, TextOut, WriteStop};
+use feed_text::{BestFormat, ReadBuffer, TextOut, WriteStop};
 use std::alloc::Global;
 
 /// A writer of lines over another writer: of the lines that are written to it, it passes on the best
@@ -36,7 +35,7 @@ impl<'q, W> BestsOut<'q, W> {
 
     /// Passes on to `inner` in the format, whose header is pending. Its memory, some 130 KB, is asked
     /// for here and never again; where it is refused, `inner` is returned as it was.
-    pub fn new(alloc: Global, inner: W, format: Format) -> Result<BestsOut<'q, W>, W>
+    pub fn new(alloc: Global, inner: W, format: BestFormat) -> Result<BestsOut<'q, W>, W>
         ensures new { IfOk result (IsNewOver inner format false) }
         ensures refused { IfErr result (λ w. w ≡ inner) }
     {
@@ -48,7 +47,7 @@ impl<'q, W> BestsOut<'q, W> {
     pub fn with_times(
         alloc: Global,
         inner: W,
-        format: Format,
+        format: BestFormat,
         times: Option<&'q FrameTimes>,
     ) -> Result<BestsOut<'q, W>, W>
         ensures new { IfOk result (IsNewOver inner format (is_some times.entry)) }
@@ -61,7 +60,7 @@ impl<'q, W> BestsOut<'q, W> {
             Ok(pending) => pending,
             Err(_) => return Err(inner),
         };
-        pending.push(format.header(times.is_some()));
+        pending.push(header_of(format, times.is_some()));
         Ok(BestsOut {
             inner,
             style: RowStyle { format, times },
@@ -89,7 +88,7 @@ impl<'q, W> BestsOut<'q, W> {
 impl<W: TextOut> BestsOut<'_, W> {
     ghost use Rattle.best_lines.specs.Writers.{AddsBests, IsNewOver, PassedOn, below, pending_of};
     ghost use Rattle.best_lines.specs.declared.bests_out.BestsOut.{BestsOut};
-    ghost use Rattle.best_lines.specs.declared.format.Format.{Format};
+    ghost use Rattle.feed_text.specs.declared.formats.BestFormat.{BestFormat};
     ghost use Rattle.best_lines.specs.Lines.{EndsAt};
 
     /// Passes on what is pending.
@@ -98,7 +97,7 @@ impl<W: TextOut> BestsOut<'_, W> {
         ensures part { OnErr result
             (Wrote W.adds (below self.old) (pending_of self.old) (below self.new)) }
         ensures passed { OnOk result
-            ((format : Format) (timed : Bool) (before : W) (start : BestsOut W) (text : List ℕ)
+            ((format : BestFormat) (timed : Bool) (before : W) (start : BestsOut W) (text : List ℕ)
             → IsNewOver before format timed start → AddsBests W.adds start text self.old
             → PassedOn W.adds format timed text before (below self.new)) }
         ensures kept { OnOk result

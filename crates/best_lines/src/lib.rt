@@ -1,7 +1,7 @@
 //! The best lines of what a replay prints, as they are, as comma-separated values or as JSON lines.
 //!
 //! A [`BestsOut`] is a writer over any other writer of this project's lines: of the lines that are
-//! written to it, it passes on the best ones, each as a row of its [`Format`], after the format's
+//! written to it, it passes on the best ones, each as a row of its [`BestFormat`], after the format's
 //! header.
 //!
 //! Contract: what was passed on, then what is pending, is the header and the rows of the best lines
@@ -18,8 +18,8 @@
 
 mod best_line;
 mod bests_out;
-mod format;
 mod frame_times;
+mod header;
 pub mod lines;
 mod row_time;
 mod rows;
@@ -29,6 +29,6 @@ mod times_in;
 pub mod words;
 
 pub use bests_out::BestsOut;
-pub use format::Format;
 pub use frame_times::FrameTimes;
+pub use header::has_times;
 pub use times_in::{TimesIn, TimesSink, tap_times};

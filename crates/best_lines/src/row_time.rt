@@ -2,8 +2,8 @@
 ghost use Rattle.std.specs.Prelude.{is_some};
 ghost use Rattle.best_lines.specs.Times.{IsTimeOf};
 
-use crate::format::Format;
 use crate::frame_times::FrameTimes;
+use feed_text::BestFormat;
 
 /// What a row says of the time of its datagram.
 #[derive(Clone, Copy, Debug, PartialEq, Eq)]
@@ -33,7 +33,7 @@ impl RowClock {
 /// How rows are written.
 #[derive(Clone, Copy)]
 pub(crate) struct RowStyle<'q> {
-    pub(crate) format: Format,
+    pub(crate) format: BestFormat,
     /// Where the times of the rows come from, if they have any.
     pub(crate) times: Option<&'q FrameTimes>,
 }

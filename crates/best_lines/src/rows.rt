@@ -8,11 +8,10 @@ ghost use Rattle.best_lines.specs.Lines.{is_best};
 ghost use Rattle.best_lines.specs.Words.{words_now};
 
 use crate::best_line::is_best;
-use crate::format::Format;
 use crate::row_time::{RowClock, RowStyle, RowTime};
 use crate::seconds::put_seconds;
 use crate::words::{LineWords, parts_of, words_of};
-use feed_text::{RECORDS_ROOM, ReadBuffer};
+use feed_text::{BestFormat, RECORDS_ROOM, ReadBuffer};
 
 /// The bytes that are to be written.
 pub(crate) type Pending = ReadBuffer<RECORDS_ROOM>;
@@ -187,15 +186,15 @@ fn put_text(pending: &mut Pending, line: &[u8])
 }
 
 /// Adds a best line's row.
-fn put_row(format: Format, line: &[u8], time: RowTime, pending: &mut Pending)
+fn put_row(format: BestFormat, line: &[u8], time: RowTime, pending: &mut Pending)
     requires short { length line.now ≤ 192 }
     requires room { length pending.old + 4096 ≤ 131072 }
     ensures { pending.new ≡ pending.old ++ row_of format time line.now }
 {
     match format {
-        Format::Text => put_text(pending, line),
-        Format::Csv => put_csv(pending, line, time),
-        Format::Json => put_json(pending, line, time),
+        BestFormat::Text => put_text(pending, line),
+        BestFormat::Csv => put_csv(pending, line, time),
+        BestFormat::Json => put_json(pending, line, time),
     }
 }
 

@@ -1,7 +1,7 @@
 -- The counts as a text.
 use Rattle.std.specs.Prelude.{ℕ, List, ◌++◌}
-use Rattle.capture_stats.specs.declared.format.StatsFormat.{StatsFormat}
-use Rattle.capture_stats.specs.declared.format.StatsFormat.TheVariants.{Table, Json}
+use Rattle.feed_text.specs.declared.formats.StatsFormat.{StatsFormat}
+use Rattle.feed_text.specs.declared.formats.StatsFormat.TheVariants.{Table, Json}
 use Rattle.capture_stats.specs.Json.{stats_json}
 use Rattle.capture_stats.specs.Stats.{Counted}
 use Rattle.capture_stats.specs.Table.{stats_table}

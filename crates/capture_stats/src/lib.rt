@@ -11,7 +11,6 @@
 //! Begin at `stats_out.rt`.
 #![tactic(auto)]
 
-mod format;
 mod happening;
 mod json;
 mod laws;
@@ -21,13 +20,14 @@ mod reading;
 mod stats;
 mod stats_out;
 mod table;
+mod text;
 mod venue_stats;
 
-pub use format::{StatsFormat, stats_text};
 pub use happening::{AtVenue, ItemKind, PacketAnswer};
 pub use laws::numbers_are_read;
 pub use line_stats::{LineStats, Refusals};
 pub use pieces::{COLUMNS, Row, put_pieces, put_rows};
 pub use stats::{StateStats, Stats};
 pub use stats_out::StatsOut;
+pub use text::stats_text;
 pub use venue_stats::{GapStats, ItemStats, Missing, VenueStats};

@@ -3,7 +3,7 @@
 use crate::capture_timing::CaptureTiming;
 use crate::json::put_json;
 use crate::table::put_table;
-use capture_stats::StatsFormat;
+use feed_text::StatsFormat;
 use std::alloc::{AllocError, Global};
 
 /// Returns the timing of a capture as a text in the format, which goes after the capture's statistics in

@@ -9,8 +9,8 @@ use Rattle.clap.specs.declared.error.kind.ErrorKind.{ErrorKind}
 use Rattle.clap.specs.declared.error.kind.ErrorKind.TheVariants.{DisplayHelp, DisplayVersion, OutOfMemory}
 use Rattle.command_words.specs.CapturedLines.{HasCapturedLinesFault}
 use Rattle.command_words.specs.CommandLine.{Gives, GivesBadFormat, GivesBests, GivesCounted, GivesNoConversion, GivesNoFeed, GivesNoListening, GivesNoStats, GivesNoTask, GivesNone, IsAccepted, IsConverting, IsCount, IsCounting, IsFlag, IsGivenCount, IsListening, IsRefused, IsWindowOf, RefusesBy, convert_values_of, lines_refusal_by, listen_values_of, stats_values_of}
-use Rattle.best_lines.specs.declared.format.Format.{Format}
-use Rattle.capture_stats.specs.declared.format.StatsFormat.{StatsFormat}
+use Rattle.feed_text.specs.declared.formats.BestFormat.{BestFormat}
+use Rattle.feed_text.specs.declared.formats.StatsFormat.{StatsFormat}
 use Rattle.command_words.specs.StatsFormats.{NamesStatsFormat}
 use Rattle.command_words.specs.BestFormats.{HasFormatFault, NamesFormat}
 use Rattle.command_words.specs.declared.best_format.FormatFault.{FormatFault}
@@ -66,11 +66,11 @@ IsGivenCount-none None unread = refl
 IsGivenCount-none (Some t) unread = λ numeral few. absurd (unread t refl (numeral, omega arith))
 
 -- the format that the options give, and that they give none
-pub gives_bests : (rows : List Row) (flag : Bool) (text : Option Text) (r : Result (Option Format) FormatFault) → IsFlag (one_of (codes "best-only") rows) flag → text ≡ first_of (codes "format") rows → IfOk r (NamesFormat flag text) → IfOk r (GivesBests rows)
+pub gives_bests : (rows : List Row) (flag : Bool) (text : Option Text) (r : Result (Option BestFormat) FormatFault) → IsFlag (one_of (codes "best-only") rows) flag → text ≡ first_of (codes "format") rows → IfOk r (NamesFormat flag text) → IfOk r (GivesBests rows)
 gives_bests rows flag text (Ok bests) given e told = record { best_only = flag; flag = given; format = subst (λ (t : Option Text). NamesFormat flag t bests) e told }
 gives_bests rows flag text (Err fault) given e told = tt
 
-pub gives_bad_format : (rows : List Row) (flag : Bool) (text : Option Text) (r : Result (Option Format) FormatFault) → IsFlag (one_of (codes "best-only") rows) flag → text ≡ first_of (codes "format") rows → IfErr r (λ _. HasFormatFault flag text) → IfErr r (λ _. GivesBadFormat rows)
+pub gives_bad_format : (rows : List Row) (flag : Bool) (text : Option Text) (r : Result (Option BestFormat) FormatFault) → IsFlag (one_of (codes "best-only") rows) flag → text ≡ first_of (codes "format") rows → IfErr r (λ _. HasFormatFault flag text) → IfErr r (λ _. GivesBadFormat rows)
 gives_bad_format rows flag text (Ok bests) given e told = tt
 gives_bad_format rows flag text (Err fault) given e told = record { best_only = flag; flag = given; fault = subst (λ (t : Option Text). HasFormatFault flag t) e told }
 

@@ -1,11 +1,11 @@
 -- The lines that the options of replay ask for: all, or the best ones alone in a format.
 use Rattle.std.specs.Prelude.{◌≡◌, ℕ, Bool, true, false, List, Option, Some, None, codes, if◌then◌else◌}
 use Rattle.std.specs.Str.{bytes_eq}
-use Rattle.best_lines.specs.declared.format.Format.{Format}
-use Rattle.best_lines.specs.declared.format.Format.TheVariants.{Text, Csv, Json}
+use Rattle.feed_text.specs.declared.formats.BestFormat.{BestFormat}
+use Rattle.feed_text.specs.declared.formats.BestFormat.TheVariants.{Text, Csv, Json}
 
 -- the format of this name
-abbrev pub format_named : List ℕ → Option Format
+abbrev pub format_named : List ℕ → Option BestFormat
 format_named name =
     if bytes_eq name (codes "text") then Some Text
     else if bytes_eq name (codes "csv") then Some Csv
@@ -13,12 +13,12 @@ format_named name =
 
 -- All lines are printed where the best ones alone aren't asked for, and these by the format that is
 -- named, or as they are.
-abbrev pub NamesFormat : Bool → Option (List ℕ) → Option Format → Type 0
+abbrev pub NamesFormat : Bool → Option (List ℕ) → Option BestFormat → Type 0
 NamesFormat false None bests = bests ≡ None
 NamesFormat false (Some name) bests = ⊥
 NamesFormat true None bests = bests ≡ Some Text
 NamesFormat true (Some name) bests =
-    (format : Format) × (format_named name ≡ Some format) × (bests ≡ Some format)
+    (format : BestFormat) × (format_named name ≡ Some format) × (bests ≡ Some format)
 
 -- A format is named where all lines are printed, or one that there isn't.
 abbrev pub HasFormatFault : Bool → Option (List ℕ) → Type 0

@@ -14,8 +14,8 @@ use Rattle.clap.specs.declared.error.kind.ErrorKind.{ErrorKind}
 use Rattle.clap.specs.declared.error.kind.ErrorKind.TheVariants.{DisplayHelp, DisplayVersion, OutOfMemory}
 use Rattle.command_words.specs.Addresses.{HasLinesFault, NameLines, NamesRequest, NamesNoRequest}
 use Rattle.command_words.specs.CapturedLines.{HasAllLinesFault, HasCapturedLinesFault, NameAllLines, NameCapturedLines}
-use Rattle.best_lines.specs.declared.format.Format.{Format}
-use Rattle.capture_stats.specs.declared.format.StatsFormat.{StatsFormat}
+use Rattle.feed_text.specs.declared.formats.BestFormat.{BestFormat}
+use Rattle.feed_text.specs.declared.formats.StatsFormat.{StatsFormat}
 use Rattle.command_words.specs.BestFormats.{HasFormatFault, NamesFormat}
 use Rattle.command_words.specs.Commands.{nbbo_app}
 use Rattle.command_words.specs.Sessions.{sessions_in}
@@ -105,7 +105,7 @@ pub record IsFlag (text : Option Text) (flag : Bool) : Type 0 where
 
 -- The values of the options of replay ask for the best lines alone in this format, or for all
 -- lines.
-pub record GivesBests (rows : List Row) (bests : Option Format) : Type 0 where
+pub record GivesBests (rows : List Row) (bests : Option BestFormat) : Type 0 where
   pub best_only : Bool
   pub flag : IsFlag (one_of (codes "best-only") rows) best_only
   pub format : NamesFormat best_only (first_of (codes "format") rows) bests

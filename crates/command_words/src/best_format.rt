@@ -2,22 +2,22 @@
 ghost use Rattle.std.specs.Prelude.{◌≡◌, IfErr, IfOk, option_map};
 ghost use Rattle.command_words.specs.BestFormats.{HasFormatFault, NamesFormat, format_named};
 
-use best_lines::Format;
+use feed_text::BestFormat;
 
 /// The format is none of those that there are, or is given where all lines are printed.
 #[derive(Clone, Copy, Debug, PartialEq, Eq)]
 pub struct FormatFault;
 
 /// The format of this name.
-fn format_named(name: &str) -> Option<Format>
+fn format_named(name: &str) -> Option<BestFormat>
     ensures { result ≡ format_named name.now }
 {
     if name == "text" {
-        Some(Format::Text)
+        Some(BestFormat::Text)
     } else if name == "csv" {
-        Some(Format::Csv)
+        Some(BestFormat::Csv)
     } else if name == "json" {
-        Some(Format::Json)
+        Some(BestFormat::Json)
     } else {
         None
     }
@@ -25,13 +25,13 @@ fn format_named(name: &str) -> Option<Format>
 
 /// The format of the best lines where they alone are printed, `Text` where none is named, or `None`
 /// where all lines are printed: then no format may be named.
-pub fn read_format(best_only: bool, name: Option<&str>) -> Result<Option<Format>, FormatFault>
+pub fn read_format(best_only: bool, name: Option<&str>) -> Result<Option<BestFormat>, FormatFault>
     ensures ok { IfOk result (NamesFormat best_only (option_map (λ name. name.now) name.entry)) }
     ensures err { IfErr result (λ _.
         HasFormatFault best_only (option_map (λ name. name.now) name.entry)) }
 {
     match name {
-        None if best_only => Ok(Some(Format::Text)),
+        None if best_only => Ok(Some(BestFormat::Text)),
         None => Ok(None),
         Some(_) if !best_only => Err(FormatFault),
         Some(name) => match format_named(name) {

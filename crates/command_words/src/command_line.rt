@@ -22,9 +22,9 @@ use crate::sessions::read_sessions;
 use crate::stats_words::stats_of;
 use crate::symbols::{SymbolsFault, read_symbols};
 use crate::task::Task;
-use best_lines::Format;
 use clap::error::ErrorKind;
 use clap::{ArgMatches, Error};
+use feed_text::BestFormat;
 use feed_types::{MAX_WINDOW, SymbolName};
 use std::alloc::Global;
 use std::net::SocketAddr;
@@ -123,7 +123,7 @@ fn flag_of(options: &ArgMatches<'_>, name: &str) -> bool
 }
 
 /// The format in which the best lines alone are printed, or `None` where all lines are.
-fn bests_of(replay: &ArgMatches<'_>) -> Result<Option<Format>, FormatFault>
+fn bests_of(replay: &ArgMatches<'_>) -> Result<Option<BestFormat>, FormatFault>
     ensures ok { IfOk result (GivesBests (rows_of (found_of replay.now))) }
     ensures err { IfErr result (λ _. GivesBadFormat (rows_of (found_of replay.now))) }
 {

@@ -1,7 +1,7 @@
 //! The settings of `nbbo replay`.
 
 use crate::feed_settings::FeedSettings;
-use best_lines::Format;
+use feed_text::BestFormat;
 
 /// The settings of `nbbo replay`.
 #[derive(Debug, Drop)]
@@ -11,5 +11,5 @@ pub struct ReplaySettings {
     /// Whether gaps are printed.
     pub gaps: bool,
     /// The format of the best lines where they alone are printed.
-    pub bests: Option<Format>,
+    pub bests: Option<BestFormat>,
 }

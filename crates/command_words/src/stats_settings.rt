@@ -2,7 +2,7 @@
 
 use crate::line_replay_settings::LineReplaySettings;
 use crate::replay_settings::ReplaySettings;
-use capture_stats::StatsFormat;
+use feed_text::StatsFormat;
 
 /// The replay whose lines are counted.
 #[derive(Debug, Drop)]

@@ -13,8 +13,8 @@ use crate::refusal::Refusal;
 use crate::replay_settings::ReplaySettings;
 use crate::stats_format::read_stats_format;
 use crate::stats_settings::{StatsInput, StatsSettings};
-use capture_stats::StatsFormat;
 use clap::ArgMatches;
+use feed_text::StatsFormat;
 use std::alloc::Global;
 
 /// The most items and declarations that are counted. They take no memory.

@@ -11,7 +11,7 @@ use Rattle.best_lines.specs.Rows.{has_times}
 use Rattle.best_lines.specs.Writers.{IsNewOver, below}
 use Rattle.best_lines.specs.declared.times_in.TimesSink.{TimesSink}
 use Rattle.best_lines.specs.declared.bests_out.BestsOut.{BestsOut}
-use Rattle.best_lines.specs.declared.format.Format.{Format}
+use Rattle.feed_text.specs.declared.formats.BestFormat.{BestFormat}
 use Rattle.line_captures.specs.declared.captured_line.CapturedLine.{CapturedLine}
 use Rattle.line_captures.specs.declared.fault.InputFault.{InputFault}
 use Rattle.line_captures.specs.declared.fault.InputFault.TheVariants.{BadCapture, ShortCapture}
@@ -122,7 +122,7 @@ pub record RunsLineReplay {R W E : Type 0}
 -- what that had pending at the end was written. Each reading is that of the reader below. The rows
 -- have times where those of the format can. The report is that of the replay, but for its outcome.
 pub record PassesLineBests {R W : Type 0} (reading : Reading R) (writing : Writing W)
-    (settings : LineReplaySettings) (format : Format)
+    (settings : LineReplaySettings) (format : BestFormat)
     (from : R) (report : CaptureReport R) (before after : W) : Type 0 where
   pub config : ReplayConfig
   pub is : IsConfigOf settings.replay config
@@ -150,7 +150,7 @@ pub record PassesNoLine {R W : Type 0} (from : R) (report : CaptureReport R) (be
 
 -- the best lines of a packet capture were passed on, unless memory was refused
 abbrev pub PassesLines : {R W : Type 0} (reading : Reading R) (writing : Writing W)
-    (settings : LineReplaySettings) (format : Format)
+    (settings : LineReplaySettings) (format : BestFormat)
     (from : R) (report : CaptureReport R) (before after : W) → Type 0
 PassesLines reading writing settings format from report before after =
     PassesLineBests reading writing settings format from report before after
@@ -159,7 +159,7 @@ PassesLines reading writing settings format from report before after =
 -- A packet capture was replayed, and its best lines alone are on output.
 pub record RunsLineBests {R W E : Type 0}
     (reading : Reading R) (writing : Writing W) (telling : Writing E)
-    (settings : LineReplaySettings) (format : Format) (at_terminal : Bool)
+    (settings : LineReplaySettings) (format : BestFormat) (at_terminal : Bool)
     (from to : R) (before after : W) (silent told : E) (status : ℕ) : Type 0 where
   pub report : CaptureReport R
   pub passes : PassesLines reading writing settings format from report before after
@@ -171,7 +171,7 @@ pub record RunsLineBests {R W E : Type 0}
 -- a replay of a packet capture that prints the best lines alone, or all lines
 abbrev pub RunsLinesBy : {R W E : Type 0}
     (reading : Reading R) (writing : Writing W) (telling : Writing E)
-    (bests : Option Format) (settings : LineReplaySettings) (at_terminal : Bool)
+    (bests : Option BestFormat) (settings : LineReplaySettings) (at_terminal : Bool)
     (from to : R) (before after : W) (silent told : E) (status : ℕ) → Type 0
 RunsLinesBy reading writing telling None settings at_terminal from to before after
     silent told status =

@@ -13,7 +13,7 @@ use Rattle.feed_text.specs.Replays.{Replays, AnswersReplay}
 use Rattle.feed_text.specs.StandardError.{Says}
 use Rattle.best_lines.specs.Writers.{AddsBests, IsNewOver, PassedOn, below, pending_of}
 use Rattle.best_lines.specs.declared.bests_out.BestsOut.{BestsOut}
-use Rattle.best_lines.specs.declared.format.Format.{Format}
+use Rattle.feed_text.specs.declared.formats.BestFormat.{BestFormat}
 use Rattle.replay_run.specs.Printed.{texts_of_run}
 use Rattle.command_words.specs.CommandLine.{Asks, AsksReplay, IsRefused, refusal_status, refusal_text}
 use Rattle.nbbo_main.specs.Ending.{ending_status, ending_text}
@@ -69,7 +69,7 @@ bests_writing writing = record {
 -- else.
 pub record WritesPending {W : Type 0} (writing : Writing W) (from to : BestsOut W) : Type 0 where
   pub taken : writing.adds (below from) (pending_of from) (below to)
-  pub passed : (format : Format) (timed : Bool) (before : W) (start : BestsOut W) (text : List ℕ)
+  pub passed : (format : BestFormat) (timed : Bool) (before : W) (start : BestsOut W) (text : List ℕ)
       → IsNewOver before format timed start → AddsBests writing.adds start text from
       → PassedOn writing.adds format timed text before (below to)
 
@@ -87,7 +87,7 @@ ClosesBests writing failed from to seen outcome =
 -- Input was replayed onto a writer of best lines over output, of rows without times, and what that
 -- had pending at the end was written.
 pub record PassesBests {R W : Type 0} (reading : Reading R) (writing : Writing W)
-    (config : ReplayConfig) (format : Format) (from to : R) (before after : W)
+    (config : ReplayConfig) (format : BestFormat) (from to : R) (before after : W)
     (outcome : Result (Unit {0}) ReplayFault) : Type 0 where
   pub start : BestsOut W
   pub new : IsNewOver before format false start
@@ -111,7 +111,7 @@ pub record PassesNothing {R W : Type 0} (from to : R) (before after : W)
 -- those of the outcome, as where all lines are printed.
 pub record RunsBests {R W E : Type 0}
     (reading : Reading R) (writing : Writing W) (telling : Writing E)
-    (settings : ReplaySettings) (format : Format) (at_terminal : Bool)
+    (settings : ReplaySettings) (format : BestFormat) (at_terminal : Bool)
     (from to : R) (before after : W) (silent told : E) (status : ℕ) : Type 0 where
   pub config : ReplayConfig
   pub is : IsConfigOf settings config
@@ -126,7 +126,7 @@ pub record RunsBests {R W E : Type 0}
 -- a replay that prints the best lines alone, or all lines
 abbrev pub RunsBy : {R W E : Type 0}
     (reading : Reading R) (writing : Writing W) (telling : Writing E)
-    (bests : Option Format) (settings : ReplaySettings) (at_terminal : Bool)
+    (bests : Option BestFormat) (settings : ReplaySettings) (at_terminal : Bool)
     (from to : R) (before after : W) (silent told : E) (status : ℕ) → Type 0
 RunsBy reading writing telling None settings at_terminal from to before after silent told status =
     RunsReplay reading writing telling settings at_terminal from to before after silent told status

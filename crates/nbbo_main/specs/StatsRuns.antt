@@ -12,7 +12,7 @@ use Rattle.feed_text.specs.StandardError.{Says}
 use Rattle.capture_stats.specs.Stats.{Counted, IsCountOf}
 use Rattle.capture_stats.specs.Texts.{text_of_stats}
 use Rattle.capture_stats.specs.Writers.{AddsStats, IsNewFor}
-use Rattle.capture_stats.specs.declared.format.StatsFormat.{StatsFormat}
+use Rattle.feed_text.specs.declared.formats.StatsFormat.{StatsFormat}
 use Rattle.capture_stats.specs.declared.stats_out.StatsOut.{StatsOut}
 use Rattle.capture_timing.specs.declared.capture_timing.CaptureTiming.{CaptureTiming}
 use Rattle.line_captures.specs.Taps.{reader_below, reading_along}

@@ -9,10 +9,10 @@ ghost use Rattle.nbbo_main.specs.Runs.{ClosesBests, RunsBests, RunsBy};
 use crate::ending::ending;
 use crate::line_runs::{EndedRun, run_line_replay, tell_capture};
 use crate::run::{config_of, hint, run_replay};
-use best_lines::{BestsOut, Format, FrameTimes, TimesIn, tap_times};
+use best_lines::{BestsOut, FrameTimes, TimesIn, has_times, tap_times};
 use command_words::{LineReplaySettings, ReplaySettings};
 use feed_text::replay::ReplayConfig;
-use feed_text::{CaptureIn, ReplayFault, TextOut, write_stderr};
+use feed_text::{BestFormat, CaptureIn, ReplayFault, TextOut, write_stderr};
 use line_captures::{CaptureReport, CapturedLine, LinesFault};
 use replay_run::{replay, replay_lines};
 use std::alloc::{AllocError, Global};
@@ -44,7 +44,7 @@ fn close_bests<F: Copy, W: TextOut>(
 fn run_bests<R: CaptureIn, W: TextOut, E: TextOut>(
     alloc: Global,
     settings: &ReplaySettings,
-    format: Format,
+    format: BestFormat,
     at_terminal: bool,
     input: &mut R,
     output: W,
@@ -102,10 +102,10 @@ pub fn run_settings<R: CaptureIn, W: TextOut, E: TextOut>(
 }
 
 /// The times of a packet capture's frames for a format whose rows have them, or `None` for another one.
-fn times_for(alloc: Global, format: Format) -> Result<Option<FrameTimes>, AllocError>
+fn times_for(alloc: Global, format: BestFormat) -> Result<Option<FrameTimes>, AllocError>
     ensures { IfOk result (λ times. is_some times ≡ has_times format) }
 {
-    if !format.has_times() {
+    if !has_times(format) {
         return Ok(None);
     }
     Ok(Some(FrameTimes::new(alloc)?))
@@ -123,7 +123,7 @@ struct TimedRun<'a, R, W> {
 fn timed_run<'a, R, W>(
     alloc: Global,
     lines: &'a [CapturedLine],
-    format: Format,
+    format: BestFormat,
     times: Option<&'a FrameTimes>,
     input: R,
     output: W,
@@ -148,7 +148,7 @@ fn timed_run<'a, R, W>(
 fn pass_line_bests<R: CaptureIn + Drop, W: TextOut>(
     alloc: Global,
     settings: &LineReplaySettings,
-    format: Format,
+    format: BestFormat,
     input: R,
     output: W,
 ) -> (CaptureReport<R>, W)
@@ -184,7 +184,7 @@ fn pass_line_bests<R: CaptureIn + Drop, W: TextOut>(
 fn run_line_bests<R: CaptureIn + Drop, W: TextOut, E: TextOut>(
     alloc: Global,
     settings: &LineReplaySettings,
-    format: Format,
+    format: BestFormat,
     at_terminal: bool,
     input: R,
     output: W,

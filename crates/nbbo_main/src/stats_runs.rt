@@ -9,11 +9,11 @@ ghost use Rattle.nbbo_main.specs.StatsRuns.{PrintsStats, PrintsText, PrintsTimed
 use crate::ending::ending;
 use crate::line_runs::{EndedRun, tell_capture};
 use crate::run::{config_of, hint};
-use capture_stats::{Stats, StatsFormat, StatsOut, stats_text};
+use capture_stats::{Stats, StatsOut, stats_text};
 use capture_timing::{CaptureTiming, timing_text};
 use command_words::{LineReplaySettings, ReplaySettings, StatsInput, StatsSettings};
 use feed_text::replay::ReplayConfig;
-use feed_text::{CaptureIn, ReplayFault, TextOut, write_all, write_stderr};
+use feed_text::{CaptureIn, ReplayFault, StatsFormat, TextOut, write_all, write_stderr};
 use line_captures::{CaptureReport, CaptureTap, CapturedLine, LinesFault};
 use replay_run::{replay, replay_lines};
 use std::alloc::Global;

@@ -76,8 +76,9 @@ all_of_rest writing telling more report printed first mid after said told status
     inl (
       subst (λ (t : List ℕ). writing.adds first t after) (whole_text printed s h.few)
           (more first mid after front (summary_text printed s) h.lines r.0),
-      r.1,
+      r.1 ∙ h.sound,
       r.2,
+      r.3,
     )
 all_of_rest writing telling more report printed first mid after said told status h (inr (inl r)) =
     let s : SettlementState = report.settlement in
@@ -85,7 +86,12 @@ all_of_rest writing telling more report printed first mid after said told status
     let part : Wrote writing.adds first (summary_text 0 s) mid
     = subst (λ (t : List ℕ). Wrote writing.adds first t mid) (whole_text printed s h.few)
     (part_of_front writing.adds first mid front (summary_text printed s) h.lines) in
-    inr (inl (subst (λ w. Wrote writing.adds first (summary_text 0 s) w) (sym r.0) part, r.1, r.2))
+    inr (inl (
+      subst (λ w. Wrote writing.adds first (summary_text 0 s) w) (sym r.0) part,
+      ap (λ w. writing.failures w) r.0 ∙ h.sound,
+      r.1,
+      r.2,
+    ))
 all_of_rest writing telling more report printed first mid after said told status h (inr (inr r)) =
     let s : SettlementState = report.settlement in
     let front : List ℕ = log_lines (take printed (settled_log s)) in

@@ -189,12 +189,13 @@ abbrev pub report_status : List (ℕ × LineId) → Option Stop → ℕ
 report_status [] None = 0
 report_status failed stopped = 1
 
--- The summary's lines that aren't printed yet are written; or memory for them is refused; or the
--- output fails within them. Standard error says so.
+-- The summary's lines that aren't printed yet are written, and no call fails; or memory for them is
+-- refused; or the output fails within them. Standard error says so.
 abbrev pub PrintsRest : {W E : Type 0} (writing : Writing W) (telling : Writing E)
     (report : ListenReport) (printed : ℕ) (before after : W) (said told : E) → ℕ → Type 0
 PrintsRest writing telling report printed before after said told status =
-    (writing.adds before (summary_text printed report.settlement) after × (told ≡ said)
+    (writing.adds before (summary_text printed report.settlement) after
+    × (writing.failures after ≡ writing.failures before) × (told ≡ said)
     × (status ≡ report_status report.failed.items report.stopped))
     ⊎ ((after ≡ before) × Says telling (codes "nbbo: no memory\n") said told × (status ≡ 1))
     ⊎ (Wrote writing.adds before (summary_text printed report.settlement) after
@@ -237,13 +238,15 @@ PrintsEnd writing telling (Err fault) following printed before after silent told
     (after ≡ before) × Says telling (listen_fault_text fault) silent told × (status ≡ 1)
 
 -- From the beginning of the run on the whole summary is written; or a part of it, where memory is
--- refused or the output fails. Standard error says so.
+-- refused; and no call fails. Or the output fails within it. Standard error says so.
 abbrev pub PrintsWhole : {W E : Type 0} (writing : Writing W) (telling : Writing E)
     (report : ListenReport) (before after : W) (said told : E) → ℕ → Type 0
 PrintsWhole writing telling report before after said told status =
-    (writing.adds before (summary_text 0 report.settlement) after × (told ≡ said)
+    (writing.adds before (summary_text 0 report.settlement) after
+    × (writing.failures after ≡ writing.failures before) × (told ≡ said)
     × (status ≡ report_status report.failed.items report.stopped))
     ⊎ (Wrote writing.adds before (summary_text 0 report.settlement) after
+    × (writing.failures after ≡ writing.failures before)
     × Says telling (codes "nbbo: no memory\n") said told × (status ≡ 1))
     ⊎ (Wrote writing.adds before (summary_text 0 report.settlement) after
     × (writing.failures after ≡ writing.failures before + 1)

@@ -11,7 +11,7 @@ use crate::run_end::RunEnd;
 use crate::run_progress::RunProgress;
 use command_words::ListenSettings;
 use feed_text::{LineBuffer, TextOut};
-use live_feed::{FeedName, SubscriberLog, VenueStatus};
+use live_feed::{FeedName, Stop, SubscriberLog, VenueStatus};
 use std::alloc::{AllocError, Global};
 use std::io::Stdin;
 use std::sync::Wait;
@@ -30,8 +30,10 @@ const MOST_BEFORE_MS: u64 = 10_000;
 /// What a look of the attendant asks for.
 #[derive(Clone, Copy, Debug, PartialEq, Eq)]
 pub enum Turn {
-    /// Nothing more: the run is over, or doesn't begin.
+    /// Nothing more: the run is over.
     Over,
+    /// Nothing more: the run doesn't begin, and is to be stopped where it begins later.
+    GiveUp,
     /// The run is to be stopped.
     Stop,
     /// The status of each venue is to be told.
@@ -50,6 +52,7 @@ pub struct Attendant<C> {
     /// What is counted, if anything is.
     pub counts: Option<ListenCounts>,
     has_stopped: bool,
+    has_given_up: bool,
 }
 
 impl<C: Clock + Clone + Drop> Attendant<C> {
@@ -73,6 +76,7 @@ impl<C: Clock + Clone + Drop> Attendant<C> {
             text: LineBuffer::new(alloc),
             counts,
             has_stopped: false,
+            has_given_up: false,
         })
     }
 }
@@ -86,6 +90,16 @@ impl<C: Clock + Drop> Attendant<C> {
     /// Whether the run hasn't begun for long, since there is no thread for it.
     fn waits_in_vain(&self) -> bool {
         !self.progress.has_begun() && self.elapsed.ms() >= MOST_BEFORE_MS
+    }
+
+    /// Returns why the run stopped early: that there was no thread where the attendant has given up, else what the run's
+    /// report says.
+    pub fn reason(&self, reported: Option<Stop>) -> Option<Stop> {
+        if self.has_given_up {
+            Some(Stop::NoThread)
+        } else {
+            reported
+        }
     }
 
     /// Whether counts are due.
@@ -156,8 +170,12 @@ impl<N: FeedName, C: Clock + Drop, W: TextOut, E: TextOut> Attendance<N, C, W, E
         let has_taken = self
             .desk
             .follow(rt, &mut self.attendant.text, &mut self.log);
-        if is_over && !has_taken || self.attendant.waits_in_vain() {
+        if is_over && !has_taken {
             return Turn::Over;
+        }
+        if self.attendant.waits_in_vain() {
+            self.attendant.has_given_up = true;
+            return Turn::GiveUp;
         }
         self.attendant.look_on(self.desk.following, has_taken)
     }

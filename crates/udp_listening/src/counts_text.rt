@@ -22,19 +22,16 @@ fn refusals_text(alloc: Global, refused: &[u64; REFUSALS]) -> Result<String, All
 
 /// What a line has brought in a period.
 fn line_text(alloc: Global, counts: &LineCounts) -> Result<String, AllocError> {
-    let packets = counts.datagrams();
-    let messages = counts.messages();
-    let LineCounts {
-        new,
-        repeated,
-        ahead,
-        ..
-    } = *counts;
-    let refused = counts.refusals();
     let numbers = refusals_text(alloc, &counts.refused)?;
-    let numbers = numbers.as_str();
     format!(in alloc;
-        "packets {packets} messages {messages} new {new} repeated {repeated} ahead {ahead} refused {refused}{numbers}"
+        "packets {} messages {} new {} repeated {} ahead {} refused {}{}",
+        counts.datagrams(),
+        counts.messages(),
+        counts.new,
+        counts.repeated,
+        counts.ahead,
+        counts.refusals(),
+        numbers.as_str()
     )
 }
 
@@ -45,19 +42,17 @@ pub fn period_text(
     place: usize,
     counts: &VenueCounts,
 ) -> Result<String, AllocError> {
-    let VenueCounts {
-        sent,
-        known,
-        lacking,
-        requests,
-        ..
-    } = *counts;
-    let lag = counts.lag();
     let a = line_text(alloc, &counts.a)?;
     let b = line_text(alloc, &counts.b)?;
-    let (a, b) = (a.as_str(), b.as_str());
     format!(in alloc;
-        "nbbo: second {seconds} venue {place} sent {sent} known {known} lag {lag} lacks {lacking} requests {requests} A {a} B {b}\n"
+        "nbbo: second {seconds} venue {place} sent {} known {} lag {} lacks {} requests {} A {} B {}\n",
+        counts.sent,
+        counts.known,
+        counts.lag(),
+        counts.lacking,
+        counts.requests,
+        a.as_str(),
+        b.as_str()
     )
 }
 
@@ -68,35 +63,29 @@ fn line_row(
     line: &str,
     counts: &LineCounts,
 ) -> Result<String, AllocError> {
-    let packets = counts.datagrams();
-    let messages = counts.messages();
-    let LineCounts {
-        new,
-        repeated,
-        heartbeats,
-        ahead,
-        ..
-    } = *counts;
-    let refused = counts.refusals();
     let numbers = refusals_text(alloc, &counts.refused)?;
-    let numbers = numbers.as_str();
     format!(in alloc;
-        "nbbo: {place:>5} {line:>4} {packets:>10} {messages:>10} {new:>10} {repeated:>10} {heartbeats:>10} {ahead:>10} {refused:>10}{numbers}\n"
+        "nbbo: {place:>5} {line:>4} {:>10} {:>10} {:>10} {:>10} {:>10} {:>10} {:>10}{}\n",
+        counts.datagrams(),
+        counts.messages(),
+        counts.new,
+        counts.repeated,
+        counts.heartbeats,
+        counts.ahead,
+        counts.refusals(),
+        numbers.as_str()
     )
 }
 
 /// The table's row of a venue.
 fn venue_row(alloc: Global, place: usize, counts: &VenueCounts) -> Result<String, AllocError> {
-    let VenueCounts {
-        sent,
-        known,
-        lacking,
-        requests,
-        ..
-    } = *counts;
-    let lag = counts.lag();
     format!(in alloc;
-        "nbbo: {place:>5}   {sent:>10} {known:>10} {lag:>10} {lacking:>10} {requests:>10}\n"
+        "nbbo: {place:>5}   {:>10} {:>10} {:>10} {:>10} {:>10}\n",
+        counts.sent,
+        counts.known,
+        counts.lag(),
+        counts.lacking,
+        counts.requests
     )
 }
 

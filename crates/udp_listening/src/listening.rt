@@ -112,7 +112,7 @@ fn fault_of(fault: SettleFault) -> ListenFault {
 /// Runs the feed over these sources until all lines have ended, with one subscriber, which wants
 /// what meets the terms. The run has a thread of its own; the calling thread is its attendant, with
 /// the subscriber's log, which it polls. Where no thread can be had for the run, `join` calls the
-/// attendant, which gives up after 10 seconds, and then the run.
+/// attendant, which stops the run after 10 seconds, and then the run, which ends at once.
 ///
 /// The feed is opened here and goes nowhere else: a stored closure could be handed to what has its
 /// locks.
@@ -206,6 +206,10 @@ where
             for _ in rt.forever() {
                 match attendance.turn(rt) {
                     Turn::Over => break,
+                    Turn::GiveUp => {
+                        stop.stop();
+                        break;
+                    }
                     Turn::Stop => stop.stop(),
                     Turn::Tell => {
                         for place in 0..MAX_VENUES {
@@ -232,9 +236,9 @@ where
     let mut attendance = attendance;
     attendance.tell_all(statuses.as_slice());
     let Attendance {
+        attendant,
         desk,
         log,
-        attendant: _,
     } = attendance;
     let (Some((lines, stopped)), Ok(subscribers), Ok(lacking)) = (
         ran,
@@ -249,7 +253,7 @@ where
     let outcome = match feed.settle(rt, alloc, ended.seats, subscribers) {
         Ok(settlement) => Ok(ListenReport {
             failed: ended.failed,
-            stopped,
+            stopped: attendant.reason(stopped),
             read_out: ended.read_out,
             lacking,
             settlement,

@@ -9,11 +9,16 @@ use std::time::Clock;
 /// The most milliseconds between two looks.
 const LOOK_MS: u64 = 100;
 
+/// The least milliseconds between two looks at standard input where there is no time to wait.
+const INPUT_MS: u64 = 5;
+
 /// When a run is ended from outside: after some seconds, when standard input ends, or never.
 #[derive(Drop)]
 pub struct RunEnd {
     after_ms: Option<u64>,
     input: Option<InputEnd>,
+    /// When standard input was looked at last, in milliseconds of the run.
+    looked_ms: u64,
 }
 
 impl RunEnd {
@@ -26,6 +31,7 @@ impl RunEnd {
             } else {
                 None
             },
+            looked_ms: 0,
         }
     }
 
@@ -53,15 +59,23 @@ impl RunEnd {
         left.min(LOOK_MS) as u16
     }
 
-    /// Waits at most `most` milliseconds, and less where the run is to end before.
-    pub fn wait<C: Clock>(&mut self, elapsed: &mut Elapsed<C>, most: u64) {
-        let ms = self.wait_ms(elapsed, most);
-        let has_waited = match &mut self.input {
+    /// Waits for standard input, at most `ms` milliseconds. Returns whether it could wait.
+    fn wait_for_input(&mut self, ms: u16) -> bool {
+        match &mut self.input {
             Some(input) if !input.is_seen() => input.wait(ms),
             _ => false,
-        };
-        if !has_waited && ms > 0 {
-            elapsed.sleep(u64::from(ms));
+        }
+    }
+
+    /// Waits at most `most` milliseconds, and less where the run is to end before. Where there is no time
+    /// to wait, it looks at standard input once in 5 milliseconds.
+    pub fn wait<C: Clock>(&mut self, elapsed: &mut Elapsed<C>, most: u64) {
+        let ms = self.wait_ms(elapsed, most);
+        if ms > 0 || elapsed.ms() >= self.looked_ms.saturating_add(INPUT_MS) {
+            self.looked_ms = elapsed.ms();
+            if !self.wait_for_input(ms) && ms > 0 {
+                elapsed.sleep(u64::from(ms));
+            }
         }
         elapsed.look(u64::from(ms));
     }

@@ -8,7 +8,7 @@ use Rattle.feed_text.specs.Replays.{AnswersReplay, WroteAll, venues_in}
 use Rattle.feed_text.specs.StandardError.{Says}
 use Rattle.capture_stats.specs.Texts.{text_of_stats}
 use Rattle.capture_stats.specs.Writers.{IsNewFor}
-use Rattle.capture_stats.specs.declared.format.StatsFormat.{StatsFormat}
+use Rattle.feed_text.specs.declared.formats.StatsFormat.{StatsFormat}
 use Rattle.capture_stats.specs.declared.stats_out.StatsOut.{StatsOut}
 use Rattle.replay_run.specs.Printed.{texts_of_run}
 use Rattle.nbbo_main.specs.StatsRuns.{IsCountsText, PrintsStats, ended_by, stats_writing}

@@ -5,16 +5,8 @@ ghost use Rattle.capture_stats.specs.Texts.{text_of_stats};
 use crate::json::put_json;
 use crate::stats::Stats;
 use crate::table::put_table;
+use feed_text::StatsFormat;
 use std::alloc::{AllocError, Global};
-
-/// The form in which the counts are printed.
-#[derive(Clone, Copy, Debug, PartialEq, Eq)]
-pub enum StatsFormat {
-    /// A table for each venue, and one of the national bests.
-    Table,
-    /// One JSON object.
-    Json,
-}
 
 /// Returns the counts as a text in the format, with `more`: lines after a table, or members of an object,
 /// each after a comma. Fails where memory is refused.
