@@ -14,6 +14,7 @@ use Rattle.live_feed.specs.venue.Seats.{SeatState}
 use Rattle.live_feed.specs.settle.Settlements.{SettlementState, VenueEndState, SubscriberEndState}
 use Rattle.feed_text.specs.StandardError.{Says, SaysEach}
 use Rattle.udp_listening.specs.UdpLines.{UdpLineState}
+use Rattle.udp_listening.specs.declared.desk.Desk.{Desk}
 use Rattle.udp_listening.specs.declared.desk.Following.{Following}
 use Rattle.udp_listening.specs.declared.desk.Following.TheVariants.{On, Off, Failed}
 use Rattle.udp_listening.specs.declared.lack.Lack.{Lack}
@@ -108,6 +109,14 @@ HasFollowed writing first log Off printed now = HasPrinted writing first log pri
 HasFollowed writing first log Failed printed now =
     Wrote writing.adds first (log_lines log) now
     × (writing.failures now ≡ writing.failures first + 1)
+
+-- A desk has gone on with a log that may have grown: of any output, what was written from it on is
+-- printed of the longer log as it was of the shorter one.
+abbrev pub KeepsFollowing : {W E : Type 0} → Writing W → List Logged → Desk W E → List Logged
+    → Desk W E → Type 0
+KeepsFollowing {W} writing log before longer after =
+    (first : W) → HasFollowed writing first log before.following before.printed before.output
+    → HasFollowed writing first longer after.following after.printed after.output
 
 -- nothing is printed yet, of whatever log, and the output hasn't failed
 abbrev pub IsUnprinted : {W : Type 0} → Writing W → Following → ℕ → W → Type 0

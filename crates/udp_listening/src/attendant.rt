@@ -1,20 +1,15 @@
-//! The attendant of a run, beside its thread: it takes what the subscriber is offered, prints it where that is asked
-//! for, says what was counted, and says when the run is to end.
+//! When a run is ended from outside, and when its counts are due.
 ghost use Rattle.std.specs.Prelude.{◌≡◌, None, IfOk};
-ghost use Rattle.feed_text.specs.Devices.{Writing};
-ghost use Rattle.udp_listening.specs.Listening.{HasFollowed};
 
-use crate::desk::{Desk, Following};
+use crate::desk::Following;
 use crate::elapsed::Elapsed;
 use crate::listen_counts::ListenCounts;
 use crate::run_end::RunEnd;
 use crate::run_progress::RunProgress;
 use command_words::ListenSettings;
-use feed_text::{LineBuffer, TextOut};
-use live_feed::{FeedName, Stop, SubscriberLog, VenueStatus};
+use live_feed::Stop;
 use std::alloc::{AllocError, Global};
 use std::io::Stdin;
-use std::sync::Wait;
 use std::time::Clock;
 
 /// How long the attendant waits between two looks at a run, in milliseconds.
@@ -48,7 +43,6 @@ pub struct Attendant<C> {
     progress: RunProgress,
     elapsed: Elapsed<C>,
     end: RunEnd,
-    text: LineBuffer,
     /// What is counted, if anything is.
     pub counts: Option<ListenCounts>,
     has_stopped: bool,
@@ -73,7 +67,6 @@ impl<C: Clock + Clone + Drop> Attendant<C> {
             progress: RunProgress::new(alloc)?,
             elapsed: Elapsed::new(clock.clone()?),
             end: RunEnd::of(settings, input),
-            text: LineBuffer::new(alloc),
             counts,
             has_stopped: false,
             has_given_up: false,
@@ -87,9 +80,14 @@ impl<C: Clock + Drop> Attendant<C> {
         self.progress.share()
     }
 
-    /// Whether the run hasn't begun for long, since there is no thread for it.
-    fn waits_in_vain(&self) -> bool {
-        !self.progress.has_begun() && self.elapsed.ms() >= MOST_BEFORE_MS
+    /// Whether the run is over: all that it does is done then.
+    pub fn is_over(&self) -> bool {
+        self.progress.is_over()
+    }
+
+    /// The milliseconds that have passed since the run was to begin.
+    pub fn elapsed_ms(&self) -> u64 {
+        self.elapsed.ms()
     }
 
     /// Returns why the run stopped early: that there was no thread where the attendant has given up, else what the run's
@@ -100,6 +98,11 @@ impl<C: Clock + Drop> Attendant<C> {
         } else {
             reported
         }
+    }
+
+    /// Whether the run hasn't begun for long, since there is no thread for it.
+    fn waits_in_vain(&self) -> bool {
+        !self.progress.has_begun() && self.elapsed.ms() >= MOST_BEFORE_MS
     }
 
     /// Whether counts are due.
@@ -124,9 +127,13 @@ impl<C: Clock + Drop> Attendant<C> {
     }
 
     /// What is to be done at a run that goes on. Where nothing is, and nothing was taken just now either, it waits.
-    fn look_on(&mut self, following: Following, has_taken: bool) -> Turn
+    pub fn look_on(&mut self, following: Following, has_taken: bool) -> Turn
         ensures { self.new.counts ≡ self.old.counts }
     {
+        if self.waits_in_vain() {
+            self.has_given_up = true;
+            return Turn::GiveUp;
+        }
         let is_to_end = self.end.is_due(&self.elapsed) || following == Following::Failed;
         if is_to_end && !self.has_stopped {
             self.has_stopped = true;
@@ -142,78 +149,5 @@ impl<C: Clock + Drop> Attendant<C> {
         };
         self.end.wait(&mut self.elapsed, most);
         Turn::Look
-    }
-}
-
-/// An attendant at its work: with where the program prints, and the subscriber's log.
-#[derive(Drop)]
-pub struct Attendance<N: FeedName, C, W, E> {
-    pub attendant: Attendant<C>,
-    pub desk: Desk<W, E>,
-    pub log: SubscriberLog<N>,
-}
-
-impl<N: FeedName, C: Clock + Drop, W: TextOut, E: TextOut> Attendance<N, C, W, E> {
-    /// Looks at the run once, takes what the subscriber is offered, and returns what is to be done then. Where there is
-    /// nothing to do it waits before.
-    pub fn turn<R: Wait>(&mut self, rt: &R) -> Turn
-        ensures shows { (first : W) → HasFollowed (record { adds = W.adds; failures = W.failures })
-            first self.old.log.lines self.old.desk.following self.old.desk.printed
-            self.old.desk.output
-            → HasFollowed (record { adds = W.adds; failures = W.failures })
-            first self.new.log.lines self.new.desk.following self.new.desk.printed
-            self.new.desk.output }
-        ensures errors { self.new.desk.errors ≡ self.old.desk.errors }
-        ensures counts { self.new.attendant.counts ≡ self.old.attendant.counts }
-    {
-        let is_over = self.attendant.progress.is_over();
-        let has_taken = self
-            .desk
-            .follow(rt, &mut self.attendant.text, &mut self.log);
-        if is_over && !has_taken {
-            return Turn::Over;
-        }
-        if self.attendant.waits_in_vain() {
-            self.attendant.has_given_up = true;
-            return Turn::GiveUp;
-        }
-        self.attendant.look_on(self.desk.following, has_taken)
-    }
-
-    /// Says what was counted of the venue at this place, where counts are asked for.
-    pub fn tell(&mut self, place: usize, status: &VenueStatus)
-        ensures desk { self.new.desk ≡ record (self.old.desk) { errors = self.new.desk.errors } }
-        ensures log { self.new.log ≡ self.old.log }
-        ensures quiet { self.old.attendant.counts ≡ None
-            → (self.new.desk.errors ≡ self.old.desk.errors) × (self.new.attendant.counts ≡ None) }
-    {
-        let elapsed_ms = self.attendant.elapsed.ms();
-        if let Some(counts) = &mut self.attendant.counts {
-            counts.tell(elapsed_ms, place, status, &mut self.desk.errors);
-        }
-    }
-
-    /// Has the next counts due after another period.
-    pub fn pass_period(&mut self)
-        ensures desk { self.new.desk ≡ self.old.desk }
-        ensures log { self.new.log ≡ self.old.log }
-        ensures quiet { self.old.attendant.counts ≡ None → self.new.attendant.counts ≡ None }
-    {
-        let elapsed_ms = self.attendant.elapsed.ms();
-        if let Some(counts) = &mut self.attendant.counts {
-            counts.pass(elapsed_ms);
-        }
-    }
-
-    /// Says what was counted of all venues once the run is over, where counts are asked for.
-    pub fn tell_all(&mut self, statuses: &[VenueStatus])
-        ensures desk { self.new.desk ≡ record (self.old.desk) { errors = self.new.desk.errors } }
-        ensures log { self.new.log ≡ self.old.log }
-        ensures quiet { self.old.attendant.counts ≡ None
-            → (self.new.desk.errors ≡ self.old.desk.errors) × (self.new.attendant.counts ≡ None) }
-    {
-        if let Some(counts) = &self.attendant.counts {
-            counts.tell_all(statuses, &mut self.desk.errors);
-        }
     }
 }

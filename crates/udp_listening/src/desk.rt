@@ -1,7 +1,7 @@
 //! Where the program prints while a run goes on.
 ghost use Rattle.std.specs.Prelude.{◌≡◌, ◌≢◌, drop};
 ghost use Rattle.feed_types.specs.Prefix.{IsPrefix};
-ghost use Rattle.udp_listening.specs.Listening.{HasFollowed, HasPrinted, IsUnprinted, log_lines};
+ghost use Rattle.udp_listening.specs.Listening.{HasFollowed, HasPrinted, IsUnprinted, KeepsFollowing, log_lines};
 
 use crate::summary::{put_log, unprinted};
 use feed_text::{LineBuffer, TextOut, write_all};
@@ -89,10 +89,8 @@ impl<W: TextOut, E> Desk<W, E> {
         log: &mut SubscriberLog<N>,
     ) -> bool
         ensures log { IsPrefix log.old.lines log.new.lines }
-        ensures shows { (first : W) → HasFollowed (record { adds = W.adds; failures = W.failures })
-            first log.old.lines self.old.following self.old.printed self.old.output
-            → HasFollowed (record { adds = W.adds; failures = W.failures })
-            first log.new.lines self.new.following self.new.printed self.new.output }
+        ensures shows { KeepsFollowing (record { adds = W.adds; failures = W.failures })
+            log.old.lines self.old log.new.lines self.new }
         ensures errors { self.new.errors ≡ self.old.errors }
     {
         let has_taken = poll_some(rt, log);

@@ -9,9 +9,10 @@
 //! datagrams, or to a fault (`specs/UdpLines.antt`). What the sockets bring, when the run is ended from
 //! outside and what is counted, tests show.
 //!
-//! Begin with `listen.rt`, then `listening.rt`, `udp_line.rt`, and `attendant.rt` for what is beside a run.
+//! Begin with `listen.rt`, then `listening.rt`, `udp_line.rt`, and `attendance.rt` for what is beside a run.
 #![tactic(auto)]
 
+mod attendance;
 mod attendant;
 mod counts_text;
 mod desk;

@@ -1,21 +1,20 @@
 //! Listening on live lines, until all have ended.
 ghost use Rattle.std.specs.Prelude.{◌≡◌, Err, None};
 ghost use Rattle.feed_text.specs.Devices.{Writing};
-ghost use Rattle.udp_listening.specs.Listening.{HasFollowed, HasListened, IsFeedOf, IsUnprinted};
+ghost use Rattle.udp_listening.specs.Listening.{HasListened, IsFeedOf, IsUnprinted, KeepsFollowing};
 
-use crate::attendant::{Attendance, Attendant, Turn};
+use crate::attendance::Attendance;
+use crate::attendant::Attendant;
 use crate::desk::Desk;
 use crate::ended_lines::part_lines;
 use crate::lack::{Lack, lacks_in};
-use crate::sources::line_at;
+use crate::sources::seated;
 use crate::udp_line::UdpLine;
 use command_words::ListenSettings;
-use feed_text::TextOut;
+use feed_text::{LineBuffer, TextOut};
 use feed_types::{Anything, FeedConfig, LineId, MAX_VENUES, VenueId};
 use filter_terms::{Filter, Strategy, Terms};
-use live_feed::{
-    FeedName, Line, LineSource, LiveFeed, SettleFault, Settlement, Shareable, Stop, SubscriberLog,
-};
+use live_feed::{FeedName, LiveFeed, SettleFault, Settlement, Shareable, Stop, VenueStatus};
 use std::alloc::{AllocError, Global};
 use std::rt::Clock;
 use std::sync::Wait;
@@ -98,15 +97,28 @@ fn unreported<W, E>(fault: ListenFault, desk: Desk<W, E>) -> Listened<W, E>
     }
 }
 
-/// A line that is received by UDP, of the feed N.
-type UdpLineOf<N, C> = Line<Anything, N, UdpLine<C>>;
-
 /// The fault of listening where the feed wasn't settled.
 fn fault_of(fault: SettleFault) -> ListenFault {
     match fault {
         SettleFault::NoMemory => ListenFault::NoMemory,
         _ => ListenFault::Unsettled,
     }
+}
+
+/// Returns the statuses of the venues that there are; `status` returns one's, or None where there is none.
+fn statuses_by<S: Fn(VenueId) -> Option<VenueStatus>>(
+    alloc: Global,
+    status: S,
+) -> Result<Vec<VenueStatus>, AllocError>
+    requires { S.IsAlwaysCallable status }
+{
+    let mut statuses = Vec::new(alloc);
+    for place in 0..MAX_VENUES {
+        if let Some(status) = status(VenueId::at(place)) {
+            statuses.push(status)?;
+        }
+    }
+    Ok(statuses)
 }
 
 /// Runs the feed over these sources until all lines have ended, with one subscriber, which wants
@@ -145,36 +157,23 @@ where
     let Ok(feed) = feed.open::<N>(alloc) else {
         return unreported(ListenFault::NoMemory, desk);
     };
-    let prepare = || -> Result<(SubscriberLog<N>, Vec<UdpLineOf<N, C>>), ListenFault> {
-        let made = feed.subscribe(rt, alloc, Filter::of(terms), Strategy::holding());
-        let (Ok(subscriber), Ok(mut lines)) = (made, Vec::with_capacity(alloc, sources.len()))
-        else {
-            return Err(ListenFault::NoMemory);
-        };
-        for (place, source) in sources.into_iter().enumerate() {
-            let Ok(seat) = feed.line_seat(rt, source.venue(), line_at(place)) else {
-                return Err(ListenFault::Unsettled);
-            };
-            let Ok(line) = Line::new(seat, source) else {
-                return Err(ListenFault::Unsettled);
-            };
-            if lines.push(line).is_err() {
-                return Err(ListenFault::NoMemory);
-            }
-        }
-        Ok((subscriber.into_log(), lines))
-    };
-    let (log, lines) = match prepare() {
-        Ok(prepared) => prepared,
+    let seat_of = |venue, line| feed.line_seat(rt, venue, line).ok();
+    let lines = match seated(alloc, sources, seat_of) {
+        Ok(lines) => lines,
         Err(fault) => return unreported(fault, desk),
     };
-    let Ok(progress) = attendant.share_progress() else {
+    let (Ok(subscriber), Ok(stop), Ok(progress)) = (
+        feed.subscribe(rt, alloc, Filter::of(terms), Strategy::holding()),
+        feed.stop_handle(),
+        attendant.share_progress(),
+    ) else {
         return unreported(ListenFault::NoMemory, desk);
     };
     let attendance = Attendance {
         attendant,
         desk,
-        log,
+        log: subscriber.into_log(),
+        text: LineBuffer::new(alloc),
     };
     feed.show_shareable();
     let (ran, attendance) = thread::join(
@@ -189,56 +188,23 @@ where
             }
         },
         || -> Attendance<N, C, W, E>
-            ensures shows { (first : W) → HasFollowed
-                (record { adds = W.adds; failures = W.failures }) first
-                attendance.log.lines attendance.desk.following attendance.desk.printed
-                attendance.desk.output
-                → HasFollowed (record { adds = W.adds; failures = W.failures }) first
-                result.log.lines result.desk.following result.desk.printed result.desk.output }
+            ensures shows { KeepsFollowing (record { adds = W.adds; failures = W.failures })
+                attendance.log.lines attendance.desk result.log.lines result.desk }
             ensures quiet { attendance.attendant.counts ≡ None
                 → (result.desk.errors ≡ attendance.desk.errors)
                 × (result.attendant.counts ≡ None) }
-        {
-            let mut attendance = attendance;
-            let Ok(stop) = feed.stop_handle() else {
-                return attendance;
-            };
-            for _ in rt.forever() {
-                match attendance.turn(rt) {
-                    Turn::Over => break,
-                    Turn::GiveUp => {
-                        stop.stop();
-                        break;
-                    }
-                    Turn::Stop => stop.stop(),
-                    Turn::Tell => {
-                        for place in 0..MAX_VENUES {
-                            if let Ok(status) = feed.status(rt, VenueId::at(place)) {
-                                attendance.tell(place, &status);
-                            }
-                        }
-                        attendance.pass_period();
-                    }
-                    Turn::Look => {}
-                }
-            }
-            attendance
-        },
+        { attendance.attend(rt, &stop, |venue| feed.status(rt, venue).ok()) },
     );
-    let mut statuses = Vec::new(alloc);
-    for place in 0..MAX_VENUES {
-        if let Ok(status) = feed.status(rt, VenueId::at(place)) {
-            if statuses.push(status).is_err() {
-                return unreported(ListenFault::NoMemory, attendance.desk);
-            }
-        }
-    }
     let mut attendance = attendance;
+    let Ok(statuses) = statuses_by(alloc, |venue| feed.status(rt, venue).ok()) else {
+        return unreported(ListenFault::NoMemory, attendance.desk);
+    };
     attendance.tell_all(statuses.as_slice());
     let Attendance {
         attendant,
         desk,
         log,
+        text: _,
     } = attendance;
     let (Some((lines, stopped)), Ok(subscribers), Ok(lacking)) = (
         ran,

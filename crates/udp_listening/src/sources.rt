@@ -1,10 +1,12 @@
-//! The sources of a feed's lines.
+//! The sources of a feed's lines, and their seats.
 ghost use Rattle.std.specs.Prelude.{◌≡◌, ◌/◌, ◌<◌, IfOk};
 ghost use Rattle.udp_listening.specs.Listening.{IsSourceOf, line_at};
 
+use crate::listening::ListenFault;
 use crate::udp_line::UdpLine;
 use command_words::ListenSettings;
-use feed_types::{LineId, MAX_VENUES, VenueId};
+use feed_types::{Anything, LineId, MAX_VENUES, VenueId};
+use live_feed::{FeedName, Line, LineSeat};
 use std::alloc::{AllocError, Global};
 use std::net::UdpSocket;
 use std::rt::Clock;
@@ -51,4 +53,33 @@ pub fn sources_over<C: Clock + Clone + Drop>(
         sources.push(source)?;
     }
     Ok(sources)
+}
+
+/// A line that is received by UDP, of the feed N.
+type UdpLineOf<N, C> = Line<Anything, N, UdpLine<C>>;
+
+/// Makes lines of the sources, in their order. `seat_of` hands out the seat of a venue's line; Unsettled
+/// where it doesn't.
+pub fn seated<N, C, S>(
+    alloc: Global,
+    sources: Vec<UdpLine<C>>,
+    seat_of: S,
+) -> Result<Vec<UdpLineOf<N, C>>, ListenFault>
+where
+    N: FeedName,
+    C: Clock + Drop,
+    S: Fn(VenueId, LineId) -> Option<LineSeat<Anything, N>>,
+    requires { S.IsAlwaysCallable seat_of }
+{
+    let mut lines = Vec::with_capacity(alloc, sources.len())?;
+    for (place, source) in sources.into_iter().enumerate() {
+        let Some(seat) = seat_of(source.venue(), line_at(place)) else {
+            return Err(ListenFault::Unsettled);
+        };
+        let Ok(line) = Line::new(seat, source) else {
+            return Err(ListenFault::Unsettled);
+        };
+        lines.push(line)?;
+    }
+    Ok(lines)
 }

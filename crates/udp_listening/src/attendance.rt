@@ -1,0 +1,101 @@
+//! The attendant of a run at its work, beside the run's thread: it takes what the subscriber is offered, prints it where
+//! that is asked for, says what was counted, and stops the run where it is to end.
+ghost use Rattle.std.specs.Prelude.{◌≡◌, None};
+ghost use Rattle.feed_text.specs.Devices.{Writing};
+ghost use Rattle.udp_listening.specs.Listening.{KeepsFollowing};
+
+use crate::attendant::{Attendant, Turn};
+use crate::desk::Desk;
+use feed_text::{LineBuffer, TextOut};
+use feed_types::{MAX_VENUES, VenueId};
+use live_feed::{FeedName, StopHandle, SubscriberLog, VenueStatus};
+use std::sync::Wait;
+use std::time::Clock;
+
+/// An attendant at its work: with where the program prints, and the subscriber's log.
+#[derive(Drop)]
+pub struct Attendance<N: FeedName, C, W, E> {
+    pub attendant: Attendant<C>,
+    pub desk: Desk<W, E>,
+    pub log: SubscriberLog<N>,
+    /// Where lines are put together.
+    pub text: LineBuffer,
+}
+
+impl<N: FeedName, C: Clock + Drop, W: TextOut, E: TextOut> Attendance<N, C, W, E> {
+    /// Attends a run until it is over, and stops it where it is to end. Where the run doesn't begin it
+    /// stops it, and gives up. `status` returns what a venue has come to, or None where there is none.
+    pub fn attend<R, S>(self, rt: &R, stop: &StopHandle, status: S) -> Attendance<N, C, W, E>
+    where
+        R: Wait,
+        S: Fn(VenueId) -> Option<VenueStatus>,
+        requires { S.IsAlwaysCallable status }
+        ensures shows { KeepsFollowing (record { adds = W.adds; failures = W.failures })
+            self.log.lines self.desk result.log.lines result.desk }
+        ensures quiet { self.attendant.counts ≡ None
+            → (result.desk.errors ≡ self.desk.errors) × (result.attendant.counts ≡ None) }
+    {
+        let mut attendance = self;
+        for _ in rt.forever() {
+            match attendance.turn(rt) {
+                Turn::Over => break,
+                Turn::GiveUp => {
+                    stop.stop();
+                    break;
+                }
+                Turn::Stop => stop.stop(),
+                Turn::Tell => attendance.tell_each(&status),
+                Turn::Look => {}
+            }
+        }
+        attendance
+    }
+
+    /// Looks at the run once, takes what the subscriber is offered, and returns what is to be done then.
+    /// Where there is nothing to do it waits before.
+    fn turn<R: Wait>(&mut self, rt: &R) -> Turn
+        ensures shows { KeepsFollowing (record { adds = W.adds; failures = W.failures })
+            self.old.log.lines self.old.desk self.new.log.lines self.new.desk }
+        ensures errors { self.new.desk.errors ≡ self.old.desk.errors }
+        ensures counts { self.new.attendant.counts ≡ self.old.attendant.counts }
+    {
+        let is_over = self.attendant.is_over();
+        let has_taken = self.desk.follow(rt, &mut self.text, &mut self.log);
+        if is_over && !has_taken {
+            return Turn::Over;
+        }
+        self.attendant.look_on(self.desk.following, has_taken)
+    }
+
+    /// Says what was counted of each venue, where counts are asked for, and has the next ones due after
+    /// another period.
+    fn tell_each<S: Fn(VenueId) -> Option<VenueStatus>>(&mut self, status: S)
+        requires { S.IsAlwaysCallable status }
+        ensures desk { self.new.desk ≡ record (self.old.desk) { errors = self.new.desk.errors } }
+        ensures log { self.new.log ≡ self.old.log }
+        ensures quiet { self.old.attendant.counts ≡ None
+            → (self.new.desk.errors ≡ self.old.desk.errors) × (self.new.attendant.counts ≡ None) }
+    {
+        let elapsed_ms = self.attendant.elapsed_ms();
+        if let Some(counts) = &mut self.attendant.counts {
+            for place in 0..MAX_VENUES {
+                if let Some(status) = status(VenueId::at(place)) {
+                    counts.tell(elapsed_ms, place, &status, &mut self.desk.errors);
+                }
+            }
+            counts.pass(elapsed_ms);
+        }
+    }
+
+    /// Says what was counted of all venues once the run is over, where counts are asked for.
+    pub fn tell_all(&mut self, statuses: &[VenueStatus])
+        ensures desk { self.new.desk ≡ record (self.old.desk) { errors = self.new.desk.errors } }
+        ensures log { self.new.log ≡ self.old.log }
+        ensures quiet { self.old.attendant.counts ≡ None
+            → (self.new.desk.errors ≡ self.old.desk.errors) × (self.new.attendant.counts ≡ None) }
+    {
+        if let Some(counts) = &self.attendant.counts {
+            counts.tell_all(statuses, &mut self.desk.errors);
+        }
+    }
+}
