@@ -1,4 +1,4 @@
--- What is counted of the happenings that lines tell. A count stays at 2^64 - 1 once it is there.
+-- What is counted of the happenings that lines report. A count stays at 2^64 - 1 once it is there.
 use Rattle.std.specs.Prelude.{ℕ, Bool, true, false, ◌&&◌, ◌||◌, ◌==◌, not, List, [], ◌∷◌, length, flat_map, fold, max, nat_lt, if◌then◌else◌}
 use Rattle.std.specs.List.{count_by, sum_by}
 use Rattle.feed_types.specs.declared.line.LineId.{LineId}

@@ -1,4 +1,4 @@
--- What the lines of a replay tell, by their words.
+-- What the lines of a replay report, by their words.
 use Rattle.std.specs.Prelude.{ℕ, ◌+◌, ◌-◌, ◌*◌, List, [], ◌∷◌, ◌++◌, codes, length, flat_map, fold, min, nat_lt, not, Option, Some, None, if◌then◌else◌}
 use Rattle.std.specs.Str.{bytes_eq}
 use Rattle.feed_types.specs.declared.line.LineId.{LineId}
@@ -40,7 +40,7 @@ fields_of line = record {
 unfoldable pub number_spelled : List ℕ → ℕ
 number_spelled word = fold (λ n b. min (n * 10 + (b - 48)) 18446744073709551615) 0 word
 
--- ---- what a line tells of a venue
+-- ---- what a line reports of a venue
 
 -- which line of a venue this letter is
 abbrev pub line_named : List ℕ → Option LineId
@@ -80,7 +80,7 @@ abbrev pub item_told : ℕ → Option ItemKind → Option AtVenue
 item_told number None = None
 item_told number (Some kind) = Some (Item number kind)
 
--- what a line tells of the venue whose number is its second word, by its first word
+-- what a line reports of the venue whose number is its second word, by its first word
 abbrev pub told_of_venue : LineFields → Option AtVenue
 told_of_venue f =
     if bytes_eq f.first (codes "packet") then packet_told (line_named f.third) (answer_in f)
@@ -128,10 +128,10 @@ told_by_fields f =
     if bytes_eq f.first (codes "best") then change_in f
     else happening_at (number_spelled f.second) (told_of_venue f)
 
--- what a line tells; one of more than 192 bytes is no line of a replay
+-- what a line reports; one of more than 192 bytes is no line of a replay
 unfoldable pub told_by : List ℕ → List Happening
 told_by line = if nat_lt 192 (length line) then [] else told_by_fields (fields_of line)
 
--- what lines tell, in order
+-- what lines report, in order
 abbrev pub told_by_all : List (List ℕ) → List Happening
 told_by_all lines = flat_map told_by lines

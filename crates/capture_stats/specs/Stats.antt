@@ -153,7 +153,7 @@ no_changes = record { empty = 0; one_sided = 0; normal = 0; locked = 0; crossed 
 abbrev pub nothing_counted : ℕ → Counted
 nothing_counted venues = record { venues = replicate venues nothing_at; states = no_changes }
 
--- the counts of a text, for this many venues: of what its lines tell
+-- the counts of a text, for this many venues: of what its lines report
 pub record IsCountOf (venues : ℕ) (text : List ℕ) (c : Counted) : Type 0 where
   pub lines : List (List ℕ)
   pub rest : List ℕ

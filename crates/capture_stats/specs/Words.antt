@@ -1,4 +1,4 @@
--- What is behind the references of a line's words. Cited by private clauses alone.
+-- The values of the references to a line's words. Cited by private clauses alone.
 use Rattle.capture_stats.specs.declared.reading.LineWords.{LineWords}
 use Rattle.capture_stats.specs.Happenings.{LineFields}
 

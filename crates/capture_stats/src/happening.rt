@@ -1,4 +1,4 @@
-//! What a line of a replay tells.
+//! What a line of a replay reports.
 
 use feed_types::LineId;
 

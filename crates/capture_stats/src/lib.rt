@@ -1,12 +1,12 @@
-//! Statistics of a capture: what the lines that a replay prints tell, counted.
+//! Statistics of a capture: what the lines that a replay prints report, counted.
 //!
 //! A [`StatsOut`] is a writer of this project's lines that passes nothing on: it cuts what is written
-//! to it into lines and counts what each tells, for each venue, each of its lines and the national
+//! to it into lines and counts what each reports, for each venue, each of its lines and the national
 //! bests. [`StatsOut::into_stats`] returns the counts, [`stats_text`] writes them as a table or as JSON.
 //!
-//! Contract: the counts are those of the happenings that the text's lines tell, in order
+//! Contract: the counts are those of the happenings that the text's lines report, in order
 //! (`specs/Happenings.antt`: by their words; `specs/Counts.antt`: a filter, then a count or a sum). A
-//! line of more than 192 bytes tells nothing, nor does one that begins with another word.
+//! line of more than 192 bytes reports nothing, nor does one that begins with another word.
 //!
 //! Begin at `stats_out.rt`.
 #![tactic(auto)]

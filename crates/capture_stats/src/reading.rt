@@ -1,4 +1,4 @@
-//! What a line of a replay tells, by its words.
+//! What a line of a replay reports, by its words.
 ghost use Rattle.std.specs.Prelude.{◌≡◌};
 ghost use Rattle.capture_stats.specs.Happenings.{answer_in, fields_of, item_told, kind_named, line_named, number_spelled, packet_told, told_of_venue};
 ghost use Rattle.capture_stats.specs.Words.{fields_now};
@@ -92,7 +92,7 @@ fn answer_in(words: LineWords<'_>) -> Option<PacketAnswer>
     }
 }
 
-/// Returns the packet that a packet line tells of.
+/// Returns the packet that a packet line reports.
 fn packet_in(words: LineWords<'_>) -> Option<AtVenue>
     ensures { result ≡ packet_told (line_named words.entry.third.now) (answer_in (fields_now words.entry)) }
 {
@@ -121,7 +121,7 @@ fn kind_named(word: &[u8]) -> Option<ItemKind>
     }
 }
 
-/// Returns the item that an item line tells of.
+/// Returns the item that an item line reports.
 fn item_in(words: LineWords<'_>) -> Option<AtVenue>
     ensures { result ≡ item_told (number_spelled words.entry.third.now) (kind_named words.entry.fourth.now) }
 {
@@ -132,7 +132,7 @@ fn item_in(words: LineWords<'_>) -> Option<AtVenue>
     }
 }
 
-/// Returns what a line tells of the venue whose number is its second word.
+/// Returns what a line reports of the venue whose number is its second word.
 pub(crate) fn told_of_venue(words: LineWords<'_>) -> Option<AtVenue>
     ensures { result ≡ told_of_venue (fields_now words.entry) }
 {

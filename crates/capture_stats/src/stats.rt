@@ -115,7 +115,7 @@ impl Stats {
         add_at(self.venues.as_mut_slice(), venue, what);
     }
 
-    /// Counts what a line tells of a venue, if anything.
+    /// Counts what a line reports of a venue, if anything.
     fn add_told(&mut self, venue: u64, told: Option<AtVenue>)
         ensures { self.new ≡ counted_after self.old (happening_at venue told) }
     {
@@ -142,7 +142,7 @@ impl Stats {
         self.states.add_named(word);
     }
 
-    /// Counts what a best line tells.
+    /// Counts what a best line reports.
     fn add_change(&mut self, words: LineWords<'_>)
         ensures { self.new ≡ counted_after self.old (change_in (fields_now words.entry)) }
     {
@@ -151,7 +151,7 @@ impl Stats {
         self.add_state(words.rest);
     }
 
-    /// Counts what a line tells, by its words.
+    /// Counts what a line reports, by its words.
     fn add_words(&mut self, words: LineWords<'_>)
         ensures { self.new ≡ counted_after self.old (told_by_fields (fields_now words.entry)) }
     {
@@ -162,7 +162,7 @@ impl Stats {
         }
     }
 
-    /// Counts what a line tells.
+    /// Counts what a line reports.
     #[tactic(auto, unfolding(crate::specs::Happenings::told_by))]
     pub(crate) fn add_line(&mut self, line: &[u8])
         ensures { self.new ≡ counted_after self.old (told_by line.now) }

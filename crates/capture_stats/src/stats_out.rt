@@ -1,4 +1,4 @@
-//! A writer of lines that counts what they tell.
+//! A writer of lines that counts what they report.
 ghost use Rattle.std.specs.Prelude.{◌≡◌, ℕ, List, ◌+◌, ◌<◌, ◌≤◌, ◌++◌, [], IfOk, drop, length, take};
 ghost use Rattle.best_lines.specs.Lines.{IsOpen, ended};
 
@@ -7,7 +7,7 @@ use best_lines::lines::{LineStart, keep, line_end};
 use feed_text::{ReadBuffer, TextOut, WriteStop};
 use std::alloc::{AllocError, Global};
 
-/// A writer that counts what the lines tell that are written to it, and passes nothing on. No call of it
+/// A writer that counts what the lines written to it report, and passes nothing on. No call of it
 /// fails, and none asks for memory.
 #[derive(Drop)]
 pub struct StatsOut {

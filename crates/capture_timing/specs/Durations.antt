@@ -5,7 +5,7 @@ use Rattle.capture_timing.specs.declared.durations.Durations.{Durations}
 use Rattle.capture_timing.specs.Figures.{capped, longest_of}
 use Rattle.capture_timing.specs.Places.{is_at}
 
--- What is held of these durations.
+-- What is held of the durations.
 pub record AreCounted (durations : List ℕ) (held : Durations) : Type 0 where
   pub count : held.count ≡ capped (length durations)
   pub longest : held.longest ≡ longest_of durations
@@ -17,8 +17,8 @@ pub record AreCounted (durations : List ℕ) (held : Durations) : Type 0 where
 abbrev pub count_within : ℕ → List ℕ → ℕ
 count_within bound durations = count_by (λ duration. nat_le duration bound) durations
 
--- So many of a hundred durations are within the bound, and fewer within any that it exceeds by more
--- than one sixteenth.
+-- At least `percent` of a hundred durations are within the bound, and fewer within any bound that it
+-- exceeds by more than one sixteenth.
 pub record IsShareBound (percent : ℕ) (durations : List ℕ) (bound : ℕ) : Type 0 where
   pub within : length durations * percent ≤ 100 * count_within bound durations
   pub near : (shorter : ℕ) → shorter + shorter / 16 < bound

@@ -1,5 +1,5 @@
 -- Runs of the program that print the statistics of a capture: a replay writes its lines to a writer
--- that counts what they tell, and then the counts are on output.
+-- that counts what they report, and then the counts are on output.
 use Rattle.std.specs.Prelude.{◌≡◌, ◌⊎◌, ℕ, ◌+◌, List, [], Bool, Result, Ok, Err}
 use Rattle.clap.specs.Walk.{Text}
 use Rattle.feed_text.specs.declared.fault.ReplayFault.{ReplayFault}

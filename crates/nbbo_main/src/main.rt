@@ -5,7 +5,7 @@
 //! best ones alone. `feed_text` says, and proves, what a capture is and what its lines are.
 //!
 //! `nbbo stats --sessions LIST [--lines LIST] [--window N] [--format FORMAT] [SYMBOL]...` replays a capture and prints
-//! what its lines tell, counted (`capture_stats`).
+//! what its lines report, counted (`capture_stats`).
 //!
 //! `nbbo listen --sessions LIST --lines LIST [--request ADDR] [--window N] [--journal N]
 //! [--datagrams N] [--buffer BYTES] [SYMBOL]...` receives the lines of live venues by UDP, runs them as a live feed

@@ -31,7 +31,7 @@ pub enum Turn {
     GiveUp,
     /// The run is to be stopped.
     Stop,
-    /// The status of each venue is to be told.
+    /// What was counted is to be printed.
     Tell,
     /// Another look.
     Look,

@@ -2,7 +2,7 @@
 //!
 //! Lines that are received by UDP ([`UdpLine`], a source of `live_feed`) are run as a live feed. Beside the
 //! run stands an attendant, which ends it where it is to end from outside, prints best lines as they come,
-//! and tells counts. Once all has ended the best lines, and a line for each venue, are printed.
+//! and prints counts. Once all has ended the best lines, and a line for each venue, are printed.
 //!
 //! Contract: [`listen_with`] prints, in all, the text of the settled feed, or says why it doesn't
 //! (`specs/Listening.antt`). A line brings what its socket brings, up to an end of session, to its count of

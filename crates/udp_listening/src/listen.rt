@@ -136,8 +136,7 @@ fn following_of(settings: &ListenSettings) -> Following
 /// end the run; then prints the report for a subscriber that wants every change. Returns the status of
 /// the program: 0, or 1 where a line failed, the run stopped early, or not all was printed.
 ///
-/// Where the settings ask for it, best lines are printed as they come, and counts are told on standard
-/// error.
+/// Where the settings ask for it, best lines are printed as they come, and counts on standard error.
 pub fn listen_with<R, C, W, E>(
     rt: &R,
     clock: &C,

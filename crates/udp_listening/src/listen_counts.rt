@@ -1,4 +1,4 @@
-//! What is told of counts while a run goes on, and at its end.
+//! The counts that are printed while a run goes on, and at its end.
 
 use crate::counts_text::{period_text, table_text};
 use crate::live_counts::VenueCounts;
@@ -6,7 +6,7 @@ use feed_text::{TextOut, write_stderr};
 use live_feed::VenueStatus;
 use std::alloc::{AllocError, Global};
 
-/// When counts are told, and what was last told of each venue.
+/// When counts are printed, and the last ones of each venue.
 #[derive(Drop)]
 pub struct ListenCounts {
     alloc: Global,
@@ -16,7 +16,7 @@ pub struct ListenCounts {
 }
 
 impl ListenCounts {
-    /// Counts that are told after each period, of `seconds` seconds, of this many venues.
+    /// Counts that are printed after each period of `seconds` seconds, of `venues` venues.
     pub fn new(alloc: Global, seconds: u32, venues: usize) -> Result<ListenCounts, AllocError> {
         let period_ms = u64::from(seconds) * 1_000;
         Ok(ListenCounts {

@@ -13,8 +13,8 @@ fn ask_for(socket: &UdpSocket, bytes: u32) {
     let _ = unsafe { c::setsockopt(fd, c::SOL_SOCKET, c::SO_RCVBUF, &value, 4) };
 }
 
-/// How many bytes the socket's buffer has, as they are asked for: the system tells twice as many, since it keeps a half
-/// for its own account of what has come. None where it doesn't tell.
+/// How many bytes the socket's buffer has, as they are asked for: the system reports twice as many, since it keeps a half
+/// for its own account of what has come. None where it doesn't report any.
 fn size_of(socket: &UdpSocket) -> Option<u32> {
     let mut value = [0u8; 16];
     let mut len = 16u32;
@@ -26,7 +26,7 @@ fn size_of(socket: &UdpSocket) -> Option<u32> {
     Some(u32::from_ne_bytes([value[0], value[1], value[2], value[3]]) / 2)
 }
 
-/// Asks for a buffer of this many bytes at each socket, and returns the line that tells how many the smallest one has
+/// Asks for a buffer of this many bytes at each socket, and returns the line that says how many the smallest one has
 /// then.
 pub fn enlarge(alloc: Global, sockets: &[UdpSocket], bytes: u32) -> Result<String, AllocError> {
     let mut least = u32::MAX;

@@ -139,8 +139,8 @@ pub fn millis(time: Duration) -> u64
 }
 
 impl<C: Drop> UdpLine<C> {
-    /// The line of a venue that this socket receives, for so many datagrams at most. Requests go to
-    /// the address that is given for them, from the line's socket; else they are dropped.
+    /// The line of a venue that this socket receives, for `datagrams` datagrams at most. Requests go
+    /// from the socket to `requests_to`, or are dropped where there is none.
     ///
     /// The socket waits 100 ms for a datagram from now on. Where the system refuses that, it waits for ever, and so
     /// does a run that is to stop.
