@@ -3,6 +3,7 @@ ghost use Rattle.std.specs.Prelude.{◌≡◌, ◌⊎◌, ℕ, Bool, List, ◌+�
 ghost use Rattle.feed_text.specs.Devices.{Wrote};
 
 use crate::frame_times::FrameTimes;
+use crate::header::header_of;
 use crate::lines::{LineStart, keep, line_end, put_lines};
 use crate::row_time::{RowClock, RowStyle};
 use crate::rows::{Pending, put_line};

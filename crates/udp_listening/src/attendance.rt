@@ -7,7 +7,7 @@ ghost use Rattle.udp_listening.specs.Listening.{KeepsFollowing};
 use crate::attendant::{Attendant, Turn};
 use crate::desk::Desk;
 use feed_text::{LineBuffer, TextOut};
-use feed_types::{MAX_VENUES, VenueId};
+use feed_types::VenueId;
 use live_feed::{FeedName, StopHandle, SubscriberLog, VenueStatus};
 use std::sync::Wait;
 use std::time::Clock;
@@ -67,8 +67,7 @@ impl<N: FeedName, C: Clock + Drop, W: TextOut, E: TextOut> Attendance<N, C, W, E
         self.attendant.look_on(self.desk.following, has_taken)
     }
 
-    /// Says what was counted of each venue, where counts are asked for, and has the next ones due after
-    /// another period.
+    /// Writes the counts of each venue, where counts are asked for.
     fn tell_each<S: Fn(VenueId) -> Option<VenueStatus>>(&mut self, status: S)
         requires { S.IsAlwaysCallable status }
         ensures desk { self.new.desk ≡ record (self.old.desk) { errors = self.new.desk.errors } }
@@ -78,16 +77,11 @@ impl<N: FeedName, C: Clock + Drop, W: TextOut, E: TextOut> Attendance<N, C, W, E
     {
         let elapsed_ms = self.attendant.elapsed_ms();
         if let Some(counts) = &mut self.attendant.counts {
-            for place in 0..MAX_VENUES {
-                if let Some(status) = status(VenueId::at(place)) {
-                    counts.tell(elapsed_ms, place, &status, &mut self.desk.errors);
-                }
-            }
-            counts.pass(elapsed_ms);
+            counts.tell_each(elapsed_ms, status, &mut self.desk.errors);
         }
     }
 
-    /// Says what was counted of all venues once the run is over, where counts are asked for.
+    /// Writes the table of all counts once the run is over, where counts are asked for.
     pub fn tell_all(&mut self, statuses: &[VenueStatus])
         ensures desk { self.new.desk ≡ record (self.old.desk) { errors = self.new.desk.errors } }
         ensures log { self.new.log ≡ self.old.log }

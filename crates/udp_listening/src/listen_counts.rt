@@ -3,6 +3,7 @@
 use crate::counts_text::{period_text, table_text};
 use crate::live_counts::VenueCounts;
 use feed_text::{TextOut, write_stderr};
+use feed_types::{MAX_VENUES, VenueId};
 use live_feed::VenueStatus;
 use std::alloc::{AllocError, Global};
 
@@ -32,15 +33,26 @@ impl ListenCounts {
         self.due_ms
     }
 
-    /// Has the next lines due at the next period's end after this time.
-    pub fn pass(&mut self, elapsed_ms: u64) {
+    /// Writes the line of each venue, of what was counted since its line before, and has the next lines
+    /// due at the next period's end. `status` returns what a venue has come to, or None where there is
+    /// none. A line is left out where memory for it is refused.
+    pub fn tell_each<S, E>(&mut self, elapsed_ms: u64, status: S, errors: &mut E)
+    where
+        S: Fn(VenueId) -> Option<VenueStatus>,
+        E: TextOut,
+        requires { S.IsAlwaysCallable status }
+    {
+        for place in 0..MAX_VENUES {
+            if let Some(status) = status(VenueId::at(place)) {
+                self.tell(elapsed_ms, place, &status, errors);
+            }
+        }
         let periods = elapsed_ms / self.period_ms.max(1);
         self.due_ms = periods.saturating_add(1).saturating_mul(self.period_ms);
     }
 
-    /// Writes the line of the venue at this place, of what was counted since its line before. Where
-    /// memory for it is refused, it is left out.
-    pub fn tell<E: TextOut>(
+    /// Writes the line of the venue at this place.
+    fn tell<E: TextOut>(
         &mut self,
         elapsed_ms: u64,
         place: usize,

@@ -6,7 +6,7 @@ use crate::listening::ListenFault;
 use crate::udp_line::UdpLine;
 use command_words::ListenSettings;
 use feed_types::{Anything, LineId, MAX_VENUES, VenueId};
-use live_feed::{FeedName, Line, LineSeat};
+use live_feed::{FeedName, Line, LineSeat, LineSource};
 use std::alloc::{AllocError, Global};
 use std::net::UdpSocket;
 use std::rt::Clock;
@@ -79,7 +79,9 @@ where
         let Ok(line) = Line::new(seat, source) else {
             return Err(ListenFault::Unsettled);
         };
-        lines.push(line)?;
+        if lines.push(line).is_err() {
+            return Err(ListenFault::NoMemory);
+        }
     }
     Ok(lines)
 }

@@ -15,6 +15,7 @@ use Rattle.std.specs.contracts.impls.GlobalAllocator.TheImpl.{ghosts as heap}
 use Rattle.feed_types.specs.contracts.genuine.Anything as Anything
 use Rattle.feed_types.specs.contracts.genuine.AnythingGenuine.TheImpl.{ghosts as anything}
 use Rattle.feed_text.specs.Devices.{Writing}
+use Rattle.filter_terms.specs.contracts.filter.Filter.of.dyn-1.{slots}
 use Rattle.live_feed.specs.contracts.feed.open_feed.OpenFeed as OpenFeed
 use Rattle.live_feed.specs.contracts.run.line.Line as Line
 use Rattle.live_feed.specs.declared.subscriber.logged.Logged.{Logged}
@@ -29,8 +30,7 @@ use Rattle.udp_listening.proofs.run_progress.RunProgress.TheSendSync.{the_send a
 use Rattle.udp_listening.proofs.Crossing.{five_send, lines_send}
 use Rattle.udp_listening.proofs.Wholes.{settled_log_of}
 use Rattle.udp_listening.proofs.listening.run_feed.Goals.{in-Ok-settle, in-Err-settle}
-use Rattle.udp_listening.proofs.listening.run_feed.Lts.{arg-33-1}
-use Rattle.udp_listening.proofs.listening.run_feed.Object-1.{slots}
+use Rattle.udp_listening.proofs.listening.run_feed.Lts.{arg-40-1}
 use Rattle.udp_listening.proofs.listening.run_feed.OwnLists.{own-1, lawful-own-1}
 use Rattle.udp_listening.proofs.listening.run_feed.Goals as goal
 
@@ -42,11 +42,46 @@ Shows writing first log desk = HasFollowed writing first log desk.following desk
 abbrev Ends : {W E : Type 0} → Writing W → W → Result ListenReport ListenFault → Desk W E → Type 0
 Ends writing first outcome desk = HasListened writing first outcome desk.following desk.printed desk.output
 
-pub returns-in_default-clause-listened : goal.returns-in_default-clause-listened
-returns-in_default-clause-listened g c =
+pub returns-in_default-statuses_by-clause-listened : goal.returns-in_default-statuses_by-clause-listened
+returns-in_default-statuses_by-clause-listened g c =
     let w : Writing g.row.W.Denot = record { adds = g.W.TextOut.adds; failures = g.W.TextOut.failures } in
-    subst (λ r. Ends w c.args.task.desk.output r.outcome r.desk)
-    (sym c.unreported.ensures) ([], c.requires.unprinted [])
+    let first = c.args.task.desk.output in
+    let attended = c.join-ran.result.1 in
+    let shown : Shows w first attended.log.lines attended.desk
+    = c.join-ran.ensures.second.0 first (c.requires.unprinted _) in
+    subst (λ r. Ends w first r.outcome r.desk)
+    (sym c.unreported-in_default-statuses_by.ensures) (attended.log.lines, shown)
+
+pub returns-in_default-3-clause-listened : goal.returns-in_default-3-clause-listened
+returns-in_default-3-clause-listened g c =
+    let w : Writing g.row.W.Denot = record { adds = g.W.TextOut.adds; failures = g.W.TextOut.failures } in
+    let first = c.args.task.desk.output in
+    let attended = c.join-ran.result.1 in
+    let shown : Shows w first attended.log.lines attended.desk
+    = c.join-ran.ensures.second.0 first (c.requires.unprinted _) in
+    let told : Shows w first attended.log.lines c.tell_all.new.self.desk
+    = subst (λ d. Shows w first attended.log.lines d) (sym c.tell_all.ensures.desk) shown in
+    subst (λ r. Ends w first r.outcome r.desk)
+    (sym c.unreported-in_default-3.ensures) (attended.log.lines, told)
+
+pub returns-in_default-3-clause-quiet : goal.returns-in_default-3-clause-quiet
+returns-in_default-3-clause-quiet g c =
+    λ none.
+    let beside = c.join-ran.ensures.second.1 none in
+    ap (λ r. r.desk.errors) c.unreported-in_default-3.ensures
+    ∙ (c.tell_all.ensures.quiet beside.1).0 ∙ beside.0
+
+pub returns-in_default-part_lines-clause-listened : goal.returns-in_default-part_lines-clause-listened
+returns-in_default-part_lines-clause-listened g c =
+    let w : Writing g.row.W.Denot = record { adds = g.W.TextOut.adds; failures = g.W.TextOut.failures } in
+    let first = c.args.task.desk.output in
+    let attended = c.join-ran.result.1 in
+    let shown : Shows w first attended.log.lines attended.desk
+    = c.join-ran.ensures.second.0 first (c.requires.unprinted _) in
+    let told : Shows w first attended.log.lines c.tell_all.new.self.desk
+    = subst (λ d. Shows w first attended.log.lines d) (sym c.tell_all.ensures.desk) shown in
+    subst (λ r. Ends w first r.outcome r.desk)
+    (sym c.unreported-in_default-part_lines.ensures) (attended.log.lines, told)
 
 pub returns-clause-listened : goal.returns-clause-listened
 returns-clause-listened g c =
@@ -77,60 +112,6 @@ returns-clause-quiet g c =
     let beside = c.join-ran.ensures.second.1 none in
     (c.tell_all.ensures.quiet beside.1).0 ∙ beside.0
 
-pub returns-then-is_err-clause-listened : goal.returns-then-is_err-clause-listened
-returns-then-is_err-clause-listened g c =
-    let w : Writing g.row.W.Denot = record { adds = g.W.TextOut.adds; failures = g.W.TextOut.failures } in
-    let first = c.args.task.desk.output in
-    let attended = c.join-ran.result.1 in
-    let shown : Shows w first attended.log.lines attended.desk
-    = c.join-ran.ensures.second.0 first (c.requires.unprinted _) in
-    subst (λ r. Ends w first r.outcome r.desk)
-    (sym c.unreported-then-is_err.ensures) (attended.log.lines, shown)
-
-pub returns-then-is_err-clause-quiet : goal.returns-then-is_err-clause-quiet
-returns-then-is_err-clause-quiet g c =
-    λ none.
-    let beside = c.join-ran.ensures.second.1 none in
-    ap (λ r. r.desk.errors) c.unreported-then-is_err.ensures ∙ beside.0
-
-pub returns-in_default-2-clause-listened : goal.returns-in_default-2-clause-listened
-returns-in_default-2-clause-listened g c =
-    let w : Writing g.row.W.Denot = record { adds = g.W.TextOut.adds; failures = g.W.TextOut.failures } in
-    let first = c.args.task.desk.output in
-    let attended = c.join-ran.result.1 in
-    let shown : Shows w first attended.log.lines attended.desk
-    = c.join-ran.ensures.second.0 first (c.requires.unprinted _) in
-    let told : Shows w first attended.log.lines c.tell_all.new.self.desk
-    = subst (λ d. Shows w first attended.log.lines d) (sym c.tell_all.ensures.desk) shown in
-    subst (λ r. Ends w first r.outcome r.desk)
-    (sym c.unreported-in_default-2.ensures) (attended.log.lines, told)
-
-pub returns-in_default-2-clause-quiet : goal.returns-in_default-2-clause-quiet
-returns-in_default-2-clause-quiet g c =
-    λ none.
-    let beside = c.join-ran.ensures.second.1 none in
-    ap (λ r. r.desk.errors) c.unreported-in_default-2.ensures
-    ∙ (c.tell_all.ensures.quiet beside.1).0 ∙ beside.0
-
-pub returns-in_default-part_lines-clause-listened : goal.returns-in_default-part_lines-clause-listened
-returns-in_default-part_lines-clause-listened g c =
-    let w : Writing g.row.W.Denot = record { adds = g.W.TextOut.adds; failures = g.W.TextOut.failures } in
-    let first = c.args.task.desk.output in
-    let attended = c.join-ran.result.1 in
-    let shown : Shows w first attended.log.lines attended.desk
-    = c.join-ran.ensures.second.0 first (c.requires.unprinted _) in
-    let told : Shows w first attended.log.lines c.tell_all.new.self.desk
-    = subst (λ d. Shows w first attended.log.lines d) (sym c.tell_all.ensures.desk) shown in
-    subst (λ r. Ends w first r.outcome r.desk)
-    (sym c.unreported-in_default-part_lines.ensures) (attended.log.lines, told)
-
-pub returns-in_default-part_lines-clause-quiet : goal.returns-in_default-part_lines-clause-quiet
-returns-in_default-part_lines-clause-quiet g c =
-    λ none.
-    let beside = c.join-ran.ensures.second.1 none in
-    ap (λ r. r.desk.errors) c.unreported-in_default-part_lines.ensures
-    ∙ (c.tell_all.ensures.quiet beside.1).0 ∙ beside.0
-
 -- The closure that runs the feed has where it marks its progress, references to the feed, to the
 -- machine's handle and to the heap, and the lines. `search` reaches its limits at the whole of it.
 pub join-ran-requires-send-F : goal.join-ran-requires-send-F
@@ -157,7 +138,7 @@ join-ran-requires-send-F g c κs within =
     (shr_send (named 8) κs.1.1.1.1.1.1.1.1.0 Global.the_row sync)
     lines in
     param_send 1
-    (arg-33-1 g.row.N g.row.R g.row.C g.row.W g.row.E g.N.laws g.R.laws g.C.laws g.W.laws g.E.laws
+    (arg-40-1 g.row.N g.row.R g.row.C g.row.W g.row.E g.N.laws g.R.laws g.C.laws g.W.laws g.E.laws
     g.N.FeedName g.N.FeedName-dict g.R.Threads g.R.Threads-dict g.R.Wait g.R.Wait-dict g.C.Clock g.C.Clock-dict
     g.W.TextOut g.W.TextOut-dict g.E.TextOut g.E.TextOut-dict g.C.Destruct-dict g.W.Destruct-dict g.E.Destruct-dict κs)
     (search (arg_send) depth 4)
