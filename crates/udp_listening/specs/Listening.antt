@@ -110,8 +110,8 @@ HasFollowed writing first log Failed printed now =
     Wrote writing.adds first (log_lines log) now
     × (writing.failures now ≡ writing.failures first + 1)
 
--- A desk has gone on with a log that may have grown: of any output, what was written from it on is
--- printed of the longer log as it was of the shorter one.
+-- The log has grown, and the desk has gone on: from whichever output on the desk had printed of the
+-- log before, it has printed of the longer log now.
 abbrev pub KeepsFollowing : {W E : Type 0} → Writing W → List Logged → Desk W E → List Logged
     → Desk W E → Type 0
 KeepsFollowing {W} writing log before longer after =
