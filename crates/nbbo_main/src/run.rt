@@ -119,8 +119,8 @@ fn ended<R, W>(status: u8, input: R, output: W) -> ProgramRun<R, W>
 /// takes sockets and threads: then the settings for it are returned.
 ///
 /// The input is read only for a replay, a conversion or statistics. The lines of a replay, or the best ones alone in
-/// the format that is asked for, or the counts of what the lines report, are all that is written on the output. Before a
-/// terminal is read, standard error says so.
+/// the format that is asked for, or the counts of what the lines report, are all that is written on the
+/// output. Before a terminal is read, standard error says so.
 pub fn run<R: CaptureIn + Drop, W: TextOut, E: TextOut>(
     alloc: Global,
     words: &[String],

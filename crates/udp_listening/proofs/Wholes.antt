@@ -139,18 +139,6 @@ of_failed writing telling report first mid after silent told status part failed 
       ));
     }
 
--- lines of a log that were printed are a part of all of them
-part_of_log : {W : Type 0} (writing : Writing W) (first now : W) (log : List Logged)
-    (following : Following) (printed : ℕ) → HasFollowed writing first log following printed now
-    → Wrote writing.adds first (log_lines log) now
-part_of_log writing first now log On printed h =
-    subst (λ (t : List ℕ). Wrote writing.adds first t now) (sym (lines_split printed log))
-    (part_of_front writing.adds first now (log_lines (take printed log)) (log_lines (drop printed log)) h.lines)
-part_of_log writing first now log Off printed h =
-    subst (λ (t : List ℕ). Wrote writing.adds first t now) (sym (lines_split printed log))
-    (part_of_front writing.adds first now (log_lines (take printed log)) (log_lines (drop printed log)) h.lines)
-part_of_log writing first now log Failed printed h = h.0
-
 -- what was printed while a run went on, then its end
 pub listened : {W E : Type 0} (writing : Writing W) (telling : Writing E) → More writing
     → (outcome : Result ListenReport ListenFault) (following : Following) (printed : ℕ)
@@ -167,8 +155,9 @@ listened writing telling more (Ok report) Failed printed first mid after silent 
 listened writing telling more (Err fault) following printed first mid after silent told status h e = (
   (
     h.0,
-    subst (λ w. Wrote writing.adds first (log_lines h.0) w) (sym e.0)
-        (part_of_log writing first mid h.0 following printed h.1),
+    following,
+    printed,
+    subst (λ w. HasFollowed writing first h.0 following printed w) (sym e.0) h.1,
   ),
   e.1,
   e.2,

@@ -269,14 +269,21 @@ pub record PrintsAll {W E : Type 0} (writing : Writing W) (telling : Writing E)
   pub says : SaysEach telling (report_texts report) silent said
   pub prints : PrintsWhole writing telling report before after said told status
 
+-- From the output `first` on the best lines of some log's first notices were written, and no call
+-- failed; or a part of a log's best lines, by calls of which the last one failed.
+abbrev pub PrintsSome : {W : Type 0} → Writing W → (first now : W) → Type 0
+PrintsSome writing first now =
+    (log : List Logged) × (following : Following) × (printed : ℕ)
+    × HasFollowed writing first log following printed now
+
 -- Listening ends with a report, of which all is printed; or with none, which standard error says,
--- and then the best lines of a log or a part of them are printed.
+-- after best lines that were printed meanwhile.
 abbrev pub ListensToEnd : {W E : Type 0} (writing : Writing W) (telling : Writing E)
     (outcome : Result ListenReport ListenFault) (before after : W) (silent told : E) → ℕ → Type 0
 ListensToEnd writing telling (Ok report) before after silent told status =
     PrintsAll writing telling report before after silent told status
 ListensToEnd writing telling (Err fault) before after silent told status =
-    ((log : List Logged) × Wrote writing.adds before (log_lines log) after)
+    PrintsSome writing before after
     × Says telling (listen_fault_text fault) silent told × (status ≡ 1)
 
 -- However it is asked to end and to print, listening ends in one of these ways. Before, standard

@@ -1,14 +1,17 @@
-//! The attendant of a run at its work, beside the run's thread: it takes what the subscriber is offered, prints it where
-//! that is asked for, says what was counted, and stops the run where it is to end.
-ghost use Rattle.std.specs.Prelude.{◌≡◌, None};
+//! The attendant of a run at its work, beside the run's thread: it takes what the subscriber is offered,
+//! prints it where that is asked for, says what was counted, and stops the run where it is to end.
+ghost use Rattle.std.specs.Prelude.{◌≡◌, ◌∷◌, [], IfOk, None, map};
 ghost use Rattle.feed_text.specs.Devices.{Writing};
 ghost use Rattle.udp_listening.specs.Listening.{KeepsFollowing};
 
 use crate::attendant::{Attendant, Turn};
+use crate::closed_run::{ClosedRun, Ran, closed_run};
 use crate::desk::Desk;
+use crate::listening::ListenFault;
 use feed_text::{LineBuffer, TextOut};
 use feed_types::VenueId;
 use live_feed::{FeedName, StopHandle, SubscriberLog, VenueStatus};
+use std::alloc::{AllocError, Global};
 use std::sync::Wait;
 use std::time::Clock;
 
@@ -82,14 +85,43 @@ impl<N: FeedName, C: Clock + Drop, W: TextOut, E: TextOut> Attendance<N, C, W, E
     }
 
     /// Writes the table of all counts once the run is over, where counts are asked for.
-    pub fn tell_all(&mut self, statuses: &[VenueStatus])
+    fn tell_all(&mut self, statuses: &[VenueStatus])
         ensures desk { self.new.desk ≡ record (self.old.desk) { errors = self.new.desk.errors } }
         ensures log { self.new.log ≡ self.old.log }
         ensures quiet { self.old.attendant.counts ≡ None
-            → (self.new.desk.errors ≡ self.old.desk.errors) × (self.new.attendant.counts ≡ None) }
+            → self.new.desk.errors ≡ self.old.desk.errors }
     {
         if let Some(counts) = &self.attendant.counts {
             counts.tell_all(statuses, &mut self.desk.errors);
         }
+    }
+
+    /// Ends the attendance of a run that is over: writes the table of all counts, where counts are asked
+    /// for, and returns what of the run is to be settled, and where the program prints. `ran` is what the
+    /// run returned; `statuses` has what each venue has come to.
+    pub fn close(
+        self,
+        alloc: Global,
+        ran: Option<Ran<N, C>>,
+        statuses: Result<Vec<VenueStatus>, AllocError>,
+    ) -> (Result<ClosedRun<N>, ListenFault>, Desk<W, E>)
+        ensures log { IfOk result.0 (λ closed.
+            map (λ s. s.log) closed.subscribers.items ≡ self.log ∷ []) }
+        ensures desk { result.1 ≡ record (self.desk) { errors = result.1.errors } }
+        ensures quiet { self.attendant.counts ≡ None → result.1.errors ≡ self.desk.errors }
+    {
+        let Ok(statuses) = statuses else {
+            return (Err(ListenFault::NoMemory), self.desk);
+        };
+        let mut attendance = self;
+        attendance.tell_all(statuses.as_slice());
+        let Attendance {
+            attendant,
+            desk,
+            log,
+            text: _,
+        } = attendance;
+        let closed = closed_run(alloc, ran, &attendant, log, statuses.as_slice());
+        (closed, desk)
     }
 }

@@ -14,6 +14,7 @@
 
 mod attendance;
 mod attendant;
+mod closed_run;
 mod counts_text;
 mod desk;
 mod elapsed;

@@ -5,9 +5,9 @@ ghost use Rattle.udp_listening.specs.Listening.{HasListened, IsFeedOf, IsUnprint
 
 use crate::attendance::Attendance;
 use crate::attendant::Attendant;
+use crate::closed_run::ClosedRun;
 use crate::desk::Desk;
-use crate::ended_lines::part_lines;
-use crate::lack::{Lack, lacks_in};
+use crate::lack::Lack;
 use crate::sources::seated;
 use crate::udp_line::UdpLine;
 use command_words::ListenSettings;
@@ -195,31 +195,21 @@ where
                 × (result.attendant.counts ≡ None) }
         { attendance.attend(rt, &stop, |venue| feed.status(rt, venue).ok()) },
     );
-    let mut attendance = attendance;
-    let Ok(statuses) = statuses_by(alloc, |venue| feed.status(rt, venue).ok()) else {
-        return unreported(ListenFault::NoMemory, attendance.desk);
-    };
-    attendance.tell_all(statuses.as_slice());
-    let Attendance {
-        attendant,
-        desk,
-        log,
-        text: _,
-    } = attendance;
-    let (Some((lines, stopped)), Ok(subscribers), Ok(lacking)) = (
-        ran,
-        Vec::from_array(alloc, [log.into_subscriber()]),
-        lacks_in(alloc, statuses.as_slice()),
-    ) else {
-        return unreported(ListenFault::NoMemory, desk);
-    };
-    let Ok(ended) = part_lines(alloc, lines) else {
-        return unreported(ListenFault::NoMemory, desk);
+    let statuses = statuses_by(alloc, |venue| feed.status(rt, venue).ok());
+    let (closed, desk) = attendance.close(alloc, ran, statuses);
+    let ClosedRun {
+        ended,
+        subscribers,
+        stopped,
+        lacking,
+    } = match closed {
+        Ok(run) => run,
+        Err(fault) => return unreported(fault, desk),
     };
     let outcome = match feed.settle(rt, alloc, ended.seats, subscribers) {
         Ok(settlement) => Ok(ListenReport {
             failed: ended.failed,
-            stopped: attendant.reason(stopped),
+            stopped,
             read_out: ended.read_out,
             lacking,
             settlement,

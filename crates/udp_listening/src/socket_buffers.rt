@@ -13,8 +13,8 @@ fn ask_for(socket: &UdpSocket, bytes: u32) {
     let _ = unsafe { c::setsockopt(fd, c::SOL_SOCKET, c::SO_RCVBUF, &value, 4) };
 }
 
-/// How many bytes the socket's buffer has, as they are asked for: the system reports twice as many, since it keeps a half
-/// for its own account of what has come. None where it doesn't report any.
+/// How many bytes the socket's buffer has, as they are asked for: the system reports twice as many,
+/// since it keeps a half for its own account of what has come. None where it doesn't report any.
 fn size_of(socket: &UdpSocket) -> Option<u32> {
     let mut value = [0u8; 16];
     let mut len = 16u32;

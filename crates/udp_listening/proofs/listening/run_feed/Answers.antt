@@ -1,4 +1,5 @@
-use Rattle.std.proofs.Common.{◌≡◌, [], ◌∷◌, ◌∙◌, ap, map, subst, sym, List}
+use Rattle.std.proofs.Common.{◌≡◌, [], ◌∷◌, ◌∙◌, map, subst, sym, List}
+use Rattle.std.proofs.lemmas.Result.{IfOk-at_ok}
 use Rattle.std.specs.Prelude.{Result, codes}
 use mir.Syntax.{Sym, named}
 use denote.RattleType.{RattleType}
@@ -42,66 +43,37 @@ Shows writing first log desk = HasFollowed writing first log desk.following desk
 abbrev Ends : {W E : Type 0} → Writing W → W → Result ListenReport ListenFault → Desk W E → Type 0
 Ends writing first outcome desk = HasListened writing first outcome desk.following desk.printed desk.output
 
-pub returns-in_default-statuses_by-clause-listened : goal.returns-in_default-statuses_by-clause-listened
-returns-in_default-statuses_by-clause-listened g c =
+-- closing the attendance prints nothing on the output
+closed : {W E : Type 0} (writing : Writing W) (first : W) (log : List Logged) (attended desk : Desk W E)
+    → Shows writing first log attended → desk ≡ record attended { errors = desk.errors }
+    → Shows writing first log desk
+closed writing first log attended desk shown same = subst (λ d. Shows writing first log d) (sym same) shown
+
+pub returns-in-Err-closed-clause-listened : goal.returns-in-Err-closed-clause-listened
+returns-in-Err-closed-clause-listened g c =
     let w : Writing g.row.W.Denot = record { adds = g.W.TextOut.adds; failures = g.W.TextOut.failures } in
     let first = c.args.task.desk.output in
     let attended = c.join-ran.result.1 in
-    let shown : Shows w first attended.log.lines attended.desk
-    = c.join-ran.ensures.second.0 first (c.requires.unprinted _) in
+    let told = closed w first attended.log.lines attended.desk c.close-closed.result.1
+    (c.join-ran.ensures.second.0 first (c.requires.unprinted _)) c.close-closed.ensures.desk in
     subst (λ r. Ends w first r.outcome r.desk)
-    (sym c.unreported-in_default-statuses_by.ensures) (attended.log.lines, shown)
-
-pub returns-in_default-3-clause-listened : goal.returns-in_default-3-clause-listened
-returns-in_default-3-clause-listened g c =
-    let w : Writing g.row.W.Denot = record { adds = g.W.TextOut.adds; failures = g.W.TextOut.failures } in
-    let first = c.args.task.desk.output in
-    let attended = c.join-ran.result.1 in
-    let shown : Shows w first attended.log.lines attended.desk
-    = c.join-ran.ensures.second.0 first (c.requires.unprinted _) in
-    let told : Shows w first attended.log.lines c.tell_all.new.self.desk
-    = subst (λ d. Shows w first attended.log.lines d) (sym c.tell_all.ensures.desk) shown in
-    subst (λ r. Ends w first r.outcome r.desk)
-    (sym c.unreported-in_default-3.ensures) (attended.log.lines, told)
-
-pub returns-in_default-3-clause-quiet : goal.returns-in_default-3-clause-quiet
-returns-in_default-3-clause-quiet g c =
-    λ none.
-    let beside = c.join-ran.ensures.second.1 none in
-    ap (λ r. r.desk.errors) c.unreported-in_default-3.ensures
-    ∙ (c.tell_all.ensures.quiet beside.1).0 ∙ beside.0
-
-pub returns-in_default-part_lines-clause-listened : goal.returns-in_default-part_lines-clause-listened
-returns-in_default-part_lines-clause-listened g c =
-    let w : Writing g.row.W.Denot = record { adds = g.W.TextOut.adds; failures = g.W.TextOut.failures } in
-    let first = c.args.task.desk.output in
-    let attended = c.join-ran.result.1 in
-    let shown : Shows w first attended.log.lines attended.desk
-    = c.join-ran.ensures.second.0 first (c.requires.unprinted _) in
-    let told : Shows w first attended.log.lines c.tell_all.new.self.desk
-    = subst (λ d. Shows w first attended.log.lines d) (sym c.tell_all.ensures.desk) shown in
-    subst (λ r. Ends w first r.outcome r.desk)
-    (sym c.unreported-in_default-part_lines.ensures) (attended.log.lines, told)
+    (sym c.unreported-in-Err-closed.ensures) (attended.log.lines, told)
 
 pub returns-clause-listened : goal.returns-clause-listened
 returns-clause-listened g c =
     let w : Writing g.row.W.Denot = record { adds = g.W.TextOut.adds; failures = g.W.TextOut.failures } in
     let first = c.args.task.desk.output in
     let attended = c.join-ran.result.1 in
-    let desk = c.tell_all.new.self.desk in
-    let shown : Shows w first attended.log.lines attended.desk
-    = c.join-ran.ensures.second.0 first (c.requires.unprinted _) in
-    let told : Shows w first attended.log.lines desk
-    = subst (λ d. Shows w first attended.log.lines d) (sym c.tell_all.ensures.desk) shown in
-    let t = c.into_subscriber.result.log in
-    let own : t.lines ≡ attended.log.lines
-    = ap (λ l. l.lines) (c.into_subscriber.ensures.log ∙ c.tell_all.ensures.log) in
+    let desk = c.close-closed.result.1 in
+    let told = closed w first attended.log.lines attended.desk desk
+    (c.join-ran.ensures.second.0 first (c.requires.unprinted _)) c.close-closed.ensures.desk in
+    let own = IfOk-at_ok (λ run. map (λ s. s.log) run.subscribers.items ≡ attended.log ∷ [])
+    c.in-Ok-closed.is c.close-closed.ensures.log in
     elim c.match-settle.branch [
       | in-Ok-settle w' ↦
-          let same = settled_log_of t (ap (λ l. map (λ s. s.log) l) c.in-Some-Ok-Ok.ensures.items)
-          w'.in-Ok-settle.ensures.settled in
           subst (λ o. Ends w first o desk) (sym w'.outcome-is)
-          (subst (λ l. Shows w first l desk) (sym (same ∙ own)) told)
+          (subst (λ l. Shows w first l desk)
+          (sym (settled_log_of attended.log own w'.in-Ok-settle.ensures.settled)) told)
       | in-Err-settle w' ↦
           subst (λ o. Ends w first o desk) (sym w'.outcome-is) (attended.log.lines, told)
     ]
@@ -110,7 +82,7 @@ pub returns-clause-quiet : goal.returns-clause-quiet
 returns-clause-quiet g c =
     λ none.
     let beside = c.join-ran.ensures.second.1 none in
-    (c.tell_all.ensures.quiet beside.1).0 ∙ beside.0
+    c.close-closed.ensures.quiet beside.1 ∙ beside.0
 
 -- The closure that runs the feed has where it marks its progress, references to the feed, to the
 -- machine's handle and to the heap, and the lines. `search` reaches its limits at the whole of it.
