@@ -3,7 +3,7 @@
 //! thread beside the run that reads the feed. docs/LINKING.md goes through it.
 #![tactic(auto)]
 
-ghost use Rattle.std.specs.Prelude.{◌≡◌, ℕ, IfSome, slice_get};
+ghost use Rattle.std.specs.Prelude.{◌≡◌, ◌≤◌, ℕ, IfSome, IsSome, slice_get};
 ghost use Rattle.live_feed.specs.Allowed.{IsAllowed};
 ghost use Rattle.live_feed.specs.settle.Settlements.{IsServed};
 
@@ -26,22 +26,27 @@ const SESSION: [u8; 10] = *b"0000000001";
 /// whichever line's thread comes first.
 const SYMBOLS: [[u8; 8]; 2] = [*b"ACME    ", *b"BOLT    "];
 
-/// The quotations of each venue: the message's number, the bid and the offer in ten-thousandths of a
-/// dollar, and the size of both in shares.
-const QUOTATIONS: [[(u64, u32, u32, u32); 4]; 2] = [
+/// The bid and the offer in ten-thousandths of a dollar, and the size of both in shares.
+type Quotation = (u32, u32, u32);
+
+/// The quotations of each venue, by their messages' numbers, which begin with 1.
+const QUOTATIONS: [[Quotation; 4]; 2] = [
     [
-        (1, 101_500, 101_700, 300),
-        (2, 101_400, 101_600, 300),
-        (3, 101_500, 101_800, 300),
-        (4, 101_300, 101_500, 100),
+        (101_500, 101_700, 300),
+        (101_400, 101_600, 300),
+        (101_500, 101_800, 300),
+        (101_300, 101_500, 100),
     ],
     [
-        (1, 250_100, 250_300, 1_000),
-        (2, 250_400, 250_500, 2_000),
-        (3, 250_200, 250_500, 500),
-        (4, 250_500, 250_600, 1_500),
+        (250_100, 250_300, 1_000),
+        (250_400, 250_500, 2_000),
+        (250_200, 250_500, 500),
+        (250_500, 250_600, 1_500),
     ],
 ];
+
+/// The number of each venue's last message.
+const LAST: u64 = 4;
 
 /// The venue of each line, and the message that the line loses.
 const LINES: [(usize, LineId, u64); 4] = [
@@ -60,9 +65,10 @@ const PAUSE_MS: u64 = 1;
 fn datagram_of(
     alloc: Global,
     symbol: &[u8; 8],
-    quotation: &(u64, u32, u32, u32),
+    number: u64,
+    quotation: Quotation,
 ) -> Result<Datagram, AllocError> {
-    let (number, bid, offer, size) = *quotation;
+    let (bid, offer, size) = quotation;
     let mut bytes = Vec::new(alloc);
     bytes.extend_from_slice(&SESSION)?;
     bytes.extend_from_slice(&number.to_be_bytes())?;
@@ -126,9 +132,9 @@ impl LineSource<Anything> for Recorded {
 /// was refused.
 fn source_of(alloc: Global, place: usize, lost: u64) -> Option<Recorded> {
     let mut datagrams = VecDeque::new(alloc);
-    for quotation in QUOTATIONS.get(place)? {
-        if quotation.0 != lost {
-            let datagram = datagram_of(alloc, SYMBOLS.get(place)?, quotation).ok()?;
+    for (number, quotation) in (1..=LAST).zip(QUOTATIONS.get(place)?) {
+        if number != lost {
+            let datagram = datagram_of(alloc, SYMBOLS.get(place)?, number, *quotation).ok()?;
             datagrams.push_back(datagram).ok()?;
         }
     }
@@ -136,6 +142,23 @@ fn source_of(alloc: Global, place: usize, lost: u64) -> Option<Recorded> {
         place: VenueId::from_index(place)?,
         datagrams,
     })
+}
+
+/// The lines of both venues. `seat_of` hands out the seat of a venue's line. None where memory was
+/// refused.
+fn lines_of<N, S>(alloc: Global, seat_of: S) -> Option<Vec<Line<Anything, N, Recorded>>>
+where
+    N: FeedName,
+    S: Fn(VenueId, LineId) -> Option<LineSeat<Anything, N>>,
+    requires { S.IsAlwaysCallable seat_of }
+{
+    let mut lines = Vec::with_capacity(alloc, LINES.len()).ok()?;
+    for (place, line, lost) in LINES {
+        let source = source_of(alloc, place, lost)?;
+        let seat = seat_of(source.place, line)?;
+        lines.push(Line::new(seat, source).ok()?).ok()?;
+    }
+    Some(lines)
 }
 
 /// Buys what is offered at 10.1600 or less, at most 200 shares.
@@ -214,12 +237,7 @@ where
     let first = feed.subscribe(rt, alloc, acme_only, buyer).ok()?;
     let second = feed.subscribe(rt, alloc, large_only, seller).ok()?;
     let subscribers = Vec::from_array(alloc, [first, second]).ok()?;
-    let mut lines = Vec::with_capacity(alloc, LINES.len()).ok()?;
-    for (place, line, lost) in LINES {
-        let source = source_of(alloc, place, lost)?;
-        let seat = feed.line_seat(rt, source.place, line).ok()?;
-        lines.push(Line::new(seat, source).ok()?).ok()?;
-    }
+    let lines = lines_of(alloc, |venue, line| feed.line_seat(rt, venue, line).ok())?;
     let report = feed.run(rt, alloc, lines, subscribers).ok()?;
     let seats = seats_of(alloc, report.lines)?;
     feed.settle(rt, alloc, seats, report.subscribers).ok()
@@ -232,19 +250,40 @@ struct Look {
     national: National,
 }
 
-/// The look at the venue of this number, where it found the venue's last quotation taken, and the
-/// national best of its symbol is that quotation's; else None.
+/// The look that found these, where `last` is taken, the quotation of the venue's last message, and
+/// leads its symbol's offers; else None.
 fn last_look(
-    place: usize,
+    last: Quotation,
     status: Result<VenueStatus, FeedFault>,
     national: Option<National>,
-) -> Option<Look> {
+) -> Option<Look>
+    ensures { IfSome result (λ look. (4 ≤ look.status.cursors.front)
+        × IsSome look.national.offer × IfSome look.national.offer (λ offer. offer.price ≡ last.1)) }
+{
     let (status, national) = (status.ok()?, national?);
-    let (number, _, offer, _) = *QUOTATIONS.get(place)?.last()?;
-    if status.cursors.front < number || national.offer?.price != offer {
+    let offer = national.offer?;
+    if status.cursors.front < LAST || offer.price != last.1 {
         return None;
     }
     Some(Look { status, national })
+}
+
+/// Looks until `look` has found what it looks for, and returns that. None where it has looked in vain
+/// long enough.
+fn look_until<R, L>(rt: &R, look: L) -> Option<[Look; 2]>
+where
+    R: Wait + Clock,
+    L: Fn() -> Option<[Look; 2]>,
+    requires { L.IsAlwaysCallable look }
+{
+    for _ in 0..MOST_LOOKS {
+        let looks = look();
+        if looks.is_some() {
+            return looks;
+        }
+        thread::sleep(rt, Duration::from_millis(PAUSE_MS));
+    }
+    None
 }
 
 /// Opens the feed, whose lanes N names, and runs it until all lines have ended, while a second
@@ -259,29 +298,20 @@ where
     requires { closed ≡ N.lanes }
 {
     let feed = closed.open::<N>(alloc).ok()?;
-    let mut lines = Vec::with_capacity(alloc, LINES.len()).ok()?;
-    for (place, line, lost) in LINES {
-        let source = source_of(alloc, place, lost)?;
-        let seat = feed.line_seat(rt, source.place, line).ok()?;
-        lines.push(Line::new(seat, source).ok()?).ok()?;
-    }
+    let lines = lines_of(alloc, |venue, line| feed.line_seat(rt, venue, line).ok())?;
     feed.show_shareable();
     let (looks, _report) = thread::join(
         rt,
         || {
-            let (acme, bolt) = (symbol_at(0)?, symbol_at(1)?);
             let (north, south) = (VenueId::from_index(0)?, VenueId::from_index(1)?);
-            let mut looks = None;
-            for _ in 0..MOST_LOOKS {
-                let first = last_look(0, feed.status(rt, north), feed.national(rt, &acme));
-                let second = last_look(1, feed.status(rt, south), feed.national(rt, &bolt));
-                if let (Some(first), Some(second)) = (first, second) {
-                    looks = Some([first, second]);
-                    break;
-                }
-                thread::sleep(rt, Duration::from_millis(PAUSE_MS));
-            }
-            looks
+            let (acme, bolt) = (symbol_at(0)?, symbol_at(1)?);
+            look_until(rt, || {
+                let first = (feed.status(rt, north), feed.national(rt, &acme));
+                let second = (feed.status(rt, south), feed.national(rt, &bolt));
+                let first = last_look(QUOTATIONS[0][3], first.0, first.1)?;
+                let second = last_look(QUOTATIONS[1][3], second.0, second.1)?;
+                Some([first, second])
+            })
         },
         || feed.run(rt, alloc, lines, Vec::new(alloc)).ok(),
     );
@@ -338,24 +368,40 @@ fn print_look(rt: &HostRuntime, place: usize, look: &Look) -> io::Result<()> {
     println!(rt; "beside the run: venue {place} at {front}, {symbol} bid {bid} offer {offer}")
 }
 
+/// Runs the feed of both venues, and settles it. None where memory was refused.
+fn settled<R: Threads + Wait + Sync>(rt: &R, alloc: Global) -> Option<Settlement> {
+    let closed = new_feed(alloc)?;
+    run_feed::<Brand, R>(rt, alloc, closed)
+}
+
+/// Runs the feed of both venues again, with a thread beside the run. None where memory was refused, or
+/// the thread saw less than all.
+fn watched<R: Threads + Wait + Clock + Sync>(rt: &R, alloc: Global) -> Option<[Look; 2]> {
+    let closed = new_feed(alloc)?;
+    watch_feed::<Brand, R>(rt, alloc, closed)
+}
+
+/// Prints the logs of both subscribers.
+fn print_settled(rt: &HostRuntime, settlement: &Settlement) -> io::Result<()> {
+    print_log(rt, settlement, 0)?;
+    print_log(rt, settlement, 1)
+}
+
+/// Prints the looks at both venues.
+fn print_looks(rt: &HostRuntime, looks: &[Look; 2]) -> io::Result<()> {
+    let [first, second] = looks;
+    print_look(rt, 0, first)?;
+    print_look(rt, 1, second)
+}
+
 fn main(rt: HostRuntime) -> io::Result<()> {
     let alloc: Global = rt.alloc();
-    let Some(closed) = new_feed(alloc) else {
-        return println!(rt; "no memory for a feed");
-    };
-    let Some(settlement) = run_feed::<Brand, HostRuntime>(&rt, alloc, closed) else {
-        return println!(rt; "no memory for the run");
-    };
-    for place in 0..2 {
-        print_log(&rt, &settlement, place)?;
+    match settled(&rt, alloc) {
+        Some(settlement) => print_settled(&rt, &settlement)?,
+        None => println!(rt; "no memory for the run")?,
     }
-    let Some(closed) = new_feed(alloc) else {
-        return println!(rt; "no memory for a feed");
-    };
-    let Some(looks) = watch_feed::<Brand, HostRuntime>(&rt, alloc, closed) else {
-        return println!(rt; "the second thread saw less");
-    };
-    let [first, second] = looks;
-    print_look(&rt, 0, &first)?;
-    print_look(&rt, 1, &second)
+    match watched(&rt, alloc) {
+        Some(looks) => print_looks(&rt, &looks),
+        None => println!(rt; "the second thread saw less"),
+    }
 }

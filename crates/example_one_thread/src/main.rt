@@ -6,7 +6,7 @@ ghost use Rattle.filter_terms.specs.Allowed.{IsAllowed};
 
 use feed_types::{Anything, LineId, Notice, SymbolName, VenueId};
 use filter_terms::{Advice, Limits, Strategy};
-use journal_book::Consolidator;
+use journal_book::{Consolidator, JournalFault};
 use line_arbiter::Arbiter;
 use mold_packet::read_packet;
 use std::alloc::{AllocError, Global};
@@ -20,8 +20,11 @@ const CHEAP: u32 = 101_600;
 /// The most shares of one order.
 const MAX_SIZE: u64 = 200;
 
-/// The line of each datagram, and its message's number, bid and offer: line A loses message 2.
-const DATAGRAMS: [(LineId, u64, u32, u32); 5] = [
+/// A line, and of the datagram that it brings the message's number, bid and offer.
+type Arrival = (LineId, u64, u32, u32);
+
+/// The datagrams of both lines: line A loses message 2.
+const ARRIVALS: [Arrival; 5] = [
     (LineId::A, 1, 101_500, 101_700),
     (LineId::B, 1, 101_500, 101_700),
     (LineId::A, 3, 101_500, 101_800),
@@ -29,14 +32,9 @@ const DATAGRAMS: [(LineId, u64, u32, u32); 5] = [
     (LineId::B, 3, 101_500, 101_800),
 ];
 
-/// Writes a packet of one quotation of ACME, 300 shares on each side, over the contents of `bytes`.
-fn write_datagram(
-    bytes: &mut Vec<u8>,
-    number: u64,
-    bid: u32,
-    offer: u32,
-) -> Result<(), AllocError> {
-    bytes.clear();
+/// A packet of one quotation of ACME, 300 shares on each side.
+fn datagram_of(alloc: Global, number: u64, bid: u32, offer: u32) -> Result<Vec<u8>, AllocError> {
+    let mut bytes = Vec::new(alloc);
     bytes.extend_from_slice(&SESSION)?;
     bytes.extend_from_slice(&number.to_be_bytes())?;
     bytes.extend_from_slice(&[0, 1, 0, 26, 0x51])?;
@@ -45,7 +43,8 @@ fn write_datagram(
     bytes.extend_from_slice(&300_u32.to_be_bytes())?;
     bytes.extend_from_slice(&offer.to_be_bytes())?;
     bytes.extend_from_slice(&300_u32.to_be_bytes())?;
-    bytes.extend_from_slice(&[3])
+    bytes.extend_from_slice(&[3])?;
+    Ok(bytes)
 }
 
 /// The width of the arbiter's window in messages.
@@ -68,17 +67,70 @@ fn advice_on(notice: &Notice) -> Advice
     }
 }
 
+/// One venue's two lines, in sequence, and the journal of what they bring.
+#[derive(Drop)]
+struct Market {
+    venue: VenueId,
+    arbiter: Arbiter<Anything>,
+    journal: Consolidator,
+}
+
+impl Market {
+    /// A market of venue 0 and ACME, with nothing taken. None where memory was refused.
+    fn new(alloc: Global) -> Option<Market> {
+        let venue = VenueId::new(0)?;
+        let symbol = SymbolName::from_text(b"ACME")?;
+        Some(Market {
+            venue,
+            arbiter: Arbiter::new(alloc, venue, SESSION, WINDOW).ok()?,
+            journal: Consolidator::new(alloc, &[symbol], 1, 1_000).ok()?,
+        })
+    }
+
+    /// Takes a datagram, and journals what is in sequence then. A packet that is refused changes nothing.
+    fn take(&mut self, alloc: Global, arrival: Arrival) -> Result<(), JournalFault> {
+        let (line, number, bid, offer) = arrival;
+        let Ok(datagram) = datagram_of(alloc, number, bid, offer) else {
+            return Err(JournalFault::NoMemory);
+        };
+        if let Ok(packet) = read_packet(datagram.as_slice()) {
+            let _answer = self.arbiter.take(line, &packet);
+        }
+        self.journal_ready()
+    }
+
+    /// Journals the items that are in sequence: a window of messages and End at most.
+    fn journal_ready(&mut self) -> Result<(), JournalFault> {
+        for _ in 0..=WINDOW {
+            let Some(numbered) = self.arbiter.next_ready() else {
+                break;
+            };
+            if self.venue.index() >= self.journal.venue_count() {
+                return Err(JournalFault::UnknownVenue);
+            }
+            self.journal.reserve_one()?;
+            self.arbiter.advance();
+            let _position = self.journal.record(self.venue, numbered);
+        }
+        Ok(())
+    }
+}
+
+/// Prints what the strategy advises at a change of the national best.
+fn print_advice(rt: &HostRuntime, change: u64, advice: Advice) -> io::Result<()> {
+    println!(rt; "change {change}: {advice:?}")
+}
+
+/// Prints why a datagram wasn't taken, if it wasn't.
+fn print_end(rt: &HostRuntime, taken: Result<(), JournalFault>) -> io::Result<()> {
+    match taken {
+        Ok(()) => Ok(()),
+        Err(fault) => println!(rt; "{fault}"),
+    }
+}
+
 fn main(rt: HostRuntime) -> io::Result<()> {
     let alloc: Global = rt.alloc();
-    let (Some(venue), Some(symbol)) = (VenueId::new(0), SymbolName::from_text(b"ACME")) else {
-        return Ok(());
-    };
-    let Ok(mut arbiter) = Arbiter::<Anything>::new(alloc, venue, SESSION, WINDOW) else {
-        return Ok(());
-    };
-    let Ok(mut journal) = Consolidator::new(alloc, &[symbol], 1, 1_000) else {
-        return Ok(());
-    };
     // Stored closures are made where they are used: no function hands one out.
     let advise = Box::new(
         alloc,
@@ -88,30 +140,21 @@ fn main(rt: HostRuntime) -> io::Result<()> {
         { advice_on(notice) },
     )?;
     let mut strategy = Strategy::new(Limits { max_size: MAX_SIZE }, advise);
-    let mut bytes = Vec::new(alloc);
+    let Some(mut market) = Market::new(alloc) else {
+        return println!(rt; "no memory for a market");
+    };
     let mut asked = 0;
-    for (line, number, bid, offer) in DATAGRAMS {
-        write_datagram(&mut bytes, number, bid, offer)?;
-        if let Ok(packet) = read_packet(bytes.as_slice()) {
-            // A packet that is refused changes nothing.
-            let _answer = arbiter.take(line, &packet);
+    let mut taken = Ok(());
+    for arrival in ARRIVALS {
+        taken = market.take(alloc, arrival);
+        let changes = market.journal.changes();
+        for notice in changes.get(asked..).unwrap_or(&[]) {
+            print_advice(&rt, notice.number, strategy.advise(notice))?;
         }
-        // After a packet there are at most a window of messages in sequence, and End.
-        for _ in 0..=WINDOW {
-            let Some(numbered) = arbiter.next_ready() else {
-                break;
-            };
-            if venue.index() >= journal.venue_count() || journal.reserve_one().is_err() {
-                return println!(rt; "there is no room in the journal");
-            }
-            arbiter.advance();
-            let _position = journal.record(venue, numbered);
+        if taken.is_err() {
+            break;
         }
-        for notice in journal.changes().get(asked..).unwrap_or(&[]) {
-            let (change, advice) = (notice.number, strategy.advise(notice));
-            println!(rt; "change {change}: {advice:?}")?;
-        }
-        asked = journal.changes().len();
+        asked = changes.len();
     }
-    Ok(())
+    print_end(&rt, taken)
 }
