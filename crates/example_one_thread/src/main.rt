@@ -6,7 +6,7 @@ ghost use Rattle.filter_terms.specs.Allowed.{IsAllowed};
 
 use feed_types::{Anything, LineId, Notice, SymbolName, VenueId};
 use filter_terms::{Advice, Limits, Strategy};
-use journal_book::{Consolidator, JournalFault};
+use journal_book::Consolidator;
 use line_arbiter::Arbiter;
 use mold_packet::read_packet;
 use std::alloc::{AllocError, Global};
@@ -67,53 +67,13 @@ fn advice_on(notice: &Notice) -> Advice
     }
 }
 
-/// One venue's two lines, in sequence, and the journal of what they bring.
-#[derive(Drop)]
-struct Market {
-    venue: VenueId,
-    arbiter: Arbiter<Anything>,
-    journal: Consolidator,
-}
-
-impl Market {
-    /// A market of venue 0 and ACME, with nothing taken. None where memory was refused.
-    fn new(alloc: Global) -> Option<Market> {
-        let venue = VenueId::new(0)?;
-        let symbol = SymbolName::from_text(b"ACME")?;
-        Some(Market {
-            venue,
-            arbiter: Arbiter::new(alloc, venue, SESSION, WINDOW).ok()?,
-            journal: Consolidator::new(alloc, &[symbol], 1, 1_000).ok()?,
-        })
+/// The datagrams, each with its line.
+fn datagrams(alloc: Global) -> Result<Vec<(LineId, Vec<u8>)>, AllocError> {
+    let mut datagrams = Vec::new(alloc);
+    for (line, number, bid, offer) in ARRIVALS {
+        datagrams.push((line, datagram_of(alloc, number, bid, offer)?))?;
     }
-
-    /// Takes a datagram, and journals what is in sequence then. A packet that is refused changes nothing.
-    fn take(&mut self, alloc: Global, arrival: Arrival) -> Result<(), JournalFault> {
-        let (line, number, bid, offer) = arrival;
-        let Ok(datagram) = datagram_of(alloc, number, bid, offer) else {
-            return Err(JournalFault::NoMemory);
-        };
-        if let Ok(packet) = read_packet(datagram.as_slice()) {
-            let _answer = self.arbiter.take(line, &packet);
-        }
-        self.journal_ready()
-    }
-
-    /// Journals the items that are in sequence: a window of messages and End at most.
-    fn journal_ready(&mut self) -> Result<(), JournalFault> {
-        for _ in 0..=WINDOW {
-            let Some(numbered) = self.arbiter.next_ready() else {
-                break;
-            };
-            if self.venue.index() >= self.journal.venue_count() {
-                return Err(JournalFault::UnknownVenue);
-            }
-            self.journal.reserve_one()?;
-            self.arbiter.advance();
-            let _position = self.journal.record(self.venue, numbered);
-        }
-        Ok(())
-    }
+    Ok(datagrams)
 }
 
 /// Prints what the strategy advises at a change of the national best.
@@ -121,40 +81,56 @@ fn print_advice(rt: &HostRuntime, change: u64, advice: Advice) -> io::Result<()>
     println!(rt; "change {change}: {advice:?}")
 }
 
-/// Prints why a datagram wasn't taken, if it wasn't.
-fn print_end(rt: &HostRuntime, taken: Result<(), JournalFault>) -> io::Result<()> {
-    match taken {
-        Ok(()) => Ok(()),
-        Err(fault) => println!(rt; "{fault}"),
-    }
-}
-
 fn main(rt: HostRuntime) -> io::Result<()> {
     let alloc: Global = rt.alloc();
-    // Stored closures are made where they are used: no function hands one out.
+    let datagrams = datagrams(alloc)?;
+    let (Some(venue), Some(symbol)) = (VenueId::new(0), SymbolName::from_text(b"ACME")) else {
+        return Ok(());
+    };
+    // Stored closures are made where they are used: no function hands one out. Nor is what holds one, as
+    // the journal, handed to a function of another crate.
     let advise = Box::new(
         alloc,
         |notice: &Notice| -> Advice
             requires { Unit {0} }
             ensures { IsAllowed (record { max_size = 200 }) notice.now result }
         { advice_on(notice) },
-    )?;
-    let mut strategy = Strategy::new(Limits { max_size: MAX_SIZE }, advise);
-    let Some(mut market) = Market::new(alloc) else {
-        return println!(rt; "no memory for a market");
+    );
+    let (Ok(advise), Ok(mut arbiter), Ok(mut journal)) = (
+        advise,
+        Arbiter::<Anything>::new(alloc, venue, SESSION, WINDOW),
+        Consolidator::new(alloc, &[symbol], 1, 1_000),
+    ) else {
+        return println!(rt; "no memory");
     };
+    let mut strategy = Strategy::new(Limits { max_size: MAX_SIZE }, advise);
     let mut asked = 0;
-    let mut taken = Ok(());
-    for arrival in ARRIVALS {
-        taken = market.take(alloc, arrival);
-        let changes = market.journal.changes();
-        for notice in changes.get(asked..).unwrap_or(&[]) {
+    for (line, datagram) in &datagrams {
+        if let Ok(packet) = read_packet(datagram.as_slice()) {
+            // A packet that is refused changes nothing.
+            let _answer = arbiter.take(*line, &packet);
+        }
+        // After a packet there are at most a window of messages in sequence, and End.
+        for _ in 0..=WINDOW {
+            let Some(numbered) = arbiter.next_ready() else {
+                break;
+            };
+            if venue.index() >= journal.venue_count() || journal.reserve_one().is_err() {
+                break;
+            }
+            arbiter.advance();
+            let _position = journal.record(venue, numbered);
+        }
+        for notice in journal.changes().get(asked..).unwrap_or(&[]) {
             print_advice(&rt, notice.number, strategy.advise(notice))?;
         }
-        if taken.is_err() {
-            break;
-        }
-        asked = changes.len();
+        asked = journal.changes().len();
     }
-    print_end(&rt, taken)
+    match arbiter.next_ready() {
+        None => Ok(()),
+        Some(numbered) => {
+            let number = numbered.number;
+            println!(rt; "there is no room in the journal for message {number}")
+        }
+    }
 }
