@@ -1,6 +1,6 @@
 //! The attendant of a run at its work, beside the run's thread: it takes what the subscriber is offered,
 //! prints it where that is asked for, says what was counted, and stops the run where it is to end.
-ghost use Rattle.std.specs.Prelude.{◌≡◌, ◌∷◌, [], IfOk, None, map};
+ghost use Rattle.std.specs.Prelude.{◌≡◌, IfOk, None};
 ghost use Rattle.feed_text.specs.Devices.{Writing};
 ghost use Rattle.udp_listening.specs.Listening.{KeepsFollowing};
 
@@ -105,8 +105,7 @@ impl<N: FeedName, C: Clock + Drop, W: TextOut, E: TextOut> Attendance<N, C, W, E
         ran: Option<Ran<N, C>>,
         statuses: Result<Vec<VenueStatus>, AllocError>,
     ) -> (Result<ClosedRun<N>, ListenFault>, Desk<W, E>)
-        ensures log { IfOk result.0 (λ closed.
-            map (λ s. s.log) closed.subscribers.items ≡ self.log ∷ []) }
+        ensures log { IfOk result.0 (λ closed. closed.log ≡ self.log) }
         ensures desk { result.1 ≡ record (self.desk) { errors = result.1.errors } }
         ensures quiet { self.attendant.counts ≡ None → result.1.errors ≡ self.desk.errors }
     {

@@ -1,5 +1,5 @@
 //! What is left of a run that is over.
-ghost use Rattle.std.specs.Prelude.{◌≡◌, ◌∷◌, [], IfOk, map};
+ghost use Rattle.std.specs.Prelude.{◌≡◌, IfOk};
 
 use crate::attendant::Attendant;
 use crate::ended_lines::{EndedLines, part_lines};
@@ -7,7 +7,7 @@ use crate::lack::{Lack, lacks_in};
 use crate::listening::ListenFault;
 use crate::udp_line::UdpLine;
 use feed_types::Anything;
-use live_feed::{FeedName, LineEnd, Stop, Subscriber, SubscriberLog, VenueStatus};
+use live_feed::{FeedName, LineEnd, Stop, SubscriberLog, VenueStatus};
 use std::alloc::Global;
 use std::time::Clock;
 
@@ -19,8 +19,8 @@ pub type Ran<N, C> = (Vec<LineEnd<Anything, N, UdpLine<C>>>, Option<Stop>);
 pub struct ClosedRun<N: FeedName> {
     /// What is left of its lines.
     pub ended: EndedLines<N>,
-    /// Its one subscriber.
-    pub subscribers: Vec<Subscriber<N>>,
+    /// The log of its one subscriber.
+    pub log: SubscriberLog<N>,
     /// Why it stopped early, if it did.
     pub stopped: Option<Stop>,
     /// What is missing, of each venue that lacks anything.
@@ -36,17 +36,14 @@ pub fn closed_run<N: FeedName, C: Clock + Drop>(
     log: SubscriberLog<N>,
     statuses: &[VenueStatus],
 ) -> Result<ClosedRun<N>, ListenFault>
-    ensures { IfOk result (λ closed. map (λ s. s.log) closed.subscribers.items ≡ log ∷ []) }
+    ensures { IfOk result (λ closed. closed.log ≡ log) }
 {
-    let (Some((lines, stopped)), Ok(subscribers)) = (
-        ran,
-        Vec::from_array(alloc, [log.into_subscriber()]),
-    ) else {
+    let Some((lines, stopped)) = ran else {
         return Err(ListenFault::NoMemory);
     };
     Ok(ClosedRun {
         ended: part_lines(alloc, lines)?,
-        subscribers,
+        log,
         stopped: attendant.reason(stopped),
         lacking: lacks_in(alloc, statuses)?,
     })

@@ -199,12 +199,15 @@ where
     let (closed, desk) = attendance.close(alloc, ran, statuses);
     let ClosedRun {
         ended,
-        subscribers,
+        log,
         stopped,
         lacking,
     } = match closed {
         Ok(run) => run,
         Err(fault) => return unreported(fault, desk),
+    };
+    let Ok(subscribers) = Vec::from_array(alloc, [log.into_subscriber()]) else {
+        return unreported(ListenFault::NoMemory, desk);
     };
     let outcome = match feed.settle(rt, alloc, ended.seats, subscribers) {
         Ok(settlement) => Ok(ListenReport {

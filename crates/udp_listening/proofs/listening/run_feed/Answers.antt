@@ -1,6 +1,6 @@
-use Rattle.std.proofs.Common.{◌≡◌, [], ◌∷◌, ◌∙◌, map, subst, sym, List}
+use Rattle.std.proofs.Common.{◌≡◌, [], ◌∷◌, ◌∙◌, ap, map, subst, sym, List}
 use Rattle.std.proofs.lemmas.Result.{IfOk-at_ok}
-use Rattle.std.specs.Prelude.{Result, codes}
+use Rattle.std.specs.Prelude.{Result, Err, codes}
 use mir.Syntax.{Sym, named}
 use denote.RattleType.{RattleType}
 use denote.Ref.{ShrRef}
@@ -23,6 +23,8 @@ use Rattle.live_feed.specs.declared.subscriber.logged.Logged.{Logged}
 use Rattle.udp_listening.specs.Listening.{HasFollowed, HasListened}
 use Rattle.udp_listening.specs.declared.desk.Desk.{Desk}
 use Rattle.udp_listening.specs.declared.listening.ListenFault.{ListenFault}
+use Rattle.udp_listening.specs.declared.listening.ListenFault.TheVariants.{NoMemory}
+use Rattle.udp_listening.specs.declared.listening.Listened.{Listened}
 use Rattle.udp_listening.specs.declared.listening.ListenReport.{ListenReport}
 use Rattle.udp_listening.specs.contracts.run_progress.RunProgress as RunProgress
 use Rattle.udp_listening.specs.contracts.udp_line.UdpLine as UdpLine
@@ -49,15 +51,30 @@ closed : {W E : Type 0} (writing : Writing W) (first : W) (log : List Logged) (a
     → Shows writing first log desk
 closed writing first log attended desk shown same = subst (λ d. Shows writing first log d) (sym same) shown
 
+-- then, too, where there is no report
+unreported : {W E : Type 0} (writing : Writing W) (first : W) (log : List Logged) (attended desk : Desk W E)
+    → Shows writing first log attended → desk ≡ record attended { errors = desk.errors }
+    → (fault : ListenFault) (r : Listened W E) → r ≡ record { outcome = Err fault; desk = desk }
+    → Ends writing first r.outcome r.desk
+unreported writing first log attended desk shown same fault r is =
+    subst (λ r. Ends writing first r.outcome r.desk) (sym is)
+    (log, closed writing first log attended desk shown same)
+
 pub returns-in-Err-closed-clause-listened : goal.returns-in-Err-closed-clause-listened
 returns-in-Err-closed-clause-listened g c =
     let w : Writing g.row.W.Denot = record { adds = g.W.TextOut.adds; failures = g.W.TextOut.failures } in
-    let first = c.args.task.desk.output in
     let attended = c.join-ran.result.1 in
-    let told = closed w first attended.log.lines attended.desk c.close-closed.result.1
-    (c.join-ran.ensures.second.0 first (c.requires.unprinted _)) c.close-closed.ensures.desk in
-    subst (λ r. Ends w first r.outcome r.desk)
-    (sym c.unreported-in-Err-closed.ensures) (attended.log.lines, told)
+    unreported w c.args.task.desk.output attended.log.lines attended.desk c.close-closed.result.1
+    (c.join-ran.ensures.second.0 _ (c.requires.unprinted _)) c.close-closed.ensures.desk
+    _ _ c.unreported-in-Err-closed.ensures
+
+pub returns-in_default-from_array-clause-listened : goal.returns-in_default-from_array-clause-listened
+returns-in_default-from_array-clause-listened g c =
+    let w : Writing g.row.W.Denot = record { adds = g.W.TextOut.adds; failures = g.W.TextOut.failures } in
+    let attended = c.join-ran.result.1 in
+    unreported w c.args.task.desk.output attended.log.lines attended.desk c.close-closed.result.1
+    (c.join-ran.ensures.second.0 _ (c.requires.unprinted _)) c.close-closed.ensures.desk
+    NoMemory _ c.unreported-in_default-from_array.ensures
 
 pub returns-clause-listened : goal.returns-clause-listened
 returns-clause-listened g c =
@@ -67,13 +84,16 @@ returns-clause-listened g c =
     let desk = c.close-closed.result.1 in
     let told = closed w first attended.log.lines attended.desk desk
     (c.join-ran.ensures.second.0 first (c.requires.unprinted _)) c.close-closed.ensures.desk in
-    let own = IfOk-at_ok (λ run. map (λ s. s.log) run.subscribers.items ≡ attended.log ∷ [])
-    c.in-Ok-closed.is c.close-closed.ensures.log in
+    let kept = IfOk-at_ok (λ run. run.log ≡ attended.log) c.in-Ok-closed.is c.close-closed.ensures.log in
+    let t = c.into_subscriber.result.log in
+    let own : t.lines ≡ attended.log.lines
+    = ap (λ l. l.lines) (c.into_subscriber.ensures.log ∙ kept) in
     elim c.match-settle.branch [
       | in-Ok-settle w' ↦
+          let same = settled_log_of t (ap (λ l. map (λ s. s.log) l) c.in-Ok-from_array.ensures.items)
+          w'.in-Ok-settle.ensures.settled in
           subst (λ o. Ends w first o desk) (sym w'.outcome-is)
-          (subst (λ l. Shows w first l desk)
-          (sym (settled_log_of attended.log own w'.in-Ok-settle.ensures.settled)) told)
+          (subst (λ l. Shows w first l desk) (sym (same ∙ own)) told)
       | in-Err-settle w' ↦
           subst (λ o. Ends w first o desk) (sym w'.outcome-is) (attended.log.lines, told)
     ]
