@@ -6,7 +6,7 @@ import shutil
 import subprocess
 from pathlib import Path
 
-from .kit import test_words
+from .kit import root_file, test_words
 from .program import ROOT
 
 TESTS = ROOT / 'tests'
@@ -34,7 +34,7 @@ def place_tests(crate: str, copy: Path) -> None:
     if refuses_memory(crate, copy):
         (source / 'tests').mkdir(exist_ok=True)
         shutil.copy(TESTS / 'refusing.source', source / 'tests' / 'refusing.rt')
-    root = source / ('lib.rt' if (source / 'lib.rt').exists() else 'main.rt')
+    root = copy / 'crates' / crate / root_file(crate)
     if not re.search('^mod tests;', root.read_text(), re.M):
         root.write_text(root.read_text() + '\n#[cfg(test)]\nmod tests;\n')
 

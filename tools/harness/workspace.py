@@ -1,0 +1,62 @@
+"""A program over crates of the repository, proved and built in a folder outside of it.
+
+The gate need not prove such a program, and `rt ci` refuses a repository below which there is a second crates.txt.
+"""
+
+import os
+import re
+import shutil
+import subprocess
+import sys
+import tempfile
+from collections.abc import Callable, Sequence
+from hashlib import sha256
+from pathlib import Path
+
+from .kit import crate_lines, crates_below
+from .program import ROOT
+
+
+def folder_of(program: str) -> Path:
+    """The folder in which a program is built: of this repository and this user, and kept."""
+    return Path(tempfile.gettempdir()) / f'{program}-{os.getuid()}-{sha256(bytes(ROOT)).hexdigest()[:16]}'
+
+
+def copy_crate(crate: str, crates: Path) -> None:
+    """Copies the files of a crate that its proof reads."""
+    for part in ('src', 'specs', 'proofs'):
+        shutil.rmtree(crates / crate / part, ignore_errors=True)
+        if (ROOT / 'crates' / crate / part).is_dir():
+            shutil.copytree(ROOT / 'crates' / crate / part, crates / crate / part)
+
+
+def built(source: Path, uses: str, words: Sequence[str] = (), place: Callable[[Path], None] | None = None) -> Path:
+    """Proves and builds the program that a file NAME.program holds, and returns where it lies.
+
+    `uses` names the libraries that it uses, and `words` are some with which it has next to nothing to do, since `rt ci`
+    runs it once. `place` writes into the program's crate what the prover needs beside the source. `rt ci` finds again
+    what it has proved of the crates below.
+    """
+    name, workspace = source.stem, folder_of(source.stem)
+    crate = workspace / 'crates' / name
+    program = crate / 'out' / name
+    (crate / 'src').mkdir(parents=True, exist_ok=True)
+    program.unlink(missing_ok=True)  # one of an earlier run doesn't stand in for one that can't be built
+    if not (workspace / '.git').exists():
+        subprocess.run(['git', 'init', '-q', workspace], check=True)
+    shutil.copy(ROOT / 'HANDLES', workspace)
+    below = crates_below(uses.split())
+    for library in below:
+        copy_crate(library, workspace / 'crates')
+    lines = [*(crate_lines()[it] for it in below), f'{name}: {uses}', '']
+    (workspace / 'crates.txt').write_text('\n'.join(lines))
+    shutil.copy(source, crate / 'src' / 'main.rt')
+    (crate / 'args').write_text(''.join(f'{word}\n' for word in words))
+    if place is not None:
+        place(crate)
+    # Its status says nothing, since it compares what the program prints with a text that isn't there.
+    how = {'stdin': subprocess.DEVNULL, 'stdout': subprocess.PIPE, 'stderr': subprocess.STDOUT}
+    said = subprocess.run(['rt', 'ci'], cwd=workspace, check=False, text=True, **how).stdout
+    if not re.search(rf'^rt: {name} (proved$|is kept)', said, re.M) or not program.exists():
+        sys.exit(f'{said}\n{name} could not be built')
+    return program
