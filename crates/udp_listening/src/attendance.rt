@@ -5,7 +5,7 @@ ghost use Rattle.feed_text.specs.Devices.{Writing};
 ghost use Rattle.udp_listening.specs.Listening.{KeepsFollowing};
 
 use crate::attendant::{Attendant, Turn};
-use crate::closed_run::{ClosedRun, Ran, closed_run};
+use crate::closed_run::{ClosedRun, RunOutcome, closed_run};
 use crate::desk::Desk;
 use crate::listening::ListenFault;
 use feed_text::{LineBuffer, TextOut};
@@ -102,7 +102,7 @@ impl<N: FeedName, C: Clock + Drop, W: TextOut, E: TextOut> Attendance<N, C, W, E
     pub fn close(
         self,
         alloc: Global,
-        ran: Option<Ran<N, C>>,
+        ran: Option<RunOutcome<N, C>>,
         statuses: Result<Vec<VenueStatus>, AllocError>,
     ) -> (Result<ClosedRun<N>, ListenFault>, Desk<W, E>)
         ensures log { IfOk result.0 (λ closed. closed.log ≡ self.log) }

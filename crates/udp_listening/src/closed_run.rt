@@ -12,7 +12,7 @@ use std::alloc::Global;
 use std::time::Clock;
 
 /// What a run returned: its lines, and why it stopped early, if it did.
-pub type Ran<N, C> = (Vec<LineEnd<Anything, N, UdpLine<C>>>, Option<Stop>);
+pub type RunOutcome<N, C> = (Vec<LineEnd<Anything, N, UdpLine<C>>>, Option<Stop>);
 
 /// What of a run is to be settled, and what is to be reported of it.
 #[derive(Drop)]
@@ -31,7 +31,7 @@ pub struct ClosedRun<N: FeedName> {
 /// NoMemory where memory was or is refused.
 pub fn closed_run<N: FeedName, C: Clock + Drop>(
     alloc: Global,
-    ran: Option<Ran<N, C>>,
+    ran: Option<RunOutcome<N, C>>,
     attendant: &Attendant<C>,
     log: SubscriberLog<N>,
     statuses: &[VenueStatus],
