@@ -4,7 +4,6 @@ use Rattle.std.specs.Prelude.{◌==◌, ◌&&◌, ◌||◌, not, nat_lt, is_some
 use Rattle.std.proofs.lemmas.Bool.{and_left, and_right, cases_order, cond-true, cond-false, eq-eqb, le-ltb, lt-ltb, ne_eqb, or_right}
 use Rattle.feed_types.specs.declared.line.LineId.{LineId}
 use Rattle.feed_types.specs.declared.line.LineId.TheVariants.{A, B, Recovery}
-use Rattle.feed_types.specs.Text.{line_letter}
 use Rattle.line_arbiter.specs.Streams.{is_same_line}
 use Rattle.capture_timing.specs.declared.line_leads.FirstArrival.{FirstArrival}
 use Rattle.capture_timing.specs.Leads.{HoldsFirst, IsFirstOn, MessageOn, first_of_two, first_on, held_after, is_passed, message_on}
@@ -93,10 +92,15 @@ holds_more window line m t n came held less holds =
 
 -- ---- a later message
 
+pub same_line : (line : LineId) → is_same_line line line ≡ true
+same_line A = refl
+same_line B = refl
+same_line Recovery = refl
+
 on_same : (line : LineId) (m t : ℕ) (came : List MessageOn)
     → first_on line m (message_on line m t ∷ came) ≡ first_of_two (first_on line m came) (Some t)
 on_same line m t came =
-    rw (eq-eqb (line_letter line) (line_letter line) refl, eq-eqb m m refl) refl
+    rw (same_line line, eq-eqb m m refl) refl
 
 on_apart : (line at : LineId) (m t n : ℕ) (came : List MessageOn) → is_same_line line at ≡ false
     → first_on at n (message_on line m t ∷ came) ≡ first_on at n came
@@ -171,7 +175,7 @@ first_again one two t came held apart is = record {
   first = first_kept (first_on one held.number came) _ held.time is.first;
   met = ap is_some (on_apart one two held.number t held.number came apart) ∙ is.met
       ∙ sym (ap (λ (b : Bool). held.is_met || not b)
-      (ap (λ (line : LineId). is_same_line line one) is.line_is ∙ eq-eqb (line_letter one) (line_letter one) refl)
+      (ap (λ (line : LineId). is_same_line line one) is.line_is ∙ same_line one)
       ∙ or_none held.is_met);
 }
 

@@ -5,14 +5,13 @@ use Rattle.std.proofs.Math.ListN.{length-set}
 use Rattle.std.proofs.lemmas.Bool.{and_left, and_right, and_from, cases_eq, cases_order, cond-true, cond-false, eq-eqb, ne_eqb, or_right}
 use Rattle.feed_types.specs.declared.line.LineId.{LineId}
 use Rattle.feed_types.specs.declared.line.LineId.TheVariants.{A, B, Recovery}
-use Rattle.feed_types.specs.Text.{line_letter}
 use Rattle.line_arbiter.specs.Streams.{is_same_line}
 use Rattle.capture_timing.specs.declared.line_leads.FirstArrival.{FirstArrival}
 use Rattle.capture_timing.specs.declared.line_leads.LineLeads.{LineLeads}
 use Rattle.capture_timing.specs.declared.durations.Durations.{Durations}
 use Rattle.capture_timing.specs.Durations.{AreCounted}
 use Rattle.capture_timing.specs.Leads.{AreLeadsOf, HoldsFirst, IsFirstOn, MessageOn, first_on, held_after, is_passed, lead_between, lead_by, leads_of, message_on}
-use Rattle.capture_timing.proofs.Leading.{holds_elsewhere, holds_here}
+use Rattle.capture_timing.proofs.Leading.{holds_elsewhere, holds_here, same_line}
 
 -- ---- leads
 
@@ -71,9 +70,6 @@ led_apart : (window : ℕ) (one two line : LineId) (m t : ℕ) (came : List Mess
 led_apart window one two line m t came apart =
     skipped (is_same_line line two && not (is_passed window m came)) _ _
     (and_left (is_same_line line two) (not (is_passed window m came)) apart)
-
-same_line : (line : LineId) → is_same_line line line ≡ true
-same_line line = eq-eqb (line_letter line) (line_letter line) refl
 
 held_on : (one two : LineId) (line : LineId) (came : List MessageOn) (held : FirstArrival)
     → IsFirstOn one two came held → is_same_line held.line line ≡ is_same_line one line

@@ -19,7 +19,7 @@ use Rattle.command_words.specs.declared.addresses.LinesFault.{LinesFault}
 use Rattle.command_words.specs.declared.addresses.LinesFault.TheVariants as lines
 use Rattle.command_words.specs.declared.replay_settings.ReplaySettings.{ReplaySettings}
 use Rattle.command_words.specs.declared.refusal.Refusal.{Refusal}
-use Rattle.command_words.specs.declared.refusal.Refusal.TheVariants.{Shown, Usage, NotText, BadSession, TooManySessions, BadLines, BadRequest, BadFormat, BadSymbol, TooManySymbols, DuplicateSymbol, NoMemory}
+use Rattle.command_words.specs.declared.refusal.Refusal.TheVariants.{Shown, Usage, NotText, BadSession, TooManySessions, BadLines, BadRequest, BadFormat, BadEnd, BadSymbol, TooManySymbols, DuplicateSymbol, NoMemory}
 
 not_some : {A : Type 0} (x : A) → Some x ≡ None → ⊥
 not_some x e = let bad : true ≡ false = ap is_some e in absurd (cc)
@@ -90,6 +90,7 @@ GivesNoStats-feed rows TooManySessions none = none
 GivesNoStats-feed rows BadLines none = absurd none
 GivesNoStats-feed rows BadRequest none = absurd none
 GivesNoStats-feed rows BadFormat none = absurd none
+GivesNoStats-feed rows BadEnd none = absurd none
 GivesNoStats-feed rows BadSymbol none = none
 GivesNoStats-feed rows TooManySymbols none = none
 GivesNoStats-feed rows DuplicateSymbol none = none
@@ -128,6 +129,7 @@ IsRefused-listening words TooManySessions taken listens none = listens_for_none 
 IsRefused-listening words BadLines taken listens none = listens_for_none words BadLines taken listens none
 IsRefused-listening words BadRequest taken listens none = listens_for_none words BadRequest taken listens none
 IsRefused-listening words BadFormat taken listens none = absurd none
+IsRefused-listening words BadEnd taken listens none = listens_for_none words BadEnd taken listens none
 IsRefused-listening words BadSymbol taken listens none = listens_for_none words BadSymbol taken listens none
 IsRefused-listening words TooManySymbols taken listens none = listens_for_none words TooManySymbols taken listens none
 IsRefused-listening words DuplicateSymbol taken listens none = listens_for_none words DuplicateSymbol taken listens none
@@ -149,6 +151,7 @@ IsRefused-converting words BadLines taken converts none = record {
 }
 IsRefused-converting words BadRequest taken converts none = absurd none
 IsRefused-converting words BadFormat taken converts none = absurd none
+IsRefused-converting words BadEnd taken converts none = absurd none
 IsRefused-converting words BadSymbol taken converts none = absurd none
 IsRefused-converting words TooManySymbols taken converts none = absurd none
 IsRefused-converting words DuplicateSymbol taken converts none = absurd none
@@ -173,6 +176,7 @@ IsRefused-counting words TooManySessions taken counts none = counts_none words T
 IsRefused-counting words BadLines taken counts none = counts_none words BadLines taken counts none
 IsRefused-counting words BadRequest taken counts none = absurd none
 IsRefused-counting words BadFormat taken counts none = counts_none words BadFormat taken counts none
+IsRefused-counting words BadEnd taken counts none = absurd none
 IsRefused-counting words BadSymbol taken counts none = counts_none words BadSymbol taken counts none
 IsRefused-counting words TooManySymbols taken counts none = counts_none words TooManySymbols taken counts none
 IsRefused-counting words DuplicateSymbol taken counts none = counts_none words DuplicateSymbol taken counts none
@@ -193,6 +197,7 @@ IsRefused-by words kind TooManySessions is among = absurd is
 IsRefused-by words kind BadLines is among = absurd is
 IsRefused-by words kind BadRequest is among = absurd is
 IsRefused-by words kind BadFormat is among = absurd is
+IsRefused-by words kind BadEnd is among = absurd is
 IsRefused-by words kind BadSymbol is among = absurd is
 IsRefused-by words kind TooManySymbols is among = absurd is
 IsRefused-by words kind DuplicateSymbol is among = absurd is

@@ -18,6 +18,7 @@ use Rattle.feed_text.specs.declared.formats.BestFormat.{BestFormat}
 use Rattle.feed_text.specs.declared.formats.StatsFormat.{StatsFormat}
 use Rattle.command_words.specs.BestFormats.{HasFormatFault, NamesFormat}
 use Rattle.command_words.specs.Commands.{nbbo_app}
+use Rattle.command_words.specs.EndRules.{NamesEndRule, NamesNoEndRule}
 use Rattle.command_words.specs.Sessions.{sessions_in}
 use Rattle.command_words.specs.declared.addresses.LinesFault.{LinesFault}
 use Rattle.command_words.specs.declared.addresses.LinesFault.TheVariants as lines
@@ -37,7 +38,7 @@ use Rattle.command_words.specs.declared.stats_settings.StatsSettings.{StatsSetti
 use Rattle.command_words.specs.declared.task.Task.{Task}
 use Rattle.command_words.specs.declared.task.Task.TheVariants.{Replay, ReplayLines, Convert, Listen, Stats}
 use Rattle.command_words.specs.declared.refusal.Refusal.{Refusal}
-use Rattle.command_words.specs.declared.refusal.Refusal.TheVariants.{Shown, Usage, NotText, BadSession, TooManySessions, BadLines, BadRequest, BadFormat, BadSymbol, TooManySymbols, DuplicateSymbol, NoMemory}
+use Rattle.command_words.specs.declared.refusal.Refusal.TheVariants.{Shown, Usage, NotText, BadSession, TooManySessions, BadLines, BadRequest, BadFormat, BadEnd, BadSymbol, TooManySymbols, DuplicateSymbol, NoMemory}
 use Rattle.std.specs.declared.net.socket_addr.SocketAddr.{SocketAddr}
 use Rattle.line_captures.specs.declared.captured_line.CapturedLine.{CapturedLine}
 
@@ -149,6 +150,7 @@ pub record GivesListening (rows : List Row) (settings : ListenSettings) : Type 0
   pub request : NamesRequest settings.lines.items (first_of (codes "request") rows)
       settings.request
   pub datagrams : IsCount (one_of (codes "datagrams") rows) settings.datagrams
+  pub end : NamesEndRule (first_of (codes "end") rows) settings.end
   pub buffer : IsGivenCount (one_of (codes "buffer") rows) settings.buffer
   pub seconds : IsGivenCount (one_of (codes "seconds") rows) settings.seconds
   pub until_input_ends : IsFlag (one_of (codes "until-input-ends") rows) settings.until_input_ends
@@ -211,6 +213,7 @@ GivesNoFeed rows NotText = ⊥
 GivesNoFeed rows BadLines = ⊥
 GivesNoFeed rows BadRequest = ⊥
 GivesNoFeed rows BadFormat = ⊥
+GivesNoFeed rows BadEnd = ⊥
 
 -- The format is wrong, where the list of sessions and the symbols are right.
 pub record ReplaysInNoFormat (rows : List Row) : Type 0 where
@@ -238,6 +241,7 @@ GivesNone rows BadSymbol = GivesNoFeed rows BadSymbol
 GivesNone rows TooManySymbols = GivesNoFeed rows TooManySymbols
 GivesNone rows DuplicateSymbol = GivesNoFeed rows DuplicateSymbol
 GivesNone rows BadFormat = ReplaysInNoFormat rows
+GivesNone rows BadEnd = ⊥
 GivesNone rows NoMemory = Unit {0}
 GivesNone rows (Shown text) = ⊥
 GivesNone rows (Usage text) = ⊥
@@ -276,6 +280,7 @@ GivesNoStats rows (Shown text) = ⊥
 GivesNoStats rows (Usage text) = ⊥
 GivesNoStats rows NotText = ⊥
 GivesNoStats rows BadRequest = ⊥
+GivesNoStats rows BadEnd = ⊥
 
 -- The values of the option of convert give no lines.
 abbrev pub GivesNoConversion : List Row → Refusal → Type 0
@@ -291,6 +296,7 @@ GivesNoConversion rows (Usage text) = ⊥
 GivesNoConversion rows NotText = ⊥
 GivesNoConversion rows BadRequest = ⊥
 GivesNoConversion rows BadFormat = ⊥
+GivesNoConversion rows BadEnd = ⊥
 
 -- The list of sessions is right, and this holds of its length.
 abbrev pub GivesVenues : List Row → (ℕ → Type 0) → Type 0
@@ -310,8 +316,17 @@ pub record ListensForNoSymbols (rows : List Row) (fault : SymbolsFault) : Type 0
       × NamesRequest lines (first_of (codes "request") rows) request)
   pub symbols : HasSymbolsFault (symbol_words_in rows) fault
 
+-- The rule for ends is none, where all that is looked at before is right.
+pub record ListensToNoEnd (rows : List Row) : Type 0 where
+  pub lines : GivesLines rows
+      (λ lines. (request : Option SocketAddr)
+      × NamesRequest lines (first_of (codes "request") rows) request)
+  pub symbols : List Text
+  pub named : NameSymbols (symbol_words_in rows) symbols
+  pub fault : NamesNoEndRule (first_of (codes "end") rows)
+
 -- The values of the options of listen give no settings: the sessions are looked at first, then the
--- lines, the address for requests, and the symbols.
+-- lines, the address for requests, the symbols, and the rule for ends.
 abbrev pub GivesNoListening : List Row → Refusal → Type 0
 GivesNoListening rows BadSession = sessions_in (list_in rows) ≡ Err sessions.BadSession
 GivesNoListening rows TooManySessions = sessions_in (list_in rows) ≡ Err sessions.TooManySessions
@@ -322,6 +337,7 @@ GivesNoListening rows BadRequest =
 GivesNoListening rows BadSymbol = ListensForNoSymbols rows symbols.BadSymbol
 GivesNoListening rows TooManySymbols = ListensForNoSymbols rows symbols.TooManySymbols
 GivesNoListening rows DuplicateSymbol = ListensForNoSymbols rows symbols.DuplicateSymbol
+GivesNoListening rows BadEnd = ListensToNoEnd rows
 GivesNoListening rows BadFormat = ⊥
 GivesNoListening rows NoMemory = Unit {0}
 GivesNoListening rows (Shown text) = ⊥
@@ -358,6 +374,7 @@ RefusesBy kind TooManySessions = ⊥
 RefusesBy kind BadLines = ⊥
 RefusesBy kind BadRequest = ⊥
 RefusesBy kind BadFormat = ⊥
+RefusesBy kind BadEnd = ⊥
 RefusesBy kind BadSymbol = ⊥
 RefusesBy kind TooManySymbols = ⊥
 RefusesBy kind DuplicateSymbol = ⊥
@@ -451,6 +468,7 @@ IsRefused words TooManySessions = GivesNoTask words TooManySessions
 IsRefused words BadLines = GivesNoTask words BadLines
 IsRefused words BadRequest = GivesNoTask words BadRequest
 IsRefused words BadFormat = GivesNoTask words BadFormat
+IsRefused words BadEnd = GivesNoTask words BadEnd
 IsRefused words BadSymbol = GivesNoTask words BadSymbol
 IsRefused words TooManySymbols = GivesNoTask words TooManySymbols
 IsRefused words DuplicateSymbol = GivesNoTask words DuplicateSymbol
@@ -468,6 +486,7 @@ refusal_status TooManySessions = 2
 refusal_status BadLines = 2
 refusal_status BadRequest = 2
 refusal_status BadFormat = 2
+refusal_status BadEnd = 2
 refusal_status BadSymbol = 2
 refusal_status TooManySymbols = 2
 refusal_status DuplicateSymbol = 2
@@ -483,6 +502,7 @@ refusal_text TooManySessions = codes "nbbo: too many sessions\n"
 refusal_text BadLines = codes "nbbo: bad lines\n"
 refusal_text BadRequest = codes "nbbo: bad request address\n"
 refusal_text BadFormat = codes "nbbo: bad format\n"
+refusal_text BadEnd = codes "nbbo: bad end\n"
 refusal_text BadSymbol = codes "nbbo: bad symbol\n"
 refusal_text TooManySymbols = codes "nbbo: too many symbols\n"
 refusal_text DuplicateSymbol = codes "nbbo: duplicate symbol\n"

@@ -1,7 +1,7 @@
 -- The commands of the program with their options, as the crate clap sees them.
 use Rattle.std.specs.Prelude.{codes, true}
 use Rattle.clap.specs.Simple.{App, new_app, on_top, with_rule, with_subcommand}
-use Rattle.command_words.specs.ListenOptions.{buffer_rule, datagrams_rule, follow_rule, request_rule, seconds_rule, stats_rule, until_input_ends_rule}
+use Rattle.command_words.specs.ListenOptions.{buffer_rule, datagrams_rule, follow_rule, request_rule, seconds_rule, stats_rule, until_input_ends_rule, which_end_rule}
 use Rattle.command_words.specs.Options.{captured_lines_rule, format_rule, journal_rule, lines_rule, sessions_rule, symbols_rule, window_rule}
 use Rattle.command_words.specs.ReplayOptions.{best_only_rule, gaps_rule}
 
@@ -32,10 +32,14 @@ counts_app = with_rule (with_rule (with_rule lines_app window_rule) journal_rule
 -- listen with its options that say when it ends, too
 abbrev pub ends_app : App
 ends_app =
-    with_rule (with_rule (with_rule counts_app buffer_rule) seconds_rule) until_input_ends_rule
+    with_rule (with_rule (with_rule counts_app which_end_rule) seconds_rule) until_input_ends_rule
+
+-- listen with its options for the time until then, too
+abbrev pub meanwhile_app : App
+meanwhile_app = with_rule (with_rule (with_rule ends_app buffer_rule) follow_rule) stats_rule
 
 abbrev pub listen_app : App
-listen_app = with_rule (with_rule (with_rule ends_app follow_rule) stats_rule) symbols_rule
+listen_app = with_rule meanwhile_app symbols_rule
 
 -- the program without its subcommands, which then does nothing
 abbrev pub program_app : App

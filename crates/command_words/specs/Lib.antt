@@ -3,6 +3,7 @@ pub mod BestFormats
 pub mod CapturedLines
 pub mod CommandLine
 pub mod Commands
+pub mod EndRules
 pub mod ListenOptions
 pub mod Options
 pub mod ReplayOptions

@@ -21,6 +21,13 @@ datagrams_rule = record (new_rule (codes "datagrams")) {
   defaults = codes "1000000" ∷ [];
 }
 
+-- --end WHICH
+abbrev pub which_end_rule : Rule
+which_end_rule = record (new_rule (codes "end")) {
+  long = Some (codes "end");
+  value_names = 1;
+}
+
 -- --buffer BYTES, a number from 1 to 1073741823
 abbrev pub buffer_rule : Rule
 buffer_rule = record (new_rule (codes "buffer")) {

@@ -7,11 +7,13 @@ ghost use Rattle.clap.specs.Walk.{first_of, one_of, rows_of};
 ghost use Rattle.command_words.specs.Addresses.{HasLinesFault, NameLines, NamesNoRequest, NamesRequest};
 ghost use Rattle.command_words.specs.CommandLine.{Asks, Gives, GivesBadFormat, GivesBests, GivesFeed, GivesListening, GivesNoFeed, GivesNoListening, GivesNone, IsCount, IsFlag, IsGivenCount, IsRefused, IsAccepted, IsWindowOf, RefusesBy, lines_in, symbol_words_in};
 ghost use Rattle.command_words.specs.Commands.{nbbo_app};
+ghost use Rattle.command_words.specs.EndRules.{NamesEndRule, NamesNoEndRule};
 ghost use Rattle.command_words.specs.Symbols.{HasSymbolsFault, NameSymbols};
 
 use crate::addresses::{LinesFault, RequestFault, read_lines, read_request};
 use crate::best_format::{FormatFault, read_format};
 use crate::commands::nbbo_command;
+use crate::end_rule::{EndRule, EndRuleFault, read_end_rule};
 use crate::feed_settings::FeedSettings;
 use crate::limits::{DEFAULT_COUNT, DEFAULT_WINDOW};
 use crate::line_tasks::{conversion_of, replay_task};
@@ -158,6 +160,16 @@ fn request_of(
     read_request(listen.get_str("request"), lines)
 }
 
+/// The rule for ends of session that the option gives.
+fn end_rule_of(listen: &ArgMatches<'_>) -> Result<EndRule, EndRuleFault>
+    ensures ok { IfOk result
+        (NamesEndRule (first_of (codes "end") (rows_of (found_of listen.now)))) }
+    ensures err { IfErr result (λ _.
+        NamesNoEndRule (first_of (codes "end") (rows_of (found_of listen.now)))) }
+{
+    read_end_rule(listen.get_str("end"))
+}
+
 /// The settings of a feed that the options give, with room for `journal` entries.
 pub fn feed_of(
     alloc: Global,
@@ -202,11 +214,13 @@ fn listening_of(alloc: Global, listen: &ArgMatches<'_>) -> Result<ListenSettings
         window: window_of(listen),
         journal: count_of(listen, "journal"),
     };
+    let end = end_rule_of(listen)?;
     Ok(ListenSettings {
         feed,
         lines,
         request,
         datagrams: count_of(listen, "datagrams"),
+        end,
         buffer: given_count_of(listen, "buffer"),
         seconds: given_count_of(listen, "seconds"),
         until_input_ends: flag_of(listen, "until-input-ends"),

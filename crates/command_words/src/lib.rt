@@ -17,6 +17,7 @@ mod captured_lines;
 mod command_line;
 mod commands;
 mod convert_command;
+mod end_rule;
 mod feed_settings;
 mod limits;
 mod line_replay_settings;
@@ -38,6 +39,7 @@ mod symbols;
 mod task;
 
 pub use command_line::settings;
+pub use end_rule::EndRule;
 pub use feed_settings::FeedSettings;
 pub use line_replay_settings::LineReplaySettings;
 pub use listen_settings::ListenSettings;

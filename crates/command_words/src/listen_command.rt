@@ -2,11 +2,11 @@
 ghost use Rattle.std.specs.Prelude.{◌≡◌, IfOk, false, codes};
 ghost use Rattle.clap.specs.Simple.{app_of, new_app};
 ghost use Rattle.clap.specs.declared.builder.command.Command.TheViews.{out-Command as fields_of};
-ghost use Rattle.command_words.specs.Commands.{counts_app, ends_app, lines_app, listen_app};
+ghost use Rattle.command_words.specs.Commands.{counts_app, ends_app, lines_app, listen_app, meanwhile_app};
 
 use crate::listen_options::{
     buffer_option, datagrams_option, follow_flag, lines_option, request_option, seconds_option,
-    stats_option, until_input_ends_flag,
+    stats_option, until_input_ends_flag, which_end_option,
 };
 use crate::options::{journal_option, sessions_option, symbols_argument, window_option};
 use clap::Command;
@@ -20,9 +20,10 @@ Listens on the lines of live venues and prints what they came to.
 
 Each venue sends the same MoldUDP64 packets on two lines, A and B. Each line is received by UDP,
 in a thread of its own. What either line brings is put into one sequence, and the national best
-bid and offer of each symbol is kept. A line ends after an end of session, or after as many
-datagrams as --datagrams says; --seconds and --until-input-ends end all lines. Once they have
-ended, what changed is printed; with --follow each change is printed as it comes.";
+bid and offer of each symbol is kept. A line ends after an end of session, by default of any
+(--end), or after as many datagrams as --datagrams says; --seconds and --until-input-ends end
+all lines. Once they have ended, what changed is printed; with --follow each change is printed
+as it comes.";
 
 /// The usage of `listen`.
 const USAGE: &str = "nbbo listen [OPTIONS] --sessions <LIST> --lines <LIST> [SYMBOL]...";
@@ -75,7 +76,11 @@ interrupt end what the program reads, and not the program:
 
 Status:
   0  all lines ended and what they came to was printed, or help was shown. Standard error says
-     what else is to be known:
+     what else is to be known, at the end:
+       line V L couldn't send N requests
+                        as where a firewall refuses them or there is no route
+       line V L went on after N ends of session
+                        which by --end don't end it
        line V L ended by --datagrams
                         the line has read as many datagrams as it may
        venue V lacks COUNT messages from NUMBER
@@ -94,7 +99,13 @@ Status:
   2  the command line was refused; standard error says why. 'bad session', 'too many sessions',
      'bad symbol', 'too many symbols' and 'duplicate symbol' as of 'nbbo replay'; 'bad lines': not
      two addresses for each session; 'bad request address': it is none, or none that the lines
-     can send to (port 0, IP address 0.0.0.0 or [::], another version of IP than a line's)";
+     can send to (port 0, IP address 0.0.0.0 or [::], another version of IP than a line's);
+     'bad end': --end is neither any nor own nor none
+
+While it runs standard error says when a line ends or fails, and at its first request that can't
+be sent, and at the first end of session after which it goes on:
+  nbbo: second N line V L ended by an end of session
+.. ended by --datagrams, failed, can't send requests, goes on after an end of session";
 
 /// The texts of `listen`, without its options.
 fn listen_texts<'a>(alloc: Global) -> Command<'a>
@@ -137,9 +148,20 @@ fn ends_command<'a>(alloc: Global) -> Result<Command<'a>, AllocError>
     ensures local { IfOk result (λ c. (fields_of c).has_globals ≡ false) }
 {
     counts_command(alloc)?
-        .arg(buffer_option(alloc))?
+        .arg(which_end_option(alloc))?
         .arg(seconds_option(alloc))?
         .arg(until_input_ends_flag(alloc))
+}
+
+/// `listen` with its options for the time until then, too.
+fn meanwhile_command<'a>(alloc: Global) -> Result<Command<'a>, AllocError>
+    ensures app { IfOk result (λ c. app_of c ≡ meanwhile_app) }
+    ensures local { IfOk result (λ c. (fields_of c).has_globals ≡ false) }
+{
+    ends_command(alloc)?
+        .arg(buffer_option(alloc))?
+        .arg(follow_flag(alloc))?
+        .arg(stats_option(alloc))
 }
 
 /// The whole of `listen`.
@@ -147,8 +169,5 @@ pub fn listen_command<'a>(alloc: Global) -> Result<Command<'a>, AllocError>
     ensures app { IfOk result (λ c. app_of c ≡ listen_app) }
     ensures local { IfOk result (λ c. (fields_of c).has_globals ≡ false) }
 {
-    ends_command(alloc)?
-        .arg(follow_flag(alloc))?
-        .arg(stats_option(alloc))?
-        .arg(symbols_argument(alloc))
+    meanwhile_command(alloc)?.arg(symbols_argument(alloc))
 }

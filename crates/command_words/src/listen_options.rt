@@ -2,7 +2,7 @@
 //! `specs/ListenOptions.antt`.
 ghost use Rattle.std.specs.Prelude.{◌≡◌, false};
 ghost use Rattle.clap.specs.Walk.{rule_of};
-ghost use Rattle.command_words.specs.ListenOptions.{buffer_rule, datagrams_rule, follow_rule, request_rule, seconds_rule, stats_rule, until_input_ends_rule};
+ghost use Rattle.command_words.specs.ListenOptions.{buffer_rule, datagrams_rule, follow_rule, request_rule, seconds_rule, stats_rule, until_input_ends_rule, which_end_rule};
 ghost use Rattle.command_words.specs.Options.{lines_rule};
 
 use crate::limits::{MAX_BUFFER, text};
@@ -34,9 +34,10 @@ Where messages that are missing are asked for: the address of a retransmission s
 A request goes there from the socket of the line that found the gap, at once, and again
 while the gap stands, with the venue's next datagram that comes 250 ms or more later,
 from the line that it came on. A reply is read on the line that asked. The port isn't 0,
-nor the IP address 0.0.0.0 or [::], and it is of each line's version of IP. A fault of the
-socket at a request, as where a firewall refuses it or there is no route, ends the line
-that asks. Without this option nothing is asked for";
+nor the IP address 0.0.0.0 or [::], and it is of each line's version of IP. A request that
+can't be sent, as where a firewall refuses it or there is no route, ends nothing: standard
+error says so of each line, at the first one, and at the end how many there were. Without
+this option nothing is asked for";
 
 /// `--request ADDR`.
 pub fn request_option<'a>(alloc: Global) -> Arg<'a>
@@ -51,8 +52,8 @@ pub fn request_option<'a>(alloc: Global) -> Arg<'a>
 }
 
 const DATAGRAMS_HELP: &str = text!("\
-How many datagrams a line reads at most: 0 to " MAX_COUNT ". A line also ends after a
-datagram that is an end of session, of whichever session");
+How many datagrams a line reads at most: 0 to " MAX_COUNT ". A line also ends after an
+end of session, as --end says");
 
 /// `--datagrams N`.
 pub fn datagrams_option<'a>(alloc: Global) -> Arg<'a>
@@ -66,6 +67,25 @@ pub fn datagrams_option<'a>(alloc: Global) -> Arg<'a>
         .default_value(text!(DEFAULT_COUNT))
         .help(text!("How many datagrams a line reads at most, 0 to " MAX_COUNT))
         .long_help(DATAGRAMS_HELP)
+}
+
+const END_HELP: &str = "\
+Which ends of session end a line: 'any', an end of whichever session, by default; 'own',
+one of the venue's session alone, as --sessions names it, so that neither yesterday's end,
+where it is still sent, nor another feed's ends the line; or 'none', none. After an end that
+doesn't end it the line goes on: standard error says so of each line, at the first one, and
+at the end how many there were";
+
+/// `--end WHICH`.
+pub fn which_end_option<'a>(alloc: Global) -> Arg<'a>
+    ensures rule { rule_of result ≡ which_end_rule }
+    ensures local { result.global ≡ false }
+{
+    Arg::new(alloc, "end")
+        .long("end")
+        .value_name("WHICH")
+        .help("Which ends of session end a line: any, own or none [default: any]")
+        .long_help(END_HELP)
 }
 
 const BUFFER_HELP: &str = text!("\

@@ -1,6 +1,7 @@
 //! The settings of `nbbo listen`.
 ghost use Rattle.std.specs.Prelude.{◌≡◌, ◌*◌, vec_len};
 
+use crate::end_rule::EndRule;
 use crate::feed_settings::FeedSettings;
 use std::net::SocketAddr;
 
@@ -15,6 +16,8 @@ pub struct ListenSettings {
     pub request: Option<SocketAddr>,
     /// The most datagrams that a line reads.
     pub datagrams: u32,
+    /// Which ends of session end a line.
+    pub end: EndRule,
     /// How many bytes a socket's buffer is asked for, if any number.
     pub buffer: Option<u32>,
     /// After how many seconds the run ends, if after any number.

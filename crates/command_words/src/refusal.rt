@@ -1,10 +1,11 @@
 //! The reasons why the program has no settings.
 ghost use Rattle.std.specs.Prelude.{◌≡◌};
 ghost use Rattle.command_words.specs.CommandLine.{lines_refusal_by, refusal_by, refusal_status, refusal_text, symbols_refusal_by};
-ghost use Rattle.command_words.specs.declared.refusal.Refusal.TheVariants.{BadFormat, BadRequest, NoMemory};
+ghost use Rattle.command_words.specs.declared.refusal.Refusal.TheVariants.{BadEnd, BadFormat, BadRequest, NoMemory};
 
 use crate::addresses::{LinesFault, RequestFault};
 use crate::best_format::FormatFault;
+use crate::end_rule::EndRuleFault;
 use crate::sessions::SessionsFault;
 use crate::symbols::SymbolsFault;
 use std::alloc::AllocError;
@@ -29,6 +30,8 @@ pub enum Refusal {
     /// The format of the best lines is none of those that there are, or is given where all lines are
     /// printed.
     BadFormat,
+    /// The rule by which an end of session ends a line is none of those that there are.
+    BadEnd,
     /// A symbol is empty, has more than eight bytes, or has a byte outside of `21` to `7e`.
     BadSymbol,
     /// More than 4,096 symbols are named.
@@ -49,7 +52,8 @@ impl Refusal {
             Refusal::NoMemory => 1,
             Refusal::Usage(_) | Refusal::NotText => 2,
             Refusal::BadSession | Refusal::TooManySessions => 2,
-            Refusal::BadLines | Refusal::BadRequest | Refusal::BadFormat => 2,
+            Refusal::BadLines | Refusal::BadRequest => 2,
+            Refusal::BadFormat | Refusal::BadEnd => 2,
             Refusal::BadSymbol | Refusal::TooManySymbols | Refusal::DuplicateSymbol => 2,
         }
     }
@@ -67,6 +71,7 @@ impl Refusal {
             Refusal::BadLines => "nbbo: bad lines\n",
             Refusal::BadRequest => "nbbo: bad request address\n",
             Refusal::BadFormat => "nbbo: bad format\n",
+            Refusal::BadEnd => "nbbo: bad end\n",
             Refusal::BadSymbol => "nbbo: bad symbol\n",
             Refusal::TooManySymbols => "nbbo: too many symbols\n",
             Refusal::DuplicateSymbol => "nbbo: duplicate symbol\n",
@@ -119,6 +124,14 @@ impl From<FormatFault> for Refusal {
 
     fn from(_fault: FormatFault) -> Refusal {
         Refusal::BadFormat
+    }
+}
+
+impl From<EndRuleFault> for Refusal {
+    ghost from_gives = { λ _ refusal. refusal ≡ BadEnd };
+
+    fn from(_fault: EndRuleFault) -> Refusal {
+        Refusal::BadEnd
     }
 }
 

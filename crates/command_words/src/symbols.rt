@@ -1,13 +1,12 @@
 //! The symbols on the command line.
-ghost use Rattle.std.specs.Prelude.{◌≡◌, IfOk, IfErr, IsTrue, map, true, false};
-ghost use Rattle.std.specs.List.{All, IsDistinct, list_all};
-ghost use Rattle.std.specs.Str.{bytes_eq};
+ghost use Rattle.std.specs.Prelude.{◌≡◌, IfOk, IfErr, IsTrue, map};
+ghost use Rattle.std.specs.List.{All, list_all};
 ghost use Rattle.feed_types.specs.Symbols.{filled, is_symbol_name};
 ghost use Rattle.command_words.specs.Symbols.{HasSymbolsFault, NameSymbols};
 ghost use Rattle.command_words.specs.declared.symbols.SymbolsFault.TheVariants.{NoMemory};
 
 use feed_types::{MAX_SYMBOLS, SymbolName};
-use indexmap::IndexSet;
+use nbbo_book::are_distinct;
 use std::alloc::{AllocError, Global};
 
 /// Why words name no symbols.
@@ -57,23 +56,6 @@ fn named(alloc: Global, words: &[&str]) -> Result<Vec<SymbolName>, AllocError>
         }
     }
     Ok(symbols)
-}
-
-/// Whether no symbol is there twice, by their words: one number hashes faster than eight bytes.
-fn are_distinct(alloc: Global, symbols: &[SymbolName]) -> Result<bool, AllocError>
-    ensures apart { IfOk result (λ distinct. distinct ≡ true → IsDistinct bytes_eq symbols.now) }
-    ensures twice { IfOk result (λ distinct. distinct ≡ false → ¬ IsDistinct bytes_eq symbols.now) }
-{
-    let mut words = IndexSet::with_capacity(alloc, symbols.len())?;
-    for symbol in symbols {
-        match words.insert(symbol.key()) {
-            Ok(true) => {}
-            Ok(false) => return Ok(false),
-            Err(error) => return Err(error.into()),
-        }
-    }
-    let _keys = words.as_slice();
-    Ok(true)
 }
 
 /// The symbols that the words name.

@@ -101,6 +101,9 @@ fn name_from(bytes: &[u8]) -> [u8; 10]
 }
 
 /// Reads the record at the front of `bytes`, in a capture of `venues` venues.
+// With a second caller this and Venues::take were left calls, which took some 50 instructions a
+// record: the answer went through memory. tests/instructions counts them.
+#[inline(always)]
 pub fn parse_record(venues: usize, bytes: &[u8]) -> Parse<'_>
     requires { venues ≤ 16 }
     ensures { StandsAtFront venues bytes.now result }

@@ -228,22 +228,6 @@ impl VenueReplay {
         }
     }
 
-    /// Does the same from a copy, which is made here, so that no other packet has to lie in memory.
-    #[inline(always)]
-    fn take_copied(
-        &mut self,
-        venue: VenueId,
-        line: LineId,
-        packet: &Packet<'_>,
-        report: &mut ReplaySink,
-    ) -> Result<(), PublishStop>
-        requires { venue < report.old.journal.venues }
-        ensures { PublishesPacket venue line packet.now self.old (state_of_replay report.old)
-            self.new (state_of_replay report.new) result }
-    {
-        self.take_any(venue, line, &packet.copied(), report)
-    }
-
     /// Takes a packet, and publishes its outcome and each item that is ready then. Most go past the
     /// window, and most of the others bring nothing that wasn't sent.
     #[inline(always)]
@@ -259,7 +243,7 @@ impl VenueReplay {
             self.new (state_of_replay report.new) result }
     {
         let Some(order) = self.arbiter.peek_in_order(packet) else {
-            return self.take_copied(venue, line, packet, report);
+            return self.take_any(venue, line, packet, report);
         };
         let outcome = self.arbiter.take_in_order(line, order, packet);
         match order {

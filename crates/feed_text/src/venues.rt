@@ -55,6 +55,8 @@ impl Venues {
     /// Takes a record, and publishes its events. After a stop no other record can be taken: for a
     /// full journal all events that had room were published, and where memory was refused some may
     /// be.
+    // For the reason that parse_record is inlined, too.
+    #[inline(always)]
     pub fn take(&mut self, next: Record<'_>, report: &mut ReplaySink) -> Result<(), PublishStop>
         requires kind { IsRecord (length self.old.items) (record_of next) }
         requires venues { report.old.journal.venues ≡ length self.old.items }

@@ -102,22 +102,3 @@ bytes_small field h =
 -- the number of a symbol's field gives its bytes again
 pub bytes_of_word : (field : List ℕ) → is_symbol_field field ≡ true → to_be_bytes w64 (key_of field) ≡ field
 bytes_of_word field h = be_bytes_8 field (key_of field) (len_eight field h) (bytes_small field h) refl
-
-pub same_symbol : (a b : List ℕ) → is_symbol_field a ≡ true → is_symbol_field b ≡ true → key_of a ≡ key_of b → a ≡ b
-same_symbol a b ha hb e = sym (bytes_of_word a ha) ∙ ap (λ (w : ℕ). to_be_bytes w64 w) e ∙ bytes_of_word b hb
-
-spaced : (field : List ℕ) → is_symbol_field field ≡ true → list_all is_space (filling_of field) ≡ true
-spaced field h = grind (arith, nat_tests)
-
--- a byte that is no space is in the name
-pub goes_on : (field : List ℕ) → is_symbol_field field ≡ true → (i : ℕ) → i < 8 → is_space (get_or field i 0) ≡ false → i < length (name_of field)
-goes_on field h i below other =
-    let n = length (name_of field) in
-    elim (cases_lt i n) [
-      | inl l ↦ l
-      | inr past ↦
-          let back : n + (i - n) ≡ i = omega (arith, past) in
-          let inside : i - n < length (filling_of field) = omega (arith, length-drop n field, len_eight field h, past, below) in
-          let at : is_space (get_or (filling_of field) (i - n) 0) ≡ false = ap is_space (get_or-drop n field (i - n) 0 ∙ ap (λ (k : ℕ). get_or field k 0) back) ∙ other in
-          absurd (true≢false (sym (spaced field h) ∙ list_all_at is_space (filling_of field) (i - n) 0 inside at))
-    ]

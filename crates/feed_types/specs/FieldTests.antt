@@ -1,5 +1,4 @@
--- A symbol's field as one word, tested in all its bytes at once, and where the name in it ends.
--- Cited by private clauses alone.
+-- A symbol's field as one word, tested in all its bytes at once. Cited by private clauses alone.
 use Rattle.std.specs.Prelude.{ℕ, ◌+◌, ◌*◌, ◌≡◌, ◌<◌, ◌≤◌, Bool, true, false, ◌&&◌, not, if◌then◌else◌, nat_le, ◌==◌, List, [], ◌∷◌, map, length, IsTrue}
 use Rattle.std.specs.List.{list_all}
 
@@ -42,9 +41,3 @@ abbrev pub IsZeroWhereFilled : ℕ → ℕ → Type 0
 IsZeroWhereFilled names wrong =
     (marks : List Bool) → length marks ≡ 8 → names ≡ flags marks
     → (wrong == 0) ≡ is_name_filled marks
-
--- the name ends in one of `size` places of its field, from this one on
-pub record EndsWithin (place size : ℕ) (name : List ℕ) : Type 0 where
-  pub past : place < length name
-  pub most : length name ≤ place + size
-  pub inside : place + size ≤ 8

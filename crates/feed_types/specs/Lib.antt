@@ -7,3 +7,4 @@ pub mod ListLaws
 pub mod Sequence
 pub mod SequenceLaws
 pub mod Sessions
+pub mod PerLines

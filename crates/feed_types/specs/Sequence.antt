@@ -1,7 +1,7 @@
 -- The order of a venue's items, over all its sessions.
 use Rattle.std.specs.Prelude.{◌≡◌, ℕ, ◌+◌, List, [], ◌∷◌}
 use Rattle.feed_types.specs.declared.item.Item.{Item}
-use Rattle.feed_types.specs.declared.item.Item.TheVariants.{Quote, Halt, Other, End}
+use Rattle.feed_types.specs.declared.item.Item.TheVariants.{End}
 use Rattle.feed_types.specs.declared.item.Numbered.{Numbered}
 
 -- At this venue, in its session of this ordinal, the message of this number may read as this item.
@@ -24,10 +24,7 @@ first_place = record { ordinal = 1; number = 1 }
 -- after an item comes the next number; after End, number 1 of the next session
 abbrev pub place_after : Place → Item → Place
 place_after place End = record { ordinal = place.ordinal + 1; number = 1 }
-place_after place Other = record { ordinal = place.ordinal; number = place.number + 1 }
-place_after place (Quote quote) = record { ordinal = place.ordinal; number = place.number + 1 }
-place_after place (Halt symbol halted) =
-    record { ordinal = place.ordinal; number = place.number + 1 }
+place_after place _ = record { ordinal = place.ordinal; number = place.number + 1 }
 
 -- the place after a list of items
 abbrev pub place_after_all : Place → List Numbered → Place
@@ -37,11 +34,7 @@ place_after_all place (x ∷ xs) = place_after_all (place_after place x.item) xs
 -- the item may be carried at the place: an end number for End, a message's item otherwise
 abbrev pub MayCarry : Carries → Ends → ℕ → Place → Item → Type 0
 MayCarry carries ends venue place End = ends venue place.ordinal place.number
-MayCarry carries ends venue place Other = carries venue place.ordinal place.number Other
-MayCarry carries ends venue place (Quote quote) =
-    carries venue place.ordinal place.number (Quote quote)
-MayCarry carries ends venue place (Halt symbol halted) =
-    carries venue place.ordinal place.number (Halt symbol halted)
+MayCarry carries ends venue place item = carries venue place.ordinal place.number item
 
 -- each item has the number of its place and may be carried there
 abbrev pub Continues : Carries → Ends → ℕ → Place → List Numbered → Type 0

@@ -1,11 +1,10 @@
 //! Laws of the definitions.
 
-ghost use Rattle.std.specs.Prelude.{◌≡◌, ℕ, List, [], ◌∷◌, ◌++◌, IsTrue};
+ghost use Rattle.std.specs.Prelude.{◌≡◌, ℕ, List, [], ◌∷◌, ◌++◌};
 ghost use Rattle.feed_types.specs.declared.item.Numbered.{Numbered};
 ghost use Rattle.feed_types.specs.Prefix.{IsPrefix};
 ghost use Rattle.feed_types.specs.Sequence.{first_place, place_after, place_after_all, MayCarry, IsInSequence};
 ghost use Rattle.feed_types.specs.Sessions.{Session, Names, whole_sessions};
-ghost use Rattle.feed_types.specs.Symbols.{is_symbol_field, key_of};
 
 use crate::genuine::Genuine;
 
@@ -35,10 +34,4 @@ pub fn sequence_is_of_the_sessions<G: Genuine>()
         Names G.sessions G.carries G.ends venue all →
         IsInSequence G.carries G.ends venue xs →
         IsPrefix xs (whole_sessions all) }
-{}
-
-/// No two symbols have one key.
-pub fn one_symbol_a_key()
-    ensures { (a b : List ℕ) → IsTrue (is_symbol_field a) → IsTrue (is_symbol_field b) →
-        key_of a ≡ key_of b → a ≡ b }
 {}

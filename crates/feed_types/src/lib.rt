@@ -19,6 +19,7 @@ mod laws;
 mod limits;
 mod line;
 mod national;
+mod per_line;
 mod price;
 mod symbol;
 
@@ -27,12 +28,10 @@ pub use genuine::{Anything, Genuine};
 pub use ids::{SubscriberId, VenueId};
 pub use item::{Item, Numbered, Quote};
 pub use journal::{Entry, Notice};
-pub use laws::{
-    every_prefix_is_in_sequence, one_more_in_sequence, one_symbol_a_key,
-    sequence_is_of_the_sessions,
-};
+pub use laws::{every_prefix_is_in_sequence, one_more_in_sequence, sequence_is_of_the_sessions};
 pub use limits::{MAX_LANE, MAX_SESSIONS, MAX_SUBSCRIBERS, MAX_SYMBOLS, MAX_VENUES, MAX_WINDOW};
 pub use line::{LineId, Side};
 pub use national::{Best, National, NationalState};
+pub use per_line::PerLine;
 pub use price::Price;
 pub use symbol::SymbolName;

@@ -38,36 +38,9 @@ pub struct National {
     pub offer: Option<Best>,
 }
 
-/// The same side, copied part by part.
-#[inline(always)]
-fn copy_fields(best: &Option<Best>) -> Option<Best>
-    ensures { result ≡ best.now }
-{
-    match best {
-        Some(best) => Some(Best {
-            venue: best.venue,
-            price: best.price,
-            size: best.size,
-        }),
-        None => None,
-    }
-}
-
 impl National {
     ghost use Rattle.std.specs.Prelude.{◌≡◌};
     ghost use Rattle.feed_types.specs.Nationals.{state_of};
-
-    /// These two sides, copied part by part, as they are written. Where that is a moment ago, a
-    /// copy of a side as a whole would wait until all that was written before it is in the cache.
-    #[inline(always)]
-    pub fn by_value(bid: &Option<Best>, offer: &Option<Best>) -> National
-        ensures { result ≡ record { bid = bid.now; offer = offer.now } }
-    {
-        National {
-            bid: copy_fields(bid),
-            offer: copy_fields(offer),
-        }
-    }
 
     /// The state of the two sides.
     pub fn state(&self) -> NationalState

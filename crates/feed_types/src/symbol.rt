@@ -1,11 +1,11 @@
 //! Symbols.
 
-ghost use Rattle.std.specs.Prelude.{◌*◌, ◌≡◌, IsTrue, Some, length, nat_le};
+ghost use Rattle.std.specs.Prelude.{◌≡◌, IsTrue, Some, length, nat_le};
 ghost use Rattle.std.specs.Int.{w64, to_be_bytes};
 ghost use Rattle.std.specs.List.{list_all};
 ghost use Rattle.std.specs.Option.{SomeIff};
 ghost use Rattle.feed_types.specs.Symbols.{is_name_byte, is_symbol_field, is_symbol_name, name_of, filled, key_of};
-ghost use Rattle.feed_types.specs.FieldTests.{EndsWithin, IsZeroWhereFilled, Marks};
+ghost use Rattle.feed_types.specs.FieldTests.{IsZeroWhereFilled, Marks};
 
 use std::fmt;
 use std::marker::Model;
@@ -55,31 +55,11 @@ fn is_name(bytes: &[u8]) -> bool
     !bytes.is_empty() && bytes.len() <= FIELD && is_all_name_bytes(bytes)
 }
 
-/// Halves the search for a name's end: of a name that ends in one of `2 * size` places from `at`
-/// on, returns the place from which on it ends in one of `size`. A byte that is no space has the
-/// name up to it.
-#[inline(always)]
-fn half_of(field: &[u8; 8], at: usize, size: usize) -> usize
-    requires symbol { IsTrue (is_symbol_field field.now) }
-    requires part { EndsWithin at (2 * size) (name_of field.now) }
-    ensures { EndsWithin result size (name_of field.now) }
-{
-    if field[at + size] == b' ' {
-        at
-    } else {
-        at + size
-    }
-}
-
-/// The number of bytes before the first space. Each best line prints a name, so its end is looked
-/// for by halves of the field.
+/// Returns the number of bytes before the first space: eight where there is none.
 fn name_len(field: &[u8; 8]) -> usize
-    requires { IsTrue (is_symbol_field field.now) }
     ensures { result ≡ length (name_of field.now) }
 {
-    let four = half_of(field, 0, 4);
-    let two = half_of(field, four, 2);
-    half_of(field, two, 1) + 1
+    field.iter().position(|&byte| byte == b' ').unwrap_or(FIELD)
 }
 
 /// The top bits of the bytes past `~`, in a word that has each byte less a space.

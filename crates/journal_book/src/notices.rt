@@ -17,12 +17,14 @@ fn push_notice(notices: &mut Vec<Notice>, change: &Change)
     ensures capacity { vec_capacity notices.new ≡ vec_capacity notices.old }
 {
     let number = notices.len() as u64 + 1;
-    let national = National::by_value(&change.national.bid, &change.national.offer);
+    // The prover is told here of the types that are nested in what is pushed.
+    let bid: Option<Best> = change.national.bid;
+    let offer: Option<Best> = change.national.offer;
     notices.push_reserved(Notice {
         number,
         position: change.position,
         symbol: change.symbol,
-        national,
+        national: National { bid, offer },
     });
 }
 

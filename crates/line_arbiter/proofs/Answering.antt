@@ -15,12 +15,12 @@ use Rattle.line_arbiter.specs.Holding.{held_at}
 use Rattle.line_arbiter.specs.Filling.{HeldAgrees, HeldDisagrees, fresh_to}
 use Rattle.line_arbiter.specs.States.{State, held_of}
 use Rattle.line_arbiter.specs.Steps.{MessagesStep, EndStep, HeartbeatStep, KindStep, PacketStep}
-use Rattle.line_arbiter.specs.laws.Standing.{Stands}
+use Rattle.line_arbiter.proofs.Standing.{Stands}
 use Rattle.mold_packet.specs.declared.packet.Kind.{Kind}
 use Rattle.mold_packet.specs.declared.packet.Kind.TheVariants as kinds
 use Rattle.line_arbiter.specs.laws.Options.{IsSome-unless, some_not_none}
 use Rattle.line_arbiter.proofs.Counting.{count_same}
-use Rattle.line_arbiter.specs.laws.Cursors.{cursor, held_is, open_cursor}
+use Rattle.line_arbiter.proofs.Cursors.{cursor, held_is, open_cursor}
 
 agrees : (s : State) (packets : List Arrival) (p : Content) → Stands s packets → HeldAgrees (held_of s) p → Agrees packets s.sent p
 agrees s packets p fits h k item within past is = h k within item (held_is s packets fits (p.number + k) past ∙ is)

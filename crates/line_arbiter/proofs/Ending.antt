@@ -1,27 +1,26 @@
 -- Once End was sent: all is sent, and nothing comes after it.
-use Rattle.std.proofs.Common.{◌≡◌, ℕ, ◌+◌, ◌<◌, List, length, Option, None, Some, refl, sym, ap, subst, ◌∙◌, arith, inl, inr}
-use Rattle.std.specs.Prelude.{IsSome}
-use Rattle.feed_types.specs.declared.item.Item.{Item}
+use Rattle.std.proofs.Common.{◌≡◌, ℕ, ◌+◌, ◌<◌, List, length, None, Some, ap, subst, ◌∙◌, arith, inl, inr}
 use Rattle.line_arbiter.specs.Packets.{Arrival, end_of}
 use Rattle.line_arbiter.specs.Streams.{IsComplete, front_of, stream_of}
 use Rattle.line_arbiter.specs.Renewals.{HasEnded}
-use Rattle.line_arbiter.specs.Holding.{held_at, IsEmpty}
+use Rattle.line_arbiter.specs.Holding.{held_at}
 use Rattle.line_arbiter.specs.States.{State, held_of, next_from, next_of}
 use Rattle.line_arbiter.specs.Fits.{Fits}
 use Rattle.line_arbiter.specs.Steps.{IsSound}
-use Rattle.line_arbiter.specs.laws.Standing.{stands_of}
-use Rattle.line_arbiter.specs.laws.Cursors.{cursor, length-stream, end_most}
-use Rattle.line_arbiter.proofs.Nexts.{none_from, past_end}
+use Rattle.line_arbiter.proofs.Standing.{stands_of}
+use Rattle.line_arbiter.specs.laws.Lengths.{length-stream, end_most}
+use Rattle.line_arbiter.proofs.Cursors.{cursor}
+use Rattle.line_arbiter.proofs.Nexts.{past_end}
+use Rattle.line_arbiter.proofs.Soundness.{front_before_end, none_past_end}
 use Rattle.line_arbiter.specs.laws.StreamGrowth.{EndsPast}
-use Rattle.line_arbiter.proofs.Windows.{in_window}
 
 pub ends_past : (s : State) (packets : List Arrival) → IsSound s → Fits s packets → EndsPast packets
-ends_past s packets sound fits e is = subst (λ (n : ℕ). n < e) fits.front (sound.front_before_end e (fits.end ∙ is))
+ends_past s packets sound fits e is = subst (λ (n : ℕ). n < e) fits.front (front_before_end s sound e (fits.end ∙ is))
 
 -- the session is over, and all of its stream was sent
 pub complete : (s : State) (packets : List Arrival) → IsSound s → Fits s packets → HasEnded s.end s.sent → IsComplete packets × (s.sent ≡ length (stream_of packets))
 complete s packets sound fits ended = elim (cursor s packets (stands_of fits)) [
-  | inl within ↦ let below = sound.front_before_end s.sent ended in absurd (omega arith)
+  | inl within ↦ let below = front_before_end s sound s.sent ended in absurd (omega arith)
   | inr over ↦
       let front = fits.front in
       let most = end_most (end_of packets) (front_of packets + 1) in
@@ -33,17 +32,10 @@ complete s packets sound fits ended = elim (cursor s packets (stands_of fits)) [
       )
 ]
 
--- nothing is held
-pub empty_at_end : (s : State) → IsSound s → HasEnded s.end s.sent → IsEmpty (held_of s)
-empty_at_end s sound ended m = none_from (held_at (held_of s) m) (λ item is.
-    let below = sound.before_end s.sent m item ended is in
-    let past = (in_window (held_of s) m (subst (λ (o : Option Item). IsSome o) (sym is) refl)).0 in
-    omega arith)
-
 -- nothing is ready
 pub none_after_end : (s : State) → IsSound s → HasEnded s.end s.sent → next_of s ≡ None
 none_after_end s sound ended =
-    let free : held_at (held_of s) (s.sent + 1) ≡ None = none_from (held_at (held_of s) (s.sent + 1)) (λ item is. let k = sound.before_end s.sent (s.sent + 1) item ended is in omega arith) in
+    let free : held_at (held_of s) (s.sent + 1) ≡ None = none_past_end s sound ended (s.sent + 1) in
     ap (λ o. next_from (s.sent + 1) o s.end) free
     ∙ ap (λ o. next_from (s.sent + 1) None o) ended
     ∙ past_end (s.sent + 1) s.sent (omega arith)

@@ -1,19 +1,22 @@
 -- The number of messages that are missing at the front.
-use Rattle.std.proofs.Common.{◌≡◌, ℕ, ◌+◌, ◌-◌, ◌<◌, ◌≤◌, Bool, true, false, List, Option, Some, None, sym, ap, ◌∙◌, arith, inl, inr}
+use Rattle.std.proofs.Common.{◌≡◌, ℕ, ◌+◌, ◌-◌, ◌<◌, ◌≤◌, Bool, true, false, List, Option, Some, None, sym, ap, subst, ◌∙◌, arith, inl, inr}
 use Rattle.std.specs.Prelude.{◌⊎◌, IsSome, is_none, max, min, ◌==◌, if◌then◌else◌}
 use Rattle.std.specs.List.{range_with_len, prefix_len}
-use Rattle.std.proofs.lemmas.Bool.{ne_eqb}
+use Rattle.std.proofs.lemmas.Bool.{cases_lt, ne_eqb}
 use Rattle.std.proofs.lemmas.List.FromFn.{length-range_with_len, get_or-range_with_len}
 use Rattle.std.proofs.lemmas.List.Sums.{prefix_len_is}
 use Rattle.feed_types.specs.declared.item.Item.{Item}
 use Rattle.line_arbiter.specs.Packets.{Arrival, carried, known_of}
 use Rattle.line_arbiter.specs.Streams.{front_of, missing_count, gap_of}
 use Rattle.line_arbiter.specs.Holding.{held_at}
+use Rattle.line_arbiter.specs.Filling.{IsNextHeld}
 use Rattle.line_arbiter.specs.States.{State, held_of}
 use Rattle.line_arbiter.specs.Fits.{Fits}
-use Rattle.line_arbiter.specs.laws.Standing.{stands_of}
+use Rattle.line_arbiter.specs.Steps.{IsSound}
+use Rattle.line_arbiter.proofs.Standing.{stands_of}
 use Rattle.line_arbiter.specs.laws.Options.{some_not_none}
-use Rattle.line_arbiter.specs.laws.Cursors.{cursor, held_is, known_at_end}
+use Rattle.line_arbiter.proofs.Cursors.{cursor, held_is}
+use Rattle.line_arbiter.proofs.Known.{known_at_end}
 
 -- a run of numbers that pass a test, up to the first that doesn't or to the range's end
 run_is : (q : ℕ → Bool) (a len n : ℕ) → n ≤ len → ((m : ℕ) → a ≤ m → m < a + n → q m ≡ true) → (n < len → q (a + n) ≡ false) → prefix_len q (range_with_len a len) ≡ n
@@ -50,34 +53,42 @@ missing_count-held s packets n fits none within stop =
           ap (λ (m : ℕ). is_none (carried packets m)) (sym next) ∙ ap (λ (o : Option Item). is_none o) (sym (held_is s packets (stands_of fits) (s.front + n + 1) (omega arith))) ∙ some_not_none (held_at (held_of s) (s.front + n + 1)) found
     ])
 
--- the numbers past the front hold nothing, up to the end of the window, the last that is known, or
--- the first that holds an item
-pub record IsMissing (s : State) (n : ℕ) : Type 0 where
-  pub free : (m : ℕ) → s.front < m → m ≤ s.front + n → held_at (held_of s) m ≡ None
-  pub within : s.front + n ≤ max s.front s.known
-  pub inside : (n ≡ 0) ⊎ (s.front + n ≤ s.sent + s.window)
-  pub stop : (s.front < s.sent) ⊎ (s.sent + s.window ≤ s.front + n) ⊎ (s.front + n ≡ max s.front s.known) ⊎ IsSome (held_at (held_of s) (s.front + n + 1))
+-- the run to ask for: up to the last number that is known of and may have a place, or to before the
+-- lowest that is held
+abbrev pub last_asked : ℕ → Option ℕ → ℕ
+last_asked limit None = limit
+last_asked limit (Some next) = min limit (next - 1)
 
-missing_is : (s : State) (packets : List Arrival) (n : ℕ) → Fits s packets → IsMissing s n → missing_count s.window s.sent packets ≡ n
-missing_is s packets n fits missing =
-    let within = missing.within in
-    let most : s.front + n ≤ max s.front (min s.known (s.sent + s.window)) = elim missing.inside [ inl none ↦ omega arith | inr inside ↦ omega arith ] in
-    missing_count-held s packets n fits missing.free most (elim missing.stop [
-      | inl past ↦ inl (elim (cursor s packets (stands_of fits)) [
-        | inl before ↦ absurd (omega arith)
-        | inr ended ↦ let known = known_at_end packets (s.front + 1) ended.1 in let same = fits.known in omega arith
-      ])
-      | inr (inl wide) ↦ inl (omega arith)
-      | inr (inr (inl all)) ↦ inl (elim missing.inside [ inl none ↦ omega arith | inr inside ↦ omega arith ])
-      | inr (inr (inr found)) ↦ inr found
+pub asked_within : (limit : ℕ) (next : Option ℕ) → last_asked limit next ≤ limit
+asked_within limit None = omega arith
+asked_within limit (Some next) = omega arith
+
+missing_is : (s : State) (packets : List Arrival) (next : Option ℕ) (limit n : ℕ) → IsSound s → Fits s packets → IsNextHeld (held_of s) s.front next
+    → limit ≡ min s.known (s.sent + s.window) → n ≡ last_asked limit next - s.front → missing_count s.window s.sent packets ≡ n
+missing_is s packets None limit n sound fits is limit_is n_is =
+    missing_count-held s packets n fits (λ m past below. is m past) (omega arith) (inl (omega arith))
+missing_is s packets (Some next) limit n sound fits is limit_is n_is =
+    let past = is.past in
+    missing_count-held s packets n fits (λ m low below. is.none m low (omega arith)) (omega arith) (elim (cases_lt (next - 1) limit) [
+      | inl held ↦
+          let at : s.front + n + 1 ≡ next = omega arith in
+          inr (subst (λ (m : ℕ). IsSome (held_at (held_of s) m)) (sym at) is.here)
+      | inr limited ↦ inl (omega arith)
     ])
 
-pub gap_of-none : (s : State) (packets : List Arrival) (n : ℕ) → Fits s packets → IsMissing s n → n ≡ 0 → None ≡ gap_of s.session s.window s.sent packets
-gap_of-none s packets n fits missing none = sym (ap (λ (k : ℕ). if k == 0 then None else Some (record { session = s.session; number = front_of packets + 1; count = k })) (missing_is s packets n fits missing ∙ none))
+module _ (s : State) (packets : List Arrival) (next : Option ℕ) (limit last : ℕ) (sound : IsSound s) (fits : Fits s packets) (is : IsNextHeld (held_of s) s.front next)
+    (limit_is : limit ≡ min s.known (s.sent + s.window)) (last_is : last ≡ last_asked limit next) where
+  missing : missing_count s.window s.sent packets ≡ last - s.front
+  missing = missing_is s packets next limit (last - s.front) sound fits is limit_is (omega arith)
 
-pub gap_of-some : (s : State) (packets : List Arrival) (n : ℕ) → Fits s packets → IsMissing s n → (n ≡ 0 → ⊥) → Some (record { session = s.session; number = s.front + 1; count = n }) ≡ gap_of s.session s.window s.sent packets
-gap_of-some s packets n fits missing some =
-    sym (
-    ap (λ (k : ℕ). if k == 0 then None else Some (record { session = s.session; number = front_of packets + 1; count = k })) (missing_is s packets n fits missing)
-    ∙ ap (λ (b : Bool). if b then None else Some (record { session = s.session; number = front_of packets + 1; count = n })) (ne_eqb n 0 some)
-    ∙ ap (λ (k : ℕ). Some (record { session = s.session; number = k + 1; count = n })) (sym fits.front))
+  pub gap_of-none : last ≤ s.front → None ≡ gap_of s.session s.window s.sent packets
+  gap_of-none none =
+      let zero : last - s.front ≡ 0 = omega arith in
+      sym (ap (λ (k : ℕ). if k == 0 then None else Some (record { session = s.session; number = front_of packets + 1; count = k })) (missing ∙ zero))
+
+  pub gap_of-some : s.front < last → Some (record { session = s.session; number = s.front + 1; count = last - s.front }) ≡ gap_of s.session s.window s.sent packets
+  gap_of-some some =
+      sym (
+      ap (λ (k : ℕ). if k == 0 then None else Some (record { session = s.session; number = front_of packets + 1; count = k })) missing
+      ∙ ap (λ (b : Bool). if b then None else Some (record { session = s.session; number = front_of packets + 1; count = last - s.front })) (ne_eqb (last - s.front) 0 (λ e. omega arith))
+      ∙ ap (λ (k : ℕ). Some (record { session = s.session; number = k + 1; count = last - s.front })) (sym fits.front))

@@ -12,14 +12,18 @@ use Rattle.line_arbiter.specs.Streams.{wins_of}
 use Rattle.line_arbiter.specs.Outcomes.{new_count, IsBefore}
 use Rattle.line_arbiter.specs.Holding.{held_at}
 use Rattle.line_arbiter.specs.Filling.{put_all}
-use Rattle.line_arbiter.specs.Counts.{Counts, count_on, shown}
+use Rattle.feed_types.specs.declared.per_line.PerLine.{PerLine}
+use Rattle.feed_types.specs.PerLines.{on_line}
+use Rattle.line_arbiter.specs.Counts.{shown}
 use Rattle.line_arbiter.specs.States.{State, held_of}
 use Rattle.line_arbiter.specs.Steps.{TakesIn, raised}
-use Rattle.line_arbiter.specs.laws.Standing.{Stands}
+use Rattle.line_arbiter.proofs.Standing.{Stands}
 use Rattle.line_arbiter.proofs.LineCounts.{wins_of-untaken, wins_counted}
 use Rattle.line_arbiter.specs.laws.Options.{IsSome-or, IsSome-unless}
-use Rattle.line_arbiter.specs.laws.Bringing.{carried_same, carried_more, end_same, known-push}
-use Rattle.line_arbiter.specs.laws.Cursors.{cursor, length-stream, stream_len}
+use Rattle.line_arbiter.specs.laws.Bringing.{carried_same, carried_more, end_same}
+use Rattle.line_arbiter.proofs.Known.{known-push}
+use Rattle.line_arbiter.specs.laws.Lengths.{length-stream}
+use Rattle.line_arbiter.proofs.Cursors.{cursor, stream_len}
 use Rattle.line_arbiter.specs.laws.Fronts.{not_in}
 
 -- a packet that is not taken and ends nothing is at most heard of
@@ -33,7 +37,7 @@ fits_heard s packets a untaken unended fits = record {
   end = fits.end ∙ sym (end_same packets a unended);
   sent = rw (stream_len packets (packets ++ a ∷ []) s.front (end_same packets a unended)) fits.sent;
   held = λ m. fits.held m ∙ ap (λ (o : Option Item). if nat_le m s.sent then None else o) (sym (carried_same packets a m untaken));
-  wins = λ line. fits.wins line ∙ ap (λ (n : ℕ). shown (count_on line s.earlier + n)) (sym (wins_of-untaken packets a line untaken));
+  wins = λ line. fits.wins line ∙ ap (λ (n : ℕ). shown (on_line line s.earlier + n)) (sym (wins_of-untaken packets a line untaken));
 }
 
 unheard : (k : ℕ) (o : Option ℕ) → raised k o 0 ≡ k
@@ -108,7 +112,7 @@ fits_taken fresh old new packets a first is_fresh was_taken unended last before 
       ]);
       held = λ m. held m ∙ ap (λ (k : ℕ). if nat_le m k then None else carried (packets ++ a ∷ []) m) (sym sent);
       wins = λ line.
-          ap (λ (counts : Counts). count_on line counts) by.wins
+          ap (λ (counts : PerLine ℕ). on_line line counts) by.wins
           ∙ wins_counted packets a fresh old.wins old.earlier was_taken first is_fresh fits.wins line
-          ∙ ap (λ (s : State). shown (count_on line s.earlier + wins_of (packets ++ a ∷ []) line)) (sym by.others);
+          ∙ ap (λ (s : State). shown (on_line line s.earlier + wins_of (packets ++ a ∷ []) line)) (sym by.others);
     }

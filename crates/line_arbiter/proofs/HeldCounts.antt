@@ -11,8 +11,8 @@ use Rattle.line_arbiter.specs.Fits.{Fits}
 use Rattle.line_arbiter.proofs.Counting.{count_numbers, count_past}
 use Rattle.line_arbiter.proofs.Windows.{at_number}
 use Rattle.line_arbiter.specs.laws.Fronts.{carried_above}
-use Rattle.line_arbiter.specs.laws.Cursors.{held_is}
-use Rattle.line_arbiter.specs.laws.Standing.{stands_of}
+use Rattle.line_arbiter.proofs.Cursors.{held_is}
+use Rattle.line_arbiter.proofs.Standing.{stands_of}
 
 -- the test of a place is that of what it holds
 same_test : (o : Option (Option Item)) → option_map_or (λ (place : Option Item). is_some place) o false ≡ is_some (option_and_then (λ (place : Option Item). place) o)

@@ -8,8 +8,13 @@ pub mod Places
 pub mod Windows
 pub mod Turns
 pub mod Filling
-pub mod Single
 -- an arbiter that fits its packets
+pub mod Standing
+pub mod Cursors
+pub mod Known
+pub mod Soundness
+pub mod NextHeld
+pub mod NextGenuine
 pub mod Nexts
 pub mod Ending
 pub mod Gaps
@@ -22,7 +27,6 @@ pub mod Answering
 pub mod PacketSteps
 pub mod Passing
 pub mod Ordering
-pub mod NameBytes
 -- the history of a venue
 -- genuine packets, and the laws
 pub mod Naming

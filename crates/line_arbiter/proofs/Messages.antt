@@ -2,7 +2,7 @@
 use Rattle.std.proofs.Common.{◌≡◌, ℕ, ◌+◌, ◌-◌, List, [], ◌∷◌, Option, ap, ◌∙◌, arith}
 use Rattle.std.specs.List.{AllByRecursion}
 use Rattle.std.specs.Option.{option_map}
-use Rattle.std.proofs.lemmas.Option.{slice_get-map, slice_get-get_or}
+use Rattle.std.proofs.lemmas.Option.{slice_get-map}
 use Rattle.std.proofs.lemmas.List.{length-map}
 use Rattle.mold_packet.specs.Content.{Content}
 use Rattle.quote_payload.specs.Payload.{item_of}
@@ -11,10 +11,10 @@ use Rattle.line_arbiter.specs.OfSession.{AreOfSession, IsOfMessages, IsOfSession
 
 pub of_messages : (name : List ℕ) (messages : List (List ℕ)) (p : Content) → IsOfMessages name messages p → IsOfSession (session_of_messages name messages) p
 of_messages name messages p of = record {
-  name = of.name_is;
+  name = of.name;
   messages = λ k lt.
       slice_get-map item_of messages (p.number + k - 1)
-      ∙ ap (λ (o : Option (List ℕ)). option_map item_of o) (of.blocks k lt ∙ slice_get-get_or p.messages k [] lt);
+      ∙ ap (λ (o : Option (List ℕ)). option_map item_of o) (of.messages k lt);
   heartbeat = λ is. let h = of.heartbeat is in let l = length-map messages item_of in omega arith;
   end = λ is. let h = of.end is in let l = length-map messages item_of in omega arith;
 }

@@ -13,11 +13,14 @@ use Rattle.line_arbiter.specs.Packets.{Arrival, carried, end_of}
 use Rattle.line_arbiter.specs.Streams.{end_at, item_numbered, stream_to, wins_of}
 use Rattle.line_arbiter.specs.Holding.{held_at}
 use Rattle.line_arbiter.specs.States.{State, held_of, next_from, next_of}
-use Rattle.line_arbiter.specs.Counts.{count_on, shown}
+use Rattle.feed_types.specs.PerLines.{on_line}
+use Rattle.line_arbiter.specs.Counts.{shown}
 use Rattle.line_arbiter.specs.Steps.{DropsNext, IsSound}
 use Rattle.line_arbiter.specs.laws.Fronts.{IsFront}
-use Rattle.line_arbiter.specs.laws.Standing.{Stands}
-use Rattle.line_arbiter.specs.laws.Cursors.{held_is, end_len, end_most, length-stream}
+use Rattle.line_arbiter.proofs.Soundness.{before_end}
+use Rattle.line_arbiter.proofs.Standing.{Stands}
+use Rattle.line_arbiter.specs.laws.Lengths.{end_most, length-stream}
+use Rattle.line_arbiter.proofs.Cursors.{held_is, end_len}
 
 get_left : {X : Type 0} (xs ys : List X) (i : ℕ) → i < length xs → slice_get (xs ++ ys) i ≡ slice_get xs i
 get_left [] ys i h = absurd (omega arith)
@@ -75,7 +78,7 @@ next_is s packets sound fits =
             let len = length-stream packets s.front in
             let some : end_of packets ≡ Some (s.front + 1) = let k = fits.sent in end_len (end_of packets) (s.front + 1) (omega arith) in
             let sent : s.sent ≡ s.front + 1 = let k = fits.sent in omega (arith, end_most (end_of packets) (s.front + 1)) in
-            let none : held_at (held_of s) (s.sent + 1) ≡ None = none_from (held_at (held_of s) (s.sent + 1)) (λ item is. let k = sound.before_end (s.front + 1) (s.sent + 1) item (fits.end ∙ some) is in omega arith) in
+            let none : held_at (held_of s) (s.sent + 1) ≡ None = none_from (held_at (held_of s) (s.sent + 1)) (λ item is. let k = before_end s sound (s.front + 1) (s.sent + 1) item (fits.end ∙ some) is in omega arith) in
             ap (λ o. next_from (s.sent + 1) o s.end) none
             ∙ ap (λ o. next_from (s.sent + 1) None o) (fits.end ∙ some)
             ∙ past_end (s.sent + 1) (s.front + 1) (omega arith)
@@ -113,5 +116,5 @@ advance_fits old new packets sound ready by fits =
       end = ap (λ (s : State). s.end) by.others ∙ fits.end;
       sent = rw (by.sent, front) (ready_within old packets sound fits ready);
       held = λ m. by.held m ∙ ap (λ (x : Option Item). if nat_eq m (old.sent + 1) then None else x) (fits.held m) ∙ one_further m old.sent (carried packets m) ∙ ap (λ (k : ℕ). if nat_le m k then None else carried packets m) (sym by.sent);
-      wins = λ line. ap (λ (s : State). count_on line s.wins) by.others ∙ fits.wins line ∙ ap (λ (s : State). shown (count_on line s.earlier + wins_of packets line)) (sym by.others);
+      wins = λ line. ap (λ (s : State). on_line line s.wins) by.others ∙ fits.wins line ∙ ap (λ (s : State). shown (on_line line s.earlier + wins_of packets line)) (sym by.others);
     }

@@ -1,10 +1,10 @@
 -- A packet that needs no place in the window: what a peek says of it, and what taking it leaves.
-use Rattle.std.proofs.Common.{◌≡◌, ℕ, ◌<◌, List, [], ◌∷◌, ◌++◌, length, Option, Some, None, Ok, refl, sym, subst, ◌∙◌, arith}
+use Rattle.std.proofs.Common.{◌≡◌, ℕ, List, [], ◌∷◌, ◌++◌, length, Option, Some, None, Ok, sym, subst, arith}
 use Rattle.std.specs.Prelude.{IfSome}
 use Rattle.feed_types.specs.declared.line.LineId.{LineId}
 use Rattle.feed_types.specs.Prefix.{IsPrefix}
 use Rattle.mold_packet.specs.declared.packet.Kind.TheVariants as kinds
-use Rattle.mold_packet.specs.Content.{Content, IsContent, last_number}
+use Rattle.mold_packet.specs.Content.{Content, IsContent}
 use Rattle.line_arbiter.specs.declared.outcome.Outcome.{Outcome}
 use Rattle.line_arbiter.specs.declared.outcome.Outcome.TheVariants.{Taken, Heartbeat, Ended, Ahead}
 use Rattle.line_arbiter.specs.declared.in_order.InOrder.{InOrder}
@@ -14,35 +14,32 @@ use Rattle.line_arbiter.specs.Packets.{Arrival, arrival_of}
 use Rattle.line_arbiter.specs.Streams.{stream_of}
 use Rattle.line_arbiter.specs.Outcomes.{IsOutcome}
 use Rattle.line_arbiter.specs.States.{State, held_of}
-use Rattle.line_arbiter.specs.Steps.{GoesPast, IsSound, MessagesStep, OrdersPacket, counted, raised}
+use Rattle.line_arbiter.specs.Steps.{GoesPast, IsSound, MessagesStep, OrdersPacket}
 use Rattle.line_arbiter.specs.Fits.{Fits}
 use Rattle.line_arbiter.proofs.Answering.{packet_answer}
+use Rattle.line_arbiter.proofs.Ending.{ends_past}
+use Rattle.line_arbiter.proofs.Turns.{messages_some}
 use Rattle.line_arbiter.proofs.PacketSteps.{packet_fits}
 use Rattle.line_arbiter.proofs.Passing.{next_brings, next_of_packets, next_packet, passing_fits}
 use Rattle.line_arbiter.proofs.Repeating.{none_fresh, repeats, sent_agrees, sent_of_packets, sent_step, sent_there, was_sent}
-use Rattle.line_arbiter.specs.laws.Standing.{fits_of, stands_of}
+use Rattle.line_arbiter.proofs.Standing.{fits_of, stands_of}
 use Rattle.line_arbiter.specs.laws.StreamGrowth.{stream_grows}
 
--- the state that a packet leaves which was all sent
-abbrev repeated : LineId → State → Content → State
-repeated line s p = record s { known = raised s.known s.end (last_number p); wins = counted line 0 s.wins }
-
 module _ (s : State) (p : Content) (packets : List Arrival) (content : IsContent p) (sound : IsSound s) (name : p.session ≡ s.session) (kind : p.kind ≡ kinds.Messages) (fits : Fits s packets) where
-  repeats_sent : (line : LineId) → IsSent s p → MessagesStep line s (repeated line s p) p (Ok (Taken 0 (length p.messages)))
+  repeats_sent : (line : LineId) → IsSent s p → MessagesStep line s s p (Ok (Taken 0 (length p.messages)))
   repeats_sent line sent =
       let all = sent.all in
-      repeats line s p (raised s.known s.end (last_number p)) (counted line 0 s.wins) sound.stop
-      (sent_there (held_of s) p sent.all) (sent_agrees (held_of s) p sent.all) (omega arith) sent.before refl refl
+      repeats line s p sound (messages_some p.kind p.messages kind content.fits)
+      (sent_there (held_of s) p sent.all) (sent_agrees (held_of s) p sent.all) (omega arith) sent.before
 
   sent_brings : (line : LineId) (last : ℕ) → IsSent s p → BringsInOrder s.session s.window s.sent packets line p (Repeat last)
   sent_brings line last sent =
-      let step = sent_step line s (repeated line s p) p (Taken 0 (length p.messages)) name kind (repeats_sent line sent) in
-      let before = was_sent s packets p fits name kind sent in
+      let step = sent_step line s s p (Taken 0 (length p.messages)) name kind (repeats_sent line sent) in
       let a = arrival_of line p (Ok (Taken 0 (length p.messages))) in
-      let fitted : Fits (repeated line s p) (packets ++ a ∷ []) = fits_of (packet_fits s (repeated line s p) packets line p (Ok (Taken 0 (length p.messages))) content (stands_of fits) step) in
+      let fitted : Fits s (packets ++ a ∷ []) = fits_of (packet_fits s s packets line p (Ok (Taken 0 (length p.messages))) content (stands_of fits) step) in
       record {
-        answer = packet_answer line s (repeated line s p) packets p (Ok (Taken 0 (length p.messages))) content (stands_of fits) step;
-        grows = stream_grows packets a (λ e is. subst (λ (n : ℕ). n < e) fitted.front (sound.front_before_end e (fitted.end ∙ is)));
+        answer = packet_answer line s s packets p (Ok (Taken 0 (length p.messages))) content (stands_of fits) step;
+        grows = stream_grows packets a (ends_past s (packets ++ a ∷ []) sound fitted);
         items = tt;
       }
 

@@ -13,13 +13,16 @@ use Rattle.line_arbiter.specs.declared.outcome.LineFault.TheVariants.{OtherSessi
 use Rattle.line_arbiter.specs.Packets.{Arrival, carried, end_of, is_ended, is_taken}
 use Rattle.line_arbiter.specs.Holding.{held_at}
 use Rattle.line_arbiter.specs.States.{State, held_of}
-use Rattle.line_arbiter.specs.Counts.{count_on, shown}
+use Rattle.feed_types.specs.PerLines.{on_line}
+use Rattle.line_arbiter.specs.Counts.{shown}
 use Rattle.line_arbiter.specs.Steps.{EndStep, HeartbeatStep, KindStep, PacketStep, MessagesStep}
-use Rattle.line_arbiter.specs.laws.Standing.{Stands}
+use Rattle.line_arbiter.proofs.Standing.{Stands}
 use Rattle.mold_packet.specs.declared.packet.Kind.TheVariants as kinds
 use Rattle.line_arbiter.proofs.LineCounts.{wins_of-untaken}
 use Rattle.line_arbiter.specs.laws.Bringing.{carried_same, end_of-push}
-use Rattle.line_arbiter.specs.laws.Cursors.{known_at_end, length-stream, open_cursor, stream_len}
+use Rattle.line_arbiter.specs.laws.Lengths.{length-stream}
+use Rattle.line_arbiter.proofs.Cursors.{open_cursor, stream_len}
+use Rattle.line_arbiter.proofs.Known.{known_at_end}
 use Rattle.line_arbiter.proofs.Growth.{fits_heard, fits_refused, fits_taken}
 use Rattle.line_arbiter.proofs.Answering.{before_is, new_is}
 
@@ -65,7 +68,7 @@ end_fits old new packets a ended one h fits =
             end = fits.end ∙ was ∙ sym now;
             sent = rw (stream_len packets (packets ++ a ∷ []) old.front (now ∙ sym was)) fits.sent;
             held = λ m. fits.held m ∙ ap (λ (o : Option Item). if nat_le m old.sent then None else o) (sym (quiet m));
-            wins = λ line. fits.wins line ∙ ap (λ (n : ℕ). shown (count_on line old.earlier + n)) (sym (wins_of-untaken packets a line untaken));
+            wins = λ line. fits.wins line ∙ ap (λ (n : ℕ). shown (on_line line old.earlier + n)) (sym (wins_of-untaken packets a line untaken));
           })
       | inr first ↦
           let was : end_of packets ≡ None = sym fits.end ∙ first.1 in
@@ -76,7 +79,7 @@ end_fits old new packets a ended one h fits =
             end = sym now;
             sent = let l = length-stream (packets ++ a ∷ []) old.front in let k = open_cursor old packets fits first.1 in omega arith;
             held = λ m. fits.held m ∙ ap (λ (o : Option Item). if nat_le m old.sent then None else o) (sym (quiet m));
-            wins = λ line. fits.wins line ∙ ap (λ (n : ℕ). shown (count_on line old.earlier + n)) (sym (wins_of-untaken packets a line untaken));
+            wins = λ line. fits.wins line ∙ ap (λ (n : ℕ). shown (on_line line old.earlier + n)) (sym (wins_of-untaken packets a line untaken));
           })
     ]
 

@@ -14,7 +14,7 @@ use Rattle.feed_types.specs.Prefix.{IsPrefix}
 use Rattle.feed_types.specs.Sessions.{numbered_from}
 use Rattle.mold_packet.specs.declared.packet.Kind.{Kind}
 use Rattle.mold_packet.specs.declared.packet.Kind.TheVariants as kinds
-use Rattle.mold_packet.specs.Content.{Content, IsContent, KindFits, last_number}
+use Rattle.mold_packet.specs.Content.{Content, IsContent, last_number}
 use Rattle.quote_payload.specs.Payload.{item_of}
 use Rattle.line_arbiter.specs.declared.outcome.Outcome.TheVariants.{Taken}
 use Rattle.line_arbiter.specs.Packets.{Arrival, carried, end_of, has_number, item_at, known_of, message_item}
@@ -22,27 +22,28 @@ use Rattle.line_arbiter.specs.Streams.{end_at, front_of, item_numbered, stream_o
 use Rattle.line_arbiter.specs.Outcomes.{Agrees, IsOutcome, ToKind, new_count}
 use Rattle.line_arbiter.specs.declared.in_order.InOrder.TheVariants.{Next}
 use Rattle.line_arbiter.specs.InOrder.{BringsInOrder, IsNext, IsNextPacket}
-use Rattle.line_arbiter.specs.Counts.{count_on, shown}
+use Rattle.feed_types.specs.PerLines.{on_line}
+use Rattle.line_arbiter.specs.Counts.{shown}
 use Rattle.line_arbiter.specs.Holding.{IsEmpty}
 use Rattle.line_arbiter.specs.States.{State, held_of}
 use Rattle.line_arbiter.specs.Steps.{GoesPast, raised}
 use Rattle.line_arbiter.specs.Fits.{Fits}
-use Rattle.line_arbiter.specs.laws.Standing.{Stands, fits_of}
+use Rattle.line_arbiter.proofs.Standing.{Stands, fits_of}
 use Rattle.line_arbiter.proofs.Answering.{before_is}
-use Rattle.line_arbiter.specs.laws.Bringing.{carried_more, end_same, known-push}
+use Rattle.line_arbiter.specs.laws.Bringing.{carried_more, end_same}
+use Rattle.line_arbiter.proofs.Known.{known-push}
 use Rattle.line_arbiter.proofs.Counting.{count_first, count_same}
-use Rattle.line_arbiter.specs.laws.Cursors.{cursor, held_is, length-stream}
+use Rattle.line_arbiter.specs.laws.Lengths.{length-stream}
+use Rattle.line_arbiter.proofs.Cursors.{cursor, held_is}
 use Rattle.line_arbiter.specs.laws.Fronts.{IsFront, front_is, front_unique, not_in, not_none}
 use Rattle.line_arbiter.proofs.LineCounts.{wins_counted}
+use Rattle.line_arbiter.proofs.Turns.{messages_some}
 use Rattle.line_arbiter.specs.laws.Options.{IsSome-or}
 use Rattle.line_arbiter.specs.laws.StreamGrowth.{stream_grows}
 
 count_all : (a n : ℕ) → count_by (λ (m : ℕ). true) (range_with_len a n) ≡ n
 count_all a zero = refl
 count_all a (suc n) = count_first (λ (m : ℕ). true) a (range_with_len (a + 1) n) ∙ (let i = count_all (a + 1) n in omega arith)
-
-messages_some : (kind : Kind) (ms : List (List ℕ)) → kind ≡ kinds.Messages → KindFits kind ms → 1 ≤ length ms
-messages_some kind ms e h = let both = subst (λ (k : Kind). KindFits k ms) e h in both.0
 
 inside : (p : Content) (m : ℕ) → p.number ≤ m → m < p.number + length p.messages → has_number p m ≡ true
 inside p m low high = rw (le-leb p.number m low, lt-ltb m (p.number + length p.messages) high) refl
@@ -167,7 +168,7 @@ module _ (line : LineId) (old : State) (p : Content) (packets : List Arrival) (c
       end = ap (λ (x : State). x.end) past.after ∙ fits.end ∙ sym (end_same packets a refl);
       sent = rw (ap (λ (x : State). x.front) past.after, past.sent) (let l = length-stream (packets ++ a ∷ []) (last_number p) in omega arith);
       held = λ m. past.empty m ∙ sym (ap (λ (k : ℕ). if nat_le m k then None else carried (packets ++ a ∷ []) m) past.sent ∙ gone m);
-      wins = λ each. ap (λ (x : State). count_on each x.wins) past.after ∙ wins_counted packets a (length p.messages) old.wins old.earlier refl content.from_one is_fresh fits.wins each ∙ ap (λ (x : State). shown (count_on each x.earlier + wins_of (packets ++ a ∷ []) each)) (sym past.after);
+      wins = λ each. ap (λ (x : State). on_line each x.wins) past.after ∙ wins_counted packets a (length p.messages) old.wins old.earlier refl content.from_one is_fresh fits.wins each ∙ ap (λ (x : State). shown (on_line each x.earlier + wins_of (packets ++ a ∷ []) each)) (sym past.after);
     }
 
     pub passing_fits : Fits new (packets ++ a ∷ [])

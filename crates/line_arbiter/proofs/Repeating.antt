@@ -13,15 +13,16 @@ use Rattle.line_arbiter.specs.declared.outcome.Outcome.TheVariants.{Taken}
 use Rattle.line_arbiter.specs.Packets.{Arrival}
 use Rattle.line_arbiter.specs.Outcomes.{IsBefore}
 use Rattle.line_arbiter.specs.InOrder.{IsSent, WasSent}
-use Rattle.line_arbiter.specs.Counts.{Counts}
 use Rattle.line_arbiter.specs.Holding.{Held, held_at}
 use Rattle.line_arbiter.specs.Filling.{fresh_to, put_all, HeldAgrees}
 use Rattle.line_arbiter.specs.Comparing.{AreThere, IsThere}
 use Rattle.line_arbiter.specs.States.{State, held_of}
-use Rattle.line_arbiter.specs.Steps.{KindStep, MessagesStep, PacketStep, counted, raised}
+use Rattle.line_arbiter.specs.Steps.{IsSound, KindStep, MessagesStep, PacketStep, raised}
 use Rattle.line_arbiter.specs.Fits.{Fits}
 use Rattle.line_arbiter.proofs.Counting.{count_none}
 use Rattle.line_arbiter.proofs.Windows.{before_base}
+use Rattle.line_arbiter.proofs.LineCounts.{counted_none}
+use Rattle.line_arbiter.proofs.Soundness.{sent_known}
 
 -- a message that was sent is there, and nothing else is held at its number
 pub sent_there : (held : Held) (p : Content) → last_number p ≤ held.base → AreThere held p
@@ -72,24 +73,38 @@ none_fresh held p there =
     sym (count_none (λ m. nat_lt held.base m && is_none (held_at held m)) p.number (length p.messages)
     (λ m low high. not_new held m (λ past. held_past held p m there past low high)))
 
-pub repeats : (line : LineId) (old : State) (p : Content) (known : ℕ) (wins : Counts) → held_at (held_of old) (old.front + 1) ≡ None
-    → AreThere (held_of old) p → HeldAgrees (held_of old) p → last_number p ≤ old.sent + old.window → IsBefore old.end (last_number p)
-    → known ≡ raised old.known old.end (last_number p) → wins ≡ counted line 0 old.wins
-    → MessagesStep line old (record old { known = known; wins = wins }) p (Ok (Taken 0 (length p.messages)))
-repeats line old p known wins stop there agrees within before known_is wins_is = (
+-- its last message was sent, or is held: so it is known of
+known_still : (s : State) (p : Content) → IsSound s → 1 ≤ length p.messages → AreThere (held_of s) p → s.known ≡ raised s.known s.end (last_number p)
+known_still s p sound some there = by_end s.end refl
+  where
+    by_end : (end : Option ℕ) → s.end ≡ end → s.known ≡ raised s.known end (last_number p)
+    by_end None unended =
+        let at : p.number + (length p.messages - 1) ≡ last_number p = omega arith in
+        let sent = sent_known s sound unended in
+        elim (subst (λ (m : ℕ). IsThere (held_of s) m) at (there (length p.messages - 1) (omega arith))) [
+          | inl gone ↦ omega arith
+          | inr here ↦ let known = sound.held_known (last_number p) here in omega arith
+        ]
+    by_end (Some e) is = refl
+
+-- such a packet changes nothing
+pub repeats : (line : LineId) (s : State) (p : Content) → IsSound s → 1 ≤ length p.messages
+    → AreThere (held_of s) p → HeldAgrees (held_of s) p → last_number p ≤ s.sent + s.window → IsBefore s.end (last_number p)
+    → MessagesStep line s s p (Ok (Taken 0 (length p.messages)))
+repeats line s p sound some there agrees within before = (
   record {
-    held = λ m. sym (none_put (held_of old) p m there);
+    held = λ m. sym (none_put (held_of s) p m there);
     from = omega arith;
     run = λ m past within. absurd (omega arith);
-    stop = stop;
-    known = known_is;
-    wins = wins_is;
+    stop = sound.stop;
+    known = known_still s p sound some there;
+    wins = counted_none line s.wins sound.wins_shown;
     others = refl;
   },
   before,
   within,
   agrees,
-  none_fresh (held_of old) p there,
+  none_fresh (held_of s) p there,
   omega arith,
 )
 

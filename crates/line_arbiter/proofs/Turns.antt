@@ -1,5 +1,5 @@
 -- One turn of a loop over a packet's messages.
-use Rattle.std.proofs.Common.{◌≡◌, ℕ, zero, suc, ◌+◌, ◌^◌, ◌<◌, ◌≤◌, List, [], ◌∷◌, length, drop, add-one, refl, ap, ◌∙◌, arith}
+use Rattle.std.proofs.Common.{◌≡◌, ℕ, zero, suc, ◌+◌, ◌^◌, ◌<◌, ◌≤◌, List, [], ◌∷◌, length, drop, add-one, refl, ap, subst, ◌∙◌, arith}
 use Rattle.std.specs.Prelude.{slice_index_or}
 use Rattle.mold_packet.specs.declared.packet.Kind.{Kind}
 use Rattle.mold_packet.specs.declared.packet.Kind.TheVariants as kinds
@@ -44,3 +44,7 @@ few_of kinds.End ms fits = omega (arith, ap length fits)
 
 pub few : (p : Content) → IsContent p → length p.messages < 65536
 few p h = few_of p.kind p.messages h.fits
+
+-- a packet of messages has one at least
+pub messages_some : (kind : Kind) (ms : List (List ℕ)) → kind ≡ kinds.Messages → KindFits kind ms → 1 ≤ length ms
+messages_some kind ms e h = let both = subst (λ (k : Kind). KindFits k ms) e h in both.0

@@ -1,7 +1,7 @@
 -- The items that a window holds at its numbers, when an item is put in and when the first place is
 -- passed, and its bitmap then.
 use Rattle.std.proofs.Common.{◌≡◌, ◌≢◌, ℕ, ◌+◌, ◌-◌, ◌%◌, ◌^◌, ◌<◌, ◌≤◌, Bool, true, false, List, [], length, drop, replicate, Option, Some, None, refl, sym, ap, ◌∙◌, subst, arith, inl, inr}
-use Rattle.std.specs.Prelude.{◌⊎◌, IsSome, MatchBool, is_some, min, nat_eq, nat_lt, ◌&&◌, ◌==◌, if◌then◌else◌}
+use Rattle.std.specs.Prelude.{IsSome, MatchBool, is_some, nat_eq, nat_lt, ◌&&◌, ◌==◌, if◌then◌else◌}
 use Rattle.std.specs.Option.{option_and_then}
 use Rattle.std.proofs.lemmas.Bool.{cases_eq, cases_lt, eq-eqb, ne_eqb, lt-leb, le-leb, eqb-true, false≢true}
 use Rattle.std.proofs.lemmas.Bool.Decides.{nat_tests}
@@ -303,30 +303,3 @@ IsBitmap-new width marks zeros =
       marked = λ m low high.
           none_marked m ∙ sym (ap (λ (o : Option Item). is_some o) (empty_without held refl m));
     })
-
--- Why a run of numbers after a front, at which nothing is held, ends where it does: at the end of
--- the window, at the limit, or at a number that is held. The end of both is `end`, and the search
--- ends there or at the last place.
-pub gap_stop : (count : ℕ) (held : Held) (marks : List ℕ) (front limit far to next : ℕ) → IsHeld count held
-    → IsBitmap marks held → held.base ≤ front → front ≤ limit → front - held.base < held.width
-    → far ≡ min (limit - held.base) held.width → front < last_place held
-    → to ≡ min (held.base + far) (last_place held - 1) → front + 1 ≤ next → next ≤ to + 1
-    → (next < to + 1 → is_marked marks next ≡ true)
-    → (front < held.base) ⊎ (held.base + held.width ≤ front + (next - front - 1))
-    ⊎ (front + (next - front - 1) ≡ limit) ⊎ IsSome (held_at held (front + (next - front - 1) + 1))
-gap_stop count held marks front limit far to next h was low order inside is below ends from upto found =
-    let a = h.within in
-    let b = h.most in
-    let after : front + (next - front - 1) + 1 ≡ next = omega arith in
-    elim (cases_lt next (to + 1)) [
-      | inl lt ↦ inr (inr (inr (ap (λ (n : ℕ). is_some (held_at held n)) after
-          ∙ sym (was.marked next (omega arith) (omega arith)) ∙ found lt)))
-      | inr le ↦ elim (cases_eq next (last_place held)) [
-        | inl last ↦ inr (inr (inr (subst (λ (n : ℕ). IsSome (held_at held n)) (sym (after ∙ last))
-            (h.last (omega arith)))))
-        | inr apart ↦ elim (cases_lt (limit - held.base) held.width) [
-          | inl near ↦ inr (inr (inl (omega arith)))
-          | inr wide ↦ inr (inl (omega arith))
-        ]
-      ]
-    ]

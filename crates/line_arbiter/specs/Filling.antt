@@ -1,5 +1,5 @@
 -- What a window keeps, and what a packet's messages change in it. Cited by private clauses alone.
-use Rattle.std.specs.Prelude.{◌≡◌, ◌≢◌, ℕ, ◌+◌, ◌-◌, ◌^◌, ◌<◌, ◌≤◌, nat_eq, nat_le, nat_lt, ◌&&◌, List, [], ◌∷◌, ◌++◌, Option, Some, None, IsSome, count_by, is_none, is_some, length, replicate, slice_set, if◌then◌else◌}
+use Rattle.std.specs.Prelude.{◌≡◌, ◌≢◌, ℕ, ◌+◌, ◌-◌, ◌^◌, ◌<◌, ◌≤◌, nat_eq, nat_le, nat_lt, ◌&&◌, ◌⊎◌, List, [], ◌∷◌, ◌++◌, Option, Some, None, IsSome, count_by, is_none, is_some, length, replicate, slice_set, if◌then◌else◌}
 use Rattle.std.specs.List.{range_with_len}
 use Rattle.feed_types.specs.declared.item.Item.{Item}
 use Rattle.mold_packet.specs.Content.{Content}
@@ -22,6 +22,27 @@ pub record IsHeld (count : ℕ) (held : Held) : Type 0 where
   pub most : held.width ≤ 65535
   pub counted : count ≡ count_held held
   pub last : held.base < last_place held → IsSome (held_at held (last_place held))
+
+-- the lowest number past the front at which an item is held
+pub record IsLowest (held : Held) (front next : ℕ) : Type 0 where
+  pub past : front < next
+  pub here : IsSome (held_at held next)
+  pub none : (m : ℕ) → front < m → m < next → held_at held m ≡ None
+
+-- that number, or None where nothing is held past the front
+abbrev pub IsNextHeld : Held → ℕ → Option ℕ → Type 0
+IsNextHeld held front None = (m : ℕ) → front < m → held_at held m ≡ None
+IsNextHeld held front (Some next) = IsLowest held front next
+
+-- What is held past the front once a packet was put in and the front has moved over it: from the
+-- lowest number that was held before on, and from the packet's first on, where that is past the
+-- front.
+pub record IsHeldFrom (held : Held) (front number : ℕ) (before : Option ℕ) : Type 0 where
+  pub base : held.base ≤ front
+  pub here : front < number → IsSome (held_at held number)
+  pub there : (n : ℕ) → before ≡ Some n → IsSome (held_at held n)
+  pub others : (m : ℕ) → front < m → IsSome (held_at held m)
+      → ((front < number) × (number ≤ m)) ⊎ ((n : ℕ) × (before ≡ Some n) × (n ≤ m))
 
 -- the places once an item was put in at k, with empty ones before it where there were none
 abbrev pub put_at : List (Option Item) → ℕ → Item → List (Option Item)

@@ -4,7 +4,8 @@ use Rattle.feed_types.specs.declared.line.LineId.{LineId}
 use Rattle.line_arbiter.specs.Packets.{Arrival, carried, end_of, known_of}
 use Rattle.line_arbiter.specs.Streams.{front_of, stream_of, held_count, wins_of}
 use Rattle.line_arbiter.specs.Histories.{History, names_of, wins_in}
-use Rattle.line_arbiter.specs.Counts.{count_on, shown}
+use Rattle.feed_types.specs.PerLines.{on_line}
+use Rattle.line_arbiter.specs.Counts.{shown}
 use Rattle.line_arbiter.specs.Holding.{held_at}
 use Rattle.line_arbiter.specs.States.{State, held_of}
 use Rattle.line_arbiter.specs.declared.arbiter.ArbiterStatus.{ArbiterStatus}
@@ -19,7 +20,7 @@ pub record Fits (s : State) (packets : List Arrival) : Type 0 where
   pub sent : s.sent ≤ length (stream_of packets)
   pub held : (m : ℕ) → held_at (held_of s) m ≡ (if nat_le m s.sent then None else carried packets m)
   pub wins : (line : LineId)
-      → count_on line s.wins ≡ shown (count_on line s.earlier + wins_of packets line)
+      → on_line line s.wins ≡ shown (on_line line s.earlier + wins_of packets line)
 
 -- The state is that after this history: its present session is the history's, the sessions have the
 -- history's names, and each line had won what it brought first in the earlier ones.
@@ -27,7 +28,7 @@ pub record FitsHistory (s : State) (h : History) : Type 0 where
   pub present : Fits s h.present.packets
   pub names : s.sessions ≡ names_of h
   pub session : s.session ≡ h.present.name
-  pub earlier : (line : LineId) → count_on line s.earlier ≡ shown (wins_in h.earlier line)
+  pub earlier : (line : LineId) → on_line line s.earlier ≡ shown (wins_in h.earlier line)
 
 -- the cursors over these packets, once `sent` items were sent
 abbrev pub cursors_of : ℕ → List Arrival → ArbiterStatus

@@ -1,38 +1,38 @@
 -- Packets of a session, and the items that they bring.
-use Rattle.std.specs.Prelude.{◌≡◌, ℕ, ◌+◌, ◌-◌, ◌<◌, ◌≤◌, ◌&&◌, ◌==◌, List, [], ◌∷◌, ◌++◌, length, map, take, slice_get, Option, Some, is_some, IsOk, if◌then◌else◌}
+use Rattle.std.specs.Prelude.{◌≡◌, ℕ, ◌+◌, ◌-◌, ◌<◌, ◌≤◌, ◌&&◌, ◌==◌, List, [], ◌∷◌, ◌++◌, length, map, take, slice_get, slice_index_or, Option, Some, is_some, IsOk, if◌then◌else◌}
 use Rattle.std.specs.List.{AllByRecursion}
 use Rattle.feed_types.specs.declared.item.Numbered.{Numbered}
 use Rattle.feed_types.specs.Sessions.{Session, IsSessionAt, Names, SessionNames, numbered_from, end_item, whole_session}
 use Rattle.feed_types.specs.Sequence.{Carries, Ends}
-use Rattle.line_arbiter.specs.Packets.{Arrival, end_of, message_item}
+use Rattle.line_arbiter.specs.Packets.{Arrival, end_of}
 use Rattle.line_arbiter.specs.Streams.{IsComplete, front_of, stream_of}
 use Rattle.line_arbiter.specs.Genuine.{AreGenuine}
 use Rattle.mold_packet.specs.declared.packet.Kind.TheVariants as kinds
 use Rattle.mold_packet.specs.Content.{Content}
 use Rattle.quote_payload.specs.Payload.{item_of}
 
--- The packet is of the session: its messages are the session's at their numbers, a heartbeat's
--- number is at most the one after the last message's, and an end's number is that one.
-pub record IsOfSession (session : Session) (p : Content) : Type 0 where
-  pub name : p.session ≡ session.name
+-- The packet is of the session with this name: its messages, as they are read, are these at their
+-- numbers, a heartbeat's number is at most the one after the last message's, and an end's number is
+-- that one.
+pub record IsPacketOf {A : Type 0} (read : List ℕ → A) (session : List ℕ) (all : List A)
+    (p : Content) : Type 0 where
+  pub name : p.session ≡ session
   pub messages : (k : ℕ) → k < length p.messages
-      → slice_get session.items (p.number + k - 1) ≡ Some (message_item p k)
-  pub heartbeat : p.kind ≡ kinds.Heartbeat → p.number ≤ length session.items + 1
-  pub end : p.kind ≡ kinds.End → p.number ≡ length session.items + 1
+      → slice_get all (p.number + k - 1) ≡ Some (read (slice_index_or p.messages k []))
+  pub heartbeat : p.kind ≡ kinds.Heartbeat → p.number ≤ length all + 1
+  pub end : p.kind ≡ kinds.End → p.number ≡ length all + 1
+
+-- the packet's messages read as the session's items
+abbrev pub IsOfSession : Session → Content → Type 0
+IsOfSession session p = IsPacketOf item_of session.name session.items p
+
+-- its blocks are the messages of a session, each with its bytes
+abbrev pub IsOfMessages : List ℕ → List (List ℕ) → Content → Type 0
+IsOfMessages name messages p = IsPacketOf (λ bytes. bytes) name messages p
 
 -- the session of this name whose messages are these, from number 1 on
 abbrev pub session_of_messages : List ℕ → List (List ℕ) → Session
 session_of_messages name messages = record { name = name; items = map item_of messages }
-
--- The packet is of the session with this name and these messages: its blocks are the messages at
--- their numbers, a heartbeat's number is at most the one after the last message's, and an end's
--- number is that one.
-pub record IsOfMessages (name : List ℕ) (messages : List (List ℕ)) (p : Content) : Type 0 where
-  pub name_is : p.session ≡ name
-  pub blocks : (k : ℕ) → k < length p.messages
-      → slice_get messages (p.number + k - 1) ≡ slice_get p.messages k
-  pub heartbeat : p.kind ≡ kinds.Heartbeat → p.number ≤ length messages + 1
-  pub end : p.kind ≡ kinds.End → p.number ≡ length messages + 1
 
 -- each packet of the session's name is of the session
 abbrev pub AreOfSession : Session → List Arrival → Type 0

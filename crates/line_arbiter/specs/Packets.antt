@@ -1,6 +1,6 @@
 -- What a venue's lines brought: definitions over the list of all packets that were given to its
 -- arbiter in the present session, each with its line and its answer.
-use Rattle.std.specs.Prelude.{ℕ, ◌+◌, ◌-◌, Bool, true, false, ◌&&◌, nat_lt, nat_le, List, [], length, fold, max, Option, Result, Ok, Err, find, slice_index_or, if◌then◌else◌}
+use Rattle.std.specs.Prelude.{ℕ, ◌+◌, ◌-◌, Bool, true, false, ◌&&◌, nat_lt, nat_le, List, [], length, fold, max, Option, Result, Ok, find, slice_index_or, if◌then◌else◌}
 use Rattle.std.specs.Option.{option_map, option_map_or}
 use Rattle.feed_types.specs.declared.item.Item.{Item}
 use Rattle.feed_types.specs.declared.line.LineId.{LineId}
@@ -34,17 +34,11 @@ item_at p m = message_item p (m - p.number)
 
 abbrev pub is_taken : Result Outcome LineFault → Bool
 is_taken (Ok (Taken new repeated)) = true
-is_taken (Ok Heartbeat) = false
-is_taken (Ok Ended) = false
-is_taken (Ok Ahead) = false
-is_taken (Err fault) = false
+is_taken _ = false
 
 abbrev pub is_ended : Result Outcome LineFault → Bool
 is_ended (Ok Ended) = true
-is_ended (Ok Heartbeat) = false
-is_ended (Ok Ahead) = false
-is_ended (Ok (Taken new repeated)) = false
-is_ended (Err fault) = false
+is_ended _ = false
 
 -- the packet was taken, and has a message of this number
 abbrev pub brings : ℕ → Arrival → Bool
@@ -72,8 +66,7 @@ abbrev pub heard_by : Content → Result Outcome LineFault → ℕ
 heard_by p (Ok (Taken new repeated)) = last_number p
 heard_by p (Ok Ahead) = last_number p
 heard_by p (Ok Heartbeat) = p.number - 1
-heard_by p (Ok Ended) = 0
-heard_by p (Err fault) = 0
+heard_by p _ = 0
 
 abbrev pub heard : Arrival → ℕ
 heard a = heard_by a.packet a.answer

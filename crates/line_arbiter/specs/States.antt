@@ -5,7 +5,8 @@ use Rattle.feed_types.specs.declared.item.Item.{Item}
 use Rattle.feed_types.specs.declared.item.Item.TheVariants as items
 use Rattle.feed_types.specs.declared.item.Numbered.{Numbered}
 use Rattle.line_arbiter.specs.declared.arbiter.ArbiterStatus.{ArbiterStatus}
-use Rattle.line_arbiter.specs.Counts.{Counts, no_counts}
+use Rattle.feed_types.specs.declared.per_line.PerLine.{PerLine}
+use Rattle.feed_types.specs.PerLines.{on_all}
 use Rattle.line_arbiter.specs.Holding.{Held, held_at}
 
 -- `sessions` are the names of the venue's sessions so far, the present one last; `earlier` has the
@@ -20,8 +21,8 @@ pub record State : Type 0 where
   pub known : ℕ
   pub end : Option ℕ
   pub places : List (Option Item)
-  pub wins : Counts
-  pub earlier : Counts
+  pub wins : PerLine ℕ
+  pub earlier : PerLine ℕ
 
 -- the number of the present session: the first has ordinal 1
 abbrev pub ordinal_of : State → ℕ
@@ -61,8 +62,8 @@ pub record IsNew (s : State) (place : ℕ) (name : List ℕ) (width : ℕ) : Typ
   pub venue : s.venue ≡ place
   pub sessions : s.sessions ≡ name ∷ []
   pub window : s.window ≡ width
-  pub wins : s.wins ≡ no_counts
-  pub earlier : s.earlier ≡ no_counts
+  pub wins : s.wins ≡ on_all 0
+  pub earlier : s.earlier ≡ on_all 0
 
 -- what a packet leaves: whose lines they are, the session, the window and the last item sent
 pub record KeepsItsPlace (old new : State) : Type 0 where

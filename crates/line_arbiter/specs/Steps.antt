@@ -1,9 +1,7 @@
 -- The effect of one packet on an arbiter, in terms of its state alone. Cited by private clauses
 -- alone.
-use Rattle.std.specs.Prelude.{◌≡◌, ◌≢◌, ℕ, ◌+◌, ◌-◌, ◌^◌, ◌<◌, nat_eq, ◌⊎◌, Option, Some, None, IsSome, length, max, slice_get, Result, Ok, Err, ◌≤◌, if◌then◌else◌}
-use Rattle.feed_types.specs.declared.item.Item.{Item}
+use Rattle.std.specs.Prelude.{◌≡◌, ◌≢◌, ℕ, ◌+◌, ◌-◌, ◌^◌, ◌<◌, nat_eq, ◌⊎◌, Option, Some, None, IsSome, length, max, Result, Ok, Err, ◌≤◌, if◌then◌else◌}
 use Rattle.feed_types.specs.declared.line.LineId.{LineId}
-use Rattle.feed_types.specs.declared.line.LineId.TheVariants.{A, B, Recovery}
 use Rattle.mold_packet.specs.declared.packet.Kind.{Kind}
 use Rattle.mold_packet.specs.declared.packet.Kind.TheVariants as kinds
 use Rattle.mold_packet.specs.Content.{Content, last_number}
@@ -12,24 +10,27 @@ use Rattle.line_arbiter.specs.declared.outcome.Outcome.TheVariants.{Taken, Heart
 use Rattle.line_arbiter.specs.declared.outcome.LineFault.{LineFault}
 use Rattle.line_arbiter.specs.declared.outcome.LineFault.TheVariants.{OtherSession, PastEnd, EndMoved, EndTooEarly, Conflict}
 use Rattle.line_arbiter.specs.Outcomes.{IsBefore, IsPast}
-use Rattle.line_arbiter.specs.Counts.{Counts, shown}
+use Rattle.feed_types.specs.declared.per_line.PerLine.{PerLine}
+use Rattle.feed_types.specs.PerLines.{on_line, with_line}
+use Rattle.line_arbiter.specs.Counts.{shown}
 use Rattle.line_arbiter.specs.Holding.{IsEmpty, held_at}
 use Rattle.line_arbiter.specs.Filling.{put_all, fresh_to, HeldAgrees, HeldDisagrees}
 use Rattle.line_arbiter.specs.States.{State, held_of}
 use Rattle.line_arbiter.specs.declared.in_order.InOrder.{InOrder}
 use Rattle.line_arbiter.specs.InOrder.{IsNext, IsOrder, IsSent}
 
--- What every arbiter keeps: what is held, and the front, are below the announced end; nothing is
--- held right after the front; and the present session is the last of its sessions, at most 64.
+-- What every arbiter keeps: the front, and what is held, are known of, which is to before the
+-- announced end; nothing is held right after the front; the last item sent is not past the front,
+-- or is End; there are at most 64 sessions; and the wins are shown.
 pub record IsSound (s : State) : Type 0 where
   pub end_small : (e : ℕ) → s.end ≡ Some e → e < 2 ^ 64
-  pub before_end : (e m : ℕ) (item : Item)
-      → s.end ≡ Some e → held_at (held_of s) m ≡ Some item → m < e
-  pub front_before_end : (e : ℕ) → s.end ≡ Some e → s.front < e
-  pub named : 1 ≤ length s.sessions
-  pub few : length s.sessions ≤ 64
-  pub present : slice_get s.sessions (length s.sessions - 1) ≡ Some s.session
+  pub known_at_end : (e : ℕ) → s.end ≡ Some e → s.known + 1 ≡ e
+  pub front_known : s.front ≤ s.known
+  pub held_known : (m : ℕ) → IsSome (held_at (held_of s) m) → m ≤ s.known
   pub stop : held_at (held_of s) (s.front + 1) ≡ None
+  pub sent_or_end : (s.sent ≤ s.front) ⊎ ((s.sent ≡ s.front + 1) × (s.end ≡ Some s.sent))
+  pub few : length s.sessions ≤ 64
+  pub wins_shown : (line : LineId) → shown (on_line line s.wins) ≡ on_line line s.wins
 
 -- the number up to which there are messages, after one more is heard of: nothing changes once the
 -- end is announced
@@ -38,10 +39,8 @@ raised known None to = max known to
 raised known (Some e) to = known
 
 -- n more on the line
-abbrev pub counted : LineId → ℕ → Counts → Counts
-counted A n counts = record counts { a = shown (counts.a + n) }
-counted B n counts = record counts { b = shown (counts.b + n) }
-counted Recovery n counts = record counts { recovery = shown (counts.recovery + n) }
+abbrev pub counted : LineId → ℕ → PerLine ℕ → PerLine ℕ
+counted line n counts = with_line line (shown (on_line line counts + n)) counts
 
 -- the state after the next item was sent on: the cursor is one further, and that item is held no
 -- longer

@@ -1,13 +1,13 @@
 -- The stream: the items in sequence up to the first gap, the gap, and the lines that brought them
 -- first.
-use Rattle.std.specs.Prelude.{◌≡◌, ℕ, ◌+◌, ◌-◌, ◌≤◌, Bool, false, ◌==◌, List, [], ◌∷◌, ◌++◌, map, count_by, min, Option, Some, None, IsSome, is_some, is_none, unwrap_or, if◌then◌else◌}
+use Rattle.std.specs.Prelude.{◌≡◌, ℕ, ◌+◌, ◌-◌, ◌≤◌, Bool, true, false, ◌==◌, List, [], ◌∷◌, ◌++◌, map, count_by, min, Option, Some, None, IsSome, is_some, is_none, unwrap_or, if◌then◌else◌}
 use Rattle.std.specs.List.{range_with_len, prefix_len}
 use Rattle.std.specs.Option.{option_map_or}
 use Rattle.feed_types.specs.declared.item.Item.TheVariants as items
 use Rattle.feed_types.specs.declared.item.Numbered.{Numbered}
 use Rattle.feed_types.specs.declared.line.LineId.{LineId}
+use Rattle.feed_types.specs.declared.line.LineId.TheVariants.{A, B, Recovery}
 use Rattle.feed_types.specs.Sessions.{end_item}
-use Rattle.feed_types.specs.Text.{line_letter}
 use Rattle.mold_packet.specs.declared.request.Request.{Request}
 use Rattle.line_arbiter.specs.Packets.{Arrival, bringer, carried, top_of, end_of, known_of}
 
@@ -64,9 +64,12 @@ abbrev pub held_count : ℕ → List Arrival → ℕ
 held_count sent packets =
     count_by (λ m. is_some (carried packets m)) (range_with_len (sent + 1) (top_of packets - sent))
 
--- the lines are the same: they have one letter
+-- the lines are the same
 abbrev pub is_same_line : LineId → LineId → Bool
-is_same_line l m = line_letter l == line_letter m
+is_same_line A A = true
+is_same_line B B = true
+is_same_line Recovery Recovery = true
+is_same_line l m = false
 
 -- how many numbers came first on the line
 abbrev pub wins_of : List Arrival → LineId → ℕ

@@ -2,9 +2,7 @@
 pub mod Options
 pub mod Fronts
 pub mod Bringing
-pub mod Standing
-pub mod Cursors
-pub mod Soundness
+pub mod Lengths
 pub mod Genuine
 pub mod Arrivals
 pub mod OfSession

@@ -1,6 +1,6 @@
 //! One venue's lines, in sequence.
 
-ghost use Rattle.std.specs.Prelude.{◌≡◌, ◌∷◌, ◌++◌, ◌↔◌, ◌+◌, ◌^◌, ◌<◌, ◌≤◌, List, [], IfOk, IfSome, Ok, IsSome, IsErrOf, OnErr, OnOk, slice_get, Some, None, length};
+ghost use Rattle.std.specs.Prelude.{◌≡◌, ◌∷◌, ◌++◌, ◌↔◌, ◌+◌, ◌^◌, ◌<◌, ◌≤◌, List, [], IfOk, IfSome, Ok, IsSome, MatchBool, Contains, IsErrOf, OnErr, OnOk, slice_get, Some, None, length};
 ghost use Rattle.feed_types.specs.Prefix.{IsPrefix};
 ghost use Rattle.feed_types.specs.declared.line.LineId.{LineId};
 ghost use Rattle.line_arbiter.specs.Packets.{Arrival, arrival_of};
@@ -8,7 +8,8 @@ ghost use Rattle.line_arbiter.specs.Streams.{IsComplete, stream_of, gap_of, wins
 ghost use Rattle.line_arbiter.specs.Outcomes.{IsOutcome};
 ghost use Rattle.line_arbiter.specs.Renewals.{HasEnded, IsRenewal};
 ghost use Rattle.line_arbiter.specs.Genuine.{AreGenuine, IsGenuineItem};
-ghost use Rattle.line_arbiter.specs.Counts.{count_on, shown};
+ghost use Rattle.feed_types.specs.PerLines.{on_line};
+ghost use Rattle.line_arbiter.specs.Counts.{shown};
 ghost use Rattle.line_arbiter.specs.States.{ordinal_of, next_of, ShowsCursors, IsNew, KeepsItsPlace, IsAdvanced, IsRenewed};
 ghost use Rattle.line_arbiter.specs.Fits.{Fits, cursors_of};
 ghost use Rattle.line_arbiter.specs.Steps.{IsSound, DropsNext};
@@ -16,12 +17,14 @@ ghost use Rattle.line_arbiter.specs.Steps.{IsSound, DropsNext};
 use crate::faults::{ArbiterFault, RenewFault};
 use crate::outcome::{LineFault, Outcome};
 use crate::window::Window;
-use crate::wins::Wins;
 use arrayvec::ArrayVec;
-use feed_types::{Genuine, Item, LineId, MAX_SESSIONS, MAX_WINDOW, Numbered, VenueId};
+use feed_types::{Genuine, Item, LineId, MAX_SESSIONS, MAX_WINDOW, Numbered, PerLine, VenueId};
 use mold_packet::{Packet, Request};
 use std::alloc::Global;
 use std::marker::{Model, PhantomData};
+
+/// The most sessions of a venue that are over while another goes on.
+const EARLIER_SESSIONS: usize = MAX_SESSIONS - 1;
 
 /// The cursors of a venue's present session. Numbers count from 1.
 #[derive(Clone, Copy, Debug, PartialEq, Eq)]
@@ -45,28 +48,30 @@ pub struct ArbiterStatus {
 #[derive(Drop)]
 pub struct Arbiter<G> {
     venue_id: VenueId,
-    names: ArrayVec<[u8; 10], MAX_SESSIONS>,
+    /// The names of the sessions that are over.
+    earlier_names: ArrayVec<[u8; 10], EARLIER_SESSIONS>,
     pub(crate) session_name: [u8; 10],
     pub(crate) held: Window,
     pub(crate) run_to: u64,
+    /// The lowest number past the front that is held.
+    pub(crate) next_held: Option<u64>,
     pub(crate) known_to: u64,
     pub(crate) end_number: Option<u64>,
-    pub(crate) won: Wins,
-    won_before: Wins,
+    pub(crate) won: PerLine<u64>,
+    won_before: PerLine<u64>,
     lines: PhantomData<G>,
 }
 
 impl<G> Model for Arbiter<G> {
     ghost use Rattle.line_arbiter.specs.States.{State};
-    ghost use Rattle.line_arbiter.specs.Steps.{IsSound};
 
     ghost Value = { State };
 
-    ghost use Rattle.line_arbiter.specs.Inside.{arbiter_inside};
+    ghost use Rattle.line_arbiter.specs.Inside.{arbiter_inside, IsArbiter};
 
     ghost view = { λ a. arbiter_inside a };
 
-    ghost invariant = { λ a. IsSound (arbiter_inside a) };
+    ghost invariant = { λ a. IsArbiter a };
 }
 
 impl<G: Genuine> Arbiter<G> {
@@ -91,18 +96,17 @@ impl<G: Genuine> Arbiter<G> {
         let Ok(held) = Window::new(alloc, window) else {
             return Err(ArbiterFault::NoMemory);
         };
-        let mut names = ArrayVec::new();
-        names.push(session);
         Ok(Arbiter {
             venue_id: venue,
-            names,
+            earlier_names: ArrayVec::new(),
             session_name: session,
             held,
             run_to: 0,
+            next_held: None,
             known_to: 0,
             end_number: None,
-            won: Wins::none(),
-            won_before: Wins::none(),
+            won: PerLine::all(0),
+            won_before: PerLine::all(0),
             lines: PhantomData,
         })
     }
@@ -126,7 +130,7 @@ impl<G: Genuine> Arbiter<G> {
         ensures value { result ≡ ordinal_of self.now }
         ensures range { (1 ≤ result) × (result ≤ 64) }
     {
-        self.names.len() as u64
+        self.earlier_names.len() as u64 + 1
     }
 
     /// Returns the item that is ready, if any.
@@ -209,33 +213,36 @@ impl<G: Genuine> Arbiter<G> {
         ensures { (packets : List Arrival) → Fits self.now packets
             → result ≡ gap_of self.now.session self.now.window self.now.sent packets }
     {
-        let limit = self.run_to.max(self.known_to);
-        let count = self.held.missing_after(self.run_to, limit);
-        if count == 0 {
+        let limit = self.known_to.min(self.held.reach());
+        let last = match self.next_held {
+            Some(next) => limit.min(next - 1),
+            None => limit,
+        };
+        if last <= self.run_to {
             return None;
         }
         Some(Request {
             session: self.session_name,
             number: self.run_to + 1,
-            count,
+            count: (last - self.run_to) as u16,
         })
     }
 
     /// Returns the count of numbers that the line brought first, over all sessions. The count stays
     /// at 2^64 - 1.
     pub fn wins(&self, line: LineId) -> u64
-        ensures value { result ≡ count_on line self.now.wins }
+        ensures value { result ≡ on_line line self.now.wins }
         ensures session { (packets : List Arrival) → Fits self.now packets
-            → result ≡ shown (count_on line self.now.earlier + wins_of packets line) }
+            → result ≡ shown (on_line line self.now.earlier + wins_of packets line) }
     {
         self.won.on(line)
     }
 
     /// Returns the counts of all lines, each that of `wins`.
-    pub fn all_wins(&self) -> Wins
+    pub fn all_wins(&self) -> PerLine<u64>
         ensures value { result ≡ self.now.wins }
         ensures session { (packets : List Arrival) → Fits self.now packets → (line : LineId)
-            → count_on line result ≡ shown (count_on line self.now.earlier + wins_of packets line) }
+            → on_line line result ≡ shown (on_line line self.now.earlier + wins_of packets line) }
     {
         self.won
     }
@@ -255,6 +262,20 @@ impl<G: Genuine> Arbiter<G> {
         }
     }
 
+    /// Returns whether a session of the venue has had the name.
+    fn has_used(&self, name: &[u8; 10]) -> bool
+        ensures { MatchBool result (Contains self.now.sessions name.now)
+            (Contains self.now.sessions name.now → ⊥) }
+    {
+        if self.session_name == *name {
+            return true;
+        }
+        if self.earlier_names.as_slice().contains(name) {
+            return true;
+        }
+        false
+    }
+
     /// Begins the venue's next session under a name of ten bytes, once End was advanced past, and
     /// returns its ordinal. Nothing of it has come yet; wins go on counting. The refusals, in this
     /// order: NotEnded, SessionUsed, TooManySessions (64 at most).
@@ -269,19 +290,19 @@ impl<G: Genuine> Arbiter<G> {
         if self.end_number != Some(self.held.base()) {
             return Err(RenewFault::NotEnded);
         }
-        if self.names.as_slice().contains(&session) {
+        if self.has_used(&session) {
             return Err(RenewFault::SessionUsed);
         }
-        if self.names.is_full() {
+        if self.earlier_names.is_full() {
             return Err(RenewFault::TooManySessions);
         }
-        self.names.push(session);
+        self.earlier_names.push(self.session_name);
         self.session_name = session;
         self.held.move_to(0);
         self.run_to = 0;
         self.known_to = 0;
         self.end_number = None;
         self.won_before = self.won;
-        Ok(self.names.len() as u64)
+        Ok(self.ordinal())
     }
 }

@@ -16,9 +16,9 @@ ghost use Rattle.line_arbiter.specs.Fits.{Fits};
 ghost use Rattle.line_arbiter.specs.Steps.{GoesPast, OrdersPacket};
 
 use crate::arbiter::Arbiter;
-use crate::names::is_same_name;
 use crate::outcome::Outcome;
 use crate::taking::{is_past, raised};
+use crate::wins::add_wins;
 use feed_types::{Genuine, LineId};
 use mold_packet::{Kind, Packet};
 
@@ -74,7 +74,7 @@ impl<G: Genuine> Arbiter<G> {
         self.held.move_to(last);
         self.run_to = last;
         self.known_to = raised(self.known_to, self.end_number, last);
-        self.won.add(line, new);
+        add_wins(&mut self.won, line, new);
         Outcome::Taken { new, repeated: 0 }
     }
 
@@ -92,7 +92,7 @@ impl<G: Genuine> Arbiter<G> {
         ensures in_order { IfSome result (IsInOrder self.now packet.now) }
         ensures content { IsContent packet.now }
     {
-        if !is_same_name(&packet.session(), &self.session_name) {
+        if packet.session() != self.session_name {
             return None;
         }
         match packet.kind() {
@@ -127,7 +127,7 @@ impl<G: Genuine> Arbiter<G> {
         let _held = &self.held;
         match order {
             InOrder::Next { last } => self.pass(line, packet, last),
-            InOrder::Repeat { last } => self.take_repeat(line, packet, last),
+            InOrder::Repeat { .. } => self.repeat_of(packet),
         }
     }
 }

@@ -1,12 +1,12 @@
 //! A packet's messages against a window, and into it.
 //!
-//! A packet of a single message (`.._single`) is held at once, and compared only where it can't be;
-//! one of many (`.._many`) is compared first, so that nothing is held of it where one differs.
+//! A packet of a single message is held at once, and compared only where it can't be; one of many is
+//! compared first, so that nothing is held of it where one differs.
 
 ghost use Rattle.std.specs.Prelude.{◌≡◌, ◌≢◌, ◌↔◌, ℕ, ◌+◌, ◌<◌, ◌≤◌, None, IsSome, IsTrue, length, MatchBool, false};
 ghost use Rattle.quote_payload.specs.Payload.{item_of};
 ghost use Rattle.line_arbiter.specs.Holding.{held_at};
-ghost use Rattle.line_arbiter.specs.Filling.{put_one, put_all, fresh_to};
+ghost use Rattle.line_arbiter.specs.Filling.{put_one, put_all, fresh_to, IsHeldFrom, IsNextHeld};
 ghost use Rattle.line_arbiter.specs.Comparing.{Compares, ComparesOne, AreThere, HoldsAll, TakesAll};
 
 use crate::window::Window;
@@ -39,7 +39,7 @@ fn compare_one(window: &Window, number: u64, message: &[u8]) -> Comparison
     ensures { ComparesOne window.now number (item_of message.now) result }
 {
     match window.get(number) {
-        Some(found) if differ(&found, &read_item(message)) => Comparison::Differs,
+        Some(found) if differ(found, &read_item(message)) => Comparison::Differs,
         Some(_) => Comparison::Repeats,
         None if number <= window.base() => Comparison::Repeats,
         None => Comparison::Agrees,
@@ -64,18 +64,6 @@ fn compare_many(window: &Window, packet: &Packet<'_>) -> Comparison
         Comparison::Repeats
     } else {
         Comparison::Agrees
-    }
-}
-
-/// Compares the packet's single message with the one that is held at its number.
-#[inline(never)]
-fn compare_single(window: &Window, packet: &Packet<'_>) -> Comparison
-    requires { length packet.now.messages ≡ 1 }
-    ensures { Compares window.now packet.now result }
-{
-    match packet.messages().next() {
-        Some(message) => compare_one(window, packet.number(), message),
-        None => Comparison::Agrees,
     }
 }
 
@@ -106,26 +94,11 @@ fn put(window: &mut Window, number: u64, message: &[u8]) -> bool
     ensures width { window.new.width ≡ window.old.width }
     ensures same { result ≡ false → window.new ≡ window.old }
 {
-    if !window.is_free(number) {
+    if !window.can_hold(number) {
         return false;
     }
     window.hold(number, read_item(message));
     true
-}
-
-/// Holds the packet's single message where it is past the base and free, and returns whether it
-/// did.
-#[inline(always)]
-fn fill_single(window: &mut Window, packet: &Packet<'_>) -> bool
-    requires one { length packet.now.messages ≡ 1 }
-    requires within { packet.now.number ≤ window.old.base + window.old.width }
-    ensures { MatchBool result (HoldsAll window.old window.new packet.now 1)
-        ((window.new ≡ window.old) × AreThere window.old packet.now) }
-{
-    match packet.messages().next() {
-        Some(message) => put(window, packet.number(), message),
-        None => false,
-    }
 }
 
 /// Holds the packet's messages past the base where nothing is held, and returns how many it held.
@@ -167,10 +140,15 @@ fn take_single(window: &mut Window, packet: &Packet<'_>) -> Intake
     requires within { packet.now.number ≤ window.old.base + window.old.width }
     ensures { TakesAll window.old window.new packet.now result }
 {
-    if fill_single(window, packet) {
+    let number = packet.number();
+    let Some(message) = packet.messages().next() else {
+        return Intake::Repeats;
+    };
+    if window.can_hold(number) {
+        window.hold(number, read_item(message));
         return Intake::Holds(1);
     }
-    match compare_single(window, packet) {
+    match compare_one(window, number, message) {
         Comparison::Differs => Intake::Differs,
         Comparison::Repeats | Comparison::Agrees => Intake::Repeats,
     }
@@ -218,4 +196,28 @@ pub(crate) fn run_after(window: &Window, front: u64, number: u64) -> u64
         return front;
     }
     window.run_end(front)
+}
+
+/// Returns the lowest number past `front` that is held, once the front moved over a packet's
+/// messages, from `number` on. `next_held` is the lowest that was held before.
+#[inline(always)]
+pub(crate) fn next_after(
+    window: &Window,
+    front: u64,
+    next_held: Option<u64>,
+    number: u64,
+) -> Option<u64>
+    requires { IsHeldFrom window.now front number next_held }
+    ensures { IsNextHeld window.now front result }
+{
+    let Some(next) = next_held else {
+        return if number > front { Some(number) } else { None };
+    };
+    if next <= front {
+        return window.first_after(front);
+    }
+    if number > front {
+        return Some(next.min(number));
+    }
+    Some(next)
 }

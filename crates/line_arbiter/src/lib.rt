@@ -27,7 +27,6 @@ mod in_order;
 mod intake;
 mod laws;
 mod marks;
-mod names;
 mod outcome;
 mod pacer;
 mod taking;
@@ -46,4 +45,3 @@ pub use laws::{
 };
 pub use outcome::{LineFault, Outcome};
 pub use pacer::Pacer;
-pub use wins::Wins;

@@ -36,7 +36,7 @@ impl LastRequest {
 }
 
 /// Lets a request for a gap out at once, and the same one again no sooner than an interval later.
-#[derive(Clone, Copy, Debug)]
+#[derive(Debug, Drop)]
 pub struct Pacer {
     interval_ms: u64,
     last_request: Option<LastRequest>,

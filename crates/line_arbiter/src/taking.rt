@@ -7,12 +7,13 @@ ghost use Rattle.line_arbiter.specs.Outcomes.{IsBefore, IsPast};
 ghost use Rattle.line_arbiter.specs.States.{held_of};
 ghost use Rattle.line_arbiter.specs.Filling.{HeldAgrees};
 ghost use Rattle.line_arbiter.specs.Comparing.{AreThere};
+ghost use Rattle.feed_types.specs.declared.line.LineId.{LineId};
 ghost use Rattle.line_arbiter.specs.Steps.{IsSound, MessagesStep, HeartbeatStep, EndStep, PacketStep, raised as raised_to};
 
 use crate::arbiter::Arbiter;
-use crate::intake::{Intake, run_after, take_all};
-use crate::names::is_same_name;
+use crate::intake::{Intake, next_after, run_after, take_all};
 use crate::outcome::{LineFault, Outcome};
+use crate::wins::add_wins;
 use feed_types::{Genuine, LineId};
 use mold_packet::{Kind, Packet};
 
@@ -34,25 +35,26 @@ pub(crate) fn raised(known: u64, end: Option<u64>, to: u64) -> u64
 }
 
 impl<G: Genuine> Arbiter<G> {
-    /// Takes a packet of messages that were all sent or are held, as on the line that comes second.
+    /// Returns the outcome of a packet of messages that were all sent or are held, as on the line
+    /// that comes second. It changes nothing.
     #[inline(always)]
-    pub(crate) fn take_repeat(&mut self, line: LineId, packet: &Packet<'_>, last: u64) -> Outcome
-        requires last { last ≡ last_number packet.now }
-        requires before { IsBefore self.old.end (last_number packet.now) }
-        requires within { last_number packet.now ≤ self.old.sent + self.old.window }
-        requires there { AreThere (held_of self.old) packet.now }
-        requires agrees { HeldAgrees (held_of self.old) packet.now }
-        ensures { MessagesStep line self.old self.new packet.now (Ok result) }
+    pub(crate) fn repeat_of(&self, packet: &Packet<'_>) -> Outcome
+        requires kind { packet.now.kind ≡ Kind.Messages }
+        requires before { IsBefore self.now.end (last_number packet.now) }
+        requires within { last_number packet.now ≤ self.now.sent + self.now.window }
+        requires there { AreThere (held_of self.now) packet.now }
+        requires agrees { HeldAgrees (held_of self.now) packet.now }
+        ensures { (line : LineId) → MessagesStep line self.now self.now packet.now (Ok result) }
     {
-        self.known_to = raised(self.known_to, self.end_number, last);
-        self.won.add(line, 0);
+        // For the prover alone: what an arbiter keeps.
+        let _held = &self.held;
         Outcome::Taken {
             new: 0,
             repeated: packet.count(),
         }
     }
 
-    /// Takes a packet of messages that all have a place in the window or were sent.
+    /// Takes a packet of messages, of which the last isn't sent and has a place in the window.
     #[inline(always)]
     fn take_in(
         &mut self,
@@ -60,20 +62,24 @@ impl<G: Genuine> Arbiter<G> {
         packet: &Packet<'_>,
         last: u64,
     ) -> Result<Outcome, LineFault>
+        requires kind { packet.now.kind ≡ Kind.Messages }
         requires last { last ≡ last_number packet.now }
         requires before { IsBefore self.old.end (last_number packet.now) }
+        requires past { self.old.sent < last_number packet.now }
         requires within { last_number packet.now ≤ self.old.sent + self.old.window }
         ensures { MessagesStep line self.old self.new packet.now result }
     {
         let new = match take_all(&mut self.held, packet) {
             Intake::Differs => return Err(LineFault::Conflict),
-            Intake::Repeats => return Ok(self.take_repeat(line, packet, last)),
+            Intake::Repeats => return Ok(self.repeat_of(packet)),
             Intake::Holds(new) => new,
         };
-        self.run_to = run_after(&self.held, self.run_to, packet.number());
+        let first = packet.number();
+        self.run_to = run_after(&self.held, self.run_to, first);
+        self.next_held = next_after(&self.held, self.run_to, self.next_held, first);
         self.known_to = raised(self.known_to, self.end_number, last);
         let repeated = packet.count() - new;
-        self.won.add(line, new);
+        add_wins(&mut self.won, line, new);
         Ok(Outcome::Taken { new, repeated })
     }
 
@@ -87,7 +93,7 @@ impl<G: Genuine> Arbiter<G> {
             return Err(LineFault::PastEnd);
         }
         if last <= self.held.base() {
-            return Ok(self.take_repeat(line, packet, last));
+            return Ok(self.repeat_of(packet));
         }
         if last.saturating_sub(self.held.base()) > u64::from(self.held.width()) {
             self.known_to = raised(self.known_to, self.end_number, last);
@@ -140,7 +146,7 @@ impl<G: Genuine> Arbiter<G> {
         ensures sound { IsSound self.new }
     {
         let number = packet.number();
-        if !is_same_name(&packet.session(), &self.session_name) {
+        if packet.session() != self.session_name {
             return Err(LineFault::OtherSession);
         }
         let answer = match packet.kind() {

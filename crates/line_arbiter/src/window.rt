@@ -1,10 +1,10 @@
 //! A window: the messages that were taken and not yet sent on, in a circular buffer of places by
 //! number, with a bitmap of the numbers that are held beside it.
 
-ghost use Rattle.std.specs.Prelude.{◌≡◌, ℕ, ◌+◌, ◌-◌, ◌^◌, ◌<◌, ◌≤◌, ◌++◌, ◌∷◌, [], ◌⊎◌, None, Some, length, replicate, slice_set, nat_eq, if◌then◌else◌, IfOk, IsSome, MatchBool, is_some};
-ghost use Rattle.std.specs.Option.{option_and_then};
+ghost use Rattle.std.specs.Prelude.{◌≡◌, ℕ, ◌+◌, ◌-◌, ◌^◌, ◌<◌, ◌≤◌, ◌++◌, ◌∷◌, [], ◌⊎◌, None, Some, length, min, replicate, slice_set, nat_eq, if◌then◌else◌, IfOk, IsSome, MatchBool, is_some};
+ghost use Rattle.std.specs.Option.{option_and_then, option_copied};
 ghost use Rattle.line_arbiter.specs.Holding.{held_at, IsEmpty};
-ghost use Rattle.line_arbiter.specs.Filling.{count_held, put_at, put_one};
+ghost use Rattle.line_arbiter.specs.Filling.{count_held, put_at, put_one, IsNextHeld};
 
 use crate::marks::{first_number, has_mark, mark, no_marks, unmark};
 use circular_buffer::HeapCircularBuffer;
@@ -167,16 +167,16 @@ impl Window {
         self.base_number + self.places.len() as u64
     }
 
-    /// Returns the item that is held at the number.
-    pub(crate) fn get(&self, number: u64) -> Option<Item>
-        ensures { result ≡ held_at self.now number }
+    /// Lends the item that is held at the number.
+    pub(crate) fn get(&self, number: u64) -> Option<&Item>
+        ensures { option_copied result ≡ held_at self.now number }
     {
         if number <= self.base_number {
             return None;
         }
         let place = (number - self.base_number - 1) as usize;
         match self.places.get(place) {
-            Some(Some(item)) => Some(copy_fields(item)),
+            Some(Some(item)) => Some(item),
             Some(None) | None => None,
         }
     }
@@ -209,8 +209,8 @@ impl Window {
         !self.places.is_empty() && number <= self.last()
     }
 
-    /// Returns whether the number is past the base and nothing is held at it.
-    pub(crate) fn is_free(&self, number: u64) -> bool
+    /// Returns whether an item can be held at the number: it is past the base, and nothing is.
+    pub(crate) fn can_hold(&self, number: u64) -> bool
         requires { number ≤ self.now.base + self.now.width }
         ensures { MatchBool result
             ((self.now.base < number) × (held_at self.now number ≡ None))
@@ -275,32 +275,24 @@ impl Window {
         if end < last { end - 1 } else { last }
     }
 
-    /// Returns how many numbers after `front` hold nothing, up to the limit, to the first that
-    /// holds an item, or to the end of the window. None are counted where `front` isn't in the
-    /// window.
-    pub(crate) fn missing_after(&self, front: u64, limit: u64) -> u16
-        requires { front ≤ limit }
-        ensures free { (m : ℕ) → front < m → m ≤ front + result → held_at self.now m ≡ None }
-        ensures within { front + result ≤ limit }
-        ensures inside { (result ≡ 0) ⊎ (front + result ≤ self.now.base + self.now.width) }
-        ensures stop { (front < self.now.base) ⊎ (self.now.base + self.now.width ≤ front + result)
-            ⊎ (front + result ≡ limit) ⊎ IsSome (held_at self.now (front + result + 1)) }
+    /// Returns the greatest number that may have a place.
+    pub(crate) fn reach(&self) -> u64
+        ensures value { result ≡ min (self.now.base + self.now.width) 18446744073709551615 }
+        ensures near { result ≤ self.now.base + 65535 }
     {
-        let width = self.places.capacity() as u64;
-        if front < self.base_number || front - self.base_number >= width {
-            return 0;
-        }
-        let end = self.base_number + (limit - self.base_number).min(width);
+        self.base_number
+            .saturating_add(self.places.capacity() as u64)
+    }
+
+    /// Returns the lowest number past `front` that is held, if any.
+    pub(crate) fn first_after(&self, front: u64) -> Option<u64>
+        requires { self.now.base ≤ front }
+        ensures { IsNextHeld self.now front result }
+    {
         let last = self.last();
         if front >= last {
-            return (end - front) as u16;
+            return None;
         }
-        let next = first_number(
-            self.marks.as_slice(),
-            true,
-            front + 1,
-            end.min(last - 1) + 1,
-        );
-        (next - front - 1) as u16
+        Some(first_number(self.marks.as_slice(), true, front + 1, last))
     }
 }

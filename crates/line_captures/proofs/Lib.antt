@@ -1,6 +1,5 @@
 pub mod Fronts
 pub mod Finding
-pub mod Tables
 pub mod Listed
 pub mod Pages
 pub mod ReadCalls

@@ -1,5 +1,4 @@
 pub mod Lines
-pub mod Tables
 pub mod Lists
 pub mod Records
 pub mod Readers

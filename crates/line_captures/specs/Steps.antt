@@ -1,5 +1,6 @@
 -- One frame and one piece. Only private clauses cite this file.
 use Rattle.std.specs.Prelude.{◌≡◌, ℕ, All, List, [], ◌∷◌, ◌++◌, Option}
+use Rattle.std.specs.Borrow.{Bor}
 use Rattle.std.specs.Option.{option_to_list}
 use Rattle.packet_capture.specs.Frames.{FrameContent}
 use Rattle.packet_capture.specs.Captures.{PieceContent, frames_of, new_context}
@@ -53,7 +54,7 @@ abbrev pub point_in : PieceRecords → CapturePoint
 point_in records = point_of records.capture records.progress
 
 -- the records of a capture of which nothing was read
-abbrev pub new_pieces : List CapturedLine → List ℕ → PieceRecords
+abbrev pub new_pieces : Bor (List CapturedLine) → List ℕ → PieceRecords
 new_pieces lines pending = record {
   lines = lines;
   capture = new_context;

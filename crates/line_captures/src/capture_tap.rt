@@ -6,9 +6,8 @@ ghost use Rattle.line_captures.specs.Records.{AreOfFrame};
 ghost use Rattle.line_captures.specs.Steps.{datagram_record_of};
 ghost use Rattle.line_captures.specs.Taps.{reader_below};
 
-use crate::captured_line::CapturedLine;
+use crate::captured_line::{CapturedLine, line_to};
 use crate::frames::LineDatagram;
-use crate::line_table::LineTable;
 use crate::pieces::PIECES_ROOM;
 use feed_text::{CaptureIn, ReadBuffer, ReadStop};
 use packet_capture::{CaptureReader, Frame, Stop, read_datagram};
@@ -25,7 +24,7 @@ pub trait DatagramSink {
 /// frame is read.
 #[derive(Drop)]
 struct FrameReader<'a> {
-    lines: LineTable<'a>,
+    lines: &'a [CapturedLine],
     capture: CaptureReader,
     unread: ReadBuffer<PIECES_ROOM>,
     /// The time of the last frame that has one.
@@ -35,13 +34,13 @@ struct FrameReader<'a> {
 
 /// The datagram that a frame carries to a line, or `None`.
 #[inline(always)]
-fn datagram_of<'b>(lines: &LineTable<'_>, frame: &Frame<'b>) -> Option<LineDatagram<'b>>
+fn datagram_of<'b>(lines: &[CapturedLine], frame: &Frame<'b>) -> Option<LineDatagram<'b>>
     ensures some { IfSome result (λ d.
         AreOfFrame lines.now (frame_of frame.now) (datagram_record_of d ∷ [])) }
     ensures none { IfNone result (AreOfFrame lines.now (frame_of frame.now) []) }
 {
     match read_datagram(frame.link, frame.bytes) {
-        Ok(datagram) => match lines.line_to(&datagram) {
+        Ok(datagram) => match line_to(lines, &datagram) {
             Some(line) => Some(LineDatagram {
                 line,
                 bytes: datagram.bytes,
@@ -55,7 +54,7 @@ fn datagram_of<'b>(lines: &LineTable<'_>, frame: &Frame<'b>) -> Option<LineDatag
 /// Tells the sink of the datagram that a frame carries to a line, if it carries one.
 #[inline(always)]
 fn tell<S: DatagramSink>(
-    lines: &LineTable<'_>,
+    lines: &[CapturedLine],
     frame: &Frame<'_>,
     time: Option<u64>,
     sink: &mut S,
@@ -70,7 +69,7 @@ impl<'a> FrameReader<'a> {
     /// again.
     fn new(alloc: Global, lines: &'a [CapturedLine]) -> Result<FrameReader<'a>, AllocError> {
         Ok(FrameReader {
-            lines: LineTable::new(lines),
+            lines,
             capture: CaptureReader::new(),
             unread: ReadBuffer::new(alloc)?,
             time: None,
@@ -86,7 +85,7 @@ impl<'a> FrameReader<'a> {
                     let len = piece.len;
                     if let Some(frame) = &piece.frame {
                         self.time = frame.time.or(self.time);
-                        tell(&self.lines, frame, self.time, sink);
+                        tell(self.lines, frame, self.time, sink);
                     }
                     self.unread.advance(len);
                 }

@@ -17,7 +17,7 @@ pub struct CapturedLine {
     pub line: LineId,
 }
 
-pub(crate) fn is_zeros(address: &Address) -> bool
+fn is_zeros(address: &Address) -> bool
     ensures { IsTrue result ↔ IsZeros address.now }
 {
     match address {
@@ -39,6 +39,8 @@ fn are_same_address(one: &Address, other: &Address) -> bool
 }
 
 /// Whether the line takes the datagram.
+// As a call for each line that is looked at it took some 20 instructions.
+#[inline(always)]
 fn takes(line: &CapturedLine, datagram: &Datagram<'_>) -> bool
     ensures { IsTrue result ↔ Takes line.now (datagram_content datagram.now) }
 {

@@ -5,8 +5,7 @@ ghost use Rattle.feed_text.specs.Capture.{bytes_of_record};
 ghost use Rattle.line_captures.specs.Records.{AreOfFrame, IsOfLine};
 ghost use Rattle.line_captures.specs.Steps.{CountsFrame, PutsFrame, datagram_record_of};
 
-use crate::captured_line::CapturedLine;
-use crate::line_table::LineTable;
+use crate::captured_line::{CapturedLine, line_to};
 use crate::passed_over::PassedOver;
 use feed_text::{RECORDS_ROOM, ReadBuffer};
 use packet_capture::{Frame, read_datagram};
@@ -22,7 +21,7 @@ pub struct LineDatagram<'a> {
 /// The datagram that a frame carries to a line, or `None`, and then the frame is counted.
 #[inline(always)]
 fn datagram_in<'a>(
-    lines: &LineTable<'_>,
+    lines: &[CapturedLine],
     frame: Frame<'a>,
     passed: &mut PassedOver,
 ) -> Option<LineDatagram<'a>>
@@ -34,7 +33,7 @@ fn datagram_in<'a>(
     ensures counts { CountsFrame lines.now (frame_of frame.entry) passed.old passed.new }
 {
     match read_datagram(frame.link, frame.bytes) {
-        Ok(datagram) => match lines.line_to(&datagram) {
+        Ok(datagram) => match line_to(lines, &datagram) {
             Some(line) => {
                 passed.add_to_line();
                 Some(LineDatagram {
@@ -115,7 +114,7 @@ fn put_datagram(
 /// where the page has no room. Another frame is counted. Returns how many bytes of the page are filled.
 #[inline(always)]
 pub(crate) fn put_frame(
-    lines: &LineTable<'_>,
+    lines: &[CapturedLine],
     frame: Frame<'_>,
     page: &mut [u8],
     filled: usize,

@@ -56,7 +56,7 @@ impl<'a, R> Model for LinesIn<'a, R> {
 
     ghost view = { λ s. record {
       inner = s.inner;
-      lines = s.records.lines;
+      lines = s.records.lines.now;
       point = record { context = s.records.capture; progress = s.records.progress };
       unread = s.unread;
       pending = s.records.pending;

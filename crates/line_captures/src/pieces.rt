@@ -6,7 +6,6 @@ ghost use Rattle.line_captures.specs.Steps.{PutsPiece, point_in, new_pieces};
 
 use crate::captured_line::CapturedLine;
 use crate::frames::put_frame;
-use crate::line_table::LineTable;
 use crate::passed_over::Progress;
 use feed_text::{RECORDS_ROOM, ReadBuffer};
 use packet_capture::{CaptureReader, Piece, Stop, read_as_bytes_come};
@@ -25,7 +24,7 @@ struct Taken {
 /// The records of the pieces of a capture, as far as it was read.
 #[derive(Drop)]
 pub(crate) struct PieceRecords<'a> {
-    pub(crate) lines: LineTable<'a>,
+    pub(crate) lines: &'a [CapturedLine],
     pub(crate) capture: CaptureReader,
     pub(crate) progress: Progress,
     /// The bytes of records that a page had no room for.
@@ -61,10 +60,10 @@ impl<'a> PieceRecords<'a> {
         lines: &'a [CapturedLine],
         pending: ReadBuffer<RECORDS_ROOM>,
     ) -> PieceRecords<'a>
-        ensures { result ≡ new_pieces lines.now pending }
+        ensures { result ≡ new_pieces lines.entry pending }
     {
         PieceRecords {
-            lines: LineTable::new(lines),
+            lines,
             capture: CaptureReader::new(),
             progress: Progress::default(),
             pending,
@@ -77,7 +76,7 @@ impl<'a> PieceRecords<'a> {
     fn put_piece(&mut self, piece: Piece<'_>, page: &mut [u8], filled: usize) -> usize
         requires filled { filled ≤ length page.old }
         requires pending { self.old.pending ≡ [] }
-        ensures puts { PutsPiece self.old.lines (piece_of piece.entry) self.old.progress
+        ensures puts { PutsPiece self.old.lines.now (piece_of piece.entry) self.old.progress
             (take filled page.old) self.new.progress (take result page.new ++ self.new.pending) }
         ensures filled { result ≤ length page.new }
         ensures page { length page.new ≡ length page.old }
@@ -91,7 +90,7 @@ impl<'a> PieceRecords<'a> {
         if let Some(frame) = piece.frame {
             self.progress.add_time(frame.time);
             let passed = &mut self.progress.passed;
-            end = put_frame(&self.lines, frame, page, filled, &mut self.pending, passed);
+            end = put_frame(self.lines, frame, page, filled, &mut self.pending, passed);
         }
         self.progress.add_bytes(len);
         end
@@ -103,7 +102,7 @@ impl<'a> PieceRecords<'a> {
     fn take_pieces(&mut self, bytes: &[u8], page: &mut [u8], filled: usize) -> Result<Taken, Stop>
         requires filled { filled ≤ length page.old }
         requires pending { self.old.pending ≡ [] }
-        ensures taken { IfOk result (λ t. TakesPieces self.old.lines
+        ensures taken { IfOk result (λ t. TakesPieces self.old.lines.now
             (point_in self.old) bytes.now (take filled page.old)
             (point_in self.new) (drop t.len bytes.now) (take t.filled page.new ++ self.new.pending)) }
         ensures within { IfOk result (λ t. t.len ≤ length bytes.now) }
@@ -139,7 +138,7 @@ impl<'a> PieceRecords<'a> {
         page: &mut [u8],
     ) -> Result<usize, Stop>
         requires room { 0 < length page.old }
-        ensures taken { IfOk result (λ n. TakesPieces self.old.lines
+        ensures taken { IfOk result (λ n. TakesPieces self.old.lines.now
             (point_in self.old) unread.old self.old.pending
             (point_in self.new) unread.new (take n page.new ++ self.new.pending)) }
         ensures count { IfOk result (λ n. n ≤ length page.new) }

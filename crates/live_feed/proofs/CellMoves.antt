@@ -31,8 +31,8 @@ use Rattle.line_arbiter.specs.laws.FitsHistory.{fits_new, fits_packet, fits_push
 use Rattle.feed_types.specs.declared.genuine.Genuine.{Ghosts as Genuine}
 use Rattle.live_feed.specs.Premises.{AreInSequence, IsGenuinePacket}
 use Rattle.live_feed.specs.Lanes.{FeedLanes}
-use Rattle.live_feed.specs.declared.venue.per_line.PerLine.{PerLine}
-use Rattle.live_feed.specs.venue.Lines.{on_line}
+use Rattle.feed_types.specs.declared.per_line.PerLine.{PerLine}
+use Rattle.feed_types.specs.PerLines.{on_line}
 use Rattle.live_feed.specs.venue.Sums.{Sums, no_sums, sums_after, accepted_on, line_sums_after}
 use Rattle.live_feed.specs.venue.Cells.{CellState, CellFitsHistory, AreGivenFrom, VenueLockInvariant, DoneAtVenue, IsOthersLock, UnderVenueLock, arrivals_of, new_cell}
 use Rattle.live_feed.specs.venue.Sections.{TakesPacket, HasNoneReady, KeepsButSent, Pushes, TakesAndPushes, PushesOne, RenewsSession}

@@ -11,7 +11,8 @@ use Rattle.line_arbiter.specs.Packets.{Arrival, end_of}
 use Rattle.line_arbiter.specs.Streams.{end_at, front_of, item_numbered, stream_of}
 use Rattle.line_arbiter.specs.States.{State}
 use Rattle.line_arbiter.specs.Fits.{Fits}
-use Rattle.line_arbiter.specs.Counts.{Counts, count_on}
+use Rattle.feed_types.specs.declared.per_line.PerLine.{PerLine}
+use Rattle.feed_types.specs.PerLines.{on_line}
 use Rattle.line_arbiter.specs.Histories.{items_of}
 use Rattle.fifo_lane.specs.Lane.{Keeps}
 use Rattle.line_arbiter.specs.laws.Histories.{items_push}
@@ -144,7 +145,7 @@ module _ (v : ℕ) (entries : List Entry) (place : ℕ) where
 -- ---- a closed lane
 
 pub settled : {S : Type 0} (premise : Genuine S) (lanes : FeedLanes) (may_send : ℕ → List Numbered → Type 0)
-    (c : CellState) (k : VenueLockInvariant premise lanes c) (received inside ready : List Numbered) (won : Counts)
+    (c : CellState) (k : VenueLockInvariant premise lanes c) (received inside ready : List Numbered) (won : PerLine ℕ)
     → Keeps may_send c.lane.tag c.lane.capacity c.lane.items received inside
     → ready ≡ drop c.arbiter.sent (stream_of k.history.present.packets) → won ≡ c.arbiter.wins
     → IsSettled premise c.arbiter.venue lanes.setting.window c.lane.items received inside ready won c.accepted
@@ -162,6 +163,6 @@ settled premise lanes may_send c k received inside ready won keeps rest same =
           ∙ append_assoc (items_of h.earlier) (take c.arbiter.sent stream) (drop c.arbiter.sent stream)
           ∙ ap (λ (l : List Numbered). items_of h.earlier ++ l) (take-append-drop c.arbiter.sent stream)
           ∙ sym (items_push h.earlier h.present);
-      wins = λ l. ap (count_on l) same ∙ wins_are h f.history l;
+      wins = λ l. ap (on_line l) same ∙ wins_are h f.history l;
       accepted = λ l. f.accepted l;
     }

@@ -2,7 +2,7 @@
 use Rattle.std.proofs.Common.{◌≡◌, ℕ, List, length, Some, sym, ap, subst, ◌∙◌, arith}
 use Rattle.std.specs.Prelude.{slice_get}
 use Rattle.std.proofs.lemmas.Slice.Zip.{AllZip-long}
-use Rattle.line_arbiter.specs.Counts.{count_on}
+use Rattle.feed_types.specs.PerLines.{on_line}
 use Rattle.journal_book.specs.Journals.{JournalState}
 use Rattle.feed_types.specs.ListLaws.{get_within}
 use Rattle.feed_types.specs.declared.genuine.Genuine.{Ghosts as Genuine}
@@ -10,7 +10,6 @@ use Rattle.live_feed.specs.Lanes.{FeedLanes}
 use Rattle.live_feed.specs.venue.Cells.{CellState}
 use Rattle.live_feed.specs.hub.Hubs.{HubState, items_in}
 use Rattle.live_feed.specs.venue.Seats.{SeatState}
-use Rattle.live_feed.specs.venue.Lines.{on_line}
 use Rattle.live_feed.specs.subscriber.Logs.{SubscriberLogState}
 use Rattle.live_feed.specs.settle.Settlements.{AllAgree, AreInOrder, IsClosedVenue, IsSettled, IsSettlement, SettlementState, ShowsSubscriber, SubscriberEndState, ShowsVenue, VenueEndState, tally_of}
 use Rattle.live_feed.specs.settle.Closings.{IsClosedFeed}
@@ -38,7 +37,7 @@ module _ {S : Type 0} (premise : Genuine S) (lanes : FeedLanes) (seats : List Se
         settled = subst (λ (n : ℕ). IsSettled premise n lanes.setting.window cell.lane.items v.consumed v.in_lane
             v.ready v.wins v.accepted) same.venue_is closed.settled;
         consumed = closed.consumed ∙ ap (items_in s.journal.entries) same.venue_is;
-        wins = λ line. ap (count_on line) closed.wins ∙ (same.on line).wins
+        wins = λ line. ap (on_line line) closed.wins ∙ (same.on line).wins
             ∙ (λ i. (tally_of (same.venue_is i) line seats).wins);
         accepted = λ line. ap (on_line line) closed.accepted ∙ (same.on line).accepted
             ∙ (λ i. (tally_of (same.venue_is i) line seats).accepted);

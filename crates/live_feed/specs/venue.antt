@@ -1,5 +1,4 @@
 -- What a venue's lock keeps, its sections, and what is counted of packets.
-pub mod Lines
 pub mod Sums
 pub mod Refusals
 pub mod PacketCounts

@@ -5,7 +5,6 @@ pub(crate) mod cell;
 pub(crate) mod datagram;
 pub(crate) mod locks;
 pub(crate) mod packet_counts;
-pub(crate) mod per_line;
 pub(crate) mod refusals;
 pub(crate) mod seat;
 pub(crate) mod start;

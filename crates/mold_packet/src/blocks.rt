@@ -1,3 +1,5 @@
+//! Message blocks: each a length of two bytes and that many bytes. They are walked where they lie.
+
 ghost use Rattle.std.specs.Prelude.{◌≡◌, ◌++◌, List, ℕ, IfSome, IfNone};
 ghost use Rattle.std.specs.Iterator.{YieldsFirstRef, item_count};
 ghost use Rattle.mold_packet.specs.Block.{block, IsMessage, IsCut, CutShort, HasBlocks, blocks_at, AreBlocks};

@@ -1,3 +1,5 @@
+//! The body of a packet that is written.
+
 ghost use Rattle.std.specs.Prelude.{◌≡◌, ◌≤◌, length};
 ghost use Rattle.mold_packet.specs.Body.{lent_bytes, body_kind, body_messages};
 ghost use Rattle.mold_packet.specs.Content.{count_field};

@@ -1,3 +1,5 @@
+//! The faults of packets and requests.
+
 ghost use Rattle.std.specs.Prelude.{◌≡◌};
 ghost use Rattle.mold_packet.specs.Faults.{code_of};
 

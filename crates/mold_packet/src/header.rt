@@ -1,3 +1,5 @@
+//! The header of 20 bytes, which requests have too: session, sequence number and count.
+
 ghost use Rattle.std.specs.Prelude.{◌≡◌, ◌≤◌, ◌++◌, length, drop};
 ghost use Rattle.mold_packet.specs.Header.{header, session_at, number_at, count_at};
 

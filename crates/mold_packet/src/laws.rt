@@ -1,3 +1,5 @@
+//! Laws of the definitions: a spelling has one reading, and reads back.
+
 ghost use Rattle.std.specs.Prelude.{◌≡◌, ◌≤◌, ◌⊎◌, ℕ, List, [], Result, Ok, IfOk, IfErr};
 ghost use Rattle.mold_packet.specs.Bytes.{AreBytes};
 ghost use Rattle.mold_packet.specs.Content.{Content, Spells};

@@ -1,3 +1,5 @@
+//! A downstream packet that was read, and its readers.
+
 ghost use Rattle.std.specs.Prelude.{◌≡◌, length};
 ghost use Rattle.mold_packet.specs.Content.{IsContent, last_number};
 
@@ -86,22 +88,6 @@ impl<'a> Packet<'a> {
         ensures content { IsContent self.now }
     {
         self.number - 1 + u64::from(self.count)
-    }
-
-    /// The same packet, copied part by part: what a call that isn't inlined takes by reference has
-    /// to be in memory, and so this one needn't.
-    #[inline(always)]
-    pub fn copied(&self) -> Packet<'a>
-        ensures { result ≡ self.now }
-    {
-        Packet {
-            session: self.session,
-            number: self.number,
-            kind: self.kind,
-            count: self.count,
-            blocks: self.blocks,
-            ignored: self.ignored,
-        }
     }
 
     /// The number of bytes of the datagram after the packet. They were not read.

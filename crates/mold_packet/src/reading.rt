@@ -1,3 +1,5 @@
+//! The reading of a downstream packet from a datagram.
+
 ghost use Rattle.std.specs.Prelude.{List, ℕ, IfOk, IfErr};
 ghost use Rattle.mold_packet.specs.Content.{Spells};
 ghost use Rattle.mold_packet.specs.Faults.{HasFault};

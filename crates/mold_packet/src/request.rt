@@ -1,3 +1,5 @@
+//! Requests for messages that are missing, read and written.
+
 ghost use Rattle.std.specs.Prelude.{◌≡◌, ◌≤◌, ◌<◌, take, IfOk, IfErr, OnOk};
 ghost use Rattle.mold_packet.specs.Request.{SpellsRequest, HasRequestFault};
 ghost use Rattle.mold_packet.specs.Writing.{WritesFirst, WritesNothing};

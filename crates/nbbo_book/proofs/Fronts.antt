@@ -57,14 +57,6 @@ not_first n = grind arith
 stays_first : (n : ℕ) (y : Best) → nat_eq (suc n) 0 ≡ not (is_same_best (Some y) (Some y))
 stays_first n y = not_first n ∙ ap not (sym (same_best_refl (Some y)))
 
--- where a side was put in
-pub added_moves : (xs : List Best) (x : Best) (to : ℕ) → to ≤ length xs → HasNone x.venue xs
-    → nat_eq to 0 ≡ not (is_same_best (best_of_ranks xs) (best_of_ranks (insert xs to x)))
-added_moves [] x zero l h = refl
-added_moves [] x (suc to) l h = absurd (omega (arith, l))
-added_moves (y ∷ ys) x zero l h = ap not (sym (other_venue y x h.0))
-added_moves (y ∷ ys) x (suc to) l h = stays_first to y
-
 after_first : (y : Best) (ys : List Best) (v : ℕ) → y.venue ≡ v → HasNone v ys
     → true ≡ not (is_same_best (Some y) (best_of_ranks ys))
 after_first y [] v own h = refl

@@ -1,3 +1,4 @@
+pub mod Keys
 pub mod Beating
 pub mod Ranking
 pub mod Moving
@@ -7,6 +8,7 @@ pub mod SideInvariant
 pub mod Firsts
 pub mod Fitting
 pub mod Stepping
+pub mod Applying
 pub mod BookFits
 pub mod Eligibility
 pub mod LawProofs

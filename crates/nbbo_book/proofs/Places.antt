@@ -1,7 +1,7 @@
 -- The place of each venue's side among the ranks, after one has moved.
 use Rattle.std.proofs.Common.{ℕ, zero, suc, ◌+◌, ◌<◌, ◌≤◌, ◌≡◌, List, [], ◌∷◌, ◌++◌, true, false, refl, ap, sym, ◌∙◌, subst, arith, length, set, get_or, cond, nat_eq, length-append}
 use Rattle.std.specs.List.{remove}
-use Rattle.std.proofs.lemmas.List.Edits.{length-remove, get_or-remove_below, get_or-remove_above}
+use Rattle.std.proofs.lemmas.List.Edits.{length-remove, get_or-remove_above}
 use Rattle.feed_types.specs.declared.national.Best.{Best}
 use Rattle.nbbo_book.specs.Ranks.{AreNoted, HasNone, without}
 use Rattle.nbbo_book.proofs.Ranking.{nat_split, in_all}
@@ -115,11 +115,6 @@ noted_pushed P xs x px none h = λ k d l.
     ∙ h k d lk)
 
 -- the sides after one that was taken out are one place further on than they are noted
-pub noted_before : (P : List ℕ) (L : List Best) (i k : ℕ) (d : Best) → i < length L → k < i → AreNoted P L
-    → get_or P (get_or (remove L i) k d).venue 16 ≡ k
-noted_before P L i k d li lk h = ap (λ (y : Best). get_or P y.venue 16) (get_or-remove_below L i d k lk li)
-    ∙ h k d (omega (arith, li, lk))
-
 pub noted_after : (P : List ℕ) (L : List Best) (i k : ℕ) (d : Best) → i < length L → i ≤ k → k < length (remove L i)
     → AreNoted P L → get_or P (get_or (remove L i) k d).venue 16 ≡ k + 1
 noted_after P L i k d li lk l h = ap (λ (y : Best). get_or P y.venue 16) (get_or-remove_above L i d k lk li)

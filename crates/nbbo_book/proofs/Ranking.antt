@@ -76,12 +76,6 @@ without_none b f e v (x ∷ xs) each order =
       | false ↦ λ h. (h, without_none b f e v xs (λ y i. each y (inr i)) order.1)
     ]) refl
 
--- where no side is the venue's, none is taken out
-pub without_nobody : (v : ℕ) (xs : List Best) → ((x : Best) → IsIn xs x → nat_eq x.venue v ≡ false) → without v xs ≡ xs
-without_nobody v [] h = refl
-without_nobody v (x ∷ xs) h = ap (λ t. cond t xs (x ∷ without v xs)) (h x (inl refl))
-    ∙ ap (λ t. x ∷ t) (without_nobody v xs (λ y i. h y (inr i)))
-
 all_without : (P : Best → Type 0) (v : ℕ) (xs : List Best) → AllByRecursion P xs → AllByRecursion P (without v xs)
 all_without P v [] h = tt
 all_without P v (x ∷ xs) h = elim (nat_eq x.venue v) as (λ t. AllByRecursion P (cond t xs (x ∷ without v xs)))

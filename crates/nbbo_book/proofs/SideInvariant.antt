@@ -18,7 +18,7 @@ use Rattle.nbbo_book.specs.declared.book_side.BookSide.{BookSide}
 use Rattle.nbbo_book.specs.BookSides.{CanRank, IsCausedBy, rank_at, side_set, side_quoted, side_rechecked, ArePast, IsRanked}
 use Rattle.nbbo_book.proofs.EntryEffects.{and_left, same_side_refl}
 use Rattle.nbbo_book.proofs.Fronts.{best_same}
-use Rattle.nbbo_book.proofs.Ranking.{nat_split, some_same, ranking_same, ranking_set, ranking_room, without_none, without_nobody, InRank-ages, InRank-without, all_from_in, in_all}
+use Rattle.nbbo_book.proofs.Ranking.{nat_split, some_same, ranking_same, ranking_set, ranking_room, without_none, InRank-ages, InRank-without, all_from_in, in_all}
 
 pub set_at : {X : Type 0} (xs : List X) (i : ℕ) (x d : X) → i < length xs → get_or (set xs i x) i d ≡ x
 set_at [] i x d h = absurd (omega (arith, h))
@@ -95,18 +95,6 @@ side_is_ranked b may n k h = record {
   room = λ v l. ranking_room b (rank_at may k.venue_sides) (age_at k.venue_sides) v k.ranks l h.ranked;
 }
 
--- a venue that shows nothing isn't ranked
-not_ranked : (b : Side) (k : BookSide) (v : ℕ) → IsRanked b k → (venue_side_at k.venue_sides v).quote ≡ None
-    → (x : Best) → IsIn k.ranks x → nat_eq x.venue v ≡ false
-not_ranked b k v h none x i = nat_split x.venue v (nat_eq x.venue v ≡ false)
-    (λ q. (let no : None ≡ Some (record { price = x.price; size = x.size; automated = true }) = sym none
-    ∙ ap (λ (w : ℕ). (venue_side_at k.venue_sides w).quote) (sym q) ∙ h.quote x i in cc))
-    (λ d. d)
-
-pub absent_stays : (b : Side) (k : BookSide) (v : ℕ) → IsRanked b k → (venue_side_at k.venue_sides v).quote ≡ None
-    → without v k.ranks ≡ k.ranks
-absent_stays b k v h none = without_nobody v k.ranks (not_ranked b k v h none)
-
 -- the others are in order, also by ages of which the venue's differs
 pub others_in_order : (b : Side) (k : BookSide) (v : ℕ) → IsRanked b k
     → InRank b (age_at k.venue_sides) (without v k.ranks)
@@ -142,13 +130,6 @@ others_older b k v x st below at past h =
     (ap (λ (t : VenueSide). t.age) (venue_side_off k.venue_sides v y.venue st other)))
     (age_at_most st.age k.venue_sides y.venue past h.count) in
     grind (arith, own, its))
-
--- the right to be ranked changes nothing where the venue shows nothing
-pub rechecked_absent : (b : Side) (k : BookSide) (v : ℕ) (may : Bool) → IsRanked b k
-    → (venue_side_at k.venue_sides v).quote ≡ None → (side_rechecked b v may k).ranks ≡ k.ranks
-rechecked_absent b k v may h none =
-    ap (λ o. placed b (age_at k.venue_sides) o (without v k.ranks)) (ap (ranked_by may v) none ∙ ranked_nothing may v)
-    ∙ absent_stays b k v h none
 
 -- more entries, of which none concerns the side
 pub side_waits : (b : Side) (may more : ℕ → Bool) (n m : ℕ) (k : BookSide) → n ≤ m

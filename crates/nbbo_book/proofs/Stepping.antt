@@ -1,5 +1,5 @@
 -- The rows of a book, after one more entry.
-use Rattle.std.proofs.Common.{ℕ, zero, suc, ◌<◌, ◌≡◌, ◌+◌, List, [], ◌∷◌, ◌++◌, Bool, true, false, not, refl, ap, sym, ◌∙◌, arith, length, map, take, drop, nat_eq, cond, Option, Some, None, set, get_or, append_assoc}
+use Rattle.std.proofs.Common.{ℕ, zero, suc, ◌<◌, ◌≡◌, ◌+◌, List, [], ◌∷◌, ◌++◌, Bool, true, false, not, refl, ap, sym, ◌∙◌, arith, length, map, nat_eq, cond, Option, Some, None, set, get_or}
 use Rattle.std.specs.Prelude.{◌&&◌, position, slice_index_or}
 use Rattle.std.specs.List.{AllByRecursion, IsDistinct, filter_map, cons_option}
 use Rattle.std.specs.Option.{option_to_list}
@@ -35,7 +35,7 @@ use Rattle.nbbo_book.proofs.EntryEffects.{same_side_sound}
 use Rattle.nbbo_book.proofs.Firsts.{front_is_best}
 use Rattle.nbbo_book.proofs.Fitting.{row_fits, helped_fits}
 use Rattle.nbbo_book.proofs.Fronts.{same_best_refl}
-use Rattle.nbbo_book.specs.WordLaws.{apart_at, missed_all, place_is}
+use Rattle.nbbo_book.proofs.Keys.{apart_at, missed_all, place_is}
 
 row_waits : (helped : List Bool) (n : ℕ) (r : Row) → IsRow helped n r → IsRow helped (n + 1) r
 row_waits helped n r h = record {
@@ -222,15 +222,6 @@ unchanged : (p : ℕ) (s : List ℕ) (x : National) → change_of p s x x ≡ No
 unchanged p s x = ap (λ t. cond t None (Some (record { position = p; symbol = s; national = x })))
     (same_national_refl x)
 
--- a national best differs where one of its sides does
-pub first_moved : (r p q : Bool) → r ≡ true → r ≡ not p → r ≡ not (p && q)
-first_moved r true q t m = (let no : true ≡ false = sym t ∙ m in cc)
-first_moved r false q t m = t
-
-pub second_moved : (r s p q : Bool) → r ≡ false → r ≡ not p → s ≡ not q → s ≡ not (p && q)
-second_moved r s true q f m n = n
-second_moved r s false q f m n = (let no : false ≡ true = sym f ∙ m in cc)
-
 -- what is appended for a symbol is its change
 pub told_is : (helped : List Bool) (n p : ℕ) (e : Entry) (r next : Row) (moved : Bool)
     → next ≡ row_after helped n e r → moved ≡ not (is_same_national (national_at r) (national_at next))
@@ -305,7 +296,7 @@ pub missed_steps : (helped : List Bool) (n p : ℕ) (e : Entry) (s : List ℕ) (
 missed_steps helped n p e s rs c h =
     still helped n p e rs (missed_rows helped n e s rs c (missed_all s (symbols_in_rows rs) h))
 
-option_list : {X : Type 0} (o : Option X) (xs : List X) → cons_option o xs ≡ option_to_list o ++ xs
+pub option_list : {X : Type 0} (o : Option X) (xs : List X) → cons_option o xs ≡ option_to_list o ++ xs
 option_list None xs = refl
 option_list (Some x) xs = refl
 
@@ -378,33 +369,6 @@ found_steps helped n p e s rs i d c distinct at =
     ∙ ap (bytes_eq (get_or (symbols_in_rows rs) i d.symbol)) (sym (symbol_at rs j d))
     ∙ apart_at (symbols_in_rows rs) i j d.symbol distinct (omega (arith, found.0, long_symbols rs))
     (omega (arith, l, long_symbols rs)) q))
-
--- a walk over all rows that has come to a place
-pub walk_read : (f : Row → Row) (rs : List Row) (i : ℕ) (d : Row) → i < length rs
-    → get_or (map f (take i rs) ++ drop i rs) i d ≡ get_or rs i d
-walk_read f [] i d h = absurd (omega (arith, h))
-walk_read f (r ∷ rs) zero d h = refl
-walk_read f (r ∷ rs) (suc i) d h = walk_read f rs i d (omega (arith, h))
-
-pub walk_on : (f : Row → Row) (rs : List Row) (i : ℕ) (d : Row) → i < length rs
-    → set (map f (take i rs) ++ drop i rs) i (f (get_or rs i d)) ≡ map f (take (suc i) rs) ++ drop (suc i) rs
-walk_on f [] i d h = absurd (omega (arith, h))
-walk_on f (r ∷ rs) zero d h = refl
-walk_on f (r ∷ rs) (suc i) d h = ap (λ t. f r ∷ t) (walk_on f rs i d (omega (arith, h)))
-
-pub walk_over : (f : Row → Row) (rs : List Row) → map f (take (length rs) rs) ++ drop (length rs) rs ≡ map f rs
-walk_over f [] = refl
-walk_over f (r ∷ rs) = ap (λ t. f r ∷ t) (walk_over f rs)
-
-pub walk_gives : (g : Row → Option Change) (rs : List Row) (i : ℕ) (d : Row) → i < length rs
-    → filter_map g (take (suc i) rs) ≡ filter_map g (take i rs) ++ option_to_list (g (get_or rs i d))
-walk_gives g [] i d h = absurd (omega (arith, h))
-walk_gives g (r ∷ rs) zero d h = option_list (g r) [] ∙ alone (option_to_list (g r))
-walk_gives g (r ∷ rs) (suc i) d h =
-    ap (cons_option (g r)) (walk_gives g rs i d (omega (arith, h)))
-    ∙ option_list (g r) (filter_map g (take i rs) ++ option_to_list (g (get_or rs i d)))
-    ∙ sym (append_assoc (option_to_list (g r)) (filter_map g (take i rs)) (option_to_list (g (get_or rs i d))))
-    ∙ ap (λ t. t ++ option_to_list (g (get_or rs i d))) (sym (option_list (g r) (filter_map g (take i rs))))
 
 pub all_rows_at : (P : Row → Type 0) (rs : List Row) (i : ℕ) (d : Row) → i < length rs → AllByRecursion P rs
     → P (get_or rs i d)

@@ -10,4 +10,3 @@ pub mod Ranks
 pub mod BookSides
 pub mod Rows
 pub mod Tables
-pub mod WordLaws

@@ -16,13 +16,13 @@ use Rattle.nbbo_book.specs.BookSides.{rank_at, ArePast}
 abbrev pub symbols_in_rows : List Row → List (List ℕ)
 symbols_in_rows rows = map (λ (row : Row). row.symbol) rows
 
--- the eight bytes can be read from their word
+-- the eight bytes can be read from their key
 pub record HasKey (symbol : List ℕ) : Type 0 where
   pub told : to_be_bytes w64 (key_of symbol) ≡ symbol
 
--- the keys are the words of the symbols, in order and each once
+-- the keys are those of the symbols, in order and each once
 pub record IsTable (symbols : List (List ℕ)) (keys : List ℕ) : Type 0 where
-  pub words : keys ≡ map key_of symbols
+  pub in_order : keys ≡ map key_of symbols
   pub told : AllByRecursion HasKey symbols
   pub distinct : IsDistinct nat_eq keys
 

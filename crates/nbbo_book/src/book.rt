@@ -44,7 +44,7 @@ impl Model for Book {
 
     ghost view = { λ b. book_state_of b.rows.items b.venues.count b.last b.applied b.venues.helped };
 
-    ghost invariant = { λ b. IsBook b.table.words.keys
+    ghost invariant = { λ b. IsBook b.table.symbols.keys
         (book_state_of b.rows.items b.venues.count b.last b.applied b.venues.helped) };
 }
 
@@ -54,7 +54,7 @@ fn empty_rows(alloc: Global, symbols: &[SymbolName]) -> Result<Vec<Row>, AllocEr
     let mut rows = Vec::with_capacity(alloc, symbols.len())?;
     for symbol in symbols {
         rows.push(Row {
-            halted: [false; 16],
+            halted: [false; MAX_VENUES],
             symbol: *symbol,
             bids: BookSide::new(),
             offers: BookSide::new(),
@@ -90,7 +90,7 @@ impl Book {
             rows,
             venues: Venues {
                 count: venue_count,
-                helped: [false; 16],
+                helped: [false; MAX_VENUES],
             },
             last: 0,
             applied: 0,

@@ -8,7 +8,7 @@ ghost use Rattle.nbbo_book.specs.BookSides.{CanRank, ArePast, IsRanked, empty_si
 use crate::ranks::{Cause, Order, Ranks};
 use crate::side_quote::{is_same, rank_of};
 use crate::venue_side::{VenueSide, venue_side_at};
-use feed_types::{Best, Side, VenueId};
+use feed_types::{Best, MAX_VENUES, Side, VenueId};
 use std::marker::Model;
 
 /// The venue that quotes, and whether it may be ranked in the symbol.
@@ -21,9 +21,9 @@ pub struct Quoter {
 /// One side of a symbol: what each venue shows, and the ranks of those sides that are eligible.
 #[derive(Drop)]
 pub struct BookSide {
-    ranks: Ranks,
     /// At the place of each venue's number.
-    venue_sides: [VenueSide; 16],
+    venue_sides: [VenueSide; MAX_VENUES],
+    ranks: Ranks,
 }
 
 impl Model for BookSide {
@@ -41,7 +41,7 @@ impl BookSide {
     {
         BookSide {
             ranks: Ranks::new(),
-            venue_sides: [VenueSide::new(None, 0); 16],
+            venue_sides: [VenueSide::new(None, 0); MAX_VENUES],
         }
     }
 
@@ -93,23 +93,6 @@ impl BookSide {
         ensures moved { result
             ≡ not (is_same_best (best_of_ranks self.old.ranks) (best_of_ranks self.new.ranks)) }
     {
-        match venue_side_at(&self.venue_sides, venue).quote() {
-            None => false,
-            Some(_) => self.clear_shown(side, venue, age),
-        }
-    }
-
-    /// Notes that the venue, which has shown something, shows nothing since this age. Returns
-    /// whether the best side differs then. It is apart from `clear_quote`, which most often finds
-    /// nothing shown.
-    #[inline(never)]
-    fn clear_shown(&mut self, side: Side, venue: VenueId, age: u64) -> bool
-        requires ranked { IsRanked side self.old }
-        requires past { ArePast age self.old.venue_sides }
-        ensures side { self.new ≡ side_quoted side venue None age false self.old }
-        ensures moved { result
-            ≡ not (is_same_best (best_of_ranks self.old.ranks) (best_of_ranks self.new.ranks)) }
-    {
         let quoter = Quoter {
             venue,
             may_rank: false,
@@ -121,22 +104,6 @@ impl BookSide {
     /// Returns whether the best side differs then.
     #[inline(always)]
     pub fn recheck_eligibility(&mut self, side: Side, quoter: &Quoter) -> bool
-        requires { IsRanked side self.old }
-        ensures side { self.new ≡ side_rechecked side quoter.now.venue quoter.now.may_rank self.old }
-        ensures moved { result
-            ≡ not (is_same_best (best_of_ranks self.old.ranks) (best_of_ranks self.new.ranks)) }
-    {
-        let shown = venue_side_at(&self.venue_sides, quoter.venue);
-        match shown.quote() {
-            None => false,
-            Some(_) => self.recheck_shown(side, quoter),
-        }
-    }
-
-    /// Ranks the side of a venue that shows something, or takes it out, as `recheck_eligibility`
-    /// does, which most often finds nothing shown. Returns whether the best side differs then.
-    #[inline(never)]
-    fn recheck_shown(&mut self, side: Side, quoter: &Quoter) -> bool
         requires { IsRanked side self.old }
         ensures side { self.new ≡ side_rechecked side quoter.now.venue quoter.now.may_rank self.old }
         ensures moved { result

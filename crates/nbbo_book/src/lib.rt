@@ -27,3 +27,4 @@ pub use book::Book;
 pub use change::Change;
 pub use fault::BookFault;
 pub use laws::{age_is_the_first, any_two_rank, one_best, same_is_equal};
+pub use table::are_distinct;

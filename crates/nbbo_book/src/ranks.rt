@@ -1,6 +1,6 @@
 //! The ranks of one side of a symbol.
 
-ghost use Rattle.std.specs.Prelude.{◌≡◌, ℕ, ◌+◌, ◌<◌, ◌≤◌, [], true, false, not, length, slice_index_or, slice_set, insert, remove, IfSome, None, Some};
+ghost use Rattle.std.specs.Prelude.{◌≡◌, ℕ, ◌+◌, ◌*◌, ◌^◌, ◌<◌, ◌≤◌, [], true, false, not, length, slice_index_or, slice_set, insert, remove, IfSome, None, Some};
 ghost use Rattle.nbbo_book.specs.Changes.{is_same_best};
 ghost use Rattle.nbbo_book.specs.Nationals.{is_better as is_better_side, beats as beats_side};
 ghost use Rattle.nbbo_book.specs.VenueSides.{age_at};
@@ -8,7 +8,7 @@ ghost use Rattle.nbbo_book.specs.Ranks.{is_ahead as is_ahead_side, ages_in, AreN
 
 use crate::venue_side::{VenueSide, venue_side_at};
 use arrayvec::ArrayVec;
-use feed_types::{Best, Side, VenueId};
+use feed_types::{Best, MAX_VENUES, Side, VenueId};
 use std::marker::Model;
 
 /// Why a venue's side is ranked anew.
@@ -26,16 +26,16 @@ pub struct Order<'a> {
     pub side: Side,
     pub cause: Cause,
     /// What the venues show by now, with the ages.
-    pub venue_sides: &'a [VenueSide; 16],
+    pub venue_sides: &'a [VenueSide; MAX_VENUES],
 }
 
 /// The eligible sides of one side of a symbol, best first; at most one of each venue.
 #[derive(Drop)]
 pub struct Ranks {
+    best_first: ArrayVec<Best, MAX_VENUES>,
     /// The place of each venue's side, under the venue's number. It counts where the side there is
-    /// the venue's.
-    places: [u8; 16],
-    best_first: ArrayVec<Best, 16>,
+    /// the venue's. The number of sides, the last part of `best_first`, lies beside it.
+    places: [u8; MAX_VENUES],
 }
 
 impl Model for Ranks {
@@ -51,30 +51,45 @@ impl Model for Ranks {
     ghost invariant = { λ r. AreNoted r.places r.best_first.items };
 }
 
-/// Whether `x` is ahead of `y` by its price or its size. Which of the two is hard to predict: price
-/// and size are compared at once, so that few branches depend on it.
+/// The number of sizes that there are.
+const SIZES: u128 = 18_446_744_073_709_551_616;
+
+/// Returns a price and a size as one number, in the order of the price and then of the size.
+#[inline(always)]
+fn order_key(price: u32, size: u64) -> u128
+    ensures { result ≡ price * 2 ^ 64 + size }
+{
+    u128::from(price) * SIZES + u128::from(size)
+}
+
+/// Returns whether `x` is ahead of `y` by its price or its size. Which of the two is hard to
+/// predict: so price and size are compared as one number, by one branch. Of offers the lower price
+/// is ahead, but the larger size: so each price goes with the size of the other side.
 #[inline(always)]
 fn is_better(side: Side, x: &Best, y: &Best) -> bool
     ensures { result ≡ is_better_side side x.now y.now }
 {
-    let has_better_price = match side {
-        Side::Bid => x.price > y.price,
-        Side::Offer => x.price < y.price,
-    };
-    has_better_price | (x.price == y.price) & (x.size > y.size)
+    match side {
+        Side::Bid => order_key(y.price, y.size) < order_key(x.price, x.size),
+        Side::Offer => order_key(x.price, y.size) < order_key(y.price, x.size),
+    }
 }
 
-/// Whether `x` ranks before `y`: by its price, its size or its age.
-fn beats(side: Side, venue_sides: &[VenueSide; 16], x: &Best, y: &Best) -> bool
+/// Returns whether `x` ranks before `y`: by its price, its size or its age. Ages are read where the
+/// rest is equal alone.
+fn beats(side: Side, venue_sides: &[VenueSide; MAX_VENUES], x: &Best, y: &Best) -> bool
     ensures { result ≡ beats_side side (age_at venue_sides.now) x.now y.now }
 {
+    let is_equal = x.price == y.price && x.size == y.size;
+    if !is_equal {
+        return is_better(side, x, y);
+    }
     let x_age = venue_side_at(venue_sides, x.venue).age();
     let y_age = venue_side_at(venue_sides, y.venue).age();
-    let is_equal = (x.price == y.price) & (x.size == y.size);
-    is_better(side, x, y) | is_equal & (x_age < y_age)
+    x_age < y_age
 }
 
-/// Whether `x`, the side that is ranked anew, ranks before `y`. The newest of all does so by its
+/// Returns whether `x`, the side that is ranked anew, ranks before `y`. The newest of all does so by its
 /// price or its size alone, and no age is read.
 #[inline(always)]
 fn is_ahead(order: &Order<'_>, x: &Best, y: &Best) -> bool
@@ -92,7 +107,7 @@ fn is_ahead(order: &Order<'_>, x: &Best, y: &Best) -> bool
 fn rise(
     order: &Order<'_>,
     ranks: &mut [Best],
-    places: &mut [u8; 16],
+    places: &mut [u8; MAX_VENUES],
     from: usize,
     x: &Best,
 ) -> usize
@@ -125,7 +140,7 @@ fn rise(
 fn fall(
     order: &Order<'_>,
     ranks: &mut [Best],
-    places: &mut [u8; 16],
+    places: &mut [u8; MAX_VENUES],
     from: usize,
     x: &Best,
 ) -> usize
@@ -154,10 +169,10 @@ fn fall(
 /// Puts `x` in the place of the side at `from`, and moves it past its neighbours to its rank.
 /// Returns its place.
 #[inline(always)]
-fn settle(
+fn move_to_rank(
     order: &Order<'_>,
     ranks: &mut [Best],
-    places: &mut [u8; 16],
+    places: &mut [u8; MAX_VENUES],
     from: usize,
     x: &Best,
 ) -> usize
@@ -180,7 +195,7 @@ fn settle(
 
 /// Returns the place of the venue's side.
 #[inline(always)]
-fn place_of(ranks: &[Best], places: &[u8; 16], venue: VenueId) -> Option<usize>
+fn place_of(ranks: &[Best], places: &[u8; MAX_VENUES], venue: VenueId) -> Option<usize>
     requires { AreNoted places.now ranks.now }
     ensures found { IfSome result (λ at. at < length ranks.now) }
     ensures own { (x : Best) → IfSome result (λ at. (slice_index_or ranks.now at x).venue ≡ venue) }
@@ -195,7 +210,7 @@ fn place_of(ranks: &[Best], places: &[u8; 16], venue: VenueId) -> Option<usize>
 }
 
 /// Notes the place of each side from `from` on, which is one place further on than is noted.
-fn note_anew(ranks: &[Best], places: &mut [u8; 16], from: usize)
+fn note_anew(ranks: &[Best], places: &mut [u8; MAX_VENUES], from: usize)
     requires few { length ranks.now ≤ 16 }
     requires before { (k : ℕ) (x : Best) → k < from → k < length ranks.now
         → slice_index_or places.old (slice_index_or ranks.now k x).venue 16 ≡ k }
@@ -214,7 +229,7 @@ impl Ranks {
         ensures { result ≡ [] }
     {
         Ranks {
-            places: [0; 16],
+            places: [0; MAX_VENUES],
             best_first: ArrayVec::new(),
         }
     }
@@ -258,7 +273,7 @@ impl Ranks {
         self.best_first.push(x);
         self.places[x.venue.index()] = from as u8;
         let ranks = self.best_first.as_mut_slice();
-        settle(order, ranks, &mut self.places, from, &x) == 0
+        move_to_rank(order, ranks, &mut self.places, from, &x) == 0
     }
 
     /// Takes out the side at this place.
@@ -306,7 +321,7 @@ impl Ranks {
         match order.cause {
             Cause::Quoted => {
                 let ranks = self.best_first.as_mut_slice();
-                let to = settle(order, ranks, &mut self.places, from, &x);
+                let to = move_to_rank(order, ranks, &mut self.places, from, &x);
                 (from == 0) | (to == 0)
             }
             // What is ranked already keeps its place.

@@ -5,21 +5,22 @@ ghost use Rattle.std.specs.Str.{bytes_eq};
 ghost use Rattle.feed_types.specs.declared.line.Side.TheVariants.{Bid, Offer};
 ghost use Rattle.nbbo_book.specs.Changes.{is_same_national};
 ghost use Rattle.nbbo_book.specs.BookSides.{IsRanked};
-ghost use Rattle.nbbo_book.specs.Rows.{IsRowRanked, row_quoted, row_ended, row_halted, row_helped, row_after_item, row_after, national_at, side_at};
+ghost use Rattle.nbbo_book.specs.Rows.{IsRowRanked, row_quoted, row_ended, row_halted, row_helped, national_at, side_at};
 
 use crate::book_side::BookSide;
 use crate::side_quote::{bid_of, offer_of};
 use crate::venue_side::VenueSide;
 use crate::venues::Venues;
-use feed_types::{Best, Entry, Item, National, Quote, Side, SymbolName, VenueId};
+use feed_types::{Best, MAX_VENUES, National, Quote, Side, SymbolName, VenueId};
 
-/// The part of a book for one symbol. What each entry reads of it comes first.
+/// The part of a book for one symbol. The halts and the symbol, which each entry reads, lie beside
+/// the number of the bids and their places, which end the bids: 48 bytes in a row.
 #[derive(Drop)]
 pub struct Row {
-    /// The venues that halt the symbol.
-    pub halted: [bool; 16],
-    pub symbol: SymbolName,
     pub bids: BookSide,
+    /// The venues that halt the symbol.
+    pub halted: [bool; MAX_VENUES],
+    pub symbol: SymbolName,
     pub offers: BookSide,
 }
 
@@ -34,7 +35,7 @@ impl Row {
 
     /// Takes a quotation of the symbol. Returns whether the national best differs then.
     #[inline(always)]
-    fn take_quote(&mut self, venues: &Venues, venue: VenueId, quote: &Quote, age: u64) -> bool
+    pub fn take_quote(&mut self, venues: &Venues, venue: VenueId, quote: &Quote, age: u64) -> bool
         requires { IsRowRanked age self.old }
         ensures row { self.new ≡ row_quoted venues.now.helped venue quote.now age self.old }
         ensures changed { result
@@ -51,7 +52,7 @@ impl Row {
     /// Takes the end of the venue's session: it shows nothing, and halts nothing. Returns whether
     /// the national best differs then.
     #[inline(always)]
-    fn take_end(&mut self, venue: VenueId, age: u64) -> bool
+    pub fn take_end(&mut self, venue: VenueId, age: u64) -> bool
         requires { IsRowRanked age self.old }
         ensures row { self.new ≡ row_ended venue age self.old }
         ensures changed { result
@@ -66,7 +67,7 @@ impl Row {
     /// Ranks the venue's sides anew by the flags of self-help and the halts. Returns whether the
     /// national best differs then.
     #[inline(always)]
-    fn recheck(&mut self, venues: &Venues, venue: VenueId) -> bool
+    pub fn recheck(&mut self, venues: &Venues, venue: VenueId) -> bool
         requires bids { IsRanked Bid (side_at Bid self.old) }
         requires offers { IsRanked Offer (side_at Offer self.old) }
         ensures row { self.new ≡ row_helped venues.now.helped venue self.old }
@@ -80,8 +81,9 @@ impl Row {
     }
 
     /// Takes a halt of the symbol at the venue, or its end. Returns whether the national best
-    /// differs then.
-    fn take_halt(&mut self, venues: &Venues, venue: VenueId, halted: bool) -> bool
+    /// differs then. It is a call of its own, since halts are rare.
+    #[inline(never)]
+    pub fn take_halt(&mut self, venues: &Venues, venue: VenueId, halted: bool) -> bool
         requires bids { IsRanked Bid (side_at Bid self.old) }
         requires offers { IsRanked Offer (side_at Offer self.old) }
         ensures row { self.new ≡ row_halted venues.now.helped venue halted self.old }
@@ -92,73 +94,8 @@ impl Row {
         self.recheck(venues, venue)
     }
 
-    /// Takes the venue's item, of this age. Returns whether the national best differs then.
-    #[inline(always)]
-    fn take_item(&mut self, venues: &Venues, venue: VenueId, item: &Item, age: u64) -> bool
-        requires { IsRowRanked age self.old }
-        ensures row { self.new ≡ row_after_item venues.now.helped age venue item.now self.old }
-        ensures changed { result
-            ≡ not (is_same_national (national_at self.old) (national_at self.new)) }
-    {
-        match item {
-            Item::Quote(quote) => {
-                self.is_of(quote.symbol) && self.take_quote(venues, venue, quote, age)
-            }
-            Item::Halt { symbol, halted } => {
-                self.is_of(*symbol) && self.take_halt(venues, venue, *halted)
-            }
-            Item::Other => false,
-            Item::End => self.take_end(venue, age),
-        }
-    }
-
-    /// Takes one more entry, of this age; the flags of self-help are those after it. Returns
-    /// whether the national best differs then.
-    #[inline(always)]
-    pub fn take_entry(&mut self, venues: &Venues, entry: &Entry, age: u64) -> bool
-        requires { IsRowRanked age self.old }
-        ensures row { self.new ≡ row_after venues.now.helped age entry.now self.old }
-        ensures changed { result
-            ≡ not (is_same_national (national_at self.old) (national_at self.new)) }
-    {
-        match entry {
-            Entry::Consumed { venue, numbered } => {
-                self.take_item(venues, *venue, &numbered.item, age)
-            }
-            Entry::SelfHelp { venue, on: _ } => self.recheck(venues, *venue),
-        }
-    }
-
-    /// Takes the venue's item as `take_item` does, in a call of its own.
-    #[inline(never)]
-    fn take_item_apart(&mut self, venues: &Venues, venue: VenueId, item: &Item, age: u64) -> bool
-        requires { IsRowRanked age self.old }
-        ensures row { self.new ≡ row_after_item venues.now.helped age venue item.now self.old }
-        ensures changed { result
-            ≡ not (is_same_national (national_at self.old) (national_at self.new)) }
-    {
-        self.take_item(venues, venue, item, age)
-    }
-
-    /// Takes one more entry as `take_entry` does. It costs less than that for an end and self-help,
-    /// which concern each symbol: what a quotation does is a call of its own.
-    #[inline(always)]
-    pub fn take_entry_of_all(&mut self, venues: &Venues, entry: &Entry, age: u64) -> bool
-        requires { IsRowRanked age self.old }
-        ensures row { self.new ≡ row_after venues.now.helped age entry.now self.old }
-        ensures changed { result
-            ≡ not (is_same_national (national_at self.old) (national_at self.new)) }
-    {
-        match entry {
-            Entry::Consumed { venue, numbered } => match &numbered.item {
-                Item::End => self.take_end(*venue, age),
-                _ => self.take_item_apart(venues, *venue, &numbered.item, age),
-            },
-            Entry::SelfHelp { venue, on: _ } => self.recheck(venues, *venue),
-        }
-    }
-
-    /// Reads something of each part that a quotation of the venue reads, and mixes it.
+    /// Reads something of each part that a quotation of the venue reads, and mixes it. Of the ranks
+    /// it reads their number alone, since which of them a side passes isn't known.
     #[inline(always)]
     pub fn peek(&self, venue: VenueId) -> u64 {
         u64::from(self.halted[venue.index()]) ^ self.bids.peek(venue) ^ self.offers.peek(venue)

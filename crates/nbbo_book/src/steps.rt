@@ -4,14 +4,14 @@ ghost use Rattle.std.specs.Prelude.{◌≡◌, ◌++◌, ◌+◌, ◌<◌, ◌�
 ghost use Rattle.std.specs.List.{AllByRecursion};
 ghost use Rattle.std.specs.Vec.{vec_len, vec_capacity};
 ghost use Rattle.std.specs.Option.{option_to_list};
-ghost use Rattle.nbbo_book.specs.Rows.{IsRowRanked, symbol_in, told_where, AppliesStep};
+ghost use Rattle.nbbo_book.specs.Rows.{IsRowRanked, row_ended, row_helped, row_stepped, told_where, AppliesStep};
 ghost use Rattle.nbbo_book.specs.Tables.{IsTable, symbols_in_rows};
 
 use crate::change::Change;
 use crate::row::Row;
 use crate::table::{Table, find};
 use crate::venues::Venues;
-use feed_types::{Best, Entry, Item, National, SymbolName};
+use feed_types::{Best, Entry, Item, National, VenueId};
 
 /// One more entry, with its position.
 #[derive(Clone, Copy)]
@@ -35,6 +35,7 @@ fn append_change(has_changed: bool, position: u64, row: &Row, out: &mut Vec<Chan
 {
     if has_changed {
         let national = row.national();
+        // The prover is told here of the types that are nested in what is pushed.
         let bid: Option<Best> = national.bid;
         let offer: Option<Best> = national.offer;
         out.push_reserved(Change {
@@ -45,9 +46,10 @@ fn append_change(has_changed: bool, position: u64, row: &Row, out: &mut Vec<Chan
     }
 }
 
-/// Applies the entry to all symbols, and appends their changes in order.
+/// Ends the venue's session in all symbols, and appends their changes in order.
 #[inline(never)]
-fn step_rows(rows: &mut [Row], step: &Step<'_>, out: &mut Vec<Change>)
+fn end_rows(rows: &mut [Row], step: &Step<'_>, venue: VenueId, out: &mut Vec<Change>)
+    requires ends { (row : Row) → row_stepped step.now row ≡ row_ended venue step.now.age row }
     requires ranked { AllByRecursion (IsRowRanked step.now.age) rows.old }
     requires room { vec_len out.old + length rows.old ≤ vec_capacity out.old }
     ensures applies { AppliesStep step.now rows.old rows.new out.old.items out.new.items }
@@ -56,31 +58,25 @@ fn step_rows(rows: &mut [Row], step: &Step<'_>, out: &mut Vec<Change>)
 {
     for i in 0..rows.len() {
         let row = &mut rows[i];
-        let has_changed = row.take_entry_of_all(step.venues, step.entry, step.age);
+        let has_changed = row.take_end(venue, step.age);
         append_change(has_changed, step.position, row, out);
     }
 }
 
-/// Applies a quotation or a halt to its symbol, where that is configured.
-#[inline(always)]
-fn step_symbol(
-    table: &Table,
-    rows: &mut [Row],
-    step: &Step<'_>,
-    symbol: SymbolName,
-    out: &mut Vec<Change>,
-)
-    requires symbol { symbol_in step.now.entry.now ≡ Some symbol }
-    requires table { IsTable (symbols_in_rows rows.old) table.now.words.keys }
+/// Ranks the venue's sides of all symbols anew, and appends their changes in order.
+#[inline(never)]
+fn recheck_rows(rows: &mut [Row], step: &Step<'_>, venue: VenueId, out: &mut Vec<Change>)
+    requires rechecks { (row : Row) → row_stepped step.now row
+        ≡ row_helped step.now.venues.now.helped venue row }
     requires ranked { AllByRecursion (IsRowRanked step.now.age) rows.old }
     requires room { vec_len out.old + length rows.old ≤ vec_capacity out.old }
     ensures applies { AppliesStep step.now rows.old rows.new out.old.items out.new.items }
     ensures len { vec_len out.new ≤ vec_len out.old + length rows.old }
     ensures capacity { vec_capacity out.new ≡ vec_capacity out.old }
 {
-    if let Some(i) = find(table, rows, symbol) {
+    for i in 0..rows.len() {
         let row = &mut rows[i];
-        let has_changed = row.take_entry(step.venues, step.entry, step.age);
+        let has_changed = row.recheck(step.venues, venue);
         append_change(has_changed, step.position, row, out);
     }
 }
@@ -89,25 +85,32 @@ fn step_symbol(
 /// flags of self-help are those after it.
 #[inline(always)]
 pub fn apply_step(table: &Table, rows: &mut [Row], step: &Step<'_>, out: &mut Vec<Change>)
-    requires table { IsTable (symbols_in_rows rows.old) table.now.words.keys }
+    requires table { IsTable (symbols_in_rows rows.old) table.now.symbols.keys }
     requires ranked { AllByRecursion (IsRowRanked step.now.age) rows.old }
     requires room { vec_len out.old + length rows.old ≤ vec_capacity out.old }
     ensures applies { AppliesStep step.now rows.old rows.new out.old.items out.new.items }
     ensures len { vec_len out.new ≤ vec_len out.old + length rows.old }
     ensures capacity { vec_capacity out.new ≡ vec_capacity out.old }
 {
-    let entry = step.entry;
-    match entry {
-        Entry::Consumed { venue: _, numbered } => match &numbered.item {
+    match step.entry {
+        Entry::Consumed { venue, numbered } => match &numbered.item {
             Item::Quote(quote) => {
-                step_symbol(table, rows, step, quote.symbol, out);
+                if let Some(i) = find(table, rows, quote.symbol) {
+                    let row = &mut rows[i];
+                    let has_changed = row.take_quote(step.venues, *venue, quote, step.age);
+                    append_change(has_changed, step.position, row, out);
+                }
             }
-            Item::Halt { symbol, halted: _ } => {
-                step_symbol(table, rows, step, *symbol, out);
+            Item::Halt { symbol, halted } => {
+                if let Some(i) = find(table, rows, *symbol) {
+                    let row = &mut rows[i];
+                    let has_changed = row.take_halt(step.venues, *venue, *halted);
+                    append_change(has_changed, step.position, row, out);
+                }
             }
             Item::Other => {}
-            Item::End => step_rows(rows, step, out),
+            Item::End => end_rows(rows, step, *venue, out),
         },
-        Entry::SelfHelp { venue: _, on: _ } => step_rows(rows, step, out),
+        Entry::SelfHelp { venue, on: _ } => recheck_rows(rows, step, *venue, out),
     }
 }

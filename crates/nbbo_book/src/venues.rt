@@ -4,19 +4,19 @@ ghost use Rattle.std.specs.Prelude.{◌≡◌};
 ghost use Rattle.nbbo_book.specs.Rows.{may_at, helped_after as flags_after};
 
 use crate::book_side::Quoter;
-use feed_types::{Entry, VenueId};
+use feed_types::{Entry, MAX_VENUES, VenueId};
 
 /// The venues of a book: how many there are, and on which self-help is declared.
 #[derive(Clone, Copy)]
 pub struct Venues {
     pub count: usize,
-    pub helped: [bool; 16],
+    pub helped: [bool; MAX_VENUES],
 }
 
 impl Venues {
     /// Returns the venue, and whether it may be ranked in a symbol that these venues halt.
     #[inline(always)]
-    pub fn quoter(&self, halted: &[bool; 16], venue: VenueId) -> Quoter
+    pub fn quoter(&self, halted: &[bool; MAX_VENUES], venue: VenueId) -> Quoter
         ensures { result
             ≡ record { venue = venue; may_rank = may_at self.now.helped halted.now venue } }
     {

@@ -15,7 +15,7 @@ fault_text WriteFailed = codes "nbbo: write failed\n"
 fault_text BadRecord = codes "nbbo: bad record\n"
 fault_text ShortRecord = codes "nbbo: short record\n"
 fault_text TooManyTurns = codes "nbbo: too many turns\n"
-fault_text JournalFull = codes "nbbo: journal full; --journal gives it more room\n"
+fault_text JournalFull = codes "nbbo: journal full\n"
 fault_text NoMemory = codes "nbbo: no memory\n"
 
 -- one line; none after a replay without a fault

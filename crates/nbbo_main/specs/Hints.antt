@@ -1,5 +1,6 @@
--- What a terminal is told of an input that is no capture of this project's own, by the number of
--- its first four bytes, the first of them the highest.
+-- What a terminal is told beside what the program says: of an input that is no capture of this
+-- project's own, by the number of its first four bytes, the first of them the highest; and of a full
+-- journal.
 use Rattle.std.specs.Prelude.{ℕ, ◌/◌, ◌==◌, Bool, ◌||◌, List, [], codes, if◌then◌else◌}
 
 -- the first bytes of pcap, in either order of bytes, with microseconds and then with nanoseconds,
@@ -18,3 +19,8 @@ format_hint start =
     else (if start / 65536 == 8075
     then codes "nbbo: the input is in gzip; to unpack it write 'zcat FILE | nbbo replay ..'\n"
     else [])
+
+-- one line, where the journal was full
+abbrev pub journal_hint : Bool → List ℕ
+journal_hint is_full =
+    if is_full then codes "nbbo: --journal N gives the journal room for N entries\n" else []

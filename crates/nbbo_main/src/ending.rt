@@ -14,7 +14,7 @@ pub fn fault_line(fault: ReplayFault) -> &'static str
         ReplayFault::BadRecord => "nbbo: bad record\n",
         ReplayFault::ShortRecord => "nbbo: short record\n",
         ReplayFault::TooManyTurns => "nbbo: too many turns\n",
-        ReplayFault::JournalFull => "nbbo: journal full; --journal gives it more room\n",
+        ReplayFault::JournalFull => "nbbo: journal full\n",
         ReplayFault::NoMemory => "nbbo: no memory\n",
     }
 }

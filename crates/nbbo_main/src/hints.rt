@@ -1,6 +1,6 @@
 //! Hints for who is at a terminal: what was probably meant where something else was given.
 ghost use Rattle.std.specs.Prelude.{◌≡◌};
-ghost use Rattle.nbbo_main.specs.Hints.{format_hint, is_packets};
+ghost use Rattle.nbbo_main.specs.Hints.{format_hint, is_packets, journal_hint};
 
 use feed_text::{TextOut, write_stderr};
 use std::fs::{self, File, Files};
@@ -39,6 +39,17 @@ pub fn format_hint(start: u32) -> &'static str
         "nbbo: the input is a packet capture (pcap or pcapng); --lines LIST says which of its datagrams to replay\n"
     } else if start / 65_536 == GZIP {
         "nbbo: the input is in gzip; to unpack it write 'zcat FILE | nbbo replay ..'\n"
+    } else {
+        ""
+    }
+}
+
+/// The line for a run whose journal was full; empty for another one.
+pub fn journal_hint(is_full: bool) -> &'static str
+    ensures { result.now ≡ journal_hint is_full }
+{
+    if is_full {
+        "nbbo: --journal N gives the journal room for N entries\n"
     } else {
         ""
     }

@@ -8,7 +8,7 @@
 //! what its lines report, counted (`capture_stats`).
 //!
 //! `nbbo listen --sessions LIST --lines LIST [--request ADDR] [--window N] [--journal N]
-//! [--datagrams N] [--buffer BYTES] [SYMBOL]...` receives the lines of live venues by UDP, runs them as a live feed
+//! [--datagrams N] [--end WHICH] [--buffer BYTES] [SYMBOL]...` receives the lines of live venues by UDP, runs them as a live feed
 //! (`live_feed`), and prints what they came to once all have ended.
 //!
 //! The contract here is that of `run::run`: of any words, over any input, output and standard error,
@@ -29,13 +29,15 @@ mod ending;
 mod hints;
 mod kept_start;
 mod line_runs;
+mod noted_errors;
 mod run;
 mod stats_runs;
 
 use command_words::{ListenSettings, Refusal};
 use feed_text::{CaptureIn, Count, StreamIn, StreamOut, TextOut, write_stderr};
-use hints::{asks_for_packets, format_hint, hint_at_file};
+use hints::{asks_for_packets, format_hint, hint_at_file, journal_hint};
 use kept_start::KeptStart;
+use noted_errors::NotedErrors;
 use run::{Next, refuse, run};
 use std::alloc::{AllocError, Global};
 use std::io::{ErrorKind, IsTerminal, Stderr, Stdin, Stdout};
@@ -94,12 +96,18 @@ fn run_streams<H: Threads + Wait + Sync, C: Ledger, R: Ledger, W: Ledger, E: Led
         Count::new(of_reads),
     );
     let output: StreamOut<Stdout, W> = StreamOut::new(rt.stdout(), Count::new(of_writes));
-    let mut errors: StreamOut<Stderr, E> = StreamOut::new(rt.stderr(), Count::new(of_errors));
+    let errors: StreamOut<Stderr, E> = StreamOut::new(rt.stderr(), Count::new(of_errors));
+    let mut errors = NotedErrors::new(errors);
     let (next, output) = run_words(rt, KeptStart::new(input), output, &mut errors);
-    match next {
-        Next::Ended(status) => status,
+    let (status, mut errors) = match next {
+        Next::Ended(status) => (status, errors),
         Next::Listens(settings) => listen_live(rt, threads, &settings, output, errors),
+    };
+    if rt.stderr().is_terminal() {
+        let hint = journal_hint(errors.is_journal_full());
+        write_stderr(hint, &mut errors);
     }
+    status
 }
 
 /// Does what the words of the command line ask for, but for listening. Where standard error is a terminal it is also
@@ -152,14 +160,14 @@ fn tell_sockets<E: TextOut>(
     Ok(())
 }
 
-/// Listens on the lines of the settings, and returns the status of the program.
+/// Listens on the lines of the settings, and returns the status of the program, and standard error.
 fn listen_live<H, W, E>(
     rt: &HostRuntime,
     threads: &H,
     settings: &ListenSettings,
     output: W,
     mut errors: E,
-) -> u8
+) -> (u8, E)
 where
     H: Threads + Wait + Sync,
     W: TextOut + Drop,
@@ -169,14 +177,14 @@ where
         Ok(sockets) => sockets,
         Err(text) => {
             write_stderr(text, &mut errors);
-            return 1;
+            return (1, errors);
         }
     };
     if tell_sockets(rt.alloc(), settings, sockets.as_slice(), &mut errors).is_err() {
         write_stderr(NO_MEMORY, &mut errors);
-        return 1;
+        return (1, errors);
     }
-    let (status, _output, _errors) = listen_with(
+    let (status, _output, errors) = listen_with(
         threads,
         rt,
         rt.alloc(),
@@ -186,7 +194,7 @@ where
         output,
         errors,
     );
-    status
+    (status, errors)
 }
 
 fn main(rt: HostRuntime) -> ExitCode {

@@ -2,4 +2,5 @@ pub mod Crossing
 pub mod Ends
 pub mod Following
 pub mod Seeing
+pub mod Telling
 pub mod Wholes

@@ -1,8 +1,11 @@
--- Whether a datagram is an end of session, by the one packet that its bytes are.
-use Rattle.std.proofs.Common.{◌≡◌, ◌∙◌, List, ℕ, ap}
+-- Whether a datagram ends a line, by the one packet that its bytes are.
+use Rattle.std.proofs.Common.{◌≡◌, ◌∙◌, List, ℕ, Option, Some, None, ap, refl, sym, subst}
+use Rattle.std.specs.Prelude.{IfSome, IsTrue, is_some}
 use Rattle.mold_packet.specs.Content.{Content, Spells}
 use Rattle.mold_packet.specs.declared.packet.Kind.TheVariants.{End}
-use Rattle.udp_listening.specs.UdpLines.{SpellsEnd}
+use Rattle.command_words.specs.declared.end_rule.EndRule.{EndRule}
+use Rattle.command_words.specs.declared.end_rule.EndRule.TheVariants.{AnySession, OwnSession, NoSession}
+use Rattle.udp_listening.specs.UdpLines.{EndsLine, IsLast, SpellsEndOf}
 
 -- the bytes are this packet and no other one
 abbrev pub IsOnly : List ℕ → Content → Type 0
@@ -12,8 +15,32 @@ IsOnly bytes p = (q : Content) (more : List ℕ) → Spells bytes q more → p �
 abbrev pub IsNone : List ℕ → Type 0
 IsNone bytes = (q : Content) (more : List ℕ) → Spells bytes q more → ⊥
 
-pub end_of_one : (bytes : List ℕ) (p : Content) → IsOnly bytes p → SpellsEnd bytes → p.kind ≡ End
-end_of_one bytes p only e = ap (λ (q : Content). q.kind) (only e.packet e.rest e.spells) ∙ e.is
+-- what the bytes are an end of is the packet's session, and then the packet is an end
+pub end_of_one : (bytes session : List ℕ) (p : Content) → IsOnly bytes p → SpellsEndOf session bytes
+    → (p.kind ≡ End) × (p.session ≡ session)
+end_of_one bytes session p only e = (
+  ap (λ (q : Content). q.kind) (only e.packet e.rest e.spells) ∙ e.is,
+  ap (λ (q : Content). q.session) (only e.packet e.rest e.spells) ∙ e.of,
+)
 
-pub no_end : (bytes : List ℕ) → IsNone bytes → SpellsEnd bytes → ⊥
-no_end bytes none e = none e.packet e.rest e.spells
+pub no_end : (bytes session : List ℕ) → IsNone bytes → SpellsEndOf session bytes → ⊥
+no_end bytes session none e = none e.packet e.rest e.spells
+
+-- an end that ends the line, by the session that the datagram is found to be an end of
+pub last_of_end : (rule : EndRule) (session bytes : List ℕ) (ended : Option (List ℕ))
+    → ((other : List ℕ) → SpellsEndOf other bytes → ended ≡ Some other)
+    → EndsLine rule session bytes → IsLast rule session ended
+last_of_end AnySession session bytes ended only e =
+    subst (λ (o : Option (List ℕ)). IsTrue (is_some o)) (sym (only e.0 e.1)) refl
+last_of_end OwnSession session bytes ended only e = only session e
+last_of_end NoSession session bytes ended only e = absurd e
+
+-- and back
+pub end_of_last : (rule : EndRule) (session bytes : List ℕ) (ended : Option (List ℕ))
+    → IfSome ended (λ other. SpellsEndOf other bytes)
+    → IsLast rule session ended → EndsLine rule session bytes
+end_of_last AnySession session bytes None found is = absurd (cc)
+end_of_last AnySession session bytes (Some other) found is = (other, found)
+end_of_last OwnSession session bytes ended found is =
+    subst (λ (o : Option (List ℕ)). IfSome o (λ other. SpellsEndOf other bytes)) is found
+end_of_last NoSession session bytes ended found is = absurd is

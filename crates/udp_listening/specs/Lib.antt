@@ -1,2 +1,3 @@
 pub mod Listening
+pub mod News
 pub mod UdpLines

@@ -1,10 +1,10 @@
 -- `nbbo listen`: its settings, what it prints of what came, and how it ends. The texts are this
 -- project's own.
-use Rattle.std.specs.Prelude.{◌≡◌, ◌⊎◌, ℕ, ◌+◌, ◌≤◌, ◌%◌, ◌==◌, Bool, false, List, [], ◌∷◌, ◌++◌, length, drop, flat_map, take, Option, Some, None, Result, Ok, Err, if◌then◌else◌, codes, decimal}
+use Rattle.std.specs.Prelude.{◌≡◌, ◌⊎◌, ℕ, ◌+◌, ◌≤◌, ◌%◌, ◌==◌, Bool, false, List, [], ◌∷◌, ◌++◌, length, drop, flat_map, slice_get, take, Option, Some, None, Result, Ok, Err, if◌then◌else◌, codes, decimal}
 use Rattle.feed_types.specs.declared.config.FeedConfig.{FeedConfig}
 use Rattle.feed_types.specs.declared.line.LineId.{LineId}
 use Rattle.feed_types.specs.declared.line.LineId.TheVariants.{A, B, Recovery}
-use Rattle.line_arbiter.specs.Counts.{count_on}
+use Rattle.feed_types.specs.PerLines.{on_line}
 use Rattle.feed_text.specs.Devices.{Writing, Wrote}
 use Rattle.feed_text.specs.Lines.{best_line, venue_line}
 use Rattle.live_feed.specs.declared.run.report.Stop.{Stop}
@@ -13,6 +13,7 @@ use Rattle.live_feed.specs.declared.subscriber.logged.Logged.{Logged}
 use Rattle.live_feed.specs.venue.Seats.{SeatState}
 use Rattle.live_feed.specs.settle.Settlements.{SettlementState, VenueEndState, SubscriberEndState}
 use Rattle.feed_text.specs.StandardError.{Says, SaysEach}
+use Rattle.udp_listening.specs.News.{SaysOfLines}
 use Rattle.udp_listening.specs.UdpLines.{UdpLineState}
 use Rattle.udp_listening.specs.declared.desk.Desk.{Desk}
 use Rattle.udp_listening.specs.declared.desk.Following.{Following}
@@ -35,9 +36,12 @@ pub record IsFeedOf (settings : ListenSettings) (config : FeedConfig) : Type 0 w
   pub journal : config.journal ≡ settings.feed.journal
   pub log : config.log ≡ settings.feed.journal
 
--- the line reads datagrams for the venue, as many as the settings say
+-- the line reads datagrams for the venue, as many as the settings say, and ends with an end of session
+-- as they say
 pub record IsSourceOf (settings : ListenSettings) (venue : ℕ) (line : UdpLineState) : Type 0 where
   pub venue_is : line.venue ≡ venue
+  pub session : slice_get settings.feed.sessions.items venue ≡ Some line.session
+  pub rule : line.rule ≡ settings.end
   pub left : line.left ≡ settings.datagrams
   pub whole : line.failed ≡ false
   pub unended : line.ended ≡ false
@@ -72,7 +76,7 @@ subscriber_lines printed x =
 -- the last line of a venue: how many of its items were consumed, and how many numbers each line
 -- brought first
 abbrev pub end_line : ℕ → VenueEndState → List ℕ
-end_line venue v = venue_line venue (length v.consumed) (λ line. count_on line v.wins)
+end_line venue v = venue_line venue (length v.consumed) (λ line. on_line line v.wins)
 
 -- the last lines of the venues from this one on
 abbrev pub end_lines : ℕ → List VenueEndState → List ℕ
@@ -175,7 +179,7 @@ abbrev pub lack_texts : Lack → List (List ℕ)
 lack_texts lack = lacking_texts lack.venue ++ missing_texts lack.count lack.number
 
 abbrev pub stop_text : Stop → List ℕ
-stop_text stops.JournalFull = codes "nbbo: journal full; --journal gives it more room\n"
+stop_text stops.JournalFull = codes "nbbo: journal full\n"
 stop_text stops.NoMemory = codes "nbbo: no memory\n"
 stop_text stops.NoThread = codes "nbbo: no thread\n"
 
@@ -287,10 +291,10 @@ ListensToEnd writing telling (Err fault) before after silent told status =
     × Says telling (listen_fault_text fault) silent told × (status ≡ 1)
 
 -- However it is asked to end and to print, listening ends in one of these ways. Before, standard
--- error has whatever counts the settings ask for, and where they ask for none nothing.
+-- error has whatever counts the settings ask for, and where they ask for none what is said of lines.
 pub record Listens {W E : Type 0} (writing : Writing W) (telling : Writing E)
     (settings : ListenSettings) (before after : W) (silent told : E) (status : ℕ) : Type 0 where
   pub outcome : Result ListenReport ListenFault
   pub counted : E
-  pub quiet : settings.stats ≡ None → counted ≡ silent
+  pub quiet : settings.stats ≡ None → SaysOfLines telling silent counted
   pub ends : ListensToEnd writing telling outcome before after counted told status

@@ -1,12 +1,16 @@
 -- A line that is received by UDP, as contracts see it.
-use Rattle.std.specs.Prelude.{◌≡◌, ◌⊎◌, ℕ, ◌==◌, ◌&&◌, not, Bool, true, false, List}
+use Rattle.std.specs.Prelude.{◌≡◌, ◌⊎◌, ℕ, ◌==◌, ◌&&◌, not, Bool, true, false, IsTrue, List, Option, Some, is_some}
 use Rattle.mold_packet.specs.Content.{Content, Spells}
 use Rattle.mold_packet.specs.declared.packet.Kind.TheVariants.{End}
+use Rattle.command_words.specs.declared.end_rule.EndRule.{EndRule}
+use Rattle.command_words.specs.declared.end_rule.EndRule.TheVariants.{AnySession, OwnSession, NoSession}
 
--- the venue, how many datagrams the line may still read, whether its socket has failed, and whether
--- its last datagram was an end of session
+-- the venue, its session, which ends of session end the line, how many datagrams it may still read,
+-- whether its socket has failed, and whether its last datagram was an end that ended it
 pub record UdpLineState : Type 0 where
   pub venue : ℕ
+  pub session : List ℕ
+  pub rule : EndRule
   pub left : ℕ
   pub failed : Bool
   pub ended : Bool
@@ -24,9 +28,22 @@ IsOver line = (line.failed ≡ true) ⊎ (line.left ≡ 0)
 abbrev pub is_read_out : UdpLineState → Bool
 is_read_out line = not line.failed && (not line.ended && (line.left == 0))
 
--- the bytes are an end of session, of whichever session
-pub record SpellsEnd (bytes : List ℕ) : Type 0 where
+-- the bytes are an end of this session
+pub record SpellsEndOf (session bytes : List ℕ) : Type 0 where
   pub packet : Content
   pub rest : List ℕ
   pub spells : Spells bytes packet rest
   pub is : packet.kind ≡ End
+  pub of : packet.session ≡ session
+
+-- the bytes are an end of session that by this rule ends a line of a venue's session
+abbrev pub EndsLine : EndRule → List ℕ → List ℕ → Type 0
+EndsLine AnySession session bytes = (ended : List ℕ) × SpellsEndOf ended bytes
+EndsLine OwnSession session bytes = SpellsEndOf session bytes
+EndsLine NoSession session bytes = ⊥
+
+-- the same of a datagram that is an end of the session `ended`, or no end of session
+abbrev pub IsLast : EndRule → List ℕ → Option (List ℕ) → Type 0
+IsLast AnySession session ended = IsTrue (is_some ended)
+IsLast OwnSession session ended = ended ≡ Some session
+IsLast NoSession session ended = ⊥

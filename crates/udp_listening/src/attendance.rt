@@ -1,12 +1,15 @@
 //! The attendant of a run at its work, beside the run's thread: it takes what the subscriber is offered,
-//! prints it where that is asked for, says what was counted, and stops the run where it is to end.
+//! prints it where that is asked for, says what is new of the lines and what was counted, and stops the run where it is
+//! to end.
 ghost use Rattle.std.specs.Prelude.{◌≡◌, IfOk, None};
 ghost use Rattle.feed_text.specs.Devices.{Writing};
 ghost use Rattle.udp_listening.specs.Listening.{KeepsFollowing};
+ghost use Rattle.udp_listening.specs.News.{SaysNews, SaysOfLines};
 
 use crate::attendant::{Attendant, Turn};
 use crate::closed_run::{ClosedRun, RunOutcome, closed_run};
 use crate::desk::Desk;
+use crate::line_watch::LineWatches;
 use crate::listening::ListenFault;
 use feed_text::{LineBuffer, TextOut};
 use feed_types::VenueId;
@@ -20,6 +23,8 @@ use std::time::Clock;
 pub struct Attendance<N: FeedName, C, W, E> {
     pub attendant: Attendant<C>,
     pub desk: Desk<W, E>,
+    /// The lines of the run.
+    pub watches: LineWatches,
     pub log: SubscriberLog<N>,
     /// Where lines are put together.
     pub text: LineBuffer,
@@ -36,7 +41,8 @@ impl<N: FeedName, C: Clock + Drop, W: TextOut, E: TextOut> Attendance<N, C, W, E
         ensures shows { KeepsFollowing (record { adds = W.adds; failures = W.failures })
             self.log.lines self.desk result.log.lines result.desk }
         ensures quiet { self.attendant.counts ≡ None
-            → (result.desk.errors ≡ self.desk.errors) × (result.attendant.counts ≡ None) }
+            → SaysNews (record { adds = E.adds; failures = E.failures })
+            self.desk.errors result.desk.errors × (result.attendant.counts ≡ None) }
     {
         let mut attendance = self;
         for _ in rt.forever() {
@@ -54,20 +60,46 @@ impl<N: FeedName, C: Clock + Drop, W: TextOut, E: TextOut> Attendance<N, C, W, E
         attendance
     }
 
-    /// Looks at the run once, takes what the subscriber is offered, and returns what is to be done then.
-    /// Where there is nothing to do it waits before.
+    /// Looks at the run once, takes what the subscriber is offered, says what is new of the lines, and returns what is
+    /// to be done then. Where there is nothing to do it waits before.
     fn turn<R: Wait>(&mut self, rt: &R) -> Turn
         ensures shows { KeepsFollowing (record { adds = W.adds; failures = W.failures })
             self.old.log.lines self.old.desk self.new.log.lines self.new.desk }
-        ensures errors { self.new.desk.errors ≡ self.old.desk.errors }
+        ensures news { SaysNews (record { adds = E.adds; failures = E.failures })
+            self.old.desk.errors self.new.desk.errors }
         ensures counts { self.new.attendant.counts ≡ self.old.attendant.counts }
     {
         let is_over = self.attendant.is_over();
         let has_taken = self.desk.follow(rt, &mut self.text, &mut self.log);
+        self.say_news();
         if is_over && !has_taken {
             return Turn::Over;
         }
         self.attendant.look_on(self.desk.following, has_taken)
+    }
+
+    /// Says what is new of the lines.
+    fn say_news(&mut self)
+        ensures desk { self.new.desk ≡ record (self.old.desk) { errors = self.new.desk.errors } }
+        ensures log { self.new.log ≡ self.old.log }
+        ensures attendant { self.new.attendant ≡ self.old.attendant }
+        ensures news { SaysNews (record { adds = E.adds; failures = E.failures })
+            self.old.desk.errors self.new.desk.errors }
+    {
+        let second = self.attendant.elapsed_ms() / 1_000;
+        self.watches.write_news(second, &mut self.desk.errors);
+    }
+
+    /// Says what is new of the lines of a run that is over, and then what was counted of them.
+    fn say_of_lines(&mut self)
+        ensures desk { self.new.desk ≡ record (self.old.desk) { errors = self.new.desk.errors } }
+        ensures log { self.new.log ≡ self.old.log }
+        ensures attendant { self.new.attendant ≡ self.old.attendant }
+        ensures says { SaysOfLines (record { adds = E.adds; failures = E.failures })
+            self.old.desk.errors self.new.desk.errors }
+    {
+        self.say_news();
+        self.watches.write_totals(&mut self.desk.errors);
     }
 
     /// Writes the counts of each venue, where counts are asked for.
@@ -96,9 +128,9 @@ impl<N: FeedName, C: Clock + Drop, W: TextOut, E: TextOut> Attendance<N, C, W, E
         }
     }
 
-    /// Ends the attendance of a run that is over: writes the table of all counts, where counts are asked
-    /// for, and returns what of the run is to be settled, and where the program prints. `ran` is what the
-    /// run returned; `statuses` has what each venue has come to.
+    /// Ends the attendance of a run that is over: says what is to be said of the lines, writes the table of all
+    /// counts, where counts are asked for, and returns what of the run is to be settled, and where the program prints.
+    /// `ran` is what the run returned; `statuses` has what each venue has come to.
     pub fn close(
         self,
         alloc: Global,
@@ -107,17 +139,21 @@ impl<N: FeedName, C: Clock + Drop, W: TextOut, E: TextOut> Attendance<N, C, W, E
     ) -> (Result<ClosedRun<N>, ListenFault>, Desk<W, E>)
         ensures log { IfOk result.0 (λ closed. closed.log ≡ self.log) }
         ensures desk { result.1 ≡ record (self.desk) { errors = result.1.errors } }
-        ensures quiet { self.attendant.counts ≡ None → result.1.errors ≡ self.desk.errors }
+        ensures quiet { self.attendant.counts ≡ None
+            → SaysOfLines (record { adds = E.adds; failures = E.failures })
+            self.desk.errors result.1.errors }
     {
-        let Ok(statuses) = statuses else {
-            return (Err(ListenFault::NoMemory), self.desk);
-        };
         let mut attendance = self;
+        attendance.say_of_lines();
+        let Ok(statuses) = statuses else {
+            return (Err(ListenFault::NoMemory), attendance.desk);
+        };
         attendance.tell_all(statuses.as_slice());
         let Attendance {
             attendant,
             desk,
             log,
+            watches: _,
             text: _,
         } = attendance;
         let closed = closed_run(alloc, ran, &attendant, log, statuses.as_slice());

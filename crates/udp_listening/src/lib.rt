@@ -4,10 +4,12 @@
 //! run stands an attendant, which ends it where it is to end from outside, prints best lines as they come,
 //! and prints counts. Once all has ended the best lines, and a line for each venue, are printed.
 //!
-//! Contract: [`listen_with`] prints, in all, the text of the settled feed, or says why it doesn't
-//! (`specs/Listening.antt`). A line brings what its socket brings, up to an end of session, to its count of
-//! datagrams, or to a fault (`specs/UdpLines.antt`). What the sockets bring, when the run is ended from
-//! outside and what is counted, tests show.
+//! Contract: [`listen_with`] prints, in all, the text of some report of a settled feed, or says why it doesn't
+//! (`specs/Listening.antt`); that the report is that of its run tests show. Standard error has before that, where no
+//! counts are asked for, what is news of the lines, and nothing else (`specs/News.antt`). A line brings what its socket
+//! brings, up to an end of session that by its rule ends it, to its count of datagrams, or to a fault
+//! (`specs/UdpLines.antt`). What the sockets bring, when the run is ended from outside, what is counted and when
+//! something is news, tests show.
 //!
 //! Begin with `listen.rt`, then `listening.rt`, `udp_line.rt`, and `attendance.rt` for what is beside a run.
 #![tactic(auto)]
@@ -21,6 +23,9 @@ mod elapsed;
 mod ended_lines;
 mod input_end;
 mod lack;
+mod line_news;
+mod line_progress;
+mod line_watch;
 mod listen;
 mod listen_counts;
 mod listen_lines;

@@ -8,7 +8,7 @@ use crate::attendant::Attendant;
 use crate::desk::{Desk, Following};
 use crate::listen_lines::write_report_lines;
 use crate::listening::{ListenFault, ListenReport, ListenTask, Listened, config_of, run_feed};
-use crate::sources::sources_over;
+use crate::sources::lines_over;
 use crate::summary::summary_of;
 use command_words::ListenSettings;
 use feed_text::{TextOut, write_all, write_stderr};
@@ -136,7 +136,8 @@ fn following_of(settings: &ListenSettings) -> Following
 /// end the run; then prints the report for a subscriber that wants every change. Returns the status of
 /// the program: 0, or 1 where a line failed, the run stopped early, or not all was printed.
 ///
-/// Where the settings ask for it, best lines are printed as they come, and counts on standard error.
+/// Where the settings ask for it, best lines are printed as they come, and counts on standard error. That has also what
+/// is news of the lines, as it comes, and at the end what was counted of them.
 pub fn listen_with<R, C, W, E>(
     rt: &R,
     clock: &C,
@@ -158,16 +159,17 @@ where
         settings.now output result.1 errors result.2 result.0 }
 {
     let mut desk = Desk::new(output, errors, following_of(settings));
-    let (Ok(feed), Ok(sources), Ok(attendant)) = (
+    let (Ok(feed), Ok(lines), Ok(attendant)) = (
         LiveFeed::<Anything>::new(alloc, &config_of(settings)),
-        sources_over(alloc, settings, sockets, clock),
+        lines_over(alloc, settings, sockets, clock),
         Attendant::of(alloc, settings, input, clock),
     ) else {
         let status = print_end(alloc, &Err(ListenFault::NoMemory), &mut desk);
         return (status, desk.output, desk.errors);
     };
     let task = ListenTask {
-        sources,
+        sources: lines.sources,
+        watches: lines.watches,
         terms: Terms::All,
         attendant,
         desk,

@@ -118,7 +118,7 @@ fn stop_line(stop: Stop) -> &'static str
     ensures { result.now ≡ stop_text stop }
 {
     match stop {
-        Stop::JournalFull => "nbbo: journal full; --journal gives it more room\n",
+        Stop::JournalFull => "nbbo: journal full\n",
         Stop::NoMemory => "nbbo: no memory\n",
         Stop::NoThread => "nbbo: no thread\n",
     }

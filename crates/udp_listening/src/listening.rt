@@ -2,12 +2,14 @@
 ghost use Rattle.std.specs.Prelude.{◌≡◌, Err, None};
 ghost use Rattle.feed_text.specs.Devices.{Writing};
 ghost use Rattle.udp_listening.specs.Listening.{HasListened, IsFeedOf, IsUnprinted, KeepsFollowing};
+ghost use Rattle.udp_listening.specs.News.{SaysNews, SaysOfLines};
 
 use crate::attendance::Attendance;
 use crate::attendant::Attendant;
 use crate::closed_run::ClosedRun;
 use crate::desk::Desk;
 use crate::lack::Lack;
+use crate::line_watch::LineWatches;
 use crate::sources::seated;
 use crate::udp_line::UdpLine;
 use command_words::ListenSettings;
@@ -68,11 +70,12 @@ pub fn config_of(settings: &ListenSettings) -> FeedConfig<'_>
     }
 }
 
-/// What is run: the lines' sources in the order of the settings, what the subscriber wants, the run's
-/// attendant, and where the program prints.
+/// What is run: the lines' sources in the order of the settings, the same lines for the attendant, what the subscriber
+/// wants, the run's attendant, and where the program prints.
 #[derive(Drop)]
 pub struct ListenTask<C, W, E> {
     pub sources: Vec<UdpLine<C>>,
+    pub watches: LineWatches,
     pub terms: Terms,
     pub attendant: Attendant<C>,
     pub desk: Desk<W, E>,
@@ -146,10 +149,13 @@ where
     ensures listened { HasListened (record { adds = W.adds; failures = W.failures })
         task.desk.output result.outcome result.desk.following result.desk.printed
         result.desk.output }
-    ensures quiet { task.attendant.counts ≡ None → result.desk.errors ≡ task.desk.errors }
+    ensures quiet { task.attendant.counts ≡ None
+        → SaysOfLines (record { adds = E.adds; failures = E.failures })
+        task.desk.errors result.desk.errors }
 {
     let ListenTask {
         sources,
+        watches,
         terms,
         attendant,
         desk,
@@ -172,6 +178,7 @@ where
     let attendance = Attendance {
         attendant,
         desk,
+        watches,
         log: subscriber.into_log(),
         text: LineBuffer::new(alloc),
     };
@@ -191,7 +198,8 @@ where
             ensures shows { KeepsFollowing (record { adds = W.adds; failures = W.failures })
                 attendance.log.lines attendance.desk result.log.lines result.desk }
             ensures quiet { attendance.attendant.counts ≡ None
-                → (result.desk.errors ≡ attendance.desk.errors)
+                → SaysNews (record { adds = E.adds; failures = E.failures })
+                attendance.desk.errors result.desk.errors
                 × (result.attendant.counts ≡ None) }
         { attendance.attend(rt, &stop, |venue| feed.status(rt, venue).ok()) },
     );

@@ -1,11 +1,12 @@
 //! The sources of a feed's lines, and their seats.
-ghost use Rattle.std.specs.Prelude.{◌≡◌, ◌/◌, ◌<◌, IfOk};
+ghost use Rattle.std.specs.Prelude.{◌≡◌, ◌/◌, ◌<◌, IfOk, vec_len};
 ghost use Rattle.udp_listening.specs.Listening.{IsSourceOf, line_at};
 
+use crate::line_watch::{LineWatch, LineWatches};
 use crate::listening::ListenFault;
-use crate::udp_line::UdpLine;
+use crate::udp_line::{UdpLine, UdpLineSettings};
 use command_words::ListenSettings;
-use feed_types::{Anything, LineId, MAX_VENUES, VenueId};
+use feed_types::{Anything, LineId, VenueId};
 use live_feed::{FeedName, Line, LineSeat, LineSource};
 use std::alloc::{AllocError, Global};
 use std::net::UdpSocket;
@@ -26,33 +27,49 @@ fn source_at<C: Clock + Drop>(
     socket: UdpSocket,
     clock: C,
 ) -> Result<UdpLine<C>, AllocError>
-    requires { place < 32 }
+    requires { place / 2 < vec_len settings.now.feed.sessions }
     ensures { IfOk result (IsSourceOf settings.now (place / 2)) }
 {
-    UdpLine::new(
-        alloc,
-        VenueId::at(place / 2),
-        socket,
-        settings.datagrams,
-        settings.request,
-        clock,
-    )
+    let of_line = UdpLineSettings {
+        venue: VenueId::at(place / 2),
+        session: settings.feed.sessions[place / 2],
+        end: settings.end,
+        datagrams: settings.datagrams,
+        requests_to: settings.request,
+    };
+    UdpLine::new(alloc, of_line, socket, clock)
 }
 
-/// Makes the sources of the settings' lines, which these sockets receive, in the order of the settings. There are 32
-/// lines at most.
-pub fn sources_over<C: Clock + Clone + Drop>(
+/// The sources of lines, and the same lines for the thread beside the run.
+#[derive(Drop)]
+pub struct ListenLines<C> {
+    /// The sources, in the order of the settings.
+    pub sources: Vec<UdpLine<C>>,
+    /// What becomes of the lines.
+    pub watches: LineWatches,
+}
+
+/// Makes the sources of the settings' lines, which these sockets receive, in the order of the settings. There are two
+/// lines for each session.
+pub fn lines_over<C: Clock + Clone + Drop>(
     alloc: Global,
     settings: &ListenSettings,
     sockets: Vec<UdpSocket>,
     clock: &C,
-) -> Result<Vec<UdpLine<C>>, AllocError> {
+) -> Result<ListenLines<C>, AllocError> {
     let mut sources = Vec::with_capacity(alloc, sockets.len())?;
-    for (place, socket) in sockets.into_iter().take(2 * MAX_VENUES).enumerate() {
+    let mut watches = Vec::with_capacity(alloc, sockets.len())?;
+    let most = 2 * settings.feed.sessions.len();
+    for (place, socket) in sockets.into_iter().take(most).enumerate() {
         let source = source_at(alloc, settings, place, socket, clock.clone()?)?;
+        let progress = source.share_progress()?;
+        watches.push(LineWatch::new(source.venue(), line_at(place), progress))?;
         sources.push(source)?;
     }
-    Ok(sources)
+    Ok(ListenLines {
+        sources,
+        watches: LineWatches::new(watches),
+    })
 }
 
 /// A line that is received by UDP, of the feed N.

@@ -1,11 +1,13 @@
 //! A line that is received by UDP.
-ghost use Rattle.std.specs.Prelude.{◌≡◌, ◌≢◌, ◌+◌, ◌*◌, ◌/◌, ◌-◌, ◌^◌, ◌≤◌, ◌⊎◌, ◌↔◌, min, IfOk, IfErr, IfSome, IsTrue, OnErr, Ok, Some, None, true, false, length};
+ghost use Rattle.std.specs.Prelude.{◌≡◌, ◌≢◌, ◌+◌, ◌*◌, ◌/◌, ◌-◌, ◌^◌, ◌≤◌, ◌⊎◌, ◌↔◌, ℕ, List, Bool, min, IfOk, IfErr, IfSome, IsTrue, OnErr, Ok, Some, None, true, false, length};
 ghost use Rattle.std.specs.Duration.{as_nanos};
 ghost use Rattle.live_feed.specs.venue.Datagrams.{bytes_of};
 ghost use Rattle.live_feed.specs.run.Runs.{failures_after};
-ghost use Rattle.udp_listening.specs.UdpLines.{IsOver, SpellsEnd, failures_of, is_read_out};
+ghost use Rattle.udp_listening.specs.UdpLines.{EndsLine, IsLast, IsOver, SpellsEndOf, failures_of, is_read_out};
 ghost use Rattle.live_feed.specs.declared.run.source.SourceFault.TheVariants.{NoMemory};
 
+use crate::line_progress::LineProgress;
+use command_words::EndRule;
 use feed_types::{Anything, VenueId};
 use live_feed::{Datagram, LineSource, SourceFault};
 use mold_packet::{Kind, Request, one_reading, read_packet, write_request};
@@ -27,15 +29,34 @@ const MAX_TURNS: u32 = 1_000_000;
 /// How long a line waits for a datagram, in milliseconds, until a run may look whether it is to stop.
 const WAIT_MS: u64 = 100;
 
+/// What a line is made for.
+#[derive(Clone, Copy, Debug, PartialEq, Eq)]
+pub struct UdpLineSettings {
+    /// The venue whose datagrams it brings.
+    pub venue: VenueId,
+    /// The venue's session.
+    pub session: [u8; 10],
+    /// Which ends of session end it.
+    pub end: EndRule,
+    /// The most datagrams that it reads.
+    pub datagrams: u32,
+    /// Where its requests go. Where there is no such address they are dropped.
+    pub requests_to: Option<SocketAddr>,
+}
+
 /// A line of a venue that is received by UDP. It ends after as many datagrams as it was made for,
-/// and after one that is an end of session, of whichever session.
+/// and after an end of session that ends it.
 ///
-/// Once its socket has failed the line has ended: it asks the socket for nothing more.
+/// Once its socket has failed the line has ended: it asks the socket for nothing more. A request that can't be sent
+/// ends nothing. What has become of the line is marked in its progress.
 #[derive(Drop)]
 pub struct UdpLine<C> {
     line_venue: VenueId,
+    own_session: [u8; 10],
+    end_rule: EndRule,
     socket: UdpSocket,
     requests_to: Option<SocketAddr>,
+    progress: LineProgress,
     clock: C,
     moment_ms: u64,
     to_read: u32,
@@ -54,6 +75,8 @@ impl<C> Model for UdpLine<C> {
 
     ghost view = { λ l. record {
       venue = l.line_venue;
+      session = l.own_session;
+      rule = l.end_rule;
       left = l.to_read;
       failed = l.broken;
       ended = l.at_end;
@@ -79,18 +102,17 @@ fn receive(socket: &UdpSocket, buffer: &mut [u8]) -> Result<Option<usize>, Sourc
     Err(SourceFault::TooManyTurns)
 }
 
-/// Sends the bytes as one datagram. A call that was interrupted is made again.
-fn send(socket: &UdpSocket, bytes: &[u8], to: SocketAddr) -> Result<(), SourceFault>
-    ensures fault { IfErr result (λ fault. fault ≢ NoMemory) }
-{
+/// Sends the bytes as one datagram, and returns whether that could be done. A call that was interrupted is made again,
+/// a million times at most.
+fn has_sent(socket: &UdpSocket, bytes: &[u8], to: SocketAddr) -> bool {
     for _ in 0..MAX_TURNS {
         match socket.send_to(bytes, to) {
-            Ok(_) => return Ok(()),
+            Ok(_) => return true,
             Err(error) if error.kind() == ErrorKind::Interrupted => {}
-            Err(_) => return Err(SourceFault::Device),
+            Err(_) => return false,
         }
     }
-    Err(SourceFault::TooManyTurns)
+    false
 }
 
 /// A datagram of these bytes.
@@ -119,14 +141,33 @@ fn hear(
     }
 }
 
-/// Whether the bytes are an end of session, of whichever session.
-fn is_end(bytes: &[u8]) -> bool
-    ensures { IsTrue result ↔ SpellsEnd bytes.now }
+/// The session that the bytes are an end of; None where they are no end of session.
+fn ended_session(bytes: &[u8]) -> Option<[u8; 10]>
+    ensures end { IfSome result (λ session. SpellsEndOf session bytes.now) }
+    ensures only { (session : List ℕ) → SpellsEndOf session bytes.now → result ≡ Some session }
 {
     one_reading();
     match read_packet(bytes) {
-        Ok(packet) => packet.kind() == Kind::End,
-        Err(_) => false,
+        Ok(packet) => {
+            if packet.kind() == Kind::End {
+                Some(packet.session())
+            } else {
+                None
+            }
+        }
+        Err(_) => None,
+    }
+}
+
+/// Whether a datagram ends a line of this session by the rule; `ended` is the session that it is an end of, if it is
+/// an end of session.
+fn is_last(rule: EndRule, session: [u8; 10], ended: Option<[u8; 10]>) -> bool
+    ensures { IsTrue result ↔ IsLast rule session ended }
+{
+    match rule {
+        EndRule::AnySession => ended.is_some(),
+        EndRule::OwnSession => ended == Some(session),
+        EndRule::NoSession => false,
     }
 }
 
@@ -139,32 +180,34 @@ pub fn millis(time: Duration) -> u64
 }
 
 impl<C: Drop> UdpLine<C> {
-    /// The line of a venue that this socket receives, for `datagrams` datagrams at most. Requests go
-    /// from the socket to `requests_to`, or are dropped where there is none.
+    /// The line of these settings that this socket receives, and from which its requests go.
     ///
     /// The socket waits 100 ms for a datagram from now on. Where the system refuses that, it waits for ever, and so
     /// does a run that is to stop.
     pub fn new(
         alloc: Global,
-        venue: VenueId,
+        settings: UdpLineSettings,
         socket: UdpSocket,
-        datagrams: u32,
-        requests_to: Option<SocketAddr>,
         clock: C,
     ) -> Result<UdpLine<C>, AllocError>
-        ensures venue { IfOk result (λ line. line.venue ≡ venue) }
-        ensures left { IfOk result (λ line. line.left ≡ datagrams) }
+        ensures venue { IfOk result (λ line. line.venue ≡ settings.venue) }
+        ensures session { IfOk result (λ line. line.session ≡ settings.session) }
+        ensures rule { IfOk result (λ line. line.rule ≡ settings.end) }
+        ensures left { IfOk result (λ line. line.left ≡ settings.datagrams) }
         ensures whole { IfOk result (λ line. line.failed ≡ false) }
         ensures unended { IfOk result (λ line. line.ended ≡ false) }
     {
         let _ = socket.set_read_timeout(Some(Duration::from_millis(WAIT_MS)));
         Ok(UdpLine {
-            line_venue: venue,
+            line_venue: settings.venue,
+            own_session: settings.session,
+            end_rule: settings.end,
             socket,
-            requests_to,
+            requests_to: settings.requests_to,
+            progress: LineProgress::new(alloc)?,
             clock,
             moment_ms: 0,
-            to_read: datagrams,
+            to_read: settings.datagrams,
             broken: false,
             at_end: false,
             heard: None,
@@ -185,8 +228,57 @@ impl<C: Drop> UdpLine<C> {
         self.heard.is_some()
     }
 
-    /// Receives the next datagram; None once the line has ended, and only then. An end of session ends it, and
-    /// so does the last datagram that it may read.
+    /// The progress of the line, for another thread. AllocError where it can't be shared any further.
+    pub fn share_progress(&self) -> Result<LineProgress, AllocError> {
+        self.progress.share()
+    }
+
+    /// Marks how the line has ended, if it has, and its socket hasn't failed.
+    fn mark_end(&self) {
+        if self.at_end {
+            self.progress.end();
+        } else if self.to_read == 0 {
+            self.progress.read_out();
+        }
+    }
+
+    /// Marks that the line has failed, and returns the fault. Want of memory is no fault of its socket.
+    fn fail(&mut self, fault: SourceFault) -> SourceFault
+        requires { self.old.failed ≡ false }
+        ensures fault { result ≡ fault }
+        ensures rest { self.new ≡ record (self.old) { failed = self.new.failed } }
+        ensures failed { failures_of self.new.failed
+            ≡ failures_after (failures_of self.old.failed) fault }
+    {
+        self.progress.fail();
+        match fault {
+            SourceFault::NoMemory => {}
+            _ => self.broken = true,
+        }
+        fault
+    }
+
+    /// Counts a datagram of these bytes that was read. One that ends the line is its last.
+    fn count_read(&mut self, bytes: &[u8])
+        requires { 1 ≤ self.old.left }
+        ensures rest { self.new
+            ≡ record (self.old) { left = self.new.left; ended = self.new.ended } }
+        ensures last { EndsLine self.old.rule self.old.session bytes.now
+            → (self.new.left ≡ 0) × (self.new.ended ≡ true) }
+        ensures other { (EndsLine self.old.rule self.old.session bytes.now → ⊥)
+            → (self.new.left + 1 ≡ self.old.left) × (self.new.ended ≡ false) }
+    {
+        let ended = ended_session(bytes);
+        self.at_end = is_last(self.end_rule, self.own_session, ended);
+        if ended.is_some() && !self.at_end {
+            self.progress.count_passed();
+        }
+        self.to_read = if self.at_end { 0 } else { self.to_read - 1 };
+        self.mark_end();
+    }
+
+    /// Receives the next datagram; None once the line has ended, and only then. An end of session that by the line's
+    /// rule ends it is its last, and so is the last datagram that it may read.
     ///
     /// Device where the socket failed, TooManyTurns where it was interrupted a million times: the line has
     /// ended then. NoMemory where memory for the datagram was refused, which is lost then.
@@ -194,18 +286,21 @@ impl<C: Drop> UdpLine<C> {
         ensures over { result ≡ Ok None → IsOver self.old }
         ensures ended { IsOver self.old → (result ≡ Ok None) × (self.new ≡ self.old) }
         ensures last { (datagram : Datagram) → result ≡ Ok (Some datagram)
-            → SpellsEnd (bytes_of datagram)
+            → EndsLine self.old.rule self.old.session (bytes_of datagram)
             → (self.new.left ≡ 0) × (self.new.ended ≡ true) }
         ensures other { (datagram : Datagram) → result ≡ Ok (Some datagram)
-            → (SpellsEnd (bytes_of datagram) → ⊥)
+            → (EndsLine self.old.rule self.old.session (bytes_of datagram) → ⊥)
             → (self.new.left + 1 ≡ self.old.left) × (self.new.ended ≡ false) }
         ensures venue { self.new.venue ≡ self.old.venue }
+        ensures session { self.new.session ≡ self.old.session }
+        ensures rule { self.new.rule ≡ self.old.rule }
         ensures ended_by { OnErr result (self.new.ended ≡ self.old.ended) }
         ensures sound { IfOk result (λ _. failures_of self.new.failed ≡ failures_of self.old.failed) }
         ensures failed { IfErr result (λ fault. failures_of self.new.failed
             ≡ failures_after (failures_of self.old.failed) fault) }
     {
         if self.broken || self.to_read == 0 {
+            self.mark_end();
             return Ok(None);
         }
         for _ in 0..u64::MAX {
@@ -215,19 +310,11 @@ impl<C: Drop> UdpLine<C> {
         }
         match self.heard.take() {
             Some(Ok(datagram)) => {
-                self.at_end = is_end(datagram.bytes());
-                self.to_read = if self.at_end { 0 } else { self.to_read - 1 };
+                self.count_read(datagram.bytes());
                 Ok(Some(datagram))
             }
-            Some(Err(SourceFault::NoMemory)) => Err(SourceFault::NoMemory),
-            Some(Err(fault)) => {
-                self.broken = true;
-                Err(fault)
-            }
-            None => {
-                self.broken = true;
-                Err(SourceFault::TooManyTurns)
-            }
+            Some(Err(fault)) => Err(self.fail(fault)),
+            None => Err(self.fail(SourceFault::TooManyTurns)),
         }
     }
 
@@ -273,7 +360,11 @@ impl<C: Clock + Drop> LineSource<Anything> for UdpLine<C> {
         self.moment_ms
     }
 
-    fn request(&mut self, request: &Request) -> Result<(), SourceFault> {
+    /// Sends a request, and counts it where it can't be sent, which is no fault of the line.
+    fn request(&mut self, request: &Request) -> Result<(), SourceFault>
+        ensures taken { result ≡ Ok tt }
+        ensures same { self.new ≡ self.old }
+    {
         let Some(to) = self.requests_to else {
             return Ok(());
         };
@@ -281,12 +372,9 @@ impl<C: Clock + Drop> LineSource<Anything> for UdpLine<C> {
         if self.broken || write_request(request, &mut bytes).is_err() {
             return Ok(());
         }
-        match send(&self.socket, &bytes, to) {
-            Ok(()) => Ok(()),
-            Err(fault) => {
-                self.broken = true;
-                Err(fault)
-            }
+        if !has_sent(&self.socket, &bytes, to) {
+            self.progress.count_unsent();
         }
+        Ok(())
     }
 }

@@ -1,6 +1,6 @@
 -- A venue's history whose packets were all answered by the definitions, with one packet more and
 -- with one session more.
-use Rattle.std.proofs.Common.{◌≡◌, ℕ, ◌≤◌, List, length}
+use Rattle.std.proofs.Common.{ℕ, ◌≤◌, List, length}
 use Rattle.std.specs.List.{AllByRecursion}
 use Rattle.line_arbiter.specs.Packets.{Arrival, end_of}
 use Rattle.line_arbiter.specs.Streams.{IsComplete, stream_of}

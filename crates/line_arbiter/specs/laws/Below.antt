@@ -18,10 +18,9 @@ use Rattle.line_arbiter.specs.Streams.{front_of, stream_of, IsComplete}
 use Rattle.line_arbiter.specs.Outcomes.{IsOutcome, ToKind, IsBefore}
 use Rattle.line_arbiter.specs.Answered.{IsAnswered, AreAnswered, AreAnsweredAfter}
 use Rattle.line_arbiter.specs.Renewals.{HasEnded}
-use Rattle.line_arbiter.specs.laws.Bringing.{carried_same, carried_more, end_same, end_of-push}
-use Rattle.line_arbiter.specs.laws.Soundness.{number_in}
+use Rattle.line_arbiter.specs.laws.Bringing.{carried_same, carried_more, end_same, end_of-push, number_in}
 use Rattle.line_arbiter.specs.laws.Fronts.{front_is}
-use Rattle.line_arbiter.specs.laws.Cursors.{length-stream, end_most}
+use Rattle.line_arbiter.specs.laws.Lengths.{length-stream, end_most}
 use Rattle.line_arbiter.specs.laws.StreamGrowth.{EndsPast, stream_grows}
 
 pub record IsBelow (packets : List Arrival) : Type 0 where

@@ -1,13 +1,21 @@
--- What a list of packets brought, announced and made known, when one more packet has come.
-use Rattle.std.proofs.Common.{◌≡◌, ℕ, Bool, true, false, List, [], ◌∷◌, ◌++◌, Some, None, refl, ap, ◌∙◌, ◌-◌, Option}
-use Rattle.std.specs.Prelude.{◌&&◌, fold, max, find, if◌then◌else◌}
-use Rattle.std.specs.Option.{option_map, option_or, option_map_or}
+-- What a list of packets brought and announced, when one more packet has come.
+use Rattle.std.proofs.Common.{◌≡◌, ℕ, ◌+◌, ◌<◌, ◌≤◌, Bool, true, false, List, length, [], ◌∷◌, ◌++◌, Some, None, ap, ◌∙◌}
+use Rattle.std.specs.Prelude.{◌&&◌, nat_le, nat_lt, max, find, if◌then◌else◌}
+use Rattle.std.specs.Option.{option_map, option_or}
+use Rattle.std.proofs.lemmas.Bool.{and_parts, leb-true, ltb-true}
 use Rattle.std.proofs.lemmas.List.Folds.{find-append}
-use Rattle.std.proofs.lemmas.List.Sums.{fold_push, fold-append}
-use Rattle.line_arbiter.specs.Packets.{Arrival, bringer, brings, carried, has_number, is_taken, item_at, top_of, end_of, heard, is_ended, known_of}
-use Rattle.mold_packet.specs.Content.{last_number}
-use Rattle.line_arbiter.specs.Steps.{raised}
+use Rattle.std.proofs.lemmas.List.Sums.{fold_push}
+use Rattle.line_arbiter.specs.Packets.{Arrival, bringer, brings, carried, has_number, is_taken, item_at, top_of, end_of, is_ended}
+use Rattle.mold_packet.specs.Content.{Content, last_number}
 use Rattle.line_arbiter.specs.laws.Options.{or_none, map_or, picked}
+
+-- a packet's numbers are one after the other
+pub number_in : (p : Content) (m : ℕ) → has_number p m ≡ true
+    → (p.number ≤ m) × (m < p.number + length p.messages)
+number_in p m h =
+    let both =
+    and_parts (nat_le p.number m) (nat_lt m (p.number + length p.messages)) h in
+    (leb-true _ _ both.0, ltb-true _ _ both.1)
 
 abbrev higher : ℕ → Arrival → ℕ
 higher n a = if is_taken a.answer then max n (last_number a.packet) else n
@@ -72,19 +80,3 @@ end_same packets a unended =
     end_of-push packets a
     ∙ ap (λ (b : Bool). option_or (end_of packets) (if b then Some a.packet.number else None))
     unended ∙ or_none (end_of packets)
-
-pub known-push : (packets : List Arrival) (a : Arrival) → is_ended a.answer ≡ false
-    → known_of (packets ++ a ∷ []) ≡ raised (known_of packets) (end_of packets) (heard a)
-known-push packets a unended =
-    let top : fold (λ k x. max k (heard x)) 0 (packets ++ a ∷ [])
-    ≡ max (fold (λ k x. max k (heard x)) 0 packets) (heard a) =
-    fold-append (λ k x. max k (heard x)) 0 packets (a ∷ []) in
-    ap (λ (o : Option ℕ). option_map_or (λ e. e - 1) o
-    (fold (λ k x. max k (heard x)) 0 (packets ++ a ∷ []))) (end_same packets a unended)
-    ∙ ap (λ (n : ℕ). option_map_or (λ e. e - 1) (end_of packets) n) top
-    ∙ by_end (end_of packets) (fold (λ k x. max k (heard x)) 0 packets) (heard a)
-  where
-    by_end : (o : Option ℕ) (k n : ℕ)
-        → option_map_or (λ e. e - 1) o (max k n) ≡ raised (option_map_or (λ e. e - 1) o k) o n
-    by_end None k n = refl
-    by_end (Some e) k n = refl

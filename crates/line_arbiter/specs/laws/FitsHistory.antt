@@ -11,7 +11,8 @@ use Rattle.line_arbiter.specs.Streams.{wins_of}
 use Rattle.line_arbiter.specs.Outcomes.{IsOutcome}
 use Rattle.line_arbiter.specs.Renewals.{IsRenewal}
 use Rattle.line_arbiter.specs.Histories.{History, all_begun, after_arrival, after_renewal, names_of, new_history, wins_in}
-use Rattle.line_arbiter.specs.Counts.{count_on, no_counts, shown}
+use Rattle.feed_types.specs.PerLines.{on_all, on_line}
+use Rattle.line_arbiter.specs.Counts.{shown}
 use Rattle.line_arbiter.specs.States.{State, ordinal_of, IsNew, IsRenewed, KeepsAllButSent, KeepsItsPlace, KeepsItsSession}
 use Rattle.line_arbiter.specs.Fits.{Fits, FitsHistory}
 use Rattle.line_arbiter.specs.laws.Histories.{names_length, names_next, names_same, wins_push}
@@ -44,7 +45,7 @@ keeps_sent a b =
 
 -- ---- nothing came yet
 
-no_wins : (line : LineId) → count_on line no_counts ≡ shown 0
+no_wins : (line : LineId) → on_line line (on_all 0) ≡ shown 0
 no_wins A = refl
 no_wins B = refl
 no_wins Recovery = refl
@@ -55,7 +56,7 @@ fits_new new fits = record {
   present = fits;
   names = new.sessions;
   session = new.begun.session;
-  earlier = λ line. ap (count_on line) new.earlier ∙ no_wins line;
+  earlier = λ line. ap (on_line line) new.earlier ∙ no_wins line;
 }
 
 -- ---- one more packet
@@ -67,7 +68,7 @@ fits_packet h a f kept fits = record {
   present = fits;
   names = kept.sessions ∙ f.names ∙ names_same h a;
   session = kept.session ∙ f.session;
-  earlier = λ line. ap (count_on line) kept.earlier ∙ f.earlier line;
+  earlier = λ line. ap (on_line line) kept.earlier ∙ f.earlier line;
 }
 
 -- its answer is the one that the history asks for
@@ -87,7 +88,7 @@ fits_push h f kept fits = record {
   present = fits;
   names = kept.sessions ∙ f.names;
   session = kept.session ∙ f.session;
-  earlier = λ line. ap (count_on line) kept.earlier ∙ f.earlier line;
+  earlier = λ line. ap (on_line line) kept.earlier ∙ f.earlier line;
 }
 
 -- ---- wins, over all sessions
@@ -97,15 +98,15 @@ pub shown_more : (n earlier now : ℕ) → n ≡ shown earlier → shown (n + no
 shown_more n earlier now e = omega arith
 
 pub wins_shown : {s : State} (h : History) → FitsHistory s h → (line : LineId)
-    → shown (count_on line s.earlier + wins_of h.present.packets line)
+    → shown (on_line line s.earlier + wins_of h.present.packets line)
     ≡ shown (wins_in (all_begun h) line)
 wins_shown {s = s} h f line =
-    shown_more (count_on line s.earlier) (wins_in h.earlier line) (wins_of h.present.packets line)
+    shown_more (on_line line s.earlier) (wins_in h.earlier line) (wins_of h.present.packets line)
     (f.earlier line)
     ∙ ap shown (sym (wins_push h.earlier h.present line))
 
 pub wins_are : {s : State} (h : History) → FitsHistory s h → (line : LineId)
-    → count_on line s.wins ≡ shown (wins_in (all_begun h) line)
+    → on_line line s.wins ≡ shown (wins_in (all_begun h) line)
 wins_are h f line = f.present.wins line ∙ wins_shown h f line
 
 -- ---- the next session
@@ -118,7 +119,7 @@ fits_renewal h name f renewed fits = record {
       renewed.sessions ∙ ap (λ (names : List (List ℕ)). names ++ name ∷ []) f.names
       ∙ sym (names_next h name);
   session = renewed.begun.session;
-  earlier = λ line. ap (count_on line) renewed.earlier ∙ wins_are h f line;
+  earlier = λ line. ap (on_line line) renewed.earlier ∙ wins_are h f line;
 }
 
 -- its answer is the one that the history asks for

@@ -16,7 +16,7 @@ use Rattle.line_arbiter.specs.laws.Arrivals.{all_push, genuine_grows}
 use Rattle.line_arbiter.specs.laws.Genuine.{carried_may, end_may}
 use Rattle.line_arbiter.specs.laws.OfSession.{IsPartOf, front_within, stream_is}
 use Rattle.line_arbiter.specs.laws.Accepting.{accepted}
-use Rattle.line_arbiter.specs.laws.Soundness.{number_in}
+use Rattle.line_arbiter.specs.laws.Bringing.{number_in}
 
 -- what the session alone may carry, as two relations
 abbrev carries_alone : Session → ℕ → ℕ → ℕ → Item → Type 0

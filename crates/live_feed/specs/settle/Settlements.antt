@@ -5,7 +5,9 @@ use Rattle.feed_types.specs.declared.journal.Entry.{Entry}
 use Rattle.feed_types.specs.declared.journal.Notice.{Notice}
 use Rattle.feed_types.specs.declared.line.LineId.{LineId}
 use Rattle.line_arbiter.specs.Histories.{History, all_begun, streams_of, wins_in}
-use Rattle.line_arbiter.specs.Counts.{Counts, count_on, shown}
+use Rattle.feed_types.specs.declared.per_line.PerLine.{PerLine}
+use Rattle.feed_types.specs.PerLines.{on_line}
+use Rattle.line_arbiter.specs.Counts.{shown}
 use Rattle.filter_terms.specs.declared.terms.Terms.{Terms}
 use Rattle.journal_book.specs.Journals.{JournalState, terms_at}
 use Rattle.journal_book.specs.Wanted.{wanted_of}
@@ -15,8 +17,6 @@ use Rattle.live_feed.specs.Lanes.{FeedLanes}
 use Rattle.live_feed.specs.venue.Cells.{AreGivenFrom, CellState, VenueLockInvariant, arrivals_of}
 use Rattle.live_feed.specs.hub.Hubs.{items_in}
 use Rattle.live_feed.specs.venue.Seats.{SeatState, is_seat_of}
-use Rattle.live_feed.specs.declared.venue.per_line.PerLine.{PerLine}
-use Rattle.live_feed.specs.venue.Lines.{on_line}
 use Rattle.live_feed.specs.venue.Sums.{Sums, accepted_on, no_sums, sums_together}
 use Rattle.live_feed.specs.subscriber.Logs.{SubscriberLogState}
 
@@ -25,12 +25,12 @@ use Rattle.live_feed.specs.subscriber.Logs.{SubscriberLogState}
 -- each answered as it should be and genuine; what was sent, then what is ready, are the sessions'
 -- streams; and what is counted per line is that of these packets.
 pub record IsSettled {S : Type 0} (premise : Genuine S) (venue window : ℕ)
-    (sent consumed in_lane ready : List Numbered) (won : Counts) (sums : PerLine Sums) : Type 0 where
+    (sent consumed in_lane ready : List Numbered) (won : PerLine ℕ) (sums : PerLine Sums) : Type 0 where
   pub sent_is : consumed ++ in_lane ≡ sent
   pub history : History
   pub given : AreGivenFrom premise venue window 1 history.earlier history.present
   pub whole : sent ++ ready ≡ streams_of history
-  pub wins : (line : LineId) → count_on line won ≡ shown (wins_in (all_begun history) line)
+  pub wins : (line : LineId) → on_line line won ≡ shown (wins_in (all_begun history) line)
   pub accepted : (line : LineId)
       → on_line line sums ≡ accepted_on line (arrivals_of (all_begun history))
 
@@ -49,7 +49,7 @@ pub record VenueEndState : Type 0 where
   pub consumed : List Numbered
   pub in_lane : List Numbered
   pub ready : List Numbered
-  pub wins : Counts
+  pub wins : PerLine ℕ
   pub accepted : PerLine Sums
 
 -- what is left of a subscriber: its log, and the notices in its lane and those that weren't offered
@@ -88,7 +88,7 @@ tally_of venue line seats = fold (tally_after venue line) no_tally seats
 
 -- the cell counts on the line what the line's seats show
 pub record AgreesOn (seats : List SeatState) (c : CellState) (line : LineId) : Type 0 where
-  pub wins : count_on line c.arbiter.wins ≡ (tally_of c.arbiter.venue line seats).wins
+  pub wins : on_line line c.arbiter.wins ≡ (tally_of c.arbiter.venue line seats).wins
   pub accepted : on_line line c.accepted ≡ (tally_of c.arbiter.venue line seats).accepted
 
 -- the cell is that of the venue, and agrees with the seats
@@ -131,7 +131,7 @@ pub record ShowsVenue {S : Type 0} (premise : Genuine S) (lanes : FeedLanes)
   pub settled : IsSettled premise venue lanes.setting.window cell.lane.items v.consumed
       v.in_lane v.ready v.wins v.accepted
   pub consumed : v.consumed ≡ items_in entries venue
-  pub wins : (line : LineId) → count_on line v.wins ≡ (tally_of venue line seats).wins
+  pub wins : (line : LineId) → on_line line v.wins ≡ (tally_of venue line seats).wins
   pub accepted : (line : LineId) → on_line line v.accepted ≡ (tally_of venue line seats).accepted
 
 -- a subscriber of a closed feed: its lane is closed, and the log is its own

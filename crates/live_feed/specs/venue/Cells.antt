@@ -14,8 +14,8 @@ use Rattle.line_arbiter.specs.Pacing.{Pace}
 use Rattle.fifo_lane.specs.Lane.{LaneEnd}
 use Rattle.feed_types.specs.declared.genuine.Genuine.{Ghosts as Genuine}
 use Rattle.live_feed.specs.Lanes.{FeedLanes}
-use Rattle.live_feed.specs.declared.venue.per_line.PerLine.{PerLine}
-use Rattle.live_feed.specs.venue.Lines.{on_line, on_all}
+use Rattle.feed_types.specs.declared.per_line.PerLine.{PerLine}
+use Rattle.feed_types.specs.PerLines.{on_line, on_all}
 use Rattle.live_feed.specs.venue.Sums.{Sums, accepted_on, no_sums}
 
 -- a venue's arbiter, the sending end of its lane, when it asked last for a gap, and the sums of

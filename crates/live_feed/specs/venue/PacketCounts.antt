@@ -7,8 +7,8 @@ use Rattle.line_arbiter.specs.declared.outcome.Outcome.{Outcome}
 use Rattle.line_arbiter.specs.declared.outcome.Outcome.TheVariants.{Taken, Heartbeat, Ended, Ahead}
 use Rattle.line_arbiter.specs.declared.outcome.LineFault.{LineFault}
 use Rattle.live_feed.specs.declared.venue.packet_counts.PacketCounts.{PacketCounts}
-use Rattle.live_feed.specs.declared.venue.per_line.PerLine.{PerLine}
-use Rattle.live_feed.specs.venue.Lines.{on_line, with_line}
+use Rattle.feed_types.specs.declared.per_line.PerLine.{PerLine}
+use Rattle.feed_types.specs.PerLines.{on_line, with_line}
 
 abbrev pub no_packets_counted : PacketCounts
 no_packets_counted = record { taken = 0; repeated = 0; heartbeats = 0; ends = 0; ahead = 0 }

@@ -11,8 +11,8 @@ use Rattle.line_arbiter.specs.Streams.{is_same_line}
 use Rattle.live_feed.specs.declared.faults.FeedFault.{FeedFault}
 use Rattle.live_feed.specs.declared.faults.FeedFault.TheVariants.{UnknownVenue, UnknownSubscriber, SeatTaken}
 use Rattle.live_feed.specs.declared.faults.TakeFault.{TakeFault}
-use Rattle.live_feed.specs.declared.venue.per_line.PerLine.{PerLine}
-use Rattle.live_feed.specs.venue.Lines.{on_line, with_line}
+use Rattle.feed_types.specs.declared.per_line.PerLine.{PerLine}
+use Rattle.feed_types.specs.PerLines.{on_line, with_line}
 use Rattle.live_feed.specs.venue.Refusals.{no_refusals, refusals_after}
 use Rattle.live_feed.specs.venue.Sums.{Sums, no_sums, sums_after}
 

@@ -10,11 +10,11 @@ use Rattle.feed_types.specs.declared.genuine.Genuine.{Ghosts as Genuine}
 use Rattle.live_feed.specs.declared.faults.FeedFault.{FeedFault}
 use Rattle.live_feed.specs.declared.faults.FeedFault.TheVariants.{UnknownVenue, UnknownSubscriber, SeatTaken}
 use Rattle.live_feed.specs.declared.venue.packet_counts.PacketCounts.{PacketCounts}
-use Rattle.live_feed.specs.declared.venue.per_line.PerLine.{PerLine}
+use Rattle.feed_types.specs.declared.per_line.PerLine.{PerLine}
 use Rattle.live_feed.specs.declared.venue.status.LineStatus.{LineStatus}
 use Rattle.live_feed.specs.declared.venue.status.VenueStatus.{VenueStatus}
 use Rattle.live_feed.specs.Lanes.{FeedLanes}
-use Rattle.live_feed.specs.venue.Lines.{on_line}
+use Rattle.feed_types.specs.PerLines.{on_line}
 use Rattle.live_feed.specs.venue.Sums.{accepted_on, sums_list}
 use Rattle.live_feed.specs.venue.Cells.{CellState, MeetsNoLock, VenueLockInvariant, arrivals_of}
 

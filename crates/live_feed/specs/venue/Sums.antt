@@ -9,7 +9,7 @@ use Rattle.line_arbiter.specs.declared.outcome.Outcome.TheVariants.{Taken, Heart
 use Rattle.line_arbiter.specs.declared.outcome.LineFault.{LineFault}
 use Rattle.line_arbiter.specs.Packets.{Arrival}
 use Rattle.line_arbiter.specs.Streams.{is_same_line}
-use Rattle.live_feed.specs.declared.venue.per_line.PerLine.{PerLine}
+use Rattle.feed_types.specs.declared.per_line.PerLine.{PerLine}
 
 pub record Sums : Type 0 where
   pub taken : ℕ

@@ -2,7 +2,7 @@
 
 ghost use Rattle.std.specs.Prelude.{◌≡◌, ◌↔◌, true, IsTrue, map};
 ghost use Rattle.std.specs.List.{list_any};
-ghost use Rattle.live_feed.specs.venue.Lines.{on_line};
+ghost use Rattle.feed_types.specs.PerLines.{on_line};
 ghost use Rattle.live_feed.specs.venue.Seats.{HasItsSeats, is_seat_of};
 ghost use Rattle.live_feed.specs.settle.Settlements.{AgreesOn, AgreesWithSeats, AllAgree, AreInOrder};
 

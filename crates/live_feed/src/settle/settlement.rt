@@ -1,9 +1,8 @@
 //! The settlement of a feed.
 
 ghost use Rattle.std.specs.Prelude.{◌≡◌, ◌<◌, length, IfSome, Some, slice_get};
-ghost use Rattle.line_arbiter.specs.Counts.{count_on};
+ghost use Rattle.feed_types.specs.PerLines.{on_line};
 ghost use Rattle.journal_book.specs.Journals.{changes, terms_at};
-ghost use Rattle.live_feed.specs.venue.Lines.{on_line};
 ghost use Rattle.live_feed.specs.venue.Sums.{sums_list};
 
 use crate::settle::subscriber_end::SubscriberEnd;
@@ -120,7 +119,7 @@ impl Settlement {
     /// 2^64 - 1 once it is there. The venue is below the number of venues.
     pub fn wins(&self, venue: VenueId, line: LineId) -> u64
         requires { venue < length self.now.venues }
-        ensures { IfSome (slice_get self.now.venues venue) (λ v. result ≡ count_on line v.wins) }
+        ensures { IfSome (slice_get self.now.venues venue) (λ v. result ≡ on_line line v.wins) }
     {
         self.venue_ends[venue.index()].wins(line)
     }

@@ -1,14 +1,11 @@
 //! What is left of a venue once its lane is closed.
 
 ghost use Rattle.std.specs.Prelude.{◌≡◌};
-ghost use Rattle.line_arbiter.specs.Counts.{count_on};
-ghost use Rattle.live_feed.specs.venue.Lines.{on_line};
+ghost use Rattle.feed_types.specs.PerLines.{on_line};
 ghost use Rattle.live_feed.specs.venue.Sums.{sums_list};
 
-use crate::venue::per_line::PerLine;
 use crate::venue::sums::PacketSums;
-use feed_types::{LineId, Numbered};
-use line_arbiter::Wins;
+use feed_types::{LineId, Numbered, PerLine};
 use std::marker::Model;
 
 /// A venue's items, parted in those that were consumed, those that still lay in the lane and those
@@ -18,7 +15,7 @@ pub(crate) struct VenueEnd {
     journaled: Vec<Numbered>,
     inside: Vec<Numbered>,
     unsent: Vec<Numbered>,
-    won: Wins,
+    won: PerLine<u64>,
     sums: PerLine<PacketSums>,
 }
 
@@ -41,7 +38,7 @@ impl VenueEnd {
         consumed: Vec<Numbered>,
         in_lane: Vec<Numbered>,
         ready: Vec<Numbered>,
-        won: Wins,
+        won: PerLine<u64>,
         sums: PerLine<PacketSums>,
     ) -> VenueEnd
         ensures { result ≡ record {
@@ -80,7 +77,7 @@ impl VenueEnd {
     }
 
     pub(crate) fn wins(&self, line: LineId) -> u64
-        ensures { result ≡ count_on line self.now.wins }
+        ensures { result ≡ on_line line self.now.wins }
     {
         self.won.on(line)
     }

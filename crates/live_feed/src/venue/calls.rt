@@ -16,6 +16,7 @@ use crate::unsent::Unsent;
 use crate::venue::cell::VenueCell;
 use crate::venue::datagram::Datagram;
 use crate::venue::locks::{VenueLocks, enter};
+use crate::venue::packet_counts::count_on;
 use crate::venue::seat::LineSeat;
 use feed_types::{Genuine, VenueId};
 use line_arbiter::{LineFault, Outcome};
@@ -129,7 +130,7 @@ fn take_and_count<G: Genuine, N: FeedName, W: Wait>(
 {
     let taken = take_in(rt, &mut guarded.cell, seat, packet);
     if let Ok(outcome) = taken.0 {
-        guarded.packets.count(seat.line(), outcome);
+        count_on(&mut guarded.packets, seat.line(), outcome);
     }
     taken
 }

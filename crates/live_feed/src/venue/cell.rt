@@ -7,19 +7,17 @@ ghost use Rattle.quote_payload.specs.Payload.{item_of};
 ghost use Rattle.line_arbiter.specs.Histories.{History};
 ghost use Rattle.line_arbiter.specs.Fits.{Fits};
 ghost use Rattle.line_arbiter.specs.States.{IsNew, ordinal_of};
-ghost use Rattle.line_arbiter.specs.Counts.{count_on};
+ghost use Rattle.feed_types.specs.PerLines.{on_line};
 ghost use Rattle.live_feed.specs.Premises.{AreInSequence, IsGenuinePacket};
 ghost use Rattle.live_feed.specs.venue.Seats.{seat_after};
-ghost use Rattle.live_feed.specs.venue.Lines.{on_line};
 ghost use Rattle.live_feed.specs.venue.Cells.{CellFitsHistory, VenueLockInvariant, new_cell};
 ghost use Rattle.live_feed.specs.venue.Sections.{TakesPacket, AcceptsTheirPacket, KeepsButPackets, TakesAndPushes, KeepsButPushed, IsLeft, PushesOne, KeepsButSent, RenewsSession, BeginsNext, RequestsGap};
 
 use crate::feed_name::FeedName;
 use crate::unsent::Unsent;
-use crate::venue::per_line::PerLine;
 use crate::venue::seat::LineSeat;
-use crate::venue::sums::PacketSums;
-use feed_types::{Genuine, LineId, Numbered, VenueId};
+use crate::venue::sums::{PacketSums, add_on};
+use feed_types::{Genuine, LineId, Numbered, PerLine, VenueId};
 use fifo_lane::{Sender, VenueItems};
 use line_arbiter::{Arbiter, InOrder, LineFault, Outcome, Pacer, RenewFault};
 use mold_packet::{Packet, Request};
@@ -139,7 +137,7 @@ impl<G: Genuine, N: FeedName> VenueCell<G, N> {
 
     /// The count of numbers that the line brought first.
     pub(crate) fn wins(&self, line: LineId) -> u64
-        ensures { result ≡ count_on line self.now.arbiter.wins }
+        ensures { result ≡ on_line line self.now.arbiter.wins }
     {
         self.lines.wins(line)
     }
@@ -207,7 +205,7 @@ impl<G: Genuine, N: FeedName> VenueCell<G, N> {
         let _number = packet.number();
         match self.lines.take(seat.line(), packet) {
             Ok(outcome) => {
-                self.sums.add(seat.line(), packet, outcome);
+                add_on(&mut self.sums, seat.line(), packet, outcome);
                 seat.count(packet, outcome);
                 Ok(outcome)
             }
@@ -245,7 +243,7 @@ impl<G: Genuine, N: FeedName> VenueCell<G, N> {
         };
         let line = seat.line();
         let outcome = self.lines.take_in_order(line, order, packet);
-        self.sums.add(line, packet, outcome);
+        add_on(&mut self.sums, line, packet, outcome);
         seat.count(packet, outcome);
         Some(outcome)
     }

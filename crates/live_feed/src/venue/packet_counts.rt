@@ -3,8 +3,7 @@
 ghost use Rattle.std.specs.Prelude.{◌≡◌, Ok};
 ghost use Rattle.live_feed.specs.venue.PacketCounts.{counts_after, line_counts_after, no_packets_counted};
 
-use crate::venue::per_line::PerLine;
-use feed_types::LineId;
+use feed_types::{LineId, PerLine};
 use line_arbiter::Outcome;
 
 /// How many packets a line brought that were accepted, by outcome. Each count stays at 2^64 - 1
@@ -53,16 +52,14 @@ impl PacketCounts {
     }
 }
 
-impl PerLine<PacketCounts> {
-    /// Counts one more packet on the line, with its outcome.
-    #[inline(always)]
-    pub(crate) fn count(&mut self, line: LineId, outcome: Outcome)
-        ensures { self.new ≡ line_counts_after line (Ok outcome) self.old }
-    {
-        match line {
-            LineId::A => self.a.count(outcome),
-            LineId::B => self.b.count(outcome),
-            LineId::Recovery => self.recovery.count(outcome),
-        }
+/// Counts one more packet on the line in the lines' counts, with its outcome.
+#[inline(always)]
+pub(crate) fn count_on(counts: &mut PerLine<PacketCounts>, line: LineId, outcome: Outcome)
+    ensures { counts.new ≡ line_counts_after line (Ok outcome) counts.old }
+{
+    match line {
+        LineId::A => counts.a.count(outcome),
+        LineId::B => counts.b.count(outcome),
+        LineId::Recovery => counts.recovery.count(outcome),
     }
 }

@@ -3,7 +3,7 @@
 ghost use Rattle.std.specs.Prelude.{◌≡◌};
 ghost use Rattle.line_arbiter.specs.Histories.{History};
 ghost use Rattle.live_feed.specs.venue.Cells.{CellFitsHistory};
-ghost use Rattle.live_feed.specs.venue.Lines.{on_line};
+ghost use Rattle.feed_types.specs.PerLines.{on_line};
 ghost use Rattle.live_feed.specs.venue.Statuses.{ShowsCounts, ShowsHistory, ShowsLine, status_on};
 
 use crate::feed::open_feed::Guarded;

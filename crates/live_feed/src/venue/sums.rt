@@ -3,8 +3,7 @@
 ghost use Rattle.std.specs.Prelude.{◌≡◌, Ok, IsTrue};
 ghost use Rattle.live_feed.specs.venue.Sums.{no_sums, sums_list, sums_after, sums_together, line_sums_after};
 
-use crate::venue::per_line::PerLine;
-use feed_types::LineId;
+use feed_types::{LineId, PerLine};
 use line_arbiter::Outcome;
 use mold_packet::Packet;
 use std::marker::Model;
@@ -101,16 +100,19 @@ impl PacketSums {
     }
 }
 
-impl PerLine<PacketSums> {
-    /// Adds one more packet on the line, with its outcome.
-    #[inline(always)]
-    pub(crate) fn add(&mut self, line: LineId, packet: &Packet<'_>, outcome: Outcome)
-        ensures { self.new ≡ line_sums_after line packet.now (Ok outcome) self.old }
-    {
-        match line {
-            LineId::A => self.a.add(packet, outcome),
-            LineId::B => self.b.add(packet, outcome),
-            LineId::Recovery => self.recovery.add(packet, outcome),
-        }
+/// Adds one more packet on the line to the lines' sums, with its outcome.
+#[inline(always)]
+pub(crate) fn add_on(
+    sums: &mut PerLine<PacketSums>,
+    line: LineId,
+    packet: &Packet<'_>,
+    outcome: Outcome,
+)
+    ensures { sums.new ≡ line_sums_after line packet.now (Ok outcome) sums.old }
+{
+    match line {
+        LineId::A => sums.a.add(packet, outcome),
+        LineId::B => sums.b.add(packet, outcome),
+        LineId::Recovery => sums.recovery.add(packet, outcome),
     }
 }

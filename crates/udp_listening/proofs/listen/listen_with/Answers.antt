@@ -1,7 +1,9 @@
-use Rattle.std.proofs.Common.{[], ◌≡◌, ◌∙◌, Err, ap, subst}
+use Rattle.std.proofs.Common.{[], ◌≡◌, Err, ap, subst, sym}
 use Rattle.feed_text.specs.Devices.{Writing}
 use Rattle.udp_listening.specs.Listening.{ListensToEnd}
+use Rattle.udp_listening.specs.News.{SaysOfLines}
 use Rattle.udp_listening.specs.declared.listening.ListenFault.TheVariants.{NoMemory}
+use Rattle.udp_listening.proofs.Telling.{nothing_of_lines}
 use Rattle.udp_listening.proofs.Wholes.{listened}
 use Rattle.udp_listening.proofs.listen.listen_with.Goals as goal
 
@@ -15,7 +17,9 @@ returns-in_default g c =
     record {
       outcome = Err NoMemory;
       counted = desk.errors;
-      quiet = λ none. ap (λ d. d.errors) c.new-desk.ensures.desk;
+      quiet = λ none.
+          subst (λ (told : g.row.E.Denot). SaysOfLines telling c.args.errors told)
+          (sym (ap (λ d. d.errors) c.new-desk.ensures.desk)) (nothing_of_lines telling c.args.errors);
       ends =
           subst (λ (first : g.row.W.Denot). ListensToEnd writing telling (Err NoMemory) first
           ended.new.desk.output desk.errors ended.new.desk.errors ended.result) output
@@ -37,8 +41,9 @@ returns g c =
       outcome = outcome;
       counted = desk.errors;
       quiet = λ none.
-          c.run_feed-outcome.ensures.quiet (c.in-Ok-Ok-Ok.ensures'' none)
-          ∙ ap (λ d. d.errors) c.new-desk.ensures.desk;
+          subst (λ (silent : g.row.E.Denot). SaysOfLines telling silent desk.errors)
+          (ap (λ d. d.errors) c.new-desk.ensures.desk)
+          (c.run_feed-outcome.ensures.quiet (c.in-Ok-Ok-Ok.ensures'' none));
       ends =
           subst (λ (first : g.row.W.Denot). ListensToEnd writing telling outcome first
           ended.new.desk.output desk.errors ended.new.desk.errors ended.result) output

@@ -21,6 +21,7 @@ use Rattle.live_feed.specs.contracts.feed.open_feed.OpenFeed as OpenFeed
 use Rattle.live_feed.specs.contracts.run.line.Line as Line
 use Rattle.live_feed.specs.declared.subscriber.logged.Logged.{Logged}
 use Rattle.udp_listening.specs.Listening.{HasFollowed, HasListened}
+use Rattle.udp_listening.specs.News.{SaysOfLines}
 use Rattle.udp_listening.specs.declared.desk.Desk.{Desk}
 use Rattle.udp_listening.specs.declared.listening.ListenFault.{ListenFault}
 use Rattle.udp_listening.specs.declared.listening.ListenFault.TheVariants.{NoMemory}
@@ -31,9 +32,10 @@ use Rattle.udp_listening.specs.contracts.udp_line.UdpLine as UdpLine
 use Rattle.udp_listening.specs.contracts.udp_line.UdpLineLineSourceAnything.TheImpl.{ghosts as source, no_dict}
 use Rattle.udp_listening.proofs.run_progress.RunProgress.TheSendSync.{the_send as progress_send}
 use Rattle.udp_listening.proofs.Crossing.{five_send, lines_send}
+use Rattle.udp_listening.proofs.Telling.{more_of_lines, nothing_of_lines}
 use Rattle.udp_listening.proofs.Wholes.{settled_log_of}
 use Rattle.udp_listening.proofs.listening.run_feed.Goals.{in-Ok-settle, in-Err-settle}
-use Rattle.udp_listening.proofs.listening.run_feed.Lts.{arg-40-1}
+use Rattle.udp_listening.proofs.listening.run_feed.Lts.{arg-41-1}
 use Rattle.udp_listening.proofs.listening.run_feed.OwnLists.{own-1, lawful-own-1}
 use Rattle.udp_listening.proofs.listening.run_feed.Goals as goal
 
@@ -101,8 +103,60 @@ returns-clause-listened g c =
 pub returns-clause-quiet : goal.returns-clause-quiet
 returns-clause-quiet g c =
     λ none.
+    let w : Writing g.row.E.Denot = record { adds = g.E.TextOut.adds; failures = g.E.TextOut.failures } in
     let beside = c.join-ran.ensures.second.1 none in
-    c.close-closed.ensures.quiet beside.1 ∙ beside.0
+    more_of_lines w c.args.task.desk.errors c.join-ran.result.1.desk.errors c.close-closed.result.1.errors
+    beside.0 (c.close-closed.ensures.quiet beside.1)
+
+-- where there is no report
+untold : {W E : Type 0} (w : Writing E) (s : E) (desk : Desk W E) (fault : ListenFault) (r : Listened W E)
+    → r ≡ record { outcome = Err fault; desk = desk } → SaysOfLines w s desk.errors → SaysOfLines w s r.desk.errors
+untold w s desk fault r is said = subst (λ r. SaysOfLines w s r.desk.errors) (sym is) said
+
+pub returns-in_default-clause-quiet : goal.returns-in_default-clause-quiet
+returns-in_default-clause-quiet g c =
+    λ none.
+    let w : Writing g.row.E.Denot = record { adds = g.E.TextOut.adds; failures = g.E.TextOut.failures } in
+    untold w c.args.task.desk.errors c.args.task.desk NoMemory _ c.unreported.ensures
+    (nothing_of_lines w c.args.task.desk.errors)
+
+pub returns-in-Err-clause-quiet : goal.returns-in-Err-clause-quiet
+returns-in-Err-clause-quiet g c =
+    λ none.
+    let w : Writing g.row.E.Denot = record { adds = g.E.TextOut.adds; failures = g.E.TextOut.failures } in
+    untold w c.args.task.desk.errors c.args.task.desk _ _ c.unreported-in-Err.ensures
+    (nothing_of_lines w c.args.task.desk.errors)
+
+pub returns-in_default-2-clause-quiet : goal.returns-in_default-2-clause-quiet
+returns-in_default-2-clause-quiet g c =
+    λ none.
+    let w : Writing g.row.E.Denot = record { adds = g.E.TextOut.adds; failures = g.E.TextOut.failures } in
+    untold w c.args.task.desk.errors c.args.task.desk NoMemory _ c.unreported-in_default-2.ensures
+    (nothing_of_lines w c.args.task.desk.errors)
+
+pub returns-in_default-2-clause-listened : goal.returns-in_default-2-clause-listened
+returns-in_default-2-clause-listened g c =
+    let w : Writing g.row.W.Denot = record { adds = g.W.TextOut.adds; failures = g.W.TextOut.failures } in
+    subst (λ r. Ends w c.args.task.desk.output r.outcome r.desk) (sym c.unreported-in_default-2.ensures)
+    ([], c.requires.unprinted [])
+
+pub returns-in-Err-closed-clause-quiet : goal.returns-in-Err-closed-clause-quiet
+returns-in-Err-closed-clause-quiet g c =
+    λ none.
+    let w : Writing g.row.E.Denot = record { adds = g.E.TextOut.adds; failures = g.E.TextOut.failures } in
+    let beside = c.join-ran.ensures.second.1 none in
+    untold w c.args.task.desk.errors c.close-closed.result.1 _ _ c.unreported-in-Err-closed.ensures
+    (more_of_lines w c.args.task.desk.errors c.join-ran.result.1.desk.errors c.close-closed.result.1.errors
+    beside.0 (c.close-closed.ensures.quiet beside.1))
+
+pub returns-in_default-from_array-clause-quiet : goal.returns-in_default-from_array-clause-quiet
+returns-in_default-from_array-clause-quiet g c =
+    λ none.
+    let w : Writing g.row.E.Denot = record { adds = g.E.TextOut.adds; failures = g.E.TextOut.failures } in
+    let beside = c.join-ran.ensures.second.1 none in
+    untold w c.args.task.desk.errors c.close-closed.result.1 NoMemory _ c.unreported-in_default-from_array.ensures
+    (more_of_lines w c.args.task.desk.errors c.join-ran.result.1.desk.errors c.close-closed.result.1.errors
+    beside.0 (c.close-closed.ensures.quiet beside.1))
 
 -- The closure that runs the feed has where it marks its progress, references to the feed, to the
 -- machine's handle and to the heap, and the lines. `search` reaches its limits at the whole of it.
@@ -130,7 +184,7 @@ join-ran-requires-send-F g c κs within =
     (shr_send (named 8) κs.1.1.1.1.1.1.1.1.0 Global.the_row sync)
     lines in
     param_send 1
-    (arg-40-1 g.row.N g.row.R g.row.C g.row.W g.row.E g.N.laws g.R.laws g.C.laws g.W.laws g.E.laws
+    (arg-41-1 g.row.N g.row.R g.row.C g.row.W g.row.E g.N.laws g.R.laws g.C.laws g.W.laws g.E.laws
     g.N.FeedName g.N.FeedName-dict g.R.Threads g.R.Threads-dict g.R.Wait g.R.Wait-dict g.C.Clock g.C.Clock-dict
     g.W.TextOut g.W.TextOut-dict g.E.TextOut g.E.TextOut-dict g.C.Destruct-dict g.W.Destruct-dict g.E.Destruct-dict κs)
     (search (arg_send) depth 4)

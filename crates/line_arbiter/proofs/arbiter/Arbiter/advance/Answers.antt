@@ -1,4 +1,4 @@
-use Rattle.line_arbiter.specs.laws.Standing.{stands_of, fits_of}
+use Rattle.line_arbiter.proofs.Standing.{stands_of, fits_of}
 use Rattle.line_arbiter.proofs.Nexts.{advance_fits}
 use Rattle.line_arbiter.proofs.arbiter.Arbiter.advance.Goals as goal
 

@@ -1,10 +1,10 @@
 use Rattle.std.proofs.Common.{◌∙◌, ap}
 use Rattle.std.specs.Prelude.{slice_get}
 use Rattle.line_arbiter.specs.Streams.{stream_to}
-use Rattle.line_arbiter.specs.laws.Standing.{stands_of}
+use Rattle.line_arbiter.proofs.Standing.{stands_of}
 use Rattle.line_arbiter.proofs.Nexts.{next_is}
 use Rattle.line_arbiter.proofs.Ending.{none_after_end}
-use Rattle.line_arbiter.specs.laws.Genuine.{next_allowed}
+use Rattle.line_arbiter.proofs.NextGenuine.{next_allowed}
 use Rattle.line_arbiter.proofs.arbiter.Arbiter.next_ready.Goals as goal
 
 pub returns-clause-stream : goal.returns-clause-stream

@@ -1,4 +1,4 @@
-use Rattle.line_arbiter.specs.laws.Standing.{stands_of, fits_of}
+use Rattle.line_arbiter.proofs.Standing.{stands_of, fits_of}
 use Rattle.line_arbiter.proofs.Answering.{packet_answer}
 use Rattle.line_arbiter.proofs.PacketSteps.{packet_fits}
 use Rattle.line_arbiter.specs.laws.StreamGrowth.{stream_grows}

@@ -5,37 +5,42 @@ use Rattle.line_arbiter.specs.Holding.{Held}
 use Rattle.line_arbiter.specs.States.{State}
 use Rattle.line_arbiter.specs.Steps.{MessagesStep, TakesIn}
 use Rattle.line_arbiter.proofs.Filling.{fresh_most}
-use Rattle.line_arbiter.proofs.Turns.{numbers_fit}
-use Rattle.line_arbiter.specs.laws.Soundness.{sound_after}
+use Rattle.line_arbiter.specs.Inside.{arbiter_inside}
+use Rattle.line_arbiter.proofs.NextHeld.{moved_from}
+use Rattle.line_arbiter.proofs.Turns.{messages_some}
+use Rattle.line_arbiter.proofs.Soundness.{sound_after}
 use Rattle.line_arbiter.proofs.arbiter.Arbiter.take_in.Given.{Over}
 use Rattle.line_arbiter.proofs.arbiter.Arbiter.take_in.Goals as goal
-use Rattle.line_arbiter.proofs.arbiter.Arbiter.take_in.Goals.{After-add, After-take_repeat}
+use Rattle.line_arbiter.proofs.arbiter.Arbiter.take_in.Goals.{After-add_wins, After-repeat_of}
 
 -- the state before, with this window
-before_with : (g : Over) → After-take_repeat g → Held → State
-before_with g c window =
-    let i = c.self.inside in
-    record { venue = i.venue_id; sessions = i.names.items; session = i.session_name; window = window.width; sent = window.base; front = i.run_to; known = i.known_to; end = i.end_number; places = window.places; wins = i.won; earlier = i.won_before }
+before_with : (g : Over) → After-repeat_of g → Held → State
+before_with g c window = record (arbiter_inside c.self.inside) { window = window.width; sent = window.base; places = window.places }
 
 pub returns-in-Repeats : goal.returns-in-Repeats
 unfolding before_with
 returns-in-Repeats g c =
     let came = rw c.in-Repeats.is at c.take_all.ensures in
-    let step : MessagesStep c.args.line (before_with g (goal.at.returns-in-Repeats g c).After-take_repeat c.self.inside.held) c.take_repeat.new.self c.args.packet.now (Ok c.take_repeat.result) =
-    subst (λ (w : Held). MessagesStep c.args.line (before_with g (goal.at.returns-in-Repeats g c).After-take_repeat w) c.take_repeat.new.self c.args.packet.now (Ok c.take_repeat.result)) came.0 c.take_repeat.ensures in
-    subst (λ (s : State). MessagesStep c.args.line s c.take_repeat.new.self c.args.packet.now (Ok c.take_repeat.result)) c.self.view_is step
+    let with = before_with g (goal.at.returns-in-Repeats g c).After-repeat_of in
+    let after = with c.take_all.new.window in
+    let step : MessagesStep c.args.line (with c.self.inside.held) after c.args.packet.now (Ok c.repeat_of.result) =
+    subst (λ (w : Held). MessagesStep c.args.line (with w) after c.args.packet.now (Ok c.repeat_of.result)) came.0 (c.repeat_of.ensures c.args.line) in
+    subst (λ (s : State). MessagesStep c.args.line s after c.args.packet.now (Ok c.repeat_of.result)) c.self.view_is step
 
-module _ (g : Over) (c : After-add g) where
+module _ (g : Over) (c : After-add_wins g) where
   -- the state with the window and the cursor as they are after the filling
   at : ℕ → ℕ → State
-  at width base =
-      let i = c.self.inside in
-      record { venue = i.venue_id; sessions = i.names.items; session = i.session_name; window = width; sent = base; front = c.run_after-self-inside.result; known = c.raised-self-inside.result; end = i.end_number; places = c.take_all.new.window.places; wins = c.add.new.self; earlier = i.won_before }
+  at width base = record (arbiter_inside c.self.inside) {
+    window = width;
+    sent = base;
+    front = c.run_after-self-inside.result;
+    known = c.raised-self-inside.result;
+    places = c.take_all.new.window.places;
+    wins = c.add_wins.new.wins;
+  }
 
   old : State
-  old =
-      let i = c.self.inside in
-      record { venue = i.venue_id; sessions = i.names.items; session = i.session_name; window = i.held.width; sent = i.held.base; front = i.run_to; known = i.known_to; end = i.end_number; places = i.held.places; wins = i.won; earlier = i.won_before }
+  old = arbiter_inside c.self.inside
 
   came : HoldsAll c.self.inside.held c.take_all.new.window c.args.packet.now c.in-Holds.new
   came = rw c.in-Holds.is at c.take_all.ensures
@@ -48,7 +53,7 @@ module _ (g : Over) (c : After-add g) where
     run = c.run_after-self-inside.ensures.run;
     stop = c.run_after-self-inside.ensures.stop;
     known = rw c.requires.last at c.raised-self-inside.ensures;
-    wins = c.add.ensures;
+    wins = c.add_wins.ensures;
     others = ap (λ (width : ℕ). at width c.take_all.new.window.base) came.width ∙ ap (λ (base : ℕ). at c.self.inside.held.width base) came.base;
   }
 
@@ -61,16 +66,29 @@ pub invariant_of-self-2 : goal.invariant_of-self-2
 unfolding at old
 invariant_of-self-2 g c =
     let before = rw (← c.self.view_is) at c.requires.before in
-    sound_after c.args.line c.in-Holds.new _ _ c.args.packet.now c.self.invariant (numbers_fit c.args.packet.now c.count.ensures.content) before (takes g (goal.at.invariant_of-self-2 g c).After-add)
+    record {
+      sound = sound_after c.args.line c.in-Holds.new _ _ c.args.packet.now c.self.invariant.sound before (takes g (goal.at.invariant_of-self-2 g c).After-add_wins);
+      next = c.next_after-self-inside.ensures;
+    }
+
+pub next_after-self-inside-requires : goal.next_after-self-inside-requires
+next_after-self-inside-requires g c =
+    let came = rw c.in-Holds.is at c.take_all.ensures in
+    let before = rw (← c.self.view_is) at c.requires.before in
+    let past = rw (← c.self.view_is) at c.requires.past in
+    let some = messages_some _ _ c.requires.kind c.number-first.ensures.content.fits in
+    let run = c.run_after-self-inside.ensures in
+    rw c.number-first.ensures.value (moved_from (arbiter_inside c.self.inside) c.take_all.new.window c.args.packet.now _ c.self.inside.next_held
+    c.self.invariant.sound c.self.invariant.next some past before came.after came.base run.from run.run run.stop)
 
 pub returns : goal.returns
 unfolding at old
 returns g c =
     let before = rw (← c.self.view_is) at c.requires.before in
     let within = rw (← c.self.view_is) at c.requires.within in
-    let held = came g (goal.at.returns g c).After-add in
+    let held = came g (goal.at.returns g c).After-add_wins in
     rw (← c.self.view_is) (
-      takes g (goal.at.returns g c).After-add,
+      takes g (goal.at.returns g c).After-add_wins,
       before,
       within,
       held.agrees,

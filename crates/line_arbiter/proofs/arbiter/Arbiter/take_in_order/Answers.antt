@@ -6,11 +6,11 @@ use Rattle.line_arbiter.specs.Steps.{IsSound}
 use Rattle.line_arbiter.proofs.Ordering.{next_fits, sent_answer, sent_fits, taken_grows, taken_items, taken_outcome}
 use Rattle.line_arbiter.proofs.arbiter.Arbiter.take_in_order.Given.{Over}
 use Rattle.line_arbiter.proofs.arbiter.Arbiter.take_in_order.Goals as goal
-use Rattle.line_arbiter.proofs.arbiter.Arbiter.take_in_order.Goals.{After-pass, After-take_repeat}
+use Rattle.line_arbiter.proofs.arbiter.Arbiter.take_in_order.Goals.{After-pass, After-repeat_of}
 
 module _ (g : Over) (c : After-pass g) where
   sound_next : IsSound c.args.self.now
-  sound_next = rw (← c.self.view_is) c.self.invariant
+  sound_next = rw (← c.self.view_is) c.self.invariant.sound
 
   order_next : IsOrder c.args.self.now c.args.packet.now (Next c.in-Next.last)
   order_next = subst (λ (o : InOrder). IsOrder c.args.self.now c.args.packet.now o) c.in-Next.is c.requires.order_is
@@ -18,15 +18,15 @@ module _ (g : Over) (c : After-pass g) where
   answer_next : c.pass.result ≡ outcome_in_order c.args.order c.args.packet.now
   answer_next = c.pass.ensures.outcome ∙ ap (λ (o : InOrder). outcome_in_order o c.args.packet.now) (sym c.in-Next.is)
 
-module _ (g : Over) (c : After-take_repeat g) where
+module _ (g : Over) (c : After-repeat_of g) where
   sound_repeat : IsSound c.args.self.now
-  sound_repeat = rw (← c.self.view_is) c.self.invariant
+  sound_repeat = rw (← c.self.view_is) c.self.invariant.sound
 
   order_repeat : IsOrder c.args.self.now c.args.packet.now (Repeat c.in-Repeat.last)
   order_repeat = subst (λ (o : InOrder). IsOrder c.args.self.now c.args.packet.now o) c.in-Repeat.is c.requires.order_is
 
-  answer_repeat : c.take_repeat.result ≡ outcome_in_order c.args.order c.args.packet.now
-  answer_repeat = sent_answer _ _ _ _ _ order_repeat.0 c.take_repeat.ensures ∙ ap (λ (o : InOrder). outcome_in_order o c.args.packet.now) (sym c.in-Repeat.is)
+  answer_repeat : c.repeat_of.result ≡ outcome_in_order c.args.order c.args.packet.now
+  answer_repeat = sent_answer _ _ _ _ _ order_repeat.0 (c.repeat_of.ensures c.args.line) ∙ ap (λ (o : InOrder). outcome_in_order o c.args.packet.now) (sym c.in-Repeat.is)
 
 pub returns-in-Next-clause-outcome : goal.returns-in-Next-clause-outcome
 returns-in-Next-clause-outcome g c packets fits =
@@ -53,7 +53,7 @@ returns-in-Repeat-clause-outcome g c packets fits =
 
 pub returns-in-Repeat-clause-fits : goal.returns-in-Repeat-clause-fits
 returns-in-Repeat-clause-fits g c packets fits =
-    sent_fits _ _ _ _ packets _ c.number-number.ensures.content c.requires.name c.requires.kind c.take_repeat.ensures fits
+    sent_fits _ _ _ _ packets _ c.number-number.ensures.content c.requires.name c.requires.kind (c.repeat_of.ensures c.args.line) fits
 
 pub returns-in-Repeat-clause-grows : goal.returns-in-Repeat-clause-grows
 returns-in-Repeat-clause-grows g c packets fits =

@@ -11,22 +11,22 @@ pub returns-clause-puts : goal.returns-clause-puts
 returns-clause-puts c = elim c.match-piece.branch [
   | in-Some w ↦
       let framed = ap frame_in_piece w.in-Some.is in
-      puts_framed c.args.self.now.lines c.args.self.now.progress c.add_bytes.new.self (piece_of c.args.piece)
+      puts_framed c.args.self.now.lines.now c.args.self.now.progress c.add_bytes.new.self (piece_of c.args.piece)
       (frame_of w.in-Some.frame) (take c.args.filled c.args.page.now)
       (take w.put_frame-end.result w.put_frame-end.new.page ++ w.put_frame-end.new.pending)
       (take c.match-piece.end c.match-piece.page ++ c.match-piece.self.pending)
       framed w.put_frame-end.ensures.puts
       (page_same w.end-is w.page-is (ap (λ (s : PieceRecords). s.pending) w.self-is))
-      (counts_frame c.args.self.now.lines c.args.self.now.progress w.add_time.new.self c.match-piece.self.progress
+      (counts_frame c.args.self.now.lines.now c.args.self.now.progress w.add_time.new.self c.match-piece.self.progress
       c.add_bytes.new.self w.put_frame-end.new.passed (piece_of c.args.piece) (frame_of w.in-Some.frame)
       w.add_time.ensures w.put_frame-end.ensures.counts (ap (λ (s : PieceRecords). s.progress) w.self-is)
       c.add_bytes.ensures framed)
   | in_default w ↦
       let unframed = ap frame_in_piece w.in_default.is in
-      puts_silent c.args.self.now.lines c.args.self.now.progress c.add_bytes.new.self (piece_of c.args.piece)
+      puts_silent c.args.self.now.lines.now c.args.self.now.progress c.add_bytes.new.self (piece_of c.args.piece)
       (take c.args.filled c.args.page.now) (take c.match-piece.end c.match-piece.page ++ c.match-piece.self.pending)
       unframed
       (page_alone w.end-is w.page-is (ap (λ (s : PieceRecords). s.pending) w.self-is ∙ c.requires.pending))
-      (counts_silent c.args.self.now.lines c.args.self.now.progress c.match-piece.self.progress c.add_bytes.new.self
+      (counts_silent c.args.self.now.lines.now c.args.self.now.progress c.match-piece.self.progress c.add_bytes.new.self
       (piece_of c.args.piece) (ap (λ (s : PieceRecords). s.progress) w.self-is) c.add_bytes.ensures unframed)
 ]

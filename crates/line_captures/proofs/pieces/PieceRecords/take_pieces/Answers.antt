@@ -1,4 +1,4 @@
-use Rattle.std.proofs.Common.{ℕ, ◌-◌, List, ◌++◌, length, take, drop, refl, sym, ap, subst, ◌∙◌, arith}
+use Rattle.std.proofs.Common.{Bor, ℕ, ◌-◌, List, ◌++◌, length, take, drop, refl, sym, ap, subst, ◌∙◌, arith}
 use Rattle.packet_capture.specs.Captures.{Context, IsPiece, piece_of}
 use Rattle.line_captures.specs.declared.captured_line.CapturedLine.{CapturedLine}
 use Rattle.line_captures.specs.declared.pieces.PieceRecords.{PieceRecords}
@@ -14,9 +14,9 @@ loop-self-init c =
     let bytes = c.args.bytes.now in
     let page = take c.args.filled c.args.page.now in
     record {
-      takes = takes_renamed c.args.self.now.lines before before before bytes bytes page page bytes bytes page
+      takes = takes_renamed c.args.self.now.lines.now before before before bytes bytes page page bytes bytes page
           (page ++ c.args.self.now.pending) refl refl refl refl (page_alone refl refl c.requires.pending)
-          (takes_none c.args.self.now.lines before bytes page);
+          (takes_none c.args.self.now.lines.now before bytes page);
       within = omega arith;
       filled = c.requires.filled;
       page = refl;
@@ -39,11 +39,11 @@ loop-self-preserved c =
     let is = subst P (sym capture) c.in-Ok.ensures.piece in
     let len = piece_len before.self.capture rest piece next.self.capture is in
     record {
-      takes = takes_more c.read_as_bytes_come.ensures.piece c.args.self.now.lines (point_in c.args.self.now)
+      takes = takes_more c.read_as_bytes_come.ensures.piece c.args.self.now.lines.now (point_in c.args.self.now)
           (point_in before.self) (point_in next.self) bytes (take c.args.filled c.args.page.now)
           (page ++ before.self.pending) page given before.taken.len piece
           (page_alone refl refl (c.loop-self-test.ensures.0 refl)) before.invariant.takes is
-          (subst Q before.invariant.lines c.put_piece-filled.ensures.puts);
+          (subst Q (ap (λ (b : Bor (List CapturedLine)). b.now) before.invariant.lines) c.put_piece-filled.ensures.puts);
       within = within_rest bytes before.taken.len piece.len before.invariant.within len.1;
       filled = c.put_piece-filled.ensures.filled;
       page = c.put_piece-filled.ensures.page ∙ before.invariant.page;

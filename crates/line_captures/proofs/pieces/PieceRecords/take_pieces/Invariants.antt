@@ -5,7 +5,7 @@ use Rattle.line_captures.proofs.pieces.PieceRecords.take_pieces.Given as goal
 
 abbrev pub invariant-loop-self : goal.invariant-loop-self
 invariant-loop-self l = record {
-  takes : TakesPieces l.fn.self.lines (point_in l.fn.self) l.bytes (take l.fn.filled l.fn.page)
+  takes : TakesPieces l.fn.self.lines.now (point_in l.fn.self) l.bytes (take l.fn.filled l.fn.page)
       (point_in l.self) (drop l.taken.len l.bytes) (take l.taken.filled l.page ++ l.self.pending);
   within : l.taken.len ≤ length l.bytes;
   filled : l.taken.filled ≤ length l.page;

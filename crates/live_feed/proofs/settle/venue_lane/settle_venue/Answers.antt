@@ -7,7 +7,7 @@ use Rattle.line_arbiter.specs.Fits.{Fits}
 use Rattle.line_arbiter.specs.States.{State}
 use Rattle.fifo_lane.specs.Lane.{Keeps, LaneEnd}
 use Rattle.live_feed.specs.Premises.{AreInSequence}
-use Rattle.live_feed.specs.declared.venue.per_line.PerLine.{PerLine}
+use Rattle.feed_types.specs.declared.per_line.PerLine.{PerLine}
 use Rattle.live_feed.specs.venue.Sums.{Sums}
 use Rattle.live_feed.specs.hub.Hubs.{items_in}
 use Rattle.live_feed.specs.settle.Settlements.{IsClosedVenue, IsSettled, VenueEndState}

@@ -27,8 +27,8 @@ invariant_of-self c =
     c.as_mut_slice.ensures.value c.take_self_help.ensures.helped c.take_self_help.ensures.count in
     let below = subst (λ (t : BookState). venue_of c.args.entry.now < t.venues) (sym c.self.view_is) c.requires.venue in
     let rising = subst (λ (t : BookState). t.last < c.args.position) (sym c.self.view_is) c.requires.rising in
-    subst (IsBook c.self.inside.table.words.keys) (sym next)
-    (after_is c.self.inside.table.words.keys b c.args.entry.now c.args.position below rising c.self.invariant)
+    subst (IsBook c.self.inside.table.symbols.keys) (sym next)
+    (after_is c.self.inside.table.symbols.keys b c.args.entry.now c.args.position below rising c.self.invariant)
 
 pub returns-clause-fits : goal.returns-clause-fits
 returns-clause-fits c = λ entries fits.
@@ -40,7 +40,7 @@ returns-clause-fits c = λ entries fits.
     c.as_mut_slice.ensures.value c.take_self_help.ensures.helped c.take_self_help.ensures.count in
     let below = subst (λ (t : BookState). venue_of c.args.entry.now < t.venues) (sym c.self.view_is) c.requires.venue in
     subst (λ (t : BookState). FitsBook t (entries ++ c.args.entry.now ∷ [])) (sym next)
-    (after_fits c.self.inside.table.words.keys b c.args.entry.now c.args.position entries below c.self.invariant
+    (after_fits c.self.inside.table.symbols.keys b c.args.entry.now c.args.position entries below c.self.invariant
     (subst (λ (t : BookState). FitsBook t entries) (sym c.self.view_is) fits))
 
 pub returns-clause-changes : goal.returns-clause-changes
@@ -55,7 +55,7 @@ returns-clause-changes c = λ entries fits.
     c.as_mut_slice.ensures.value
     ∙ ap (λ (t : List Bool). filter_map (row_change t (c.self.inside.applied + 1) c.args.position c.args.entry.now)
     c.self.inside.rows.items) c.take_self_help.ensures.helped
-    ∙ after_changes c.self.inside.table.words.keys b c.args.entry.now c.args.position entries below c.self.invariant
+    ∙ after_changes c.self.inside.table.symbols.keys b c.args.entry.now c.args.position entries below c.self.invariant
     (subst (λ (t : BookState). FitsBook t entries) (sym c.self.view_is) fits)
     ∙ ap (λ (t : BookState). changes_by t.symbols entries c.args.position c.args.entry.now) c.self.view_is)
 

@@ -6,7 +6,7 @@ use Rattle.nbbo_book.proofs.book.Book.new.Goals as goal
 pub invariant_of-result : goal.invariant_of-result
 invariant_of-result c =
     let few : c.args.venue_count ≤ 16 = omega arith in
-    empty_is c.in_ok-table.table.words.keys c.args.symbols.now c.args.venue_count c.in-Ok.rows.items few
+    empty_is c.in_ok-table.table.symbols.keys c.args.symbols.now c.args.venue_count c.in-Ok.rows.items few
     c.in-Ok.ensures c.in_ok-table.ensures.table
 
 pub returns-clause-fits : goal.returns-clause-fits

@@ -5,7 +5,7 @@ use Rattle.nbbo_book.specs.declared.row.Row.{Row}
 use Rattle.nbbo_book.specs.Books.{BookState, FitsBook, is_configured}
 use Rattle.nbbo_book.specs.Rows.{ShowsSymbol}
 use Rattle.nbbo_book.specs.Tables.{symbols_in_rows, book_state_of}
-use Rattle.nbbo_book.specs.WordLaws.{found_configured, missed_configured}
+use Rattle.nbbo_book.proofs.Keys.{found_configured, missed_configured}
 use Rattle.nbbo_book.proofs.BookFits.{found_shows}
 use Rattle.nbbo_book.proofs.book.Book.row_of.Goals as goal
 
@@ -36,7 +36,7 @@ returns-clause-shows c = λ entries fits.
     let b = book_state_of c.self.inside.rows.items c.self.inside.venues.count c.self.inside.last c.self.inside.applied
     c.self.inside.venues.helped in
     subst (ShowsSymbol entries c.args.symbol.now) (sym c.index.ensures)
-    (found_shows c.self.inside.table.words.keys b entries c.args.symbol.now c.in_ok-place.place c.index.result.now
+    (found_shows c.self.inside.table.symbols.keys b entries c.args.symbol.now c.in_ok-place.place c.index.result.now
     c.self.invariant (subst (λ (t : BookState). FitsBook t entries) (sym c.self.view_is) fits)
     (sym (c.find.ensures ∙ ap (λ (t : List Row). position (bytes_eq c.args.symbol.now) (symbols_in_rows t))
     c.as_slice.ensures.value) ∙ c.in_ok-place.was))

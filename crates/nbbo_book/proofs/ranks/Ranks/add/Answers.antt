@@ -15,25 +15,25 @@ returns-clause-ranks c =
     let ages : ℕ → ℕ = ages_in order in
     let x : Best = c.args.x in
     let xs : List Best = c.args.self.now in
-    let to : ℕ = c.settle.result in
+    let to : ℕ = c.move_to_rank.result in
     let rest : remove c.as_mut_slice-ranks.result.now c.len-from.result ≡ xs =
     ap (λ (t : List Best). remove t c.len-from.result)
     (c.as_mut_slice-ranks.ensures.value ∙ c.push.ensures.items
     ∙ ap (λ (t : List Best). t ++ x ∷ []) c.self.view_is)
     ∙ ap (remove (xs ++ x ∷ [])) (c.len-from.ensures.value ∙ ap length c.self.view_is) ∙ remove_last xs x in
-    let place : IsPlace order x xs to = subst (λ (t : List Best). IsPlace order x t to) rest c.settle.ensures.place in
+    let place : IsPlace order x xs to = subst (λ (t : List Best). IsPlace order x t to) rest c.move_to_rank.ensures.place in
     let newest : order.cause ≡ Quoted → IsNewest ages x xs = λ quoted.
     subst (λ (t : List Best). IsNewest ages x t) c.requires.absent
     (subst (λ (u : Cause). IsCause u order.side ages x xs) quoted (c.requires.ready.caused x refl)).0 in
-    refill_whole c.push.new.self.items c.settle.new.ranks
-    (c.settle.auto.ranks ∙ ap length c.as_mut_slice-ranks.ensures.value)
-    ∙ c.settle.ensures.ranks
+    refill_whole c.push.new.self.items c.move_to_rank.new.ranks
+    (c.move_to_rank.auto.ranks ∙ ap length c.as_mut_slice-ranks.ensures.value)
+    ∙ c.move_to_rank.ensures.ranks
     ∙ ap (λ (t : List Best). insert t to x) rest
     ∙ walked_here order.cause order.side ages x xs to place.within place.before place.at
     (subst (λ (t : List Best). InRank order.side ages t) c.requires.absent c.requires.ready.others) newest
 
-pub settle-requires : goal.settle-requires
-settle-requires c =
+pub move_to_rank-requires : goal.move_to_rank-requires
+move_to_rank-requires c =
     let x : Best = c.args.x in
     let P : List ℕ = c.self.inside.places in
     let xs : List Best = c.self.inside.best_first.items in
@@ -54,7 +54,7 @@ settle-requires c =
 
 pub invariant_of-self : goal.invariant_of-self
 invariant_of-self c =
-    subst (λ (t : List Best). AreNoted c.settle.new.places t)
-    (sym (refill_whole c.push.new.self.items c.settle.new.ranks
-    (c.settle.auto.ranks ∙ ap length c.as_mut_slice-ranks.ensures.value)))
-    c.settle.ensures.noted
+    subst (λ (t : List Best). AreNoted c.move_to_rank.new.places t)
+    (sym (refill_whole c.push.new.self.items c.move_to_rank.new.ranks
+    (c.move_to_rank.auto.ranks ∙ ap length c.as_mut_slice-ranks.ensures.value)))
+    c.move_to_rank.ensures.noted

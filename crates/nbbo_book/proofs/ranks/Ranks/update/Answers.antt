@@ -18,21 +18,21 @@ returns-in-Quoted-clause-ranks c =
     let v : ℕ = c.args.venue in
     let xs : List Best = c.args.self.now in
     let from : ℕ = c.in-Some-place_of.from in
-    let to : ℕ = c.settle-to.result in
+    let to : ℕ = c.move_to_rank-to.result in
     let there : without v xs ≡ remove xs from =
     subst (λ (t : List Best). without v t ≡ remove t from) (c.as_slice.ensures.value ∙ c.self.view_is)
     c.in-Some-place_of.ensures.there in
     let rest : remove c.as_mut_slice-ranks.result.now from ≡ without v xs =
     ap (λ (t : List Best). remove t from) (c.as_mut_slice-ranks.ensures.value ∙ c.self.view_is) ∙ sym there in
     let place : IsPlace order x (without v xs) to =
-    subst (λ (t : List Best). IsPlace order x t to) rest c.settle-to.ensures.place in
+    subst (λ (t : List Best). IsPlace order x t to) rest c.move_to_rank-to.ensures.place in
     let own : x.venue ≡ v = c.requires.own x c.in-Some.is in
     let newest : IsNewest ages x (without v xs) =
     subst (λ (n : ℕ). IsNewest ages x (without n xs)) own
     (subst (λ (u : Cause). IsCause u order.side ages x xs) c.in-Quoted.is (c.requires.caused x c.in-Some.is)).0 in
-    refill_whole c.self.inside.best_first.items c.settle-to.new.ranks
-    (c.settle-to.auto.ranks ∙ ap length c.as_mut_slice-ranks.ensures.value)
-    ∙ c.settle-to.ensures.ranks
+    refill_whole c.self.inside.best_first.items c.move_to_rank-to.new.ranks
+    (c.move_to_rank-to.auto.ranks ∙ ap length c.as_mut_slice-ranks.ensures.value)
+    ∙ c.move_to_rank-to.ensures.ranks
     ∙ ap (λ (t : List Best). insert t to x) rest
     ∙ walked_here order.cause order.side ages x (without v xs) to place.within place.before place.at
     c.requires.others (λ q. newest)
@@ -46,7 +46,7 @@ returns-in-Quoted-clause-moved c =
     let v : ℕ = c.args.venue in
     let xs : List Best = c.args.self.now in
     let from : ℕ = c.in-Some-place_of.from in
-    let to : ℕ = c.settle-to.result in
+    let to : ℕ = c.move_to_rank-to.result in
     let seen : c.as_slice.result.now ≡ xs = c.as_slice.ensures.value ∙ c.self.view_is in
     let lent : c.as_mut_slice-ranks.result.now ≡ xs = c.as_mut_slice-ranks.ensures.value ∙ c.self.view_is in
     let own : x.venue ≡ v = c.requires.own x c.in-Some.is in
@@ -59,14 +59,14 @@ returns-in-Quoted-clause-moved c =
     subst (λ (n : ℕ). HasNone n (remove xs from)) (sym own)
     (subst (λ (t : List Best). HasNone v t) there c.requires.once) in
     let place : IsPlace order x (remove xs from) to =
-    subst (λ (t : List Best). IsPlace order x (remove t from) to) lent c.settle-to.ensures.place in
+    subst (λ (t : List Best). IsPlace order x (remove t from) to) lent c.move_to_rank-to.ensures.place in
     let new : IsIn xs x → ⊥ = (subst (λ (u : Cause). IsCause u order.side ages x xs) c.in-Quoted.is
     (c.requires.caused x c.in-Some.is)).1 in
     moved_moves xs x from to found place.within its none new
     ∙ ap (λ (t : List Best). not (is_same_best (best_of_ranks xs) (best_of_ranks t)))
-    (sym (refill_whole c.self.inside.best_first.items c.settle-to.new.ranks
-    (c.settle-to.auto.ranks ∙ ap length c.as_mut_slice-ranks.ensures.value)
-    ∙ c.settle-to.ensures.ranks ∙ ap (λ (t : List Best). insert (remove t from) to x) lent))
+    (sym (refill_whole c.self.inside.best_first.items c.move_to_rank-to.new.ranks
+    (c.move_to_rank-to.auto.ranks ∙ ap length c.as_mut_slice-ranks.ensures.value)
+    ∙ c.move_to_rank-to.ensures.ranks ∙ ap (λ (t : List Best). insert (remove t from) to x) lent))
 
 pub returns-in-Rechecked-clause-ranks : goal.returns-in-Rechecked-clause-ranks
 returns-in-Rechecked-clause-ranks c =
@@ -89,8 +89,8 @@ returns-in-Rechecked-clause-ranks c =
     ∙ ap (λ (n : ℕ). with_rank order.side ages x (without n xs)) (sym own)
     ∙ ranked_stays order.side ages x xs cause.0 among cause.1)
 
-pub settle-to-requires : goal.settle-to-requires
-settle-to-requires c =
+pub move_to_rank-to-requires : goal.move_to_rank-to-requires
+move_to_rank-to-requires c =
     let x : Best = c.in-Some.x in
     let xs : List Best = c.self.inside.best_first.items in
     let from : ℕ = c.in-Some-place_of.from in

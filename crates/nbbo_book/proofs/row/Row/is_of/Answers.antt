@@ -2,7 +2,7 @@ use Rattle.std.proofs.Common.{ℕ, ◌∙◌, ap, sym, nat_eq}
 use Rattle.std.specs.Int.{w64, to_be_bytes}
 use Rattle.feed_types.specs.Symbols.{key_of}
 use Rattle.nbbo_book.specs.Tables.{HasKey}
-use Rattle.nbbo_book.specs.WordLaws.{word_tells}
+use Rattle.nbbo_book.proofs.Keys.{key_tells}
 use Rattle.nbbo_book.proofs.row.Row.is_of.Goals as goal
 
 pub returns : goal.returns
@@ -13,4 +13,4 @@ returns c =
     record { told = ap (to_be_bytes w64) (sym c.key-2.ensures.value) ∙ c.key-2.ensures.field } in
     ap (λ (n : ℕ). nat_eq n c.key-2.result) c.key.ensures.value
     ∙ ap (nat_eq (key_of c.args.symbol)) c.key-2.ensures.value
-    ∙ word_tells c.args.symbol c.args.self.now.symbol its own
+    ∙ key_tells c.args.symbol c.args.self.now.symbol its own

@@ -1,5 +1,6 @@
 use Rattle.std.proofs.Common.{◌≡◌, None}
 use Rattle.udp_listening.specs.Listening.{KeepsFollowing}
+use Rattle.udp_listening.specs.News.{SaysNews}
 use Rattle.udp_listening.proofs.attendance.Attendance.attend.Given as goal
 
 abbrev pub invariant-loop : goal.invariant-loop
@@ -8,4 +9,5 @@ invariant-loop g l =
     × KeepsFollowing (record { adds = g.W.TextOut.adds; failures = g.W.TextOut.failures })
     l.initial.attendance.log.lines l.initial.attendance.desk l.attendance.log.lines l.attendance.desk
     × (l.initial.attendance.attendant.counts ≡ None
-    → (l.attendance.desk.errors ≡ l.initial.attendance.desk.errors) × (l.attendance.attendant.counts ≡ None))
+    → SaysNews (record { adds = g.E.TextOut.adds; failures = g.E.TextOut.failures })
+    l.initial.attendance.desk.errors l.attendance.desk.errors × (l.attendance.attendant.counts ≡ None))

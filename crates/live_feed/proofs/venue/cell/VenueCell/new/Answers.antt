@@ -1,5 +1,5 @@
 use Rattle.std.proofs.Common.{ap, ◌∙◌}
-use Rattle.live_feed.specs.venue.Lines.{on_all}
+use Rattle.feed_types.specs.PerLines.{on_all}
 use Rattle.live_feed.proofs.CellMoves.{new_kept}
 use Rattle.live_feed.proofs.venue.cell.VenueCell.new.Goals as goal
 

@@ -15,7 +15,7 @@ invariant_of-self g c =
     let packets = k.history.present.packets in
     let venue = c.requires.venue ∙ ap (λ (v : CellState). v.arbiter.venue) (sym c.self.view_is) in
     let genuine = subst (λ (n : ℕ). IsGenuinePacket g.G.Genuine n c.args.packet.now) venue c.requires.genuine in
-    let sums = c.add.ensures ∙ ap (λ (l : LineId). line_sums_after l c.args.packet.now (Ok c.in-Ok.outcome)
+    let sums = c.add_on.ensures ∙ ap (λ (l : LineId). line_sums_after l c.args.packet.now (Ok c.in-Ok.outcome)
     c.self.inside.sums) (c.line-in-Ok.ensures ∙ sym c.line.ensures) in
     packet_kept g.G.Genuine g.N.FeedName.lanes _ _ c.line.result c.args.packet.now (Ok c.in-Ok.outcome) k refl e.kept
     (packet_fits _ _ k.history c.line.result c.args.packet.now (Ok c.in-Ok.outcome) k.fits refl e.kept
@@ -27,13 +27,13 @@ returns-in-Ok-clause-packet g c = λ h fits.
     let f = subst (λ (v : CellState). CellFitsHistory v h) (sym c.self.view_is) fits in
     let e = c.in-Ok.ensures in
     let packets = h.present.packets in
-    let sums = c.add.ensures ∙ ap (λ (l : LineId). line_sums_after l c.args.packet.now (Ok c.in-Ok.outcome)
+    let sums = c.add_on.ensures ∙ ap (λ (l : LineId). line_sums_after l c.args.packet.now (Ok c.in-Ok.outcome)
     c.self.inside.sums) (c.line-in-Ok.ensures ∙ sym c.line.ensures) in
     let new : CellState = record {
       arbiter = c.take.new.self;
       lane = c.self.inside.items;
       pace = c.self.inside.pacer;
-      accepted = c.add.new.self;
+      accepted = c.add_on.new.sums;
     } in
     subst (λ (x : LineId × CellState). TakesPacket x.0 c.args.packet.now (Ok c.in-Ok.outcome) h x.1 new)
     (λ i. (c.line.ensures i, c.self.view_is i))

@@ -32,7 +32,7 @@ module _ (g : Over) (c : After-count g) where
     arbiter = c.take_in_order-outcome.new.self;
     lane = c.push.new.self;
     pace = c.self.inside.pacer;
-    accepted = c.add.new.self;
+    accepted = c.add_on.new.sums;
   }
 
   answer : c.take_in_order-outcome.result ≡ Taken 1 0
@@ -60,7 +60,7 @@ invariant_of-self-2 g c =
     (ap (λ (e : LaneEnd Numbered). e.capacity) c.in-Ok.ensures)
     (pass_fits _ k.history line c.args.packet.now c.in_ok-next.next k.fits brings
     (new g c) c.take_in_order-outcome.result (answer g c) c.in-Ok.ensures (sent g c) e.kept
-    (e.fits packets k.fits.history.present) c.add.ensures)
+    (e.fits packets k.fits.history.present) c.add_on.ensures)
     c.in_ok-order.ensures.content brings.answer genuine
 
 pub returns-clause-packet : goal.returns-clause-packet
@@ -75,5 +75,5 @@ returns-clause-packet g c = λ h fits.
     subst (λ (x : LineId × CellState). TakesAndPushes x.0 c.args.packet.now c.take_in_order-outcome.result h x.1
     (new g c)) (λ i. (c.line-line.ensures i, c.self.view_is i))
     (passes _ h line c.args.packet.now c.in_ok-next.next f brings (new g c) c.take_in_order-outcome.result
-    (answer g c) c.in-Ok.ensures (sent g c) e.kept (e.fits packets f.history.present) c.add.ensures
+    (answer g c) c.in-Ok.ensures (sent g c) e.kept (e.fits packets f.history.present) c.add_on.ensures
     (first_number _ _ _ c.in_ok-next.ensures.item))

@@ -1,0 +1,28 @@
+-- The length of a stream.
+use Rattle.std.proofs.Common.{◌≡◌, ℕ, ◌+◌, ◌≤◌, Bool, true, false, List, [], ◌∷◌, length, map, Option, Some, None, arith}
+use Rattle.std.specs.Prelude.{◌==◌, if◌then◌else◌}
+use Rattle.std.specs.List.{range_with_len}
+use Rattle.std.proofs.lemmas.List.{length-append}
+use Rattle.std.proofs.lemmas.List.FromFn.{length-map-range_with_len}
+use Rattle.line_arbiter.specs.Packets.{Arrival, end_of}
+use Rattle.line_arbiter.specs.Streams.{end_at, item_numbered, stream_to}
+use Rattle.feed_types.specs.declared.item.Item.TheVariants as items
+
+pub length-stream : (packets : List Arrival) (n : ℕ)
+    → length (stream_to packets n) ≡ n + length (end_at (end_of packets) (n + 1))
+length-stream packets n =
+    omega (
+      arith,
+      length-append (map (item_numbered packets) (range_with_len 1 n))
+          (end_at (end_of packets) (n + 1)),
+      length-map-range_with_len (item_numbered packets) 1 n,
+    )
+
+most_if : {X : Type 0} (b : Bool) (x : X) → length (if b then x ∷ [] else []) ≤ 1
+most_if true x = omega arith
+most_if false x = omega arith
+
+-- End takes one place at most
+pub end_most : (o : Option ℕ) (m : ℕ) → length (end_at o m) ≤ 1
+end_most None m = omega arith
+end_most (Some e) m = most_if (e == m) (record { number = m; item = items.End })

@@ -1,0 +1,6 @@
+use Rattle.udp_listening.specs.News.{SaysTotals}
+use Rattle.udp_listening.proofs.line_watch.LineWatches.write_totals.Given as goal
+
+abbrev pub invariant-loop-line : goal.invariant-loop-line
+invariant-loop-line g l =
+    SaysTotals (record { adds = g.E.TextOut.adds; failures = g.E.TextOut.failures }) l.fn.errors l.errors
