@@ -12,7 +12,8 @@ use Rattle.nbbo_book.specs.declared.venue_side.VenueSide.{VenueSide}
 use Rattle.nbbo_book.specs.declared.row.Row.{Row}
 use Rattle.nbbo_book.specs.Sides.{quoted_by, side_said, side_of, is_same_side, age_of}
 use Rattle.nbbo_book.specs.Eligible.{is_self_helped, halt_said, is_halted}
-use Rattle.nbbo_book.specs.Books.{SideFits, RowFits, venue_of}
+use Rattle.nbbo_book.specs.Contents.{SideFits, RowFits}
+use Rattle.nbbo_book.specs.Books.{venue_of}
 use Rattle.nbbo_book.specs.Rows.{may_at, side_at, row_quoted, row_halted, row_after, row_after_item, helped_after}
 use Rattle.nbbo_book.specs.Tables.{IsRow}
 use Rattle.nbbo_book.specs.VenueSides.{venue_side_at}

@@ -22,7 +22,8 @@ use Rattle.nbbo_book.specs.Sides.{quoted_by, side_of, age_of}
 use Rattle.nbbo_book.specs.Eligible.{ranked_by, may_rank, is_self_helped, eligible_of}
 use Rattle.nbbo_book.specs.Nationals.{national_of, best_of}
 use Rattle.nbbo_book.specs.Changes.{is_same_best, is_same_national, change_of, changes_by}
-use Rattle.nbbo_book.specs.Books.{SideFits, RowFits, venue_of}
+use Rattle.nbbo_book.specs.Contents.{SideFits, RowFits}
+use Rattle.nbbo_book.specs.Books.{venue_of}
 use Rattle.nbbo_book.specs.Ranks.{best_of_ranks, IsRankingOf}
 use Rattle.nbbo_book.specs.Rows.{may_at, row_quoted, row_rechecked, row_halted, row_after, row_after_item, row_change, told_where, national_at, helped_after, symbol_in, symbol_in_item, IsRowRanked}
 use Rattle.nbbo_book.specs.Tables.{IsSide, IsRow, symbols_in_rows}

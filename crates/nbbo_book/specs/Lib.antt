@@ -3,6 +3,7 @@ pub mod Sides
 pub mod Eligible
 pub mod Nationals
 pub mod Changes
+pub mod Contents
 pub mod Books
 pub mod Refusals
 pub mod Codes

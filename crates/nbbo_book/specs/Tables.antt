@@ -6,6 +6,7 @@ use Rattle.feed_types.specs.Symbols.{key_of}
 use Rattle.feed_types.specs.declared.line.Side.{Side}
 use Rattle.feed_types.specs.declared.line.Side.TheVariants.{Bid, Offer}
 use Rattle.nbbo_book.specs.declared.row.Row.{Row}
+use Rattle.nbbo_book.specs.Contents.{BookContents}
 use Rattle.nbbo_book.specs.Books.{BookState}
 use Rattle.nbbo_book.specs.Ranks.{IsRankingOf}
 use Rattle.nbbo_book.specs.Rows.{may_at, side_at}
@@ -42,14 +43,18 @@ pub record IsRow (helped : List Bool) (next : ℕ) (row : Row) : Type 0 where
   pub offers : IsSide Offer (may_at helped row.halted) next (side_at Offer row)
   pub count : length row.halted ≡ 16
 
+-- the rows are those of a book of these contents
+abbrev pub HasRows : BookContents → Type 0
+HasRows contents = AllByRecursion (IsRow contents.helped (contents.applied + 1)) contents.rows
+
 -- what every book keeps
 pub record IsBook (keys : List ℕ) (book : BookState) : Type 0 where
-  pub symbols : book.symbols ≡ symbols_in_rows book.rows
+  pub symbols : book.symbols ≡ symbols_in_rows book.contents.rows
   pub table : IsTable book.symbols keys
   pub venues : book.venues ≤ 16
-  pub applied : book.applied ≤ book.last
-  pub count : length book.helped ≡ 16
-  pub rows : AllByRecursion (IsRow book.helped (book.applied + 1)) book.rows
+  pub applied : book.contents.applied ≤ book.last
+  pub count : length book.contents.helped ≡ 16
+  pub rows : HasRows book.contents
 
 -- a book of these parts as contracts see it
 abbrev pub book_state_of : List Row → ℕ → ℕ → ℕ → List Bool → BookState
@@ -58,7 +63,5 @@ book_state_of rows venues last applied helped =
       symbols = symbols_in_rows rows;
       venues = venues;
       last = last;
-      applied = applied;
-      helped = helped;
-      rows = rows;
+      contents = record { applied = applied; helped = helped; rows = rows };
     }

@@ -36,7 +36,7 @@ returns-clause-shows c = λ entries fits.
     let b = book_state_of c.self.inside.rows.items c.self.inside.venues.count c.self.inside.last c.self.inside.applied
     c.self.inside.venues.helped in
     subst (ShowsSymbol entries c.args.symbol.now) (sym c.index.ensures)
-    (found_shows c.self.inside.table.symbols.keys b entries c.args.symbol.now c.in_ok-place.place c.index.result.now
-    c.self.invariant (subst (λ (t : BookState). FitsBook t entries) (sym c.self.view_is) fits)
+    (found_shows b.contents entries c.args.symbol.now c.in_ok-place.place c.index.result.now c.self.invariant.rows
+    (subst (λ (t : BookState). FitsBook t entries) (sym c.self.view_is) fits).contents
     (sym (c.find.ensures ∙ ap (λ (t : List Row). position (bytes_eq c.args.symbol.now) (symbols_in_rows t))
     c.as_slice.ensures.value) ∙ c.in_ok-place.was))
