@@ -21,15 +21,15 @@ use Rattle.feed_core.specs.Worlds.{Lane, empty_lane, inside, is_full, new_venue,
 use Rattle.feed_core.specs.Steps.{next_in, packet_done, push_next, renewal_done, AppliesTo}
 use Rattle.feed_core.specs.Fitting.{VenueView, FitsVenue, LeftAnswered, LeftPushed, LeftRenewed, ShowsLane}
 use Rattle.line_arbiter.specs.laws.Histories.{items_push}
-use Rattle.line_arbiter.specs.laws.FitsHistory.{fits_new, fits_packet, fits_push, fits_renewal, keeps_session, outcome_in, renewal_in}
+use Rattle.line_arbiter.specs.laws.FitsHistory.{fits_new, fits_packet, fits_push, fits_renewal, outcome_in, renewal_in}
 
 -- one more packet
 packet_fits : (window place : ℕ) (old new : State) (lane : Lane Numbered) (v : Venue) (a : Arrival) → FitsVenue window place (record { arbiter = old; lane = lane }) v → KeepsItsPlace old new → Fits new (v.history.present.packets ++ a ∷ [])
     → FitsVenue window place (record { arbiter = new; lane = lane }) (record v { history = after_arrival v.history a })
 packet_fits window place old new lane v a f kept fits = record {
-  history = fits_packet v.history a f.history (keeps_session kept) fits;
-  number = kept.venue ∙ f.number;
-  width = kept.window ∙ f.width;
+  history = fits_packet v.history a f.history kept.session fits;
+  number = kept.session.venue ∙ f.number;
+  width = kept.session.window ∙ f.width;
   sent = kept.sent ∙ f.sent;
   begun = f.begun;
   lane = f.lane;
@@ -154,8 +154,8 @@ module _ (window place capacity : ℕ) (v : Venue) (c : VenueView) (f : FitsVenu
             (subst (λ (b : Bool). AppliesTo (push_next b (Some x) v.lane.sent) v.lane.sent (done.Pushed x.number) lane.sent) (sym (ap (is_full capacity) (sym f.lane) ∙ room)) (refl, sent));
         fits = record {
           history = fits_push v.history f.history advanced.kept fits;
-          number = advanced.kept.venue ∙ f.number;
-          width = advanced.kept.window ∙ f.width;
+          number = advanced.kept.session.venue ∙ f.number;
+          width = advanced.kept.session.window ∙ f.width;
           sent = (let a = advanced.sent in let b = f.sent in let d = f.begun in omega arith);
           begun = (let d = f.begun in omega arith);
           lane = lane_is is (ap (λ (l : Lane Numbered). l.received) f.lane);

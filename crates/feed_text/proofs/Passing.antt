@@ -70,12 +70,8 @@ sends_next order last from to p Q is at sends =
 -- what a repeat leaves
 pub stays_repeated : (order : InOrder) (last : ℕ) (old new : State) → order ≡ Repeat last → new.sent ≡ sent_in_order order old.sent → KeepsItsSession old new → KeepsItsPlace old new
 stays_repeated order last old new is sent kept = record {
-  venue = kept.venue;
-  sessions = kept.sessions;
-  session = kept.session;
-  window = kept.window;
+  session = kept;
   sent = sent ∙ ap (λ (o : InOrder). sent_in_order o old.sent) is;
-  earlier = kept.earlier;
 }
 
 -- a next packet was taken, and then everything that is ready was emitted

@@ -16,10 +16,10 @@ use Rattle.line_arbiter.specs.Histories.{History, after_arrival, all_begun, hist
 use Rattle.line_arbiter.specs.Outcomes.{IsOutcome}
 use Rattle.line_arbiter.specs.Renewals.{IsRenewal}
 use Rattle.line_arbiter.specs.Counts.{shown}
-use Rattle.line_arbiter.specs.States.{State, KeepsItsPlace, KeepsItsSession, KeepsAllButSent, IsNew, IsRenewed}
+use Rattle.line_arbiter.specs.States.{State, KeepsItsPlace, KeepsItsSession, IsNew, IsRenewed}
 use Rattle.line_arbiter.specs.Fits.{Fits}
 use Rattle.line_arbiter.specs.laws.Histories.{items_push}
-use Rattle.line_arbiter.specs.laws.FitsHistory.{fits_new, fits_packet, fits_renewal, keeps_sent, keeps_session, outcome_in, renewal_in, shown_more}
+use Rattle.line_arbiter.specs.laws.FitsHistory.{fits_new, fits_packet, fits_renewal, keeping_its_session_is_transitive, outcome_in, renewal_in, shown_more}
 use Rattle.feed_text.specs.declared.report.PublishStop.{PublishStop}
 use Rattle.feed_text.specs.Capture.{datagram_record, renewal_record}
 use Rattle.feed_text.specs.Lines.{venue_line, wins_by}
@@ -29,34 +29,6 @@ use Rattle.feed_text.specs.Texts.{last_line}
 use Rattle.feed_text.specs.ReplayStates.{ReplayState, EmitsInto}
 use Rattle.feed_text.specs.Following.{ReplayVenue, Follows, SendsReady, EmitsOutcome, EmitsOne, Renews}
 use Rattle.feed_text.proofs.Tales.{tells_more, tells_stop, tells_as}
-
--- nothing was sent yet
-pub kept_none : (s : State) → KeepsAllButSent s s
-kept_none s = record {
-  venue = refl;
-  sessions = refl;
-  session = refl;
-  window = refl;
-  front = refl;
-  known = refl;
-  end = refl;
-  wins = refl;
-  earlier = refl;
-}
-
--- one advance more
-pub kept_more : (old mid new : State) → KeepsAllButSent old mid → KeepsAllButSent mid new → KeepsAllButSent old new
-kept_more old mid new a b = record {
-  venue = b.venue ∙ a.venue;
-  sessions = b.sessions ∙ a.sessions;
-  session = b.session ∙ a.session;
-  window = b.window ∙ a.window;
-  front = b.front ∙ a.front;
-  known = b.known ∙ a.known;
-  end = b.end ∙ a.end;
-  wins = b.wins ∙ a.wins;
-  earlier = b.earlier ∙ a.earlier;
-}
 
 streams_more : (h : History) → length (streams_of h) ≡ length (items_of h.earlier) + length (stream_of h.present.packets)
 streams_more h = ap length (items_push h.earlier h.present) ∙ length-append (items_of h.earlier) (stream_of h.present.packets)
@@ -174,7 +146,7 @@ pub left_ready : (v : ReplayVenue) (Q : List Arrival) (mid new : State) (done : 
     → Fits mid Q → KeepsItsSession v.arbiter mid → OnOk done (SendsReady mid new) → OnOk done (Left v Q new)
 left_ready v Q mid new done fits kept sends =
     let left : SendsReady mid new → Left v Q new = λ s.
-    record { fits = (s.fits Q fits).0; sent = (s.fits Q fits).1; stays = keeps_sent kept s.kept } in
+    record { fits = (s.fits Q fits).0; sent = (s.fits Q fits).1; stays = keeping_its_session_is_transitive kept s.kept.session } in
     on_ok_weaker done left sends
 
 left_follows : (width place : ℕ) (h : History) (v : ReplayVenue) (new : State) (a : Arrival)
@@ -218,7 +190,7 @@ answered_told width place h v mid new line p answer t0 t1 done f outcome fits ke
     outcome_told width place h v new line p answer t0 t1 done f (outcome h.present.packets f.history.present)
     (tells_as t0 t1 done (ap (λ (n : ℕ). packet_answered place line answer ∷ map (item_taken place) (drop n (stream_of Q))) kept.sent)
     (emits Q (fits h.present.packets f.history.present)))
-    (left_ready v Q mid new done (fits h.present.packets f.history.present) (keeps_session kept) sends)
+    (left_ready v Q mid new done (fits h.present.packets f.history.present) kept.session sends)
 
 -- the next session began
 pub renewed_follows : (width place : ℕ) (h : History) (v : ReplayVenue) (new : State) (name : List ℕ) (ordinal sent : ℕ)

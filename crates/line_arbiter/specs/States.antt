@@ -65,16 +65,7 @@ pub record IsNew (s : State) (place : ℕ) (name : List ℕ) (width : ℕ) : Typ
   pub wins : s.wins ≡ on_all 0
   pub earlier : s.earlier ≡ on_all 0
 
--- what a packet leaves: whose lines they are, the session, the window and the last item sent
-pub record KeepsItsPlace (old new : State) : Type 0 where
-  pub venue : new.venue ≡ old.venue
-  pub sessions : new.sessions ≡ old.sessions
-  pub session : new.session ≡ old.session
-  pub window : new.window ≡ old.window
-  pub sent : new.sent ≡ old.sent
-  pub earlier : new.earlier ≡ old.earlier
-
--- what a packet that needs no place leaves: everything but how far the session has come
+-- what every packet leaves: the venue, its sessions, the window and the wins of earlier sessions
 pub record KeepsItsSession (old new : State) : Type 0 where
   pub venue : new.venue ≡ old.venue
   pub sessions : new.sessions ≡ old.sessions
@@ -82,17 +73,18 @@ pub record KeepsItsSession (old new : State) : Type 0 where
   pub window : new.window ≡ old.window
   pub earlier : new.earlier ≡ old.earlier
 
+-- what a packet leaves of which nothing is sent: the last item sent, too
+pub record KeepsItsPlace (old new : State) : Type 0 where
+  pub session : KeepsItsSession old new
+  pub sent : new.sent ≡ old.sent
+
 -- what an advance leaves: everything but the last item sent
 pub record KeepsAllButSent (old new : State) : Type 0 where
-  pub venue : new.venue ≡ old.venue
-  pub sessions : new.sessions ≡ old.sessions
-  pub session : new.session ≡ old.session
-  pub window : new.window ≡ old.window
+  pub session : KeepsItsSession old new
   pub front : new.front ≡ old.front
   pub known : new.known ≡ old.known
   pub end : new.end ≡ old.end
   pub wins : new.wins ≡ old.wins
-  pub earlier : new.earlier ≡ old.earlier
 
 -- the next item was sent on
 pub record IsAdvanced (old new : State) : Type 0 where

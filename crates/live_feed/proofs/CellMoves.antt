@@ -23,11 +23,11 @@ use Rattle.feed_types.specs.declared.item.Item.{Item}
 use Rattle.feed_types.specs.Sessions.{numbered_from}
 use Rattle.quote_payload.specs.Payload.{item_of}
 use Rattle.line_arbiter.specs.Histories.{History, all_begun, items_of, new_history, new_session, streams_of, after_arrival}
-use Rattle.line_arbiter.specs.States.{State, ordinal_of, KeepsItsPlace, KeepsAllButSent, KeepsItsSession, IsAdvanced, IsNew, IsRenewed}
+use Rattle.line_arbiter.specs.States.{State, ordinal_of, KeepsItsPlace, KeepsItsSession, IsAdvanced, IsNew, IsRenewed}
 use Rattle.line_arbiter.specs.Fits.{Fits}
 use Rattle.fifo_lane.specs.Lane.{LaneEnd, with_items, WasFull}
 use Rattle.line_arbiter.specs.laws.Histories.{items_push}
-use Rattle.line_arbiter.specs.laws.FitsHistory.{fits_new, fits_packet, fits_push, fits_renewal, keeps_session, ordinal_is, outcome_in, renewal_in}
+use Rattle.line_arbiter.specs.laws.FitsHistory.{fits_new, fits_packet, fits_push, fits_renewal, keeping_all_but_sent_is_reflexive, keeping_all_but_sent_is_transitive, ordinal_is, outcome_in, renewal_in}
 use Rattle.feed_types.specs.declared.genuine.Genuine.{Ghosts as Genuine}
 use Rattle.live_feed.specs.Premises.{AreInSequence, IsGenuinePacket}
 use Rattle.live_feed.specs.Lanes.{FeedLanes}
@@ -90,7 +90,7 @@ module _ (old new : CellState) (h : History) (line : LineId) (p : Content) (answ
 
   pub packet_fits : CellFitsHistory new (after_arrival h a)
   packet_fits = record {
-    history = fits_packet h a f.history (keeps_session kept) fits;
+    history = fits_packet h a f.history kept.session fits;
     sent =
         ap (λ (e : LaneEnd Numbered). e.items) lane ∙ f.sent
         ∙ ap (λ (xs : List Numbered). items_of h.earlier ++ xs)
@@ -159,7 +159,7 @@ pub packet_kept : {S : Type 0} (premise : Genuine S) (lanes : FeedLanes) (old ne
     → IsOutcome old.arbiter.session old.arbiter.window old.arbiter.sent k.history.present.packets p answer
     → IsGenuinePacket premise old.arbiter.venue p → VenueLockInvariant premise lanes new
 packet_kept premise lanes old new line p answer k lane kept fits content o genuine =
-    more_kept premise lanes old new line p answer k (keeps_session kept) (ap (λ (e : LaneEnd Numbered). e.tag) lane)
+    more_kept premise lanes old new line p answer k kept.session (ap (λ (e : LaneEnd Numbered). e.tag) lane)
     (ap (λ (e : LaneEnd Numbered). e.lane) lane) (ap (λ (e : LaneEnd Numbered). e.capacity) lane) fits content o
     genuine
 
@@ -247,19 +247,21 @@ pub push_kept : {S : Type 0} (premise : Genuine S) (lanes : FeedLanes) (old new 
     (k : VenueLockInvariant premise lanes old)
     → new.lane ≡ with_items old.lane (old.lane.items ++ x ∷ []) → IsAdvanced old.arbiter new.arbiter
     → CellFitsHistory new k.history → VenueLockInvariant premise lanes new
-push_kept premise lanes old new x k lane advanced fits = record {
-  history = k.history;
-  fits = fits;
-  given = subst (λ (x : ℕ × ℕ). AreGivenFrom premise x.0 x.1 1 k.history.earlier k.history.present)
-      (λ i. (sym advanced.kept.venue i, sym advanced.kept.window i)) k.given;
-  named = subst (λ (x : ℕ × (List (List ℕ) × List ℕ)). premise.sessions x.0 (length x.1.0) x.1.1)
-      (λ i. (sym advanced.kept.venue i, (sym advanced.kept.sessions i, sym advanced.kept.session i))) k.named;
-  tag = ap (λ (e : LaneEnd Numbered). e.tag) lane ∙ k.tag ∙ sym advanced.kept.venue;
-  lane = ap (slice_get lanes.venues) advanced.kept.venue ∙ k.lane
-      ∙ ap (λ (e : LaneEnd Numbered). Some e.lane) (sym lane);
-  window = advanced.kept.window ∙ k.window;
-  capacity = ap (λ (e : LaneEnd Numbered). e.capacity) lane ∙ k.capacity;
-}
+push_kept premise lanes old new x k lane advanced fits =
+    let kept = advanced.kept.session in
+    record {
+      history = k.history;
+      fits = fits;
+      given = subst (λ (x : ℕ × ℕ). AreGivenFrom premise x.0 x.1 1 k.history.earlier k.history.present)
+          (λ i. (sym kept.venue i, sym kept.window i)) k.given;
+      named = subst (λ (x : ℕ × (List (List ℕ) × List ℕ)). premise.sessions x.0 (length x.1.0) x.1.1)
+          (λ i. (sym kept.venue i, (sym kept.sessions i, sym kept.session i))) k.named;
+      tag = ap (λ (e : LaneEnd Numbered). e.tag) lane ∙ k.tag ∙ sym kept.venue;
+      lane = ap (slice_get lanes.venues) kept.venue ∙ k.lane
+          ∙ ap (λ (e : LaneEnd Numbered). Some e.lane) (sym lane);
+      window = kept.window ∙ k.window;
+      capacity = ap (λ (e : LaneEnd Numbered). e.capacity) lane ∙ k.capacity;
+    }
 
 -- ---- a packet whose message is the next item, and its push
 
@@ -485,19 +487,6 @@ was_refused sent after full None e = absurd (let h = e.0 in cc)
 was_refused sent after true (Some x) e = refl
 was_refused sent after false (Some x) e = absurd (let h = e.0 in cc)
 
-arbiter_keeps : (a b c : State) → KeepsAllButSent a b → KeepsAllButSent b c → KeepsAllButSent a c
-arbiter_keeps a b c first next = record {
-  venue = next.venue ∙ first.venue;
-  sessions = next.sessions ∙ first.sessions;
-  session = next.session ∙ first.session;
-  window = next.window ∙ first.window;
-  front = next.front ∙ first.front;
-  known = next.known ∙ first.known;
-  end = next.end ∙ first.end;
-  wins = next.wins ∙ first.wins;
-  earlier = next.earlier ∙ first.earlier;
-}
-
 -- Pushes of a section so far.
 pub record PushesSoFar (pushed : ℕ) (old new : CellState) : Type 0 where
   pub sent : length new.lane.items ≡ length old.lane.items + pushed
@@ -508,17 +497,7 @@ pub no_push : (c : CellState) → PushesSoFar 0 c c
 no_push c = record {
   sent = omega arith;
   others = record {
-    arbiter = record {
-      venue = refl;
-      sessions = refl;
-      session = refl;
-      window = refl;
-      front = refl;
-      known = refl;
-      end = refl;
-      wins = refl;
-      earlier = refl;
-    };
+    arbiter = keeping_all_but_sent_is_reflexive;
     lane = refl;
     others = refl;
   };
@@ -533,7 +512,7 @@ module _ (pushed : ℕ) (old between new : CellState) (r : PushesSoFar pushed ol
       record {
         sent = omega (arith, longer, before);
         others = record {
-          arbiter = arbiter_keeps old.arbiter between.arbiter new.arbiter r.others.arbiter next.arbiter;
+          arbiter = keeping_all_but_sent_is_transitive r.others.arbiter next.arbiter;
           lane = next.lane ∙ ap (λ (e : LaneEnd Numbered). with_items e new.lane.items) r.others.lane;
           others = next.others
               ∙ ap (λ (s : CellState). record s { arbiter = new.arbiter; lane = new.lane }) r.others.others;

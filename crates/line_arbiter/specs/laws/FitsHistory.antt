@@ -13,35 +13,49 @@ use Rattle.line_arbiter.specs.Renewals.{IsRenewal}
 use Rattle.line_arbiter.specs.Histories.{History, all_begun, after_arrival, after_renewal, names_of, new_history, wins_in}
 use Rattle.feed_types.specs.PerLines.{on_all, on_line}
 use Rattle.line_arbiter.specs.Counts.{shown}
-use Rattle.line_arbiter.specs.States.{State, ordinal_of, IsNew, IsRenewed, KeepsAllButSent, KeepsItsPlace, KeepsItsSession}
+use Rattle.line_arbiter.specs.States.{State, ordinal_of, IsNew, IsRenewed, KeepsAllButSent, KeepsItsSession}
 use Rattle.line_arbiter.specs.Fits.{Fits, FitsHistory}
 use Rattle.line_arbiter.specs.laws.Histories.{names_length, names_next, names_same, wins_push}
 
 -- ---- what is kept
 
-pub keeps_session : {old new : State} → KeepsItsPlace old new → KeepsItsSession old new
-keeps_session kept =
-    record {
-      venue = kept.venue;
-      sessions = kept.sessions;
-      session = kept.session;
-      window =
-          kept.window;
-      earlier = kept.earlier;
-    }
+-- first one change, and then another
+pub keeping_its_session_is_transitive : {old mid new : State} → KeepsItsSession old mid
+    → KeepsItsSession mid new → KeepsItsSession old new
+keeping_its_session_is_transitive a b = record {
+  venue = b.venue ∙ a.venue;
+  sessions = b.sessions ∙ a.sessions;
+  session = b.session ∙ a.session;
+  window = b.window ∙ a.window;
+  earlier = b.earlier ∙ a.earlier;
+}
 
--- a packet, and then what it made ready was sent
-pub keeps_sent : {old mid new : State} → KeepsItsSession old mid → KeepsAllButSent mid new
-    → KeepsItsSession old new
-keeps_sent a b =
-    record {
-      venue = b.venue ∙ a.venue;
-      sessions = b.sessions ∙ a.sessions;
-      session = b.session
-          ∙ a.session;
-      window = b.window ∙ a.window;
-      earlier = b.earlier ∙ a.earlier;
-    }
+-- nothing was sent yet
+pub keeping_all_but_sent_is_reflexive : {s : State} → KeepsAllButSent s s
+keeping_all_but_sent_is_reflexive = record {
+  session = record {
+    venue = refl;
+    sessions = refl;
+    session = refl;
+    window = refl;
+    earlier = refl;
+  };
+  front = refl;
+  known = refl;
+  end = refl;
+  wins = refl;
+}
+
+-- and then more was sent
+pub keeping_all_but_sent_is_transitive : {old mid new : State} → KeepsAllButSent old mid
+    → KeepsAllButSent mid new → KeepsAllButSent old new
+keeping_all_but_sent_is_transitive a b = record {
+  session = keeping_its_session_is_transitive a.session b.session;
+  front = b.front ∙ a.front;
+  known = b.known ∙ a.known;
+  end = b.end ∙ a.end;
+  wins = b.wins ∙ a.wins;
+}
 
 -- ---- nothing came yet
 
@@ -86,9 +100,9 @@ pub fits_push : {old new : State} (h : History) → FitsHistory old h → KeepsA
     → Fits new h.present.packets → FitsHistory new h
 fits_push h f kept fits = record {
   present = fits;
-  names = kept.sessions ∙ f.names;
-  session = kept.session ∙ f.session;
-  earlier = λ line. ap (on_line line) kept.earlier ∙ f.earlier line;
+  names = kept.session.sessions ∙ f.names;
+  session = kept.session.session ∙ f.session;
+  earlier = λ line. ap (on_line line) kept.session.earlier ∙ f.earlier line;
 }
 
 -- ---- wins, over all sessions

@@ -2,17 +2,17 @@ use Rattle.std.proofs.Common.{◌≤◌, length, refl, sym, ap, ◌∙◌, arith
 use Rattle.std.specs.Prelude.{map}
 use Rattle.std.proofs.lemmas.Result.{err_from_is_err_and}
 use Rattle.line_arbiter.specs.Streams.{stream_of}
+use Rattle.line_arbiter.specs.laws.FitsHistory.{keeping_all_but_sent_is_reflexive, keeping_all_but_sent_is_transitive}
 use Rattle.feed_text.specs.ReplayEvents.{item_taken}
 use Rattle.feed_text.specs.ReplayStates.{state_of_replay}
 use Rattle.feed_text.proofs.Rest.{rest_at, rest_end, no_more}
 use Rattle.feed_text.proofs.Tales.{took_none, took_one, took_all, took_stop, same_venues}
-use Rattle.feed_text.proofs.VenueSteps.{kept_none, kept_more}
 use Rattle.feed_text.proofs.venue.publish_each.Goals as goal
 
 pub loop-next-init : goal.loop-next-init
 loop-next-init c = record {
   fits = λ P f. f;
-  kept = kept_none c.args.arbiter.now;
+  kept = keeping_all_but_sent_is_reflexive;
   venues = refl;
   emitted = λ P f. took_none _ (state_of_replay c.args.report.now);
 }
@@ -20,7 +20,7 @@ loop-next-init c = record {
 pub loop-next-preserved : goal.loop-next-preserved
 loop-next-preserved c = record {
   fits = λ P f. c.advance.ensures.fits P (c.loop-next.invariant.fits P f);
-  kept = kept_more c.args.arbiter.now c.loop-next.arbiter c.advance.new.self c.loop-next.invariant.kept c.advance.ensures.after.kept;
+  kept = keeping_all_but_sent_is_transitive c.loop-next.invariant.kept c.advance.ensures.after.kept;
   venues = same_venues _ c.in_ok-take_item.ensures ∙ c.loop-next.invariant.venues;
   emitted = λ P f.
       rw c.advance.ensures.after.sent

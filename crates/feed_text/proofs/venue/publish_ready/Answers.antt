@@ -1,11 +1,11 @@
 use Rattle.std.proofs.Common.{◌≤◌, length, sym, ap, ◌∙◌, arith}
 use Rattle.std.specs.Prelude.{map}
 use Rattle.line_arbiter.specs.Streams.{stream_of}
+use Rattle.line_arbiter.specs.laws.FitsHistory.{keeping_all_but_sent_is_reflexive}
 use Rattle.feed_text.specs.ReplayEvents.{item_taken}
 use Rattle.feed_text.specs.ReplayStates.{state_of_replay}
 use Rattle.feed_text.proofs.Rest.{rest_end, no_more}
 use Rattle.feed_text.proofs.Tales.{took_none, took_all}
-use Rattle.feed_text.proofs.VenueSteps.{kept_none}
 use Rattle.feed_text.proofs.venue.publish_ready.Goals as goal
 
 pub returns-in-None : goal.returns-in-None
@@ -19,6 +19,6 @@ returns-in-None c = record {
         let most : length (stream_of P) ≤ c.args.arbiter.now.sent = no_more (stream_of P) c.args.arbiter.now.sent (sym c.in-None.is ∙ here) in
         let least : c.args.arbiter.now.sent ≤ length (stream_of P) = f.sent in
         (f, omega arith);
-    kept = kept_none c.args.arbiter.now;
+    kept = keeping_all_but_sent_is_reflexive;
   };
 }
