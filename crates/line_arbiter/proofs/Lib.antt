@@ -27,6 +27,7 @@ pub mod Answering
 pub mod PacketSteps
 pub mod Passing
 pub mod Ordering
+pub mod NameBytes
 -- the history of a venue
 -- genuine packets, and the laws
 pub mod Naming

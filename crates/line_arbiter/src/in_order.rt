@@ -16,6 +16,7 @@ ghost use Rattle.line_arbiter.specs.Fits.{Fits};
 ghost use Rattle.line_arbiter.specs.Steps.{GoesPast, OrdersPacket};
 
 use crate::arbiter::Arbiter;
+use crate::names::is_same_name;
 use crate::outcome::Outcome;
 use crate::taking::{is_past, raised};
 use crate::wins::add_wins;
@@ -92,7 +93,7 @@ impl<G: Genuine> Arbiter<G> {
         ensures in_order { IfSome result (IsInOrder self.now packet.now) }
         ensures content { IsContent packet.now }
     {
-        if packet.session() != self.session_name {
+        if !is_same_name(&packet.session(), &self.session_name) {
             return None;
         }
         match packet.kind() {

@@ -27,6 +27,7 @@ mod in_order;
 mod intake;
 mod laws;
 mod marks;
+mod names;
 mod outcome;
 mod pacer;
 mod taking;

@@ -12,6 +12,7 @@ ghost use Rattle.line_arbiter.specs.Steps.{IsSound, MessagesStep, HeartbeatStep,
 
 use crate::arbiter::Arbiter;
 use crate::intake::{Intake, next_after, run_after, take_all};
+use crate::names::is_same_name;
 use crate::outcome::{LineFault, Outcome};
 use crate::wins::add_wins;
 use feed_types::{Genuine, LineId};
@@ -146,7 +147,7 @@ impl<G: Genuine> Arbiter<G> {
         ensures sound { IsSound self.new }
     {
         let number = packet.number();
-        if packet.session() != self.session_name {
+        if !is_same_name(&packet.session(), &self.session_name) {
             return Err(LineFault::OtherSession);
         }
         let answer = match packet.kind() {

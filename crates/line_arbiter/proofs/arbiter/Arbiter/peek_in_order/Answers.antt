@@ -1,4 +1,4 @@
-use Rattle.std.proofs.Common.{◌≡◌, ap, sym, rules, ◌∙◌}
+use Rattle.std.proofs.Common.{◌≡◌, ap, sym, ◌∙◌}
 use Rattle.mold_packet.specs.declared.packet.Kind.TheVariants as kinds
 use Rattle.line_arbiter.specs.States.{State}
 use Rattle.line_arbiter.specs.Steps.{IsSound}
@@ -9,7 +9,7 @@ use Rattle.line_arbiter.proofs.arbiter.Arbiter.peek_in_order.Goals.{After-order_
 
 module _ (g : Over) (c : After-order_of g) where
   name : c.args.packet.now.session ≡ c.args.self.now.session
-  name = let same : c.session.result ≡ c.self.inside.session_name = search rules in sym c.session.ensures.value ∙ same ∙ ap (λ (s : State). s.session) c.self.view_is
+  name = sym c.session.ensures.value ∙ c.if-not-is_same_name.ensures ∙ ap (λ (s : State). s.session) c.self.view_is
 
   kind : c.args.packet.now.kind ≡ kinds.Messages
   kind = sym c.in-Messages.ensures.value
