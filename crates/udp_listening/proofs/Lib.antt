@@ -3,4 +3,5 @@ pub mod Ends
 pub mod Following
 pub mod Seeing
 pub mod Telling
+pub mod Watching
 pub mod Wholes

@@ -1,11 +1,17 @@
 -- What is said of lines, one thing after the other.
-use Rattle.std.proofs.Common.{List, [], ◌∷◌, ◌++◌, ℕ, flat_map, refl, sym, subst}
+use Rattle.std.proofs.Common.{List, [], ◌∷◌, ◌++◌, ◌≡◌, ◌≢◌, ◌∙◌, ◌<◌, ℕ, zero, suc, All, Contains, ap, drop, flat_map, get_or, length, map, refl, sym, subst, take, arith}
+use Rattle.std.specs.Prelude.{Bool, false, ◌==◌, if◌then◌else◌}
+use Rattle.std.proofs.lemmas.Bool.Decides.{nat_tests}
 use Rattle.std.proofs.lemmas.Grind.{flat_map-append}
-use Rattle.std.proofs.lemmas.List.{append-nil}
+use Rattle.std.proofs.lemmas.List.{append-nil, get_or-map, length-map, map-append, take-append-drop}
+use Rattle.std.proofs.lemmas.List.Elements.{All-append, Contains-append_left}
+use Rattle.feed_types.specs.declared.line.LineId.{LineId}
 use Rattle.feed_text.specs.Devices.{Writing}
 use Rattle.feed_text.specs.StandardError.{SaysEach}
 use Rattle.feed_text.specs.laws.SaidTexts.{says_each}
-use Rattle.udp_listening.specs.News.{SaysNews, SaysOfLines, SaysTotals, news_texts, total_texts}
+use Rattle.udp_listening.specs.News.{LineCounts, SaysNews, SaysOfLines, SaysTotals, news_texts, total_if, total_texts, totals_of}
+use Rattle.udp_listening.specs.declared.line_news.LineCounted.{LineCounted}
+use Rattle.udp_listening.specs.declared.line_news.LineCounted.TheVariants.{Passed, Unsent}
 use Rattle.udp_listening.specs.declared.line_news.LineNews.{LineNews}
 use Rattle.udp_listening.specs.declared.line_news.LineTotal.{LineTotal}
 
@@ -23,44 +29,148 @@ each_of_more w f xs ys s t u a b =
     subst (λ (texts : List (List ℕ)). SaysEach w texts s u) (sym (flat_map-append f xs ys))
     (says_each w (flat_map f xs) (flat_map f ys) s t u a b)
 
-pub no_news : {E : Type 0} (w : Writing E) (s : E) → SaysNews w s s
-no_news w s = record { news = []; says = refl }
+-- what is so of one thing is so at each place of a list of one
+at_one : {X : Type 0} (P : X → Type 0) (x : X) → P x → (k : ℕ) (d : X) → k < 1 → P (get_or (x ∷ []) k d)
+at_one P x holds zero d inside = holds
+at_one P x holds (suc k) d inside = absurd (omega (arith, inside))
+
+-- what is in a list of one is in each list that has that one
+within_one : {X : Type 0} (xs : List X) (x y : X) → Contains xs x → (k : ℕ) → k < 1
+    → get_or (x ∷ []) k y ≡ y → Contains xs y
+within_one xs x y there zero inside same = subst (λ z. Contains xs z) same there
+within_one xs x y there (suc k) inside same = absurd (omega (arith, inside))
+
+pub no_news : {E : Type 0} (w : Writing E) (lines : List (ℕ × LineId)) (s : E) → SaysNews w lines s s
+no_news w lines s = record { news = []; named = λ k d inside. absurd (omega (arith, inside)); says = refl }
 
 pub one_news : {E : Type 0} (w : Writing E) (news : LineNews) (s t : E)
-    → SaysEach w (news_texts news) s t → SaysNews w s t
-one_news w news s t said = record { news = news ∷ []; says = each_of_one w news_texts news s t said }
+    → SaysEach w (news_texts news) s t → SaysNews w ((news.venue, news.line) ∷ []) s t
+one_news w news s t said = record {
+  news = news ∷ [];
+  named =
+      at_one (λ n. Contains {X = ℕ × LineId} ((news.venue, news.line) ∷ []) (n.venue, n.line)) news
+      (0, omega arith, refl);
+  says = each_of_one w news_texts news s t said;
+}
 
-pub more_news : {E : Type 0} (w : Writing E) (s t u : E)
-    → SaysNews w s t → SaysNews w t u → SaysNews w s u
-more_news w s t u a b = record {
+pub more_news : {E : Type 0} (w : Writing E) (lines : List (ℕ × LineId)) (s t u : E)
+    → SaysNews w lines s t → SaysNews w lines t u → SaysNews w lines s u
+more_news w lines s t u a b = record {
   news = a.news ++ b.news;
+  named = All-append (λ n. Contains lines (n.venue, n.line)) a.news b.news a.named b.named;
   says = each_of_more w news_texts a.news b.news s t u a.says b.says;
 }
 
-pub no_totals : {E : Type 0} (w : Writing E) (s : E) → SaysTotals w s s
-no_totals w s = record { totals = []; says = refl }
+-- news of a line is news of the lines among which it is
+pub news_within : {E : Type 0} (w : Writing E) (lines : List (ℕ × LineId)) (line : ℕ × LineId) (s t : E)
+    → Contains lines line → SaysNews w (line ∷ []) s t → SaysNews w lines s t
+news_within w lines line s t there a = record {
+  news = a.news;
+  named = λ k d inside.
+      let held = a.named k d inside in within_one lines line _ there held.0 held.1 held.2;
+  says = a.says;
+}
 
-pub one_total : {E : Type 0} (w : Writing E) (total : LineTotal) (s t : E)
-    → SaysEach w (total_texts total) s t → SaysTotals w s t
-one_total w total s t said =
-    record { totals = total ∷ []; says = each_of_one w total_texts total s t said }
+-- what is made of a list's thing is in the list of what is made of them all
+pub made_within : {X Y : Type 0} (f : X → Y) (xs : List X) (k : ℕ) (d : X)
+    → k < length xs → Contains (map f xs) (f (get_or xs k d))
+made_within f xs k d inside = (
+  k,
+  subst (λ n. k < n) (sym (length-map xs f)) inside,
+  get_or-map f xs k d (f (get_or xs k d)) inside,
+)
 
-pub more_totals : {E : Type 0} (w : Writing E) (s t u : E)
-    → SaysTotals w s t → SaysTotals w t u → SaysTotals w s u
-more_totals w s t u a b = record {
-  totals = a.totals ++ b.totals;
-  says = each_of_more w total_texts a.totals b.totals s t u a.says b.says;
+-- counts of 0 for each line
+abbrev uncounted : List (ℕ × LineId) → List LineCounts
+uncounted lines = map (λ line. record { line = line; unsent = 0; passed = 0 }) lines
+
+each_uncounted : (lines : List (ℕ × LineId)) → map (λ c. c.line) (uncounted lines) ≡ lines
+each_uncounted [] = refl
+each_uncounted (line ∷ lines) = ap (λ more. line ∷ more) (each_uncounted lines)
+
+none_counted : (lines : List (ℕ × LineId)) → flat_map totals_of (uncounted lines) ≡ []
+none_counted [] = refl
+none_counted (line ∷ lines) = none_counted lines
+
+pub no_totals : {E : Type 0} (w : Writing E) (lines : List (ℕ × LineId)) (s : E) → SaysTotals w lines s s
+no_totals w lines s = record {
+  counts = uncounted lines;
+  one_each = each_uncounted lines;
+  says = subst (λ totals. SaysEach w (flat_map total_texts totals) s s) (sym (none_counted lines)) refl;
+}
+
+-- nothing is said of a count of 0
+pub no_total : {E : Type 0} (w : Writing E) (line : ℕ × LineId) (counted : LineCounted) (count : ℕ) (s : E)
+    → count ≡ 0 → SaysEach w (flat_map total_texts (total_if line counted count)) s s
+no_total w line counted count s none =
+    subst (λ (n : ℕ). SaysEach w (flat_map total_texts (total_if line counted n)) s s) (sym none) refl
+
+-- the total of another count
+pub one_total : {E : Type 0} (w : Writing E) (line : ℕ × LineId) (counted : LineCounted) (count : ℕ) (s t : E)
+    → count ≢ 0
+    → SaysEach w (total_texts (record { venue = line.0; line = line.1; counted = counted; count = count })) s t
+    → SaysEach w (flat_map total_texts (total_if line counted count)) s t
+one_total w line counted count s t some said =
+    let positive : (count == 0) ≡ false = grind (arith, nat_tests, some) in
+    let total : LineTotal = record { venue = line.0; line = line.1; counted = counted; count = count } in
+    subst (λ (none : Bool). SaysEach w (flat_map total_texts (if none then [] else total ∷ [])) s t) (sym positive)
+    (each_of_one w total_texts total s t said)
+
+-- both totals of a line
+pub totals_of_line : {E : Type 0} (w : Writing E) (line : ℕ × LineId) (unsent passed : ℕ) (s t u : E)
+    → SaysEach w (flat_map total_texts (total_if line Unsent unsent)) s t
+    → SaysEach w (flat_map total_texts (total_if line Passed passed)) t u
+    → SaysTotals w (line ∷ []) s u
+totals_of_line w line unsent passed s t u a b =
+    let counts : LineCounts = record { line = line; unsent = unsent; passed = passed } in record {
+      counts = counts ∷ [];
+      one_each = refl;
+      says =
+          subst (λ totals. SaysEach w (flat_map total_texts totals) s u) (sym (append-nil (totals_of counts)))
+          (each_of_more w total_texts (total_if line Unsent unsent) (total_if line Passed passed) s t u a b);
+    }
+
+pub more_totals : {E : Type 0} (w : Writing E) (lines more : List (ℕ × LineId)) (s t u : E)
+    → SaysTotals w lines s t → SaysTotals w more t u → SaysTotals w (lines ++ more) s u
+more_totals w lines more s t u a b = record {
+  counts = a.counts ++ b.counts;
+  one_each =
+      map-append (λ c. c.line) a.counts b.counts
+      ∙ ap (λ first. first ++ map (λ c. c.line) b.counts) a.one_each
+      ∙ ap (λ rest. lines ++ rest) b.one_each;
+  says =
+      subst (λ totals. SaysEach w (flat_map total_texts totals) s u)
+      (sym (flat_map-append totals_of a.counts b.counts))
+      (each_of_more w total_texts (flat_map totals_of a.counts) (flat_map totals_of b.counts) s t u a.says b.says);
 }
 
 -- nothing was said of lines
-pub nothing_of_lines : {E : Type 0} (w : Writing E) (s : E) → SaysOfLines w s s
-nothing_of_lines w s = record { mid = s; news = no_news w s; totals = no_totals w s }
+pub nothing_of_lines : {E : Type 0} (w : Writing E) (lines : List (ℕ × LineId)) (s : E)
+    → SaysOfLines w lines s s
+nothing_of_lines w lines s =
+    record { mid = s; news = no_news w lines s; totals = no_totals w lines s }
 
 -- news, and then the same and totals
-pub more_of_lines : {E : Type 0} (w : Writing E) (s t u : E)
-    → SaysNews w s t → SaysOfLines w t u → SaysOfLines w s u
-more_of_lines w s t u a b = record {
+pub more_of_lines : {E : Type 0} (w : Writing E) (lines : List (ℕ × LineId)) (s t u : E)
+    → SaysNews w lines s t → SaysOfLines w lines t u → SaysOfLines w lines s u
+more_of_lines w lines s t u a b = record {
   mid = b.mid;
-  news = more_news w s t b.mid a b.news;
+  news = more_news w lines s t b.mid a b.news;
   totals = b.totals;
 }
+
+-- what is said of the first lines is said of all
+pub said_of_first : {E : Type 0} (w : Writing E) (count : ℕ) (lines : List (ℕ × LineId)) (s t : E)
+    → SaysOfLines w (take count lines) s t → SaysOfLines w lines s t
+said_of_first w count lines s t said =
+    let first = take count lines in
+    let rest = drop count lines in
+    subst (λ all. SaysOfLines w all s t) (take-append-drop count lines) (record {
+      mid = said.mid;
+      news = record {
+        news = said.news.news;
+        named = λ k d inside. Contains-append_left first rest _ (said.news.named k d inside);
+        says = said.news.says;
+      };
+      totals = more_totals w first rest said.mid t t said.totals (no_totals w rest t);
+    })

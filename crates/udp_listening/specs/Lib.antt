@@ -1,3 +1,4 @@
 pub mod Listening
 pub mod News
+pub mod RunLines
 pub mod UdpLines

@@ -1,6 +1,6 @@
 -- `nbbo listen`: its settings, what it prints of what came, and how it ends. The texts are this
 -- project's own.
-use Rattle.std.specs.Prelude.{◌≡◌, ◌⊎◌, ℕ, ◌+◌, ◌≤◌, ◌%◌, ◌==◌, Bool, false, List, [], ◌∷◌, ◌++◌, length, drop, flat_map, slice_get, take, Option, Some, None, Result, Ok, Err, if◌then◌else◌, codes, decimal}
+use Rattle.std.specs.Prelude.{◌≡◌, ◌⊎◌, ℕ, ◌+◌, ◌≤◌, ◌==◌, Bool, false, List, [], ◌∷◌, ◌++◌, length, drop, flat_map, slice_get, take, Option, Some, None, Result, Ok, Err, if◌then◌else◌, codes, decimal}
 use Rattle.feed_types.specs.declared.config.FeedConfig.{FeedConfig}
 use Rattle.feed_types.specs.declared.line.LineId.{LineId}
 use Rattle.feed_types.specs.declared.line.LineId.TheVariants.{A, B, Recovery}
@@ -14,6 +14,7 @@ use Rattle.live_feed.specs.venue.Seats.{SeatState}
 use Rattle.live_feed.specs.settle.Settlements.{SettlementState, VenueEndState, SubscriberEndState}
 use Rattle.feed_text.specs.StandardError.{Says, SaysEach}
 use Rattle.udp_listening.specs.News.{SaysOfLines}
+use Rattle.udp_listening.specs.RunLines.{lines_of}
 use Rattle.udp_listening.specs.UdpLines.{UdpLineState}
 use Rattle.udp_listening.specs.declared.desk.Desk.{Desk}
 use Rattle.udp_listening.specs.declared.desk.Following.{Following}
@@ -45,10 +46,6 @@ pub record IsSourceOf (settings : ListenSettings) (venue : ℕ) (line : UdpLineS
   pub left : line.left ≡ settings.datagrams
   pub whole : line.failed ≡ false
   pub unended : line.ended ≡ false
-
--- the line of an address: line A's and then line B's, those of venue 0 first
-abbrev pub line_at : ℕ → LineId
-line_at place = if place % 2 == 0 then A else B
 
 -- ---- the lines at the end
 
@@ -296,5 +293,5 @@ pub record Listens {W E : Type 0} (writing : Writing W) (telling : Writing E)
     (settings : ListenSettings) (before after : W) (silent told : E) (status : ℕ) : Type 0 where
   pub outcome : Result ListenReport ListenFault
   pub counted : E
-  pub quiet : settings.stats ≡ None → SaysOfLines telling silent counted
+  pub quiet : settings.stats ≡ None → SaysOfLines telling (lines_of settings) silent counted
   pub ends : ListensToEnd writing telling outcome before after counted told status

@@ -1,6 +1,6 @@
 -- What standard error has of lines while a run goes on, and at its end. The texts are this project's
 -- own.
-use Rattle.std.specs.Prelude.{ℕ, ◌==◌, List, [], ◌∷◌, ◌++◌, flat_map, if◌then◌else◌, codes, decimal}
+use Rattle.std.specs.Prelude.{◌≡◌, ℕ, ◌==◌, List, [], ◌∷◌, ◌++◌, All, Contains, flat_map, map, if◌then◌else◌, codes, decimal}
 use Rattle.feed_types.specs.declared.line.LineId.{LineId}
 use Rattle.feed_types.specs.declared.line.LineId.TheVariants.{A, B, Recovery}
 use Rattle.feed_text.specs.Devices.{Writing}
@@ -8,7 +8,7 @@ use Rattle.feed_text.specs.StandardError.{SaysEach}
 use Rattle.udp_listening.specs.declared.line_news.LineChange.{LineChange}
 use Rattle.udp_listening.specs.declared.line_news.LineChange.TheVariants as changes
 use Rattle.udp_listening.specs.declared.line_news.LineCounted.{LineCounted}
-use Rattle.udp_listening.specs.declared.line_news.LineCounted.TheVariants as counts
+use Rattle.udp_listening.specs.declared.line_news.LineCounted.TheVariants as kinds
 use Rattle.udp_listening.specs.declared.line_news.LineNews.{LineNews}
 use Rattle.udp_listening.specs.declared.line_news.LineTotal.{LineTotal}
 
@@ -42,13 +42,13 @@ news_texts news =
 -- ---- what was counted of a line
 
 abbrev pub verb_text : LineCounted → List ℕ
-verb_text counts.Unsent = codes " couldn't send "
-verb_text counts.Passed = codes " went on after "
+verb_text kinds.Unsent = codes " couldn't send "
+verb_text kinds.Passed = codes " went on after "
 
 abbrev pub counted_text : LineCounted → ℕ → List ℕ
-counted_text counts.Unsent count =
+counted_text kinds.Unsent count =
     if count == 1 then codes " request\n" else codes " requests\n"
-counted_text counts.Passed count =
+counted_text kinds.Passed count =
     if count == 1 then codes " end of session\n" else codes " ends of session\n"
 
 -- how many there were of what is counted
@@ -60,20 +60,44 @@ abbrev pub total_texts : LineTotal → List (List ℕ)
 total_texts total =
     codes "nbbo: line " ∷ (line_name_texts total.venue total.line ++ counted_texts total)
 
+-- what was counted of a line: the requests that couldn't be sent, and the ends of session after which
+-- it went on
+pub record LineCounts : Type 0 where
+  pub line : ℕ × LineId
+  pub unsent : ℕ
+  pub passed : ℕ
+
+-- the total of a line's count, where that isn't 0
+abbrev pub total_if : ℕ × LineId → LineCounted → ℕ → List LineTotal
+total_if line counted count =
+    if count == 0
+    then []
+    else record { venue = line.0; line = line.1; counted = counted; count = count } ∷ []
+
+-- the totals of a line's counts that aren't 0
+abbrev pub totals_of : LineCounts → List LineTotal
+totals_of c = total_if c.line kinds.Unsent c.unsent ++ total_if c.line kinds.Passed c.passed
+
 -- ---- what was said
 
--- the texts of some news, one after the other, and nothing else
-pub record SaysNews {E : Type 0} (writing : Writing E) (before after : E) : Type 0 where
+-- the texts of some news of these lines, one after the other, and nothing else
+pub record SaysNews {E : Type 0} (writing : Writing E) (lines : List (ℕ × LineId)) (before after : E)
+    : Type 0 where
   pub news : List LineNews
+  pub named : All (λ n. Contains lines (n.venue, n.line)) news
   pub says : SaysEach writing (flat_map news_texts news) before after
 
--- the texts of some totals, one after the other, and nothing else
-pub record SaysTotals {E : Type 0} (writing : Writing E) (before after : E) : Type 0 where
-  pub totals : List LineTotal
-  pub says : SaysEach writing (flat_map total_texts totals) before after
+-- of some counts of each of these lines, in their order, the texts of those that aren't 0, and nothing
+-- else
+pub record SaysTotals {E : Type 0} (writing : Writing E) (lines : List (ℕ × LineId))
+    (before after : E) : Type 0 where
+  pub counts : List LineCounts
+  pub one_each : map (λ c. c.line) counts ≡ lines
+  pub says : SaysEach writing (flat_map total_texts (flat_map totals_of counts)) before after
 
--- news, and then totals
-pub record SaysOfLines {E : Type 0} (writing : Writing E) (before after : E) : Type 0 where
+-- news of these lines, and then totals of each
+pub record SaysOfLines {E : Type 0} (writing : Writing E) (lines : List (ℕ × LineId))
+    (before after : E) : Type 0 where
   pub mid : E
-  pub news : SaysNews writing before mid
-  pub totals : SaysTotals writing mid after
+  pub news : SaysNews writing lines before mid
+  pub totals : SaysTotals writing lines mid after

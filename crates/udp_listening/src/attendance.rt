@@ -5,6 +5,7 @@ ghost use Rattle.std.specs.Prelude.{◌≡◌, IfOk, None};
 ghost use Rattle.feed_text.specs.Devices.{Writing};
 ghost use Rattle.udp_listening.specs.Listening.{KeepsFollowing};
 ghost use Rattle.udp_listening.specs.News.{SaysNews, SaysOfLines};
+ghost use Rattle.udp_listening.specs.RunLines.{watched_lines};
 
 use crate::attendant::{Attendant, Turn};
 use crate::closed_run::{ClosedRun, RunOutcome, closed_run};
@@ -40,9 +41,10 @@ impl<N: FeedName, C: Clock + Drop, W: TextOut, E: TextOut> Attendance<N, C, W, E
         requires { S.IsAlwaysCallable status }
         ensures shows { KeepsFollowing (record { adds = W.adds; failures = W.failures })
             self.log.lines self.desk result.log.lines result.desk }
+        ensures lines { watched_lines result.watches ≡ watched_lines self.watches }
         ensures quiet { self.attendant.counts ≡ None
             → SaysNews (record { adds = E.adds; failures = E.failures })
-            self.desk.errors result.desk.errors × (result.attendant.counts ≡ None) }
+            (watched_lines self.watches) self.desk.errors result.desk.errors × (result.attendant.counts ≡ None) }
     {
         let mut attendance = self;
         for _ in rt.forever() {
@@ -65,8 +67,9 @@ impl<N: FeedName, C: Clock + Drop, W: TextOut, E: TextOut> Attendance<N, C, W, E
     fn turn<R: Wait>(&mut self, rt: &R) -> Turn
         ensures shows { KeepsFollowing (record { adds = W.adds; failures = W.failures })
             self.old.log.lines self.old.desk self.new.log.lines self.new.desk }
+        ensures lines { watched_lines self.new.watches ≡ watched_lines self.old.watches }
         ensures news { SaysNews (record { adds = E.adds; failures = E.failures })
-            self.old.desk.errors self.new.desk.errors }
+            (watched_lines self.old.watches) self.old.desk.errors self.new.desk.errors }
         ensures counts { self.new.attendant.counts ≡ self.old.attendant.counts }
     {
         let is_over = self.attendant.is_over();
@@ -83,8 +86,9 @@ impl<N: FeedName, C: Clock + Drop, W: TextOut, E: TextOut> Attendance<N, C, W, E
         ensures desk { self.new.desk ≡ record (self.old.desk) { errors = self.new.desk.errors } }
         ensures log { self.new.log ≡ self.old.log }
         ensures attendant { self.new.attendant ≡ self.old.attendant }
+        ensures lines { watched_lines self.new.watches ≡ watched_lines self.old.watches }
         ensures news { SaysNews (record { adds = E.adds; failures = E.failures })
-            self.old.desk.errors self.new.desk.errors }
+            (watched_lines self.old.watches) self.old.desk.errors self.new.desk.errors }
     {
         let second = self.attendant.elapsed_ms() / 1_000;
         self.watches.write_news(second, &mut self.desk.errors);
@@ -96,7 +100,7 @@ impl<N: FeedName, C: Clock + Drop, W: TextOut, E: TextOut> Attendance<N, C, W, E
         ensures log { self.new.log ≡ self.old.log }
         ensures attendant { self.new.attendant ≡ self.old.attendant }
         ensures says { SaysOfLines (record { adds = E.adds; failures = E.failures })
-            self.old.desk.errors self.new.desk.errors }
+            (watched_lines self.old.watches) self.old.desk.errors self.new.desk.errors }
     {
         self.say_news();
         self.watches.write_totals(&mut self.desk.errors);
@@ -107,6 +111,7 @@ impl<N: FeedName, C: Clock + Drop, W: TextOut, E: TextOut> Attendance<N, C, W, E
         requires { S.IsAlwaysCallable status }
         ensures desk { self.new.desk ≡ record (self.old.desk) { errors = self.new.desk.errors } }
         ensures log { self.new.log ≡ self.old.log }
+        ensures watches { self.new.watches ≡ self.old.watches }
         ensures quiet { self.old.attendant.counts ≡ None
             → (self.new.desk.errors ≡ self.old.desk.errors) × (self.new.attendant.counts ≡ None) }
     {
@@ -141,7 +146,7 @@ impl<N: FeedName, C: Clock + Drop, W: TextOut, E: TextOut> Attendance<N, C, W, E
         ensures desk { result.1 ≡ record (self.desk) { errors = result.1.errors } }
         ensures quiet { self.attendant.counts ≡ None
             → SaysOfLines (record { adds = E.adds; failures = E.failures })
-            self.desk.errors result.1.errors }
+            (watched_lines self.watches) self.desk.errors result.1.errors }
     {
         let mut attendance = self;
         attendance.say_of_lines();

@@ -1,6 +1,9 @@
 //! The lines of a run as the thread beside it sees them: what is news of them, and what was counted.
+ghost use Rattle.std.specs.Prelude.{◌≡◌, ◌∷◌, [], flat_map};
 ghost use Rattle.feed_text.specs.Devices.{Writing};
-ghost use Rattle.udp_listening.specs.News.{SaysNews, SaysTotals};
+ghost use Rattle.feed_text.specs.StandardError.{SaysEach};
+ghost use Rattle.udp_listening.specs.News.{SaysNews, SaysTotals, total_if, total_texts};
+ghost use Rattle.udp_listening.specs.RunLines.{watched, watched_lines};
 
 use crate::line_news::{LineChange, LineCounted, LineNews, LineTotal, write_news, write_total};
 use crate::line_progress::LineProgress;
@@ -20,7 +23,9 @@ pub struct LineWatch {
 
 impl LineWatch {
     /// A line of which nothing was said yet.
-    pub fn new(venue: VenueId, line: LineId, progress: LineProgress) -> LineWatch {
+    pub fn new(venue: VenueId, line: LineId, progress: LineProgress) -> LineWatch
+        ensures { watched result ≡ (venue, line) }
+    {
         LineWatch {
             venue,
             line,
@@ -45,7 +50,9 @@ impl LineWatch {
     }
 
     /// That a request couldn't be sent, where that wasn't said yet.
-    fn new_unsent(&mut self) -> Option<LineChange> {
+    fn new_unsent(&mut self) -> Option<LineChange>
+        ensures { watched self.new ≡ watched self.old }
+    {
         if self.has_said_unsent || self.progress.unsent() == 0 {
             return None;
         }
@@ -54,7 +61,9 @@ impl LineWatch {
     }
 
     /// That the line went on after an end of session, where that wasn't said yet.
-    fn new_passed(&mut self) -> Option<LineChange> {
+    fn new_passed(&mut self) -> Option<LineChange>
+        ensures { watched self.new ≡ watched self.old }
+    {
         if self.has_said_passed || self.progress.passed() == 0 {
             return None;
         }
@@ -63,7 +72,9 @@ impl LineWatch {
     }
 
     /// How the line has ended, if it has, where that wasn't said yet.
-    fn new_end(&mut self) -> Option<LineChange> {
+    fn new_end(&mut self) -> Option<LineChange>
+        ensures { watched self.new ≡ watched self.old }
+    {
         if self.has_said_end {
             return None;
         }
@@ -75,7 +86,7 @@ impl LineWatch {
     /// Writes what has happened to the line, if anything has.
     fn write_change<E: TextOut>(&self, second: u64, change: Option<LineChange>, errors: &mut E)
         ensures { SaysNews (record { adds = E.adds; failures = E.failures })
-            errors.old errors.new }
+            (watched self.now ∷ []) errors.old errors.new }
     {
         let Some(change) = change else {
             return;
@@ -91,8 +102,9 @@ impl LineWatch {
 
     /// Writes what is new of the line.
     fn write_news<E: TextOut>(&mut self, second: u64, errors: &mut E)
-        ensures { SaysNews (record { adds = E.adds; failures = E.failures })
-            errors.old errors.new }
+        ensures line { watched self.new ≡ watched self.old }
+        ensures news { SaysNews (record { adds = E.adds; failures = E.failures })
+            (watched self.old ∷ []) errors.old errors.new }
     {
         // A line ends after all that it has counted, and its end is looked at first, so that nothing is said after it.
         let end = self.new_end();
@@ -105,7 +117,8 @@ impl LineWatch {
 
     /// Writes how many there were of what is counted, if there were any.
     fn write_total<E: TextOut>(&self, counted: LineCounted, count: u64, errors: &mut E)
-        ensures { SaysTotals (record { adds = E.adds; failures = E.failures })
+        ensures { SaysEach (record { adds = E.adds; failures = E.failures })
+            (flat_map total_texts (total_if (watched self.now) counted count))
             errors.old errors.new }
     {
         if count == 0 {
@@ -123,7 +136,7 @@ impl LineWatch {
     /// Writes what was counted of the line.
     fn write_totals<E: TextOut>(&self, errors: &mut E)
         ensures { SaysTotals (record { adds = E.adds; failures = E.failures })
-            errors.old errors.new }
+            (watched self.now ∷ []) errors.old errors.new }
     {
         self.write_total(LineCounted::Unsent, self.progress.unsent(), errors);
         self.write_total(LineCounted::Passed, self.progress.passed(), errors);
@@ -138,14 +151,17 @@ pub struct LineWatches {
 
 impl LineWatches {
     /// These lines.
-    pub fn new(lines: Vec<LineWatch>) -> LineWatches {
+    pub fn new(lines: Vec<LineWatch>) -> LineWatches
+        ensures { result ≡ record { lines = lines } }
+    {
         LineWatches { lines }
     }
 
     /// Writes what is new of the line at a place, if there is one.
     fn write_news_at<E: TextOut>(&mut self, place: usize, second: u64, errors: &mut E)
-        ensures { SaysNews (record { adds = E.adds; failures = E.failures })
-            errors.old errors.new }
+        ensures lines { watched_lines self.new ≡ watched_lines self.old }
+        ensures news { SaysNews (record { adds = E.adds; failures = E.failures })
+            (watched_lines self.old) errors.old errors.new }
     {
         match self.lines.get_mut(place) {
             Some(line) => line.write_news(second, errors),
@@ -155,8 +171,9 @@ impl LineWatches {
 
     /// Writes what is new of the lines, `second` seconds after the beginning.
     pub fn write_news<E: TextOut>(&mut self, second: u64, errors: &mut E)
-        ensures { SaysNews (record { adds = E.adds; failures = E.failures })
-            errors.old errors.new }
+        ensures lines { watched_lines self.new ≡ watched_lines self.old }
+        ensures news { SaysNews (record { adds = E.adds; failures = E.failures })
+            (watched_lines self.old) errors.old errors.new }
     {
         for place in 0..self.lines.len() {
             self.write_news_at(place, second, errors);
@@ -166,7 +183,7 @@ impl LineWatches {
     /// Writes what was counted of the lines.
     pub fn write_totals<E: TextOut>(&self, errors: &mut E)
         ensures { SaysTotals (record { adds = E.adds; failures = E.failures })
-            errors.old errors.new }
+            (watched_lines self.now) errors.old errors.new }
     {
         for line in self.lines.as_slice() {
             line.write_totals(errors);

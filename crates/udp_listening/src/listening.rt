@@ -3,6 +3,7 @@ ghost use Rattle.std.specs.Prelude.{◌≡◌, Err, None};
 ghost use Rattle.feed_text.specs.Devices.{Writing};
 ghost use Rattle.udp_listening.specs.Listening.{HasListened, IsFeedOf, IsUnprinted, KeepsFollowing};
 ghost use Rattle.udp_listening.specs.News.{SaysNews, SaysOfLines};
+ghost use Rattle.udp_listening.specs.RunLines.{watched_lines};
 
 use crate::attendance::Attendance;
 use crate::attendant::Attendant;
@@ -151,7 +152,7 @@ where
         result.desk.output }
     ensures quiet { task.attendant.counts ≡ None
         → SaysOfLines (record { adds = E.adds; failures = E.failures })
-        task.desk.errors result.desk.errors }
+        (watched_lines task.watches) task.desk.errors result.desk.errors }
 {
     let ListenTask {
         sources,
@@ -197,9 +198,10 @@ where
         || -> Attendance<N, C, W, E>
             ensures shows { KeepsFollowing (record { adds = W.adds; failures = W.failures })
                 attendance.log.lines attendance.desk result.log.lines result.desk }
+            ensures lines { watched_lines result.watches ≡ watched_lines attendance.watches }
             ensures quiet { attendance.attendant.counts ≡ None
                 → SaysNews (record { adds = E.adds; failures = E.failures })
-                attendance.desk.errors result.desk.errors
+                (watched_lines attendance.watches) attendance.desk.errors result.desk.errors
                 × (result.attendant.counts ≡ None) }
         { attendance.attend(rt, &stop, |venue| feed.status(rt, venue).ok()) },
     );

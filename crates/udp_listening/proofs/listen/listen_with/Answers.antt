@@ -1,9 +1,10 @@
-use Rattle.std.proofs.Common.{[], ◌≡◌, Err, ap, subst, sym}
+use Rattle.std.proofs.Common.{[], ◌≡◌, Err, ap, length, subst, sym}
 use Rattle.feed_text.specs.Devices.{Writing}
 use Rattle.udp_listening.specs.Listening.{ListensToEnd}
 use Rattle.udp_listening.specs.News.{SaysOfLines}
+use Rattle.udp_listening.specs.RunLines.{lines_of}
 use Rattle.udp_listening.specs.declared.listening.ListenFault.TheVariants.{NoMemory}
-use Rattle.udp_listening.proofs.Telling.{nothing_of_lines}
+use Rattle.udp_listening.proofs.Telling.{nothing_of_lines, said_of_first}
 use Rattle.udp_listening.proofs.Wholes.{listened}
 use Rattle.udp_listening.proofs.listen.listen_with.Goals as goal
 
@@ -18,8 +19,8 @@ returns-in_default g c =
       outcome = Err NoMemory;
       counted = desk.errors;
       quiet = λ none.
-          subst (λ (told : g.row.E.Denot). SaysOfLines telling c.args.errors told)
-          (sym (ap (λ d. d.errors) c.new-desk.ensures.desk)) (nothing_of_lines telling c.args.errors);
+          subst (λ (told : g.row.E.Denot). SaysOfLines telling (lines_of c.args.settings.now) c.args.errors told)
+          (sym (ap (λ d. d.errors) c.new-desk.ensures.desk)) (nothing_of_lines telling (lines_of c.args.settings.now) c.args.errors);
       ends =
           subst (λ (first : g.row.W.Denot). ListensToEnd writing telling (Err NoMemory) first
           ended.new.desk.output desk.errors ended.new.desk.errors ended.result) output
@@ -41,9 +42,12 @@ returns g c =
       outcome = outcome;
       counted = desk.errors;
       quiet = λ none.
-          subst (λ (silent : g.row.E.Denot). SaysOfLines telling silent desk.errors)
+          let lines = lines_of c.args.settings.now in
+          subst (λ (silent : g.row.E.Denot). SaysOfLines telling lines silent desk.errors)
           (ap (λ d. d.errors) c.new-desk.ensures.desk)
-          (c.run_feed-outcome.ensures.quiet (c.in-Ok-Ok-Ok.ensures'' none));
+          (said_of_first telling (length c.args.sockets.items) lines before.errors desk.errors
+          (subst (λ first. SaysOfLines telling first before.errors desk.errors) c.in-Ok-Ok-Ok.ensures'
+          (c.run_feed-outcome.ensures.quiet (c.in-Ok-Ok-Ok.ensures'' none))));
       ends =
           subst (λ (first : g.row.W.Denot). ListensToEnd writing telling outcome first
           ended.new.desk.output desk.errors ended.new.desk.errors ended.result) output

@@ -1,4 +1,4 @@
-use Rattle.std.proofs.Common.{◌≡◌, [], ◌∷◌, ◌∙◌, ap, map, subst, sym, List}
+use Rattle.std.proofs.Common.{◌≡◌, ℕ, [], ◌∷◌, ◌∙◌, ap, map, subst, sym, List}
 use Rattle.std.proofs.lemmas.Result.{IfOk-at_ok}
 use Rattle.std.specs.Prelude.{Result, Err, codes}
 use mir.Syntax.{Sym, named}
@@ -15,6 +15,7 @@ use Rattle.std.specs.contracts.alloc.Global as Global
 use Rattle.std.specs.contracts.impls.GlobalAllocator.TheImpl.{ghosts as heap}
 use Rattle.feed_types.specs.contracts.genuine.Anything as Anything
 use Rattle.feed_types.specs.contracts.genuine.AnythingGenuine.TheImpl.{ghosts as anything}
+use Rattle.feed_types.specs.declared.line.LineId.{LineId}
 use Rattle.feed_text.specs.Devices.{Writing}
 use Rattle.filter_terms.specs.contracts.filter.Filter.of.dyn-1.{slots}
 use Rattle.live_feed.specs.contracts.feed.open_feed.OpenFeed as OpenFeed
@@ -22,6 +23,7 @@ use Rattle.live_feed.specs.contracts.run.line.Line as Line
 use Rattle.live_feed.specs.declared.subscriber.logged.Logged.{Logged}
 use Rattle.udp_listening.specs.Listening.{HasFollowed, HasListened}
 use Rattle.udp_listening.specs.News.{SaysOfLines}
+use Rattle.udp_listening.specs.RunLines.{watched_lines}
 use Rattle.udp_listening.specs.declared.desk.Desk.{Desk}
 use Rattle.udp_listening.specs.declared.listening.ListenFault.{ListenFault}
 use Rattle.udp_listening.specs.declared.listening.ListenFault.TheVariants.{NoMemory}
@@ -104,35 +106,38 @@ pub returns-clause-quiet : goal.returns-clause-quiet
 returns-clause-quiet g c =
     λ none.
     let w : Writing g.row.E.Denot = record { adds = g.E.TextOut.adds; failures = g.E.TextOut.failures } in
-    let beside = c.join-ran.ensures.second.1 none in
-    more_of_lines w c.args.task.desk.errors c.join-ran.result.1.desk.errors c.close-closed.result.1.errors
-    beside.0 (c.close-closed.ensures.quiet beside.1)
+    let beside = c.join-ran.ensures.second.1.1 none in
+    more_of_lines w (watched_lines c.args.task.watches) c.args.task.desk.errors c.join-ran.result.1.desk.errors
+    c.close-closed.result.1.errors beside.0
+    (subst (λ lines. SaysOfLines w lines c.join-ran.result.1.desk.errors c.close-closed.result.1.errors)
+    c.join-ran.ensures.second.1.0 (c.close-closed.ensures.quiet beside.1))
 
 -- where there is no report
-untold : {W E : Type 0} (w : Writing E) (s : E) (desk : Desk W E) (fault : ListenFault) (r : Listened W E)
-    → r ≡ record { outcome = Err fault; desk = desk } → SaysOfLines w s desk.errors → SaysOfLines w s r.desk.errors
-untold w s desk fault r is said = subst (λ r. SaysOfLines w s r.desk.errors) (sym is) said
+untold : {W E : Type 0} (w : Writing E) (lines : List (ℕ × LineId)) (s : E) (desk : Desk W E) (fault : ListenFault) (r : Listened W E)
+    → r ≡ record { outcome = Err fault; desk = desk } → SaysOfLines w lines s desk.errors
+    → SaysOfLines w lines s r.desk.errors
+untold w lines s desk fault r is said = subst (λ r. SaysOfLines w lines s r.desk.errors) (sym is) said
 
 pub returns-in_default-clause-quiet : goal.returns-in_default-clause-quiet
 returns-in_default-clause-quiet g c =
     λ none.
     let w : Writing g.row.E.Denot = record { adds = g.E.TextOut.adds; failures = g.E.TextOut.failures } in
-    untold w c.args.task.desk.errors c.args.task.desk NoMemory _ c.unreported.ensures
-    (nothing_of_lines w c.args.task.desk.errors)
+    untold w (watched_lines c.args.task.watches) c.args.task.desk.errors c.args.task.desk NoMemory _ c.unreported.ensures
+    (nothing_of_lines w (watched_lines c.args.task.watches) c.args.task.desk.errors)
 
 pub returns-in-Err-clause-quiet : goal.returns-in-Err-clause-quiet
 returns-in-Err-clause-quiet g c =
     λ none.
     let w : Writing g.row.E.Denot = record { adds = g.E.TextOut.adds; failures = g.E.TextOut.failures } in
-    untold w c.args.task.desk.errors c.args.task.desk _ _ c.unreported-in-Err.ensures
-    (nothing_of_lines w c.args.task.desk.errors)
+    untold w (watched_lines c.args.task.watches) c.args.task.desk.errors c.args.task.desk _ _ c.unreported-in-Err.ensures
+    (nothing_of_lines w (watched_lines c.args.task.watches) c.args.task.desk.errors)
 
 pub returns-in_default-2-clause-quiet : goal.returns-in_default-2-clause-quiet
 returns-in_default-2-clause-quiet g c =
     λ none.
     let w : Writing g.row.E.Denot = record { adds = g.E.TextOut.adds; failures = g.E.TextOut.failures } in
-    untold w c.args.task.desk.errors c.args.task.desk NoMemory _ c.unreported-in_default-2.ensures
-    (nothing_of_lines w c.args.task.desk.errors)
+    untold w (watched_lines c.args.task.watches) c.args.task.desk.errors c.args.task.desk NoMemory _ c.unreported-in_default-2.ensures
+    (nothing_of_lines w (watched_lines c.args.task.watches) c.args.task.desk.errors)
 
 pub returns-in_default-2-clause-listened : goal.returns-in_default-2-clause-listened
 returns-in_default-2-clause-listened g c =
@@ -144,19 +149,23 @@ pub returns-in-Err-closed-clause-quiet : goal.returns-in-Err-closed-clause-quiet
 returns-in-Err-closed-clause-quiet g c =
     λ none.
     let w : Writing g.row.E.Denot = record { adds = g.E.TextOut.adds; failures = g.E.TextOut.failures } in
-    let beside = c.join-ran.ensures.second.1 none in
-    untold w c.args.task.desk.errors c.close-closed.result.1 _ _ c.unreported-in-Err-closed.ensures
-    (more_of_lines w c.args.task.desk.errors c.join-ran.result.1.desk.errors c.close-closed.result.1.errors
-    beside.0 (c.close-closed.ensures.quiet beside.1))
+    let beside = c.join-ran.ensures.second.1.1 none in
+    untold w (watched_lines c.args.task.watches) c.args.task.desk.errors c.close-closed.result.1 _ _ c.unreported-in-Err-closed.ensures
+    (more_of_lines w (watched_lines c.args.task.watches) c.args.task.desk.errors c.join-ran.result.1.desk.errors
+    c.close-closed.result.1.errors beside.0
+    (subst (λ lines. SaysOfLines w lines c.join-ran.result.1.desk.errors c.close-closed.result.1.errors)
+    c.join-ran.ensures.second.1.0 (c.close-closed.ensures.quiet beside.1)))
 
 pub returns-in_default-from_array-clause-quiet : goal.returns-in_default-from_array-clause-quiet
 returns-in_default-from_array-clause-quiet g c =
     λ none.
     let w : Writing g.row.E.Denot = record { adds = g.E.TextOut.adds; failures = g.E.TextOut.failures } in
-    let beside = c.join-ran.ensures.second.1 none in
-    untold w c.args.task.desk.errors c.close-closed.result.1 NoMemory _ c.unreported-in_default-from_array.ensures
-    (more_of_lines w c.args.task.desk.errors c.join-ran.result.1.desk.errors c.close-closed.result.1.errors
-    beside.0 (c.close-closed.ensures.quiet beside.1))
+    let beside = c.join-ran.ensures.second.1.1 none in
+    untold w (watched_lines c.args.task.watches) c.args.task.desk.errors c.close-closed.result.1 NoMemory _ c.unreported-in_default-from_array.ensures
+    (more_of_lines w (watched_lines c.args.task.watches) c.args.task.desk.errors c.join-ran.result.1.desk.errors
+    c.close-closed.result.1.errors beside.0
+    (subst (λ lines. SaysOfLines w lines c.join-ran.result.1.desk.errors c.close-closed.result.1.errors)
+    c.join-ran.ensures.second.1.0 (c.close-closed.ensures.quiet beside.1)))
 
 -- The closure that runs the feed has where it marks its progress, references to the feed, to the
 -- machine's handle and to the heap, and the lines. `search` reaches its limits at the whole of it.

@@ -1,10 +1,13 @@
-use Rattle.std.proofs.Common.{◌≡◌, ◌∙◌, List, ap, subst, sym}
+use Rattle.std.proofs.Common.{◌≡◌, ◌∙◌, ℕ, List, Option, None, ap, refl, subst, sym}
+use Rattle.feed_types.specs.declared.line.LineId.{LineId}
 use Rattle.feed_text.specs.Devices.{Writing}
 use Rattle.live_feed.specs.declared.subscriber.logged.Logged.{Logged}
 use Rattle.udp_listening.specs.Listening.{HasFollowed}
 use Rattle.udp_listening.specs.News.{SaysNews}
+use Rattle.udp_listening.specs.RunLines.{watched_lines}
 use Rattle.udp_listening.specs.declared.desk.Desk.{Desk}
-use Rattle.udp_listening.proofs.Telling.{more_news}
+use Rattle.udp_listening.specs.declared.listen_counts.ListenCounts.{ListenCounts}
+use Rattle.udp_listening.proofs.Telling.{more_news, no_news}
 use Rattle.udp_listening.proofs.attendance.Attendance.attend.Goals.{in-None, in-Some+in-Over, in-Some+in-GiveUp}
 use Rattle.udp_listening.proofs.attendance.Attendance.attend.Goals as goal
 
@@ -17,72 +20,84 @@ shown_beside w first log longer before after same_log same shown =
     subst (λ desk. HasFollowed w first longer desk.following desk.printed desk.output) (sym same)
     (subst (λ lines. HasFollowed w first lines before.following before.printed before.output) (sym same_log) shown)
 
-pub loop-preserved-in-Stop : goal.loop-preserved-in-Stop
-loop-preserved-in-Stop g c = (
-  tt,
-  tt,
-  λ first h. c.turn.ensures.shows first (c.loop.invariant.2 first h),
-  λ none.
-      let w : Writing g.row.E.Denot = record { adds = g.E.TextOut.adds; failures = g.E.TextOut.failures } in
-      let before = c.loop.invariant.3 none in (
-        more_news w c.args.self.desk.errors c.loop.attendance.desk.errors c.turn.new.self.desk.errors
-            before.0 c.turn.ensures.news,
-        c.turn.ensures.counts ∙ before.1,
-      ),
+-- what standard error has without counts, after the news of one more turn
+turned : {E : Type 0} (w : Writing E) (lines now : List (ℕ × LineId)) (s t u : E)
+    (counts after : Option ListenCounts) → now ≡ lines → SaysNews w lines s t × (counts ≡ None)
+    → SaysNews w now t u → after ≡ counts → SaysNews w lines s u × (after ≡ None)
+turned w lines now s t u counts after same before news kept = (
+  more_news w lines s t u before.0 (subst (λ l. SaysNews w l t u) same news),
+  kept ∙ before.1,
 )
 
+pub loop-init : goal.loop-init
+loop-init g c =
+    let w : Writing g.row.E.Denot = record { adds = g.E.TextOut.adds; failures = g.E.TextOut.failures } in
+    let s = c.args.self in
+    (tt, tt, λ first h. h, refl, λ none. (no_news w (watched_lines s.watches) s.desk.errors, none))
+
+pub loop-preserved-in-Stop : goal.loop-preserved-in-Stop
+loop-preserved-in-Stop g c =
+    let w : Writing g.row.E.Denot = record { adds = g.E.TextOut.adds; failures = g.E.TextOut.failures } in (
+      tt,
+      tt,
+      λ first h. c.turn.ensures.shows first (c.loop.invariant.2 first h),
+      c.turn.ensures.lines ∙ c.loop.invariant.3,
+      λ none. turned w _ _ _ _ _ _ _ c.loop.invariant.3 (c.loop.invariant.4 none) c.turn.ensures.news c.turn.ensures.counts,
+    )
+
 pub loop-preserved : goal.loop-preserved
-loop-preserved g c = (
-  tt,
-  tt,
-  λ first h. c.turn.ensures.shows first (c.loop.invariant.2 first h),
-  λ none.
-      let w : Writing g.row.E.Denot = record { adds = g.E.TextOut.adds; failures = g.E.TextOut.failures } in
-      let before = c.loop.invariant.3 none in (
-        more_news w c.args.self.desk.errors c.loop.attendance.desk.errors c.turn.new.self.desk.errors
-            before.0 c.turn.ensures.news,
-        c.turn.ensures.counts ∙ before.1,
-      ),
-)
+loop-preserved g c =
+    let w : Writing g.row.E.Denot = record { adds = g.E.TextOut.adds; failures = g.E.TextOut.failures } in (
+      tt,
+      tt,
+      λ first h. c.turn.ensures.shows first (c.loop.invariant.2 first h),
+      c.turn.ensures.lines ∙ c.loop.invariant.3,
+      λ none. turned w _ _ _ _ _ _ _ c.loop.invariant.3 (c.loop.invariant.4 none) c.turn.ensures.news c.turn.ensures.counts,
+    )
 
 pub loop-preserved-in-Tell : goal.loop-preserved-in-Tell
 loop-preserved-in-Tell g c =
     let out : Writing g.row.W.Denot = record { adds = g.W.TextOut.adds; failures = g.W.TextOut.failures } in
     let w : Writing g.row.E.Denot = record { adds = g.E.TextOut.adds; failures = g.E.TextOut.failures } in
-    let turned = c.turn.new.self in (
+    let at = c.turn.new.self in
+    let lines = watched_lines c.args.self.watches in (
       tt,
       tt,
       λ first h.
-          shown_beside out first turned.log.lines c.tell_each.new.self.log.lines turned.desk c.tell_each.new.self.desk
+          shown_beside out first at.log.lines c.tell_each.new.self.log.lines at.desk c.tell_each.new.self.desk
           (ap (λ log. log.lines) c.tell_each.ensures.log) c.tell_each.ensures.desk
           (c.turn.ensures.shows first (c.loop.invariant.2 first h)),
+      ap (λ watches. watched_lines watches) c.tell_each.ensures.watches ∙ c.turn.ensures.lines ∙ c.loop.invariant.3,
       λ none.
-          let before = c.loop.invariant.3 none in
-          let told = c.tell_each.ensures.quiet (c.turn.ensures.counts ∙ before.1) in (
-            subst (λ (errors : g.row.E.Denot). SaysNews w c.args.self.desk.errors errors) (sym told.0)
-                (more_news w c.args.self.desk.errors c.loop.attendance.desk.errors turned.desk.errors
-                before.0 c.turn.ensures.news),
+          let news =
+          turned w _ _ _ _ _ _ _ c.loop.invariant.3 (c.loop.invariant.4 none) c.turn.ensures.news c.turn.ensures.counts in
+          let told = c.tell_each.ensures.quiet news.1 in (
+            subst (λ (errors : g.row.E.Denot). SaysNews w lines c.args.self.desk.errors errors) (sym told.0) news.0,
             told.1,
           ),
     )
+
+pub returns-clause-lines : goal.returns-clause-lines
+returns-clause-lines g c =
+    elim c.match-next.branch [
+      | in-None w' ↦ rw w'.attendance-is c.loop.invariant.3
+      | in-Some+in-Over w' ↦ rw w'.attendance-is (w'.turn.ensures.lines ∙ c.loop.invariant.3)
+      | in-Some+in-GiveUp w' ↦ rw w'.attendance-is (w'.turn.ensures.lines ∙ c.loop.invariant.3)
+    ]
 
 pub returns-clause-quiet : goal.returns-clause-quiet
 returns-clause-quiet g c =
     λ none.
     let w : Writing g.row.E.Denot = record { adds = g.E.TextOut.adds; failures = g.E.TextOut.failures } in
-    let before = c.loop.invariant.3 none in
+    let before = c.loop.invariant.4 none in
     elim c.match-next.branch [
       | in-None w' ↦ rw w'.attendance-is before
       | in-Some+in-Over w' ↦
           rw w'.attendance-is (
-            more_news w c.args.self.desk.errors c.loop.attendance.desk.errors w'.turn.new.self.desk.errors
-                before.0 w'.turn.ensures.news,
-            w'.turn.ensures.counts ∙ before.1,
+          turned w _ _ _ _ _ _ _ c.loop.invariant.3 before w'.turn.ensures.news w'.turn.ensures.counts
           )
       | in-Some+in-GiveUp w' ↦
           rw w'.attendance-is (
-            more_news w c.args.self.desk.errors c.loop.attendance.desk.errors w'.turn.new.self.desk.errors
-                before.0 w'.turn.ensures.news,
-            w'.turn.ensures.counts ∙ before.1,
+          turned w _ _ _ _ _ _ _ c.loop.invariant.3 before w'.turn.ensures.news w'.turn.ensures.counts
           )
     ]

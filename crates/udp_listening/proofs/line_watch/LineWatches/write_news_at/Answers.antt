@@ -1,0 +1,23 @@
+use Rattle.std.proofs.Common.{◌∙◌, Contains, ap, subst, sym}
+use Rattle.std.proofs.Math.Seq.{map-set_same}
+use Rattle.feed_text.specs.Devices.{Writing}
+use Rattle.udp_listening.specs.RunLines.{watched, watched_lines}
+use Rattle.udp_listening.proofs.Telling.{made_within, news_within}
+use Rattle.udp_listening.proofs.line_watch.LineWatches.write_news_at.Goals as goal
+
+pub returns-in-Some-clause-lines : goal.returns-in-Some-clause-lines
+returns-in-Some-clause-lines g c =
+    let old = c.in-Some.line.now in
+    map-set_same watched c.args.self.now.lines.items c.args.place c.write_news.new.self old
+    (c.write_news.ensures.line ∙ ap (λ line. watched line) c.in-Some.ensures.item.1)
+
+pub returns-in-Some-clause-news : goal.returns-in-Some-clause-news
+returns-in-Some-clause-news g c =
+    let w : Writing g.row.E.Denot = record { adds = g.E.TextOut.adds; failures = g.E.TextOut.failures } in
+    let items = c.args.self.now.lines.items in
+    let lines = watched_lines c.args.self.now in
+    let old = c.in-Some.line.now in
+    news_within w lines (watched old) c.args.errors.now c.write_news.new.errors
+    (subst (λ line. Contains lines (watched line)) (sym c.in-Some.ensures.item.1)
+    (made_within watched items c.args.place old c.in-Some.ensures.item.3.0))
+    c.write_news.ensures.news
