@@ -1,5 +1,5 @@
 -- What is said of lines, one thing after the other.
-use Rattle.std.proofs.Common.{List, [], ◌∷◌, ◌++◌, ◌≡◌, ◌≢◌, ◌∙◌, ◌<◌, ℕ, zero, suc, All, Contains, ap, drop, flat_map, get_or, length, map, refl, sym, subst, take, arith}
+use Rattle.std.proofs.Common.{List, [], ◌∷◌, ◌++◌, ◌≡◌, ◌≢◌, ◌∙◌, ◌<◌, ℕ, zero, suc, Contains, ap, drop, flat_map, get_or, length, map, refl, sym, subst, take, arith}
 use Rattle.std.specs.Prelude.{Bool, false, ◌==◌, if◌then◌else◌}
 use Rattle.std.proofs.lemmas.Bool.Decides.{nat_tests}
 use Rattle.std.proofs.lemmas.Grind.{flat_map-append}
@@ -9,7 +9,7 @@ use Rattle.feed_types.specs.declared.line.LineId.{LineId}
 use Rattle.feed_text.specs.Devices.{Writing}
 use Rattle.feed_text.specs.StandardError.{SaysEach}
 use Rattle.feed_text.specs.laws.SaidTexts.{says_each}
-use Rattle.udp_listening.specs.News.{LineCounts, SaysNews, SaysOfLines, SaysTotals, news_texts, total_if, total_texts, totals_of}
+use Rattle.udp_listening.specs.News.{LineTally, SaysNews, SaysOfLines, SaysTotals, news_texts, total_if, total_texts, totals_of}
 use Rattle.udp_listening.specs.declared.line_news.LineCounted.{LineCounted}
 use Rattle.udp_listening.specs.declared.line_news.LineCounted.TheVariants.{Passed, Unsent}
 use Rattle.udp_listening.specs.declared.line_news.LineNews.{LineNews}
@@ -81,7 +81,7 @@ made_within f xs k d inside = (
 )
 
 -- counts of 0 for each line
-abbrev uncounted : List (ℕ × LineId) → List LineCounts
+abbrev uncounted : List (ℕ × LineId) → List LineTally
 uncounted lines = map (λ line. record { line = line; unsent = 0; passed = 0 }) lines
 
 each_uncounted : (lines : List (ℕ × LineId)) → map (λ c. c.line) (uncounted lines) ≡ lines
@@ -99,13 +99,7 @@ no_totals w lines s = record {
   says = subst (λ totals. SaysEach w (flat_map total_texts totals) s s) (sym (none_counted lines)) refl;
 }
 
--- nothing is said of a count of 0
-pub no_total : {E : Type 0} (w : Writing E) (line : ℕ × LineId) (counted : LineCounted) (count : ℕ) (s : E)
-    → count ≡ 0 → SaysEach w (flat_map total_texts (total_if line counted count)) s s
-no_total w line counted count s none =
-    subst (λ (n : ℕ). SaysEach w (flat_map total_texts (total_if line counted n)) s s) (sym none) refl
-
--- the total of another count
+-- the total of a count that isn't 0
 pub one_total : {E : Type 0} (w : Writing E) (line : ℕ × LineId) (counted : LineCounted) (count : ℕ) (s t : E)
     → count ≢ 0
     → SaysEach w (total_texts (record { venue = line.0; line = line.1; counted = counted; count = count })) s t
@@ -122,7 +116,7 @@ pub totals_of_line : {E : Type 0} (w : Writing E) (line : ℕ × LineId) (unsent
     → SaysEach w (flat_map total_texts (total_if line Passed passed)) t u
     → SaysTotals w (line ∷ []) s u
 totals_of_line w line unsent passed s t u a b =
-    let counts : LineCounts = record { line = line; unsent = unsent; passed = passed } in record {
+    let counts : LineTally = record { line = line; unsent = unsent; passed = passed } in record {
       counts = counts ∷ [];
       one_each = refl;
       says =

@@ -3,7 +3,7 @@ use Rattle.std.proofs.Common.{List, [], ◌∷◌, ◌++◌, ◌≡◌, ◌∙�
 use Rattle.std.specs.List.{enumerate_from, range_with_len}
 use Rattle.std.proofs.lemmas.List.{map-append, take_min}
 use Rattle.std.proofs.lemmas.List.FromFn.{get_or-enumerate_from, length-enumerate_from, length-map-range_with_len, map-range_with_len_more, take-map-range_with_len}
-use Rattle.udp_listening.specs.RunLines.{line_of, watched}
+use Rattle.udp_listening.specs.RunLines.{listened_line, watched}
 use Rattle.udp_listening.specs.declared.line_watch.LineWatch.{LineWatch}
 
 -- the place of an element that comes with its place
@@ -16,23 +16,23 @@ place_of xs k d there =
 
 -- one line more is watched
 pub more_watched : (watches pushed : List LineWatch) (watch : LineWatch) (n m place : ℕ)
-    → pushed ≡ watches ++ watch ∷ [] → map watched watches ≡ map line_of (range_with_len 0 n)
-    → watched watch ≡ line_of place → place ≡ n → m ≡ n + 1
-    → map watched pushed ≡ map line_of (range_with_len 0 m)
+    → pushed ≡ watches ++ watch ∷ [] → map watched watches ≡ map listened_line (range_with_len 0 n)
+    → watched watch ≡ listened_line place → place ≡ n → m ≡ n + 1
+    → map watched pushed ≡ map listened_line (range_with_len 0 m)
 more_watched watches pushed watch n m place push before one at more =
     let same : 0 + n ≡ n = omega arith in
     ap (λ w. map watched w) push ∙ map-append watched watches (watch ∷ [])
     ∙ ap (λ first. first ++ watched watch ∷ []) before
-    ∙ ap (λ last. map line_of (range_with_len 0 n) ++ last ∷ []) (one ∙ ap (λ p. line_of p) at)
-    ∙ sym (map-range_with_len_more line_of 0 n n same)
-    ∙ ap (λ k. map line_of (range_with_len 0 k)) (sym more)
+    ∙ ap (λ last. map listened_line (range_with_len 0 n) ++ last ∷ []) (one ∙ ap (λ p. listened_line p) at)
+    ∙ sym (map-range_with_len_more listened_line 0 n n same)
+    ∙ ap (λ k. map listened_line (range_with_len 0 k)) (sym more)
 
 -- the first lines, as many as there are of either
 pub first_lines : (n len k : ℕ) → k ≡ min n len
-    → map line_of (range_with_len 0 k) ≡ take len (map line_of (range_with_len 0 n))
+    → map listened_line (range_with_len 0 k) ≡ take len (map listened_line (range_with_len 0 n))
 first_lines n len k fewest =
-    let lines = map line_of (range_with_len 0 n) in
-    let all : length lines ≡ n = length-map-range_with_len line_of 0 n in
+    let lines = map listened_line (range_with_len 0 n) in
+    let all : length lines ≡ n = length-map-range_with_len listened_line 0 n in
     let few : k ≡ min len (length lines) = omega (arith, fewest, all) in
-    sym (take-map-range_with_len line_of 0 n k (omega (arith, fewest)))
+    sym (take-map-range_with_len listened_line 0 n k (omega (arith, fewest)))
     ∙ ap (λ j. take j lines) few ∙ take_min len lines

@@ -14,7 +14,7 @@ use Rattle.live_feed.specs.venue.Seats.{SeatState}
 use Rattle.live_feed.specs.settle.Settlements.{SettlementState, VenueEndState, SubscriberEndState}
 use Rattle.feed_text.specs.StandardError.{Says, SaysEach}
 use Rattle.udp_listening.specs.News.{SaysOfLines}
-use Rattle.udp_listening.specs.RunLines.{lines_of}
+use Rattle.udp_listening.specs.RunLines.{listened_lines}
 use Rattle.udp_listening.specs.UdpLines.{UdpLineState}
 use Rattle.udp_listening.specs.declared.desk.Desk.{Desk}
 use Rattle.udp_listening.specs.declared.desk.Following.{Following}
@@ -293,5 +293,5 @@ pub record Listens {W E : Type 0} (writing : Writing W) (telling : Writing E)
     (settings : ListenSettings) (before after : W) (silent told : E) (status : ℕ) : Type 0 where
   pub outcome : Result ListenReport ListenFault
   pub counted : E
-  pub quiet : settings.stats ≡ None → SaysOfLines telling (lines_of settings) silent counted
+  pub quiet : settings.stats ≡ None → SaysOfLines telling (listened_lines settings) silent counted
   pub ends : ListensToEnd writing telling outcome before after counted told status

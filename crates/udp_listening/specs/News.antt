@@ -62,7 +62,7 @@ total_texts total =
 
 -- what was counted of a line: the requests that couldn't be sent, and the ends of session after which
 -- it went on
-pub record LineCounts : Type 0 where
+pub record LineTally : Type 0 where
   pub line : ℕ × LineId
   pub unsent : ℕ
   pub passed : ℕ
@@ -75,7 +75,7 @@ total_if line counted count =
     else record { venue = line.0; line = line.1; counted = counted; count = count } ∷ []
 
 -- the totals of a line's counts that aren't 0
-abbrev pub totals_of : LineCounts → List LineTotal
+abbrev pub totals_of : LineTally → List LineTotal
 totals_of c = total_if c.line kinds.Unsent c.unsent ++ total_if c.line kinds.Passed c.passed
 
 -- ---- what was said
@@ -91,7 +91,7 @@ pub record SaysNews {E : Type 0} (writing : Writing E) (lines : List (ℕ × Lin
 -- else
 pub record SaysTotals {E : Type 0} (writing : Writing E) (lines : List (ℕ × LineId))
     (before after : E) : Type 0 where
-  pub counts : List LineCounts
+  pub counts : List LineTally
   pub one_each : map (λ c. c.line) counts ≡ lines
   pub says : SaysEach writing (flat_map total_texts (flat_map totals_of counts)) before after
 

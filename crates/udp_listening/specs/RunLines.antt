@@ -12,12 +12,12 @@ abbrev pub line_at : ℕ → LineId
 line_at place = if place % 2 == 0 then A else B
 
 -- the same with its venue
-abbrev pub line_of : ℕ → ℕ × LineId
-line_of place = (place / 2, line_at place)
+abbrev pub listened_line : ℕ → ℕ × LineId
+listened_line place = (place / 2, line_at place)
 
 -- the lines of the settings, in their order
-abbrev pub lines_of : ListenSettings → List (ℕ × LineId)
-lines_of settings = map line_of (range_with_len 0 (vec_len settings.lines))
+abbrev pub listened_lines : ListenSettings → List (ℕ × LineId)
+listened_lines settings = map listened_line (range_with_len 0 (vec_len settings.lines))
 
 -- the line that is watched
 abbrev pub watched : LineWatch → ℕ × LineId

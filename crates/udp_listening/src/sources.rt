@@ -1,7 +1,7 @@
 //! The sources of a feed's lines, and their seats.
 ghost use Rattle.std.specs.Prelude.{◌≡◌, ◌/◌, ◌<◌, IfOk, length, take, vec_len};
 ghost use Rattle.udp_listening.specs.Listening.{IsSourceOf};
-ghost use Rattle.udp_listening.specs.RunLines.{line_at, lines_of, watched_lines};
+ghost use Rattle.udp_listening.specs.RunLines.{line_at, listened_lines, watched_lines};
 
 use crate::line_watch::{LineWatch, LineWatches};
 use crate::listening::ListenFault;
@@ -59,7 +59,7 @@ pub fn lines_over<C: Clock + Clone + Drop>(
     clock: &C,
 ) -> Result<ListenLines<C>, AllocError>
     ensures { IfOk result (λ lines. watched_lines lines.watches
-        ≡ take (length sockets.items) (lines_of settings.now)) }
+        ≡ take (length sockets.items) (listened_lines settings.now)) }
 {
     let mut sources = Vec::with_capacity(alloc, sockets.len())?;
     let mut watches = Vec::with_capacity(alloc, sockets.len())?;

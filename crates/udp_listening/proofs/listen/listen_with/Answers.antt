@@ -2,7 +2,7 @@ use Rattle.std.proofs.Common.{[], ◌≡◌, Err, ap, length, subst, sym}
 use Rattle.feed_text.specs.Devices.{Writing}
 use Rattle.udp_listening.specs.Listening.{ListensToEnd}
 use Rattle.udp_listening.specs.News.{SaysOfLines}
-use Rattle.udp_listening.specs.RunLines.{lines_of}
+use Rattle.udp_listening.specs.RunLines.{listened_lines}
 use Rattle.udp_listening.specs.declared.listening.ListenFault.TheVariants.{NoMemory}
 use Rattle.udp_listening.proofs.Telling.{nothing_of_lines, said_of_first}
 use Rattle.udp_listening.proofs.Wholes.{listened}
@@ -19,8 +19,8 @@ returns-in_default g c =
       outcome = Err NoMemory;
       counted = desk.errors;
       quiet = λ none.
-          subst (λ (told : g.row.E.Denot). SaysOfLines telling (lines_of c.args.settings.now) c.args.errors told)
-          (sym (ap (λ d. d.errors) c.new-desk.ensures.desk)) (nothing_of_lines telling (lines_of c.args.settings.now) c.args.errors);
+          subst (λ (told : g.row.E.Denot). SaysOfLines telling (listened_lines c.args.settings.now) c.args.errors told)
+          (sym (ap (λ d. d.errors) c.new-desk.ensures.desk)) (nothing_of_lines telling (listened_lines c.args.settings.now) c.args.errors);
       ends =
           subst (λ (first : g.row.W.Denot). ListensToEnd writing telling (Err NoMemory) first
           ended.new.desk.output desk.errors ended.new.desk.errors ended.result) output
@@ -42,7 +42,7 @@ returns g c =
       outcome = outcome;
       counted = desk.errors;
       quiet = λ none.
-          let lines = lines_of c.args.settings.now in
+          let lines = listened_lines c.args.settings.now in
           subst (λ (silent : g.row.E.Denot). SaysOfLines telling lines silent desk.errors)
           (ap (λ d. d.errors) c.new-desk.ensures.desk)
           (said_of_first telling (length c.args.sockets.items) lines before.errors desk.errors

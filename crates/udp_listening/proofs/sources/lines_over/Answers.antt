@@ -1,12 +1,11 @@
 use Rattle.std.proofs.Common.{rules, ◌∙◌, ◌*◌, ℕ, ap, length, min, refl, sym}
-use Rattle.std.specs.List.{enumerate_from}
 use Rattle.std.proofs.lemmas.Iterator.{YieldsList-from_take}
 use Rattle.std.proofs.lemmas.Iterator.Adapters.{YieldsList-from_vec}
 use Rattle.std.proofs.lemmas.Iterator.Consumers.{YieldsList-at, YieldsList-end, YieldsList-from_enumerate, YieldsList-turn}
 use Rattle.std.proofs.lemmas.List.{length-take, length_push}
 use Rattle.std.proofs.lemmas.List.FromFn.{length-enumerate_from}
 use Rattle.std.specs.Prelude.{take}
-use Rattle.udp_listening.specs.RunLines.{line_of, watched_lines}
+use Rattle.udp_listening.specs.RunLines.{listened_line, watched_lines}
 use Rattle.udp_listening.proofs.Watching.{first_lines, more_watched, place_of}
 use Rattle.udp_listening.proofs.sources.lines_over.Goals as goal
 
@@ -27,7 +26,7 @@ loop-place-preserved g c =
     let at = place_of (take c.take.result.n c.args.sockets.items) n (place, c.in-Some.socket) turn in
     let one =
     c.new.ensures ∙ ap (λ (venue : ℕ). (venue, c.line_at.result)) (c.venue.ensures ∙ c.in_ok-source.ensures.venue_is)
-    ∙ ap (λ line. ((line_of place).0, line)) c.line_at.ensures in (
+    ∙ ap (λ line. ((listened_line place).0, line)) c.line_at.ensures in (
       search rules,
       tt,
       more_watched c.loop-place.watches.items c.push.new.self.items c.new.result n _ place

@@ -1,4 +1,4 @@
-use Rattle.std.proofs.Common.{◌≡◌, ◌∙◌, [], ◌∷◌, ap, sym, subst}
+use Rattle.std.proofs.Common.{◌≡◌, ◌∙◌, [], ◌∷◌, subst}
 use Rattle.feed_text.specs.Devices.{Writing}
 use Rattle.udp_listening.specs.News.{SaysNews}
 use Rattle.udp_listening.specs.RunLines.{watched}
