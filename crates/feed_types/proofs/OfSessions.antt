@@ -1,5 +1,5 @@
 -- Where lines carry exactly some sessions, items in sequence are the first of the sessions' items.
-use Rattle.std.proofs.Common.{◌≡◌, ℕ, zero, suc, ◌+◌, ◌-◌, List, [], ◌∷◌, ◌++◌, length, drop, refl, sym, ◌∙◌, arith, append_assoc}
+use Rattle.std.proofs.Common.{◌≡◌, ◌≢◌, ℕ, zero, suc, ◌+◌, ◌-◌, List, [], ◌∷◌, ◌++◌, length, drop, refl, sym, ◌∙◌, arith, append_assoc}
 use Rattle.std.specs.Prelude.{slice_get, Some}
 use Rattle.std.proofs.lemmas.Grind.{common_steps}
 use Rattle.std.proofs.lemmas.List.{drop_all}
@@ -7,7 +7,7 @@ use Rattle.feed_types.specs.declared.item.Item.{Item}
 use Rattle.feed_types.specs.declared.item.Item.TheVariants as items
 use Rattle.feed_types.specs.declared.item.Numbered.{Numbered}
 use Rattle.feed_types.specs.Prefix.{IsPrefix}
-use Rattle.feed_types.specs.Sequence.{Carries, Ends, Place, first_place, place_after, MayCarry, Continues}
+use Rattle.feed_types.specs.Sequence.{Carries, Ends, Place, first_place, place_after, place_past, HasPlace, MayCarry, Continues, SkipsNothing}
 use Rattle.feed_types.specs.Sessions.{Session, SessionNames, IsSessionAt, IsItemAt, Names, numbered_from, end_item, whole_sessions}
 
 -- a list from one of its places on
@@ -63,23 +63,24 @@ end_at all s place at here =
 -- an item at its place
 one : {sessions : SessionNames} {carries : Carries} {ends : Ends} (venue : ℕ) (all : List Session) → Names sessions carries ends venue all
     → (place : Place) (number : ℕ) (item : Item) (xs : List Numbered)
-    → number ≡ place.number → MayCarry carries ends venue place item
-    → IsPrefix xs (to_come all (place_after place item))
+    → HasPlace place.number number item → MayCarry carries ends venue place item → item ≢ items.Skipped
+    → IsPrefix xs (to_come all (place_past place.ordinal number item))
     → IsPrefix (record { number = number; item = item } ∷ xs) (to_come all place)
-one venue all names place number items.End xs e may more =
+one venue all names place number items.Skipped xs e may none more = absurd (none refl)
+one venue all names place number items.End xs e may none more =
     let at = (names.ended place.ordinal place.number).0 may in
     front_same _ (end_item place.number) xs _ _ (rw e refl) (end_at all at.0 place at.1 at.2) more
-one venue all names place number items.Other xs e may more =
+one venue all names place number items.Other xs e may none more =
     let at = (names.carried place.ordinal place.number items.Other).0 may in
-    front_same _ (record { number = place.number; item = items.Other }) xs _ _ (rw e refl) (message_at all at.0 place items.Other at.1 at.2) more
-one venue all names place number (items.Quote quote) xs e may more =
+    front_same _ (record { number = place.number; item = items.Other }) xs _ _ (rw e refl) (message_at all at.0 place items.Other at.1 at.2) (rw e at more)
+one venue all names place number (items.Quote quote) xs e may none more =
     let at = (names.carried place.ordinal place.number (items.Quote quote)).0 may in
-    front_same _ (record { number = place.number; item = items.Quote quote }) xs _ _ (rw e refl) (message_at all at.0 place (items.Quote quote) at.1 at.2) more
-one venue all names place number (items.Halt symbol halted) xs e may more =
+    front_same _ (record { number = place.number; item = items.Quote quote }) xs _ _ (rw e refl) (message_at all at.0 place (items.Quote quote) at.1 at.2) (rw e at more)
+one venue all names place number (items.Halt symbol halted) xs e may none more =
     let at = (names.carried place.ordinal place.number (items.Halt symbol halted)).0 may in
-    front_same _ (record { number = place.number; item = items.Halt symbol halted }) xs _ _ (rw e refl) (message_at all at.0 place (items.Halt symbol halted) at.1 at.2) more
+    front_same _ (record { number = place.number; item = items.Halt symbol halted }) xs _ _ (rw e refl) (message_at all at.0 place (items.Halt symbol halted) at.1 at.2) (rw e at more)
 
 pub goes_along : {sessions : SessionNames} {carries : Carries} {ends : Ends} (venue : ℕ) (all : List Session) → Names sessions carries ends venue all
-    → (place : Place) (xs : List Numbered) → Continues carries ends venue place xs → IsPrefix xs (to_come all place)
-goes_along venue all names place [] h = record { rest = to_come all place; is = refl }
-goes_along venue all names place (x ∷ xs) h = one venue all names place x.number x.item xs h.0 h.1 (goes_along venue all names (place_after place x.item) xs h.2)
+    → (place : Place) (xs : List Numbered) → Continues carries ends venue place xs → SkipsNothing xs → IsPrefix xs (to_come all place)
+goes_along venue all names place [] h none = record { rest = to_come all place; is = refl }
+goes_along venue all names place (x ∷ xs) h none = one venue all names place x.number x.item xs h.0 h.1 none.0 (goes_along venue all names (place_after place x) xs h.2 none.1)

@@ -30,6 +30,9 @@ pub enum Item {
     Other,
     /// The end of the session, which has the number after the last message's.
     End,
+    /// The messages after the item before, up to and with this number, were given up: they didn't
+    /// come.
+    Skipped,
 }
 
 /// An item with its sequence number, from 1 on in each session.

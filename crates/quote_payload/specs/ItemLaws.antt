@@ -18,3 +18,18 @@ unfolding item_of
 item_of-never_end message e =
     not_end (is_version1 message) (is_version2 message) (is_halt message)
     (version1_of message) (version2_of message) (symbol_at message) (state_at message == 1) e
+
+not_skipped : (a b c : Bool) (q r : Quote) (s : List ℕ) (h : Bool) →
+    (if a then item.Quote q else
+    (if b then item.Quote r else (if c then item.Halt s h else item.Other))) ≡ item.Skipped → ⊥
+not_skipped true b c q r s h e = cc
+not_skipped false true c q r s h e = cc
+not_skipped false false true q r s h e = cc
+not_skipped false false false q r s h e = cc
+
+-- no message says that others were given up
+pub item_of-never_skipped : (message : List ℕ) → item_of message ≡ item.Skipped → ⊥
+unfolding item_of
+item_of-never_skipped message e =
+    not_skipped (is_version1 message) (is_version2 message) (is_halt message)
+    (version1_of message) (version2_of message) (symbol_at message) (state_at message == 1) e
