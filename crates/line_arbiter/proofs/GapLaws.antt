@@ -8,7 +8,7 @@ use Rattle.std.proofs.lemmas.List.Sums.{prefix_len-le-length, prefix_len_passes,
 use Rattle.std.proofs.lemmas.List.FromFn.{length-range_with_len, get_or-range_with_len}
 use Rattle.feed_types.specs.declared.item.Item.{Item}
 use Rattle.mold_packet.specs.declared.request.Request.{Request}
-use Rattle.line_arbiter.specs.Packets.{Arrival, carried, end_of, heard, known_of}
+use Rattle.line_arbiter.specs.Packets.{Input, carried, end_of, heard, known_of}
 use Rattle.line_arbiter.specs.Streams.{front_of, gap_of, missing_count}
 use Rattle.line_arbiter.specs.Gaps.{AreMissing, IsGap, IsGreatestHeard, IsKnown}
 use Rattle.line_arbiter.specs.laws.Fronts.{front_is, not_none}
@@ -25,7 +25,7 @@ none_true : (o : Option Item) → o ≡ None → is_none o ≡ false → ⊥
 none_true None e h = false≢true (sym h)
 none_true (Some x) e h = absurd cc
 
-module _ (window sent : ℕ) (packets : List Arrival) where
+module _ (window sent : ℕ) (packets : List Input) where
   abbrev front : ℕ
   front = front_of packets
 
@@ -130,18 +130,18 @@ module _ (window sent : ℕ) (packets : List Arrival) where
   pub gap_one : (session : List ℕ) (gap : Option Request) → IsGap session window sent packets gap → gap ≡ gap_of session window sent packets
   gap_one session gap is = one_gap session gap (gap_of session window sent packets) is (gap_is session)
 
-abbrev heard_most : ℕ → Arrival → ℕ
+abbrev heard_most : ℕ → Input → ℕ
 heard_most k a = max k (heard a)
 
-most_grows : (packets : List Arrival) (k : ℕ) → k ≤ fold heard_most k packets
+most_grows : (packets : List Input) (k : ℕ) → k ≤ fold heard_most k packets
 most_grows [] k = omega arith
 most_grows (a ∷ packets) k = let rest = most_grows packets (max k (heard a)) in omega arith
 
-all_within : (packets : List Arrival) (k : ℕ) → AllByRecursion (λ a. heard a ≤ fold heard_most k packets) packets
+all_within : (packets : List Input) (k : ℕ) → AllByRecursion (λ a. heard a ≤ fold heard_most k packets) packets
 all_within [] k = tt
 all_within (a ∷ packets) k = let rest = most_grows packets (max k (heard a)) in (omega arith, all_within packets (max k (heard a)))
 
-one_of : (packets : List Arrival) (k : ℕ) → (fold heard_most k packets ≡ k) ⊎ ((a : Arrival) × Contains packets a × (heard a ≡ fold heard_most k packets))
+one_of : (packets : List Input) (k : ℕ) → (fold heard_most k packets ≡ k) ⊎ ((a : Input) × Contains packets a × (heard a ≡ fold heard_most k packets))
 one_of [] k = inl refl
 one_of (a ∷ packets) k = elim (one_of packets (max k (heard a))) [
   | inl same ↦ elim (cases_lt k (heard a)) [
@@ -151,12 +151,12 @@ one_of (a ∷ packets) k = elim (one_of packets (max k (heard a))) [
   | inr found ↦ inr (found.0, (suc found.1.0, let lt = found.1.1 in omega arith, found.1.2), found.2)
 ]
 
-pub greatest_heard : (packets : List Arrival) → IsGreatestHeard packets (fold heard_most 0 packets)
+pub greatest_heard : (packets : List Input) → IsGreatestHeard packets (fold heard_most 0 packets)
 greatest_heard packets = record { most = all_within packets 0; one = one_of packets 0 }
 
-known_by : (packets : List Arrival) (end : Option ℕ) → IsKnown packets end (option_map_or (λ e. e - 1) end (fold heard_most 0 packets))
+known_by : (packets : List Input) (end : Option ℕ) → IsKnown packets end (option_map_or (λ e. e - 1) end (fold heard_most 0 packets))
 known_by packets (Some e) = refl
 known_by packets None = greatest_heard packets
 
-pub known_is : (packets : List Arrival) → IsKnown packets (end_of packets) (known_of packets)
+pub known_is : (packets : List Input) → IsKnown packets (end_of packets) (known_of packets)
 known_is packets = known_by packets (end_of packets)

@@ -6,7 +6,7 @@ use Rattle.std.proofs.lemmas.Bool.{cases_lt, ne_eqb}
 use Rattle.std.proofs.lemmas.List.FromFn.{length-range_with_len, get_or-range_with_len}
 use Rattle.std.proofs.lemmas.List.Sums.{prefix_len_is}
 use Rattle.feed_types.specs.declared.item.Item.{Item}
-use Rattle.line_arbiter.specs.Packets.{Arrival, carried, known_of}
+use Rattle.line_arbiter.specs.Packets.{Input, carried, known_of}
 use Rattle.line_arbiter.specs.Streams.{front_of, missing_count, gap_of}
 use Rattle.line_arbiter.specs.Holding.{held_at}
 use Rattle.line_arbiter.specs.Filling.{IsNextHeld}
@@ -26,7 +26,7 @@ run_is q a len n within all stop = prefix_len_is q (range_with_len a len) n 0
     (λ more. let inside : n < len = omega (arith, length-range_with_len a len) in ap q (get_or-range_with_len a len n 0 inside) ∙ stop inside)
 
 -- past the front the numbers to ask for are past the last item sent too
-past_sent : (s : State) (packets : List Arrival) → Fits s packets → s.front < min s.known (s.sent + s.window) → s.sent ≤ s.front
+past_sent : (s : State) (packets : List Input) → Fits s packets → s.front < min s.known (s.sent + s.window) → s.sent ≤ s.front
 past_sent s packets fits more = elim (cursor s packets (stands_of fits)) [
   | inl within ↦ within
   | inr ended ↦ let to = fits.known in let known = known_at_end packets (s.front + 1) ended.1 in absurd (omega arith)
@@ -34,7 +34,7 @@ past_sent s packets fits more = elim (cursor s packets (stands_of fits)) [
 
 -- Where nothing is held at the n numbers after the front, up to the last one that is known and in
 -- the window or to one where an item is held, n is how many are missing.
-missing_count-held : (s : State) (packets : List Arrival) (n : ℕ) → Fits s packets
+missing_count-held : (s : State) (packets : List Input) (n : ℕ) → Fits s packets
     → ((m : ℕ) → s.front < m → m ≤ s.front + n → held_at (held_of s) m ≡ None)
     → s.front + n ≤ max s.front (min s.known (s.sent + s.window))
     → (s.front + n ≡ max s.front (min s.known (s.sent + s.window))) ⊎ IsSome (held_at (held_of s) (s.front + n + 1))
@@ -63,7 +63,7 @@ pub asked_within : (limit : ℕ) (next : Option ℕ) → last_asked limit next �
 asked_within limit None = omega arith
 asked_within limit (Some next) = omega arith
 
-missing_is : (s : State) (packets : List Arrival) (next : Option ℕ) (limit n : ℕ) → IsSound s → Fits s packets → IsNextHeld (held_of s) s.front next
+missing_is : (s : State) (packets : List Input) (next : Option ℕ) (limit n : ℕ) → IsSound s → Fits s packets → IsNextHeld (held_of s) s.front next
     → limit ≡ min s.known (s.sent + s.window) → n ≡ last_asked limit next - s.front → missing_count s.window s.sent packets ≡ n
 missing_is s packets None limit n sound fits is limit_is n_is =
     missing_count-held s packets n fits (λ m past below. is m past) (omega arith) (inl (omega arith))
@@ -76,7 +76,7 @@ missing_is s packets (Some next) limit n sound fits is limit_is n_is =
       | inr limited ↦ inl (omega arith)
     ])
 
-module _ (s : State) (packets : List Arrival) (next : Option ℕ) (limit last : ℕ) (sound : IsSound s) (fits : Fits s packets) (is : IsNextHeld (held_of s) s.front next)
+module _ (s : State) (packets : List Input) (next : Option ℕ) (limit last : ℕ) (sound : IsSound s) (fits : Fits s packets) (is : IsNextHeld (held_of s) s.front next)
     (limit_is : limit ≡ min s.known (s.sent + s.window)) (last_is : last ≡ last_asked limit next) where
   missing : missing_count s.window s.sent packets ≡ last - s.front
   missing = missing_is s packets next limit (last - s.front) sound fits is limit_is (omega arith)

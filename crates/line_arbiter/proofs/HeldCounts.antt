@@ -4,7 +4,7 @@ use Rattle.std.specs.Prelude.{is_some, count_by, slice_get}
 use Rattle.std.specs.Option.{option_and_then, option_map_or}
 use Rattle.std.proofs.lemmas.Option.{slice_get_past}
 use Rattle.feed_types.specs.declared.item.Item.{Item}
-use Rattle.line_arbiter.specs.Packets.{Arrival, carried, top_of}
+use Rattle.line_arbiter.specs.Packets.{Input, carried, top_of}
 use Rattle.line_arbiter.specs.Streams.{held_count}
 use Rattle.line_arbiter.specs.States.{State, held_of}
 use Rattle.line_arbiter.specs.Fits.{Fits}
@@ -19,7 +19,7 @@ same_test : (o : Option (Option Item)) → option_map_or (λ (place : Option Ite
 same_test None = refl
 same_test (Some place) = refl
 
-place_taken : (s : State) (packets : List Arrival) (k : ℕ) → Fits s packets → option_map_or (λ (place : Option Item). is_some place) (slice_get s.places k) false ≡ is_some (carried packets (s.sent + 1 + k))
+place_taken : (s : State) (packets : List Input) (k : ℕ) → Fits s packets → option_map_or (λ (place : Option Item). is_some place) (slice_get s.places k) false ≡ is_some (carried packets (s.sent + 1 + k))
 place_taken s packets k fits =
     let number : s.sent + 1 + k - s.sent - 1 ≡ k = omega arith in
     same_test (slice_get s.places k)
@@ -27,12 +27,12 @@ place_taken s packets k fits =
     ∙ ap (λ (o : Option Item). is_some o) (sym (at_number (held_of s) (s.sent + 1 + k) (omega arith)) ∙ held_is s packets (stands_of fits) (s.sent + 1 + k) (omega arith))
 
 -- past the last place nothing is held, so nothing was taken
-none_past : (s : State) (packets : List Arrival) (m : ℕ) → Fits s packets → s.sent + 1 + length s.places ≤ m → carried packets m ≡ None
+none_past : (s : State) (packets : List Input) (m : ℕ) → Fits s packets → s.sent + 1 + length s.places ≤ m → carried packets m ≡ None
 none_past s packets m fits h =
     sym (held_is s packets (stands_of fits) m (omega arith)) ∙ at_number (held_of s) m (omega arith)
     ∙ ap (λ (o : Option (Option Item)). option_and_then (λ (place : Option Item). place) o) (slice_get_past s.places (m - s.sent - 1) (omega arith))
 
-pub count-held : (s : State) (packets : List Arrival) → Fits s packets → count_by is_some s.places ≡ held_count s.sent packets
+pub count-held : (s : State) (packets : List Input) → Fits s packets → count_by is_some s.places ≡ held_count s.sent packets
 count-held s packets fits =
     let taken : ℕ → Bool = λ (m : ℕ). is_some (carried packets m) in
     let both : ℕ = length s.places + (top_of packets - s.sent) in

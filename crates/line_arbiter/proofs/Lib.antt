@@ -28,6 +28,7 @@ pub mod PacketSteps
 pub mod Passing
 pub mod Ordering
 pub mod NameBytes
+pub mod Skipping
 -- the history of a venue
 -- genuine packets, and the laws
 pub mod Naming

@@ -5,9 +5,9 @@ use Rattle.std.specs.List.{range_with_len}
 use Rattle.std.specs.Option.{option_or, option_map_or}
 use Rattle.feed_types.specs.declared.line.LineId.{LineId}
 use Rattle.feed_types.specs.declared.line.LineId.TheVariants.{A, B, Recovery}
-use Rattle.line_arbiter.specs.Packets.{Arrival, bringer, has_number, is_taken, top_of}
+use Rattle.line_arbiter.specs.Packets.{Arrival, Input, Arrived, bringer, has_number, is_taken, top_of}
 use Rattle.mold_packet.specs.Content.{last_number}
-use Rattle.line_arbiter.specs.Streams.{is_same_line, wins_of}
+use Rattle.line_arbiter.specs.Streams.{is_on, is_same_line, wins_of}
 use Rattle.line_arbiter.specs.Outcomes.{new_count}
 use Rattle.feed_types.specs.declared.per_line.PerLine.{PerLine}
 use Rattle.feed_types.specs.PerLines.{on_all, on_line}
@@ -19,13 +19,13 @@ use Rattle.line_arbiter.proofs.Winning.{wins_of-push}
 use Rattle.line_arbiter.specs.laws.Options.{or_none}
 
 -- a packet that is not taken wins nothing
-pub wins_of-untaken : (packets : List Arrival) (a : Arrival) (line : LineId) → is_taken a.answer ≡ false → wins_of (packets ++ a ∷ []) line ≡ wins_of packets line
+pub wins_of-untaken : (packets : List Input) (a : Arrival) (line : LineId) → is_taken a.answer ≡ false → wins_of (packets ++ Arrived a ∷ []) line ≡ wins_of packets line
 wins_of-untaken packets a line untaken =
-    let top : top_of (packets ++ a ∷ []) ≡ top_of packets = top_of-push packets a ∙ ap (λ (b : Bool). if b then max (top_of packets) (last_number a.packet) else top_of packets) untaken in
-    let same : (m : ℕ) → bringer (packets ++ a ∷ []) m ≡ bringer packets m = λ m. bringer-push packets a m ∙ ap (λ (b : Bool). option_or (bringer packets m) (if b && has_number a.packet m then Some a else None)) untaken ∙ or_none (bringer packets m) in
-    ap (λ (n : ℕ). count_by (λ m. option_map_or (λ x. is_same_line x.line line) (bringer (packets ++ a ∷ []) m) false) (range_with_len 1 n)) top
-    ∙ count_same (λ m. option_map_or (λ x. is_same_line x.line line) (bringer (packets ++ a ∷ []) m) false) (λ m. option_map_or (λ x. is_same_line x.line line) (bringer packets m) false) 1 (top_of packets)
-    (λ m low high. ap (λ (o : Option Arrival). option_map_or (λ x. is_same_line x.line line) o false) (same m))
+    let top : top_of (packets ++ Arrived a ∷ []) ≡ top_of packets = top_of-push packets (Arrived a) ∙ ap (λ (b : Bool). if b then max (top_of packets) (last_number a.packet) else top_of packets) untaken in
+    let same : (m : ℕ) → bringer (packets ++ Arrived a ∷ []) m ≡ bringer packets m = λ m. bringer-push packets (Arrived a) m ∙ ap (λ (b : Bool). option_or (bringer packets m) (if b && has_number a.packet m then Some (Arrived a) else None)) untaken ∙ or_none (bringer packets m) in
+    ap (λ (n : ℕ). count_by (λ m. option_map_or (λ x. is_on line x) (bringer (packets ++ Arrived a ∷ []) m) false) (range_with_len 1 n)) top
+    ∙ count_same (λ m. option_map_or (λ x. is_on line x) (bringer (packets ++ Arrived a ∷ []) m) false) (λ m. option_map_or (λ x. is_on line x) (bringer packets m) false) 1 (top_of packets)
+    (λ m low high. ap (λ (o : Option Input). option_map_or (λ x. is_on line x) o false) (same m))
 
 on_line-counted : (line other : LineId) (n : ℕ) (counts : PerLine ℕ) → on_line other (counted line n counts) ≡ (if is_same_line line other then shown (on_line other counts + n) else on_line other counts)
 on_line-counted A A n counts = refl
@@ -43,9 +43,9 @@ saturated true earlier before n now e = omega arith
 saturated false earlier before n now e = omega arith
 
 -- a packet that is taken wins for its line what was not taken before
-pub wins_counted : (packets : List Arrival) (a : Arrival) (fresh : ℕ) (old earlier : PerLine ℕ) → is_taken a.answer ≡ true → 1 ≤ a.packet.number → fresh ≡ new_count packets a.packet
+pub wins_counted : (packets : List Input) (a : Arrival) (fresh : ℕ) (old earlier : PerLine ℕ) → is_taken a.answer ≡ true → 1 ≤ a.packet.number → fresh ≡ new_count packets a.packet
     → ((line : LineId) → on_line line old ≡ shown (on_line line earlier + wins_of packets line))
-    → (line : LineId) → on_line line (counted a.line fresh old) ≡ shown (on_line line earlier + wins_of (packets ++ a ∷ []) line)
+    → (line : LineId) → on_line line (counted a.line fresh old) ≡ shown (on_line line earlier + wins_of (packets ++ Arrived a ∷ []) line)
 wins_counted packets a fresh old earlier was_taken one is now line =
     on_line-counted a.line line fresh old
     ∙ saturated (is_same_line a.line line) (on_line line earlier) (wins_of packets line) fresh (on_line line old) (now line)

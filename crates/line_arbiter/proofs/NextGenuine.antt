@@ -6,23 +6,13 @@ use Rattle.feed_types.specs.declared.item.Item.{Item}
 use Rattle.feed_types.specs.declared.item.Item.TheVariants as items
 use Rattle.feed_types.specs.declared.item.Numbered.{Numbered}
 use Rattle.feed_types.specs.Sequence.{MayCarry}
-use Rattle.line_arbiter.specs.Packets.{Arrival, carried}
+use Rattle.line_arbiter.specs.Packets.{Input, carried}
 use Rattle.line_arbiter.specs.Holding.{held_at}
 use Rattle.line_arbiter.specs.States.{State, held_of, next_from, next_of}
 use Rattle.line_arbiter.specs.Genuine.{AreGenuine}
-use Rattle.line_arbiter.specs.laws.Genuine.{carried_may, carried_never_end, end_may}
+use Rattle.line_arbiter.specs.laws.Genuine.{allowed_item, carried_may, carried_never_end, end_may}
 use Rattle.line_arbiter.proofs.Standing.{Stands}
 use Rattle.line_arbiter.proofs.Cursors.{held_is}
-
--- a message's item that may be carried is allowed at its place
-allowed_item : (carries : ℕ → ℕ → ℕ → Item → Type 0) (ends : ℕ → ℕ → ℕ → Type 0)
-    (venue ordinal m : ℕ) (item : Item)
-    → carries venue ordinal m item → (item ≡ items.End → ⊥)
-    → MayCarry carries ends venue (record { ordinal = ordinal; number = m }) item
-allowed_item carries ends venue ordinal m (items.Quote quote) may never = may
-allowed_item carries ends venue ordinal m (items.Halt symbol halted) may never = may
-allowed_item carries ends venue ordinal m items.Other may never = may
-allowed_item carries ends venue ordinal m items.End may never = absurd (never refl)
 
 allowed_next : (carries : ℕ → ℕ → ℕ → Item → Type 0) (ends : ℕ → ℕ → ℕ → Type 0)
     (venue ordinal m : ℕ) (held : Option Item) (end : Option ℕ)
@@ -49,7 +39,7 @@ allowed_next carries ends venue ordinal m None (Some e) message last = by_test (
 
 -- what comes next is allowed at its place, where what was taken is genuine
 pub next_allowed : (carries : ℕ → ℕ → ℕ → Item → Type 0) (ends : ℕ → ℕ → ℕ → Type 0)
-    (venue ordinal : ℕ) (s : State) (packets : List Arrival)
+    (venue ordinal : ℕ) (s : State) (packets : List Input)
     → Stands s packets → AreGenuine carries ends venue ordinal packets
     → IfSome (next_of s) (λ n. MayCarry carries ends venue
     (record { ordinal = ordinal; number = n.number }) n.item)
@@ -58,6 +48,7 @@ next_allowed carries ends venue ordinal s packets stands all =
     held_is s packets stands (s.sent + 1) (omega arith) in
     allowed_next carries ends venue ordinal (s.sent + 1) (held_at (held_of s) (s.sent + 1)) s.end
     (λ item is. allowed_item carries ends venue ordinal (s.sent + 1) item
-    (carried_may carries ends venue ordinal packets (s.sent + 1) item all (sym held ∙ is))
+    (λ message. carried_may carries ends venue ordinal packets (s.sent + 1) item all (sym held ∙ is)
+    message)
     (carried_never_end packets (s.sent + 1) item (sym held ∙ is)))
     (λ e is. end_may carries ends venue ordinal packets e all (sym stands.end ∙ is))

@@ -1,24 +1,18 @@
 -- A packet whose messages were all sent or are held: nothing of it is new, and the front stays.
-use Rattle.std.proofs.Common.{◌≡◌, ℕ, ◌+◌, ◌-◌, ◌<◌, ◌≤◌, List, length, Option, Some, None, Ok, refl, sym, subst, arith, false, inl, inr}
+use Rattle.std.proofs.Common.{◌≡◌, ℕ, ◌+◌, ◌-◌, ◌<◌, ◌≤◌, length, Option, Some, None, Ok, refl, sym, subst, arith, false, inl, inr}
 use Rattle.std.specs.Prelude.{IsSome, nat_lt, ◌&&◌, is_none}
 use Rattle.std.proofs.lemmas.Bool.{cases_lt}
 use Rattle.std.proofs.lemmas.Bool.Decides.{nat_tests}
 use Rattle.feed_types.specs.declared.item.Item.{Item}
 use Rattle.feed_types.specs.declared.line.LineId.{LineId}
-use Rattle.mold_packet.specs.declared.packet.Kind.{Kind}
-use Rattle.mold_packet.specs.declared.packet.Kind.TheVariants as kinds
 use Rattle.mold_packet.specs.Content.{Content, last_number}
-use Rattle.line_arbiter.specs.declared.outcome.Outcome.{Outcome}
 use Rattle.line_arbiter.specs.declared.outcome.Outcome.TheVariants.{Taken}
-use Rattle.line_arbiter.specs.Packets.{Arrival}
 use Rattle.line_arbiter.specs.Outcomes.{IsBefore}
-use Rattle.line_arbiter.specs.InOrder.{IsSent, WasSent}
 use Rattle.line_arbiter.specs.Holding.{Held, held_at}
 use Rattle.line_arbiter.specs.Filling.{fresh_to, put_all, HeldAgrees}
 use Rattle.line_arbiter.specs.Comparing.{AreThere, IsThere}
 use Rattle.line_arbiter.specs.States.{State, held_of}
-use Rattle.line_arbiter.specs.Steps.{IsSound, KindStep, MessagesStep, PacketStep, raised}
-use Rattle.line_arbiter.specs.Fits.{Fits}
+use Rattle.line_arbiter.specs.Steps.{IsSound, MessagesStep, raised}
 use Rattle.line_arbiter.proofs.Counting.{count_none}
 use Rattle.line_arbiter.proofs.Windows.{before_base}
 use Rattle.line_arbiter.proofs.LineCounts.{counted_none}
@@ -29,7 +23,7 @@ pub sent_there : (held : Held) (p : Content) → last_number p ≤ held.base →
 sent_there held p gone k within = inl (omega arith)
 
 pub sent_agrees : (held : Held) (p : Content) → last_number p ≤ held.base → HeldAgrees held p
-sent_agrees held p gone k within found is = let none = before_base held (p.number + k) (omega arith) in absurd cc
+sent_agrees held p gone k within found is message = let none = before_base held (p.number + k) (omega arith) in absurd cc
 
 -- at the packet's numbers past the base something is held
 held_past : (held : Held) (p : Content) (m : ℕ) → AreThere held p → held.base < m → p.number ≤ m → m < p.number + length p.messages → IsSome (held_at held m)
@@ -107,21 +101,3 @@ repeats line s p sound some there agrees within before = (
   none_fresh (held_of s) p there,
   omega arith,
 )
-
--- a packet of messages of the session that were all sent
-pub sent_step : (line : LineId) (old new : State) (p : Content) (o : Outcome) → p.session ≡ old.session → p.kind ≡ kinds.Messages → MessagesStep line old new p (Ok o) → PacketStep line old new p (Ok o)
-sent_step line old new p o name kind step = inr (name, subst (λ (k : Kind). KindStep k line old new p (Ok o)) (sym kind) step)
-
-pub was_sent : (s : State) (packets : List Arrival) (p : Content) → Fits s packets → p.session ≡ s.session → p.kind ≡ kinds.Messages → IsSent s p → WasSent s.session s.sent packets p
-was_sent s packets p fits name kind sent = record {
-  name = name;
-  kind = kind;
-  all = sent.all;
-  before = subst (λ (end : Option ℕ). IsBefore end (last_number p)) fits.end sent.before;
-}
-
-pub sent_of_packets : (s : State) (packets : List Arrival) (p : Content) → Fits s packets → WasSent s.session s.sent packets p → IsSent s p
-sent_of_packets s packets p fits was = record {
-  all = was.all;
-  before = subst (λ (end : Option ℕ). IsBefore end (last_number p)) (sym fits.end) was.before;
-}

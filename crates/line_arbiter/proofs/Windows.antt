@@ -113,6 +113,7 @@ IsHeld-put count number held item h past within small free =
         | inl a ↦ let e = l.0 a in omega arith
         | inr b ↦ let e = l.1 b in omega arith
       ];
+      some = h.some;
       most = h.most;
       counted = ap (λ (n : ℕ). n + 1) h.counted ∙ sym (count-put_at held.places place item empty);
       last = λ some. elim (cases_lt place (length held.places)) [
@@ -166,6 +167,7 @@ IsHeld-pass count rest held h less small =
     record {
       small = omega arith;
       within = omega arith;
+      some = h.some;
       most = h.most;
       counted = let d = count-drop held.places in omega arith;
       last = λ some.
@@ -211,6 +213,7 @@ IsHeld-moved count base held small h none =
     record {
       small = omega arith;
       within = h.within;
+      some = h.some;
       most = h.most;
       counted = h.counted;
       last = λ some. absurd (omega arith);
@@ -223,8 +226,9 @@ empty_without held none m = elim (cases_lt held.base m) [
   | inr le ↦ before_base held m le
 ]
 
-pub IsHeld-new : (width : ℕ) → width ≤ 65535 → IsHeld 0 (record { base = 0; width = width; places = [] })
-IsHeld-new width most = record {
+pub IsHeld-new : (width : ℕ) → 1 ≤ width → width ≤ 65535 → IsHeld 0 (record { base = 0; width = width; places = [] })
+IsHeld-new width least most = record {
+  some = least;
   small = omega arith;
   within = omega arith;
   most = most;
@@ -303,3 +307,25 @@ IsBitmap-new width marks zeros =
       marked = λ m low high.
           none_marked m ∙ sym (ap (λ (o : Option Item). is_some o) (empty_without held refl m));
     })
+
+-- Skipped is held at the number after the base, and what was held past it as before
+pub gave_up : (old mid new : Held) (number : ℕ) (item : Item) → mid.base + 1 ≡ number → ((m : ℕ) → m ≤ number → held_at old m ≡ None)
+    → ((m : ℕ) → mid.base < m → held_at mid m ≡ held_at old m)
+    → ((m : ℕ) → held_at new m ≡ put_one mid.base number item (held_at mid m) m)
+    → (m : ℕ) → held_at new m ≡ (if nat_eq m number then Some item else held_at old m)
+gave_up old mid new number item base free kept put m = elim (cases_eq m number) [
+  | inl same ↦
+      let none : held_at mid number ≡ None = kept number (omega arith) ∙ free number (omega arith) in
+      let yes : (nat_lt mid.base number && nat_eq number number) ≡ true = grind (arith, nat_tests) in
+      ap (held_at new) same ∙ put number
+      ∙ ap (λ (o : Option Item). put_one mid.base number item o number) none
+      ∙ ap (λ (t : Bool). if t then Some item else None) yes
+      ∙ sym (ap (λ (t : Bool). if t then Some item else held_at old m) (eq-eqb m number same))
+  | inr other ↦
+      put m ∙ put_other mid.base number m item (held_at mid m) other
+      ∙ elim (cases_lt mid.base m) [
+        | inl past ↦ kept m past
+        | inr le ↦ before_base mid m le ∙ sym (free m (omega arith))
+      ]
+      ∙ sym (ap (λ (t : Bool). if t then Some item else held_at old m) (ne_eqb m number other))
+]

@@ -6,6 +6,8 @@ use Rattle.line_arbiter.specs.declared.faults.ArbiterFault.{ArbiterFault}
 use Rattle.line_arbiter.specs.declared.faults.ArbiterFault.TheVariants.{BadWindow, NoMemory}
 use Rattle.line_arbiter.specs.declared.faults.RenewFault.{RenewFault}
 use Rattle.line_arbiter.specs.declared.faults.RenewFault.TheVariants.{NotEnded, SessionUsed, TooManySessions}
+use Rattle.line_arbiter.specs.declared.faults.SkipFault.{SkipFault}
+use Rattle.line_arbiter.specs.declared.faults.SkipFault.TheVariants as skips
 
 abbrev pub line_fault_code : LineFault → ℕ
 line_fault_code OtherSession = 7
@@ -22,3 +24,9 @@ abbrev pub renew_fault_code : RenewFault → ℕ
 renew_fault_code NotEnded = 35
 renew_fault_code SessionUsed = 36
 renew_fault_code TooManySessions = 37
+
+abbrev pub skip_fault_code : SkipFault → ℕ
+skip_fault_code skips.ItemsReady = 60
+skip_fault_code skips.PastEnd = 61
+skip_fault_code skips.NothingMissing = 62
+skip_fault_code skips.HeldBelow = 63

@@ -2,6 +2,7 @@
 use Rattle.std.specs.Prelude.{◌≡◌, ◌≢◌, ℕ, ◌+◌, ◌-◌, ◌^◌, ◌<◌, ◌≤◌, nat_eq, nat_le, nat_lt, ◌&&◌, ◌⊎◌, List, [], ◌∷◌, ◌++◌, Option, Some, None, IsSome, count_by, is_none, is_some, length, replicate, slice_set, if◌then◌else◌}
 use Rattle.std.specs.List.{range_with_len}
 use Rattle.feed_types.specs.declared.item.Item.{Item}
+use Rattle.feed_types.specs.declared.item.Item.TheVariants as items
 use Rattle.mold_packet.specs.Content.{Content}
 use Rattle.line_arbiter.specs.Packets.{item_at, message_item}
 use Rattle.line_arbiter.specs.Holding.{Held, held_at}
@@ -14,11 +15,12 @@ count_held held = count_by is_some held.places
 abbrev pub last_place : Held → ℕ
 last_place held = held.base + length held.places
 
--- What a window keeps: as many items as it counts, no more places than it is wide, and an item in
--- the last of them.
+-- What a window keeps: as many items as it counts, no more places than it is wide, at least one,
+-- and an item in the last of them.
 pub record IsHeld (count : ℕ) (held : Held) : Type 0 where
   pub small : last_place held < 2 ^ 64
   pub within : length held.places ≤ held.width
+  pub some : 1 ≤ held.width
   pub most : held.width ≤ 65535
   pub counted : count ≡ count_held held
   pub last : held.base < last_place held → IsSome (held_at held (last_place held))
@@ -72,12 +74,14 @@ abbrev pub fresh_to : ℕ → ℕ → Held → Content → ℕ
 fresh_to n base held p =
     count_by (λ m. nat_lt base m && is_none (held_at held m)) (range_with_len p.number n)
 
--- another item is held at the number
+-- another message's item is held at the number
 abbrev pub HoldsOther : Held → ℕ → Item → Type 0
-HoldsOther held m item = (found : Item) × (held_at held m ≡ Some found) × (found ≢ item)
+HoldsOther held m item =
+    (found : Item) × (held_at held m ≡ Some found) × (found ≢ items.Skipped) × (found ≢ item)
 
 abbrev pub HoldsNoOther : Held → ℕ → Item → Type 0
-HoldsNoOther held m item = (found : Item) → held_at held m ≡ Some found → found ≡ item
+HoldsNoOther held m item =
+    (found : Item) → held_at held m ≡ Some found → found ≢ items.Skipped → found ≡ item
 
 -- a message of the packet reads otherwise than what is held at its number
 abbrev pub HeldDisagrees : Held → Content → Type 0

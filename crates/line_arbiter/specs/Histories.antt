@@ -3,14 +3,14 @@ use Rattle.std.specs.Prelude.{ℕ, List, [], ◌∷◌, ◌++◌, Result, Ok, Er
 use Rattle.feed_types.specs.declared.item.Numbered.{Numbered}
 use Rattle.feed_types.specs.declared.line.LineId.{LineId}
 use Rattle.line_arbiter.specs.declared.faults.RenewFault.{RenewFault}
-use Rattle.line_arbiter.specs.Packets.{Arrival}
+use Rattle.line_arbiter.specs.Packets.{Input}
 use Rattle.line_arbiter.specs.Streams.{stream_of, wins_of}
 
--- a session that a venue has begun: its name, and the packets that came, each with its line and its
--- answer
+-- a session that a venue has begun: its name, and what came of it: packets, each with its line and
+-- its answer, and skips
 pub record Begun : Type 0 where
   pub name : List ℕ
-  pub packets : List Arrival
+  pub packets : List Input
 
 -- a venue's sessions: those that are over, and the present one
 pub record History : Type 0 where
@@ -45,10 +45,10 @@ streams_of h = items_of (all_begun h)
 abbrev pub wins_in : List Begun → LineId → ℕ
 wins_in sessions line = sum_by (λ session. wins_of session.packets line) sessions
 
--- one more packet of the present session came
-abbrev pub after_arrival : History → Arrival → History
-after_arrival h a =
-    record h { present = record h.present { packets = h.present.packets ++ a ∷ [] } }
+-- one more packet of the present session came, or a skip
+abbrev pub after_input : History → Input → History
+after_input h x =
+    record h { present = record h.present { packets = h.present.packets ++ x ∷ [] } }
 
 -- the present session is over, and this one begins
 abbrev pub after_renewal : History → List ℕ → History

@@ -4,6 +4,7 @@ pub mod Streams
 pub mod Outcomes
 pub mod Answered
 pub mod Renewals
+pub mod Skips
 pub mod Histories
 pub mod Genuine
 pub mod OfSession

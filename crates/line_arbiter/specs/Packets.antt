@@ -1,8 +1,9 @@
--- What a venue's lines brought: definitions over the list of all packets that were given to its
--- arbiter in the present session, each with its line and its answer.
+-- What a venue's lines brought: definitions over the list of all that an arbiter was given in the
+-- present session: packets, each with its line and its answer, and skips.
 use Rattle.std.specs.Prelude.{ℕ, ◌+◌, ◌-◌, Bool, true, false, ◌&&◌, nat_lt, nat_le, List, [], length, fold, max, Option, Result, Ok, find, slice_index_or, if◌then◌else◌}
 use Rattle.std.specs.Option.{option_map, option_map_or}
 use Rattle.feed_types.specs.declared.item.Item.{Item}
+use Rattle.feed_types.specs.declared.item.Item.TheVariants as items
 use Rattle.feed_types.specs.declared.line.LineId.{LineId}
 use Rattle.mold_packet.specs.Content.{Content, last_number}
 use Rattle.quote_payload.specs.Payload.{item_of}
@@ -16,9 +17,16 @@ pub record Arrival : Type 0 where
   pub packet : Content
   pub answer : Result Outcome LineFault
 
+-- What an arbiter was given: a packet that arrived, or a skip, with the number to go on from. A
+-- skip gives up every message below that number which hasn't come.
+pub data Input : Type 0 where
+  Arrived : Arrival → Input
+  Skip : ℕ → Input
+
 -- the arrival of a packet on the line, with its answer
-abbrev pub arrival_of : LineId → Content → Result Outcome LineFault → Arrival
-arrival_of line packet answer = record { line = line; packet = packet; answer = answer }
+abbrev pub arrival_of : LineId → Content → Result Outcome LineFault → Input
+arrival_of line packet answer =
+    Arrived (record { line = line; packet = packet; answer = answer })
 
 -- the packet has a message of this number
 abbrev pub has_number : Content → ℕ → Bool
@@ -40,26 +48,53 @@ abbrev pub is_ended : Result Outcome LineFault → Bool
 is_ended (Ok Ended) = true
 is_ended _ = false
 
--- the packet was taken, and has a message of this number
-abbrev pub brings : ℕ → Arrival → Bool
-brings m a = is_taken a.answer && has_number a.packet m
+-- the packet was taken, and has a message of this number; or the skip is past it
+abbrev pub brings : ℕ → Input → Bool
+brings m (Arrived a) = is_taken a.answer && has_number a.packet m
+brings m (Skip n) = nat_lt m n
 
--- the first packet that brought a number
-abbrev pub bringer : List Arrival → ℕ → Option Arrival
+-- what it brings at a number: the item that the packet's message reads as, or Skipped
+abbrev pub item_by : Input → ℕ → Item
+item_by (Arrived a) m = item_at a.packet m
+item_by (Skip n) m = items.Skipped
+
+-- the first packet or skip that brought a number
+abbrev pub bringer : List Input → ℕ → Option Input
 bringer packets m = find (brings m) packets
 
--- the item that was taken at a number: that of the first packet that brought it
-abbrev pub carried : List Arrival → ℕ → Option Item
-carried packets m = option_map (λ a. item_at a.packet m) (bringer packets m)
+-- the item that was taken at a number: that of the first packet that brought it, or Skipped, where
+-- a skip was first
+abbrev pub carried : List Input → ℕ → Option Item
+carried packets m = option_map (λ x. item_by x m) (bringer packets m)
 
--- the greatest number that was taken, 0 where none was
-abbrev pub top_of : List Arrival → ℕ
-top_of packets =
-    fold (λ n a. if is_taken a.answer then max n (last_number a.packet) else n) 0 packets
+-- the greatest number that was taken or given up, 0 where none was
+abbrev pub top_by : ℕ → Input → ℕ
+top_by n (Arrived a) = if is_taken a.answer then max n (last_number a.packet) else n
+top_by n (Skip k) = max n (k - 1)
+
+abbrev pub top_of : List Input → ℕ
+top_of packets = fold (λ n x. top_by n x) 0 packets
 
 -- the announced end: the number of the first end of session that was answered Ended
-abbrev pub end_of : List Arrival → Option ℕ
-end_of packets = option_map (λ a. a.packet.number) (find (λ a. is_ended a.answer) packets)
+abbrev pub is_ending : Input → Bool
+is_ending (Arrived a) = is_ended a.answer
+is_ending (Skip n) = false
+
+abbrev pub number_by : Input → ℕ
+number_by (Arrived a) = a.packet.number
+number_by (Skip n) = n
+
+abbrev pub end_of : List Input → Option ℕ
+end_of packets = option_map (λ x. number_by x) (find (λ x. is_ending x) packets)
+
+-- the number that the present part goes on from: that of the skip that went furthest; 1 where there
+-- was none
+abbrev pub first_by : ℕ → Input → ℕ
+first_by n (Arrived a) = n
+first_by n (Skip k) = max n k
+
+abbrev pub first_of : List Input → ℕ
+first_of packets = fold (λ n x. first_by n x) 1 packets
 
 -- the number up to which an answered packet shows that there are messages
 abbrev pub heard_by : Content → Result Outcome LineFault → ℕ
@@ -68,11 +103,12 @@ heard_by p (Ok Ahead) = last_number p
 heard_by p (Ok Heartbeat) = p.number - 1
 heard_by p _ = 0
 
-abbrev pub heard : Arrival → ℕ
-heard a = heard_by a.packet a.answer
+abbrev pub heard : Input → ℕ
+heard (Arrived a) = heard_by a.packet a.answer
+heard (Skip n) = n - 1
 
 -- how far the session is known to go: to before the announced end, else to the greatest number
 -- heard of
-abbrev pub known_of : List Arrival → ℕ
+abbrev pub known_of : List Input → ℕ
 known_of packets =
-    option_map_or (λ e. e - 1) (end_of packets) (fold (λ k a. max k (heard a)) 0 packets)
+    option_map_or (λ e. e - 1) (end_of packets) (fold (λ k x. max k (heard x)) 0 packets)

@@ -99,3 +99,14 @@ pub record IsRenewed (old new : State) (name : List ℕ) : Type 0 where
   pub window : new.window ≡ old.window
   pub wins : new.wins ≡ old.wins
   pub earlier : new.earlier ≡ old.wins
+
+-- messages were given up, so that the next item is Skipped, which has the number before `n`
+pub record IsSkipped (old new : State) (n : ℕ) : Type 0 where
+  pub venue : new.venue ≡ old.venue
+  pub sessions : new.sessions ≡ old.sessions
+  pub session : new.session ≡ old.session
+  pub window : new.window ≡ old.window
+  pub sent : new.sent + 2 ≡ n
+  pub end : new.end ≡ old.end
+  pub wins : new.wins ≡ old.wins
+  pub earlier : new.earlier ≡ old.earlier

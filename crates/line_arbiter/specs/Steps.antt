@@ -1,6 +1,7 @@
 -- The effect of one packet on an arbiter, in terms of its state alone. Cited by private clauses
 -- alone.
 use Rattle.std.specs.Prelude.{◌≡◌, ◌≢◌, ℕ, ◌+◌, ◌-◌, ◌^◌, ◌<◌, nat_eq, ◌⊎◌, Option, Some, None, IsSome, length, max, Result, Ok, Err, ◌≤◌, if◌then◌else◌}
+use Rattle.feed_types.specs.declared.item.Item.TheVariants as items
 use Rattle.feed_types.specs.declared.line.LineId.{LineId}
 use Rattle.mold_packet.specs.declared.packet.Kind.{Kind}
 use Rattle.mold_packet.specs.declared.packet.Kind.TheVariants as kinds
@@ -16,8 +17,6 @@ use Rattle.line_arbiter.specs.Counts.{shown}
 use Rattle.line_arbiter.specs.Holding.{IsEmpty, held_at}
 use Rattle.line_arbiter.specs.Filling.{put_all, fresh_to, HeldAgrees, HeldDisagrees}
 use Rattle.line_arbiter.specs.States.{State, held_of}
-use Rattle.line_arbiter.specs.declared.in_order.InOrder.{InOrder}
-use Rattle.line_arbiter.specs.InOrder.{IsNext, IsOrder, IsSent}
 
 -- What every arbiter keeps: the front, and what is held, are known of, which is to before the
 -- announced end; nothing is held right after the front; the last item sent is not past the front,
@@ -50,6 +49,24 @@ pub record DropsNext (old new : State) : Type 0 where
       → held_at (held_of new) m
       ≡ (if nat_eq m (old.sent + 1) then None else held_at (held_of old) m)
   pub others : new ≡ record old { sent = new.sent; places = new.places }
+
+-- the state after all messages below a number were given up, of which none was held: Skipped is
+-- held at the number before it, and the front has moved over what is there
+pub record SkipsTo (old new : State) (n : ℕ) : Type 0 where
+  pub sent : new.sent + 2 ≡ n
+  pub held : (m : ℕ)
+      → held_at (held_of new) m
+      ≡ (if nat_eq m (n - 1) then Some items.Skipped else held_at (held_of old) m)
+  pub from : n ≤ new.front + 1
+  pub run : (m : ℕ) → n ≤ m → m ≤ new.front → IsSome (held_at (held_of new) m)
+  pub stop : held_at (held_of new) (new.front + 1) ≡ None
+  pub known : new.known ≡ raised old.known old.end (n - 1)
+  pub others : new ≡ record old {
+    sent = new.sent;
+    front = new.front;
+    known = new.known;
+    places = new.places;
+  }
 
 -- the packet's messages past `sent` are held, and the front has moved over what is there
 pub record TakesIn (line : LineId) (fresh : ℕ) (old new : State) (p : Content) : Type 0 where
@@ -122,8 +139,3 @@ pub record GoesPast (line : LineId) (old new : State) (p : Content) : Type 0 whe
     places = new.places;
     wins = counted line (length p.messages) old.wins;
   }
-
--- the order of a packet of messages of the session, if it needs no place in the window
-abbrev pub OrdersPacket : State → Content → Option InOrder → Type 0
-OrdersPacket s p (Some order) = IsOrder s p order
-OrdersPacket s p None = (IsNext s p → ⊥) × (IsSent s p → ⊥)

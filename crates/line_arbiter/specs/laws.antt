@@ -11,9 +11,12 @@ pub mod Giving
 pub mod StreamGrowth
 pub mod Below
 pub mod InSequence
+pub mod Parts
+pub mod Placing
 pub mod Deciding
 pub mod OneOutcome
 pub mod EveryAnswer
+pub mod SkipAnswers
 pub mod Histories
 pub mod AnsweredHistories
 pub mod FitsHistory

@@ -1,21 +1,25 @@
 //! One venue's lines, in sequence.
 
-ghost use Rattle.std.specs.Prelude.{◌≡◌, ◌∷◌, ◌++◌, ◌↔◌, ◌+◌, ◌^◌, ◌<◌, ◌≤◌, List, [], IfOk, IfSome, Ok, IsSome, MatchBool, Contains, IsErrOf, OnErr, OnOk, slice_get, Some, None, length};
+ghost use Rattle.std.specs.Prelude.{◌≡◌, ℕ, ◌∷◌, ◌++◌, ◌↔◌, ◌+◌, ◌^◌, ◌<◌, ◌≤◌, List, [], IfOk, IfSome, Ok, IsSome, MatchBool, Contains, IsErrOf, OnErr, OnOk, slice_get, Some, None, length};
 ghost use Rattle.feed_types.specs.Prefix.{IsPrefix};
 ghost use Rattle.feed_types.specs.declared.line.LineId.{LineId};
-ghost use Rattle.line_arbiter.specs.Packets.{Arrival, arrival_of};
-ghost use Rattle.line_arbiter.specs.Streams.{IsComplete, stream_of, gap_of, wins_of};
+ghost use Rattle.line_arbiter.specs.Packets.{Input, Skip, arrival_of};
+ghost use Rattle.line_arbiter.specs.Streams.{IsComplete, place_of, stream_of, gap_of, wins_of};
 ghost use Rattle.line_arbiter.specs.Outcomes.{IsOutcome};
 ghost use Rattle.line_arbiter.specs.Renewals.{HasEnded, IsRenewal};
+ghost use Rattle.line_arbiter.specs.Skips.{IsSkip};
 ghost use Rattle.line_arbiter.specs.Genuine.{AreGenuine, IsGenuineItem};
 ghost use Rattle.feed_types.specs.PerLines.{on_line};
 ghost use Rattle.line_arbiter.specs.Counts.{shown};
-ghost use Rattle.line_arbiter.specs.States.{ordinal_of, next_of, ShowsCursors, IsNew, KeepsItsPlace, IsAdvanced, IsRenewed};
+ghost use Rattle.line_arbiter.specs.Holding.{held_at};
+ghost use Rattle.line_arbiter.specs.States.{ordinal_of, held_of, next_of, ShowsCursors, IsNew, KeepsItsPlace, IsAdvanced, IsRenewed, IsSkipped};
 ghost use Rattle.line_arbiter.specs.Fits.{Fits, cursors_of};
-ghost use Rattle.line_arbiter.specs.Steps.{IsSound, DropsNext};
+ghost use Rattle.line_arbiter.specs.Steps.{IsSound, DropsNext, SkipsTo};
 
-use crate::faults::{ArbiterFault, RenewFault};
+use crate::faults::{ArbiterFault, RenewFault, SkipFault};
+use crate::intake::next_after;
 use crate::outcome::{LineFault, Outcome};
+use crate::taking::{ends_below, raised};
 use crate::window::Window;
 use arrayvec::ArrayVec;
 use feed_types::{Genuine, Item, LineId, MAX_SESSIONS, MAX_WINDOW, Numbered, PerLine, VenueId};
@@ -154,6 +158,14 @@ impl<G: Genuine> Arbiter<G> {
         }
     }
 
+    /// Returns whether an item is ready.
+    fn has_ready(&self) -> bool
+        ensures value { MatchBool result (IsSome (next_of self.now)) (next_of self.now ≡ None) }
+        ensures sound { IsSound self.now }
+    {
+        self.ready().is_some()
+    }
+
     /// Goes past the item that is ready.
     fn drop_next(&mut self)
         requires { IsSome (next_of self.old) }
@@ -163,17 +175,32 @@ impl<G: Genuine> Arbiter<G> {
         self.held.pass();
     }
 
+    /// Gives up all messages below the number, of which none is held.
+    fn go_on_from(&mut self, number: u64)
+        requires past { self.old.front + 1 < number }
+        requires missing { (m : ℕ) → IsSome (held_at (held_of self.old) m) → number ≤ m }
+        requires open { (e : ℕ) → self.old.end ≡ Some e → number ≤ e }
+        ensures after { SkipsTo self.old self.new number }
+        ensures sound { IsSound self.old }
+    {
+        let last = number - 1;
+        self.held.give_up(last);
+        self.run_to = self.held.run_end(last);
+        self.next_held = next_after(&self.held, self.run_to, self.next_held, last);
+        self.known_to = raised(self.known_to, self.end_number, last);
+    }
+
     /// Takes a packet that came on `line`, and returns its outcome. A refused packet changes
     /// nothing. The refusals, in this order: another session's packet; messages at the announced
     /// end or past it; a held message that reads otherwise; a heartbeat past the end; an end that
     /// differs from the announced one, or is at a message that was taken or before it.
     #[inline(always)]
     pub fn take(&mut self, line: LineId, packet: &Packet<'_>) -> Result<Outcome, LineFault>
-        ensures outcome { (packets : List Arrival) → Fits self.old packets
+        ensures outcome { (packets : List Input) → Fits self.old packets
             → IsOutcome self.old.session self.old.window self.old.sent packets packet.now result }
-        ensures fits { (packets : List Arrival) → Fits self.old packets
+        ensures fits { (packets : List Input) → Fits self.old packets
             → Fits self.new (packets ++ arrival_of line packet.now result ∷ []) }
-        ensures grows { (packets : List Arrival) → Fits self.old packets
+        ensures grows { (packets : List Input) → Fits self.old packets
             → IsPrefix (stream_of packets)
             (stream_of (packets ++ arrival_of line packet.now result ∷ [])) }
         ensures refused { OnErr result (self.new ≡ self.old) }
@@ -188,9 +215,9 @@ impl<G: Genuine> Arbiter<G> {
         ensures value { result ≡ next_of self.now }
         ensures number { IfSome result (λ n. n.number ≡ self.now.sent + 1) }
         ensures over { HasEnded self.now.end self.now.sent → result ≡ None }
-        ensures stream { (packets : List Arrival) → Fits self.now packets
-            → result ≡ slice_get (stream_of packets) self.now.sent }
-        ensures genuine { (packets : List Arrival) → Fits self.now packets
+        ensures stream { (packets : List Input) → Fits self.now packets
+            → result ≡ slice_get (stream_of packets) (place_of packets self.now.sent) }
+        ensures genuine { (packets : List Input) → Fits self.now packets
             → AreGenuine G.carries G.ends self.now.venue (ordinal_of self.now) packets
             → IfSome result (IsGenuineItem G.carries G.ends self.now.venue (ordinal_of self.now)) }
     {
@@ -201,7 +228,7 @@ impl<G: Genuine> Arbiter<G> {
     pub fn advance(&mut self)
         requires { IsSome (next_of self.old) }
         ensures after { IsAdvanced self.old self.new }
-        ensures fits { (packets : List Arrival) → Fits self.old packets → Fits self.new packets }
+        ensures fits { (packets : List Input) → Fits self.old packets → Fits self.new packets }
     {
         self.drop_next();
     }
@@ -210,7 +237,7 @@ impl<G: Genuine> Arbiter<G> {
     /// missing in a row, as far as the window and what is known of the session go. `None` where
     /// none is.
     pub fn gap(&self) -> Option<Request>
-        ensures { (packets : List Arrival) → Fits self.now packets
+        ensures { (packets : List Input) → Fits self.now packets
             → result ≡ gap_of self.now.session self.now.window self.now.sent packets }
     {
         let limit = self.known_to.min(self.held.reach());
@@ -232,7 +259,7 @@ impl<G: Genuine> Arbiter<G> {
     /// at 2^64 - 1.
     pub fn wins(&self, line: LineId) -> u64
         ensures value { result ≡ on_line line self.now.wins }
-        ensures session { (packets : List Arrival) → Fits self.now packets
+        ensures session { (packets : List Input) → Fits self.now packets
             → result ≡ shown (on_line line self.now.earlier + wins_of packets line) }
     {
         self.won.on(line)
@@ -241,7 +268,7 @@ impl<G: Genuine> Arbiter<G> {
     /// Returns the counts of all lines, each that of `wins`.
     pub fn all_wins(&self) -> PerLine<u64>
         ensures value { result ≡ self.now.wins }
-        ensures session { (packets : List Arrival) → Fits self.now packets → (line : LineId)
+        ensures session { (packets : List Input) → Fits self.now packets → (line : LineId)
             → on_line line result ≡ shown (on_line line self.now.earlier + wins_of packets line) }
     {
         self.won
@@ -250,7 +277,7 @@ impl<G: Genuine> Arbiter<G> {
     /// Returns the cursors of the present session.
     pub fn status(&self) -> ArbiterStatus
         ensures cursors { ShowsCursors self.now result }
-        ensures packets { (packets : List Arrival) → Fits self.now packets
+        ensures packets { (packets : List Input) → Fits self.now packets
             → result ≡ cursors_of self.now.sent packets }
     {
         ArbiterStatus {
@@ -283,8 +310,9 @@ impl<G: Genuine> Arbiter<G> {
         ensures answer { IsRenewal self.old.sessions self.old.end self.old.sent session result }
         ensures ok { OnOk result (IsRenewed self.old self.new session) }
         ensures fits { OnOk result (Fits self.new []) }
-        ensures complete { (packets : List Arrival) → Fits self.old packets
-            → OnOk result (IsComplete packets × (self.old.sent ≡ length (stream_of packets))) }
+        ensures complete { (packets : List Input) → Fits self.old packets
+            → OnOk result (IsComplete packets
+            × (place_of packets self.old.sent ≡ length (stream_of packets))) }
         ensures refused { OnErr result (self.new ≡ self.old) }
     {
         if self.end_number != Some(self.held.base()) {
@@ -304,5 +332,38 @@ impl<G: Genuine> Arbiter<G> {
         self.end_number = None;
         self.won_before = self.won;
         Ok(self.ordinal())
+    }
+
+    /// Gives up the messages that are missing below `number`, and goes on from it. The next item is
+    /// then `Skipped`, with the number before; a message that was given up is answered as repeated
+    /// where it comes later, and not read. What came from `number` on is kept. The refusals, in
+    /// this order: ItemsReady, PastEnd, NothingMissing, HeldBelow.
+    ///
+    /// An arbiter that begins in the middle of a session skips to the first number that is to be
+    /// read.
+    pub fn skip_to(&mut self, number: u64) -> Result<(), SkipFault>
+        ensures answer { (packets : List Input) → Fits self.old packets
+            → IsSkip packets self.old.sent number result }
+        ensures ok { OnOk result (IsSkipped self.old self.new number) }
+        ensures fits { (packets : List Input) → Fits self.old packets
+            → OnOk result (Fits self.new (packets ++ Skip number ∷ [])) }
+        ensures grows { (packets : List Input) → Fits self.old packets
+            → OnOk result (IsPrefix (stream_of packets) (stream_of (packets ++ Skip number ∷ []))) }
+        ensures refused { OnErr result (self.new ≡ self.old) }
+    {
+        if self.has_ready() {
+            return Err(SkipFault::ItemsReady);
+        }
+        if ends_below(self.end_number, number) {
+            return Err(SkipFault::PastEnd);
+        }
+        if number.saturating_sub(1) <= self.run_to {
+            return Err(SkipFault::NothingMissing);
+        }
+        if self.held.holds_below(number) {
+            return Err(SkipFault::HeldBelow);
+        }
+        self.go_on_from(number);
+        Ok(())
     }
 }

@@ -1,7 +1,7 @@
-//! The faults of making an arbiter and of beginning its next session.
+//! The faults of making an arbiter, of beginning its next session, and of skipping.
 
 ghost use Rattle.std.specs.Prelude.{◌≡◌};
-ghost use Rattle.line_arbiter.specs.Codes.{arbiter_fault_code, renew_fault_code};
+ghost use Rattle.line_arbiter.specs.Codes.{arbiter_fault_code, renew_fault_code, skip_fault_code};
 
 use thiserror::Error;
 
@@ -51,6 +51,37 @@ impl RenewFault {
             RenewFault::NotEnded => 35,
             RenewFault::SessionUsed => 36,
             RenewFault::TooManySessions => 37,
+        }
+    }
+}
+
+/// Why messages aren't given up. The arbiter is unchanged.
+#[derive(Clone, Copy, Debug, PartialEq, Eq, Hash, Error)]
+pub enum SkipFault {
+    /// An item is ready: what has come is sent first.
+    #[error("an item is ready to be sent")]
+    ItemsReady,
+    /// The session ends before the number.
+    #[error("the number is past the announced end of the session")]
+    PastEnd,
+    /// No message below the number is missing.
+    #[error("no message below the number is missing")]
+    NothingMissing,
+    /// A message below the number has come, after one that is missing: skip to it first.
+    #[error("a message below the number has come")]
+    HeldBelow,
+}
+
+impl SkipFault {
+    /// The code of the fault in printed lines: 60 to 63.
+    pub fn code(self) -> u8
+        ensures { result ≡ skip_fault_code self }
+    {
+        match self {
+            SkipFault::ItemsReady => 60,
+            SkipFault::PastEnd => 61,
+            SkipFault::NothingMissing => 62,
+            SkipFault::HeldBelow => 63,
         }
     }
 }

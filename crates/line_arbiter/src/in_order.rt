@@ -1,19 +1,15 @@
-//! Packets that need no place in the window: those that go on where nothing is held, and those
-//! whose messages were all sent, as on the line that comes second.
+//! A packet that needs no place in the window, since it goes on where nothing is held.
 //!
-//! A caller peeks, does what it has to do with the packet's messages first, and takes the packet
-//! then. So the order is found once, and no message moves through the window.
+//! A caller asks, may do first what it has to do with the packet's messages, and takes the packet
+//! then. No message moves through the window.
 
-ghost use Rattle.std.specs.Prelude.{◌≡◌, ◌∷◌, ◌++◌, List, [], IfSome, Ok, MatchBool, length};
+ghost use Rattle.std.specs.Prelude.{◌≡◌, ◌∷◌, ◌++◌, List, [], Ok, IsTrue, MatchBool, length};
 ghost use Rattle.mold_packet.specs.Content.{IsContent, last_number};
-ghost use Rattle.feed_types.specs.Prefix.{IsPrefix};
-ghost use Rattle.line_arbiter.specs.Packets.{Arrival, arrival_of};
-ghost use Rattle.line_arbiter.specs.Streams.{stream_of};
-ghost use Rattle.line_arbiter.specs.Outcomes.{IsOutcome};
-ghost use Rattle.line_arbiter.specs.InOrder.{BringsInOrder, IsInOrder, IsNext, IsPeeked, SendsInOrder, outcome_in_order, sent_in_order};
+ghost use Rattle.line_arbiter.specs.Packets.{Input, arrival_of};
+ghost use Rattle.line_arbiter.specs.InOrder.{BringsNext, IsNext, IsNextPacket, outcome_of_next};
 ghost use Rattle.line_arbiter.specs.States.{KeepsItsSession};
 ghost use Rattle.line_arbiter.specs.Fits.{Fits};
-ghost use Rattle.line_arbiter.specs.Steps.{GoesPast, OrdersPacket};
+ghost use Rattle.line_arbiter.specs.Steps.{GoesPast};
 
 use crate::arbiter::Arbiter;
 use crate::names::is_same_name;
@@ -23,55 +19,31 @@ use crate::wins::add_wins;
 use feed_types::{Genuine, LineId};
 use mold_packet::{Kind, Packet};
 
-/// The order of a packet of messages that needs no place in the window, with its last number.
-#[derive(Clone, Copy, Debug, PartialEq, Eq)]
-pub enum InOrder {
-    /// Its first message is the next one, and nothing is held.
-    Next { last: u64 },
-    /// Its messages were all sent.
-    Repeat { last: u64 },
-}
-
 impl<G: Genuine> Arbiter<G> {
-    /// Returns whether the packet, whose last number is `last`, goes on where nothing is held: its
-    /// first message is the next one, its last is before the end, and it is no longer than the
-    /// window.
-    fn is_next(&self, packet: &Packet<'_>, last: u64) -> bool
-        requires { last ≡ last_number packet.now }
+    /// Returns whether the packet goes on where nothing is held, in terms of the state.
+    #[inline(always)]
+    fn goes_on(&self, packet: &Packet<'_>) -> bool
         ensures { MatchBool result (IsNext self.now packet.now) (IsNext self.now packet.now → ⊥) }
     {
         let sent = self.held.base();
-        packet.number() - 1 == sent
+        is_same_name(&packet.session(), &self.session_name)
+            && packet.kind() == Kind::Messages
+            && packet.number() - 1 == sent
             && self.run_to == sent
             && self.held.is_empty()
             && u32::from(packet.count()) <= self.held.width()
-            && !is_past(self.end_number, last)
+            && !is_past(self.end_number, packet.last_number())
     }
 
-    /// Returns the order of a packet of messages of the session, or `None` where it has neither.
-    fn order_of(&self, packet: &Packet<'_>) -> Option<InOrder>
-        requires { packet.now.kind ≡ Kind.Messages }
-        ensures { OrdersPacket self.now packet.now result }
-    {
-        let last = packet.last_number();
-        if self.is_next(packet, last) {
-            return Some(InOrder::Next { last });
-        }
-        if last > self.held.base() || is_past(self.end_number, last) {
-            return None;
-        }
-        Some(InOrder::Repeat { last })
-    }
-
-    /// Goes past a packet of messages that are the next ones, on the line, up to `last`.
+    /// Goes past a packet of messages that are the next ones, on the line.
     #[inline(always)]
-    fn pass(&mut self, line: LineId, packet: &Packet<'_>, last: u64) -> Outcome
-        requires last { last ≡ last_number packet.now }
-        requires next { IsNext self.old packet.now }
+    fn pass(&mut self, line: LineId, packet: &Packet<'_>) -> Outcome
+        requires { IsNext self.old packet.now }
         ensures past { GoesPast line self.old self.new packet.now }
-        ensures outcome { result ≡ Outcome.Taken (length packet.now.messages) 0 }
+        ensures outcome { result ≡ outcome_of_next packet.now }
     {
         let new = packet.count();
+        let last = packet.last_number();
         self.held.move_to(last);
         self.run_to = last;
         self.known_to = raised(self.known_to, self.end_number, last);
@@ -79,56 +51,41 @@ impl<G: Genuine> Arbiter<G> {
         Outcome::Taken { new, repeated: 0 }
     }
 
-    /// Returns the order of the packet, if it needs no place in the window: a packet of messages
-    /// that goes on where nothing is held, or whose messages were all sent. `take_in_order` takes
-    /// it then. `None` for any other packet: then `take` it. `brings` says beforehand what taking
-    /// it will bring, so that its messages may be sent on first.
+    /// Returns whether the packet goes on where nothing is held: a packet of messages of the
+    /// session, of which the first is the next one and the last is before the end, no longer than
+    /// the window. `take_next` takes it then; any other packet is for `take`. `brings` says
+    /// beforehand what taking it will bring, so that its messages may be sent on first.
     #[inline(always)]
-    pub fn peek_in_order(&self, packet: &Packet<'_>) -> Option<InOrder>
-        ensures peeked { (packets : List Arrival) → Fits self.now packets
-            → IsPeeked self.now.session self.now.window self.now.sent packets packet.now result }
-        ensures brings { (packets : List Arrival) (line : LineId) → Fits self.now packets
-            → IfSome result (BringsInOrder self.now.session self.now.window self.now.sent packets
-            line packet.now) }
-        ensures in_order { IfSome result (IsInOrder self.now packet.now) }
+    pub fn is_next(&self, packet: &Packet<'_>) -> bool
+        ensures exact { (packets : List Input) → Fits self.now packets
+            → MatchBool result
+            (IsNextPacket self.now.session self.now.window self.now.sent packets packet.now)
+            (IsNextPacket self.now.session self.now.window self.now.sent packets packet.now → ⊥) }
+        ensures brings { (packets : List Input) (line : LineId) → Fits self.now packets
+            → IsTrue result
+            → BringsNext self.now.session self.now.window self.now.sent packets line packet.now }
+        ensures next { IsTrue result → IsNext self.now packet.now }
         ensures content { IsContent packet.now }
     {
-        if !is_same_name(&packet.session(), &self.session_name) {
-            return None;
-        }
-        match packet.kind() {
-            Kind::Messages => self.order_of(packet),
-            Kind::Heartbeat | Kind::End => None,
-        }
+        // For the prover alone: the ranges of the packet.
+        let _number = packet.number();
+        self.goes_on(packet)
     }
 
-    /// Takes a packet that needs no place in the window, which `peek_in_order` found to be `order`,
-    /// on the line, and returns the answer of `take`. The messages of a next packet are then sent:
-    /// the caller reads them from the packet.
+    /// Takes a packet that goes on where nothing is held, on the line, and returns the answer of
+    /// `take`. Its messages are then sent: the caller reads them from the packet.
     #[inline(always)]
-    pub fn take_in_order(&mut self, line: LineId, order: InOrder, packet: &Packet<'_>) -> Outcome
-        requires { IsInOrder self.old packet.now order }
-        ensures answer { result ≡ outcome_in_order order packet.now }
-        ensures outcome { (packets : List Arrival) → Fits self.old packets
-            → IsOutcome self.old.session self.old.window self.old.sent packets packet.now
-            (Ok result) }
-        ensures fits { (packets : List Arrival) → Fits self.old packets
+    pub fn take_next(&mut self, line: LineId, packet: &Packet<'_>) -> Outcome
+        requires { IsNext self.old packet.now }
+        ensures answer { result ≡ outcome_of_next packet.now }
+        ensures fits { (packets : List Input) → Fits self.old packets
             → Fits self.new (packets ++ arrival_of line packet.now (Ok result) ∷ []) }
-        ensures grows { (packets : List Arrival) → Fits self.old packets
-            → IsPrefix (stream_of packets)
-            (stream_of (packets ++ arrival_of line packet.now (Ok result) ∷ [])) }
-        ensures items { (packets : List Arrival) → Fits self.old packets
-            → SendsInOrder order self.old.sent packet.now
-            (packets ++ arrival_of line packet.now (Ok result) ∷ []) }
-        ensures sent { self.new.sent ≡ sent_in_order order self.old.sent }
+        ensures sent { self.new.sent ≡ last_number packet.now }
         ensures kept { KeepsItsSession self.old self.new }
     {
         // For the prover alone: the ranges of the packet, and what an arbiter keeps.
         let _number = packet.number();
         let _held = &self.held;
-        match order {
-            InOrder::Next { last } => self.pass(line, packet, last),
-            InOrder::Repeat { .. } => self.repeat_of(packet),
-        }
+        self.pass(line, packet)
     }
 }

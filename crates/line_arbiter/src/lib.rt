@@ -8,11 +8,11 @@
 //! The calls of an arbiter, in groups:
 //!
 //! - take a packet: `take`;
-//! - look first at a packet that needs no place in the window, and take it then: `peek_in_order`
-//!   and `take_in_order`;
+//! - take a packet that needs no place in the window: `is_next` and `take_next`;
 //! - take items out: `next_ready` and `advance`;
 //! - read the cursors, and what to ask for: `status`, `gap`, `wins` and `all_wins`;
-//! - read the session, and begin the next one: `venue`, `session`, `ordinal` and `renew`.
+//! - read the session, and begin the next one: `venue`, `session`, `ordinal` and `renew`;
+//! - give up what is missing: `skip_to`.
 //!
 //! Contract: for every list of packets that the arbiter was given in the present session, its
 //! answers, cursors and items are those that `specs/Outcomes.antt` and `specs/Streams.antt` define
@@ -35,12 +35,13 @@ mod window;
 mod wins;
 
 pub use arbiter::{Arbiter, ArbiterStatus};
-pub use faults::{ArbiterFault, RenewFault};
-pub use in_order::InOrder;
+pub use faults::{ArbiterFault, RenewFault, SkipFault};
 pub use laws::{
     a_genuine_stream_is_the_session, a_renewal_comes_when_all_is_sent, a_session_is_its_messages,
-    a_stream_only_grows, answers_go_on, every_packet_has_an_answer, every_renewal_has_an_answer,
-    known_is_the_greatest_heard_of, no_genuine_packet_is_refused, one_outcome, one_renewal,
+    a_session_without_skips_is_one_part, a_stream_only_grows, answered_skips_could_be_made,
+    answers_go_on, every_packet_has_an_answer, every_renewal_has_an_answer,
+    every_skip_has_an_answer, items_sent_are_counted, known_is_the_greatest_heard_of,
+    no_genuine_packet_is_refused, one_outcome, one_renewal, one_skip,
     packets_of_sessions_are_genuine, streams_are_in_sequence, the_front_is_the_first_gap,
     the_gap_is_what_is_missing, the_stream_is_the_session, what_is_taken_stays_genuine,
 };

@@ -1,7 +1,7 @@
 //! The taking of a packet, on whichever line: which refusal fits first, what is held of it, and
 //! where the cursors are then.
 
-ghost use Rattle.std.specs.Prelude.{◌≡◌, ◌+◌, ◌<◌, ◌≤◌, Ok, MatchBool, Some, None};
+ghost use Rattle.std.specs.Prelude.{◌≡◌, ℕ, ◌+◌, ◌<◌, ◌≤◌, Ok, MatchBool, Some, None};
 ghost use Rattle.mold_packet.specs.Content.{IsContent, last_number};
 ghost use Rattle.line_arbiter.specs.Outcomes.{IsBefore, IsPast};
 ghost use Rattle.line_arbiter.specs.States.{held_of};
@@ -24,6 +24,17 @@ pub(crate) fn is_past(end: Option<u64>, number: u64) -> bool
 {
     match end {
         Some(end) => end <= number,
+        None => false,
+    }
+}
+
+/// Returns whether the end is announced below the number.
+pub(crate) fn ends_below(end: Option<u64>, number: u64) -> bool
+    ensures { MatchBool result ((e : ℕ) × (end ≡ Some e) × (e < number))
+        ((e : ℕ) → end ≡ Some e → number ≤ e) }
+{
+    match end {
+        Some(end) => end < number,
         None => false,
     }
 }

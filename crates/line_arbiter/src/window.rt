@@ -57,6 +57,7 @@ fn copy_fields(item: &Item) -> Item
         },
         Item::Other => Item::Other,
         Item::End => Item::End,
+        Item::Skipped => Item::Skipped,
     }
 }
 
@@ -146,6 +147,7 @@ impl Window {
     /// Returns the greatest number of places.
     pub(crate) fn width(&self) -> u32
         ensures value { result ≡ self.now.width }
+        ensures least { 1 ≤ result }
         ensures most { result ≤ 65535 }
     {
         self.places.capacity() as u32
@@ -209,6 +211,17 @@ impl Window {
         !self.places.is_empty() && number <= self.last()
     }
 
+    /// Returns whether an item is held below the number.
+    pub(crate) fn holds_below(&self, number: u64) -> bool
+        ensures { MatchBool result ((m : ℕ) × (m < number) × IsSome (held_at self.now m))
+            ((m : ℕ) → IsSome (held_at self.now m) → number ≤ m) }
+    {
+        match self.first_after(self.base_number) {
+            Some(first) => first < number,
+            None => false,
+        }
+    }
+
     /// Returns whether an item can be held at the number: it is past the base, and nothing is.
     pub(crate) fn can_hold(&self, number: u64) -> bool
         requires { number ≤ self.now.base + self.now.width }
@@ -258,6 +271,28 @@ impl Window {
         ensures empty { IsEmpty self.new }
     {
         self.base_number = number;
+    }
+
+    /// Holds Skipped at a number up to which nothing is held, and begins its places with it.
+    pub(crate) fn give_up(&mut self, number: u64)
+        requires past { self.old.base < number }
+        requires free { (m : ℕ) → m ≤ number → held_at self.old m ≡ None }
+        ensures base { self.new.base + 1 ≡ number }
+        ensures width { self.new.width ≡ self.old.width }
+        ensures held { (m : ℕ)
+            → held_at self.new m
+            ≡ (if nat_eq m number then Some Item.Skipped else held_at self.old m) }
+    {
+        // For the prover alone: there is a place.
+        let _width = self.width();
+        let before = number - 1;
+        while self.base_number < before && !self.is_empty() {
+            self.pass();
+        }
+        if self.base_number < before {
+            self.move_to(before);
+        }
+        self.hold(number, Item::Skipped);
     }
 
     /// Returns the last number of the run of held numbers that goes on past `front`; `front` itself

@@ -4,7 +4,7 @@ use Rattle.std.specs.Prelude.{IsOk}
 use Rattle.std.proofs.lemmas.Option.{slice_get_within}
 use Rattle.feed_types.specs.declared.item.Item.{Item}
 use Rattle.feed_types.specs.Sessions.{Session}
-use Rattle.line_arbiter.specs.Packets.{Arrival, end_of, message_item}
+use Rattle.line_arbiter.specs.Packets.{Input, end_of, message_item}
 use Rattle.mold_packet.specs.Content.{last_number, Content, IsContent, KindFits}
 use Rattle.line_arbiter.specs.Outcomes.{IsPast, Disagrees, ToMessages, ToHeartbeat, ToEnd, ToKind, IsOutcome}
 use Rattle.line_arbiter.specs.OfSession.{IsOfSession}
@@ -15,7 +15,7 @@ use Rattle.line_arbiter.specs.declared.outcome.LineFault.{LineFault}
 use Rattle.line_arbiter.specs.declared.outcome.LineFault.TheVariants.{OtherSession, PastEnd, EndMoved, EndTooEarly, Conflict}
 use Rattle.line_arbiter.specs.laws.OfSession.{IsPartOf, taken_within}
 
-module _ (s : Session) (packets : List Arrival) (part : IsPartOf s packets) where
+module _ (s : Session) (packets : List Input) (part : IsPartOf s packets) where
   not_past : (p : Content) → IsOfSession s p → 1 ≤ length p.messages
       → IsPast (end_of packets) (last_number p) → ⊥
   not_past p of some past =
@@ -29,7 +29,7 @@ module _ (s : Session) (packets : List Arrival) (part : IsPartOf s packets) wher
 
   agrees : (sent : ℕ) (p : Content) → IsOfSession s p → Disagrees packets sent p → ⊥
   agrees sent p of other =
-      let mine = (part.item (p.number + other.place) other.item other.taken).1 in
+      let mine = (part.item (p.number + other.place) other.item other.taken other.message).1 in
       other.differs (same_item other.item (message_item p other.place)
       (sym mine ∙ of.messages other.place other.in_packet))
     where

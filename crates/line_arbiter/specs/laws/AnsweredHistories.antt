@@ -2,11 +2,11 @@
 -- with one session more.
 use Rattle.std.proofs.Common.{ℕ, ◌≤◌, List, length}
 use Rattle.std.specs.List.{AllByRecursion}
-use Rattle.line_arbiter.specs.Packets.{Arrival, end_of}
-use Rattle.line_arbiter.specs.Streams.{IsComplete, stream_of}
+use Rattle.line_arbiter.specs.Packets.{Input, end_of}
+use Rattle.line_arbiter.specs.Streams.{IsComplete, place_of, stream_of}
 use Rattle.line_arbiter.specs.Answered.{IsAnswered, AreAnswered}
 use Rattle.line_arbiter.specs.Renewals.{HasEnded}
-use Rattle.line_arbiter.specs.Histories.{Begun, History, new_history, after_arrival, after_renewal}
+use Rattle.line_arbiter.specs.Histories.{Begun, History, new_history, after_input, after_renewal}
 use Rattle.line_arbiter.specs.laws.Arrivals.{all_push}
 use Rattle.line_arbiter.specs.laws.Below.{answered_more, all_sent}
 
@@ -24,15 +24,16 @@ pub new_answered : (window : ℕ) (name : List ℕ) → IsAnsweredThroughout win
 new_answered window name = record { over = tt; answered = tt }
 
 module _ (window : ℕ) (h : History) (k : IsAnsweredThroughout window h) where
-  pub answered_arrival : (a : Arrival) → IsAnswered h.present.name window h.present.packets a
-      → IsAnsweredThroughout window (after_arrival h a)
+  pub answered_arrival : (a : Input) → IsAnswered h.present.name window h.present.packets a
+      → IsAnsweredThroughout window (after_input h a)
   answered_arrival a one = record {
     over = k.over;
     answered = answered_more h.present.name window h.present.packets a k.answered one;
   }
 
   -- the present session has ended, and all of it was sent
-  pub answered_renewal : (sent : ℕ) (name : List ℕ) → sent ≤ length (stream_of h.present.packets)
+  pub answered_renewal : (sent : ℕ) (name : List ℕ) → place_of h.present.packets sent
+      ≤ length (stream_of h.present.packets)
       → HasEnded (end_of h.present.packets) sent
       → IsAnsweredThroughout window (after_renewal h name)
   answered_renewal sent name within has = record {

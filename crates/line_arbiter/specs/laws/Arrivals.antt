@@ -11,13 +11,13 @@ use Rattle.line_arbiter.specs.declared.outcome.Outcome.TheVariants.{Taken, Heart
 use Rattle.line_arbiter.specs.declared.outcome.LineFault.{LineFault}
 use Rattle.line_arbiter.specs.declared.outcome.LineFault.TheVariants.{OtherSession}
 use Rattle.feed_types.specs.Sequence.{Carries, Ends}
-use Rattle.line_arbiter.specs.Packets.{Arrival, is_ended, is_taken}
+use Rattle.line_arbiter.specs.Packets.{Input, Arrived, Skip, is_ended, is_taken}
 use Rattle.line_arbiter.specs.Answered.{IsAnswered}
 use Rattle.line_arbiter.specs.Outcomes.{ToMessages, ToHeartbeat, ToKind, IsOutcome}
-use Rattle.line_arbiter.specs.Genuine.{IsGenuineAt, IsGenuineArrival, AreGenuine}
+use Rattle.line_arbiter.specs.Genuine.{IsGenuineIn, IsGenuineInput, AreGenuine}
 
 -- only an end of session is answered Ended
-messages_unended : (window sent : ℕ) (packets : List Arrival) (p : Content)
+messages_unended : (window sent : ℕ) (packets : List Input) (p : Content)
     (answer : Result Outcome LineFault)
     → ToMessages window sent packets p answer → is_ended answer ≡ true → ⊥
 messages_unended window sent packets p (Ok Ended) h e = h
@@ -26,7 +26,7 @@ messages_unended window sent packets p (Ok Ahead) h e = false≢true e
 messages_unended window sent packets p (Ok (Taken new repeated)) h e = false≢true e
 messages_unended window sent packets p (Err fault) h e = false≢true e
 
-heartbeat_unended : (packets : List Arrival) (n : ℕ) (answer : Result Outcome LineFault)
+heartbeat_unended : (packets : List Input) (n : ℕ) (answer : Result Outcome LineFault)
     → ToHeartbeat packets n answer → is_ended answer ≡ true → ⊥
 heartbeat_unended packets n (Ok Ended) h e = h
 heartbeat_unended packets n (Ok Heartbeat) h e = false≢true e
@@ -34,7 +34,7 @@ heartbeat_unended packets n (Ok Ahead) h e = false≢true e
 heartbeat_unended packets n (Ok (Taken new repeated)) h e = false≢true e
 heartbeat_unended packets n (Err fault) h e = false≢true e
 
-kind_ended : (kind : Kind) (window sent : ℕ) (packets : List Arrival) (p : Content)
+kind_ended : (kind : Kind) (window sent : ℕ) (packets : List Input) (p : Content)
     (answer : Result Outcome LineFault)
     → ToKind kind window sent packets p answer → is_ended answer ≡ true → kind ≡ kinds.End
 kind_ended kinds.Messages window sent packets p answer h e =
@@ -43,7 +43,7 @@ kind_ended kinds.Heartbeat window sent packets p answer h e =
     absurd (heartbeat_unended packets p.number answer h e)
 kind_ended kinds.End window sent packets p answer h e = refl
 
-ended_is_end : (session : List ℕ) (window sent : ℕ) (packets : List Arrival) (p : Content)
+ended_is_end : (session : List ℕ) (window sent : ℕ) (packets : List Input) (p : Content)
     (answer : Result Outcome LineFault)
     → IsOutcome session window sent packets p answer → is_ended answer ≡ true → p.kind ≡ kinds.End
 ended_is_end session window sent packets p answer h e = elim h [
@@ -56,7 +56,7 @@ ended_is_end session window sent packets p answer h e = elim h [
     refused (Err fault) is e = false≢true e
 
 -- only a packet of the session is answered with an outcome
-accepted_is_of_session : (session : List ℕ) (window sent : ℕ) (packets : List Arrival) (p : Content)
+accepted_is_of_session : (session : List ℕ) (window sent : ℕ) (packets : List Input) (p : Content)
     (answer : Result Outcome LineFault)
     → IsOutcome session window sent packets p answer → IsOk answer → p.session ≡ session
 accepted_is_of_session session window sent packets p answer h ok = elim h [
@@ -82,10 +82,11 @@ all_push Q [] x all one = (one, tt)
 all_push Q (y ∷ xs) x all one = (all.0, all_push Q xs x all.1 one)
 
 module _ (carries : Carries) (ends : Ends) (venue ordinal : ℕ) where
-  genuine_arrival : (session : List ℕ) (window : ℕ) (packets : List Arrival) (a : Arrival)
-      → (a.packet.session ≡ session → IsGenuineAt carries ends venue ordinal a.packet)
-      → IsAnswered session window packets a → IsGenuineArrival carries ends venue ordinal a
-  genuine_arrival session window packets a genuine right = record {
+  genuine_input : (session : List ℕ) (window : ℕ) (packets : List Input) (x : Input)
+      → IsGenuineIn carries ends venue ordinal session x
+      → IsAnswered session window packets x → IsGenuineInput carries ends venue ordinal x
+  genuine_input session window packets (Skip n) genuine right = tt
+  genuine_input session window packets (Arrived a) genuine right = record {
     taken =
         λ h. (genuine (accepted_is_of_session session window right.sent packets a.packet a.answer
         right.outcome (taken_ok a.answer h))).messages;
@@ -96,11 +97,11 @@ module _ (carries : Carries) (ends : Ends) (venue ordinal : ℕ) where
   }
 
   -- what was taken stays genuine when a packet comes that is so where it is of the session
-  pub genuine_grows : (window : ℕ) (session : List ℕ) (packets : List Arrival) (a : Arrival)
+  pub genuine_grows : (window : ℕ) (session : List ℕ) (packets : List Input) (x : Input)
       → AreGenuine carries ends venue ordinal packets
-      → (a.packet.session ≡ session → IsGenuineAt carries ends venue ordinal a.packet)
-      → IsAnswered session window packets a
-      → AreGenuine carries ends venue ordinal (packets ++ a ∷ [])
-  genuine_grows window session packets a all genuine right =
-      all_push (IsGenuineArrival carries ends venue ordinal) packets a all
-      (genuine_arrival session window packets a genuine right)
+      → IsGenuineIn carries ends venue ordinal session x
+      → IsAnswered session window packets x
+      → AreGenuine carries ends venue ordinal (packets ++ x ∷ [])
+  genuine_grows window session packets x all genuine right =
+      all_push (IsGenuineInput carries ends venue ordinal) packets x all
+      (genuine_input session window packets x genuine right)

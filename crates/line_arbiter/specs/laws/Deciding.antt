@@ -70,6 +70,7 @@ cases_item (items.Quote a) (items.Quote b) =
 cases_item (items.Quote a) (items.Halt t off) = inr (λ e. cc)
 cases_item (items.Quote a) items.Other = inr (λ e. cc)
 cases_item (items.Quote a) items.End = inr (λ e. cc)
+cases_item (items.Quote a) items.Skipped = inr (λ e. cc)
 cases_item (items.Halt s on) (items.Quote b) = inr (λ e. cc)
 cases_item (items.Halt s on) (items.Halt t off) = elim (cases_bytes s t) [
   | inl symbol ↦ elim (cases_flag on off) [
@@ -81,14 +82,22 @@ cases_item (items.Halt s on) (items.Halt t off) = elim (cases_bytes s t) [
 ]
 cases_item (items.Halt s on) items.Other = inr (λ e. cc)
 cases_item (items.Halt s on) items.End = inr (λ e. cc)
+cases_item (items.Halt s on) items.Skipped = inr (λ e. cc)
 cases_item items.Other (items.Quote b) = inr (λ e. cc)
 cases_item items.Other (items.Halt t off) = inr (λ e. cc)
 cases_item items.Other items.Other = inl refl
 cases_item items.Other items.End = inr (λ e. cc)
+cases_item items.Other items.Skipped = inr (λ e. cc)
 cases_item items.End (items.Quote b) = inr (λ e. cc)
 cases_item items.End (items.Halt t off) = inr (λ e. cc)
 cases_item items.End items.Other = inr (λ e. cc)
 cases_item items.End items.End = inl refl
+cases_item items.End items.Skipped = inr (λ e. cc)
+cases_item items.Skipped (items.Quote b) = inr (λ e. cc)
+cases_item items.Skipped (items.Halt t off) = inr (λ e. cc)
+cases_item items.Skipped items.Other = inr (λ e. cc)
+cases_item items.Skipped items.End = inr (λ e. cc)
+cases_item items.Skipped items.Skipped = inl refl
 
 pub none_or_one : {X : Type 0} (o : Option X) → (o ≡ None) ⊎ ((x : X) × (o ≡ Some x))
 none_or_one None = inl refl

@@ -6,6 +6,7 @@ use Rattle.std.proofs.lemmas.Bool.{cases_Bool, cases_lt, cases_eq, false≢true}
 use Rattle.std.proofs.lemmas.List.FromFn.{length-range_with_len}
 use Rattle.std.proofs.lemmas.List.Sums.{count_by-le-length}
 use Rattle.feed_types.specs.declared.item.Item.{Item}
+use Rattle.feed_types.specs.declared.item.Item.TheVariants as items
 use Rattle.mold_packet.specs.declared.packet.Kind.{Kind}
 use Rattle.mold_packet.specs.declared.packet.Kind.TheVariants as kinds
 use Rattle.mold_packet.specs.Content.{Content, last_number}
@@ -16,7 +17,7 @@ use Rattle.line_arbiter.specs.declared.outcome.LineFault.TheVariants.{OtherSessi
 use Rattle.line_arbiter.specs.declared.faults.RenewFault.{RenewFault}
 use Rattle.line_arbiter.specs.declared.faults.RenewFault.TheVariants.{NotEnded, SessionUsed, TooManySessions}
 use Rattle.line_arbiter.specs.Renewals.{HasEnded, IsRenewal}
-use Rattle.line_arbiter.specs.Packets.{Arrival, carried, end_of, message_item, top_of}
+use Rattle.line_arbiter.specs.Packets.{Input, carried, end_of, message_item, top_of}
 use Rattle.line_arbiter.specs.Outcomes.{IsPast, IsBefore, Disagrees, Agrees, new_count, ToMessages, ToHeartbeat, ToEnd, ToKind, IsOutcome}
 use Rattle.line_arbiter.specs.laws.Deciding.{cases_bytes, cases_item, none_or_one, one_below}
 use Rattle.line_arbiter.specs.laws.Fronts.{carried_above, not_none}
@@ -33,12 +34,12 @@ past_or_before end n = elim (none_or_one end) [
   ]
 ]
 
-module _ (packets : List Arrival) (sent : ℕ) (p : Content) where
+module _ (packets : List Input) (sent : ℕ) (p : Content) where
   -- what was taken at the number of a message reads as another item
   abbrev Other : ℕ → Type 0
   Other k =
       (sent < p.number + k) × (item : Item) × (carried packets (p.number + k) ≡ Some item)
-      × (item ≢ message_item p k)
+      × (item ≢ message_item p k) × (item ≢ items.Skipped)
 
   other_or_not : (k : ℕ) → Other k ⊎ (Other k → ⊥)
   other_or_not k = elim (cases_lt sent (p.number + k)) [
@@ -50,7 +51,13 @@ module _ (packets : List Arrival) (sent : ℕ) (p : Content) where
             let e : Some one.0 ≡ Some h.1 = sym one.1 ∙ h.2 in
             let is : one.0 ≡ h.1 = cc in
             h.3 (sym is ∙ same))
-        | inr other ↦ inl (past, one.0, one.1, other)
+        | inr other ↦ elim (cases_item one.0 items.Skipped) [
+          | inl skipped ↦ inr (λ h.
+              let e : Some one.0 ≡ Some h.1 = sym one.1 ∙ h.2 in
+              let is : one.0 ≡ h.1 = cc in
+              h.4 (sym is ∙ skipped))
+          | inr message ↦ inl (past, one.0, one.1, other, message)
+        ]
       ]
     ]
   ]
@@ -65,10 +72,11 @@ module _ (packets : List Arrival) (sent : ℕ) (p : Content) where
       item = found.2.1;
       taken = found.2.2;
       differs = found.2.3;
+      message = found.2.4;
     })
-    | inr none ↦ inr (λ k item within past taken. elim (cases_item item (message_item p k)) [
+    | inr none ↦ inr (λ k item within past taken message. elim (cases_item item (message_item p k)) [
       | inl same ↦ same
-      | inr other ↦ absurd (none k within (past, item, taken, other))
+      | inr other ↦ absurd (none k within (past, item, taken, other, message))
     ])
   ]
 
@@ -94,7 +102,7 @@ module _ (packets : List Arrival) (sent : ℕ) (p : Content) where
 
 -- ---- a heartbeat, and an end of session
 
-heartbeat_has : (packets : List Arrival) (n : ℕ)
+heartbeat_has : (packets : List Input) (n : ℕ)
     → (answer : Result Outcome LineFault) × ToHeartbeat packets n answer
 heartbeat_has packets n = elim (none_or_one (end_of packets)) [
   | inl none ↦ (Ok Heartbeat, λ e is. absurd (none_or_some (end_of packets) e none is))
@@ -109,10 +117,10 @@ heartbeat_has packets n = elim (none_or_one (end_of packets)) [
 ]
 
 -- a message of this number or a greater one was taken
-abbrev TakenFrom : List Arrival → ℕ → ℕ → Type 0
+abbrev TakenFrom : List Input → ℕ → ℕ → Type 0
 TakenFrom packets n m = (n ≤ m) × IsSome (carried packets m)
 
-taken_or_not : (packets : List Arrival) (n m : ℕ)
+taken_or_not : (packets : List Input) (n m : ℕ)
     → TakenFrom packets n m ⊎ (TakenFrom packets n m → ⊥)
 taken_or_not packets n m = elim (cases_lt m n) [
   | inl below ↦ inr (λ h. let above = h.0 in omega arith)
@@ -123,7 +131,7 @@ taken_or_not packets n m = elim (cases_lt m n) [
 ]
 
 -- nothing is taken above the greatest number that was taken
-all_below : (packets : List Arrival) (n : ℕ)
+all_below : (packets : List Input) (n : ℕ)
     → ((m : ℕ) → m < top_of packets + 1 → TakenFrom packets n m → ⊥) → (m : ℕ)
     → IsSome (carried packets m) → m < n
 all_below packets n none m some = elim (cases_lt m n) [
@@ -134,7 +142,7 @@ all_below packets n none m some = elim (cases_lt m n) [
   ]
 ]
 
-end_has : (packets : List Arrival) (n : ℕ)
+end_has : (packets : List Input) (n : ℕ)
     → (answer : Result Outcome LineFault) × ToEnd packets n answer
 end_has packets n = elim (none_or_one (end_of packets)) [
   | inl none ↦ elim (one_below (TakenFrom packets n) (taken_or_not packets n) (top_of packets + 1)) [
@@ -149,13 +157,13 @@ end_has packets n = elim (none_or_one (end_of packets)) [
 
 -- ---- any packet, and a renewal
 
-kind_has : (kind : Kind) (window sent : ℕ) (packets : List Arrival) (p : Content)
+kind_has : (kind : Kind) (window sent : ℕ) (packets : List Input) (p : Content)
     → (answer : Result Outcome LineFault) × ToKind kind window sent packets p answer
 kind_has kinds.Messages window sent packets p = messages_have packets sent p window
 kind_has kinds.Heartbeat window sent packets p = heartbeat_has packets p.number
 kind_has kinds.End window sent packets p = end_has packets p.number
 
-pub every_answer : (session : List ℕ) (window sent : ℕ) (packets : List Arrival) (p : Content)
+pub every_answer : (session : List ℕ) (window sent : ℕ) (packets : List Input) (p : Content)
     → (answer : Result Outcome LineFault) × IsOutcome session window sent packets p answer
 every_answer session window sent packets p = elim (cases_bytes p.session session) [
   | inl same ↦ let given = kind_has p.kind window sent packets p in (given.0, inr (same, given.1))

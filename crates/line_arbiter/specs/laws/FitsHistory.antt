@@ -6,11 +6,11 @@ use Rattle.mold_packet.specs.Content.{Content}
 use Rattle.line_arbiter.specs.declared.outcome.Outcome.{Outcome}
 use Rattle.line_arbiter.specs.declared.outcome.LineFault.{LineFault}
 use Rattle.line_arbiter.specs.declared.faults.RenewFault.{RenewFault}
-use Rattle.line_arbiter.specs.Packets.{Arrival, end_of}
+use Rattle.line_arbiter.specs.Packets.{Input, end_of}
 use Rattle.line_arbiter.specs.Streams.{wins_of}
 use Rattle.line_arbiter.specs.Outcomes.{IsOutcome}
 use Rattle.line_arbiter.specs.Renewals.{IsRenewal}
-use Rattle.line_arbiter.specs.Histories.{History, all_begun, after_arrival, after_renewal, names_of, new_history, wins_in}
+use Rattle.line_arbiter.specs.Histories.{History, all_begun, after_input, after_renewal, names_of, new_history, wins_in}
 use Rattle.feed_types.specs.PerLines.{on_all, on_line}
 use Rattle.line_arbiter.specs.Counts.{shown}
 use Rattle.line_arbiter.specs.States.{State, ordinal_of, IsNew, IsRenewed, KeepsAllButSent, KeepsItsSession}
@@ -75,9 +75,9 @@ fits_new new fits = record {
 
 -- ---- one more packet
 
-pub fits_packet : {old new : State} (h : History) (a : Arrival) → FitsHistory old h
+pub fits_packet : {old new : State} (h : History) (a : Input) → FitsHistory old h
     → KeepsItsSession old new → Fits new (h.present.packets ++ a ∷ [])
-    → FitsHistory new (after_arrival h a)
+    → FitsHistory new (after_input h a)
 fits_packet h a f kept fits = record {
   present = fits;
   names = kept.sessions ∙ f.names ∙ names_same h a;

@@ -1,20 +1,19 @@
 -- Packets of a session give the session.
-use Rattle.std.proofs.Common.{◌≡◌, ℕ, ◌+◌, ◌-◌, ◌<◌, Bool, true, List, [], ◌∷◌, ◌++◌, length, take, Option, Some, refl, sym, ap, subst, ◌∙◌, arith, append_assoc, append-nil}
-use Rattle.std.specs.Prelude.{slice_get, IsOk, ◌==◌, if◌then◌else◌}
+use Rattle.std.proofs.Common.{◌≡◌, ℕ, ◌+◌, ◌-◌, ◌<◌, List, [], ◌∷◌, ◌++◌, length, refl, sym, ap, subst, ◌∙◌, arith, append_assoc, append-nil}
+use Rattle.std.specs.Prelude.{slice_get}
 use Rattle.std.specs.List.{AllByRecursion}
-use Rattle.std.proofs.lemmas.Bool.Decides.{nat_tests}
 use Rattle.feed_types.specs.declared.item.Item.{Item}
-use Rattle.feed_types.specs.declared.item.Item.TheVariants as items
-use Rattle.feed_types.specs.Sessions.{Session, IsItemAt, numbered_from, whole_session}
-use Rattle.line_arbiter.specs.Packets.{Arrival, end_of}
-use Rattle.line_arbiter.specs.Streams.{front_of}
+use Rattle.feed_types.specs.declared.item.Numbered.{Numbered}
+use Rattle.feed_types.specs.Sessions.{Session, IsItemAt}
+use Rattle.line_arbiter.specs.Packets.{Input, Arrived, Skip}
+use Rattle.line_arbiter.specs.Streams.{closed_after, front_of, part_of}
 use Rattle.line_arbiter.specs.Answered.{IsAnswered, AreAnswered, AreAnsweredAfter}
-use Rattle.line_arbiter.specs.Genuine.{IsGenuineAt, AreGenuine}
-use Rattle.line_arbiter.specs.OfSession.{IsOfSession, AreOfSession, GivesSession, session_stream}
+use Rattle.line_arbiter.specs.Genuine.{IsGenuineAt, IsGenuineIn, AreGenuine}
+use Rattle.line_arbiter.specs.OfSession.{part_in, parts_after, IsAccepted, IsInputOf, IsOfSession, AreOfSession, GivesSession, SkipsWithin}
 use Rattle.mold_packet.specs.Content.{Content, IsContent}
 use Rattle.line_arbiter.specs.laws.Arrivals.{all_push, genuine_grows}
 use Rattle.line_arbiter.specs.laws.Genuine.{carried_may, end_may}
-use Rattle.line_arbiter.specs.laws.OfSession.{IsPartOf, front_within, stream_is}
+use Rattle.line_arbiter.specs.laws.OfSession.{IsPartOf, front_within, part_is}
 use Rattle.line_arbiter.specs.laws.Accepting.{accepted}
 use Rattle.line_arbiter.specs.laws.Bringing.{number_in}
 
@@ -42,81 +41,94 @@ genuine_of carries ends venue ordinal s may last p content of = record {
 }
 
 -- what came so far is the session's, and none of it was refused
-record IsOf (s : Session) (packets : List Arrival) : Type 0 where
+record IsOf (s : Session) (packets : List Input) : Type 0 where
   genuine : AreGenuine (carries_alone s) (ends_alone s) 0 0 packets
-  accepted : AllByRecursion (λ a. a.packet.session ≡ s.name → IsOk a.answer) packets
+  accepted : AllByRecursion (IsAccepted s.name) packets
+  within : AllByRecursion (SkipsWithin s) packets
 
-part : (s : Session) (packets : List Arrival) → IsOf s packets → IsPartOf s packets
+part : (s : Session) (packets : List Input) → IsOf s packets → IsPartOf s packets
 part s packets of = record {
-  item = λ m item h. carried_may (carries_alone s) (ends_alone s) 0 0 packets m item of.genuine h;
+  item = λ m item h message.
+      carried_may (carries_alone s) (ends_alone s) 0 0 packets m item of.genuine h message;
   end = λ e h. end_may (carries_alone s) (ends_alone s) 0 0 packets e of.genuine h;
+  within = of.within;
 }
 
--- one more packet
-more : (s : Session) (window : ℕ) (packets : List Arrival) (a : Arrival)
-    → (a.packet.session ≡ s.name → IsOfSession s a.packet) → IsAnswered s.name window packets a
-    → IsOf s packets → IsOf s (packets ++ a ∷ [])
-more s window packets a may right of = record {
+accepted_input : (s : Session) (window : ℕ) (packets : List Input) (x : Input) → IsInputOf s x
+    → IsAnswered s.name window packets x → IsOf s packets → IsAccepted s.name x
+accepted_input s window packets (Skip n) may right of = tt
+accepted_input s window packets (Arrived a) may right of =
+    λ e. accepted s packets (part s packets of) window right.sent a.packet a.answer right.content
+    (may e) right.outcome
+
+genuine_in : (s : Session) (window : ℕ) (packets : List Input) (x : Input) → IsInputOf s x
+    → IsAnswered s.name window packets x
+    → IsGenuineIn (carries_alone s) (ends_alone s) 0 0 s.name x
+genuine_in s window packets (Skip n) may right = tt
+genuine_in s window packets (Arrived a) may right =
+    λ e. genuine_of (carries_alone s) (ends_alone s) 0 0 s (λ m item h. h) refl a.packet right.content
+    (may e)
+
+within_input : (s : Session) (x : Input) → IsInputOf s x → SkipsWithin s x
+within_input s (Arrived a) may = tt
+within_input s (Skip n) may = may
+
+-- one more packet or skip
+more : (s : Session) (window : ℕ) (packets : List Input) (x : Input) → IsInputOf s x
+    → IsAnswered s.name window packets x → IsOf s packets → IsOf s (packets ++ x ∷ [])
+more s window packets x may right of = record {
   genuine =
-      genuine_grows (carries_alone s) (ends_alone s) 0 0 window s.name packets a of.genuine
-      (λ e. genuine_of (carries_alone s) (ends_alone s) 0 0 s (λ m item h. h) refl a.packet
-      right.content (may e)) right;
+      genuine_grows (carries_alone s) (ends_alone s) 0 0 window s.name packets x of.genuine
+      (genuine_in s window packets x may right) right;
   accepted =
-      all_push (λ x. x.packet.session ≡ s.name → IsOk x.answer) packets a of.accepted
-      (λ e. accepted s packets (part s packets of) window right.sent a.packet a.answer
-      right.content (may e) right.outcome);
+      all_push (IsAccepted s.name) packets x of.accepted
+      (accepted_input s window packets x may right of);
+  within = all_push (SkipsWithin s) packets x of.within (within_input s x may);
 }
 
-is_of : (s : Session) (window : ℕ) (packets : List Arrival) → AreAnswered s.name window packets
+is_of : (s : Session) (window : ℕ) (packets : List Input) → AreAnswered s.name window packets
     → AreOfSession s packets → IsOf s packets
-is_of s window packets all of = after [] packets (record { genuine = tt; accepted = tt }) all of
+is_of s window packets all of =
+    after [] packets (record { genuine = tt; accepted = tt; within = tt }) all of
   where
-    after : (before rest : List Arrival) → IsOf s before
+    after : (before rest : List Input) → IsOf s before
         → AreAnsweredAfter s.name window before rest → AreOfSession s rest → IsOf s (before ++ rest)
     after before [] so_far all of =
-        subst (λ (xs : List Arrival). IsOf s xs) (sym (append-nil before)) so_far
-    after before (a ∷ rest) so_far all of =
-        subst (λ (xs : List Arrival). IsOf s xs) (append_assoc before (a ∷ []) rest)
-        (after (before ++ a ∷ []) rest (more s window before a of.0 all.0 so_far) all.1 of.1)
+        subst (λ (xs : List Input). IsOf s xs) (sym (append-nil before)) so_far
+    after before (x ∷ rest) so_far all of =
+        subst (λ (xs : List Input). IsOf s xs) (append_assoc before (x ∷ []) rest)
+        (after (before ++ x ∷ []) rest (more s window before x of.0 all.0 so_far) all.1 of.1)
 
-take_all : (xs : List Item) → take (length xs) xs ≡ xs
-take_all [] = refl
-take_all (x ∷ xs) = ap (λ (ys : List Item). x ∷ ys) (take_all xs)
+-- each closed part is the session's
+closed_are : (s : Session) (window : ℕ) (before rest : List Input) → IsOf s before
+    → AreAnsweredAfter s.name window before rest → AreOfSession s rest
+    → closed_after before rest ≡ parts_after s before rest
+closed_are s window before [] own all of = refl
+closed_are s window before (Arrived a ∷ rest) own all of =
+    closed_are s window (before ++ Arrived a ∷ []) rest
+    (more s window before (Arrived a) of.0 all.0 own) all.1 of.1
+closed_are s window before (Skip n ∷ rest) own all of =
+    let later =
+    closed_are s window (before ++ Skip n ∷ []) rest (more s window before (Skip n) of.0 all.0 own)
+    all.1 of.1 in
+    ap (λ (xs : List Numbered). xs ++ closed_after (before ++ Skip n ∷ []) rest)
+    (part_is s before (part s before own))
+    ∙ ap (λ (xs : List Numbered). part_in s before ++ xs) later
 
--- all of it, and then End
-whole_is : (s : Session) (front : ℕ) (end : Option ℕ) (e : ℕ) → front ≡ length s.items
-    → end ≡ Some e → session_stream s front end ≡ whole_session s
-whole_is s front end e f g =
-    ap (λ (o : Option ℕ). session_stream s front o) g
-    ∙ ap (λ (n : ℕ). session_stream s n (Some e)) f
-    ∙ ap (λ (b : Bool). numbered_from 1 (take (length s.items) s.items) ++ (if b then record {
-      number =
-          length s.items + 1;
-      item = items.End;
-    } ∷ [] else [])) (same (length s.items))
-    ∙ ap (λ (xs : List Item). numbered_from 1 xs ++ record {
-      number =
-          length s.items + 1;
-      item = items.End;
-    } ∷ []) (take_all s.items)
-  where
-    same : (n : ℕ) → (n == n) ≡ true
-    same n = grind (arith, nat_tests)
-
-pub gives_session : (s : Session) (window : ℕ) (packets : List Arrival)
+pub gives_session : (s : Session) (window : ℕ) (packets : List Input)
     → AreAnswered s.name window packets → AreOfSession s packets → GivesSession s packets
 gives_session s window packets all of =
     let own = is_of s window packets all of in
-    let stream = stream_is s packets (part s packets own) in
+    let present = part_is s packets (part s packets own) in
+    let none : IsOf s [] = record { genuine = tt; accepted = tt; within = tt } in
     record {
       front = front_within s packets (part s packets own);
-      stream = stream;
+      part = present;
+      stream =
+          ap (λ (xs : List Numbered). xs ++ part_of packets)
+          (closed_are s window [] packets none all of)
+          ∙ ap (λ (xs : List Numbered). parts_after s [] packets ++ xs) present;
       accepted = own.accepted;
       whole = λ complete.
-          let last = (part s packets own).end (front_of packets + 1) complete in
-          let front : front_of packets ≡ length s.items = omega arith in (
-            front,
-            stream ∙ whole_is s (front_of packets) (end_of packets) (front_of packets + 1)
-                front complete,
-          );
+          let last = (part s packets own).end (front_of packets + 1) complete in omega arith;
     }

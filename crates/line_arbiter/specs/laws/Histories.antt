@@ -5,9 +5,9 @@ use Rattle.std.proofs.lemmas.Grind.{flat_map-append}
 use Rattle.std.proofs.lemmas.List.Sums.{sum_by_push}
 use Rattle.feed_types.specs.declared.item.Numbered.{Numbered}
 use Rattle.feed_types.specs.declared.line.LineId.{LineId}
-use Rattle.line_arbiter.specs.Packets.{Arrival}
+use Rattle.line_arbiter.specs.Packets.{Input}
 use Rattle.line_arbiter.specs.Streams.{stream_of, wins_of}
-use Rattle.line_arbiter.specs.Histories.{Begun, History, all_begun, after_arrival, after_renewal, items_of, names_of, new_session, wins_in}
+use Rattle.line_arbiter.specs.Histories.{Begun, History, all_begun, after_input, after_renewal, items_of, names_of, new_session, wins_in}
 
 -- the names of sessions, whatever came of the last one
 names_push : (bs : List Begun) (b c : Begun) → b.name ≡ c.name
@@ -15,8 +15,8 @@ names_push : (bs : List Begun) (b c : Begun) → b.name ≡ c.name
 names_push [] b c e = ap (λ (n : List ℕ). n ∷ []) e
 names_push (a ∷ bs) b c e = ap (λ (l : List (List ℕ)). a.name ∷ l) (names_push bs b c e)
 
-pub names_same : (h : History) (a : Arrival) → names_of h ≡ names_of (after_arrival h a)
-names_same h a = names_push h.earlier h.present (after_arrival h a).present refl
+pub names_same : (h : History) (a : Input) → names_of h ≡ names_of (after_input h a)
+names_same h a = names_push h.earlier h.present (after_input h a).present refl
 
 pub names_next : (h : History) (name : List ℕ)
     → names_of (after_renewal h name) ≡ names_of h ++ name ∷ []

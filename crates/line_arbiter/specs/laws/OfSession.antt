@@ -1,20 +1,23 @@
 -- What was taken of genuine packets is the session's, and so is the stream.
-use Rattle.std.proofs.Common.{◌≡◌, ℕ, zero, suc, ◌+◌, ◌-◌, ◌<◌, ◌≤◌, Bool, List, [], ◌∷◌, ◌++◌, length, map, take, Option, Some, None, refl, sym, ap, subst, ◌∙◌, arith, inl, inr}
-use Rattle.std.specs.Prelude.{IsSome, is_some, slice_get, ◌==◌, ◌&&◌, if◌then◌else◌}
-use Rattle.std.specs.List.{range_with_len}
-use Rattle.std.specs.Option.{unwrap_or}
-use Rattle.std.proofs.lemmas.Bool.{cases_lt}
+use Rattle.std.proofs.Common.{◌≡◌, ℕ, zero, suc, ◌+◌, ◌-◌, ◌<◌, ◌≤◌, Bool, true, false, cond, List, [], ◌∷◌, ◌++◌, drop, length, map, take, Option, Some, None, refl, sym, ap, subst, ◌∙◌, arith, inl, inr}
+use Rattle.std.specs.Prelude.{IsSome, is_some, find, fold, max, nat_le, nat_lt, slice_get, ◌==◌, ◌&&◌, if◌then◌else◌}
+use Rattle.std.specs.List.{AllByRecursion, range_with_len}
+use Rattle.std.specs.Option.{option_map, unwrap_or}
+use Rattle.std.proofs.lemmas.Bool.{cases_lt, le-leb, le-ltb, lt-leb, lt-ltb, ltb-true}
 use Rattle.std.proofs.lemmas.Bool.Decides.{nat_tests}
 use Rattle.std.proofs.lemmas.Option.{slice_get_within}
+use Rattle.circular_buffer.proofs.Places.{slice_get-drop}
 use Rattle.feed_types.specs.declared.item.Item.{Item}
 use Rattle.feed_types.specs.declared.item.Item.TheVariants as items
 use Rattle.feed_types.specs.declared.item.Numbered.{Numbered}
 use Rattle.feed_types.specs.Sessions.{Session, IsSessionAt, IsItemAt, Names, numbered_from}
-use Rattle.line_arbiter.specs.Packets.{Arrival, carried, end_of}
-use Rattle.line_arbiter.specs.Streams.{front_of, end_at, stream_of}
+use Rattle.line_arbiter.specs.Packets.{Input, Arrived, Skip, brings, carried, end_of, first_by, first_of, item_at, item_by}
+use Rattle.line_arbiter.specs.Streams.{front_of, end_at, item_in, item_numbered, opens_of, part_of}
 use Rattle.line_arbiter.specs.Genuine.{AreGenuine}
-use Rattle.line_arbiter.specs.OfSession.{session_stream}
-use Rattle.line_arbiter.specs.laws.Fronts.{front_is}
+use Rattle.line_arbiter.specs.OfSession.{SkipsWithin, opening, session_stream}
+use Rattle.quote_payload.specs.ItemLaws.{item_of-never_skipped}
+use Rattle.line_arbiter.specs.laws.Deciding.{cases_item}
+use Rattle.line_arbiter.specs.laws.Fronts.{first_most, front_is}
 use Rattle.line_arbiter.specs.laws.Genuine.{some_is, carried_may, end_may}
 
 -- items by number are items in a row
@@ -53,42 +56,112 @@ end_is_last (Some e) front len h =
     tests : (e front len : ℕ) → e ≡ len + 1 → (e == front + 1) ≡ (front == len)
     tests e front len h = grind (arith, nat_tests)
 
--- what was taken is the session's: each message has its number, and the end the one after the last
-pub record IsPartOf (s : Session) (packets : List Arrival) : Type 0 where
-  pub item : (m : ℕ) (item : Item) → carried packets m ≡ Some item → IsItemAt s m item
+-- what was taken is the session's: each message has its number, and the end the one after the last;
+-- and the skips go on within it
+pub record IsPartOf (s : Session) (packets : List Input) : Type 0 where
+  pub item : (m : ℕ) (item : Item) → carried packets m ≡ Some item → (item ≡ items.Skipped → ⊥)
+      → IsItemAt s m item
   pub end : (e : ℕ) → end_of packets ≡ Some e → e ≡ length s.items + 1
+  pub within : AllByRecursion (SkipsWithin s) packets
 
-pub part_of : (sessions : ℕ → ℕ → List ℕ → Type 0) (carries : ℕ → ℕ → ℕ → Item → Type 0)
+pub part_of_session : (sessions : ℕ → ℕ → List ℕ → Type 0) (carries : ℕ → ℕ → ℕ → Item → Type 0)
     (ends : ℕ → ℕ → ℕ → Type 0) (venue ordinal : ℕ) (all : List Session) (s : Session)
-    (packets : List Arrival)
+    (packets : List Input)
     → Names sessions carries ends venue all → IsSessionAt all ordinal s
-    → AreGenuine carries ends venue ordinal packets → IsPartOf s packets
-part_of sessions carries ends venue ordinal all s packets names at genuine = record {
-  item = λ m item is.
+    → AreGenuine carries ends venue ordinal packets → AllByRecursion (SkipsWithin s) packets
+    → IsPartOf s packets
+part_of_session sessions carries ends venue ordinal all s packets names at genuine within = record {
+  item = λ m item is message.
       let found =
       (names.carried ordinal m item).0
-      (carried_may carries ends venue ordinal packets m item genuine is) in
+      (carried_may carries ends venue ordinal packets m item genuine is message) in
       subst (λ (t : Session). IsItemAt t m item) (same_session found.0 found.1) found.2;
   end = λ e is.
       let found =
       (names.ended ordinal e).0 (end_may carries ends venue ordinal packets e genuine is) in
       subst (λ (t : Session). e ≡ length t.items + 1) (same_session found.0 found.1) found.2;
+  within = within;
 } where
   same_session : (t : Session) → IsSessionAt all ordinal t → t ≡ s
   same_session t h = let mine : Some t ≡ Some s = sym h.1 ∙ at.1 in cc
 
-module _ (s : Session) (packets : List Arrival) (part : IsPartOf s packets) where
-  taken_is : (m : ℕ) → IsSome (carried packets m)
-      → IsItemAt s m (unwrap_or (carried packets m) items.Other)
-  taken_is m h =
-      part.item m (unwrap_or (carried packets m) items.Other) (some_is (carried packets m) h)
+-- a number at which Skipped was carried is below a skip's
+skipped_within : (s : Session) (packets : List Input) (m : ℕ)
+    → AllByRecursion (SkipsWithin s) packets → carried packets m ≡ Some items.Skipped → m ≤ length s.items
+skipped_within s [] m within is = absurd cc
+skipped_within s (Arrived a ∷ packets) m within is =
+    by_test (λ h. skipped_within s packets m within.1 h) (brings m (Arrived a)) is
+  where
+    by_test : (carried packets m ≡ Some items.Skipped → m ≤ length s.items) → (b : Bool)
+        → option_map (λ (y : Input). item_by y m)
+        (cond b (Some (Arrived a)) (find (brings m) packets)) ≡ Some items.Skipped
+        → m ≤ length s.items
+    by_test later true is =
+        absurd (item_of-never_skipped _ (let e : item_at a.packet m ≡ items.Skipped = cc in e))
+    by_test later false is = later is
+skipped_within s (Skip n ∷ packets) m within is =
+    by_test (λ h. skipped_within s packets m within.1 h) (nat_lt m n) refl is
+  where
+    by_test : (carried packets m ≡ Some items.Skipped → m ≤ length s.items) → (b : Bool)
+        → nat_lt m n ≡ b
+        → option_map (λ (y : Input). item_by y m)
+        (cond b (Some (Skip n)) (find (brings m) packets)) ≡ Some items.Skipped
+        → m ≤ length s.items
+    by_test later true e is = let lt = ltb-true m n e in let k = within.0 in omega arith
+    by_test later false e is = later is
 
+first_grows : (packets : List Input) (n : ℕ) → n ≤ fold (λ n x. first_by n x) n packets
+first_grows [] n = omega arith
+first_grows (Arrived a ∷ packets) n = first_grows packets n
+first_grows (Skip k ∷ packets) n = let rest = first_grows packets (max n k) in omega arith
+
+pub first_least : (packets : List Input) → 1 ≤ first_of packets
+first_least packets = first_grows packets 1
+
+-- a number at which Skipped was carried is below the part's first
+skipped_before : (packets : List Input) (n m : ℕ) → carried packets m ≡ Some items.Skipped
+    → m < fold (λ n x. first_by n x) n packets
+skipped_before [] n m is = absurd cc
+skipped_before (Arrived a ∷ packets) n m is =
+    by_test (λ h. skipped_before packets n m h) (brings m (Arrived a)) is
+  where
+    by_test : (carried packets m ≡ Some items.Skipped → m < fold (λ n x. first_by n x) n packets)
+        → (b : Bool)
+        → option_map (λ (y : Input). item_by y m)
+        (cond b (Some (Arrived a)) (find (brings m) packets)) ≡ Some items.Skipped
+        → m < fold (λ n x. first_by n x) n packets
+    by_test later true is =
+        absurd (item_of-never_skipped _ (let e : item_at a.packet m ≡ items.Skipped = cc in e))
+    by_test later false is = later is
+skipped_before (Skip k ∷ packets) n m is =
+    by_test (λ h. skipped_before packets (max n k) m h) (nat_lt m k) refl is
+  where
+    by_test : (carried packets m ≡ Some items.Skipped
+        → m < fold (λ n x. first_by n x) (max n k) packets) → (b : Bool) → nat_lt m k ≡ b
+        → option_map (λ (y : Input). item_by y m)
+        (cond b (Some (Skip k)) (find (brings m) packets)) ≡ Some items.Skipped
+        → m < fold (λ n x. first_by n x) (max n k) packets
+    by_test later true e is =
+        let lt = ltb-true m k e in let grows = first_grows packets (max n k) in omega arith
+    by_test later false e is = later is
+
+pub skipped_below : (packets : List Input) (m : ℕ) → carried packets m ≡ Some items.Skipped
+    → m < first_of packets
+skipped_below packets m is = skipped_before packets 1 m is
+
+module _ (s : Session) (packets : List Input) (part : IsPartOf s packets) where
   pub taken_within : (m : ℕ) → IsSome (carried packets m) → m ≤ length s.items
-  taken_within m h =
-      let lt =
-      slice_get_within s.items (m - 1) (unwrap_or (carried packets m) items.Other)
-      (taken_is m h).1 in
-      omega arith
+  taken_within m h = elim (cases_item (unwrap_or (carried packets m) items.Other) items.Skipped) [
+    | inl skipped ↦ skipped_within s packets m part.within
+        (some_is (carried packets m) h ∙ ap (λ (x : Item). Some x) skipped)
+    | inr message ↦
+        let at = part.item m (unwrap_or (carried packets m) items.Other)
+        (some_is (carried packets m) h) message in
+        let lt =
+        slice_get_within s.items (m - 1) (unwrap_or (carried packets m) items.Other) at.1 in
+        let one = at.0 in
+        omega arith
+  ]
 
   pub front_within : front_of packets ≤ length s.items
   front_within = elim (cases_lt 0 (front_of packets)) [
@@ -97,16 +170,81 @@ module _ (s : Session) (packets : List Arrival) (part : IsPartOf s packets) wher
     | inr le ↦ omega arith
   ]
 
-  item_in_row : (i : ℕ) → i < front_of packets
-      → slice_get s.items i ≡ Some (unwrap_or (carried packets (1 + i)) items.Other)
-  item_in_row i lt =
-      ap (slice_get s.items) (omega arith)
-      ∙ (taken_is (1 + i) ((front_is packets).all (1 + i) (omega arith) (omega arith))).1
+  message_in : (m : ℕ) → 1 ≤ m → m ≤ front_of packets → first_of packets ≤ m
+      → slice_get s.items (m - 1) ≡ Some (unwrap_or (carried packets m) items.Other)
+  message_in m one most from =
+      let some = some_is (carried packets m) ((front_is packets).all m one most) in
+      (part.item m (unwrap_or (carried packets m) items.Other) some
+      (λ e. let below = skipped_below packets m (some ∙ ap (λ (x : Item). Some x) e) in
+      absurd (omega arith))).1
 
-  pub stream_is : stream_of packets ≡ session_stream s (front_of packets) (end_of packets)
-  stream_is =
-      ap (λ (xs : List Numbered). xs ++ end_at (end_of packets) (front_of packets + 1))
-      (numbered_take (λ m. unwrap_or (carried packets m) items.Other) s.items 1
-      (front_of packets) item_in_row)
-      ∙ ap (λ (xs : List Numbered). numbered_from 1 (take (front_of packets) s.items) ++ xs)
+  -- the messages from the part's first on
+  messages_are : map (item_numbered packets) (range_with_len (first_of packets) (front_of packets + 1 - first_of packets))
+      ≡ numbered_from (first_of packets)
+      (take (front_of packets + 1 - first_of packets) (drop (first_of packets - 1) s.items))
+  messages_are =
+      let one = first_least packets in
+      numbered_take (item_in packets) (drop (first_of packets - 1) s.items) (first_of packets)
+      (front_of packets + 1 - first_of packets)
+      (λ i lt.
+      let m = first_of packets + i in
+      let no : nat_lt m (first_of packets) ≡ false = le-ltb m (first_of packets) (omega arith) in
+      slice_get-drop (first_of packets - 1) s.items i (m - 1) (omega arith)
+      ∙ message_in m (omega arith) (omega arith) (omega arith)
+      ∙ sym (ap (λ (b : Bool). Some (if b then items.Skipped else
+      unwrap_or (carried packets m) items.Other)) no))
+
+  -- and what opens the part
+  opened_is : map (item_numbered packets) (range_with_len (opens_of packets) (front_of packets + 1 - opens_of packets))
+      ≡ opening (first_of packets)
+      ++ map (item_numbered packets)
+      (range_with_len (first_of packets) (front_of packets + 1 - first_of packets))
+  opened_is = elim (cases_lt 1 (first_of packets)) [
+    | inl lt ↦
+        let most = first_most packets (front_of packets) (front_is packets) in
+        let opens : opens_of packets ≡ first_of packets - 1 = omega arith in
+        let len : front_of packets + 1 - opens_of packets
+        ≡ suc (front_of packets + 1 - first_of packets) = omega arith in
+        let next : first_of packets - 1 + 1 ≡ first_of packets = omega arith in
+        let no : nat_le (first_of packets) 1 ≡ false = lt-leb (first_of packets) 1 lt in
+        let below : nat_lt (first_of packets - 1) (first_of packets) ≡ true =
+        lt-ltb (first_of packets - 1) (first_of packets) (omega arith) in
+        ap (λ (n : ℕ). map (item_numbered packets) (range_with_len (opens_of packets) n)) len
+        ∙ ap (λ (o : ℕ). map (item_numbered packets)
+        (range_with_len o (suc (front_of packets + 1 - first_of packets)))) opens
+        ∙ ap (λ (b : Bool). record {
+          number = first_of packets - 1;
+          item = if b then items.Skipped else
+              unwrap_or (carried packets (first_of packets - 1)) items.Other;
+        } ∷ map (item_numbered packets) (range_with_len (first_of packets - 1 + 1)
+        (front_of packets + 1 - first_of packets))) below
+        ∙ ap (λ (n : ℕ). record { number = first_of packets - 1; item = items.Skipped }
+        ∷ map (item_numbered packets)
+        (range_with_len n (front_of packets + 1 - first_of packets))) next
+        ∙ sym (ap (λ (b : Bool). (if b then [] else record {
+          number = first_of packets - 1;
+          item = items.Skipped;
+        } ∷ []) ++ map (item_numbered packets)
+        (range_with_len (first_of packets) (front_of packets + 1 - first_of packets))) no)
+    | inr le ↦
+        let one = first_least packets in
+        let opens : opens_of packets ≡ first_of packets = omega arith in
+        let yes : nat_le (first_of packets) 1 ≡ true = le-leb (first_of packets) 1 le in
+        ap (λ (o : ℕ). map (item_numbered packets) (range_with_len o (front_of packets + 1 - o))) opens
+        ∙ sym (ap (λ (b : Bool). (if b then [] else record {
+          number = first_of packets - 1;
+          item = items.Skipped;
+        } ∷ []) ++ map (item_numbered packets)
+        (range_with_len (first_of packets) (front_of packets + 1 - first_of packets))) yes)
+  ]
+
+  pub part_is : part_of packets
+      ≡ session_stream s (first_of packets) (front_of packets) (end_of packets)
+  part_is =
+      let tail : List Numbered = end_at (end_of packets) (front_of packets + 1) in
+      ap (λ (xs : List Numbered). xs ++ tail) opened_is
+      ∙ ap (λ (xs : List Numbered). (opening (first_of packets) ++ xs) ++ tail) messages_are
+      ∙ ap (λ (xs : List Numbered). (opening (first_of packets)
+      ++ numbered_from (first_of packets)
+      (take (front_of packets + 1 - first_of packets) (drop (first_of packets - 1) s.items))) ++ xs)
       (end_is_last (end_of packets) (front_of packets) (length s.items) part.end)

@@ -10,20 +10,21 @@ use Rattle.line_arbiter.specs.declared.outcome.LineFault.TheVariants.{OtherSessi
 use Rattle.line_arbiter.specs.declared.faults.RenewFault.{RenewFault}
 use Rattle.line_arbiter.specs.declared.faults.RenewFault.TheVariants.{NotEnded, SessionUsed, TooManySessions}
 use Rattle.line_arbiter.specs.Renewals.{IsRenewal}
-use Rattle.line_arbiter.specs.Packets.{Arrival, end_of}
+use Rattle.line_arbiter.specs.Packets.{Input, end_of}
 use Rattle.line_arbiter.specs.Outcomes.{IsPast, IsBefore, Disagrees, Agrees, ToMessages, ToHeartbeat, ToEnd, ToKind, IsOutcome}
 
 pub same_some : (a b : ℕ) (o : Option ℕ) → o ≡ Some a → o ≡ Some b → a ≡ b
 same_some a b o p q = let e : Some a ≡ Some b = sym p ∙ q in cc
 
-past_or_before : (packets : List Arrival) (n : ℕ) → IsPast (end_of packets) n
+past_or_before : (packets : List Input) (n : ℕ) → IsPast (end_of packets) n
     → IsBefore (end_of packets) n → ⊥
 past_or_before packets n past before =
     let b = before past.at past.announced in let p = past.past in omega arith
 
-agrees_or_not : (packets : List Arrival) (sent : ℕ) (p : Content) → Disagrees packets sent p
+agrees_or_not : (packets : List Input) (sent : ℕ) (p : Content) → Disagrees packets sent p
     → Agrees packets sent p → ⊥
-agrees_or_not packets sent p d a = d.differs (a d.place d.item d.in_packet d.unsent d.taken)
+agrees_or_not packets sent p d a =
+    d.differs (a d.place d.item d.in_packet d.unsent d.taken d.message)
 
 taken : ℕ → ℕ → Result Outcome LineFault
 taken n r = Ok (Taken n r)
@@ -31,7 +32,7 @@ taken n r = Ok (Taken n r)
 taken_once : (n r m s len : ℕ) → n ≡ m → n + r ≡ len → m + s ≡ len → taken n r ≡ taken m s
 taken_once n r m s len e f g = let k : r ≡ s = omega arith in cc
 
-to_messages : (window sent : ℕ) (packets : List Arrival) (p : Content)
+to_messages : (window sent : ℕ) (packets : List Input) (p : Content)
     (a b : Result Outcome LineFault)
     → ToMessages window sent packets p a → ToMessages window sent packets p b → a ≡ b
 unfolding taken
@@ -75,7 +76,7 @@ to_messages window sent packets p a (Err OtherSession) x y = absurd y
 to_messages window sent packets p a (Err EndMoved) x y = absurd y
 to_messages window sent packets p a (Err EndTooEarly) x y = absurd y
 
-to_heartbeat : (packets : List Arrival) (n : ℕ) (a b : Result Outcome LineFault)
+to_heartbeat : (packets : List Input) (n : ℕ) (a b : Result Outcome LineFault)
     → ToHeartbeat packets n a → ToHeartbeat packets n b → a ≡ b
 to_heartbeat packets n (Err PastEnd) (Err PastEnd) x y = refl
 to_heartbeat packets n (Err PastEnd) (Ok Heartbeat) x y =
@@ -101,7 +102,7 @@ to_heartbeat packets n a (Err Conflict) x y = absurd y
 pub none_or_some : (o : Option ℕ) (e : ℕ) → o ≡ None → o ≡ Some e → ⊥
 none_or_some o e p q = let r : None ≡ Some e = sym p ∙ q in absurd cc
 
-to_end : (packets : List Arrival) (n : ℕ) (a b : Result Outcome LineFault) → ToEnd packets n a
+to_end : (packets : List Input) (n : ℕ) (a b : Result Outcome LineFault) → ToEnd packets n a
     → ToEnd packets n b → a ≡ b
 to_end packets n (Err EndMoved) (Err EndMoved) x y = refl
 to_end packets n (Err EndMoved) (Err EndTooEarly) x y =
@@ -147,14 +148,14 @@ to_end packets n a (Err OtherSession) x y = absurd y
 to_end packets n a (Err PastEnd) x y = absurd y
 to_end packets n a (Err Conflict) x y = absurd y
 
-to_kind : (kind : Kind) (window sent : ℕ) (packets : List Arrival) (p : Content)
+to_kind : (kind : Kind) (window sent : ℕ) (packets : List Input) (p : Content)
     (a b : Result Outcome LineFault)
     → ToKind kind window sent packets p a → ToKind kind window sent packets p b → a ≡ b
 to_kind kinds.Messages window sent packets p a b x y = to_messages window sent packets p a b x y
 to_kind kinds.Heartbeat window sent packets p a b x y = to_heartbeat packets p.number a b x y
 to_kind kinds.End window sent packets p a b x y = to_end packets p.number a b x y
 
-pub one_answer : (session : List ℕ) (window sent : ℕ) (packets : List Arrival) (p : Content)
+pub one_answer : (session : List ℕ) (window sent : ℕ) (packets : List Input) (p : Content)
     (a b : Result Outcome LineFault)
     → IsOutcome session window sent packets p a → IsOutcome session window sent packets p b → a ≡ b
 one_answer session window sent packets p a b x y = elim x [
