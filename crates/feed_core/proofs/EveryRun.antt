@@ -8,14 +8,15 @@ use Rattle.mold_packet.specs.Faults.{code_of}
 use Rattle.mold_packet.specs.laws.EveryReading.{read_or_fault}
 use Rattle.filter_terms.specs.declared.terms.Terms.{Terms}
 use Rattle.line_arbiter.specs.Packets.{arrival_of, end_of}
-use Rattle.line_arbiter.specs.Histories.{History, names_of, after_arrival, history_after}
+use Rattle.line_arbiter.specs.Histories.{History, names_of, after_input, history_after}
 use Rattle.line_arbiter.specs.laws.EveryAnswer.{every_answer, every_renewal}
+use Rattle.line_arbiter.specs.laws.SkipAnswers.{every_skip}
 use Rattle.feed_core.specs.declared.event.Event.{Event}
-use Rattle.feed_core.specs.declared.event.Event.TheVariants.{Packet, Push, Consume, Declare, Renew, Subscribe, Offer, Dequeue}
+use Rattle.feed_core.specs.declared.event.Event.TheVariants.{Packet, Push, Consume, Declare, Renew, Skip, Subscribe, Offer, Dequeue}
 use Rattle.feed_core.specs.declared.event.Done.{Done}
 use Rattle.feed_core.specs.declared.event.Done.TheVariants as done
 use Rattle.feed_core.specs.Worlds.{Venue, session_sent, World, Setting}
-use Rattle.feed_core.specs.Steps.{Transition, Refused, Changes, Stays, Applies, put_venue, RefusesBytes, packet_done, AnswersPacket, renewal_done, AnswersRenewal, AnswersSubscribe}
+use Rattle.feed_core.specs.Steps.{Transition, Refused, Changes, Stays, Applies, put_venue, RefusesBytes, packet_done, AnswersPacket, renewal_done, AnswersRenewal, skip_after, skip_done, AnswersSkip, AnswersSubscribe}
 use Rattle.feed_core.specs.OneStep.{IsStep}
 use Rattle.feed_core.specs.Runs.{IsRun, BringsBytes}
 
@@ -41,7 +42,7 @@ module _ (place : ℕ) (v : Venue) (old : World) where
     | inr fault ↦ (done.Refused (code_of fault.0), old, inl (record { fault = fault.0; has = fault.1; is = (refl, refl) }))
     | inl read ↦
         let given = every_answer v.history.present.name window (session_sent v) v.history.present.packets read.0 in
-        let history : History = after_arrival v.history (arrival_of line read.0 given.0) in (
+        let history : History = after_input v.history (arrival_of line read.0 given.0) in (
           packet_done given.0,
           with_history history,
           inr (record {
@@ -72,6 +73,21 @@ module _ (place : ℕ) (v : Venue) (old : World) where
         },
       )
 
+  skipped : (number : ℕ) → HasStep (AnswersSkip place v number old)
+  skipped number =
+      let given = every_skip v.history.present.packets (session_sent v) number in
+      let history : History = skip_after v.history number given.0 in (
+        skip_done number given.0,
+        with_history history,
+        record {
+          answer = given.0;
+          history = history;
+          skipped = record { right = given.1; is = refl };
+          outcome_is = refl;
+          new_is = refl;
+        },
+      )
+
 subscription : (o : Option Terms) (old : World) → HasStep (AnswersSubscribe o old)
 subscription None old = (done.NoFilter, old, (refl, refl))
 subscription (Some terms) old = came _ _ (record old { used = old.used + 1 })
@@ -79,6 +95,7 @@ subscription (Some terms) old = came _ _ (record old { used = old.used + 1 })
 every_step : (s : Setting) (old : World) (e : Event) → BringsBytes e → HasStep (IsStep s old e)
 every_step s old (Packet venue line bytes) are = known (slice_get old.venues venue) _ old _ (λ v. packet venue v old s.window line bytes.now are)
 every_step s old (Renew venue name) are = known (slice_get old.venues venue) _ old _ (λ v. renewed venue v old name)
+every_step s old (Skip venue number) are = known (slice_get old.venues venue) _ old _ (λ v. skipped venue v old number)
 every_step s old (Push venue) are = known (slice_get old.venues venue) _ old _ (λ v. came _ _ old)
 every_step s old (Consume venue) are = known (slice_get old.venues venue) _ old _ (λ v. came _ _ old)
 every_step s old (Declare venue on) are = known (slice_get old.venues venue) _ old _ (λ v. came _ _ old)

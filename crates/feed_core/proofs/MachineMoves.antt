@@ -25,7 +25,7 @@ use Rattle.feed_core.specs.Worlds.{Lane, empty_lane, is_full, Venue, Subscriber,
 use Rattle.feed_core.specs.Steps.{Transition, Refused, Changes, journal_full, already_so, next_in, next_out, push_next, Intake, journal_item, consume_next, declare_help, offer_next, dequeue_next, put_venue, put_subscriber, Applies, AppliesTo, with_sent, with_intake, with_offered, with_dequeued, too_many_subscribers, AnswersSubscribe}
 use Rattle.feed_core.specs.OneStep.{IsStep}
 use Rattle.feed_core.specs.Runs.{IsRun}
-use Rattle.feed_core.specs.Fitting.{VenueView, FitsVenue, LeftFaulty, LeftAnswered, LeftRenewed, LeftPushed, SubscriberView, FitsSubscriber, LeftOffered, intake_of, KeepsJournal, MachineView, FitSubscribers, FitsWorld, HasStepped, HasReached}
+use Rattle.feed_core.specs.Fitting.{VenueView, FitsVenue, LeftFaulty, LeftAnswered, LeftRenewed, LeftSkipped, LeftPushed, SubscriberView, FitsSubscriber, LeftOffered, intake_of, KeepsJournal, MachineView, FitSubscribers, FitsWorld, HasStepped, HasReached}
 use Rattle.journal_book.specs.Growth.{changes_begin}
 use Rattle.feed_types.specs.ListLaws.{get_within}
 use Rattle.feed_core.specs.laws.Lists.{get_after_set, get_push}
@@ -143,6 +143,18 @@ module _ (s : Setting) (m : MachineView) (w : World) (place n : ℕ) (c new : Ve
         after = put_venue w place (record v.venue { history = renewed.history });
         fits = fits_put s m w place new _ f renewed.fits;
         step = known_at (slice_get w.venues place) v.venue _ _ v.at (record { answer = renewed.answer; history = renewed.history; renewed = renewed.renewed; outcome_is = renewed.outcome_is; new_is = refl });
+      })
+
+  pub skip_step : (number : ℕ) (d : Done) → ((window p : ℕ) (v : Venue) → FitsVenue window p c v → LeftSkipped window p v number d new)
+      → HasStepped s w (events.Skip place number) d (record m { venues = slice_set m.venues n new })
+  skip_step number d left = subst (λ (k : ℕ). HasStepped s w (events.Skip place number) d (record m { venues = slice_set m.venues k new })) (sym is)
+      (let at = read m.venues place n c is lt value in
+      let v = there s m w place c f at in
+      let skipped = left s.window place v.venue v.fits in
+      record {
+        after = put_venue w place (record v.venue { history = skipped.history });
+        fits = fits_put s m w place new _ f skipped.fits;
+        step = known_at (slice_get w.venues place) v.venue _ _ v.at (record { answer = skipped.answer; history = skipped.history; skipped = skipped.skipped; outcome_is = skipped.outcome_is; new_is = refl });
       })
 
   pub push_step : (d : Done) → ((window p : ℕ) (v : Venue) → FitsVenue window p c v → LeftPushed window p m.capacity v d new)

@@ -11,14 +11,15 @@ use Rattle.line_arbiter.specs.declared.outcome.Outcome.{Outcome}
 use Rattle.line_arbiter.specs.declared.outcome.LineFault.{LineFault}
 use Rattle.line_arbiter.specs.Packets.{arrival_of, end_of}
 use Rattle.line_arbiter.specs.Outcomes.{IsOutcome}
-use Rattle.line_arbiter.specs.Histories.{History, names_of, after_arrival, history_after}
+use Rattle.line_arbiter.specs.Histories.{History, names_of, after_input, history_after}
 use Rattle.line_arbiter.specs.laws.OneOutcome.{one_answer, one_renewal}
+use Rattle.line_arbiter.specs.laws.SkipAnswers.{one_skip}
 use Rattle.feed_core.specs.declared.event.Event.{Event}
-use Rattle.feed_core.specs.declared.event.Event.TheVariants.{Packet, Push, Consume, Declare, Renew, Subscribe, Offer, Dequeue}
+use Rattle.feed_core.specs.declared.event.Event.TheVariants.{Packet, Push, Consume, Declare, Renew, Skip, Subscribe, Offer, Dequeue}
 use Rattle.feed_core.specs.declared.event.Done.{Done}
 use Rattle.feed_core.specs.declared.event.Done.TheVariants as done
 use Rattle.feed_core.specs.Worlds.{Venue, session_sent, World, Setting}
-use Rattle.feed_core.specs.Steps.{Transition, Refused, Changes, Stays, Applies, put_venue, RefusesBytes, packet_done, AnswersPacket, renewal_done, AnswersRenewal, AnswersSubscribe}
+use Rattle.feed_core.specs.Steps.{Transition, Refused, Changes, Stays, Applies, put_venue, RefusesBytes, packet_done, AnswersPacket, renewal_done, AnswersRenewal, skip_after, skip_done, AnswersSkip, AnswersSubscribe}
 use Rattle.feed_core.specs.OneStep.{IsStep}
 use Rattle.feed_core.specs.Runs.{IsRun}
 
@@ -42,7 +43,7 @@ module _ (place : ℕ) (x : Venue) (old : World) where
   abbrev with_history : History → World
   with_history h = put_venue old place (record x { history = h })
 
-  arrival_same : (line : LineId) (p q : Content) (r s : Result Outcome LineFault) → p ≡ q → r ≡ s → after_arrival x.history (arrival_of line p r) ≡ after_arrival x.history (arrival_of line q s)
+  arrival_same : (line : LineId) (p q : Content) (r s : Result Outcome LineFault) → p ≡ q → r ≡ s → after_input x.history (arrival_of line p r) ≡ after_input x.history (arrival_of line q s)
   arrival_same line p q r s e f = rw (e, f) refl
 
   packets : (window : ℕ) (line : LineId) (bytes : List ℕ) (a b : Done) (v w : World) → RefusesBytes bytes old a v ⊎ AnswersPacket window place x line bytes old a v → RefusesBytes bytes old b w ⊎ AnswersPacket window place x line bytes old b w → Same a b v w
@@ -68,6 +69,12 @@ module _ (place : ℕ) (x : Venue) (old : World) where
       let history = f.renewed.is ∙ ap (history_after x.history name) answer ∙ sym g.renewed.is in
       same (ap renewal_done answer) (ap with_history history) f.outcome_is f.new_is g.outcome_is g.new_is
 
+  skips : (number : ℕ) (a b : Done) (v w : World) → AnswersSkip place x number old a v → AnswersSkip place x number old b w → Same a b v w
+  skips number a b v w f g =
+      let answer = one_skip x.history.present.packets (session_sent x) number f.answer g.answer f.skipped.right g.skipped.right in
+      let history = f.skipped.is ∙ ap (skip_after x.history number) answer ∙ sym g.skipped.is in
+      same (ap (skip_done number) answer) (ap with_history history) f.outcome_is f.new_is g.outcome_is g.new_is
+
 subscriptions : (o : Option Terms) (old : World) (a b : Done) (v w : World) → AnswersSubscribe o old a v → AnswersSubscribe o old b w → Same a b v w
 subscriptions None old a b v w p q = same refl refl p.0 p.1 q.0 q.1
 subscriptions (Some terms) old a b v w p q = came _ _ (record old { used = old.used + 1 }) p q
@@ -75,6 +82,7 @@ subscriptions (Some terms) old a b v w p q = came _ _ (record old { used = old.u
 pub one_step : (s : Setting) (old : World) (e : Event) (a b : Done) (v w : World) → IsStep s old e a v → IsStep s old e b w → Same a b v w
 one_step s old (Packet venue line bytes) a b v w p q = known (slice_get old.venues venue) _ old _ _ (λ x f g. packets venue x old s.window line bytes.now a b v w f g) p q
 one_step s old (Renew venue name) a b v w p q = known (slice_get old.venues venue) _ old _ _ (λ x f g. renewals venue x old name a b v w f g) p q
+one_step s old (Skip venue number) a b v w p q = known (slice_get old.venues venue) _ old _ _ (λ x f g. skips venue x old number a b v w f g) p q
 one_step s old (Push venue) a b v w p q = known (slice_get old.venues venue) _ old _ _ (λ x f g. came _ _ old f g) p q
 one_step s old (Consume venue) a b v w p q = known (slice_get old.venues venue) _ old _ _ (λ x f g. came _ _ old f g) p q
 one_step s old (Declare venue on) a b v w p q = known (slice_get old.venues venue) _ old _ _ (λ x f g. came _ _ old f g) p q

@@ -8,13 +8,15 @@ use Rattle.mold_packet.specs.Faults.{HasFault, code_of}
 use Rattle.line_arbiter.specs.declared.outcome.Outcome.{Outcome}
 use Rattle.line_arbiter.specs.declared.outcome.LineFault.{LineFault}
 use Rattle.line_arbiter.specs.declared.faults.RenewFault.{RenewFault}
+use Rattle.line_arbiter.specs.declared.faults.SkipFault.{SkipFault}
 use Rattle.std.specs.Prelude.{Result}
+use Rattle.line_arbiter.specs.Streams.{place_of}
 use Rattle.line_arbiter.specs.States.{State}
 use Rattle.line_arbiter.specs.Fits.{FitsHistory}
 use Rattle.line_arbiter.specs.Histories.{History, items_of, streams_of}
 use Rattle.feed_core.specs.declared.event.Done.{Done}
 use Rattle.feed_core.specs.declared.event.Done.TheVariants as done
-use Rattle.feed_core.specs.Worlds.{Lane, inside, is_full, Venue, session_sent, Subscriber, World, Setting, new_world}
+use Rattle.feed_core.specs.Worlds.{Lane, inside, is_full, Venue, session_count, session_sent, Subscriber, World, Setting, new_world}
 use Rattle.feed_core.specs.declared.event.Event.{Event}
 use Rattle.feed_core.specs.VenueHalf.{waiting}
 use Rattle.feed_core.specs.Headline.{ShownVenue, ShownSubscriber, Shown}
@@ -24,7 +26,7 @@ use Rattle.filter_terms.specs.Terms.{meets}
 use Rattle.journal_book.specs.Changes.{changes_of}
 use Rattle.journal_book.specs.Wanted.{wanted_of}
 use Rattle.journal_book.specs.Journals.{JournalState}
-use Rattle.feed_core.specs.Steps.{next_in, AddsArrival, AddsRenewal, packet_done, renewal_done, push_next, offer_next, AppliesTo, Intake}
+use Rattle.feed_core.specs.Steps.{next_in, AddsArrival, AddsRenewal, AddsSkip, packet_done, renewal_done, skip_done, push_next, offer_next, AppliesTo, Intake}
 use Rattle.feed_core.specs.OneStep.{IsStep}
 use Rattle.feed_core.specs.Runs.{IsRun}
 
@@ -38,7 +40,7 @@ pub record FitsVenue (window place : ℕ) (c : VenueView) (v : Venue) : Type 0 w
   pub history : FitsHistory c.arbiter v.history
   pub number : c.arbiter.venue ≡ place
   pub width : c.arbiter.window ≡ window
-  pub sent : c.arbiter.sent ≡ session_sent v
+  pub sent : place_of v.history.present.packets c.arbiter.sent ≡ session_count v
   pub begun : length (items_of v.history.earlier) ≤ length v.lane.sent
   pub lane : c.lane ≡ v.lane
   pub within : length v.lane.received ≤ length v.lane.sent
@@ -68,6 +70,15 @@ pub record LeftRenewed (window place : ℕ) (v : Venue) (name : List ℕ) (outco
   pub history : History
   pub renewed : AddsRenewal (session_sent v) name v.history answer history
   pub outcome_is : outcome ≡ renewal_done answer
+  pub fits : FitsVenue window place new (record v { history = history })
+
+-- what Skip leaves
+pub record LeftSkipped (window place : ℕ) (v : Venue) (number : ℕ) (outcome : Done)
+    (new : VenueView) : Type 0 where
+  pub answer : Result (Unit {0}) SkipFault
+  pub history : History
+  pub skipped : AddsSkip (session_sent v) number v.history answer history
+  pub outcome_is : outcome ≡ skip_done number answer
   pub fits : FitsVenue window place new (record v { history = history })
 
 -- what Push leaves

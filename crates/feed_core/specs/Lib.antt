@@ -3,6 +3,7 @@ pub mod Steps
 pub mod OneStep
 pub mod Runs
 pub mod VenueHalf
+pub mod WholeSessions
 pub mod SubscriberHalf
 pub mod Headline
 pub mod LaneCode

@@ -4,10 +4,10 @@ use Rattle.std.specs.Prelude.{◌⊎◌, slice_get}
 use Rattle.line_arbiter.specs.Histories.{streams_of}
 use Rattle.journal_book.specs.Wanted.{wanted_of}
 use Rattle.feed_core.specs.declared.event.Event.{Event}
-use Rattle.feed_core.specs.declared.event.Event.TheVariants.{Packet, Push, Consume, Declare, Renew, Subscribe, Offer, Dequeue}
+use Rattle.feed_core.specs.declared.event.Event.TheVariants.{Packet, Push, Consume, Declare, Renew, Skip, Subscribe, Offer, Dequeue}
 use Rattle.feed_core.specs.declared.event.Done.{Done}
 use Rattle.feed_core.specs.Worlds.{is_full, World, Setting}
-use Rattle.feed_core.specs.Steps.{next_in, next_out, push_next, consume_next, declare_help, offer_next, dequeue_next, Applies, with_sent, with_intake, with_offered, with_dequeued, RefusesBytes, AnswersPacket, AnswersRenewal, AnswersSubscribe, AtVenue, AtSubscriber}
+use Rattle.feed_core.specs.Steps.{next_in, next_out, push_next, consume_next, declare_help, offer_next, dequeue_next, Applies, with_sent, with_intake, with_offered, with_dequeued, RefusesBytes, AnswersPacket, AnswersRenewal, AnswersSkip, AnswersSubscribe, AtVenue, AtSubscriber}
 
 -- one event, from the old world to the new one, with its outcome
 abbrev pub IsStep : Setting → World → Event → Done → World → Type 0
@@ -16,6 +16,8 @@ IsStep s old (Packet venue line bytes) outcome new = AtVenue old venue outcome n
     ⊎ AnswersPacket s.window venue v line bytes.now old outcome new)
 IsStep s old (Renew venue name) outcome new = AtVenue old venue outcome new
     (λ v. AnswersRenewal venue v name old outcome new)
+IsStep s old (Skip venue number) outcome new = AtVenue old venue outcome new
+    (λ v. AnswersSkip venue v number old outcome new)
 IsStep s old (Push venue) outcome new = AtVenue old venue outcome new
     (λ v. Applies (with_sent old venue v)
     (push_next (is_full s.lane v.lane) (next_in (streams_of v.history) v.lane) v.lane.sent)

@@ -1,7 +1,7 @@
 -- One event on its part of the world: the part that it looks at, and that in a running feed is
 -- under one lock or at one end of a lane. The step (OneStep.antt) puts that part back in its place.
 -- Refusals are listed in the order in which they are looked for.
-use Rattle.std.specs.Prelude.{◌≡◌, ℕ, ◌+◌, Bool, true, false, nat_le, List, [], ◌∷◌, ◌++◌, length, MatchOption, Option, Some, None, Result, Ok, Err, slice_get, slice_set, if◌then◌else◌}
+use Rattle.std.specs.Prelude.{◌≡◌, ℕ, ◌+◌, Bool, nat_le, List, [], ◌∷◌, ◌++◌, length, MatchOption, Option, Some, None, Result, Ok, Err, slice_get, slice_set, if◌then◌else◌}
 use Rattle.feed_types.specs.declared.item.Numbered.{Numbered}
 use Rattle.feed_types.specs.declared.line.LineId.{LineId}
 use Rattle.feed_types.specs.declared.journal.Entry.{Entry}
@@ -13,14 +13,15 @@ use Rattle.mold_packet.specs.Faults.{HasFault, code_of}
 use Rattle.line_arbiter.specs.declared.outcome.Outcome.{Outcome}
 use Rattle.line_arbiter.specs.declared.outcome.LineFault.{LineFault}
 use Rattle.line_arbiter.specs.declared.faults.RenewFault.{RenewFault}
-use Rattle.line_arbiter.specs.Codes.{line_fault_code, renew_fault_code}
-use Rattle.line_arbiter.specs.Packets.{end_of}
+use Rattle.line_arbiter.specs.declared.faults.SkipFault.{SkipFault}
+use Rattle.line_arbiter.specs.Codes.{line_fault_code, renew_fault_code, skip_fault_code}
+use Rattle.line_arbiter.specs.Packets.{Skip, arrival_of, end_of}
 use Rattle.line_arbiter.specs.Outcomes.{IsOutcome}
 use Rattle.line_arbiter.specs.Renewals.{IsRenewal}
-use Rattle.line_arbiter.specs.Histories.{History, names_of, after_arrival, history_after}
+use Rattle.line_arbiter.specs.Skips.{IsSkip}
+use Rattle.line_arbiter.specs.Histories.{History, names_of, after_input, history_after}
 use Rattle.filter_terms.specs.declared.terms.Terms.{Terms}
 use Rattle.nbbo_book.specs.Eligible.{is_so}
-use Rattle.feed_core.specs.declared.event.Event.TheVariants.{Packet, Push, Consume, Declare, Renew, Subscribe, Offer, Dequeue}
 use Rattle.feed_core.specs.declared.event.Done.{Done}
 use Rattle.feed_core.specs.declared.event.Done.TheVariants as done
 use Rattle.feed_core.specs.Worlds.{Lane, empty_lane, Venue, session_sent, Subscriber, World}
@@ -63,7 +64,7 @@ next_out lane = slice_get lane.sent (length lane.received)
 pub record AddsArrival (window sent : ℕ) (line : LineId) (packet : Content) (old : History)
     (answer : Result Outcome LineFault) (new : History) : Type 0 where
   pub right : IsOutcome old.present.name window sent old.present.packets packet answer
-  pub is : new ≡ after_arrival old (record { line = line; packet = packet; answer = answer })
+  pub is : new ≡ after_input old (arrival_of line packet answer)
 
 -- Renew, on a venue's history: the present session is over and the next one begins, or nothing
 -- changes.
@@ -71,6 +72,17 @@ pub record AddsRenewal (sent : ℕ) (name : List ℕ) (old : History) (answer : 
     (new : History) : Type 0 where
   pub right : IsRenewal (names_of old) (end_of old.present.packets) sent name answer
   pub is : new ≡ history_after old name answer
+
+-- the history after a skip to the number with this answer
+abbrev pub skip_after : History → ℕ → Result (Unit {0}) SkipFault → History
+skip_after old number (Ok _) = after_input old (Skip number)
+skip_after old number (Err fault) = old
+
+-- Skip, on a venue's history: what is missing below the number is given up, or nothing changes.
+pub record AddsSkip (sent number : ℕ) (old : History) (answer : Result (Unit {0}) SkipFault)
+    (new : History) : Type 0 where
+  pub right : IsSkip old.present.packets sent number answer
+  pub is : new ≡ skip_after old number answer
 
 -- Push, on what was sent of a venue: adds its next item, unless the lane is full.
 abbrev pub push_next : Bool → Option Numbered → List Numbered → Transition (List Numbered)
@@ -195,6 +207,18 @@ pub record AnswersRenewal (place : ℕ) (v : Venue) (name : List ℕ) (old : Wor
   pub history : History
   pub renewed : AddsRenewal (session_sent v) name v.history answer history
   pub outcome_is : outcome ≡ renewal_done answer
+  pub new_is : new ≡ put_venue old place (record v { history = history })
+
+abbrev pub skip_done : ℕ → Result (Unit {0}) SkipFault → Done
+skip_done number (Ok _) = done.Skipped number
+skip_done number (Err fault) = done.Refused (skip_fault_code fault)
+
+pub record AnswersSkip (place : ℕ) (v : Venue) (number : ℕ) (old : World) (outcome : Done)
+    (new : World) : Type 0 where
+  pub answer : Result (Unit {0}) SkipFault
+  pub history : History
+  pub skipped : AddsSkip (session_sent v) number v.history answer history
+  pub outcome_is : outcome ≡ skip_done number answer
   pub new_is : new ≡ put_venue old place (record v { history = history })
 
 -- the next filter is used, also where there is no place for its subscriber

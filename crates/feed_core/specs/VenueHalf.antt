@@ -1,17 +1,18 @@
 -- The venue half of the headline: each venue's items, consumed and then waiting, are its sessions'
--- messages, session by session up to the first gap, each once, in sequence and none after their
--- session's end.
-use Rattle.std.specs.Prelude.{◌≡◌, ℕ, ◌+◌, List, [], ◌∷◌, ◌++◌, length, drop, map, None}
+-- messages, session by session up to the first gap that was not given up, each once, in sequence and
+-- none after their session's end, with one item in the place of messages that were given up.
+use Rattle.std.specs.Prelude.{◌≡◌, ℕ, ◌+◌, List, [], ◌∷◌, ◌++◌, length, drop, None, Contains}
 use Rattle.std.specs.List.{AllByRecursion}
 use Rattle.feed_types.specs.declared.item.Numbered.{Numbered}
-use Rattle.feed_types.specs.Sessions.{Session, whole_session, whole_sessions}
+use Rattle.feed_types.specs.Sessions.{Session}
 use Rattle.mold_packet.specs.Content.{Content, Spells}
-use Rattle.line_arbiter.specs.Packets.{carried, end_of}
-use Rattle.line_arbiter.specs.Streams.{AreTaken, front_of, stream_of}
-use Rattle.line_arbiter.specs.OfSession.{IsOfSession, GivesSession, session_stream}
-use Rattle.line_arbiter.specs.Histories.{History, names_of, streams_of}
+use Rattle.line_arbiter.specs.Packets as inputs
+use Rattle.line_arbiter.specs.Packets.{Input, carried}
+use Rattle.line_arbiter.specs.Streams.{AreTaken, IsComplete, front_of}
+use Rattle.line_arbiter.specs.OfSession.{IsOfSession, GivesSession, SkipsWithin, session_parts}
+use Rattle.line_arbiter.specs.Histories.{Begun, History, all_begun, streams_of}
 use Rattle.feed_core.specs.declared.event.Event.{Event}
-use Rattle.feed_core.specs.declared.event.Event.TheVariants.{Packet, Push, Consume, Declare, Renew, Subscribe, Offer, Dequeue}
+use Rattle.feed_core.specs.declared.event.Event.TheVariants.{Packet, Push, Consume, Declare, Renew, Skip, Subscribe, Offer, Dequeue}
 use Rattle.feed_core.specs.Worlds.{inside, Venue}
 
 -- what waits of a venue: in the lane, and then what is in sequence and was not pushed yet
@@ -27,6 +28,7 @@ BringsOnly place s (Push venue) = Unit {0}
 BringsOnly place s (Consume venue) = Unit {0}
 BringsOnly place s (Declare venue on) = Unit {0}
 BringsOnly place s (Renew venue name) = Unit {0}
+BringsOnly place s (Skip venue number) = Unit {0}
 BringsOnly place s Subscribe = Unit {0}
 BringsOnly place s (Offer id) = Unit {0}
 BringsOnly place s (Dequeue id) = Unit {0}
@@ -34,30 +36,51 @@ BringsOnly place s (Dequeue id) = Unit {0}
 abbrev pub BringOnly : ℕ → List Event → Session → Type 0
 BringOnly place events s = AllByRecursion (BringsOnly place s) events
 
--- Each session of this name that the venue began is the session `s`: its items from the first up to
--- the first gap, each once, and then End exactly where the end was announced and nothing is
--- missing; no packet of it that came while it was the present one was refused; and one that is over
--- is whole.
+-- a skip of the venue is one of the events
+abbrev pub IsAmong : List Event → ℕ → Input → Type 0
+IsAmong events place (inputs.Arrived a) = Unit {0}
+IsAmong events place (inputs.Skip n) = Contains events (Skip place n)
+
+-- The venue began a session under the name of `s`, and no skip went past the end of `s`.
+pub record IsNamed (s : Session) (b : Begun) : Type 0 where
+  pub name : b.name ≡ s.name
+  pub within : AllByRecursion (SkipsWithin s) b.packets
+
+-- the same of all these sessions, one after another
+abbrev pub AreNamed : List Session → List Begun → Type 0
+AreNamed [] [] = Unit {0}
+AreNamed (s ∷ ss) (b ∷ bs) = IsNamed s b × AreNamed ss bs
+AreNamed _ _ = ⊥
+
+-- Each session that the venue began under the name of `s`, with no skip past the end of `s`, is
+-- `s`, part by part: its items from the part's first number up to the first gap, each once, after
+-- Skipped where messages before them were given up, and then End exactly where the end was announced
+-- and nothing is missing; no packet of it that came while it was the present one was refused; and
+-- the last part of one that is over goes up to its last message.
 pub record AreSession (s : Session) (h : History) : Type 0 where
   pub earlier : AllByRecursion
-      (λ b. b.name ≡ s.name → GivesSession s b.packets × (stream_of b.packets ≡ whole_session s))
-      h.earlier
-  pub present : h.present.name ≡ s.name → GivesSession s h.present.packets
+      (λ b. IsNamed s b → GivesSession s b.packets × IsComplete b.packets) h.earlier
+  pub present : IsNamed s h.present → GivesSession s h.present.packets
+
+-- the parts of these sessions, as the venue's, session by session
+abbrev pub parts_of : List Session → List Begun → List Numbered
+parts_of (s ∷ ss) (b ∷ bs) = session_parts s b.packets ++ parts_of ss bs
+parts_of _ _ = []
 
 -- The items of the venue at a place, which has this history: they are its streams. Each session of
 -- which the events bring the packets alone is the one that came under its name. Where that holds of
--- all sessions that the venue began, the items are these sessions, each whole but the last, which
--- goes up to its first gap: each message before the gap was taken, and the one at the gap was not.
+-- all sessions that the venue began, the items are these sessions' parts, the last of which goes up
+-- to the first gap: each message before the gap was taken or given up, and the one at the gap was
+-- not. What was given up is what the events give up; where they give up nothing, each session is one
+-- part, from its first message on (a law, `items_without_skips`).
 pub record AreVenueItems (events : List Event) (place : ℕ) (all : List Numbered) (h : History)
     : Type 0 where
   pub items : all ≡ streams_of h
+  pub skips : AllByRecursion (λ b. AllByRecursion (IsAmong events place) b.packets) (all_begun h)
   pub session : (s : Session) → BringOnly place events s → AreSession s h
-  pub sessions : (earlier : List Session) (present : Session)
-      → map (λ s. s.name) (earlier ++ present ∷ []) ≡ names_of h
-      → AllByRecursion (BringOnly place events) (earlier ++ present ∷ [])
-      → all
-      ≡ whole_sessions earlier
-      ++ session_stream present (front_of h.present.packets) (end_of h.present.packets)
+  pub sessions : (began : List Session) → AreNamed began (all_begun h)
+      → AllByRecursion (BringOnly place events) began
+      → all ≡ parts_of began (all_begun h)
   pub taken : AreTaken h.present.packets (front_of h.present.packets)
   pub gap : carried h.present.packets (front_of h.present.packets + 1) ≡ None
 

@@ -4,6 +4,7 @@ use Rattle.feed_types.specs.declared.item.Numbered.{Numbered}
 use Rattle.feed_types.specs.declared.journal.Entry.{Entry}
 use Rattle.feed_types.specs.declared.journal.Notice.{Notice}
 use Rattle.feed_types.specs.declared.config.FeedConfig.{FeedConfig}
+use Rattle.line_arbiter.specs.Streams.{sent_of}
 use Rattle.line_arbiter.specs.Histories.{History, new_history, items_of}
 use Rattle.filter_terms.specs.declared.terms.Terms.{Terms}
 use Rattle.filter_terms.specs.declared.filter.Filter.{Filter}
@@ -25,14 +26,20 @@ inside lane = drop (length lane.received) lane.sent
 abbrev pub is_full : {X : Type 0} → ℕ → Lane X → Bool
 is_full capacity lane = nat_le capacity (length lane.sent - length lane.received)
 
--- a venue: what its lines brought, session by session, and the lane from them to the journal
+-- a venue: what its lines brought and what was given up of it, session by session, and the lane from
+-- there to the journal
 pub record Venue : Type 0 where
   pub history : History
   pub lane : Lane Numbered
 
 -- how many items of the present session were sent
+abbrev pub session_count : Venue → ℕ
+session_count v = length v.lane.sent - length (items_of v.history.earlier)
+
+-- the number of the last item of the present session that was sent: their count, where nothing was
+-- given up
 abbrev pub session_sent : Venue → ℕ
-session_sent v = length v.lane.sent - length (items_of v.history.earlier)
+session_sent v = sent_of v.history.present.packets (session_count v)
 
 -- a subscriber: what it asked for, and the lane from the journal to it
 pub record Subscriber : Type 0 where

@@ -6,5 +6,6 @@ pub mod KeptVenues
 pub mod Lanes
 pub mod SubscriberHalfLaw
 pub mod VenueHalfLaw
+pub mod WholeSessionsLaw
 pub mod FirstNames
 pub mod HeadlineLaw

@@ -31,6 +31,11 @@ pub enum Event<'a> {
         venue: VenueId,
         session: [u8; 10],
     },
+    /// The messages of the venue that are missing below the number are given up.
+    Skip {
+        venue: VenueId,
+        number: u64,
+    },
     /// The next of the filters that were handed in becomes a subscriber.
     Subscribe,
     /// The next notice that the subscriber wants goes into its lane.
@@ -49,7 +54,7 @@ pub enum Done {
     /// The event was refused, by the code of the refusal: 1 to 4 a datagram that is no packet, 7 to
     /// 11 a packet that the venue's lines refuse, 17 a full journal, 18 no such venue, 19 a
     /// declaration that changes nothing, 20 one subscriber too many, 21 no such subscriber, 35 to
-    /// 37 a session that can't begin.
+    /// 37 a session that can't begin, 60 to 63 a skip that can't be made.
     Refused(u8),
     Packet(Outcome),
     /// The item of this number was pushed.
@@ -60,6 +65,8 @@ pub enum Done {
     Declared(u64),
     /// The session of this ordinal has begun, from 2.
     Renewed(u64),
+    /// The session goes on from this number.
+    Skipped(u64),
     Subscribed(SubscriberId),
     /// The notice of this number was put into the subscriber's lane.
     Offered(u64),

@@ -1,19 +1,28 @@
 //! Laws of the definitions. Each function has an empty body, and its contract is a law.
 
-ghost use Rattle.std.specs.Prelude.{◌≡◌, ℕ, List, Some, slice_get};
+ghost use Rattle.std.specs.Prelude.{◌≡◌, ℕ, ◌++◌, ◌∷◌, [], List, Some, map, slice_get};
 ghost use Rattle.std.specs.List.{AllByRecursion};
+ghost use Rattle.feed_types.specs.declared.item.Numbered.{Numbered};
+ghost use Rattle.feed_types.specs.Sessions.{Session, whole_sessions};
+ghost use Rattle.line_arbiter.specs.Packets.{end_of};
+ghost use Rattle.line_arbiter.specs.Skips.{IsArrival};
+ghost use Rattle.line_arbiter.specs.Streams.{front_of};
+ghost use Rattle.line_arbiter.specs.OfSession.{SkipsWithin, session_stream};
+ghost use Rattle.line_arbiter.specs.Histories.{History, all_begun, names_of};
 ghost use Rattle.feed_core.specs.declared.event.Event.{Event};
 ghost use Rattle.feed_core.specs.declared.event.Done.{Done};
-ghost use Rattle.feed_core.specs.Worlds.{Venue, Subscriber, World, Setting, new_world};
+ghost use Rattle.feed_core.specs.Worlds.{Venue, Subscriber, World, Setting, new_world, session_count, session_sent};
 ghost use Rattle.feed_core.specs.Runs.{BringsBytes, IsRun};
-ghost use Rattle.feed_core.specs.VenueHalf.{VenueHalf};
+ghost use Rattle.feed_core.specs.VenueHalf.{AreVenueItems, BringOnly, VenueHalf};
+ghost use Rattle.feed_core.specs.WholeSessions.{AreWhole, GiveNothingUp, SkipWithin};
 ghost use Rattle.feed_core.specs.SubscriberHalf.{SubscriberHalf};
 ghost use Rattle.feed_core.specs.Headline.{Headline};
 
 /// The headline. After every list of events, each venue's items, consumed and then waiting, are its
-/// sessions' messages, session by session up to the first gap, each once, in sequence and none
-/// after their session's end; and each subscriber's dequeued notices are, in order and without
-/// doubles, a prefix of the journal's changes of the national best that meet its filter.
+/// sessions' messages, session by session up to the first gap that was not given up, each once, in
+/// sequence and none after their session's end, with one item in the place of the messages that were
+/// given up; and each subscriber's dequeued notices are, in order and without doubles, a prefix of
+/// the journal's changes of the national best that meet its filter.
 pub fn headline()
     ensures { (s : Setting) (events : List Event) (outcomes : List Done) (w : World)
         → IsRun s (new_world s) events outcomes w → Headline s events w }
@@ -24,6 +33,30 @@ pub fn venue_half()
     ensures { (s : Setting) (events : List Event) (outcomes : List Done) (w : World)
         → IsRun s (new_world s) events outcomes w
         → (place : ℕ) (v : Venue) → slice_get w.venues place ≡ Some v → VenueHalf events place v }
+{}
+
+/// Where no event gives up messages of a venue, its sessions are whole, one after another, and of
+/// the present one its items are the messages from the first up to the first gap.
+pub fn items_without_skips()
+    ensures session { (events : List Event) (place : ℕ) (all : List Numbered) (h : History)
+        → AreVenueItems events place all h → GiveNothingUp place events
+        → (s : Session) → BringOnly place events s → AreWhole s h }
+    ensures sessions { (events : List Event) (place : ℕ) (all : List Numbered) (h : History)
+        → AreVenueItems events place all h → GiveNothingUp place events
+        → (earlier : List Session) (present : Session)
+        → map (λ s. s.name) (earlier ++ present ∷ []) ≡ names_of h
+        → AllByRecursion (BringOnly place events) (earlier ++ present ∷ [])
+        → all ≡ whole_sessions earlier
+        ++ session_stream present 1 (front_of h.present.packets) (end_of h.present.packets) }
+    ensures sent { (v : Venue) → AllByRecursion IsArrival v.history.present.packets
+        → session_sent v ≡ session_count v }
+{}
+
+/// Where no event that skips at a venue goes past the end of a session, no skip of its history does.
+pub fn skips_are_events()
+    ensures { (events : List Event) (place : ℕ) (all : List Numbered) (h : History)
+        → AreVenueItems events place all h → (s : Session) → SkipWithin s place events
+        → AllByRecursion (λ b. AllByRecursion (SkipsWithin s) b.packets) (all_begun h) }
 {}
 
 /// The headline's subscriber half alone.

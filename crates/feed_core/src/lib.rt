@@ -26,6 +26,9 @@ mod world;
 pub use config::{ConfigFault, CoreFault};
 pub use configured::new_journal;
 pub use event::{Done, Event};
-pub use laws::{every_list_of_events_has_a_run, headline, one_run, subscriber_half, venue_half};
+pub use laws::{
+    every_list_of_events_has_a_run, headline, items_without_skips, one_run, skips_are_events,
+    subscriber_half, venue_half,
+};
 pub use running::run;
 pub use world::World;

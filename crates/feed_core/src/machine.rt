@@ -159,6 +159,19 @@ impl Machine {
         state.renew(session)
     }
 
+    fn skip(&mut self, venue: VenueId, number: u64) -> Done
+        ensures step { (s : Setting) (w : WorldView) → FitsWorld s self.old w
+            → HasStepped s w (Event.Skip venue number) result self.new }
+        ensures used { self.new.used ≡ self.old.used }
+    {
+        let place = venue.index();
+        if place >= self.venue_states.len() {
+            return Done::Refused(18);
+        }
+        let state = &mut self.venue_states[place];
+        state.skip_to(number)
+    }
+
     fn consume(&mut self, venue: VenueId) -> Result<Done, AllocError>
         ensures step { IfOk result (λ d. (s : Setting) (w : WorldView)
             → FitsWorld s self.old w
@@ -252,6 +265,7 @@ impl Machine {
             Event::Consume { venue } => self.consume(*venue),
             Event::Declare { venue, on } => self.declare(*venue, *on),
             Event::Renew { venue, session } => Ok(self.renew(*venue, *session)),
+            Event::Skip { venue, number } => Ok(self.skip(*venue, *number)),
             Event::Subscribe => self.subscribe(alloc, filters),
             Event::Offer { id } => self.offer(*id, filters),
             Event::Dequeue { id } => Ok(self.dequeue(*id)),

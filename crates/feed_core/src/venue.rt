@@ -2,12 +2,12 @@
 
 ghost use Rattle.std.specs.Prelude.{◌≡◌, ◌⊎◌, ℕ, ◌++◌, ◌∷◌, [], List, None, IfOk, IfSome, OnOk, OnErr, drop};
 ghost use Rattle.mold_packet.specs.Content.{Spells};
-ghost use Rattle.line_arbiter.specs.Packets.{Arrival};
-ghost use Rattle.line_arbiter.specs.Streams.{stream_of};
+ghost use Rattle.line_arbiter.specs.Packets.{Input};
+ghost use Rattle.line_arbiter.specs.Streams.{place_of, stream_of};
 ghost use Rattle.line_arbiter.specs.Fits.{Fits};
 ghost use Rattle.feed_core.specs.Worlds.{inside, Venue, new_venue};
 ghost use Rattle.feed_core.specs.Steps.{next_out};
-ghost use Rattle.feed_core.specs.Fitting.{FitsVenue, LeftFaulty, LeftAnswered, LeftRenewed, LeftPushed, ShowsLane};
+ghost use Rattle.feed_core.specs.Fitting.{FitsVenue, LeftFaulty, LeftAnswered, LeftRenewed, LeftSkipped, LeftPushed, ShowsLane};
 
 use crate::event::Done;
 use crate::lane::Lane;
@@ -95,6 +95,17 @@ impl VenueState {
         }
     }
 
+    /// Skip: gives up what is missing below this number.
+    pub(crate) fn skip_to(&mut self, number: u64) -> Done
+        ensures { (window place : ℕ) (v : Venue) → FitsVenue window place self.old v
+            → LeftSkipped window place v number result self.new }
+    {
+        match self.lines.skip_to(number) {
+            Ok(()) => Done::Skipped(number),
+            Err(fault) => Done::Refused(fault.code()),
+        }
+    }
+
     /// Push, into a lane of this capacity.
     pub(crate) fn push(&mut self, capacity: u32) -> Result<Done, AllocError>
         ensures { IfOk result (λ d. (window place : ℕ) (v : Venue)
@@ -149,9 +160,12 @@ impl VenueState {
 }
 
 fn drain(lines: &mut Arbiter<Anything>, lane: &mut Lane<Numbered>) -> Result<(), AllocError>
-    ensures { OnOk result ((packets : List Arrival) → Fits lines.old packets
+    ensures { OnOk result ((packets : List Input) → Fits lines.old packets
         → lane.new
-        ≡ record lane.old { sent = lane.old.sent ++ drop lines.old.sent (stream_of packets) }) }
+        ≡ record lane.old {
+          sent = lane.old.sent
+              ++ drop (place_of packets lines.old.sent) (stream_of packets);
+        }) }
 {
     while let Some(next) = lines.next_ready() {
         let Numbered { number, item } = next;

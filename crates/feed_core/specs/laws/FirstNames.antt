@@ -1,12 +1,15 @@
 -- A venue's first session is the one that it is set up with.
 use Rattle.std.proofs.Common.{◌≡◌, ℕ, zero, suc, List, [], ◌∷◌, ◌++◌, map, Some, Result, Ok, Err, refl, sym, ap, subst, ◌∙◌}
 use Rattle.std.specs.Prelude.{slice_get}
-use Rattle.std.specs.List.{AllByRecursion}
 use Rattle.line_arbiter.specs.declared.faults.RenewFault.{RenewFault}
+use Rattle.line_arbiter.specs.declared.faults.SkipFault.{SkipFault}
 use Rattle.line_arbiter.specs.Histories.{Begun, History, new_session, names_of, history_after}
+use Rattle.line_arbiter.specs.laws.Histories.{names_same}
+use Rattle.line_arbiter.specs.Packets.{Skip}
 use Rattle.feed_core.specs.declared.event.Event.{Event}
 use Rattle.feed_core.specs.declared.event.Done.{Done}
 use Rattle.feed_core.specs.Worlds.{Venue, World, Setting, new_venue, new_world}
+use Rattle.feed_core.specs.Steps.{skip_after}
 use Rattle.feed_core.specs.Runs.{IsRun}
 use Rattle.feed_core.specs.laws.KeptVenues.{KeepsVenueStep, run_keeps}
 use Rattle.feed_core.specs.laws.VenueHalfLaw.{none_asked}
@@ -31,6 +34,12 @@ first_renewed : (old : History) (name : List ℕ) (answer : Result ℕ RenewFaul
 first_renewed old name (Ok ordinal) = first_more old.earlier old.present (new_session name)
 first_renewed old name (Err fault) = refl
 
+first_skipped : (old : History) (number : ℕ) (answer : Result (Unit {0}) SkipFault)
+    → slice_get (names_of (skip_after old number answer)) 0 ≡ slice_get (names_of old) 0
+first_skipped old number (Ok _) =
+    ap (λ (names : List (List ℕ)). slice_get names 0) (sym (names_same old (Skip number)))
+first_skipped old number (Err fault) = refl
+
 moves : (s : Setting) → KeepsVenueStep s (λ e. Unit {0}) (IsFirst s)
 moves s = record {
   packet = λ place v line bytes p rest answer h may spells taken k.
@@ -39,6 +48,9 @@ moves s = record {
       ∙ k;
   renew = λ place v name answer h r k. ap (λ (x : History). slice_get (names_of x) 0) r.is
       ∙ first_renewed v.history name answer ∙ k;
+  skip = λ place v number answer h may r k.
+      ap (λ (x : History). slice_get (names_of x) 0) r.is
+      ∙ first_skipped v.history number answer ∙ k;
   push = λ place v x e k. k;
   consume = λ place v x e k. k;
 }

@@ -1,14 +1,12 @@
 -- The headline, from its halves.
-use Rattle.std.proofs.Common.{◌≡◌, ℕ, zero, suc, List, [], ◌∷◌, ◌++◌, map, Some, refl, sym, ap, subst, ◌∙◌}
+use Rattle.std.proofs.Common.{◌≡◌, ℕ, zero, suc, List, [], ◌∷◌, map, Some, refl, sym, ap, subst, ◌∙◌}
 use Rattle.std.specs.Prelude.{slice_get}
 use Rattle.feed_types.specs.declared.journal.Entry.{Entry}
 use Rattle.journal_book.specs.Changes.{changes_of}
 use Rattle.feed_core.specs.declared.event.Event.{Event}
 use Rattle.feed_core.specs.declared.event.Done.{Done}
-use Rattle.feed_core.specs.Worlds.{Venue, Subscriber, World, Setting, new_world}
+use Rattle.feed_core.specs.Worlds.{World, Setting, new_world}
 use Rattle.feed_core.specs.Runs.{IsRun}
-use Rattle.feed_core.specs.VenueHalf.{AreVenueItems}
-use Rattle.feed_core.specs.SubscriberHalf.{AreNotices}
 use Rattle.feed_core.specs.Headline.{Headline, ShownVenue, ShownSubscriber, Shown, shown_venue, shown_subscriber, IsRunOf, ShownVenueHalf, ShownSubscriberHalf, ShowsHeadline}
 use Rattle.feed_core.specs.laws.VenueHalfLaw.{venue_half}
 use Rattle.feed_core.specs.laws.SubscriberHalfLaw.{subscriber_half}

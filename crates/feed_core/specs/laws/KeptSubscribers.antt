@@ -11,7 +11,7 @@ use Rattle.line_arbiter.specs.Histories.{streams_of}
 use Rattle.journal_book.specs.Wanted.{wanted_of}
 use Rattle.nbbo_book.specs.Eligible.{is_so}
 use Rattle.feed_core.specs.declared.event.Event.{Event}
-use Rattle.feed_core.specs.declared.event.Event.TheVariants.{Packet, Push, Consume, Declare, Renew, Subscribe, Offer, Dequeue}
+use Rattle.feed_core.specs.declared.event.Event.TheVariants.{Packet, Push, Consume, Declare, Renew, Skip, Subscribe, Offer, Dequeue}
 use Rattle.feed_core.specs.declared.event.Done.{Done}
 use Rattle.feed_core.specs.Worlds.{empty_lane, is_full, Venue, Subscriber, World, Setting}
 use Rattle.feed_core.specs.Steps.{Refused, Changes, next_in, next_out, push_next, journal_item, offer_next, dequeue_next, journal_full, already_so, too_many_subscribers, unknown_venue, unknown_subscriber, put_subscriber, Stays, Applies, with_sent, with_intake, with_offered, with_dequeued, AnswersSubscribe}
@@ -139,6 +139,8 @@ module _ (s : Setting) (Q : List Entry → Subscriber → Type 0) (kept : KeepsS
         | inr a ↦ moved new _ a.new_is each
       ]) h
   step_keeps old (Renew place name) d new each h =
+      at_venue (slice_get old.venues place) old d new _ each (λ v k. moved new _ k.new_is each) h
+  step_keeps old (Skip place number) d new each h =
       at_venue (slice_get old.venues place) old d new _ each (λ v k. moved new _ k.new_is each) h
   step_keeps old (Push place) d new each h =
       at_venue (slice_get old.venues place) old d new _ each

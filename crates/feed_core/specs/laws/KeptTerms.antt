@@ -4,14 +4,11 @@ use Rattle.std.proofs.Common.{◌≡◌, ℕ, ◌+◌, ◌<◌, Bool, true, fals
 use Rattle.std.specs.Prelude.{MatchOption, slice_get, slice_set, if◌then◌else◌, nat_le}
 use Rattle.std.proofs.Math.ListN.{length-set}
 use Rattle.std.proofs.lemmas.Bool.Decides.{nat_tests}
-use Rattle.feed_types.specs.declared.item.Numbered.{Numbered}
-use Rattle.feed_types.specs.declared.journal.Entry.{Entry}
-use Rattle.feed_types.specs.declared.journal.Notice.{Notice}
 use Rattle.line_arbiter.specs.Histories.{streams_of}
 use Rattle.filter_terms.specs.declared.terms.Terms.{Terms}
 use Rattle.journal_book.specs.Wanted.{wanted_of}
 use Rattle.feed_core.specs.declared.event.Event.{Event}
-use Rattle.feed_core.specs.declared.event.Event.TheVariants.{Packet, Push, Consume, Declare, Renew, Subscribe, Offer, Dequeue}
+use Rattle.feed_core.specs.declared.event.Event.TheVariants.{Packet, Push, Consume, Declare, Renew, Skip, Subscribe, Offer, Dequeue}
 use Rattle.feed_core.specs.declared.event.Done.{Done}
 use Rattle.feed_core.specs.declared.event.Done.TheVariants as done
 use Rattle.feed_core.specs.Worlds.{empty_lane, is_full, Venue, Subscriber, World, Setting, new_world}
@@ -126,6 +123,9 @@ module _ (s : Setting) where
         | inr a ↦ moved new _ a.new_is (record { terms = k.terms; used = k.used })
       ]) h
   step_keeps old (Renew place name) d new k h = at_venue (slice_get old.venues place) old d new _ k
+      (λ v t. moved new _ t.new_is (record { terms = k.terms; used = k.used })) h
+  step_keeps old (Skip place number) d new k h =
+      at_venue (slice_get old.venues place) old d new _ k
       (λ v t. moved new _ t.new_is (record { terms = k.terms; used = k.used })) h
   step_keeps old (Push place) d new k h = at_venue (slice_get old.venues place) old d new _ k
       (λ v t. other_case old (with_sent old place v)

@@ -8,14 +8,15 @@ use Rattle.mold_packet.specs.Content.{Content, Spells}
 use Rattle.line_arbiter.specs.declared.outcome.Outcome.{Outcome}
 use Rattle.line_arbiter.specs.declared.outcome.LineFault.{LineFault}
 use Rattle.line_arbiter.specs.declared.faults.RenewFault.{RenewFault}
+use Rattle.line_arbiter.specs.declared.faults.SkipFault.{SkipFault}
 use Rattle.line_arbiter.specs.Histories.{History, streams_of}
 use Rattle.filter_terms.specs.declared.terms.Terms.{Terms}
 use Rattle.journal_book.specs.Wanted.{wanted_of}
 use Rattle.feed_core.specs.declared.event.Event.{Event}
-use Rattle.feed_core.specs.declared.event.Event.TheVariants.{Packet, Push, Consume, Declare, Renew, Subscribe, Offer, Dequeue}
+use Rattle.feed_core.specs.declared.event.Event.TheVariants.{Packet, Push, Consume, Declare, Renew, Skip, Subscribe, Offer, Dequeue}
 use Rattle.feed_core.specs.declared.event.Done.{Done}
 use Rattle.feed_core.specs.Worlds.{is_full, Venue, session_sent, Subscriber, World, Setting}
-use Rattle.feed_core.specs.Steps.{Transition, Refused, Changes, next_in, next_out, AddsArrival, AddsRenewal, push_next, journal_item, declare_help, add_subscriber, offer_next, dequeue_next, journal_full, unknown_venue, unknown_subscriber, put_venue, Stays, Applies, with_sent, with_intake, with_offered, with_dequeued, AnswersSubscribe}
+use Rattle.feed_core.specs.Steps.{Transition, Refused, Changes, next_in, next_out, AddsArrival, AddsRenewal, AddsSkip, push_next, journal_item, declare_help, add_subscriber, offer_next, dequeue_next, journal_full, unknown_venue, unknown_subscriber, put_venue, Stays, Applies, with_sent, with_intake, with_offered, with_dequeued, AnswersSubscribe}
 use Rattle.feed_core.specs.OneStep.{IsStep}
 use Rattle.feed_core.specs.Runs.{IsRun}
 use Rattle.feed_core.specs.laws.Lists.{get_after_set}
@@ -28,6 +29,10 @@ pub record KeepsVenueStep (s : Setting) (May : Event → Type 0) (Q : ℕ → Ve
       → Q place (record v { history = h })
   pub renew : (place : ℕ) (v : Venue) (name : List ℕ) (answer : Result ℕ RenewFault) (h : History)
       → AddsRenewal (session_sent v) name v.history answer h → Q place v
+      → Q place (record v { history = h })
+  pub skip : (place : ℕ) (v : Venue) (number : ℕ) (answer : Result (Unit {0}) SkipFault)
+      (h : History) → May (Skip place number)
+      → AddsSkip (session_sent v) number v.history answer h → Q place v
       → Q place (record v { history = h })
   pub push : (place : ℕ) (v : Venue) (x : Numbered) → next_in (streams_of v.history) v.lane ≡ Some x
       → Q place v → Q place (record v { lane = record v.lane { sent = v.lane.sent ++ x ∷ [] } })
@@ -116,6 +121,10 @@ module _ (s : Setting) (May : Event → Type 0) (Q : ℕ → Venue → Type 0) (
         at_venue (slice_get old.venues place) old place d new _ refl each
         (λ v here k. moved new _ k.new_is
         (put old place _ each (kept.renew place v name k.answer k.history k.renewed here))) h
+    step_keeps old (Skip place number) d new may each h =
+        at_venue (slice_get old.venues place) old place d new _ refl each
+        (λ v here k. moved new _ k.new_is
+        (put old place _ each (kept.skip place v number k.answer k.history may k.skipped here))) h
     step_keeps old (Push place) d new may each h =
         at_venue (slice_get old.venues place) old place d new _ refl each
         (λ v here k. push_case old place v (is_full s.lane v.lane)
