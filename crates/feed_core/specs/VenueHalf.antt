@@ -1,6 +1,6 @@
 -- The venue half of the headline: each venue's items, consumed and then waiting, are its sessions'
--- messages, session by session up to the first gap that was not given up, each once, in sequence and
--- none after their session's end, with one item in the place of messages that were given up.
+-- messages, session by session up to the first gap that was not given up, each once, in sequence
+-- and none after their session's end, with one item in the place of messages that were given up.
 use Rattle.std.specs.Prelude.{◌≡◌, ℕ, ◌+◌, List, [], ◌∷◌, ◌++◌, length, drop, None, Contains}
 use Rattle.std.specs.List.{AllByRecursion}
 use Rattle.feed_types.specs.declared.item.Numbered.{Numbered}
@@ -41,46 +41,46 @@ abbrev pub IsAmong : List Event → ℕ → Input → Type 0
 IsAmong events place (inputs.Arrived a) = Unit {0}
 IsAmong events place (inputs.Skip n) = Contains events (Skip place n)
 
--- The venue began a session under the name of `s`, and no skip went past the end of `s`.
-pub record IsNamed (s : Session) (b : Begun) : Type 0 where
+-- The session was begun under the name of `s`, and no skip goes past the end of `s`.
+pub record IsBegunAs (s : Session) (b : Begun) : Type 0 where
   pub name : b.name ≡ s.name
   pub within : AllByRecursion (SkipsWithin s) b.packets
 
 -- the same of all these sessions, one after another
-abbrev pub AreNamed : List Session → List Begun → Type 0
-AreNamed [] [] = Unit {0}
-AreNamed (s ∷ ss) (b ∷ bs) = IsNamed s b × AreNamed ss bs
-AreNamed _ _ = ⊥
+abbrev pub AreBegunAs : List Session → List Begun → Type 0
+AreBegunAs [] [] = Unit {0}
+AreBegunAs (s ∷ ss) (b ∷ bs) = IsBegunAs s b × AreBegunAs ss bs
+AreBegunAs _ _ = ⊥
 
 -- Each session that the venue began under the name of `s`, with no skip past the end of `s`, is
 -- `s`, part by part: its items from the part's first number up to the first gap, each once, after
--- Skipped where messages before them were given up, and then End exactly where the end was announced
--- and nothing is missing; no packet of it that came while it was the present one was refused; and
--- the last part of one that is over goes up to its last message.
+-- Skipped where messages before them were given up, and then End exactly where the end was
+-- announced and nothing is missing; no packet of it that came while it was the present one was
+-- refused; and the last part of one that is over goes up to its last message.
 pub record AreSession (s : Session) (h : History) : Type 0 where
   pub earlier : AllByRecursion
-      (λ b. IsNamed s b → GivesSession s b.packets × IsComplete b.packets) h.earlier
-  pub present : IsNamed s h.present → GivesSession s h.present.packets
+      (λ b. IsBegunAs s b → GivesSession s b.packets × IsComplete b.packets) h.earlier
+  pub present : IsBegunAs s h.present → GivesSession s h.present.packets
 
 -- the parts of these sessions, as the venue's, session by session
-abbrev pub parts_of : List Session → List Begun → List Numbered
-parts_of (s ∷ ss) (b ∷ bs) = session_parts s b.packets ++ parts_of ss bs
-parts_of _ _ = []
+abbrev pub parts_of_sessions : List Session → List Begun → List Numbered
+parts_of_sessions (s ∷ ss) (b ∷ bs) = session_parts s b.packets ++ parts_of_sessions ss bs
+parts_of_sessions _ _ = []
 
 -- The items of the venue at a place, which has this history: they are its streams. Each session of
 -- which the events bring the packets alone is the one that came under its name. Where that holds of
 -- all sessions that the venue began, the items are these sessions' parts, the last of which goes up
 -- to the first gap: each message before the gap was taken or given up, and the one at the gap was
--- not. What was given up is what the events give up; where they give up nothing, each session is one
--- part, from its first message on (a law, `items_without_skips`).
+-- not. What was given up is what events gave up; where they gave up nothing, each session is one
+-- part, from its first message on (the law `items_without_skips`).
 pub record AreVenueItems (events : List Event) (place : ℕ) (all : List Numbered) (h : History)
     : Type 0 where
   pub items : all ≡ streams_of h
   pub skips : AllByRecursion (λ b. AllByRecursion (IsAmong events place) b.packets) (all_begun h)
   pub session : (s : Session) → BringOnly place events s → AreSession s h
-  pub sessions : (began : List Session) → AreNamed began (all_begun h)
+  pub sessions : (began : List Session) → AreBegunAs began (all_begun h)
       → AllByRecursion (BringOnly place events) began
-      → all ≡ parts_of began (all_begun h)
+      → all ≡ parts_of_sessions began (all_begun h)
   pub taken : AreTaken h.present.packets (front_of h.present.packets)
   pub gap : carried h.present.packets (front_of h.present.packets + 1) ≡ None
 

@@ -26,7 +26,7 @@ inside lane = drop (length lane.received) lane.sent
 abbrev pub is_full : {X : Type 0} → ℕ → Lane X → Bool
 is_full capacity lane = nat_le capacity (length lane.sent - length lane.received)
 
--- a venue: what its lines brought and what was given up of it, session by session, and the lane from
+-- a venue: what its lines brought and what was given up, session by session, and the lane from
 -- there to the journal
 pub record Venue : Type 0 where
   pub history : History

@@ -20,7 +20,7 @@ ghost use Rattle.feed_core.specs.Headline.{Headline};
 
 /// The headline. After every list of events, each venue's items, consumed and then waiting, are its
 /// sessions' messages, session by session up to the first gap that was not given up, each once, in
-/// sequence and none after their session's end, with one item in the place of the messages that were
+/// sequence and none after their session's end, with one item in the place of messages that were
 /// given up; and each subscriber's dequeued notices are, in order and without doubles, a prefix of
 /// the journal's changes of the national best that meet its filter.
 pub fn headline()
@@ -35,8 +35,9 @@ pub fn venue_half()
         → (place : ℕ) (v : Venue) → slice_get w.venues place ≡ Some v → VenueHalf events place v }
 {}
 
-/// Where no event gives up messages of a venue, its sessions are whole, one after another, and of
-/// the present one its items are the messages from the first up to the first gap.
+/// Where no event gives up messages of a venue, its items are its sessions, one after another, each
+/// whole but the present one, which goes up to its first gap; and the number of the last item sent
+/// is their count.
 pub fn items_without_skips()
     ensures session { (events : List Event) (place : ℕ) (all : List Numbered) (h : History)
         → AreVenueItems events place all h → GiveNothingUp place events
@@ -52,7 +53,7 @@ pub fn items_without_skips()
         → session_sent v ≡ session_count v }
 {}
 
-/// Where no event that skips at a venue goes past the end of a session, no skip of its history does.
+/// Where no event gives up what is past the end of a session, no skip of the venue's history does.
 pub fn skips_are_events()
     ensures { (events : List Event) (place : ℕ) (all : List Numbered) (h : History)
         → AreVenueItems events place all h → (s : Session) → SkipWithin s place events

@@ -31,7 +31,7 @@ use Rattle.feed_core.specs.declared.event.Done.{Done}
 use Rattle.feed_core.specs.Worlds.{Venue, session_count, session_sent, World, Setting, new_venue, new_world}
 use Rattle.feed_core.specs.Steps.{AddsArrival, AddsRenewal, AddsSkip}
 use Rattle.feed_core.specs.Runs.{IsRun}
-use Rattle.feed_core.specs.VenueHalf.{BringsOnly, BringOnly, IsAmong, IsNamed, AreNamed, AreSession, parts_of, VenueHalf}
+use Rattle.feed_core.specs.VenueHalf.{BringsOnly, BringOnly, IsAmong, IsBegunAs, AreBegunAs, AreSession, parts_of_sessions, VenueHalf}
 use Rattle.feed_core.specs.laws.Lists.{begins_self, begins_len, begins_all}
 use Rattle.feed_core.specs.laws.Lanes.{Serves, serve_in, serve_out, serve_more, serve_all}
 use Rattle.feed_core.specs.laws.KeptVenues.{KeepsVenueStep, EachVenue, run_keeps}
@@ -277,7 +277,7 @@ module _ (setting : Setting) (at : ℕ) (s : Session) where
       (λ i name here. record { earlier = tt; present = tt })) run at v there refl
 
 gives : (window : ℕ) (s : Session) (b : Begun) → AreAnswered b.name window b.packets
-    → AllByRecursion (IsArrivalOf s) b.packets → IsNamed s b → GivesSession s b.packets
+    → AllByRecursion (IsArrivalOf s) b.packets → IsBegunAs s b → GivesSession s b.packets
 gives window s b answered only named =
     gives_session s window b.packets
     (subst (λ (n : List ℕ). AreAnswered n window b.packets) named.name answered)
@@ -292,7 +292,7 @@ are_session window s v k only = record {
   where
     each : (bs : List Begun) → AllByRecursion (IsSessionOver window) bs
         → AllByRecursion (λ b. AllByRecursion (IsArrivalOf s) b.packets) bs
-        → AllByRecursion (λ b. IsNamed s b → GivesSession s b.packets × IsComplete b.packets) bs
+        → AllByRecursion (λ b. IsBegunAs s b → GivesSession s b.packets × IsComplete b.packets) bs
     each [] over all = tt
     each (b ∷ bs) over all = (
       λ named. (gives window s b over.0.answered all.0 named, over.0.complete),
@@ -303,11 +303,11 @@ are_session window s v k only = record {
 
 -- what is known of a session that was brought: what came under its name is its parts
 Known : Session → List Begun → Type 0
-Known s bs = AllByRecursion (λ b. IsNamed s b → stream_of b.packets ≡ session_parts s b.packets) bs
+Known s bs = AllByRecursion (λ b. IsBegunAs s b → stream_of b.packets ≡ session_parts s b.packets) bs
 
 by_session : (Brought : Session → Type 0) (ss : List Session) (bs : List Begun)
-    → ((s : Session) → Brought s → Known s bs) → AreNamed ss bs → AllByRecursion Brought ss
-    → items_of bs ≡ parts_of ss bs
+    → ((s : Session) → Brought s → Known s bs) → AreBegunAs ss bs → AllByRecursion Brought ss
+    → items_of bs ≡ parts_of_sessions ss bs
 unfolding Known
 by_session Brought [] [] known named all = refl
 by_session Brought [] (b ∷ bs) known named all = absurd named
@@ -320,12 +320,12 @@ by_session Brought (s ∷ ss) (b ∷ bs) known named all =
 known_of : (s : Session) (h : History) → AreSession s h → Known s (all_begun h)
 unfolding Known
 known_of s h are =
-    all_push (λ b. IsNamed s b → stream_of b.packets ≡ session_parts s b.packets) h.earlier h.present
+    all_push (λ b. IsBegunAs s b → stream_of b.packets ≡ session_parts s b.packets) h.earlier h.present
     (streams h.earlier are.earlier) (λ named. (are.present named).stream)
   where
     streams : (bs : List Begun)
-        → AllByRecursion (λ b. IsNamed s b → GivesSession s b.packets × IsComplete b.packets) bs
-        → AllByRecursion (λ b. IsNamed s b → stream_of b.packets ≡ session_parts s b.packets) bs
+        → AllByRecursion (λ b. IsBegunAs s b → GivesSession s b.packets × IsComplete b.packets) bs
+        → AllByRecursion (λ b. IsBegunAs s b → stream_of b.packets ≡ session_parts s b.packets) bs
     streams [] all = tt
     streams (b ∷ bs) all = (λ named. ((all.0 named).0).stream, streams bs all.1)
 

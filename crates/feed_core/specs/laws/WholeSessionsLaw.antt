@@ -15,7 +15,7 @@ use Rattle.line_arbiter.specs.laws.Parts.{first_one, one_part, whole_part}
 use Rattle.feed_core.specs.declared.event.Event.{Event}
 use Rattle.feed_core.specs.declared.event.Event.TheVariants as event
 use Rattle.feed_core.specs.Worlds.{Venue, session_count, session_sent}
-use Rattle.feed_core.specs.VenueHalf.{BringOnly, IsAmong, IsNamed, AreSession, AreVenueItems}
+use Rattle.feed_core.specs.VenueHalf.{BringOnly, IsAmong, IsBegunAs, AreSession, AreVenueItems}
 use Rattle.feed_core.specs.WholeSessions.{SkipsOnly, GiveNothingUp, SkipWithin, AreWhole}
 
 -- ---- what the events say of the skips of a venue
@@ -121,7 +121,7 @@ are_whole s h arrivals are =
     }
   where
     wholes : (bs : List Begun) → AreArrivals bs
-        → AllByRecursion (λ b. IsNamed s b → GivesSession s b.packets × IsComplete b.packets) bs
+        → AllByRecursion (λ b. IsBegunAs s b → GivesSession s b.packets × IsComplete b.packets) bs
         → AllByRecursion (λ b. b.name ≡ s.name → GivesSession s b.packets
         × (stream_of b.packets ≡ whole_session s)) bs
     wholes [] arrivals all = tt
