@@ -5,25 +5,19 @@ use Rattle.std.proofs.lemmas.Bool.{cases_lt}
 use Rattle.std.proofs.lemmas.Bool.Decides.{nat_tests}
 use Rattle.feed_types.specs.declared.item.Item.{Item}
 use Rattle.feed_types.specs.declared.line.LineId.{LineId}
+use Rattle.mold_packet.specs.declared.packet.Kind.{Kind}
 use Rattle.mold_packet.specs.Content.{Content, last_number}
+use Rattle.line_arbiter.specs.declared.outcome.Outcome.{Outcome}
 use Rattle.line_arbiter.specs.declared.outcome.Outcome.TheVariants.{Taken}
 use Rattle.line_arbiter.specs.Outcomes.{IsBefore}
 use Rattle.line_arbiter.specs.Holding.{Held, held_at}
 use Rattle.line_arbiter.specs.Filling.{fresh_to, put_all, HeldAgrees}
 use Rattle.line_arbiter.specs.Comparing.{AreThere, IsThere}
 use Rattle.line_arbiter.specs.States.{State, held_of}
-use Rattle.line_arbiter.specs.Steps.{IsSound, MessagesStep, raised}
+use Rattle.line_arbiter.specs.Steps.{IsSent, IsSound, KindStep, MessagesStep, PacketStep, raised}
 use Rattle.line_arbiter.proofs.Counting.{count_none}
-use Rattle.line_arbiter.proofs.Windows.{before_base}
 use Rattle.line_arbiter.proofs.LineCounts.{counted_none}
 use Rattle.line_arbiter.proofs.Soundness.{sent_known}
-
--- a message that was sent is there, and nothing else is held at its number
-pub sent_there : (held : Held) (p : Content) → last_number p ≤ held.base → AreThere held p
-sent_there held p gone k within = inl (omega arith)
-
-pub sent_agrees : (held : Held) (p : Content) → last_number p ≤ held.base → HeldAgrees held p
-sent_agrees held p gone k within found is message = let none = before_base held (p.number + k) (omega arith) in absurd cc
 
 -- at the packet's numbers past the base something is held
 held_past : (held : Held) (p : Content) (m : ℕ) → AreThere held p → held.base < m → p.number ≤ m → m < p.number + length p.messages → IsSome (held_at held m)
@@ -101,3 +95,7 @@ repeats line s p sound some there agrees within before = (
   none_fresh (held_of s) p there,
   omega arith,
 )
+
+-- so a packet of messages of the session that were all sent
+pub sent_step : (line : LineId) (s : State) (p : Content) (o : Outcome) → IsSent s p → MessagesStep line s s p (Ok o) → PacketStep line s s p (Ok o)
+sent_step line s p o sent step = inr (sent.name, subst (λ (k : Kind). KindStep k line s s p (Ok o)) (sym sent.kind) step)

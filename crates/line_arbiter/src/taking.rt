@@ -8,7 +8,7 @@ ghost use Rattle.line_arbiter.specs.States.{held_of};
 ghost use Rattle.line_arbiter.specs.Filling.{HeldAgrees};
 ghost use Rattle.line_arbiter.specs.Comparing.{AreThere};
 ghost use Rattle.feed_types.specs.declared.line.LineId.{LineId};
-ghost use Rattle.line_arbiter.specs.Steps.{IsSound, MessagesStep, HeartbeatStep, EndStep, PacketStep, raised as raised_to};
+ghost use Rattle.line_arbiter.specs.Steps.{IsSent, IsSound, MessagesStep, HeartbeatStep, EndStep, PacketStep, raised as raised_to};
 
 use crate::arbiter::Arbiter;
 use crate::intake::{Intake, next_after, run_after, take_all};
@@ -95,17 +95,17 @@ impl<G: Genuine> Arbiter<G> {
         Ok(Outcome::Taken { new, repeated })
     }
 
+    /// Takes a packet of messages, of which the last isn't sent, unless the end comes before it.
     #[inline(always)]
     fn take_messages(&mut self, line: LineId, packet: &Packet<'_>) -> Result<Outcome, LineFault>
-        requires { packet.now.kind ≡ Kind.Messages }
+        requires kind { packet.now.kind ≡ Kind.Messages }
+        requires unsent { IsBefore self.old.end (last_number packet.now)
+            → self.old.sent < last_number packet.now }
         ensures { MessagesStep line self.old self.new packet.now result }
     {
         let last = packet.last_number();
         if is_past(self.end_number, last) {
             return Err(LineFault::PastEnd);
-        }
-        if last <= self.held.base() {
-            return Ok(self.repeat_of(packet));
         }
         if last.saturating_sub(self.held.base()) > u64::from(self.held.width()) {
             self.known_to = raised(self.known_to, self.end_number, last);
@@ -147,14 +147,23 @@ impl<G: Genuine> Arbiter<G> {
         Ok(Outcome::Ended)
     }
 
+    /// Returns whether the packet has messages of the session that were all sent, before the end.
     #[inline(always)]
-    pub(crate) fn take_any(
-        &mut self,
-        line: LineId,
-        packet: &Packet<'_>,
-    ) -> Result<Outcome, LineFault>
+    fn is_sent(&self, packet: &Packet<'_>) -> bool
+        ensures { MatchBool result (IsSent self.now packet.now) (IsSent self.now packet.now → ⊥) }
+    {
+        packet.session() == self.session_name
+            && packet.kind() == Kind::Messages
+            && packet.last_number() <= self.held.base()
+            && !is_past(self.end_number, packet.last_number())
+    }
+
+    /// Takes a packet that isn't one of messages that were all sent. It is a call of its own, so
+    /// that the caller's way for those, which come most often, has the registers.
+    #[inline(never)]
+    fn take_unsent(&mut self, line: LineId, packet: &Packet<'_>) -> Result<Outcome, LineFault>
+        requires { IsSent self.old packet.now → ⊥ }
         ensures step { PacketStep line self.old self.new packet.now result }
-        ensures content { IsContent packet.now }
         ensures sound { IsSound self.new }
     {
         let number = packet.number();
@@ -169,5 +178,24 @@ impl<G: Genuine> Arbiter<G> {
         // For the prover alone: what an arbiter keeps.
         let _held = &self.held;
         answer
+    }
+
+    #[inline(always)]
+    pub(crate) fn take_any(
+        &mut self,
+        line: LineId,
+        packet: &Packet<'_>,
+    ) -> Result<Outcome, LineFault>
+        ensures step { PacketStep line self.old self.new packet.now result }
+        ensures content { IsContent packet.now }
+        ensures sound { IsSound self.new }
+    {
+        // For the prover alone: the ranges of the packet, and what an arbiter keeps.
+        let _number = packet.number();
+        let _held = &self.held;
+        if self.is_sent(packet) {
+            return Ok(self.repeat_of(packet));
+        }
+        self.take_unsent(line, packet)
     }
 }
