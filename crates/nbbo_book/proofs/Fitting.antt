@@ -167,6 +167,14 @@ item_fits es v number n m item.End helped flags r below young is h =
           (λ w. refl) h.offers;
       halted = halts_set es e v false r.symbol r.halted below is.count (λ w. refl) h.halted;
     }
+item_fits es v number n m item.Skipped helped flags r below young is h =
+    let e : Entry = Consumed v (record { number = number; item = item.Skipped }) in
+    record {
+      bids = fits_quoted es e v None r.symbol Bid (side_at Bid r) n false below is.bids.count young (λ w. refl) h.bids;
+      offers = fits_quoted es e v None r.symbol Offer (side_at Offer r) n false below is.offers.count young
+          (λ w. refl) h.offers;
+      halted = halts_set es e v false r.symbol r.halted below is.count (λ w. refl) h.halted;
+    }
 
 -- a symbol, after one more entry
 pub row_fits : (es : List Entry) (e : Entry) (n m : ℕ) (helped flags : List Bool) (r : Row) → venue_of e < 16

@@ -99,6 +99,21 @@ item_is helped n v item.End r below h =
           (same_side_sound (venue_side_at r.offers.venue_sides v).quote None) h.offers;
       count = long_set r.halted v false ∙ h.count;
     }
+item_is helped n v item.Skipped r below h =
+    let may = may_at helped r.halted in
+    let more = may_at helped (set r.halted v false) in
+    let others : (w : ℕ) → nat_eq w v ≡ false
+    → more w ≡ may w = λ w e. ap (λ t. not (slice_index_or helped w false) && not t)
+    (set_off r.halted v w false false (apart_from v w e)) in
+    record {
+      bids = side_quoted-is Bid may more n (side_at Bid r) v None false below others (ranked_nothing (more v) v)
+          (ranked_nothing (may v) v ∙ sym (ranked_nothing (more v) v))
+          (same_side_sound (venue_side_at r.bids.venue_sides v).quote None) h.bids;
+      offers = side_quoted-is Offer may more n (side_at Offer r) v None false below others
+          (ranked_nothing (more v) v) (ranked_nothing (may v) v ∙ sym (ranked_nothing (more v) v))
+          (same_side_sound (venue_side_at r.offers.venue_sides v).quote None) h.offers;
+      count = long_set r.halted v false ∙ h.count;
+    }
 
 -- what every book keeps of a symbol, after one more entry
 pub row_is : (helped : List Bool) (n : ℕ) (e : Entry) (r : Row) → venue_of e < 16 → IsRow helped n r
@@ -131,6 +146,7 @@ item_keeps_symbol helped n v (item.Halt s x) r =
     [ true ↦ refl | false ↦ refl ]
 item_keeps_symbol helped n v item.Other r = refl
 item_keeps_symbol helped n v item.End r = refl
+item_keeps_symbol helped n v item.Skipped r = refl
 
 row_keeps_symbol : (helped : List Bool) (n : ℕ) (e : Entry) (r : Row) → (row_after helped n e r).symbol ≡ r.symbol
 row_keeps_symbol helped n (Consumed v x) r = item_keeps_symbol helped n v x.item r
@@ -259,6 +275,7 @@ other_item helped n v (item.Halt t x) s r c e =
     ∙ ap (λ u. cond u (row_halted helped v x r) r) e)
 other_item helped n v item.Other s r c e = refl
 other_item helped n v item.End s r c e = cc
+other_item helped n v item.Skipped s r c e = cc
 
 other_row : (helped : List Bool) (n : ℕ) (e : Entry) (s : List ℕ) (r : Row) → symbol_in e ≡ Some s
     → bytes_eq s r.symbol ≡ false → row_after helped n e r ≡ r

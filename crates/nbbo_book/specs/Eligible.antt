@@ -27,13 +27,15 @@ is_so entries venue on = if is_self_helped entries venue then on else not on
 abbrev pub IsSelfHelped : List Entry → ℕ → Type 0
 IsSelfHelped entries venue = IsTrue (is_self_helped entries venue)
 
--- what a venue's item says of a halt in a symbol: an end of session says that there is none
+-- what a venue's item says of a halt in a symbol: an end of session says that there is none, and so
+-- does Skipped, after which nothing is known of the venue
 abbrev pub halt_said_by : List ℕ → Item → Option Bool
 halt_said_by symbol (item.Quote quote) = None
 halt_said_by symbol (item.Halt halting halted) =
     if bytes_eq halting symbol then Some halted else None
 halt_said_by symbol item.Other = None
 halt_said_by symbol item.End = Some false
+halt_said_by symbol item.Skipped = Some false
 
 -- what an entry says of a halt in a symbol at a venue
 abbrev pub halt_said : ℕ → List ℕ → Entry → Option Bool

@@ -78,6 +78,7 @@ row_after_item helped age venue (item.Halt symbol halted) row =
     if bytes_eq symbol row.symbol then row_halted helped venue halted row else row
 row_after_item helped age venue item.Other row = row
 row_after_item helped age venue item.End row = row_ended venue age row
+row_after_item helped age venue item.Skipped row = row_ended venue age row
 
 -- a symbol after one more entry, of this age, with these flags of self-help after it
 abbrev pub row_after : List Bool → ℕ → Entry → Row → Row
@@ -128,6 +129,7 @@ symbol_in_item (item.Quote quote) = Some quote.symbol
 symbol_in_item (item.Halt symbol halted) = Some symbol
 symbol_in_item item.Other = None
 symbol_in_item item.End = None
+symbol_in_item item.Skipped = None
 
 abbrev pub symbol_in : Entry → Option (List ℕ)
 symbol_in (Consumed venue numbered) = symbol_in_item numbered.item

@@ -29,13 +29,15 @@ quoted_by quote Offer =
     record { price = quote.offer_price; size = quote.offer_size; automated = quote.offer_auto }
 
 -- What a venue's item says of its side in a symbol: a quotation in that symbol says what the side
--- is, an end of session that there is none, and every other item nothing.
+-- is, an end of session that there is none, Skipped the same, since after it nothing is known of the
+-- venue, and every other item nothing.
 abbrev pub side_said_by : List ℕ → Side → Item → Option (Option SideQuote)
 side_said_by symbol side (item.Quote quote) =
     if bytes_eq quote.symbol symbol then Some (Some (quoted_by quote side)) else None
 side_said_by symbol side (item.Halt halting halted) = None
 side_said_by symbol side item.Other = None
 side_said_by symbol side item.End = Some None
+side_said_by symbol side item.Skipped = Some None
 
 -- what an entry says of a venue's side in a symbol
 abbrev pub side_said : ℕ → List ℕ → Side → Entry → Option (Option SideQuote)
@@ -44,7 +46,7 @@ side_said venue symbol side (Consumed of numbered) =
 side_said venue symbol side (SelfHelp of on) = None
 
 -- The venue's side in the symbol: what the last of its quotations in that symbol says, or none
--- where there is no such quotation or an end of its session came after it.
+-- where there is no such quotation or an end of its session or Skipped came after it.
 abbrev pub side_of : List Entry → ℕ → List ℕ → Side → Option SideQuote
 side_of entries venue symbol side =
     unwrap_or (last_said (side_said venue symbol side) entries) None

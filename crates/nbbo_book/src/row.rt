@@ -49,8 +49,8 @@ impl Row {
         bid || offer
     }
 
-    /// Takes the end of the venue's session: it shows nothing, and halts nothing. Returns whether
-    /// the national best differs then.
+    /// Takes the end of the venue's session, or a skip, after which nothing is known of the venue:
+    /// it shows nothing, and halts nothing. Returns whether the national best differs then.
     #[inline(always)]
     pub fn take_end(&mut self, venue: VenueId, age: u64) -> bool
         requires { IsRowRanked age self.old }

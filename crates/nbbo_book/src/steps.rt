@@ -46,7 +46,8 @@ fn append_change(has_changed: bool, position: u64, row: &Row, out: &mut Vec<Chan
     }
 }
 
-/// Ends the venue's session in all symbols, and appends their changes in order.
+/// Takes the end of the venue's session, or a skip, in all symbols, and appends their changes in
+/// order.
 #[inline(never)]
 fn end_rows(rows: &mut [Row], step: &Step<'_>, venue: VenueId, out: &mut Vec<Change>)
     requires ends { (row : Row) → row_stepped step.now row ≡ row_ended venue step.now.age row }
@@ -109,7 +110,7 @@ pub fn apply_step(table: &Table, rows: &mut [Row], step: &Step<'_>, out: &mut Ve
                 }
             }
             Item::Other => {}
-            Item::End => end_rows(rows, step, *venue, out),
+            Item::End | Item::Skipped => end_rows(rows, step, *venue, out),
         },
         Entry::SelfHelp { venue, on: _ } => recheck_rows(rows, step, *venue, out),
     }
