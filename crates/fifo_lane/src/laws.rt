@@ -1,7 +1,7 @@
 //! Laws of the feed's two rules.
 
 ghost use Rattle.std.specs.Prelude.{◌≡◌, ◌≢◌, ◌↔◌, ◌<◌, ◌+◌, ℕ, List, ◌∷◌, ◌++◌};
-ghost use Rattle.feed_types.specs.declared.item.Item.TheVariants.{End};
+ghost use Rattle.feed_types.specs.declared.item.Item.TheVariants.{End, Skipped};
 ghost use Rattle.feed_types.specs.declared.item.Numbered.{Numbered};
 ghost use Rattle.feed_types.specs.declared.journal.Notice.{Notice};
 ghost use Rattle.feed_types.specs.Sequence.{IsInSequence};
@@ -17,18 +17,21 @@ pub fn venue_items_are_in_sequence<G: Genuine>()
         ↔ IsInSequence G.carries G.ends venue items) }
 {}
 
-/// The numbers that a venue's lane carries begin with 1 and go up by one; after End comes number 1
-/// again, and nothing else.
+/// The numbers that a venue's lane carries begin with 1 and go up by one, but for Skipped, whose
+/// number may be greater; after End comes number 1 again.
 pub fn venue_numbers_count_up<G: Genuine>()
     ensures first { (venue : ℕ) (x : Numbered) (xs : List Numbered) →
         ⟦<VenueItems<G> as LaneRule<Numbered>>⟧.may_send venue (x ∷ xs) →
-        x.number ≡ 1 }
+        x.item ≢ Skipped → x.number ≡ 1 }
     ensures next { (venue : ℕ) (xs : List Numbered) (x y : Numbered) (ys : List Numbered) →
         ⟦<VenueItems<G> as LaneRule<Numbered>>⟧.may_send venue (xs ++ x ∷ y ∷ ys) →
-        x.item ≢ End → y.number ≡ x.number + 1 }
+        x.item ≢ End → y.item ≢ Skipped → y.number ≡ x.number + 1 }
     ensures after_end { (venue : ℕ) (xs : List Numbered) (x y : Numbered) (ys : List Numbered) →
         ⟦<VenueItems<G> as LaneRule<Numbered>>⟧.may_send venue (xs ++ x ∷ y ∷ ys) →
-        x.item ≡ End → y.number ≡ 1 }
+        x.item ≡ End → y.item ≢ Skipped → y.number ≡ 1 }
+    ensures rises { (venue : ℕ) (xs : List Numbered) (x y : Numbered) (ys : List Numbered) →
+        ⟦<VenueItems<G> as LaneRule<Numbered>>⟧.may_send venue (xs ++ x ∷ y ∷ ys) →
+        x.item ≢ End → x.number < y.number }
 {}
 
 /// Of the notices that a subscriber's lane carries, each has a greater number than all before it.
