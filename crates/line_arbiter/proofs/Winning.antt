@@ -7,7 +7,7 @@ use Rattle.std.proofs.lemmas.Bool.{and_right}
 use Rattle.std.proofs.lemmas.Bool.Decides.{nat_tests}
 use Rattle.feed_types.specs.declared.line.LineId.{LineId}
 use Rattle.mold_packet.specs.Content.{Content, last_number}
-use Rattle.line_arbiter.specs.Packets.{Arrival, Input, Arrived, Skip, bringer, carried, has_number, is_taken, item_by, top_of}
+use Rattle.line_arbiter.specs.Packets.{Arrival, Input, Arrived, Skip, bringer, carried, has_number, is_taken, item_brought, top_of}
 use Rattle.line_arbiter.specs.Streams.{is_on, is_same_line, wins_of}
 use Rattle.line_arbiter.specs.Outcomes.{new_count}
 use Rattle.line_arbiter.proofs.Counting.{one_if, count_sum, count_same, count_none, count_split, count_past}
@@ -67,7 +67,7 @@ won_now packets a line n one within = by_test (is_taken a.answer && is_same_line
     by_test : (b : Bool) → count_by (λ m. b && (is_none (bringer packets m) && has_number a.packet m)) (range_with_len 1 n) ≡ (if b then new_count packets a.packet else 0)
     by_test true =
         own_numbers (λ m. is_none (bringer packets m)) a.packet n one within
-        ∙ count_same (λ m. is_none (bringer packets m)) (λ m. is_none (carried packets m)) a.packet.number (length a.packet.messages) (λ m low high. no_item (λ (x : Input). item_by x m) (bringer packets m))
+        ∙ count_same (λ m. is_none (bringer packets m)) (λ m. is_none (carried packets m)) a.packet.number (length a.packet.messages) (λ m low high. no_item (λ (x : Input). item_brought x m) (bringer packets m))
     by_test false = count_none (λ m. false) 1 n (λ m low high. refl)
 
 top_within : (packets : List Input) (a : Arrival) → top_of (packets ++ Arrived a ∷ []) ≤ top_of packets + (a.packet.number - 1 + length a.packet.messages)

@@ -80,9 +80,9 @@ abbrev pub session_parts : Session → List Input → List Numbered
 session_parts session packets = parts_after session [] packets ++ part_in session packets
 
 -- what was given of the session's name was accepted
-abbrev pub IsAccepted : List ℕ → Input → Type 0
-IsAccepted name (Arrived a) = a.packet.session ≡ name → IsOk a.answer
-IsAccepted name (Skip n) = Unit {0}
+abbrev pub IsAcceptedInput : List ℕ → Input → Type 0
+IsAcceptedInput name (Arrived a) = a.packet.session ≡ name → IsOk a.answer
+IsAcceptedInput name (Skip n) = Unit {0}
 
 -- The packets give the session, part by part: each part is its items from the part's first number
 -- up to the first gap, each once, and then End exactly where it was announced and nothing is
@@ -92,7 +92,7 @@ pub record GivesSession (session : Session) (packets : List Input) : Type 0 wher
   pub front : front_of packets ≤ length session.items
   pub part : part_of packets ≡ part_in session packets
   pub stream : stream_of packets ≡ session_parts session packets
-  pub accepted : AllByRecursion (IsAccepted session.name) packets
+  pub accepted : AllByRecursion (IsAcceptedInput session.name) packets
   pub whole : IsComplete packets → front_of packets ≡ length session.items
 
 -- a skip goes on within the session

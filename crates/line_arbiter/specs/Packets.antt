@@ -54,9 +54,9 @@ brings m (Arrived a) = is_taken a.answer && has_number a.packet m
 brings m (Skip n) = nat_lt m n
 
 -- what it brings at a number: the item that the packet's message reads as, or Skipped
-abbrev pub item_by : Input → ℕ → Item
-item_by (Arrived a) m = item_at a.packet m
-item_by (Skip n) m = items.Skipped
+abbrev pub item_brought : Input → ℕ → Item
+item_brought (Arrived a) m = item_at a.packet m
+item_brought (Skip n) m = items.Skipped
 
 -- the first packet or skip that brought a number
 abbrev pub bringer : List Input → ℕ → Option Input
@@ -65,7 +65,7 @@ bringer packets m = find (brings m) packets
 -- the item that was taken at a number: that of the first packet that brought it, or Skipped, where
 -- a skip was first
 abbrev pub carried : List Input → ℕ → Option Item
-carried packets m = option_map (λ x. item_by x m) (bringer packets m)
+carried packets m = option_map (λ x. item_brought x m) (bringer packets m)
 
 -- the greatest number that was taken or given up, 0 where none was
 abbrev pub top_by : ℕ → Input → ℕ

@@ -5,7 +5,7 @@ use Rattle.std.specs.Option.{option_map, option_or}
 use Rattle.std.proofs.lemmas.Bool.{and_parts, leb-true, ltb-true}
 use Rattle.std.proofs.lemmas.List.Folds.{find-append}
 use Rattle.std.proofs.lemmas.List.Sums.{fold_push}
-use Rattle.line_arbiter.specs.Packets.{Arrival, Input, Arrived, Skip, bringer, brings, carried, first_by, first_of, has_number, is_taken, is_ending, item_at, item_by, number_by, top_by, top_of, end_of, is_ended}
+use Rattle.line_arbiter.specs.Packets.{Arrival, Input, Arrived, Skip, bringer, brings, carried, first_by, first_of, has_number, is_taken, is_ending, item_at, item_brought, number_by, top_by, top_of, end_of, is_ended}
 use Rattle.line_arbiter.specs.Streams.{opens_of}
 use Rattle.feed_types.specs.declared.item.Item.TheVariants as items
 use Rattle.mold_packet.specs.Content.{Content}
@@ -43,11 +43,11 @@ find_one f q a = picked f (q a) a
 
 pub carried-push : (packets : List Input) (x : Input) (m : ℕ)
     → carried (packets ++ x ∷ []) m
-    ≡ option_or (carried packets m) (if brings m x then Some (item_by x m) else None)
+    ≡ option_or (carried packets m) (if brings m x then Some (item_brought x m) else None)
 carried-push packets x m =
-    ap (option_map (λ (y : Input). item_by y m)) (find-append (brings m) packets (x ∷ []))
-    ∙ map_or (λ (y : Input). item_by y m) (find (brings m) packets) (find (brings m) (x ∷ []))
-    ∙ ap (option_or (carried packets m)) (find_one (λ (y : Input). item_by y m) (brings m) x)
+    ap (option_map (λ (y : Input). item_brought y m)) (find-append (brings m) packets (x ∷ []))
+    ∙ map_or (λ (y : Input). item_brought y m) (find (brings m) packets) (find (brings m) (x ∷ []))
+    ∙ ap (option_or (carried packets m)) (find_one (λ (y : Input). item_brought y m) (brings m) x)
 
 -- a packet that was not taken carries nothing
 pub carried_same : (packets : List Input) (a : Arrival) (m : ℕ) → is_taken a.answer ≡ false

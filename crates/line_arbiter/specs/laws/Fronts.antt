@@ -8,7 +8,7 @@ use Rattle.std.proofs.lemmas.Bool.Decides.{nat_tests}
 use Rattle.std.proofs.lemmas.List.Sums.{prefix_len-le-length, prefix_len_passes, prefix_len_stops}
 use Rattle.std.proofs.lemmas.List.FromFn.{length-range_with_len, get_or-range_with_len}
 use Rattle.mold_packet.specs.Content.{Content, last_number}
-use Rattle.line_arbiter.specs.Packets.{Input, Arrived, Skip, bringer, brings, carried, first_by, first_of, has_number, item_by, is_taken, top_by, top_of}
+use Rattle.line_arbiter.specs.Packets.{Input, Arrived, Skip, bringer, brings, carried, first_by, first_of, has_number, item_brought, is_taken, top_by, top_of}
 use Rattle.line_arbiter.specs.Streams.{AreTaken, front_of, opens_of}
 
 -- 1 to n were all taken, and the next wasn't
@@ -55,7 +55,7 @@ bringer_above (x ∷ packets) n m h =
 
 pub carried_above : (packets : List Input) (m : ℕ) → top_of packets < m → carried packets m ≡ None
 carried_above packets m h =
-    ap (λ (o : Option Input). option_map (λ (x : Input). item_by x m) o)
+    ap (λ (o : Option Input). option_map (λ (x : Input). item_brought x m) o)
     (bringer_above packets 0 m h)
 
 pub none_is : {X : Type 0} (o : Option X) → is_some o ≡ false → o ≡ None
@@ -148,7 +148,7 @@ pub given_up : (packets : List Input) (m : ℕ) → 1 ≤ m → m < first_of pac
     → IsSome (carried packets m)
 given_up packets m one lt = elim (below_first packets 1 m lt) [
   | inl low ↦ absurd (omega arith)
-  | inr there ↦ some_mapped (λ (x : Input). item_by x m) (bringer packets m) there
+  | inr there ↦ some_mapped (λ (x : Input). item_brought x m) (bringer packets m) there
 ]
 
 -- so the present part begins at the front or before

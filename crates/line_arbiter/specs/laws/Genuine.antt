@@ -7,7 +7,7 @@ use Rattle.std.proofs.lemmas.Bool.{and_parts, false≢true}
 use Rattle.feed_types.specs.declared.item.Item.{Item}
 use Rattle.feed_types.specs.declared.item.Item.TheVariants as items
 use Rattle.feed_types.specs.Sequence.{MayCarry}
-use Rattle.line_arbiter.specs.Packets.{Input, Arrived, Skip, brings, carried, end_of, has_number, is_ended, is_ending, is_taken, item_at, item_by, number_by}
+use Rattle.line_arbiter.specs.Packets.{Input, Arrived, Skip, brings, carried, end_of, has_number, is_ended, is_ending, is_taken, item_at, item_brought, number_by}
 use Rattle.line_arbiter.specs.Genuine.{AreGenuine}
 use Rattle.quote_payload.specs.ItemLaws.{item_of-never_end}
 
@@ -24,7 +24,7 @@ module _ (carries : ℕ → ℕ → ℕ → Item → Type 0) (ends : ℕ → ℕ
       by_test (λ h. carried_may packets m item all.1 h message) (brings m (Skip n)) is
     where
       by_test : (carried packets m ≡ Some item → carries venue ordinal m item) → (b : Bool)
-          → option_map (λ (x : Input). item_by x m)
+          → option_map (λ (x : Input). item_brought x m)
           (cond b (Some (Skip n)) (find (brings m) packets)) ≡ Some item
           → carries venue ordinal m item
       by_test later true h =
@@ -35,7 +35,7 @@ module _ (carries : ℕ → ℕ → ℕ → Item → Type 0) (ends : ℕ → ℕ
     where
       by_test : (carried packets m ≡ Some item → carries venue ordinal m item) → (b : Bool)
           → brings m (Arrived a) ≡ b
-          → option_map (λ (x : Input). item_by x m)
+          → option_map (λ (x : Input). item_brought x m)
           (cond b (Some (Arrived a)) (find (brings m) packets)) ≡ Some item
           → carries venue ordinal m item
       by_test later true e h =
@@ -62,7 +62,7 @@ module _ (carries : ℕ → ℕ → ℕ → Item → Type 0) (ends : ℕ → ℕ
       by_test later false ended h = later h
 
 -- neither a message nor Skipped reads as End
-by_never_end : (x : Input) (m : ℕ) → item_by x m ≡ items.End → ⊥
+by_never_end : (x : Input) (m : ℕ) → item_brought x m ≡ items.End → ⊥
 by_never_end (Arrived a) m h = item_of-never_end _ h
 by_never_end (Skip n) m h = absurd cc
 
@@ -73,11 +73,11 @@ carried_never_end (x ∷ packets) m item is h =
     by_test (λ k. carried_never_end packets m item k h) (brings m x) is
   where
     by_test : (carried packets m ≡ Some item → ⊥) → (b : Bool)
-        → option_map (λ (y : Input). item_by y m)
+        → option_map (λ (y : Input). item_brought y m)
         (cond b (Some x) (find (brings m) packets)) ≡ Some item
         → ⊥
     by_test later true is =
-        by_never_end x m (let same : item_by x m ≡ items.End = cc in same)
+        by_never_end x m (let same : item_brought x m ≡ items.End = cc in same)
     by_test later false is = later is
 
 -- an item that may be carried, where it is a message's, is allowed at its place

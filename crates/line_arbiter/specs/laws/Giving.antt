@@ -9,7 +9,7 @@ use Rattle.line_arbiter.specs.Packets.{Input, Arrived, Skip}
 use Rattle.line_arbiter.specs.Streams.{closed_after, front_of, part_of}
 use Rattle.line_arbiter.specs.Answered.{IsAnswered, AreAnswered, AreAnsweredAfter}
 use Rattle.line_arbiter.specs.Genuine.{IsGenuineAt, IsGenuineIn, AreGenuine}
-use Rattle.line_arbiter.specs.OfSession.{part_in, parts_after, IsAccepted, IsInputOf, IsOfSession, AreOfSession, GivesSession, SkipsWithin}
+use Rattle.line_arbiter.specs.OfSession.{part_in, parts_after, IsAcceptedInput, IsInputOf, IsOfSession, AreOfSession, GivesSession, SkipsWithin}
 use Rattle.mold_packet.specs.Content.{Content, IsContent}
 use Rattle.line_arbiter.specs.laws.Arrivals.{all_push, genuine_grows}
 use Rattle.line_arbiter.specs.laws.Genuine.{carried_may, end_may}
@@ -43,7 +43,7 @@ genuine_of carries ends venue ordinal s may last p content of = record {
 -- what came so far is the session's, and none of it was refused
 record IsOf (s : Session) (packets : List Input) : Type 0 where
   genuine : AreGenuine (carries_alone s) (ends_alone s) 0 0 packets
-  accepted : AllByRecursion (IsAccepted s.name) packets
+  accepted : AllByRecursion (IsAcceptedInput s.name) packets
   within : AllByRecursion (SkipsWithin s) packets
 
 part : (s : Session) (packets : List Input) → IsOf s packets → IsPartOf s packets
@@ -55,7 +55,7 @@ part s packets of = record {
 }
 
 accepted_input : (s : Session) (window : ℕ) (packets : List Input) (x : Input) → IsInputOf s x
-    → IsAnswered s.name window packets x → IsOf s packets → IsAccepted s.name x
+    → IsAnswered s.name window packets x → IsOf s packets → IsAcceptedInput s.name x
 accepted_input s window packets (Skip n) may right of = tt
 accepted_input s window packets (Arrived a) may right of =
     λ e. accepted s packets (part s packets of) window right.sent a.packet a.answer right.content
@@ -81,7 +81,7 @@ more s window packets x may right of = record {
       genuine_grows (carries_alone s) (ends_alone s) 0 0 window s.name packets x of.genuine
       (genuine_in s window packets x may right) right;
   accepted =
-      all_push (IsAccepted s.name) packets x of.accepted
+      all_push (IsAcceptedInput s.name) packets x of.accepted
       (accepted_input s window packets x may right of);
   within = all_push (SkipsWithin s) packets x of.within (within_input s x may);
 }

@@ -11,7 +11,7 @@ use Rattle.feed_types.specs.declared.item.Item.{Item}
 use Rattle.feed_types.specs.declared.item.Item.TheVariants as items
 use Rattle.feed_types.specs.declared.item.Numbered.{Numbered}
 use Rattle.feed_types.specs.Sessions.{Session, IsSessionAt, IsItemAt, Names, numbered_from}
-use Rattle.line_arbiter.specs.Packets.{Input, Arrived, Skip, brings, carried, end_of, first_by, first_of, item_at, item_by}
+use Rattle.line_arbiter.specs.Packets.{Input, Arrived, Skip, brings, carried, end_of, first_by, first_of, item_at, item_brought}
 use Rattle.line_arbiter.specs.Streams.{front_of, end_at, item_in, item_numbered, opens_of, part_of}
 use Rattle.line_arbiter.specs.Genuine.{AreGenuine}
 use Rattle.line_arbiter.specs.OfSession.{SkipsWithin, opening, session_stream}
@@ -93,7 +93,7 @@ skipped_within s (Arrived a ∷ packets) m within is =
     by_test (λ h. skipped_within s packets m within.1 h) (brings m (Arrived a)) is
   where
     by_test : (carried packets m ≡ Some items.Skipped → m ≤ length s.items) → (b : Bool)
-        → option_map (λ (y : Input). item_by y m)
+        → option_map (λ (y : Input). item_brought y m)
         (cond b (Some (Arrived a)) (find (brings m) packets)) ≡ Some items.Skipped
         → m ≤ length s.items
     by_test later true is =
@@ -104,7 +104,7 @@ skipped_within s (Skip n ∷ packets) m within is =
   where
     by_test : (carried packets m ≡ Some items.Skipped → m ≤ length s.items) → (b : Bool)
         → nat_lt m n ≡ b
-        → option_map (λ (y : Input). item_by y m)
+        → option_map (λ (y : Input). item_brought y m)
         (cond b (Some (Skip n)) (find (brings m) packets)) ≡ Some items.Skipped
         → m ≤ length s.items
     by_test later true e is = let lt = ltb-true m n e in let k = within.0 in omega arith
@@ -127,7 +127,7 @@ skipped_before (Arrived a ∷ packets) n m is =
   where
     by_test : (carried packets m ≡ Some items.Skipped → m < fold (λ n x. first_by n x) n packets)
         → (b : Bool)
-        → option_map (λ (y : Input). item_by y m)
+        → option_map (λ (y : Input). item_brought y m)
         (cond b (Some (Arrived a)) (find (brings m) packets)) ≡ Some items.Skipped
         → m < fold (λ n x. first_by n x) n packets
     by_test later true is =
@@ -138,7 +138,7 @@ skipped_before (Skip k ∷ packets) n m is =
   where
     by_test : (carried packets m ≡ Some items.Skipped
         → m < fold (λ n x. first_by n x) (max n k) packets) → (b : Bool) → nat_lt m k ≡ b
-        → option_map (λ (y : Input). item_by y m)
+        → option_map (λ (y : Input). item_brought y m)
         (cond b (Some (Skip k)) (find (brings m) packets)) ≡ Some items.Skipped
         → m < fold (λ n x. first_by n x) (max n k) packets
     by_test later true e is =

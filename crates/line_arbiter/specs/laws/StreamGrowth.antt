@@ -8,7 +8,7 @@ use Rattle.feed_types.specs.declared.item.Item.{Item}
 use Rattle.feed_types.specs.declared.item.Item.TheVariants as items
 use Rattle.feed_types.specs.declared.item.Numbered.{Numbered}
 use Rattle.feed_types.specs.Prefix.{IsPrefix}
-use Rattle.line_arbiter.specs.Packets.{Arrival, Input, Arrived, Skip, brings, carried, end_of, first_of, is_ending, item_by, number_by}
+use Rattle.line_arbiter.specs.Packets.{Arrival, Input, Arrived, Skip, brings, carried, end_of, first_of, is_ending, item_brought, number_by}
 use Rattle.line_arbiter.specs.Streams.{closed_after, closed_of, front_of, item_numbered, end_at, opens_of, part_of, stream_of}
 use Rattle.line_arbiter.specs.laws.Bringing.{carried-push, end_of_input, first_of-push, opens_same}
 use Rattle.line_arbiter.specs.laws.Fronts.{front_is, not_none, opens_most}
@@ -24,7 +24,8 @@ some_kept packets x m h =
     let here : carried packets m ≡ Some (unwrap_or (carried packets m) items.Other) =
     some_is (carried packets m) h in
     carried-push packets x m
-    ∙ ap (λ (o : Option Item). option_or o (if brings m x then Some (item_by x m) else None)) here
+    ∙ ap (λ (o : Option Item).
+    option_or o (if brings m x then Some (item_brought x m) else None)) here
     ∙ sym here
 
 -- what is skipped stays so
