@@ -307,25 +307,3 @@ IsBitmap-new width marks zeros =
       marked = λ m low high.
           none_marked m ∙ sym (ap (λ (o : Option Item). is_some o) (empty_without held refl m));
     })
-
--- Skipped is held at the number after the base, and what was held past it as before
-pub gave_up : (old mid new : Held) (number : ℕ) (item : Item) → mid.base + 1 ≡ number → ((m : ℕ) → m ≤ number → held_at old m ≡ None)
-    → ((m : ℕ) → mid.base < m → held_at mid m ≡ held_at old m)
-    → ((m : ℕ) → held_at new m ≡ put_one mid.base number item (held_at mid m) m)
-    → (m : ℕ) → held_at new m ≡ (if nat_eq m number then Some item else held_at old m)
-gave_up old mid new number item base free kept put m = elim (cases_eq m number) [
-  | inl same ↦
-      let none : held_at mid number ≡ None = kept number (omega arith) ∙ free number (omega arith) in
-      let yes : (nat_lt mid.base number && nat_eq number number) ≡ true = grind (arith, nat_tests) in
-      ap (held_at new) same ∙ put number
-      ∙ ap (λ (o : Option Item). put_one mid.base number item o number) none
-      ∙ ap (λ (t : Bool). if t then Some item else None) yes
-      ∙ sym (ap (λ (t : Bool). if t then Some item else held_at old m) (eq-eqb m number same))
-  | inr other ↦
-      put m ∙ put_other mid.base number m item (held_at mid m) other
-      ∙ elim (cases_lt mid.base m) [
-        | inl past ↦ kept m past
-        | inr le ↦ before_base mid m le ∙ sym (free m (omega arith))
-      ]
-      ∙ sym (ap (λ (t : Bool). if t then Some item else held_at old m) (ne_eqb m number other))
-]

@@ -159,7 +159,7 @@ impl<G: Genuine> Arbiter<G> {
     }
 
     /// Takes a packet that isn't one of messages that were all sent. It is a call of its own, so
-    /// that the caller's way for those, which come most often, has the registers.
+    /// that the answer to such a one costs none.
     #[inline(never)]
     fn take_unsent(&mut self, line: LineId, packet: &Packet<'_>) -> Result<Outcome, LineFault>
         requires { IsSent self.old packet.now → ⊥ }

@@ -3,7 +3,7 @@ use Rattle.std.proofs.Common.{◌≡◌, ℕ, ◌+◌, ◌-◌, ◌≤◌, List,
 use Rattle.feed_types.specs.declared.item.Numbered.{Numbered}
 use Rattle.line_arbiter.specs.Packets.{Arrival, Input, Arrived, Skip, first_of}
 use Rattle.line_arbiter.specs.Streams.{closed_of, front_of, opens_of, part_of, place_of, sent_of, stream_of}
-use Rattle.line_arbiter.specs.Skips.{AllSent, MaySkip}
+use Rattle.line_arbiter.specs.Skips.{MaySkip}
 use Rattle.line_arbiter.specs.States.{State}
 use Rattle.line_arbiter.specs.Fits.{Fits}
 use Rattle.line_arbiter.specs.laws.Bringing.{first_of-push, opens_same}
@@ -30,12 +30,6 @@ place_within {s} {packets} fits =
     let sent = fits.sent in
     let whole = length-append (closed_of packets) (part_of packets) in
     omega arith
-
--- all of the stream
-pub place_all : (packets : List Input) (sent : ℕ) → opens_of packets ≤ sent + 1
-    → AllSent packets sent → place_of packets sent ≡ length (stream_of packets)
-place_all packets sent opened all =
-    let whole = length-append (closed_of packets) (part_of packets) in omega arith
 
 -- after a skip nothing of the part that it begins was sent
 pub place_skip : (packets : List Input) (n sent : ℕ) → MaySkip packets n → sent + 2 ≡ n
