@@ -112,7 +112,8 @@ module _ (window sent : ℕ) (packets : List Input) (line : LineId) (p : Content
       → IsOutcome session window sent packets p answer
       → IsBelow (packets ++ arrival_of line p answer ∷ [])
   below_grows session answer h = elim h [
-    | inl other ↦ subst (λ (r : Result Outcome LineFault). IsBelow (packets ++ arrival_of line p r ∷ []))
+    | inl other ↦ subst
+        (λ (r : Result Outcome LineFault). IsBelow (packets ++ arrival_of line p r ∷ []))
         (sym other.1) (same packets (record {
           line =
               line;
@@ -163,7 +164,8 @@ answered_more session window packets x all one = after [] packets all one
 below_input : (session : List ℕ) (window : ℕ) (packets : List Input) (x : Input) → IsBelow packets
     → IsAnswered session window packets x → IsBelow (packets ++ x ∷ [])
 below_input session window packets (Arrived a) below one =
-    below_grows window one.sent packets a.line a.packet one.content below session a.answer one.outcome
+    below_grows window one.sent packets a.line a.packet one.content below session a.answer
+    one.outcome
 below_input session window packets (Skip n) below one = below_skip packets n below one
 
 -- what was taken of packets that were answered as they should be lies below the announced end

@@ -74,10 +74,11 @@ module _ (packets : List Input) (sent : ℕ) (p : Content) where
       differs = found.2.3;
       message = found.2.4;
     })
-    | inr none ↦ inr (λ k item within past taken message. elim (cases_item item (message_item p k)) [
-      | inl same ↦ same
-      | inr other ↦ absurd (none k within (past, item, taken, other, message))
-    ])
+    | inr none ↦ inr
+        (λ k item within past taken message. elim (cases_item item (message_item p k)) [
+          | inl same ↦ same
+          | inr other ↦ absurd (none k within (past, item, taken, other, message))
+        ])
   ]
 
   messages_have : (window : ℕ)
@@ -145,10 +146,11 @@ all_below packets n none m some = elim (cases_lt m n) [
 end_has : (packets : List Input) (n : ℕ)
     → (answer : Result Outcome LineFault) × ToEnd packets n answer
 end_has packets n = elim (none_or_one (end_of packets)) [
-  | inl none ↦ elim (one_below (TakenFrom packets n) (taken_or_not packets n) (top_of packets + 1)) [
-    | inl found ↦ (Err EndTooEarly, (none, found.0, found.2.0, found.2.1))
-    | inr nothing ↦ (Ok Ended, inr (none, all_below packets n nothing))
-  ]
+  | inl none ↦ elim
+      (one_below (TakenFrom packets n) (taken_or_not packets n) (top_of packets + 1)) [
+        | inl found ↦ (Err EndTooEarly, (none, found.0, found.2.0, found.2.1))
+        | inr nothing ↦ (Ok Ended, inr (none, all_below packets n nothing))
+      ]
   | inr one ↦ elim (cases_eq one.0 n) [
     | inl same ↦ (Ok Ended, inl (one.1 ∙ ap Some same))
     | inr moved ↦ (Err EndMoved, (one.0, one.1, moved))

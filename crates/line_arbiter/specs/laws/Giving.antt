@@ -66,7 +66,8 @@ genuine_in : (s : Session) (window : ℕ) (packets : List Input) (x : Input) →
     → IsGenuineIn (carries_alone s) (ends_alone s) 0 0 s.name x
 genuine_in s window packets (Skip n) may right = tt
 genuine_in s window packets (Arrived a) may right =
-    λ e. genuine_of (carries_alone s) (ends_alone s) 0 0 s (λ m item h. h) refl a.packet right.content
+    λ e. genuine_of (carries_alone s) (ends_alone s) 0 0 s
+    (λ m item h. h) refl a.packet right.content
     (may e)
 
 within_input : (s : Session) (x : Input) → IsInputOf s x → SkipsWithin s x

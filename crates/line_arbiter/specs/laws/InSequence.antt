@@ -90,7 +90,8 @@ module _ (carries : ℕ → ℕ → ℕ → Item → Type 0) (ends : ℕ → ℕ
           (sym (le-ltb m (first_of packets) le))
           (allowed_item carries ends venue ordinal m (unwrap_or (carried packets m) items.Other)
           (λ message. carried_may carries ends venue ordinal packets m
-          (unwrap_or (carried packets m) items.Other) genuine (some_is (carried packets m) h) message)
+          (unwrap_or (carried packets m) items.Other) genuine
+          (some_is (carried packets m) h) message)
           (never_taken_end m h))
     ]
 
@@ -145,13 +146,16 @@ module _ (carries : ℕ → ℕ → ℕ → Item → Type 0) (ends : ℕ → ℕ
           let n = front_of packets - opens_of packets in
           let len : front_of packets + 1 - opens_of packets ≡ suc n = omega arith in
           let here : IsSome (carried packets o) = in_part o (omega arith) (omega arith) in
-          let below : nat_lt o (first_of packets) ≡ true = lt-ltb o (first_of packets) (omega arith) in
+          let below : nat_lt o (first_of packets) ≡ true =
+          lt-ltb o (first_of packets) (omega arith) in
           let first : HasPlace k o (item_in packets o) =
           subst (λ (b : Bool). HasPlace k o
-          (if b then items.Skipped else unwrap_or (carried packets o) items.Other)) (sym below) low in
+          (if b then items.Skipped else unwrap_or (carried packets o) items.Other))
+          (sym below) low in
           let may : MayCarry carries ends venue (place_at ordinal k) (item_in packets o) =
           subst (λ (b : Bool). MayCarry carries ends venue (place_at ordinal k)
-          (if b then items.Skipped else unwrap_or (carried packets o) items.Other)) (sym below) tt in
+          (if b then items.Skipped else unwrap_or (carried packets o) items.Other))
+          (sym below) tt in
           let rest : (m : ℕ) → o + 1 ≤ m → m < o + 1 + n → IsSome (carried packets m) =
           λ m from to. in_part m (omega arith) (omega arith) in
           let end : o + 1 + n ≡ front_of packets + 1 = omega arith in
@@ -239,13 +243,15 @@ module _ (carries : ℕ → ℕ → ℕ → Item → Type 0) (ends : ℕ → ℕ
       }
   closed_continues ordinal k before (Arrived a ∷ rest) can skips genuine =
       let low = can.low in
-      let same : first_of (before ++ Arrived a ∷ []) ≡ first_of before = first_of-push before (Arrived a) in
+      let same : first_of (before ++ Arrived a ∷ []) ≡ first_of before =
+      first_of-push before (Arrived a) in
       let opens = opens_same before a in
       let open_ : CanOpen (before ++ Arrived a ∷ []) k = record {
         low = omega arith;
         exact = λ none. can.exact (omega arith) ∙ sym opens;
       } in
-      subst (λ (xs : List Input). GoesOn ordinal k (closed_after (before ++ Arrived a ∷ []) rest) xs)
+      subst (λ (xs : List Input). GoesOn ordinal k
+      (closed_after (before ++ Arrived a ∷ []) rest) xs)
       (append_assoc before (Arrived a ∷ []) rest)
       (closed_continues ordinal k (before ++ Arrived a ∷ []) rest open_ skips
       (subst (λ (xs : List Input). AreGenuine carries ends venue ordinal xs)
@@ -254,7 +260,8 @@ module _ (carries : ℕ → ℕ → ℕ → Item → Type 0) (ends : ℕ → ℕ
       let may : MaySkip before n = skips.0 in
       let past = may.past in
       let most = first_most before (front_of before) (front_is before) in
-      let first : first_of (before ++ Skip n ∷ []) ≡ n = omega (arith, first_of-push before (Skip n)) in
+      let first : first_of (before ++ Skip n ∷ []) ≡ n =
+      omega (arith, first_of-push before (Skip n)) in
       let open_ : CanOpen (before ++ Skip n ∷ []) (front_of before + 1) = record {
         low = omega arith;
         exact = λ none. absurd (omega arith);
@@ -271,7 +278,8 @@ module _ (carries : ℕ → ℕ → ℕ → Item → Type 0) (ends : ℕ → ℕ
       let after : place_after_all (place_at ordinal k) (part_of before)
       ≡ place_at ordinal (front_of before + 1) =
       place_after_part ordinal before mine k can
-      ∙ ap (λ (xs : List Numbered). place_after_all (place_at ordinal (front_of before + 1)) xs) ended in
+      ∙ ap (λ (xs : List Numbered). place_after_all (place_at ordinal (front_of before + 1)) xs)
+      ended in
       let closed = closed_after (before ++ Skip n ∷ []) rest in
       record {
         next = later.next;
@@ -296,7 +304,8 @@ module _ (carries : ℕ → ℕ → ℕ → Item → Type 0) (ends : ℕ → ℕ
 
     pub stream_continues : Continues carries ends venue (place_at ordinal 1) (stream_of packets)
     stream_continues =
-        continues_append carries ends venue (place_at ordinal 1) (closed_of packets) (part_of packets)
+        continues_append carries ends venue (place_at ordinal 1) (closed_of packets)
+        (part_of packets)
         closed.goes
         (subst (λ (place : Place). Continues carries ends venue place (part_of packets))
         (sym closed.place) (part_continues ordinal packets genuine closed.next closed.can))

@@ -17,9 +17,11 @@ length-stream packets n =
     omega (
       arith,
       length-append
-          (map (item_numbered packets) (range_with_len (opens_of packets) (n + 1 - opens_of packets)))
+          (map (item_numbered packets)
+          (range_with_len (opens_of packets) (n + 1 - opens_of packets)))
           (end_at (end_of packets) (n + 1)),
-      length-map-range_with_len (item_numbered packets) (opens_of packets) (n + 1 - opens_of packets),
+      length-map-range_with_len (item_numbered packets) (opens_of packets)
+          (n + 1 - opens_of packets),
     )
 
 most_if : {X : Type 0} (b : Bool) (x : X) → length (if b then x ∷ [] else []) ≤ 1

@@ -87,7 +87,8 @@ part_of_session sessions carries ends venue ordinal all s packets names at genui
 
 -- a number at which Skipped was carried is below a skip's
 skipped_within : (s : Session) (packets : List Input) (m : ℕ)
-    → AllByRecursion (SkipsWithin s) packets → carried packets m ≡ Some items.Skipped → m ≤ length s.items
+    → AllByRecursion (SkipsWithin s) packets → carried packets m ≡ Some items.Skipped
+    → m ≤ length s.items
 skipped_within s [] m within is = absurd cc
 skipped_within s (Arrived a ∷ packets) m within is =
     by_test (λ h. skipped_within s packets m within.1 h) (brings m (Arrived a)) is
@@ -179,7 +180,8 @@ module _ (s : Session) (packets : List Input) (part : IsPartOf s packets) where
       absurd (omega arith))).1
 
   -- the messages from the part's first on
-  messages_are : map (item_numbered packets) (range_with_len (first_of packets) (front_of packets + 1 - first_of packets))
+  messages_are : map (item_numbered packets)
+      (range_with_len (first_of packets) (front_of packets + 1 - first_of packets))
       ≡ numbered_from (first_of packets)
       (take (front_of packets + 1 - first_of packets) (drop (first_of packets - 1) s.items))
   messages_are =
@@ -195,7 +197,8 @@ module _ (s : Session) (packets : List Input) (part : IsPartOf s packets) where
       unwrap_or (carried packets m) items.Other)) no))
 
   -- and what opens the part
-  opened_is : map (item_numbered packets) (range_with_len (opens_of packets) (front_of packets + 1 - opens_of packets))
+  opened_is : map (item_numbered packets)
+      (range_with_len (opens_of packets) (front_of packets + 1 - opens_of packets))
       ≡ opening (first_of packets)
       ++ map (item_numbered packets)
       (range_with_len (first_of packets) (front_of packets + 1 - first_of packets))
@@ -230,7 +233,8 @@ module _ (s : Session) (packets : List Input) (part : IsPartOf s packets) where
         let one = first_least packets in
         let opens : opens_of packets ≡ first_of packets = omega arith in
         let yes : nat_le (first_of packets) 1 ≡ true = le-leb (first_of packets) 1 le in
-        ap (λ (o : ℕ). map (item_numbered packets) (range_with_len o (front_of packets + 1 - o))) opens
+        ap (λ (o : ℕ). map (item_numbered packets) (range_with_len o (front_of packets + 1 - o)))
+        opens
         ∙ sym (ap (λ (b : Bool). (if b then [] else record {
           number = first_of packets - 1;
           item = items.Skipped;

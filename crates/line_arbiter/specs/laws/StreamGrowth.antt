@@ -63,7 +63,8 @@ closed_arrived : (before rest : List Input) (a : Arrival)
 closed_arrived before [] a = refl
 closed_arrived before (Arrived b ∷ rest) a = closed_arrived (before ++ Arrived b ∷ []) rest a
 closed_arrived before (Skip n ∷ rest) a =
-    ap (λ (xs : List Numbered). part_of before ++ xs) (closed_arrived (before ++ Skip n ∷ []) rest a)
+    ap (λ (xs : List Numbered). part_of before ++ xs)
+    (closed_arrived (before ++ Skip n ∷ []) rest a)
 
 -- a packet closes no part
 pub closed_same : (packets : List Input) (a : Arrival)
@@ -202,10 +203,15 @@ part_grows packets a past = by_end (end_of packets) refl
         record {
           rest = [];
           is =
-              ap (λ (k : ℕ). map (item_numbered Q) (range_with_len (opens_of Q) (k + 1 - opens_of Q)) ++ end_at (end_of Q) (k + 1)) same
-              ∙ ap (λ (k : ℕ). map (item_numbered Q) (range_with_len k (front_of packets + 1 - k)) ++ end_at (end_of Q) (front_of packets + 1)) (opens_same packets a)
+              ap (λ (k : ℕ). map (item_numbered Q)
+              (range_with_len (opens_of Q) (k + 1 - opens_of Q)) ++ end_at (end_of Q) (k + 1))
+              same
+              ∙ ap (λ (k : ℕ). map (item_numbered Q)
+              (range_with_len k (front_of packets + 1 - k)) ++ end_at (end_of Q)
+              (front_of packets + 1)) (opens_same packets a)
               ∙ ap (λ (xs : List Numbered). xs ++ end_at (end_of Q) (front_of packets + 1))
-              (same_messages packets a (opens_of packets) (front_of packets + 1 - opens_of packets) (in_part packets))
+              (same_messages packets a (opens_of packets) (front_of packets + 1 - opens_of packets)
+              (in_part packets))
               ∙ ap (λ (o : Option ℕ). messages_of packets ++ end_at o (front_of packets + 1)) there
               ∙ ap (λ (b : Bool). messages_of packets ++ (if b then record {
                 number =
@@ -232,7 +238,8 @@ stream_grows packets a past =
     record {
       rest = part.rest;
       is =
-          ap (λ (xs : List Numbered). xs ++ part_of (packets ++ Arrived a ∷ [])) (closed_same packets a)
+          ap (λ (xs : List Numbered). xs ++ part_of (packets ++ Arrived a ∷ []))
+          (closed_same packets a)
           ∙ ap (λ (xs : List Numbered). closed_of packets ++ xs) part.is
           ∙ sym (append_assoc (closed_of packets) (part_of packets) part.rest);
     }
