@@ -23,7 +23,8 @@ use Rattle.feed_core.specs.Worlds.{Lane, empty_lane, inside, is_full, new_venue,
 use Rattle.feed_core.specs.Steps.{next_in, packet_done, push_next, renewal_done, skip_done, AppliesTo}
 use Rattle.feed_core.specs.Fitting.{VenueView, FitsVenue, LeftAnswered, LeftPushed, LeftRenewed, LeftSkipped, ShowsLane}
 use Rattle.line_arbiter.specs.laws.Histories.{items_push}
-use Rattle.line_arbiter.specs.laws.Placing.{place_all, place_next, place_same, place_skip, sent_back}
+use Rattle.feed_core.specs.laws.Counts.{place_all}
+use Rattle.line_arbiter.specs.laws.Placing.{place_next, place_same, place_skip, sent_back}
 use Rattle.line_arbiter.specs.laws.FitsHistory.{fits_new, fits_packet, fits_push, fits_renewal, outcome_in, renewal_in}
 
 -- the number of the last item sent is that of the count

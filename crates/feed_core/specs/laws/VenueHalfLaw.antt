@@ -13,7 +13,7 @@ use Rattle.line_arbiter.specs.declared.faults.RenewFault.{RenewFault}
 use Rattle.line_arbiter.specs.declared.faults.SkipFault.{SkipFault}
 use Rattle.line_arbiter.specs.Packets.{Input, Arrived, Skip, arrival_of, end_of}
 use Rattle.feed_types.specs.Prefix.{IsPrefix}
-use Rattle.line_arbiter.specs.Streams.{IsComplete, closed_of, part_of, place_of, sent_of, stream_of}
+use Rattle.line_arbiter.specs.Streams.{IsComplete, closed_of, part_of, stream_of}
 use Rattle.line_arbiter.specs.Answered.{IsAnswered, AreAnswered}
 use Rattle.line_arbiter.specs.Renewals.{HasEnded}
 use Rattle.line_arbiter.specs.Histories.{Begun, History, new_session, after_input, all_begun, items_of, streams_of}
@@ -32,6 +32,7 @@ use Rattle.feed_core.specs.Worlds.{Venue, session_count, session_sent, World, Se
 use Rattle.feed_core.specs.Steps.{AddsArrival, AddsRenewal, AddsSkip}
 use Rattle.feed_core.specs.Runs.{IsRun}
 use Rattle.feed_core.specs.VenueHalf.{BringsOnly, BringOnly, IsAmong, IsBegunAs, AreBegunAs, AreSession, parts_of_sessions, VenueHalf}
+use Rattle.feed_core.specs.laws.Counts.{place_back}
 use Rattle.feed_core.specs.laws.Lists.{begins_self, begins_len, begins_all}
 use Rattle.feed_core.specs.laws.Lanes.{Serves, serve_in, serve_out, serve_more, serve_all}
 use Rattle.feed_core.specs.laws.KeptVenues.{KeepsVenueStep, EachVenue, run_keeps}
@@ -53,11 +54,6 @@ grown earlier b c g = record {
       ∙ sym (append_assoc (items_of earlier) (stream_of b.packets) g.rest)
       ∙ ap (λ (xs : List Numbered). xs ++ g.rest) (sym (items_push earlier b));
 }
-
--- the count of what was sent, from the number of the last item
-place_back : (packets : List Input) (count : ℕ) → length (closed_of packets) ≤ count
-    → place_of packets (sent_of packets count) ≡ count
-place_back packets count past = omega arith
 
 -- the present session has ended: all of it came, and all was sent
 ended : (window : ℕ) (v : Venue) → ServesItsStreams window v
