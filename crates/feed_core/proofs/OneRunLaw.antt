@@ -11,7 +11,7 @@ use Rattle.line_arbiter.specs.declared.outcome.Outcome.{Outcome}
 use Rattle.line_arbiter.specs.declared.outcome.LineFault.{LineFault}
 use Rattle.line_arbiter.specs.Packets.{arrival_of, end_of}
 use Rattle.line_arbiter.specs.Outcomes.{IsOutcome}
-use Rattle.line_arbiter.specs.Histories.{History, names_of, after_input, history_after}
+use Rattle.line_arbiter.specs.Histories.{History, names_of, after_input, skip_after, history_after}
 use Rattle.line_arbiter.specs.laws.OneOutcome.{one_answer, one_renewal}
 use Rattle.line_arbiter.specs.laws.SkipAnswers.{one_skip}
 use Rattle.feed_core.specs.declared.event.Event.{Event}
@@ -19,7 +19,7 @@ use Rattle.feed_core.specs.declared.event.Event.TheVariants.{Packet, Push, Consu
 use Rattle.feed_core.specs.declared.event.Done.{Done}
 use Rattle.feed_core.specs.declared.event.Done.TheVariants as done
 use Rattle.feed_core.specs.Worlds.{Venue, session_sent, World, Setting}
-use Rattle.feed_core.specs.Steps.{Transition, Refused, Changes, Stays, Applies, put_venue, RefusesBytes, packet_done, AnswersPacket, renewal_done, AnswersRenewal, skip_after, skip_done, AnswersSkip, AnswersSubscribe}
+use Rattle.feed_core.specs.Steps.{Transition, Refused, Changes, Stays, Applies, put_venue, RefusesBytes, packet_done, AnswersPacket, renewal_done, AnswersRenewal, skip_done, AnswersSkip, AnswersSubscribe}
 use Rattle.feed_core.specs.OneStep.{IsStep}
 use Rattle.feed_core.specs.Runs.{IsRun}
 

@@ -15,11 +15,11 @@ use Rattle.line_arbiter.specs.declared.outcome.LineFault.{LineFault}
 use Rattle.line_arbiter.specs.declared.faults.RenewFault.{RenewFault}
 use Rattle.line_arbiter.specs.declared.faults.SkipFault.{SkipFault}
 use Rattle.line_arbiter.specs.Codes.{line_fault_code, renew_fault_code, skip_fault_code}
-use Rattle.line_arbiter.specs.Packets.{Skip, arrival_of, end_of}
+use Rattle.line_arbiter.specs.Packets.{arrival_of, end_of}
 use Rattle.line_arbiter.specs.Outcomes.{IsOutcome}
 use Rattle.line_arbiter.specs.Renewals.{IsRenewal}
 use Rattle.line_arbiter.specs.Skips.{IsSkip}
-use Rattle.line_arbiter.specs.Histories.{History, names_of, after_input, history_after}
+use Rattle.line_arbiter.specs.Histories.{History, names_of, after_input, skip_after, history_after}
 use Rattle.filter_terms.specs.declared.terms.Terms.{Terms}
 use Rattle.nbbo_book.specs.Eligible.{is_so}
 use Rattle.feed_core.specs.declared.event.Done.{Done}
@@ -72,11 +72,6 @@ pub record AddsRenewal (sent : ℕ) (name : List ℕ) (old : History) (answer : 
     (new : History) : Type 0 where
   pub right : IsRenewal (names_of old) (end_of old.present.packets) sent name answer
   pub is : new ≡ history_after old name answer
-
--- the history after a skip to the number with this answer
-abbrev pub skip_after : History → ℕ → Result (Unit {0}) SkipFault → History
-skip_after old number (Ok _) = after_input old (Skip number)
-skip_after old number (Err fault) = old
 
 -- Skip, on a venue's history: what is missing below the number is given up, or nothing changes.
 pub record AddsSkip (sent number : ℕ) (old : History) (answer : Result (Unit {0}) SkipFault)

@@ -3,7 +3,8 @@ use Rattle.std.specs.Prelude.{ℕ, List, [], ◌∷◌, ◌++◌, Result, Ok, Er
 use Rattle.feed_types.specs.declared.item.Numbered.{Numbered}
 use Rattle.feed_types.specs.declared.line.LineId.{LineId}
 use Rattle.line_arbiter.specs.declared.faults.RenewFault.{RenewFault}
-use Rattle.line_arbiter.specs.Packets.{Input}
+use Rattle.line_arbiter.specs.declared.faults.SkipFault.{SkipFault}
+use Rattle.line_arbiter.specs.Packets.{Input, Skip}
 use Rattle.line_arbiter.specs.Streams.{stream_of, wins_of}
 
 -- a session that a venue has begun: its name, and what came of it: packets, each with its line and
@@ -49,6 +50,11 @@ wins_in sessions line = sum_by (λ session. wins_of session.packets line) sessio
 abbrev pub after_input : History → Input → History
 after_input h x =
     record h { present = record h.present { packets = h.present.packets ++ x ∷ [] } }
+
+-- the history after a skip to the number with this answer
+abbrev pub skip_after : History → ℕ → Result (Unit {0}) SkipFault → History
+skip_after old number (Ok _) = after_input old (Skip number)
+skip_after old number (Err fault) = old
 
 -- the present session is over, and this one begins
 abbrev pub after_renewal : History → List ℕ → History
