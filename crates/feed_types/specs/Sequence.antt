@@ -57,8 +57,8 @@ Continues carries ends venue place (x ∷ xs) =
     × Continues carries ends venue (place_after place x) xs
 
 -- The rule of a venue's items: the numbers are 1, 2 and so on, but for those that Skipped says were
--- given up; each item may be carried at its number in the present session; after End the next number
--- is 1, in the next session; and nothing else follows End.
+-- given up; each item may be carried at its number in the present session; after End the next
+-- number is 1, in the next session; and nothing else follows End.
 abbrev pub IsInSequence : Carries → Ends → ℕ → List Numbered → Type 0
 IsInSequence carries ends venue items = Continues carries ends venue first_place items
 

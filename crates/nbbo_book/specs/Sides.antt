@@ -29,8 +29,8 @@ quoted_by quote Offer =
     record { price = quote.offer_price; size = quote.offer_size; automated = quote.offer_auto }
 
 -- What a venue's item says of its side in a symbol: a quotation in that symbol says what the side
--- is, an end of session that there is none, Skipped the same, since after it nothing is known of the
--- venue, and every other item nothing.
+-- is, an end of session that there is none, Skipped the same, since after it nothing is known of
+-- the venue, and every other item nothing.
 abbrev pub side_said_by : List ℕ → Side → Item → Option (Option SideQuote)
 side_said_by symbol side (item.Quote quote) =
     if bytes_eq quote.symbol symbol then Some (Some (quoted_by quote side)) else None
