@@ -1,6 +1,6 @@
--- What a packet, a push and a renewal leave of a venue's cell, said of plain states.
+-- What a packet, a push, a renewal and a skip leave of a venue's cell, said of plain states.
 use Rattle.std.proofs.Common.{◌≡◌, ◌≢◌, inl, inr, ℕ, zero, suc, ◌+◌, ◌≤◌, ◌<◌, Bool, true, false, Option, List, [], ◌∷◌, ◌++◌, length, map, take, drop, Some, None, Result, Ok, Err, refl, sym, ap, subst, ◌∙◌, arith, append_assoc, append-nil, length-append}
-use Rattle.std.specs.Prelude.{◌⊎◌, slice_get, if◌then◌else◌}
+use Rattle.std.specs.Prelude.{◌⊎◌, ◌-◌, ◌^◌, OnErr, OnOk, slice_get, if◌then◌else◌}
 use Rattle.std.proofs.lemmas.List.{take-append-drop}
 use Rattle.std.proofs.lemmas.List.Sums.{fold-append}
 use Rattle.feed_types.specs.declared.item.Numbered.{Numbered}
@@ -8,26 +8,28 @@ use Rattle.feed_types.specs.declared.line.LineId.{LineId}
 use Rattle.feed_types.specs.declared.line.LineId.TheVariants.{A, B, Recovery}
 use Rattle.feed_types.specs.Prefix.{IsPrefix}
 use Rattle.feed_types.specs.SequenceLaws.{prefix_in_sequence}
-use Rattle.mold_packet.specs.Content.{Content, IsContent}
+use Rattle.mold_packet.specs.Content.{Content, IsContent, last_number}
 use Rattle.line_arbiter.specs.Counts.{shown}
 use Rattle.line_arbiter.specs.declared.outcome.Outcome.{Outcome}
 use Rattle.line_arbiter.specs.declared.outcome.Outcome.TheVariants.{Taken}
 use Rattle.line_arbiter.specs.declared.outcome.LineFault.{LineFault}
-use Rattle.line_arbiter.specs.Packets.{Arrival, arrival_of}
-use Rattle.line_arbiter.specs.Streams.{IsComplete, is_same_line, stream_of}
+use Rattle.line_arbiter.specs.Packets.{Arrival, Input, Skip, arrival_of}
+use Rattle.line_arbiter.specs.Streams.{IsComplete, closed_of, is_same_line, part_of, place_of, stream_of}
 use Rattle.line_arbiter.specs.Outcomes.{IsOutcome}
-use Rattle.line_arbiter.specs.declared.in_order.InOrder.{InOrder}
-use Rattle.line_arbiter.specs.declared.in_order.InOrder.TheVariants.{Next}
-use Rattle.line_arbiter.specs.InOrder.{BringsInOrder, IsOrder, outcome_in_order, sent_in_order}
+use Rattle.line_arbiter.specs.Skips.{AllSent, IsSkip, MaySkip}
+use Rattle.line_arbiter.specs.declared.faults.SkipFault.{SkipFault}
+use Rattle.line_arbiter.specs.declared.faults.SkipFault.TheVariants.{ItemsReady}
+use Rattle.line_arbiter.specs.InOrder.{BringsNext, IsNext, outcome_of_next}
 use Rattle.feed_types.specs.declared.item.Item.{Item}
 use Rattle.feed_types.specs.Sessions.{numbered_from}
 use Rattle.quote_payload.specs.Payload.{item_of}
-use Rattle.line_arbiter.specs.Histories.{History, all_begun, items_of, new_history, new_session, streams_of, after_arrival}
-use Rattle.line_arbiter.specs.States.{State, ordinal_of, KeepsItsPlace, KeepsItsSession, IsAdvanced, IsNew, IsRenewed}
+use Rattle.line_arbiter.specs.Histories.{History, all_begun, items_of, new_history, new_session, streams_of, after_input}
+use Rattle.line_arbiter.specs.States.{State, ordinal_of, KeepsItsPlace, KeepsItsSession, IsAdvanced, IsNew, IsRenewed, IsSkipped}
 use Rattle.line_arbiter.specs.Fits.{Fits}
 use Rattle.fifo_lane.specs.Lane.{LaneEnd, with_items, WasFull}
 use Rattle.line_arbiter.specs.laws.Histories.{items_push}
 use Rattle.line_arbiter.specs.laws.FitsHistory.{fits_new, fits_packet, fits_push, fits_renewal, keeping_all_but_sent_is_reflexive, keeping_all_but_sent_is_transitive, ordinal_is, outcome_in, renewal_in}
+use Rattle.line_arbiter.specs.laws.Placing.{place_all, place_next, place_same, place_skip, place_within}
 use Rattle.feed_types.specs.declared.genuine.Genuine.{Ghosts as Genuine}
 use Rattle.live_feed.specs.Premises.{AreInSequence, IsGenuinePacket}
 use Rattle.live_feed.specs.Lanes.{FeedLanes}
@@ -35,7 +37,7 @@ use Rattle.feed_types.specs.declared.per_line.PerLine.{PerLine}
 use Rattle.feed_types.specs.PerLines.{on_line}
 use Rattle.live_feed.specs.venue.Sums.{Sums, no_sums, sums_after, accepted_on, line_sums_after}
 use Rattle.live_feed.specs.venue.Cells.{CellState, CellFitsHistory, AreGivenFrom, VenueLockInvariant, DoneAtVenue, IsOthersLock, UnderVenueLock, arrivals_of, new_cell}
-use Rattle.live_feed.specs.venue.Sections.{TakesPacket, HasNoneReady, KeepsButSent, Pushes, TakesAndPushes, PushesOne, RenewsSession}
+use Rattle.live_feed.specs.venue.Sections.{TakesPacket, HasNoneReady, KeepsButSent, Pushes, TakesAndPushes, PushesOne, RenewsSession, SkipsGap, GoesOnFrom, PushesAndSkips}
 use Rattle.feed_core.specs.declared.event.Done.TheVariants as done
 use Rattle.feed_core.specs.Steps.{AppliesTo, push_next}
 use Rattle.line_arbiter.specs.Renewals.{IsRenewal}
@@ -65,17 +67,21 @@ no_more A s p fault = refl
 no_more B s p fault = refl
 no_more Recovery s p fault = refl
 
+-- a packet that came
+abbrev came : LineId → Content → Result Outcome LineFault → Arrival
+came line p answer = record { line = line; packet = p; answer = answer }
+
 -- with one more packet they are those of all packets
 sums_more : (old : CellState) (sums : PerLine Sums) (h : History) (line : LineId) (p : Content)
     (answer : Result Outcome LineFault) → CellFitsHistory old h → sums ≡ line_sums_after line p answer old.accepted
     → (l : LineId) → on_line l sums ≡ accepted_on l (arrivals_of
-    (all_begun (after_arrival h (arrival_of line p answer))))
+    (all_begun (after_input h (arrival_of line p answer))))
 sums_more old sums h line p answer f is l =
     ap (on_line l) is
     ∙ adds_on line l old.accepted p answer
     ∙ ap (λ (s : Sums). if is_same_line line l then sums_after s p answer else s) (f.accepted l)
     ∙ sym (fold-append (λ (s : Sums) (x : Arrival). if is_same_line x.line l then sums_after s x.packet x.answer else s)
-    no_sums (arrivals_of (all_begun h)) (arrival_of line p answer ∷ []))
+    no_sums (arrivals_of (all_begun h)) (came line p answer ∷ []))
     ∙ ap (accepted_on l) (sym (arrivals_more h (arrival_of line p answer)))
 
 -- ---- a packet
@@ -85,17 +91,23 @@ module _ (old new : CellState) (h : History) (line : LineId) (p : Content) (answ
     (fits : Fits new.arbiter (h.present.packets ++ arrival_of line p answer ∷ []))
     (grows : IsPrefix (stream_of h.present.packets) (stream_of (h.present.packets ++ arrival_of line p answer ∷ [])))
     (sums : new.accepted ≡ line_sums_after line p answer old.accepted) where
-  abbrev a : Arrival
+  abbrev a : Input
   a = arrival_of line p answer
 
-  pub packet_fits : CellFitsHistory new (after_arrival h a)
+  same_place : place_of (h.present.packets ++ a ∷ []) new.arbiter.sent
+      ≡ place_of h.present.packets old.arbiter.sent
+  same_place = place_same h.present.packets (came line p answer) new.arbiter.sent
+      ∙ ap (place_of h.present.packets) kept.sent
+
+  pub packet_fits : CellFitsHistory new (after_input h a)
   packet_fits = record {
     history = fits_packet h a f.history kept.session fits;
     sent =
         ap (λ (e : LaneEnd Numbered). e.items) lane ∙ f.sent
         ∙ ap (λ (xs : List Numbered). items_of h.earlier ++ xs)
-        (sym (take_same (stream_of h.present.packets) (stream_of (h.present.packets ++ a ∷ [])) old.arbiter.sent grows
-        f.history.present.sent) ∙ ap (λ (n : ℕ). take n (stream_of (h.present.packets ++ a ∷ []))) (sym kept.sent));
+        (sym (take_same (stream_of h.present.packets) (stream_of (h.present.packets ++ a ∷ []))
+        (place_of h.present.packets old.arbiter.sent) grows (place_within f.history.present))
+        ∙ ap (λ (n : ℕ). take n (stream_of (h.present.packets ++ a ∷ []))) (sym same_place));
     accepted = sums_more old new.accepted h line p answer f sums;
   }
 
@@ -105,7 +117,7 @@ module _ (old new : CellState) (h : History) (line : LineId) (p : Content) (answ
 
   pub takes : IsOutcome old.arbiter.session old.arbiter.window old.arbiter.sent h.present.packets p answer
       → TakesPacket line p answer h old new
-  takes o = record { after = after_arrival h a; taken = record { right = right_at o; is = refl }; fits = packet_fits }
+  takes o = record { after = after_input h a; taken = record { right = right_at o; is = refl }; fits = packet_fits }
 
 -- what was given, with one more packet
 pub given_after : {S : Type 0} (premise : Genuine S) (lanes : FeedLanes) (old : CellState) (line : LineId) (p : Content)
@@ -113,7 +125,7 @@ pub given_after : {S : Type 0} (premise : Genuine S) (lanes : FeedLanes) (old : 
     → IsOutcome old.arbiter.session old.arbiter.window old.arbiter.sent k.history.present.packets p answer
     → IsGenuinePacket premise old.arbiter.venue p
     → AreGivenFrom premise old.arbiter.venue old.arbiter.window 1 k.history.earlier
-    (after_arrival k.history (arrival_of line p answer)).present
+    (after_input k.history (arrival_of line p answer)).present
 given_after premise lanes old line p answer k content o genuine =
     let h = k.history in
     let f = k.fits in
@@ -123,28 +135,26 @@ given_after premise lanes old line p answer k content o genuine =
     let ordinal : ordinal_of old.arbiter ≡ 1 + length h.earlier = ordinal_is h f.history in
     let named : premise.sessions venue (1 + length h.earlier) h.present.name =
     subst (λ (x : ℕ × List ℕ). premise.sessions venue x.0 x.1) (λ i. (ordinal i, f.history.session i)) k.named in
-    present_more premise venue window 1 h.earlier h.present (after_arrival h (arrival_of line p answer)).present
+    present_more premise venue window 1 h.earlier h.present (after_input h (arrival_of line p answer)).present
     (given_more premise venue window (1 + length h.earlier) h.present (arrival_of line p answer)
     (λ same. genuine (1 + length h.earlier) (subst (λ (n : List ℕ). premise.sessions venue (1 + length h.earlier) n)
     (sym same) named)) (record { content = content; sent = old.arbiter.sent; outcome = right }))
     k.given
 
--- a cell of the same session, which was given one more packet
-module _ {S : Type 0} (premise : Genuine S) (lanes : FeedLanes) (old new : CellState) (line : LineId) (p : Content)
-    (answer : Result Outcome LineFault) (k : VenueLockInvariant premise lanes old)
-    (kept : KeepsItsSession old.arbiter new.arbiter) (tag : new.lane.tag ≡ old.lane.tag)
-    (lane : new.lane.lane ≡ old.lane.lane) (capacity : new.lane.capacity ≡ old.lane.capacity)
-    (fits : CellFitsHistory new (after_arrival k.history (arrival_of line p answer))) (content : IsContent p)
-    (o : IsOutcome old.arbiter.session old.arbiter.window old.arbiter.sent k.history.present.packets p answer)
-    (genuine : IsGenuinePacket premise old.arbiter.venue p) where
-  pub more_kept : VenueLockInvariant premise lanes new
-  more_kept = record {
-    history = after_arrival k.history (arrival_of line p answer);
+-- a cell of the same session, to which one thing more came
+module _ {S : Type 0} (premise : Genuine S) (lanes : FeedLanes) (old new : CellState) (x : Input)
+    (k : VenueLockInvariant premise lanes old) (kept : KeepsItsSession old.arbiter new.arbiter)
+    (tag : new.lane.tag ≡ old.lane.tag) (lane : new.lane.lane ≡ old.lane.lane)
+    (capacity : new.lane.capacity ≡ old.lane.capacity) (fits : CellFitsHistory new (after_input k.history x))
+    (given : AreGivenFrom premise old.arbiter.venue old.arbiter.window 1 k.history.earlier
+    (after_input k.history x).present) where
+  input_kept : VenueLockInvariant premise lanes new
+  input_kept = record {
+    history = after_input k.history x;
     fits = fits;
-    given = subst (λ (x : ℕ × ℕ). AreGivenFrom premise x.0 x.1 1 k.history.earlier
-        (after_arrival k.history (arrival_of line p answer)).present) (λ i. (sym kept.venue i, sym kept.window i))
-        (given_after premise lanes old line p answer k content o genuine);
-    named = subst (λ (x : ℕ × (List (List ℕ) × List ℕ)). premise.sessions x.0 (length x.1.0) x.1.1)
+    given = subst (λ (y : ℕ × ℕ). AreGivenFrom premise y.0 y.1 1 k.history.earlier
+        (after_input k.history x).present) (λ i. (sym kept.venue i, sym kept.window i)) given;
+    named = subst (λ (y : ℕ × (List (List ℕ) × List ℕ)). premise.sessions y.0 (length y.1.0) y.1.1)
         (λ i. (sym kept.venue i, (sym kept.sessions i, sym kept.session i))) k.named;
     tag = tag ∙ k.tag ∙ sym kept.venue;
     lane = ap (slice_get lanes.venues) kept.venue ∙ k.lane ∙ ap Some (sym lane);
@@ -152,10 +162,22 @@ module _ {S : Type 0} (premise : Genuine S) (lanes : FeedLanes) (old new : CellS
     capacity = capacity ∙ k.capacity;
   }
 
+-- a cell of the same session, which was given one more packet
+module _ {S : Type 0} (premise : Genuine S) (lanes : FeedLanes) (old new : CellState) (line : LineId) (p : Content)
+    (answer : Result Outcome LineFault) (k : VenueLockInvariant premise lanes old)
+    (kept : KeepsItsSession old.arbiter new.arbiter) (tag : new.lane.tag ≡ old.lane.tag)
+    (lane : new.lane.lane ≡ old.lane.lane) (capacity : new.lane.capacity ≡ old.lane.capacity)
+    (fits : CellFitsHistory new (after_input k.history (arrival_of line p answer))) (content : IsContent p)
+    (o : IsOutcome old.arbiter.session old.arbiter.window old.arbiter.sent k.history.present.packets p answer)
+    (genuine : IsGenuinePacket premise old.arbiter.venue p) where
+  pub more_kept : VenueLockInvariant premise lanes new
+  more_kept = input_kept premise lanes old new (arrival_of line p answer) k kept tag lane capacity fits
+      (given_after premise lanes old line p answer k content o genuine)
+
 pub packet_kept : {S : Type 0} (premise : Genuine S) (lanes : FeedLanes) (old new : CellState) (line : LineId)
     (p : Content) (answer : Result Outcome LineFault) (k : VenueLockInvariant premise lanes old)
     → new.lane ≡ old.lane → KeepsItsPlace old.arbiter new.arbiter
-    → CellFitsHistory new (after_arrival k.history (arrival_of line p answer)) → IsContent p
+    → CellFitsHistory new (after_input k.history (arrival_of line p answer)) → IsContent p
     → IsOutcome old.arbiter.session old.arbiter.window old.arbiter.sent k.history.present.packets p answer
     → IsGenuinePacket premise old.arbiter.venue p → VenueLockInvariant premise lanes new
 packet_kept premise lanes old new line p answer k lane kept fits content o genuine =
@@ -201,21 +223,25 @@ module _ (items : List Numbered) (sent : ℕ) (h : History)
       all)
 
 module _ (c : CellState) (h : History) (f : CellFitsHistory c h) where
-  next_of_cell : slice_get (streams_of h) (length c.lane.items) ≡ slice_get (stream_of h.present.packets) c.arbiter.sent
-  next_of_cell = next_is c.lane.items c.arbiter.sent h f.sent f.history.present.sent
+  abbrev place : ℕ
+  place = place_of h.present.packets c.arbiter.sent
 
-  pub push_fits : (new : CellState) (x : Numbered) → Some x ≡ slice_get (stream_of h.present.packets) c.arbiter.sent
+  pub next_of_cell : slice_get (streams_of h) (length c.lane.items) ≡ slice_get (stream_of h.present.packets) place
+  next_of_cell = next_is c.lane.items place h f.sent (place_within f.history.present)
+
+  pub push_fits : (new : CellState) (x : Numbered) → Some x ≡ slice_get (stream_of h.present.packets) place
       → new.lane ≡ with_items c.lane (c.lane.items ++ x ∷ []) → new.accepted ≡ c.accepted
       → IsAdvanced c.arbiter new.arbiter → Fits new.arbiter h.present.packets → CellFitsHistory new h
   push_fits new x e lane sums advanced fits = record {
     history = fits_push h f.history advanced.kept fits;
     sent = ap (λ (e : LaneEnd Numbered). e.items) lane
-        ∙ sent_more c.lane.items c.arbiter.sent h f.sent x new.arbiter.sent advanced.sent e;
+        ∙ sent_more c.lane.items place h f.sent x (place_of h.present.packets new.arbiter.sent)
+        (ap (place_of h.present.packets) advanced.sent ∙ place_next f.history.present) e;
     accepted = λ l. ap (on_line l) sums ∙ f.accepted l;
   }
 
   pub pushes : (may_send : ℕ → List Numbered → Type 0) (new : CellState) (x : Numbered) (number : ℕ)
-      → Some x ≡ slice_get (stream_of h.present.packets) c.arbiter.sent → number ≡ x.number
+      → Some x ≡ slice_get (stream_of h.present.packets) place → number ≡ x.number
       → new.lane ≡ with_items c.lane (c.lane.items ++ x ∷ []) → CellFitsHistory new h → PushesOne may_send (Ok number) h c new
   pushes may_send new x number e is lane fits = record {
     full = false;
@@ -225,7 +251,7 @@ module _ (c : CellState) (h : History) (f : CellFitsHistory c h) where
   }
 
   pub push_nothing : (may_send : ℕ → List Numbered → Type 0)
-      → None ≡ slice_get (stream_of h.present.packets) c.arbiter.sent → PushesOne may_send (Err unsent.Nothing) h c c
+      → None ≡ slice_get (stream_of h.present.packets) place → PushesOne may_send (Err unsent.Nothing) h c c
   push_nothing may_send e = record {
     full = false;
     was_full = λ t. absurd cc;
@@ -234,7 +260,7 @@ module _ (c : CellState) (h : History) (f : CellFitsHistory c h) where
   }
 
   pub push_full : (may_send : ℕ → List Numbered → Type 0) (x : Numbered)
-      → Some x ≡ slice_get (stream_of h.present.packets) c.arbiter.sent → WasFull may_send c.lane
+      → Some x ≡ slice_get (stream_of h.present.packets) place → WasFull may_send c.lane
       → PushesOne may_send (Err unsent.LaneFull) h c c
   push_full may_send x e was = record {
     full = true;
@@ -267,11 +293,12 @@ push_kept premise lanes old new x k lane advanced fits =
 
 -- What such a packet brings: it is answered as new, the stream stays as it is up to there, and its
 -- item is there.
-pub record BringsNext (session : List ℕ) (window sent : ℕ) (packets : List Arrival) (line : LineId) (p : Content)
+pub record BringsOne (session : List ℕ) (window sent : ℕ) (packets : List Input) (line : LineId) (p : Content)
     (x : Numbered) : Type 0 where
   pub answer : IsOutcome session window sent packets p (Ok (Taken 1 0))
   pub grows : IsPrefix (stream_of packets) (stream_of (packets ++ arrival_of line p (Ok (Taken 1 0)) ∷ []))
-  pub item : Some x ≡ slice_get (stream_of (packets ++ arrival_of line p (Ok (Taken 1 0)) ∷ [])) sent
+  pub item : Some x ≡ slice_get (stream_of (packets ++ arrival_of line p (Ok (Taken 1 0)) ∷ []))
+      (place_of (packets ++ arrival_of line p (Ok (Taken 1 0)) ∷ []) sent)
 
 get_drop : {X : Type 0} (n : ℕ) (xs ys : List X) (x : X) → drop n xs ≡ x ∷ ys → Some x ≡ slice_get xs n
 get_drop zero [] ys x e = absurd cc
@@ -288,83 +315,94 @@ pub first_number : (n : ℕ) (x : Numbered) (xs : List Item) → x ∷ [] ≡ nu
 first_number n x [] e = absurd cc
 first_number n x (y ∷ ys) e = cc
 
-module _ (s : State) (packets : List Arrival) (p : Content) (order : InOrder) (last : ℕ) (is : order ≡ Next last)
-    (x : Numbered) (item : x ∷ [] ≡ numbered_from p.number (map item_of p.messages)) where
+module _ (s : State) (packets : List Input) (p : Content) (x : Numbered)
+    (item : x ∷ [] ≡ numbered_from p.number (map item_of p.messages)) where
   one_message : length p.messages ≡ 1
   one_message = has_one p.number x p.messages item
 
-  pub brings_next : (line : LineId) → BringsInOrder s.session s.window s.sent packets line p order
-      → BringsNext s.session s.window s.sent packets line p x
-  brings_next line brings =
-      let b : BringsInOrder s.session s.window s.sent packets line p (Next last) =
-      subst (λ (o : InOrder). BringsInOrder s.session s.window s.sent packets line p o) is brings in
+  pub brings_one : (line : LineId) → BringsNext s.session s.window s.sent packets line p
+      → BringsOne s.session s.window s.sent packets line p x
+  brings_one line b =
       let one = one_message in
-      let added : ℕ → List Arrival = λ n. packets ++ arrival_of line p (Ok (Taken n 0)) ∷ [] in
-      let S = stream_of (added (length p.messages)) in
+      let added : ℕ → List Input = λ n. packets ++ arrival_of line p (Ok (Taken n 0)) ∷ [] in
+      let all = added (length p.messages) in
+      let rest = drop (place_of all (last_number p)) (stream_of all) in
       record {
         answer = subst (λ (n : ℕ). IsOutcome s.session s.window s.sent packets p (Ok (Taken n 0))) one b.answer;
         grows = subst (λ (n : ℕ). IsPrefix (stream_of packets) (stream_of (added n))) one b.grows;
-        item = subst (λ (n : ℕ). Some x ≡ slice_get (stream_of (added n)) s.sent) one
-            (get_drop s.sent S (drop last S) x (b.items ∙ ap (λ (xs : List Numbered). xs ++ drop last S) (sym item)));
+        item = subst (λ (n : ℕ). Some x ≡ slice_get (stream_of (added n)) (place_of (added n) s.sent)) one
+            (get_drop (place_of all s.sent) (stream_of all) rest x
+            (b.items ∙ ap (λ (xs : List Numbered). xs ++ rest) (sym item)));
       }
 
-  pub taken_one : (o : Outcome) → o ≡ outcome_in_order order p → o ≡ Taken 1 0
-  taken_one o e = e ∙ ap (λ (x : InOrder). outcome_in_order x p) is ∙ ap (λ (n : ℕ). Taken n 0) one_message
+  pub taken_one : (o : Outcome) → o ≡ outcome_of_next p → o ≡ Taken 1 0
+  taken_one o e = e ∙ ap (λ (n : ℕ). Taken n 0) one_message
 
-  pub sent_one : (to : ℕ) → IsOrder s p order → to ≡ sent_in_order order s.sent → to ≡ s.sent + 1
-  sent_one to is_order e =
-      let h = subst (λ (o : InOrder). IsOrder s p o) is is_order in
-      let first = h.0.first in
-      let at = h.1 in
+  pub sent_one : (to : ℕ) → IsNext s p → to ≡ last_number p → to ≡ s.sent + 1
+  sent_one to next e =
+      let first = next.first in
       let one = one_message in
-      let there : to ≡ last = e ∙ ap (λ (o : InOrder). sent_in_order o s.sent) is in
       omega arith
 
 module _ (old : CellState) (h : History) (line : LineId) (p : Content) (x : Numbered) (f : CellFitsHistory old h)
-    (brings : BringsNext old.arbiter.session old.arbiter.window old.arbiter.sent h.present.packets line p x) where
-  abbrev passed : Arrival
+    (brings : BringsOne old.arbiter.session old.arbiter.window old.arbiter.sent h.present.packets line p x) where
+  abbrev passed : Input
   passed = arrival_of line p (Ok (Taken 1 0))
 
+  abbrev packets : List Input
+  packets = h.present.packets ++ passed ∷ []
+
   abbrev more : List Numbered
-  more = stream_of (h.present.packets ++ passed ∷ [])
+  more = stream_of packets
+
+  -- the packet moves no place
+  places_stay : (n : ℕ) → place_of packets n ≡ place_of h.present.packets n
+  places_stay n = place_same h.present.packets (came line p (Ok (Taken 1 0))) n
+
+  next_place : place_of packets (old.arbiter.sent + 1) ≡ place_of packets old.arbiter.sent + 1
+  next_place = places_stay (old.arbiter.sent + 1) ∙ place_next f.history.present
+      ∙ ap (λ (n : ℕ). n + 1) (sym (places_stay old.arbiter.sent))
 
   -- the items that were sent are a prefix with the packet, too
-  sent_before : old.lane.items ≡ items_of h.earlier ++ take old.arbiter.sent more
+  sent_before : old.lane.items ≡ items_of h.earlier ++ take (place_of packets old.arbiter.sent) more
   sent_before = f.sent ∙ ap (λ (xs : List Numbered). items_of h.earlier ++ xs)
-      (sym (take_same (stream_of h.present.packets) more old.arbiter.sent brings.grows f.history.present.sent))
+      (sym (take_same (stream_of h.present.packets) more (place_of h.present.packets old.arbiter.sent) brings.grows
+      (place_within f.history.present))
+      ∙ ap (λ (n : ℕ). take n more) (sym (places_stay old.arbiter.sent)))
 
-  is_there : old.arbiter.sent ≤ length more
+  is_there : place_of packets old.arbiter.sent ≤ length more
   is_there =
-      let le : old.arbiter.sent ≤ length (stream_of h.present.packets) = f.history.present.sent in
+      let le = place_within f.history.present in
+      let stay = places_stay old.arbiter.sent in
       let e : length more ≡ length (stream_of h.present.packets) + length brings.grows.rest = ap length brings.grows.is
       ∙ length-append (stream_of h.present.packets) brings.grows.rest in
       omega arith
 
   pub may_pass : {S : Type 0} (premise : Genuine S) (venue window : ℕ)
-      → AreGivenFrom premise venue window 1 h.earlier (after_arrival h passed).present
+      → AreGivenFrom premise venue window 1 h.earlier (after_input h passed).present
       → AreInSequence premise venue (old.lane.items ++ x ∷ [])
-  may_pass premise venue window given = may_push old.lane.items old.arbiter.sent (after_arrival h passed) sent_before
-      premise venue window x given brings.item
+  may_pass premise venue window given = may_push old.lane.items (place_of packets old.arbiter.sent)
+      (after_input h passed) sent_before premise venue window x given brings.item
 
   module _ (new : CellState) (outcome : Outcome) (one : outcome ≡ Taken 1 0)
       (lane : new.lane ≡ with_items old.lane (old.lane.items ++ x ∷ []))
       (sent : new.arbiter.sent ≡ old.arbiter.sent + 1) (kept : KeepsItsSession old.arbiter new.arbiter)
       (fits : Fits new.arbiter (h.present.packets ++ arrival_of line p (Ok outcome) ∷ []))
       (sums : new.accepted ≡ line_sums_after line p (Ok outcome) old.accepted) where
-    pub pass_fits : CellFitsHistory new (after_arrival h passed)
+    pub pass_fits : CellFitsHistory new (after_input h passed)
     pass_fits = record {
       history = fits_packet h passed f.history kept (subst
           (λ (o : Outcome). Fits new.arbiter (h.present.packets ++ arrival_of line p (Ok o) ∷ [])) one fits);
       sent = ap (λ (e : LaneEnd Numbered). e.items) lane
-          ∙ sent_more old.lane.items old.arbiter.sent (after_arrival h passed) sent_before x new.arbiter.sent sent
-          brings.item;
+          ∙ sent_more old.lane.items (place_of packets old.arbiter.sent) (after_input h passed) sent_before x
+          (place_of packets new.arbiter.sent) (ap (place_of packets) sent ∙ next_place) brings.item;
       accepted = sums_more old new.accepted h line p (Ok (Taken 1 0)) f
           (subst (λ (o : Outcome). new.accepted ≡ line_sums_after line p (Ok o) old.accepted) one sums);
     }
 
     abbrev takes_one : TakesPacket line p (Ok (Taken 1 0)) h old new
     takes_one = record {
-      after = after_arrival h passed;
+      after = after_input h passed;
       taken = record { right = outcome_in h p (Ok (Taken 1 0)) f.history brings.answer; is = refl };
       fits = pass_fits;
     }
@@ -376,7 +414,7 @@ module _ (old : CellState) (h : History) (line : LineId) (p : Content) (x : Numb
     passes number = subst (λ (o : Outcome). TakesAndPushes line p o h old new) (sym one) (record {
       takes = takes_one;
       comes = rw (
-        next_is old.lane.items old.arbiter.sent (after_arrival h passed) sent_before is_there,
+        next_is old.lane.items (place_of packets old.arbiter.sent) (after_input h passed) sent_before is_there,
         ← brings.item,
         ← number,
       ) (refl, ap (λ (e : LaneEnd Numbered). e.items) lane);
@@ -393,7 +431,7 @@ pub new_fits : (arbiter : State) (lane : LaneEnd Numbered) → IsNew arbiter lan
     → Fits arbiter [] → lane.items ≡ [] → CellFitsHistory (new_cell arbiter lane) (new_history arbiter.session)
 new_fits arbiter lane new fits empty = record {
   history = fits_new new fits;
-  sent = empty ∙ sym (ap (λ (n : ℕ). take n (stream_of [])) new.begun.sent);
+  sent = empty ∙ sym (ap (λ (n : ℕ). take (place_of [] n) (stream_of [])) new.begun.sent);
   accepted = nothing;
 }
 
@@ -425,7 +463,8 @@ shown_sum m n = grind (arith)
 
 module _ (old new : CellState) (h : History) (name : List ℕ) (f : CellFitsHistory old h)
     (begun : IsRenewed old.arbiter new.arbiter name) (fits : Fits new.arbiter [])
-    (whole : IsComplete h.present.packets × (old.arbiter.sent ≡ length (stream_of h.present.packets)))
+    (whole : IsComplete h.present.packets
+    × (place_of h.present.packets old.arbiter.sent ≡ length (stream_of h.present.packets)))
     (lane : new.lane ≡ old.lane) (sums : new.accepted ≡ old.accepted) where
   pub renewed_fits : CellFitsHistory new (record { earlier = all_begun h; present = new_session name })
   renewed_fits = record {
@@ -436,7 +475,7 @@ module _ (old new : CellState) (h : History) (name : List ℕ) (f : CellFitsHist
         ∙ ap (λ (xs : List Numbered). items_of h.earlier ++ xs) (take_whole (stream_of h.present.packets))
         ∙ sym (items_push h.earlier h.present)
         ∙ sym (append-nil (items_of (all_begun h)))
-        ∙ ap (λ (n : ℕ). items_of (all_begun h) ++ take n (stream_of [])) (sym begun.begun.sent);
+        ∙ ap (λ (n : ℕ). items_of (all_begun h) ++ take (place_of [] n) (stream_of [])) (sym begun.begun.sent);
     accepted = λ l. ap (on_line l) sums ∙ f.accepted l
         ∙ ap (accepted_on l) (sym (arrivals_push (all_begun h) (new_session name)
         ∙ append-nil (arrivals_of (all_begun h))));
@@ -472,6 +511,132 @@ module _ (old new : CellState) (h : History) (name : List ℕ) (f : CellFitsHist
     renewed = record { right = renewal_in h name (Ok ordinal) f.history right; is = refl };
     fits = renewed_fits;
   }
+
+-- ---- a skip
+
+skip_keeps : {old new : State} {number : ℕ} → IsSkipped old new number → KeepsItsSession old new
+skip_keeps s = record {
+  venue = s.venue;
+  sessions = s.sessions;
+  session = s.session;
+  window = s.window;
+  earlier = s.earlier;
+}
+
+module _ (old new : CellState) (h : History) (number : ℕ) (f : CellFitsHistory old h) (done : Unit {0})
+    (right : IsSkip h.present.packets old.arbiter.sent number (Ok done))
+    (skipped : IsSkipped old.arbiter new.arbiter number)
+    (fits : Fits new.arbiter (h.present.packets ++ Skip number ∷ []))
+    (grows : IsPrefix (stream_of h.present.packets) (stream_of (h.present.packets ++ Skip number ∷ [])))
+    (lane : new.lane ≡ old.lane) (sums : new.accepted ≡ old.accepted) where
+  abbrev stream : List Numbered
+  stream = stream_of h.present.packets
+
+  abbrev with_skip : List Input
+  with_skip = h.present.packets ++ Skip number ∷ []
+
+  pub skipped_fits : CellFitsHistory new (after_input h (Skip number))
+  skipped_fits = record {
+    history = fits_packet h (Skip number) f.history (skip_keeps skipped) fits;
+    sent =
+        ap (λ (e : LaneEnd Numbered). e.items) lane ∙ f.sent
+        ∙ ap (λ (xs : List Numbered). items_of h.earlier ++ xs)
+        (ap (λ (n : ℕ). take n stream)
+        (place_all h.present.packets old.arbiter.sent f.history.present.opened right.0)
+        ∙ sym (take_same stream (stream_of with_skip) (length stream) grows (omega arith))
+        ∙ ap (λ (n : ℕ). take n (stream_of with_skip))
+        (sym (place_skip h.present.packets number new.arbiter.sent right.1 skipped.sent)));
+    accepted = λ l. ap (on_line l) sums ∙ f.accepted l
+        ∙ ap (accepted_on l) (sym (arrivals_more h (Skip number) ∙ append-nil (arrivals_of (all_begun h))));
+  }
+
+  pub skips : SkipsGap number (Ok done) h old new
+  skips = record {
+    after = after_input h (Skip number);
+    skipped = record { right = right; is = refl };
+    fits = skipped_fits;
+  }
+
+pub skip_kept : {S : Type 0} (premise : Genuine S) (lanes : FeedLanes) (old new : CellState) (number : ℕ)
+    (k : VenueLockInvariant premise lanes old) → MaySkip k.history.present.packets number
+    → IsSkipped old.arbiter new.arbiter number → new.lane ≡ old.lane
+    → CellFitsHistory new (after_input k.history (Skip number)) → VenueLockInvariant premise lanes new
+skip_kept premise lanes old new number k may skipped lane fits =
+    let h = k.history in
+    let venue = old.arbiter.venue in
+    let window = old.arbiter.window in
+    input_kept premise lanes old new (Skip number) k (skip_keeps skipped)
+    (ap (λ (e : LaneEnd Numbered). e.tag) lane) (ap (λ (e : LaneEnd Numbered). e.lane) lane)
+    (ap (λ (e : LaneEnd Numbered). e.capacity) lane) fits
+    (present_more premise venue window 1 h.earlier h.present (after_input h (Skip number)).present
+    (given_more premise venue window (1 + length h.earlier) h.present (Skip number) tt may) k.given)
+
+past_end : {X : Type 0} (xs : List X) (n : ℕ) → slice_get xs n ≡ None → length xs ≤ n
+past_end [] n e = omega arith
+past_end (x ∷ xs) zero e = absurd cc
+past_end (x ∷ xs) (suc n) e = let h = past_end xs n e in omega arith
+
+-- where no item is ready, all were sent
+none_unsent : (c : CellState) (h : History) → CellFitsHistory c h
+    → slice_get (streams_of h) (length c.lane.items) ≡ None → AllSent h.present.packets c.arbiter.sent
+none_unsent c h f none =
+    let packets = h.present.packets in
+    let past = past_end (stream_of packets) (place_of packets c.arbiter.sent) (sym (next_of_cell c h f) ∙ none) in
+    let whole = length-append (closed_of packets) (part_of packets) in
+    let opened = f.history.present.opened in
+    let sent = f.history.present.sent in
+    omega arith
+
+-- after all pushes, a skip finds an item ready only where the lane was full
+pub unsent_where_full : {S : Type 0} (premise : Genuine S) (lanes : FeedLanes)
+    (may_send : ℕ → List Numbered → Type 0) (most first number : ℕ) (answer : Result (Unit {0}) SkipFault)
+    (old before between : CellState) → VenueLockInvariant premise lanes before
+    → Pushes may_send most first old before
+    → ((h : History) → CellFitsHistory before h → SkipsGap number answer h before between)
+    → answer ≡ Err ItemsReady → (first ≡ most) ⊎ WasFull may_send before.lane
+unsent_where_full premise lanes may_send most first number answer old before between k pushes skips is =
+    elim pushes.over [
+      | inl all ↦ inl all
+      | inr (inl full) ↦ inr full
+      | inr (inr none) ↦ absurd (ready (skips k.history k.fits).skipped.right
+          (none_unsent before k.history k.fits (none k.history k.fits)))
+    ]
+  where
+    ready : IsSkip k.history.present.packets before.arbiter.sent number answer
+        → AllSent k.history.present.packets before.arbiter.sent → ⊥
+    ready right = subst (λ (a : Result (Unit {0}) SkipFault).
+        IsSkip k.history.present.packets before.arbiter.sent number a) is right
+
+-- what was done in the section of a skip
+pub skips_at : {S : Type 0} (premise : Genuine S) (lanes : FeedLanes) (venue number first pushed : ℕ)
+    (answer : Result (Unit {0}) SkipFault) (old before between new : CellState)
+    → VenueLockInvariant premise lanes old → old.arbiter.venue ≡ venue
+    → Pushes (AreInSequence premise) (2 ^ 64 - 1) first old before → VenueLockInvariant premise lanes before
+    → ((h : History) → CellFitsHistory before h → SkipsGap number answer h before between)
+    → OnOk answer (GoesOnFrom number before between) → OnErr answer (between ≡ before)
+    → Pushes (AreInSequence premise) (2 ^ 64 - 1) pushed between new → VenueLockInvariant premise lanes new
+    → UnderVenueLock premise lanes venue (PushesAndSkips (AreInSequence premise) number answer)
+skips_at premise lanes venue number first pushed answer old before between new kept is sends ready skips on refused
+    pushes keeps = record {
+      old = old;
+      kept = kept;
+      venue_is = is;
+      new = new;
+      keeps = keeps;
+      leads = record {
+        before = before;
+        first = first;
+        sends = sends;
+        between = between;
+        skips = skips;
+        on = on;
+        refused = refused;
+        full = unsent_where_full premise lanes (AreInSequence premise) (2 ^ 64 - 1) first number answer old before
+            between ready sends skips;
+        pushed = pushed;
+        pushes = pushes;
+      };
+    }
 
 -- ---- Push, again and again
 

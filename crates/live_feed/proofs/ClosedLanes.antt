@@ -1,5 +1,5 @@
 -- The closing of a venue's lane, in terms of plain states.
-use Rattle.std.proofs.Common.{◌≡◌, ℕ, Bool, true, false, zero, suc, ◌+◌, ◌≤◌, ◌<◌, List, [], ◌∷◌, ◌++◌, length, map, take, drop, Option, Some, None, refl, sym, ap, subst, ◌∙◌, arith, append_assoc, append-nil, length-append}
+use Rattle.std.proofs.Common.{◌≡◌, ℕ, Bool, true, false, zero, suc, ◌+◌, ◌-◌, ◌≤◌, ◌<◌, List, [], ◌∷◌, ◌++◌, length, map, take, drop, Option, Some, None, refl, sym, ap, subst, ◌∙◌, arith, append_assoc, append-nil, length-append}
 use Rattle.std.specs.Prelude.{slice_get, ◌==◌, if◌then◌else◌}
 use Rattle.std.specs.List.{range_with_len}
 use Rattle.std.proofs.lemmas.List.{length-map, take-append-drop}
@@ -7,8 +7,8 @@ use Rattle.std.proofs.lemmas.List.FromFn.{length-range_with_len}
 use Rattle.feed_types.specs.declared.item.Numbered.{Numbered}
 use Rattle.feed_types.specs.declared.journal.Entry.{Entry}
 use Rattle.feed_types.specs.Sessions.{end_item}
-use Rattle.line_arbiter.specs.Packets.{Arrival, end_of}
-use Rattle.line_arbiter.specs.Streams.{end_at, front_of, item_numbered, stream_of}
+use Rattle.line_arbiter.specs.Packets.{Input, end_of}
+use Rattle.line_arbiter.specs.Streams.{closed_of, end_at, front_of, item_numbered, opens_of, part_of, place_of, stream_of}
 use Rattle.line_arbiter.specs.States.{State}
 use Rattle.line_arbiter.specs.Fits.{Fits}
 use Rattle.feed_types.specs.declared.per_line.PerLine.{PerLine}
@@ -22,6 +22,7 @@ use Rattle.live_feed.specs.venue.Cells.{AreGivenFrom, CellState, VenueLockInvari
 use Rattle.live_feed.specs.hub.Hubs.{item_by, items_in}
 use Rattle.live_feed.specs.settle.Settlements.{IsSettled}
 use Rattle.line_arbiter.specs.laws.FitsHistory.{wins_are}
+use Rattle.line_arbiter.specs.laws.Fronts.{front_is, opens_most}
 
 -- ---- what is ready
 
@@ -33,13 +34,16 @@ end_short (Some e) m = by_test (e == m)
     by_test true = omega arith
     by_test false = omega arith
 
--- the items in sequence are at most those up to the front, and End
-stream_length : (packets : List Arrival) → length (stream_of packets) ≤ front_of packets + 1
-stream_length packets =
+-- the items of the present part are at most those up to the front, and End
+part_length : (packets : List Input) → opens_of packets + length (part_of packets) ≤ front_of packets + 2
+part_length packets =
     let n = front_of packets in
-    let both = length-append (map (item_numbered packets) (range_with_len 1 n)) (end_at (end_of packets) (n + 1)) in
-    let first = length-map (range_with_len 1 n) (item_numbered packets) ∙ length-range_with_len 1 n in
+    let from = opens_of packets in
+    let many = n + 1 - from in
+    let both = length-append (map (item_numbered packets) (range_with_len from many)) (end_at (end_of packets) (n + 1)) in
+    let first = length-map (range_with_len from many) (item_numbered packets) ∙ length-range_with_len from many in
     let last = end_short (end_of packets) (n + 1) in
+    let most = opens_most packets n (front_is packets) in
     omega arith
 
 within : {X : Type 0} (xs : List X) (n : ℕ) (x : X) → Some x ≡ slice_get xs n → n < length xs
@@ -48,11 +52,13 @@ within (y ∷ ys) zero x e = omega arith
 within (y ∷ ys) (suc n) x e = let h = within ys n x e in omega arith
 
 -- where one more is ready, fewer were taken than there is room for
-pub fewer : (s : State) (packets : List Arrival) (n : ℕ) (x : Numbered) → Fits s packets
-    → Some x ≡ slice_get (stream_of packets) n → n < s.front + 1
-fewer s packets n x f e =
-    let inside = within (stream_of packets) n x e in
-    let most = stream_length packets in
+pub fewer : (s t : State) (packets : List Input) (x : Numbered) → Fits s packets → Fits t packets
+    → Some x ≡ slice_get (stream_of packets) (place_of packets t.sent) → t.sent < s.front + 1
+fewer s t packets x f g e =
+    let inside = within (stream_of packets) (place_of packets t.sent) x e in
+    let whole = length-append (closed_of packets) (part_of packets) in
+    let most = part_length packets in
+    let opened = g.opened in
     let front = f.front in
     omega arith
 
@@ -65,7 +71,7 @@ next_drop (y ∷ ys) zero (suc m) x e is = let none : m ≡ 0 = omega arith in a
 next_drop (y ∷ ys) (suc n) zero x e is = absurd (omega arith)
 next_drop (y ∷ ys) (suc n) (suc m) x e is = next_drop ys n m x e (omega arith)
 
-pub ready_more : (old new : ℕ) (packets : List Arrival) (room more all : List Numbered) (x : Numbered)
+pub ready_more : (old new : ℕ) (packets : List Input) (room more all : List Numbered) (x : Numbered)
     → Some x ≡ slice_get (stream_of packets) old → new ≡ old + 1 → more ≡ room ++ x ∷ []
     → room ++ drop old (stream_of packets) ≡ all → more ++ drop new (stream_of packets) ≡ all
 ready_more old new packets room more all x e is grown same =
@@ -80,7 +86,7 @@ none_left [] (suc n) e = refl
 none_left (y ∷ ys) zero e = absurd cc
 none_left (y ∷ ys) (suc n) e = none_left ys n e
 
-pub ready_all : (n : ℕ) (packets : List Arrival) (room all : List Numbered) → None ≡ slice_get (stream_of packets) n
+pub ready_all : (n : ℕ) (packets : List Input) (room all : List Numbered) → None ≡ slice_get (stream_of packets) n
     → room ++ drop n (stream_of packets) ≡ all → room ≡ all
 ready_all n packets room all e same = sym (append-nil room)
     ∙ ap (λ (l : List Numbered). room ++ l) (sym (none_left (stream_of packets) n e)) ∙ same
@@ -147,21 +153,22 @@ module _ (v : ℕ) (entries : List Entry) (place : ℕ) where
 pub settled : {S : Type 0} (premise : Genuine S) (lanes : FeedLanes) (may_send : ℕ → List Numbered → Type 0)
     (c : CellState) (k : VenueLockInvariant premise lanes c) (received inside ready : List Numbered) (won : PerLine ℕ)
     → Keeps may_send c.lane.tag c.lane.capacity c.lane.items received inside
-    → ready ≡ drop c.arbiter.sent (stream_of k.history.present.packets) → won ≡ c.arbiter.wins
+    → ready ≡ drop (place_of k.history.present.packets c.arbiter.sent) (stream_of k.history.present.packets) → won ≡ c.arbiter.wins
     → IsSettled premise c.arbiter.venue lanes.setting.window c.lane.items received inside ready won c.accepted
 settled premise lanes may_send c k received inside ready won keeps rest same =
     let h = k.history in
     let f = k.fits in
     let stream = stream_of h.present.packets in
+    let place = place_of h.present.packets c.arbiter.sent in
     record {
       sent_is = sym keeps.whole;
       history = h;
       given = subst (λ (n : ℕ). AreGivenFrom premise c.arbiter.venue n 1 h.earlier h.present) k.window k.given;
       whole =
           ap (λ (l : List Numbered). l ++ ready) f.sent
-          ∙ ap (λ (l : List Numbered). (items_of h.earlier ++ take c.arbiter.sent stream) ++ l) rest
-          ∙ append_assoc (items_of h.earlier) (take c.arbiter.sent stream) (drop c.arbiter.sent stream)
-          ∙ ap (λ (l : List Numbered). items_of h.earlier ++ l) (take-append-drop c.arbiter.sent stream)
+          ∙ ap (λ (l : List Numbered). (items_of h.earlier ++ take place stream) ++ l) rest
+          ∙ append_assoc (items_of h.earlier) (take place stream) (drop place stream)
+          ∙ ap (λ (l : List Numbered). items_of h.earlier ++ l) (take-append-drop place stream)
           ∙ sym (items_push h.earlier h.present);
       wins = λ l. ap (on_line l) same ∙ wins_are h f.history l;
       accepted = λ l. f.accepted l;

@@ -1,21 +1,23 @@
--- One more packet, and one more session, in a venue's history.
+-- One more packet or skip, and one more session, in a venue's history.
 use Rattle.std.proofs.Common.{◌≡◌, ℕ, zero, suc, ◌+◌, ◌≤◌, List, [], ◌∷◌, ◌++◌, length, take, Some, refl, sym, ap, subst, ◌∙◌, arith, append_assoc, append-nil, length-append}
 use Rattle.std.specs.Prelude.{slice_get}
 use Rattle.std.specs.List.{AllByRecursion}
 use Rattle.std.proofs.lemmas.Grind.{flat_map-append}
 use Rattle.std.proofs.lemmas.List.{take-append-le}
 use Rattle.feed_types.specs.Prefix.{IsPrefix}
-use Rattle.line_arbiter.specs.Packets.{Arrival}
+use Rattle.line_arbiter.specs.Packets.{Arrival, Input, Arrived}
 use Rattle.line_arbiter.specs.Streams.{IsComplete}
 use Rattle.line_arbiter.specs.Answered.{IsAnswered, AreAnsweredAfter}
-use Rattle.line_arbiter.specs.Genuine.{IsGenuineAt, AreGenuine, AreGenuineFrom}
-use Rattle.line_arbiter.specs.Histories.{Begun, History, all_begun, streams_of, after_arrival}
+use Rattle.line_arbiter.specs.Genuine.{IsGenuineIn, AreGenuine, AreGenuineFrom}
+use Rattle.line_arbiter.specs.Skips.{AreSkips}
+use Rattle.line_arbiter.specs.Histories.{Begun, History, all_begun, streams_of, after_input}
 use Rattle.line_arbiter.specs.laws.Below.{answered_more}
 use Rattle.line_arbiter.specs.laws.Arrivals.{all_push, genuine_grows}
 use Rattle.line_arbiter.specs.laws.InSequence.{streams_in_sequence}
+use Rattle.line_arbiter.specs.laws.Parts.{skips_of}
 use Rattle.feed_types.specs.declared.genuine.Genuine.{Ghosts as Genuine}
 use Rattle.live_feed.specs.Premises.{AreInSequence}
-use Rattle.live_feed.specs.venue.Cells.{AreGiven, AreGivenFrom, arrivals_of}
+use Rattle.live_feed.specs.venue.Cells.{AreGiven, AreGivenFrom, arrived_in, arrived_of, arrivals_of}
 
 -- ---- lists
 
@@ -51,32 +53,40 @@ get_sent xs ys sent n is le =
     get_after xs ys n (length sent) (ap length is ∙ length-append xs (take n ys)
     ∙ ap (λ (k : ℕ). length xs + k) (length_take ys n le))
 
--- ---- one more packet
+-- ---- one more packet, or a skip
 
-pub arrivals_push : (bs : List Begun) (b : Begun) → arrivals_of (bs ++ b ∷ []) ≡ arrivals_of bs ++ b.packets
+pub arrivals_push : (bs : List Begun) (b : Begun)
+    → arrivals_of (bs ++ b ∷ []) ≡ arrivals_of bs ++ arrived_of b.packets
 arrivals_push bs b =
-    flat_map-append (λ (x : Begun). x.packets) bs (b ∷ [])
-    ∙ ap (λ (xs : List Arrival). arrivals_of bs ++ xs) (append-nil b.packets)
+    flat_map-append (λ (x : Begun). arrived_of x.packets) bs (b ∷ [])
+    ∙ ap (λ (xs : List Arrival). arrivals_of bs ++ xs) (append-nil (arrived_of b.packets))
 
-pub arrivals_more : (h : History) (a : Arrival) → arrivals_of (all_begun (after_arrival h a))
-    ≡ arrivals_of (all_begun h) ++ a ∷ []
-arrivals_more h a =
-    arrivals_push h.earlier (after_arrival h a).present
-    ∙ sym (append_assoc (arrivals_of h.earlier) h.present.packets (a ∷ []))
-    ∙ ap (λ (xs : List Arrival). xs ++ a ∷ []) (sym (arrivals_push h.earlier h.present))
+arrived_push : (packets : List Input) (x : Input)
+    → arrived_of (packets ++ x ∷ []) ≡ arrived_of packets ++ arrived_in x
+arrived_push packets x =
+    flat_map-append (λ (y : Input). arrived_in y) packets (x ∷ [])
+    ∙ ap (λ (xs : List Arrival). arrived_of packets ++ xs) (append-nil (arrived_in x))
+
+pub arrivals_more : (h : History) (x : Input) → arrivals_of (all_begun (after_input h x))
+    ≡ arrivals_of (all_begun h) ++ arrived_in x
+arrivals_more h x =
+    arrivals_push h.earlier (after_input h x).present
+    ∙ ap (λ (xs : List Arrival). arrivals_of h.earlier ++ xs) (arrived_push h.present.packets x)
+    ∙ sym (append_assoc (arrivals_of h.earlier) (arrived_of h.present.packets) (arrived_in x))
+    ∙ ap (λ (xs : List Arrival). xs ++ arrived_in x) (sym (arrivals_push h.earlier h.present))
 
 -- ---- what was given
 
 module _ {S : Type 0} (premise : Genuine S) (venue window : ℕ) where
-  pub given_more : (ordinal : ℕ) (b : Begun) (a : Arrival)
-      → (a.packet.session ≡ b.name → IsGenuineAt premise.carries premise.ends venue ordinal a.packet)
-      → IsAnswered b.name window b.packets a
+  pub given_more : (ordinal : ℕ) (b : Begun) (x : Input)
+      → IsGenuineIn premise.carries premise.ends venue ordinal b.name x
+      → IsAnswered b.name window b.packets x
       → AreGiven premise venue window ordinal b → AreGiven premise venue window ordinal
-      (record b { packets = b.packets ++ a ∷ [] })
-  given_more ordinal b a genuine right g = record {
-    answered = answered_more b.name window b.packets a g.answered right;
-    genuine = all_push (λ (x : Arrival). x.packet.session ≡ b.name
-        → IsGenuineAt premise.carries premise.ends venue ordinal x.packet) b.packets a g.genuine genuine;
+      (record b { packets = b.packets ++ x ∷ [] })
+  given_more ordinal b x genuine right g = record {
+    answered = answered_more b.name window b.packets x g.answered right;
+    genuine = all_push (λ (y : Input). IsGenuineIn premise.carries premise.ends venue ordinal b.name y)
+        b.packets x g.genuine genuine;
   }
 
   pub present_given : (ordinal : ℕ) (bs : List Begun) (b : Begun) → AreGivenFrom premise venue window ordinal bs b
@@ -107,18 +117,17 @@ module _ {S : Type 0} (premise : Genuine S) (venue window : ℕ) where
   next_given ordinal [] b name over g = (g, over, record { answered = tt; genuine = tt })
   next_given ordinal (x ∷ bs) b name over g = (g.0, g.1, next_given (ordinal + 1) bs b name over g.2)
 
-  genuine_after : (ordinal : ℕ) (session : List ℕ) (before packets : List Arrival)
+  genuine_after : (ordinal : ℕ) (session : List ℕ) (before packets : List Input)
       → AreGenuine premise.carries premise.ends venue ordinal before → AreAnsweredAfter session window before packets
-      → AllByRecursion (λ (a : Arrival). a.packet.session ≡ session
-      → IsGenuineAt premise.carries premise.ends venue ordinal a.packet) packets
+      → AllByRecursion (λ (x : Input). IsGenuineIn premise.carries premise.ends venue ordinal session x) packets
       → AreGenuine premise.carries premise.ends venue ordinal (before ++ packets)
   genuine_after ordinal session before [] all answered given =
-      subst (λ (l : List Arrival). AreGenuine premise.carries premise.ends venue ordinal l) (sym (append-nil before))
+      subst (λ (l : List Input). AreGenuine premise.carries premise.ends venue ordinal l) (sym (append-nil before))
       all
   genuine_after ordinal session before (a ∷ packets) all answered given =
       let more : AreGenuine premise.carries premise.ends venue ordinal (before ++ a ∷ []) =
       genuine_grows premise.carries premise.ends venue ordinal window session before a all given.0 answered.0 in
-      subst (λ (l : List Arrival). AreGenuine premise.carries premise.ends venue ordinal l)
+      subst (λ (l : List Input). AreGenuine premise.carries premise.ends venue ordinal l)
       (append_assoc before (a ∷ []) packets) (genuine_after ordinal session (before ++ a ∷ []) packets more
       answered.1 given.1)
 
@@ -127,11 +136,16 @@ module _ {S : Type 0} (premise : Genuine S) (venue window : ℕ) where
       → AreGenuine premise.carries premise.ends venue ordinal b.packets
   given_genuine ordinal b g = genuine_after ordinal b.name [] b.packets tt g.answered g.genuine
 
+  given_skips : (ordinal : ℕ) (b : Begun) → AreGiven premise venue window ordinal b → AreSkips b.packets
+  given_skips ordinal b g = skips_of b.name window [] b.packets g.answered
+
   pub given_from : (ordinal : ℕ) (bs : List Begun) (b : Begun) → AreGivenFrom premise venue window ordinal bs b
       → AreGenuineFrom premise.carries premise.ends venue ordinal (bs ++ b ∷ [])
-  given_from ordinal [] b g = given_genuine ordinal b g
-  given_from ordinal (x ∷ []) b g = (given_genuine ordinal x g.0, g.1, given_from (ordinal + 1) [] b g.2)
-  given_from ordinal (x ∷ y ∷ bs) b g = (given_genuine ordinal x g.0, g.1, given_from (ordinal + 1) (y ∷ bs) b g.2)
+  given_from ordinal [] b g = (given_genuine ordinal b g, given_skips ordinal b g)
+  given_from ordinal (x ∷ []) b g =
+      (given_genuine ordinal x g.0, given_skips ordinal x g.0, g.1, given_from (ordinal + 1) [] b g.2)
+  given_from ordinal (x ∷ y ∷ bs) b g =
+      (given_genuine ordinal x g.0, given_skips ordinal x g.0, g.1, given_from (ordinal + 1) (y ∷ bs) b g.2)
 
   pub streams_sequence : (h : History) → AreGivenFrom premise venue window 1 h.earlier h.present
       → AreInSequence premise venue (streams_of h)

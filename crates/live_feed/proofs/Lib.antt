@@ -11,6 +11,7 @@ pub mod RunMoves
 pub mod Sides
 pub mod Settled
 pub mod OfSessions
+pub mod SessionParts
 pub mod Batches
 pub mod LaneEnds
 pub mod Offers

@@ -11,6 +11,7 @@ use Rattle.line_arbiter.specs.OfSession.{IsOfSession}
 use Rattle.feed_types.specs.declared.genuine.Genuine.{Ghosts as Genuine}
 use Rattle.live_feed.specs.declared.faults.TakeFault.{TakeFault}
 use Rattle.live_feed.specs.declared.faults.TakeFault.TheVariants as faults
+use Rattle.live_feed.specs.Lanes.{FeedLanes}
 use Rattle.live_feed.specs.venue.Sections.{AcceptsTheirPacket}
 use Rattle.live_feed.specs.venue.Datagrams.{AcceptsTheirs}
 
@@ -18,20 +19,21 @@ abbrev as_taken : Result Outcome LineFault → Result Outcome TakeFault
 as_taken (Ok outcome) = Ok outcome
 as_taken (Err fault) = Err (faults.Line fault)
 
-module _ {S : Type 0} (premise : Genuine S) (venue : ℕ) (bytes : List ℕ) where
+module _ {S : Type 0} (premise : Genuine S) (lanes : FeedLanes) (venue : ℕ) (bytes : List ℕ) where
   pub faulty : (fault : PacketFault) → HasFault bytes fault
-      → AcceptsTheirs premise venue bytes (Err (faults.Packet fault))
+      → AcceptsTheirs premise lanes venue bytes (Err (faults.Packet fault))
   faulty fault has all ordinal session p rest names at spells of = absurd (no_fault bytes p rest fault spells has)
 
-  pub other : AcceptsTheirs premise venue bytes (Err (faults.Line OtherSession))
-  other all ordinal session p rest names at spells of = inr refl
+  pub other : AcceptsTheirs premise lanes venue bytes (Err (faults.Line OtherSession))
+  other all ordinal session p rest names at spells of = inr (inl refl)
 
   pub theirs : (q : Content) (more : List ℕ) (fault : LineFault) → Spells bytes q more
-      → AcceptsTheirPacket premise venue q (Err fault)
-      → AcceptsTheirs premise venue bytes (Err (faults.Line fault))
+      → AcceptsTheirPacket premise lanes venue q (Err fault)
+      → AcceptsTheirs premise lanes venue bytes (Err (faults.Line fault))
   theirs q more fault spelled accepts all ordinal session p rest names at spells of =
       elim (accepts all ordinal session names at (subst (IsOfSession session)
       (same_packet bytes p q rest more spells spelled) of)) [
         | inl ok ↦ absurd cc
-        | inr same ↦ inr (ap as_taken same)
+        | inr (inl same) ↦ inr (inl (ap as_taken same))
+        | inr (inr past) ↦ inr (inr past)
       ]

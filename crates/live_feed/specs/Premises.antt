@@ -1,11 +1,20 @@
 -- What the lines may carry is one premise, `Genuine`: the words of the crates below, of all of it.
-use Rattle.std.specs.Prelude.{ℕ, List}
+use Rattle.std.specs.Prelude.{ℕ, List, ◌∷◌}
+use Rattle.std.specs.List.{AllByRecursion}
 use Rattle.feed_types.specs.declared.item.Numbered.{Numbered}
 use Rattle.feed_types.specs.declared.genuine.Genuine.{Ghosts as Genuine}
 use Rattle.feed_types.specs.Sequence.{IsInSequence}
 use Rattle.feed_types.specs.Sessions.{Session, Names}
 use Rattle.mold_packet.specs.Content.{Content}
 use Rattle.line_arbiter.specs.Genuine.{IsGenuine}
+use Rattle.line_arbiter.specs.Histories.{Begun}
+use Rattle.line_arbiter.specs.OfSession.{SkipsWithin}
+
+-- each session that was begun skips to numbers within the one of these sessions that has its place
+abbrev pub SkipWithinSessions : List Session → List Begun → Type 0
+SkipWithinSessions (s ∷ ss) (b ∷ bs) =
+    AllByRecursion (SkipsWithin s) b.packets × SkipWithinSessions ss bs
+SkipWithinSessions _ _ = Unit {0}
 
 module _ {S : Type 0} (premise : Genuine S) where
   -- the packet is genuine at the venue

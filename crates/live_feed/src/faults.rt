@@ -1,9 +1,9 @@
 //! The refusals of calls on a feed.
 
 ghost use Rattle.std.specs.Prelude.{◌≡◌};
-ghost use Rattle.live_feed.specs.Codes.{feed_fault_code, take_fault_code, renewal_fault_code, settle_fault_code};
+ghost use Rattle.live_feed.specs.Codes.{feed_fault_code, take_fault_code, renewal_fault_code, gap_fault_code, settle_fault_code};
 
-use line_arbiter::{LineFault, RenewFault};
+use line_arbiter::{LineFault, RenewFault, SkipFault};
 use mold_packet::PacketFault;
 use thiserror::Error;
 
@@ -80,6 +80,29 @@ impl RenewalFault {
             RenewalFault::UnknownVenue => 18,
             RenewalFault::WrongOrdinal => 38,
             RenewalFault::Venue(fault) => fault.code(),
+        }
+    }
+}
+
+/// Why a venue's gap isn't given up. No message was given up.
+#[derive(Clone, Copy, Debug, PartialEq, Eq, Error)]
+pub enum GapFault {
+    /// The venue isn't below the number of venues.
+    #[error("the feed has no such venue")]
+    UnknownVenue,
+    /// The venue's lines can't go on from the number.
+    #[error("the gap can't be given up: {0}")]
+    Venue(SkipFault),
+}
+
+impl GapFault {
+    /// The code of the fault: 18 or 60 to 63.
+    pub fn code(self) -> u8
+        ensures { result ≡ gap_fault_code self }
+    {
+        match self {
+            GapFault::UnknownVenue => 18,
+            GapFault::Venue(fault) => fault.code(),
         }
     }
 }

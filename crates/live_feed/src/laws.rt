@@ -2,8 +2,11 @@
 
 ghost use Rattle.std.specs.Prelude.{◌≡◌, ◌<◌, ◌++◌, ℕ, List, length, Some, slice_get};
 ghost use Rattle.feed_types.specs.Prefix.{IsPrefix};
+ghost use Rattle.feed_types.specs.Sequence.{SkipsNothing};
 ghost use Rattle.feed_types.specs.Sessions.{Session, whole_sessions};
-ghost use Rattle.live_feed.specs.Premises.{BringExactly};
+ghost use Rattle.live_feed.specs.Premises.{BringExactly, SkipWithinSessions};
+ghost use Rattle.line_arbiter.specs.Histories.{all_begun};
+ghost use Rattle.feed_core.specs.VenueHalf.{parts_of_sessions};
 ghost use Rattle.live_feed.specs.venue.Cells.{CellState, VenueLockInvariant};
 ghost use Rattle.live_feed.specs.hub.Hubs.{HubState, HubLockInvariant, items_in};
 ghost use Rattle.live_feed.specs.venue.Seats.{SeatState};
@@ -15,36 +18,47 @@ use feed_types::{Genuine, sequence_is_of_the_sessions};
 
 /// Where the lines carry exactly these sessions, what was sent through a venue's lane is, whenever
 /// the venue's lock is free, the first of the sessions' items, session by session, each session's
-/// End after its last item.
+/// End after its last item, where none of the items says that messages were given up.
 pub fn sent_items_are_the_sessions<G: Genuine, N: FeedName>()
     ensures { (c : CellState) (all : List Session)
         → VenueLockInvariant G.Genuine N.lanes c
-        → BringExactly G.Genuine c.arbiter.venue all
+        → BringExactly G.Genuine c.arbiter.venue all → SkipsNothing c.lane.items
         → IsPrefix c.lane.items (whole_sessions all) }
 {
     sequence_is_of_the_sessions::<G>();
 }
 
-/// The same holds, whenever the consolidator's lock is free, of a venue's items in the journal's
-/// entries.
+/// So are, whenever the consolidator's lock is free, a venue's items in the journal's entries, where
+/// none of them says that messages were given up.
 pub fn journaled_items_are_the_sessions<G: Genuine, N: FeedName>()
     ensures { (s : HubState) (venue : ℕ) (all : List Session)
         → HubLockInvariant G.Genuine N.lanes s → venue < length N.lanes.venues
-        → BringExactly G.Genuine venue all
+        → BringExactly G.Genuine venue all → SkipsNothing (items_in s.journal.entries venue)
         → IsPrefix (items_in s.journal.entries venue) (whole_sessions all) }
 {
     sequence_is_of_the_sessions::<G>();
 }
 
 /// So are, of a settled feed, a venue's items that were consumed, then those in its lane, then
-/// those that are ready.
+/// those that are ready, where none of them says so.
 pub fn settled_items_are_the_sessions<G: Genuine, N: FeedName>()
     ensures { (seats : List SeatState) (logs : List SubscriberLogState) (s : SettlementState)
         (venue : ℕ) (v : VenueEndState) (all : List Session)
         → IsSettlement G.Genuine N.lanes seats logs s
         → slice_get s.venues venue ≡ Some v
-        → BringExactly G.Genuine venue all
+        → BringExactly G.Genuine venue all → SkipsNothing (v.consumed ++ (v.in_lane ++ v.ready))
         → IsPrefix (v.consumed ++ (v.in_lane ++ v.ready)) (whole_sessions all) }
 {
     sequence_is_of_the_sessions::<G>();
 }
+
+/// Where messages were given up, but none past the end of a session, what was sent is the first of
+/// the sessions' parts, session by session: a part goes from its first number up to the first gap,
+/// after Skipped in the place of the messages that were given up.
+pub fn sent_items_are_the_sessions_parts<G: Genuine, N: FeedName>()
+    ensures { (c : CellState) (all : List Session)
+        (kept : VenueLockInvariant G.Genuine N.lanes c)
+        → BringExactly G.Genuine c.arbiter.venue all
+        → SkipWithinSessions all (all_begun kept.history)
+        → IsPrefix c.lane.items (parts_of_sessions all (all_begun kept.history)) }
+{}

@@ -36,7 +36,7 @@ mod subscriber;
 mod unsent;
 mod venue;
 
-pub use faults::{FeedFault, RenewalFault, SettleFault, TakeFault};
+pub use faults::{FeedFault, GapFault, RenewalFault, SettleFault, TakeFault};
 pub use feed::LiveFeed;
 pub use feed::open_feed::OpenFeed;
 pub use feed::sharing::Shareable;
@@ -46,7 +46,8 @@ pub use hub::journal_and_lanes::JournalAndLanes;
 pub use hub::spare::SpareLane;
 pub use hub::turn::Consolidated;
 pub use laws::{
-    journaled_items_are_the_sessions, sent_items_are_the_sessions, settled_items_are_the_sessions,
+    journaled_items_are_the_sessions, sent_items_are_the_sessions,
+    sent_items_are_the_sessions_parts, settled_items_are_the_sessions,
 };
 pub use run::line::{Line, LineEnd};
 pub use run::report::{RunReport, Stop};
@@ -73,5 +74,5 @@ pub use feed_types::{
 };
 pub use filter_terms::{Advice, Filter, Limits, Strategy, Terms};
 pub use journal_book::JournalFault;
-pub use line_arbiter::{ArbiterStatus, LineFault, Outcome, RenewFault};
+pub use line_arbiter::{ArbiterStatus, LineFault, Outcome, RenewFault, SkipFault};
 pub use mold_packet::{PacketFault, Request};

@@ -1,12 +1,13 @@
 -- What a venue's lock guards.
-use Rattle.std.specs.Prelude.{◌≡◌, ◌≢◌, ◌⊎◌, ℕ, ◌+◌, ◌≤◌, List, [], ◌∷◌, ◌++◌, take, flat_map, length, Some, None, slice_get}
+use Rattle.std.specs.Prelude.{◌≡◌, ◌≢◌, ◌⊎◌, ℕ, ◌+◌, ◌<◌, ◌≤◌, Contains, List, [], ◌∷◌, ◌++◌, take, flat_map, length, Some, None, slice_get}
 use Rattle.std.specs.List.{AllByRecursion}
 use Rattle.feed_types.specs.declared.item.Numbered.{Numbered}
+use Rattle.feed_types.specs.Sessions.{Session}
 use Rattle.feed_types.specs.declared.line.LineId.{LineId}
-use Rattle.line_arbiter.specs.Packets.{Arrival}
-use Rattle.line_arbiter.specs.Streams.{IsComplete, stream_of}
+use Rattle.line_arbiter.specs.Packets.{Arrival, Input, Arrived, Skip}
+use Rattle.line_arbiter.specs.Streams.{IsComplete, place_of, stream_of}
 use Rattle.line_arbiter.specs.Answered.{AreAnswered}
-use Rattle.line_arbiter.specs.Genuine.{IsGenuineAt}
+use Rattle.line_arbiter.specs.Genuine.{IsGenuineIn}
 use Rattle.line_arbiter.specs.Histories.{Begun, History, all_begun, items_of}
 use Rattle.line_arbiter.specs.States.{State, ordinal_of}
 use Rattle.line_arbiter.specs.Fits.{FitsHistory}
@@ -35,9 +36,18 @@ abbrev pub new_cell : State → LaneEnd Numbered → CellState
 new_cell arbiter lane =
     record { arbiter = arbiter; lane = lane; pace = new_pace; accepted = on_all no_sums }
 
+-- what arrived, as a list of one; a skip is none
+abbrev pub arrived_in : Input → List Arrival
+arrived_in (Arrived a) = a ∷ []
+arrived_in (Skip n) = []
+
+-- all packets of a session
+abbrev pub arrived_of : List Input → List Arrival
+arrived_of packets = flat_map (λ x. arrived_in x) packets
+
 -- all packets that a venue was given, in all its sessions
 abbrev pub arrivals_of : List Begun → List Arrival
-arrivals_of sessions = flat_map (λ session. session.packets) sessions
+arrivals_of sessions = flat_map (λ session. arrived_of session.packets) sessions
 
 -- The cell represents this history: its arbiter fits the history, the lane was sent the streams of
 -- the earlier sessions and then the first items of the present one's, and what is counted per line
@@ -45,18 +55,18 @@ arrivals_of sessions = flat_map (λ session. session.packets) sessions
 pub record CellFitsHistory (c : CellState) (h : History) : Type 0 where
   pub history : FitsHistory c.arbiter h
   pub sent : c.lane.items
-      ≡ items_of h.earlier ++ take c.arbiter.sent (stream_of h.present.packets)
+      ≡ items_of h.earlier
+      ++ take (place_of h.present.packets c.arbiter.sent) (stream_of h.present.packets)
   pub accepted : (line : LineId)
       → on_line line c.accepted ≡ accepted_on line (arrivals_of (all_begun h))
 
 module _ {S : Type 0} (premise : Genuine S) (venue window : ℕ) where
-  -- The packets of a session: each was answered by the definitions (so one with an outcome is of
-  -- the session), and each that is of the session is genuine.
+  -- What came of a session: each packet was answered by the definitions (so one with an outcome is
+  -- of the session), and each that is of the session is genuine; and each skip could be made.
   pub record AreGiven (ordinal : ℕ) (b : Begun) : Type 0 where
     pub answered : AreAnswered b.name window b.packets
     pub genuine : AllByRecursion
-        (λ a. a.packet.session ≡ b.name
-        → IsGenuineAt premise.carries premise.ends venue ordinal a.packet) b.packets
+        (λ x. IsGenuineIn premise.carries premise.ends venue ordinal b.name x) b.packets
 
   -- the same of the sessions from this ordinal on, and all but the present one are over
   abbrev pub AreGivenFrom : ℕ → List Begun → Begun → Type 0
@@ -79,6 +89,18 @@ pub record VenueLockInvariant {S : Type 0} (premise : Genuine S)
   pub lane : slice_get lanes.venues c.arbiter.venue ≡ Some c.lane.lane
   pub window : c.arbiter.window ≡ lanes.setting.window
   pub capacity : c.lane.capacity ≡ lanes.setting.lane
+
+-- Messages past the end of this session were given up: there is such a cell of the venue, whose
+-- present session has that name, and to which a skip past its messages came.
+pub record SkipsPast {S : Type 0} (premise : Genuine S) (lanes : FeedLanes) (venue : ℕ)
+    (session : Session) : Type 0 where
+  pub cell : CellState
+  pub kept : VenueLockInvariant premise lanes cell
+  pub venue_is : cell.arbiter.venue ≡ venue
+  pub present : kept.history.present.name ≡ session.name
+  pub number : ℕ
+  pub given_up : Contains kept.history.present.packets (Skip number)
+  pub past : length session.items + 1 < number
 
 -- What was done in a section under the venue's lock, of which a caller knows nothing else than what
 -- it keeps: there are two such cells of the venue, and the section leads from the one to the other.

@@ -14,7 +14,7 @@ use Rattle.live_feed.specs.declared.run.source.SourceFault.{SourceFault}
 use Rattle.live_feed.specs.declared.faults.TakeFault.{TakeFault}
 use Rattle.live_feed.specs.declared.faults.TakeFault.TheVariants as faults
 use Rattle.live_feed.specs.Lanes.{FeedLanes}
-use Rattle.live_feed.specs.venue.Cells.{DoneAtVenue}
+use Rattle.live_feed.specs.venue.Cells.{DoneAtVenue, SkipsPast}
 use Rattle.live_feed.specs.venue.Seats.{SeatState, seat_after, seat_refusing}
 use Rattle.live_feed.specs.venue.Sections.{PushesReady, TakesAndPushesReady}
 
@@ -65,10 +65,13 @@ IsTakenBy premise lanes bytes old (Ok outcome) new =
     IsPacketTaken premise lanes bytes old (Ok outcome) new
 
 -- Whatever packet the bytes are: where the lines bring exactly these sessions, a packet of one of
--- them is accepted, or is of another session than the present one.
-abbrev pub AcceptsTheirs : {S : Type 0} → Genuine S → ℕ → List ℕ → Result Outcome TakeFault → Type 0
-AcceptsTheirs premise venue bytes answer =
+-- them is accepted, or is of another session than the present one, or messages past the session's
+-- end were given up.
+abbrev pub AcceptsTheirs : {S : Type 0} → Genuine S → FeedLanes → ℕ → List ℕ
+    → Result Outcome TakeFault → Type 0
+AcceptsTheirs premise lanes venue bytes answer =
     (all : List Session) (ordinal : ℕ) (session : Session) (p : Content) (rest : List ℕ)
     → BringExactly premise venue all → IsSessionAt all ordinal session
     → Spells bytes p rest → IsOfSession session p
-    → IsOk answer ⊎ (answer ≡ Err (faults.Line OtherSession))
+    → IsOk answer
+    ⊎ ((answer ≡ Err (faults.Line OtherSession)) ⊎ SkipsPast premise lanes venue session)

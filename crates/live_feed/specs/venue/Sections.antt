@@ -9,27 +9,31 @@ use Rattle.line_arbiter.specs.declared.outcome.Outcome.{Outcome}
 use Rattle.line_arbiter.specs.declared.outcome.LineFault.{LineFault}
 use Rattle.line_arbiter.specs.declared.outcome.LineFault.TheVariants.{OtherSession}
 use Rattle.line_arbiter.specs.declared.faults.RenewFault.{RenewFault}
+use Rattle.line_arbiter.specs.declared.faults.SkipFault.{SkipFault}
+use Rattle.line_arbiter.specs.declared.faults.SkipFault.TheVariants.{ItemsReady, NothingMissing}
 use Rattle.line_arbiter.specs.Histories.{History, streams_of}
 use Rattle.line_arbiter.specs.OfSession.{IsOfSession}
 use Rattle.line_arbiter.specs.InOrder.{IsNextPacket}
 use Rattle.mold_packet.specs.declared.request.Request.{Request}
 use Rattle.line_arbiter.specs.Pacing.{IsPaced}
 use Rattle.line_arbiter.specs.Streams.{gap_of}
-use Rattle.line_arbiter.specs.States.{KeepsItsPlace, KeepsItsSession, KeepsAllButSent, ordinal_of}
+use Rattle.line_arbiter.specs.States.{KeepsItsPlace, KeepsItsSession, KeepsAllButSent, IsSkipped, ordinal_of}
 use Rattle.fifo_lane.specs.Lane.{WasFull, with_items}
 use Rattle.feed_core.specs.declared.event.Done.{Done}
 use Rattle.feed_core.specs.declared.event.Done.TheVariants as done
-use Rattle.feed_core.specs.Steps.{AddsArrival, AddsRenewal, push_next, AppliesTo}
+use Rattle.feed_core.specs.Steps.{AddsArrival, AddsRenewal, AddsSkip, push_next, AppliesTo}
 use Rattle.feed_types.specs.declared.genuine.Genuine.{Ghosts as Genuine}
 use Rattle.live_feed.specs.Premises.{AreInSequence, BringExactly}
 use Rattle.live_feed.specs.declared.faults.FeedFault.{FeedFault}
 use Rattle.live_feed.specs.declared.faults.FeedFault.TheVariants.{UnknownVenue}
 use Rattle.live_feed.specs.declared.faults.RenewalFault.{RenewalFault}
 use Rattle.live_feed.specs.declared.faults.RenewalFault.TheVariants as renewal
+use Rattle.live_feed.specs.declared.faults.GapFault.{GapFault}
+use Rattle.live_feed.specs.declared.faults.GapFault.TheVariants as gaps
 use Rattle.live_feed.specs.declared.unsent.Unsent.{Unsent}
 use Rattle.live_feed.specs.declared.unsent.Unsent.TheVariants as unsent
 use Rattle.live_feed.specs.Lanes.{FeedLanes}
-use Rattle.live_feed.specs.venue.Cells.{DoneAtVenue, CellState, CellFitsHistory, IsOthersLock, UnderVenueLock, new_pace}
+use Rattle.live_feed.specs.venue.Cells.{DoneAtVenue, CellState, CellFitsHistory, IsOthersLock, SkipsPast, UnderVenueLock, new_pace}
 
 -- Packet: the venue's history has grown by the packet, and the cell represents it.
 pub record TakesPacket (line : LineId) (p : Content) (answer : Result Outcome LineFault)
@@ -39,13 +43,14 @@ pub record TakesPacket (line : LineId) (p : Content) (answer : Result Outcome Li
   pub fits : CellFitsHistory new after
 
 -- Where the lines bring exactly these sessions, a packet of one of them is accepted, or is of
--- another session than the present one.
-abbrev pub AcceptsTheirPacket : {S : Type 0} → Genuine S → ℕ → Content
+-- another session than the present one, or messages past the session's end were given up.
+abbrev pub AcceptsTheirPacket : {S : Type 0} → Genuine S → FeedLanes → ℕ → Content
     → Result Outcome LineFault → Type 0
-AcceptsTheirPacket premise venue p answer =
+AcceptsTheirPacket premise lanes venue p answer =
     (all : List Session) (ordinal : ℕ) (session : Session)
     → BringExactly premise venue all → IsSessionAt all ordinal session
-    → IsOfSession session p → IsOk answer ⊎ (answer ≡ Err OtherSession)
+    → IsOfSession session p
+    → IsOk answer ⊎ ((answer ≡ Err OtherSession) ⊎ SkipsPast premise lanes venue session)
 
 -- nothing else has changed
 pub record KeepsButPackets (old new : CellState) : Type 0 where
@@ -189,6 +194,46 @@ IsRenewedBy premise lanes venue ordinal name (Err renewal.WrongOrdinal) =
     UnderVenueLock premise lanes venue (IsOutOfTurn ordinal) ⊎ IsOthersLock premise lanes venue
 IsRenewedBy premise lanes venue ordinal name (Err renewal.UnknownVenue) =
     length lanes.venues ≤ venue
+
+-- Skip: what is missing below the number is given up, or nothing changes.
+pub record SkipsGap (number : ℕ) (answer : Result (Unit {0}) SkipFault) (h : History)
+    (old new : CellState) : Type 0 where
+  pub after : History
+  pub skipped : AddsSkip old.arbiter.sent number h answer after
+  pub fits : CellFitsHistory new after
+
+-- the cell's venue goes on from the number, with no request to repeat
+pub record GoesOnFrom (number : ℕ) (old new : CellState) : Type 0 where
+  pub arbiter : IsSkipped old.arbiter new.arbiter number
+  pub others : new ≡ record old { arbiter = new.arbiter; pace = new_pace }
+
+-- Push, again and again, then Skip, and Push again, in one section. A skip is refused for an item
+-- that is ready only where not all items were pushed: the lane was full at a moment of the call.
+pub record PushesAndSkips (may_send : ℕ → List Numbered → Type 0) (number : ℕ)
+    (answer : Result (Unit {0}) SkipFault) (old new : CellState) : Type 0 where
+  pub before : CellState
+  pub first : ℕ
+  pub sends : Pushes may_send (2 ^ 64 - 1) first old before
+  pub between : CellState
+  pub skips : (h : History) → CellFitsHistory before h → SkipsGap number answer h before between
+  pub on : OnOk answer (GoesOnFrom number before between)
+  pub refused : OnErr answer (between ≡ before)
+  pub full : answer ≡ Err ItemsReady → (first ≡ 2 ^ 64 - 1) ⊎ WasFull may_send before.lane
+  pub pushed : ℕ
+  pub pushes : Pushes may_send (2 ^ 64 - 1) pushed between new
+
+-- The answer to who gives up what the venue lacks below the number, by cases. Where the lock was
+-- another venue's, nothing is missing.
+abbrev pub IsSkippedBy : {S : Type 0} → Genuine S → FeedLanes → ℕ → ℕ
+    → Result (Unit {0}) GapFault → Type 0
+IsSkippedBy premise lanes venue number (Ok done) =
+    UnderVenueLock premise lanes venue
+    (PushesAndSkips (AreInSequence premise) number (Ok done))
+IsSkippedBy premise lanes venue number (Err (gaps.Venue fault)) =
+    UnderVenueLock premise lanes venue
+    (PushesAndSkips (AreInSequence premise) number (Err fault))
+    ⊎ (IsOthersLock premise lanes venue × (fault ≡ NothingMissing))
+IsSkippedBy premise lanes venue number (Err gaps.UnknownVenue) = length lanes.venues ≤ venue
 
 -- The request for the gap to send now, if any; only the pace of requests has changed.
 pub record RequestsGap (now_ms : ℕ) (request : Option Request) (old new : CellState) : Type 0 where

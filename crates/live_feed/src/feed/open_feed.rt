@@ -8,11 +8,11 @@ ghost use Rattle.live_feed.specs.hub.Sections.{Consumes, DeclaresAt};
 ghost use Rattle.live_feed.specs.hub.Batches.{ConsumesBatch};
 ghost use Rattle.live_feed.specs.hub.Offers.{LacksSubscriber, Offers};
 ghost use Rattle.live_feed.specs.hub.Turns.{TakesTurn};
-ghost use Rattle.live_feed.specs.venue.Sections.{AnswersAtVenue, IsRenewedBy, Pushes, RequestsGap};
+ghost use Rattle.live_feed.specs.venue.Sections.{AnswersAtVenue, IsRenewedBy, IsSkippedBy, Pushes, RequestsGap};
 ghost use Rattle.live_feed.specs.venue.Seats.{GivesSeat, new_seat};
 ghost use Rattle.live_feed.specs.venue.Datagrams.{AreGenuineBytes, AcceptsTheirs, IsTakenBy, bytes_of};
 
-use crate::faults::{FeedFault, RenewalFault, TakeFault};
+use crate::faults::{FeedFault, GapFault, RenewalFault, TakeFault};
 use crate::feed::log_size::LogSize;
 use crate::feed_name::FeedName;
 use crate::hub::calls::{consume_next, consume_some, offer_some};
@@ -109,8 +109,8 @@ impl<G: Genuine, N: FeedName> OpenFeed<G, N> {
             seat.old result seat.new }
 
         // Where it is known which sessions the lines bring, a packet of one of them is refused only
-        // where it isn't of the present one.
-        ensures accepts { AcceptsTheirs G.Genuine seat.old.venue (bytes_of datagram.now) result }
+        // where it isn't of the present one, or messages past its end were given up.
+        ensures accepts { AcceptsTheirs G.Genuine N.lanes seat.old.venue (bytes_of datagram.now) result }
     {
         let mut gap = false;
         self.venues.take_and_look(rt, seat, datagram, &mut gap)
@@ -165,6 +165,18 @@ impl<G: Genuine, N: FeedName> OpenFeed<G, N> {
             return Err(RenewalFault::UnknownVenue);
         };
         renew_in(&mut lock.lock(rt).cell, venue, ordinal, session)
+    }
+
+    /// Gives up the messages of the venue that are missing below `number`, and goes on from it: its
+    /// next item is `Skipped`, with the number before. What is ready is pushed before and after. The
+    /// refusals, in this order: UnknownVenue, ItemsReady (the lane is full), PastEnd,
+    /// NothingMissing, HeldBelow. Who joins a session in its middle skips to its first packet.
+    pub fn skip_to<W: Wait>(&self, rt: &W, venue: VenueId, number: u64) -> Result<(), GapFault>
+        ensures skipped { IsSkippedBy G.Genuine N.lanes venue number result }
+        ensures unknown { IsErrOf result GapFault.UnknownVenue
+            ↔ (length N.lanes.venues ≤ venue) }
+    {
+        self.venues.skip_to(rt, venue, number)
     }
 
     /// Journals the next item of the venue's lane, and returns its position; None where the lane

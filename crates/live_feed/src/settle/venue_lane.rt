@@ -1,8 +1,8 @@
 //! The closing of a venue's lane.
 
 ghost use Rattle.std.specs.Prelude.{◌≡◌, ◌≤◌, ◌<◌, ◌+◌, ◌++◌, List, drop, length, vec_len, vec_capacity};
-ghost use Rattle.line_arbiter.specs.Packets.{Arrival};
-ghost use Rattle.line_arbiter.specs.Streams.{stream_of};
+ghost use Rattle.line_arbiter.specs.Packets.{Input};
+ghost use Rattle.line_arbiter.specs.Streams.{place_of, stream_of};
 ghost use Rattle.line_arbiter.specs.Fits.{Fits};
 ghost use Rattle.live_feed.specs.hub.Hubs.{item_by, items_in};
 ghost use Rattle.live_feed.specs.settle.Settlements.{IsClosedVenue};
@@ -98,9 +98,9 @@ pub(crate) fn consumed_of(
 fn take_ready<G: Genuine>(lines: &mut Arbiter<G>, mut room: Vec<Numbered>) -> Vec<Numbered>
     requires room { (length room.items ≡ 0)
         × (lines.old.front + 1 ≤ lines.old.sent + vec_capacity room) }
-    requires fits { (packets : List Arrival) × Fits lines.old packets }
-    ensures ready { (packets : List Arrival) → Fits lines.old packets
-        → result.items ≡ drop lines.old.sent (stream_of packets) }
+    requires fits { (packets : List Input) × Fits lines.old packets }
+    ensures ready { (packets : List Input) → Fits lines.old packets
+        → result.items ≡ drop (place_of packets lines.old.sent) (stream_of packets) }
     ensures wins { lines.new.wins ≡ lines.old.wins }
 {
     while let Some(next) = lines.next_ready() {

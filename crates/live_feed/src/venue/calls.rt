@@ -1,15 +1,15 @@
 //! The calls of a feed that take only a venue's lock.
 
-ghost use Rattle.std.specs.Prelude.{◌≡◌, IfOk, IsErrOf};
+ghost use Rattle.std.specs.Prelude.{◌≡◌, ◌≤◌, ◌↔◌, IfOk, IsErrOf, length};
 ghost use Rattle.line_arbiter.specs.Histories.{History};
 ghost use Rattle.live_feed.specs.Premises.{AreInSequence, IsGenuinePacket};
 ghost use Rattle.live_feed.specs.venue.Seats.{seat_after, seat_refusing};
 ghost use Rattle.live_feed.specs.venue.Cells.{CellFitsHistory};
 ghost use Rattle.live_feed.specs.venue.PacketCounts.{line_counts_after, requests_after};
-ghost use Rattle.live_feed.specs.venue.Sections.{AcceptsTheirPacket, IsDueAt, IsFlushedBy, IsRenewedBy, KeepsButPushed, Pushes, TakesPacket};
+ghost use Rattle.live_feed.specs.venue.Sections.{AcceptsTheirPacket, IsDueAt, IsFlushedBy, IsRenewedBy, IsSkippedBy, KeepsButPushed, Pushes, TakesPacket};
 ghost use Rattle.live_feed.specs.venue.Datagrams.{AreGenuineBytes, AcceptsTheirs, IsAnsweredAt, IsTakenBy, bytes_of};
 
-use crate::faults::{RenewalFault, TakeFault};
+use crate::faults::{GapFault, RenewalFault, TakeFault};
 use crate::feed::open_feed::Guarded;
 use crate::feed_name::FeedName;
 use crate::unsent::Unsent;
@@ -19,7 +19,7 @@ use crate::venue::locks::{VenueLocks, enter};
 use crate::venue::packet_counts::count_on;
 use crate::venue::seat::LineSeat;
 use feed_types::{Genuine, VenueId};
-use line_arbiter::{LineFault, Outcome};
+use line_arbiter::{LineFault, Outcome, SkipFault};
 use mold_packet::{Packet, Request, read_packet};
 use std::sync::Wait;
 
@@ -81,7 +81,7 @@ fn take_one<G: Genuine, N: FeedName, W: Wait>(
         → TakesPacket seat.old.line packet.now result h cell.old cell.new }
     ensures kept { KeepsButPushed cell.old cell.new }
     ensures seat { seat.new ≡ seat_after seat.old packet.now result }
-    ensures accepts { AcceptsTheirPacket G.Genuine seat.old.venue packet.now result }
+    ensures accepts { AcceptsTheirPacket G.Genuine N.lanes seat.old.venue packet.now result }
 {
     if let Some(outcome) = cell.take_and_push(rt, seat, packet) {
         return Ok(outcome);
@@ -100,7 +100,7 @@ fn take_in<G: Genuine, N: FeedName, W: Wait>(
     requires { IsGenuinePacket G.Genuine seat.old.venue packet.now }
     ensures seat { seat.new ≡ seat_after seat.old packet.now result.0 }
     ensures answer { IsAnsweredAt G.Genuine N.lanes seat.old packet.now result.0 }
-    ensures accepts { AcceptsTheirPacket G.Genuine seat.old.venue packet.now result.0 }
+    ensures accepts { AcceptsTheirPacket G.Genuine N.lanes seat.old.venue packet.now result.0 }
 {
     cell.show_lock_invariant();
     if cell.venue() != seat.venue() {
@@ -122,7 +122,7 @@ fn take_and_count<G: Genuine, N: FeedName, W: Wait>(
     requires { IsGenuinePacket G.Genuine seat.old.venue packet.now }
     ensures seat { seat.new ≡ seat_after seat.old packet.now result.0 }
     ensures answer { IsAnsweredAt G.Genuine N.lanes seat.old packet.now result.0 }
-    ensures accepts { AcceptsTheirPacket G.Genuine seat.old.venue packet.now result.0 }
+    ensures accepts { AcceptsTheirPacket G.Genuine N.lanes seat.old.venue packet.now result.0 }
     ensures counted { guarded.new ≡ record guarded.old {
       cell = guarded.new.cell;
       packets = line_counts_after seat.old.line result.0 guarded.old.packets;
@@ -196,6 +196,34 @@ pub(crate) fn renew_in<G: Genuine, N: FeedName>(
     }
 }
 
+/// Gives up the messages that are missing below the number, where the cell is of this venue; what
+/// is ready is pushed before and after. Returns the answer, how many items were pushed, and whether
+/// something may be ready still.
+fn skip_in<G: Genuine, N: FeedName, W: Wait>(
+    rt: &W,
+    cell: &mut VenueCell<G, N>,
+    venue: VenueId,
+    number: u64,
+) -> (Result<(), GapFault>, (u64, bool))
+    ensures known { IsErrOf result.0 GapFault.UnknownVenue → ⊥ }
+    ensures skipped { IsSkippedBy G.Genuine N.lanes venue number result.0 }
+{
+    cell.show_lock_invariant();
+    if cell.venue() != venue {
+        return (Err(GapFault::Venue(SkipFault::NothingMissing)), (0, false));
+    }
+    let (before, _is_held_back) = push_ready(rt, cell, u64::MAX);
+    cell.show_lock_invariant();
+    let answer = cell.skip_to(number);
+    let (after, is_held_back) = push_ready(rt, cell, u64::MAX);
+    cell.show_lock_invariant();
+    let pushed = (before.saturating_add(after), is_held_back);
+    match answer {
+        Ok(()) => (Ok(()), pushed),
+        Err(fault) => (Err(GapFault::Venue(fault)), pushed),
+    }
+}
+
 impl<G: Genuine, N: FeedName> VenueLocks<G, N> {
     /// Takes a datagram as `OpenFeed::take` does, and stores in `gap` whether there is a gap then,
     /// all under the venue's lock taken once. After a datagram that is no packet it stores true.
@@ -209,7 +237,7 @@ impl<G: Genuine, N: FeedName> VenueLocks<G, N> {
         requires { AreGenuineBytes G.Genuine seat.old.venue (bytes_of datagram.now) }
         ensures taken { IsTakenBy G.Genuine N.lanes (bytes_of datagram.now)
             seat.old result seat.new }
-        ensures accepts { AcceptsTheirs G.Genuine seat.old.venue (bytes_of datagram.now) result }
+        ensures accepts { AcceptsTheirs G.Genuine N.lanes seat.old.venue (bytes_of datagram.now) result }
     {
         match read_packet(datagram.bytes()) {
             Ok(packet) => match self.take_packet(rt, seat, &packet, gap) {
@@ -251,7 +279,7 @@ impl<G: Genuine, N: FeedName> VenueLocks<G, N> {
         requires { IsGenuinePacket G.Genuine seat.old.venue packet.now }
         ensures seat { seat.new ≡ seat_after seat.old packet.now result }
         ensures answer { IsAnsweredAt G.Genuine N.lanes seat.old packet.now result }
-        ensures accepts { AcceptsTheirPacket G.Genuine seat.old.venue packet.now result }
+        ensures accepts { AcceptsTheirPacket G.Genuine N.lanes seat.old.venue packet.now result }
     {
         let Some(lock) = self.get(seat.venue()) else {
             return Err(LineFault::OtherSession);
@@ -284,6 +312,30 @@ impl<G: Genuine, N: FeedName> VenueLocks<G, N> {
             self.bells().ring_work();
         }
         pushed
+    }
+
+    /// Gives up what the venue lacks below the number, as `OpenFeed::skip_to` does.
+    pub(crate) fn skip_to<W: Wait>(
+        &self,
+        rt: &W,
+        venue: VenueId,
+        number: u64,
+    ) -> Result<(), GapFault>
+        ensures skipped { IsSkippedBy G.Genuine N.lanes venue number result }
+        ensures unknown { IsErrOf result GapFault.UnknownVenue
+            ↔ (length N.lanes.venues ≤ venue) }
+    {
+        let Some(lock) = self.get(venue) else {
+            return Err(GapFault::UnknownVenue);
+        };
+        let mut guarded = enter(rt, lock);
+        let (answer, (pushed, is_held_back)) = skip_in(rt, &mut guarded.cell, venue, number);
+        self.set_held_back(venue, is_held_back);
+        drop(guarded);
+        if pushed > 0 {
+            self.bells().ring_work();
+        }
+        answer
     }
 
     /// The request for the venue's gap to send now, if any, which is counted; None where there is

@@ -11,7 +11,7 @@ ghost use Rattle.feed_types.specs.PerLines.{on_line};
 ghost use Rattle.live_feed.specs.Premises.{AreInSequence, IsGenuinePacket};
 ghost use Rattle.live_feed.specs.venue.Seats.{seat_after};
 ghost use Rattle.live_feed.specs.venue.Cells.{CellFitsHistory, VenueLockInvariant, new_cell};
-ghost use Rattle.live_feed.specs.venue.Sections.{TakesPacket, AcceptsTheirPacket, KeepsButPackets, TakesAndPushes, KeepsButPushed, IsLeft, PushesOne, KeepsButSent, RenewsSession, BeginsNext, RequestsGap};
+ghost use Rattle.live_feed.specs.venue.Sections.{TakesPacket, AcceptsTheirPacket, KeepsButPackets, TakesAndPushes, KeepsButPushed, IsLeft, PushesOne, KeepsButSent, RenewsSession, BeginsNext, SkipsGap, GoesOnFrom, RequestsGap};
 
 use crate::feed_name::FeedName;
 use crate::unsent::Unsent;
@@ -19,7 +19,7 @@ use crate::venue::seat::LineSeat;
 use crate::venue::sums::{PacketSums, add_on};
 use feed_types::{Genuine, LineId, Numbered, PerLine, VenueId};
 use fifo_lane::{Sender, VenueItems};
-use line_arbiter::{Arbiter, InOrder, LineFault, Outcome, Pacer, RenewFault};
+use line_arbiter::{Arbiter, LineFault, Outcome, Pacer, RenewFault, SkipFault};
 use mold_packet::{Packet, Request};
 use quote_payload::read_item;
 use std::marker::{Model, PhantomData};
@@ -197,8 +197,8 @@ impl<G: Genuine, N: FeedName> VenueCell<G, N> {
         ensures seat { seat.new ≡ seat_after seat.old packet.now result }
 
         // Where it is known which sessions the lines bring, a packet of one of them is refused only
-        // where it isn't of the present one.
-        ensures accepts { AcceptsTheirPacket G.Genuine seat.old.venue packet.now result }
+        // where it isn't of the present one, or messages past its end were given up.
+        ensures accepts { AcceptsTheirPacket G.Genuine N.lanes seat.old.venue packet.now result }
         ensures refused { OnErr result (self.new ≡ self.old) }
     {
         // for the prover: the packet's ranges
@@ -233,16 +233,15 @@ impl<G: Genuine, N: FeedName> VenueCell<G, N> {
         ensures left { IfNone result (IsLeft (AreInSequence G.Genuine) packet.now self.old) }
         ensures none { IfNone result ((self.new ≡ self.old) × (seat.new ≡ seat.old)) }
     {
-        let order = self.lines.peek_in_order(packet)?;
-        let InOrder::Next { .. } = order else {
+        if !self.lines.is_next(packet) {
             return None;
-        };
+        }
         let next = only_item(packet)?;
         let Ok(()) = self.items.push(rt, next) else {
             return None;
         };
         let line = seat.line();
-        let outcome = self.lines.take_in_order(line, order, packet);
+        let outcome = self.lines.take_next(line, packet);
         add_on(&mut self.sums, line, packet, outcome);
         seat.count(packet, outcome);
         Some(outcome)
@@ -284,6 +283,23 @@ impl<G: Genuine, N: FeedName> VenueCell<G, N> {
             Ok(ordinal) => {
                 self.pacer = Pacer::new(REQUEST_INTERVAL_MS);
                 Ok(ordinal)
+            }
+            Err(fault) => Err(fault),
+        }
+    }
+
+    /// Gives up the messages that are missing below `number`, as [`Arbiter::skip_to`] does. The last
+    /// request for a gap is forgotten. A refused call changes nothing.
+    pub fn skip_to(&mut self, number: u64) -> Result<(), SkipFault>
+        ensures skip { (h : History) → CellFitsHistory self.old h
+            → SkipsGap number result h self.old self.new }
+        ensures on { OnOk result (GoesOnFrom number self.old self.new) }
+        ensures refused { OnErr result (self.new ≡ self.old) }
+    {
+        match self.lines.skip_to(number) {
+            Ok(()) => {
+                self.pacer = Pacer::new(REQUEST_INTERVAL_MS);
+                Ok(())
             }
             Err(fault) => Err(fault),
         }

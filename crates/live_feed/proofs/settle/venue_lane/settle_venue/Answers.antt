@@ -1,8 +1,8 @@
 use Rattle.std.proofs.Common.{ℕ, List, drop, ◌∙◌, sym, subst, ap}
 use Rattle.std.specs.Prelude.{slice_get}
 use Rattle.feed_types.specs.declared.item.Numbered.{Numbered}
-use Rattle.line_arbiter.specs.Packets.{Arrival}
-use Rattle.line_arbiter.specs.Streams.{stream_of}
+use Rattle.line_arbiter.specs.Packets.{Input}
+use Rattle.line_arbiter.specs.Streams.{place_of, stream_of}
 use Rattle.line_arbiter.specs.Fits.{Fits}
 use Rattle.line_arbiter.specs.States.{State}
 use Rattle.fifo_lane.specs.Lane.{Keeps, LaneEnd}
@@ -19,7 +19,7 @@ pub take_ready-ready-requires-clause-fits : goal.take_ready-ready-requires-claus
 take_ready-ready-requires-clause-fits g c =
     let parts = c.into_parts-lines.ensures.parts in
     let k = c.into_parts-lines.ensures.kept in
-    subst (λ (a : State). (packets : List Arrival) × Fits a packets) (sym parts.0)
+    subst (λ (a : State). (packets : List Input) × Fits a packets) (sym parts.0)
     (k.history.present.packets, k.fits.history.present)
 
 pub settle-inside-requires : goal.settle-inside-requires
@@ -50,7 +50,7 @@ returns g c =
     let wins = c.all_wins-wins.ensures.value ∙ c.take_ready-ready.ensures.wins ∙ (λ i. (parts.0 i).wins) in
     let whole = settled g.G.Genuine g.N.FeedName.lanes may cell k received inside c.take_ready-ready.result.items
     c.all_wins-wins.result keeps
-    (ready ∙ (λ i. drop (parts.0 i).sent (stream_of packets))) wins in
+    (ready ∙ (λ i. drop (place_of packets (parts.0 i).sent) (stream_of packets))) wins in
     subst (λ (v : VenueEndState). IsClosedVenue g.G.Genuine g.N.FeedName.lanes entries cell v)
     (sym c.new.ensures) (record {
       kept = k;

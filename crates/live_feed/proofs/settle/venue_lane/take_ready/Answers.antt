@@ -1,4 +1,6 @@
-use Rattle.std.proofs.Common.{sym, ◌∙◌, arith}
+use Rattle.std.proofs.Common.{ap, sym, ◌∙◌, arith}
+use Rattle.line_arbiter.specs.Streams.{place_of}
+use Rattle.line_arbiter.specs.laws.Placing.{place_next}
 use Rattle.live_feed.proofs.ClosedLanes.{fewer, ready_more, ready_all}
 use Rattle.live_feed.proofs.settle.venue_lane.take_ready.Goals as goal
 
@@ -7,7 +9,7 @@ push_reserved-requires g c =
     let p = c.requires.fits.0 in
     let f = c.requires.fits.1 in
     let i = c.loop-next.invariant in
-    let more = fewer c.args.lines.now p c.loop-next.lines.sent c.in-Some.next f
+    let more = fewer c.args.lines.now c.loop-next.lines p c.in-Some.next f (i.fits p f)
     (c.in-Some.ensures.stream p (i.fits p f)) in
     let count = i.count in
     let room = c.requires.room in
@@ -20,15 +22,18 @@ loop-next-preserved g c =
     let after = c.advance.ensures.after in
     record {
       fits = λ packets f. c.advance.ensures.fits packets (i.fits packets f);
-      items = λ packets f. ready_more c.loop-next.lines.sent c.advance.new.self.sent packets c.loop-next.room.items
-          c.push_reserved.new.self.items _ c.in-Some.next (c.in-Some.ensures.stream packets (i.fits packets f))
-          after.sent c.push_reserved.ensures.items (i.items packets f);
+      items = λ packets f. ready_more (place_of packets c.loop-next.lines.sent)
+          (place_of packets c.advance.new.self.sent) packets c.loop-next.room.items c.push_reserved.new.self.items _
+          c.in-Some.next (c.in-Some.ensures.stream packets (i.fits packets f))
+          (ap (place_of packets) after.sent ∙ place_next (i.fits packets f)) c.push_reserved.ensures.items
+          (i.items packets f);
       count = (let len = c.push_reserved.ensures.len in let further = after.sent in let count = i.count in omega arith);
       wins = after.kept.wins ∙ i.wins;
       room = c.push_reserved.ensures.capacity ∙ i.room;
     }
 
 pub returns-clause-ready : goal.returns-clause-ready
-returns-clause-ready g c = λ packets f. ready_all c.loop-next.lines.sent packets c.loop-next.room.items _
+returns-clause-ready g c = λ packets f. ready_all (place_of packets c.loop-next.lines.sent) packets
+    c.loop-next.room.items _
     (sym c.in_default.is ∙ c.next_ready.ensures.stream packets (c.loop-next.invariant.fits packets f))
     (c.loop-next.invariant.items packets f)

@@ -1,14 +1,15 @@
 use Rattle.std.proofs.Common.{◌≡◌, ◌+◌, ◌-◌, ◌^◌, ◌++◌, List, drop, vec_len, vec_capacity}
-use Rattle.line_arbiter.specs.Packets.{Arrival}
-use Rattle.line_arbiter.specs.Streams.{stream_of}
+use Rattle.line_arbiter.specs.Packets.{Input}
+use Rattle.line_arbiter.specs.Streams.{place_of, stream_of}
 use Rattle.line_arbiter.specs.Fits.{Fits}
 use Rattle.live_feed.proofs.settle.venue_lane.take_ready.Given as goal
 
 abbrev pub invariant-loop-next : goal.invariant-loop-next
 invariant-loop-next g l = record {
-  fits : (packets : List Arrival) → Fits l.fn.lines packets → Fits l.lines packets;
-  items : (packets : List Arrival) → Fits l.fn.lines packets
-      → l.room.items ++ drop l.lines.sent (stream_of packets) ≡ drop l.fn.lines.sent (stream_of packets);
+  fits : (packets : List Input) → Fits l.fn.lines packets → Fits l.lines packets;
+  items : (packets : List Input) → Fits l.fn.lines packets
+      → l.room.items ++ drop (place_of packets l.lines.sent) (stream_of packets)
+      ≡ drop (place_of packets l.fn.lines.sent) (stream_of packets);
   count : vec_len l.room + l.fn.lines.sent ≡ l.lines.sent;
   wins : l.lines.wins ≡ l.fn.lines.wins;
   room : vec_capacity l.room ≡ vec_capacity l.fn.room;

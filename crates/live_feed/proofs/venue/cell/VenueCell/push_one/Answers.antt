@@ -1,5 +1,6 @@
 use Rattle.std.proofs.Common.{ℕ, ◌++◌, ◌∷◌, [], List, Ok, Err, refl, sym, subst, ◌∙◌}
 use Rattle.feed_types.specs.declared.item.Numbered.{Numbered}
+use Rattle.line_arbiter.specs.Streams.{place_of}
 use Rattle.fifo_lane.specs.Lane.{LaneEnd}
 use Rattle.live_feed.specs.Premises.{AreInSequence}
 use Rattle.live_feed.specs.venue.Cells.{CellState, CellFitsHistory}
@@ -19,7 +20,8 @@ pub push-requires : goal.push-requires
 push-requires g c =
     let k = c.self.invariant in
     subst (λ (t : ℕ). AreInSequence g.G.Genuine t (c.self.inside.items.items ++ c.in-Some.ready ∷ [])) (sym k.tag)
-    (may_push c.self.inside.items.items c.self.inside.lines.sent k.history k.fits.sent g.G.Genuine
+    (may_push c.self.inside.items.items (place_of k.history.present.packets c.self.inside.lines.sent) k.history
+    k.fits.sent g.G.Genuine
     c.self.inside.lines.venue c.self.inside.lines.window c.in-Some.ready k.given
     (c.in-Some.ensures.stream k.history.present.packets k.fits.history.present))
 

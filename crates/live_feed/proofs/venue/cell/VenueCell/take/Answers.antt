@@ -1,9 +1,9 @@
 use Rattle.std.proofs.Common.{ℕ, Ok, Err, refl, sym, ap, subst, ◌∙◌}
 use Rattle.feed_types.specs.declared.line.LineId.{LineId}
-use Rattle.live_feed.specs.Premises.{BringExactly, IsGenuinePacket}
+use Rattle.live_feed.specs.Premises.{IsGenuinePacket}
 use Rattle.live_feed.specs.venue.Sums.{line_sums_after}
 use Rattle.live_feed.specs.venue.Cells.{CellState, CellFitsHistory}
-use Rattle.live_feed.specs.venue.Sections.{TakesPacket}
+use Rattle.live_feed.specs.venue.Sections.{AcceptsTheirPacket, TakesPacket}
 use Rattle.live_feed.proofs.CellAnswers.{accepts}
 use Rattle.live_feed.proofs.CellMoves.{no_more, packet_fits, packet_kept, takes}
 use Rattle.live_feed.proofs.venue.cell.VenueCell.take.Goals as goal
@@ -59,17 +59,19 @@ returns-in-Err-clause-packet g c = λ h fits.
     (e.outcome packets f.history.present))
 
 pub returns-in-Ok-clause-accepts : goal.returns-in-Ok-clause-accepts
-returns-in-Ok-clause-accepts g c = λ all ordinal session names.
+returns-in-Ok-clause-accepts g c =
     let k = c.self.invariant in
     let venue = c.requires.venue ∙ ap (λ (v : CellState). v.arbiter.venue) (sym c.self.view_is) in
-    accepts g.G.Genuine g.N.FeedName.lanes _ k c.args.packet.now (Ok c.in-Ok.outcome) c.number-number.ensures.content
-    (c.in-Ok.ensures.outcome k.history.present.packets k.fits.history.present)
-    all ordinal session (subst (λ (n : ℕ). BringExactly g.G.Genuine n all) venue names)
+    subst (λ (n : ℕ). AcceptsTheirPacket g.G.Genuine g.N.FeedName.lanes n c.args.packet.now (Ok c.in-Ok.outcome))
+    (sym venue)
+    (accepts g.G.Genuine g.N.FeedName.lanes _ k c.args.packet.now (Ok c.in-Ok.outcome) c.number-number.ensures.content
+    (c.in-Ok.ensures.outcome k.history.present.packets k.fits.history.present))
 
 pub returns-in-Err-clause-accepts : goal.returns-in-Err-clause-accepts
-returns-in-Err-clause-accepts g c = λ all ordinal session names.
+returns-in-Err-clause-accepts g c =
     let k = c.self.invariant in
     let venue = c.requires.venue ∙ ap (λ (v : CellState). v.arbiter.venue) (sym c.self.view_is) in
-    accepts g.G.Genuine g.N.FeedName.lanes _ k c.args.packet.now (Err c.in-Err.fault) c.number-number.ensures.content
-    (c.in-Err.ensures.outcome k.history.present.packets k.fits.history.present)
-    all ordinal session (subst (λ (n : ℕ). BringExactly g.G.Genuine n all) venue names)
+    subst (λ (n : ℕ). AcceptsTheirPacket g.G.Genuine g.N.FeedName.lanes n c.args.packet.now (Err c.in-Err.fault))
+    (sym venue)
+    (accepts g.G.Genuine g.N.FeedName.lanes _ k c.args.packet.now (Err c.in-Err.fault) c.number-number.ensures.content
+    (c.in-Err.ensures.outcome k.history.present.packets k.fits.history.present))
