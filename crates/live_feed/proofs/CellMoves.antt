@@ -29,7 +29,7 @@ use Rattle.line_arbiter.specs.Fits.{Fits}
 use Rattle.fifo_lane.specs.Lane.{LaneEnd, with_items, WasFull}
 use Rattle.line_arbiter.specs.laws.Histories.{items_push}
 use Rattle.line_arbiter.specs.laws.FitsHistory.{fits_new, fits_packet, fits_push, fits_renewal, keeping_all_but_sent_is_reflexive, keeping_all_but_sent_is_transitive, ordinal_is, outcome_in, renewal_in}
-use Rattle.line_arbiter.specs.laws.Placing.{place_all, place_next, place_same, place_skip, place_within}
+use Rattle.line_arbiter.specs.laws.Placing.{place_next, place_same, place_skip, place_within}
 use Rattle.feed_types.specs.declared.genuine.Genuine.{Ghosts as Genuine}
 use Rattle.live_feed.specs.Premises.{AreInSequence, IsGenuinePacket}
 use Rattle.live_feed.specs.Lanes.{FeedLanes}
@@ -40,6 +40,7 @@ use Rattle.live_feed.specs.venue.Cells.{CellState, CellFitsHistory, AreGivenFrom
 use Rattle.live_feed.specs.venue.Sections.{TakesPacket, HasNoneReady, KeepsButSent, Pushes, TakesAndPushes, PushesOne, RenewsSession, SkipsGap, GoesOnFrom, PushesAndSkips}
 use Rattle.feed_core.specs.declared.event.Done.TheVariants as done
 use Rattle.feed_core.specs.Steps.{AppliesTo, push_next}
+use Rattle.feed_core.specs.laws.Counts.{place_all}
 use Rattle.line_arbiter.specs.Renewals.{IsRenewal}
 use Rattle.live_feed.specs.declared.unsent.Unsent.{Unsent}
 use Rattle.live_feed.specs.declared.unsent.Unsent.TheVariants as unsent

@@ -12,6 +12,7 @@ pub mod Sides
 pub mod Settled
 pub mod OfSessions
 pub mod SessionParts
+pub mod WithoutSkips
 pub mod Batches
 pub mod LaneEnds
 pub mod Offers

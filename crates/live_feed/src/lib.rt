@@ -46,8 +46,9 @@ pub use hub::journal_and_lanes::JournalAndLanes;
 pub use hub::spare::SpareLane;
 pub use hub::turn::Consolidated;
 pub use laws::{
-    journaled_items_are_the_sessions, sent_items_are_the_sessions,
-    sent_items_are_the_sessions_parts, settled_items_are_the_sessions,
+    journaled_items_are_the_sessions, packets_of_the_sessions_are_accepted,
+    sent_items_are_the_sessions, sent_items_are_the_sessions_parts, sent_items_skip_nothing,
+    settled_items_are_the_sessions,
 };
 pub use run::line::{Line, LineEnd};
 pub use run::report::{RunReport, Stop};

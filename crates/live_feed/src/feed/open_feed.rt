@@ -110,7 +110,8 @@ impl<G: Genuine, N: FeedName> OpenFeed<G, N> {
 
         // Where it is known which sessions the lines bring, a packet of one of them is refused only
         // where it isn't of the present one, or messages past its end were given up.
-        ensures accepts { AcceptsTheirs G.Genuine N.lanes seat.old.venue (bytes_of datagram.now) result }
+        ensures accepts { AcceptsTheirs G.Genuine N.lanes seat.old.venue (bytes_of datagram.now)
+            result }
     {
         let mut gap = false;
         self.venues.take_and_look(rt, seat, datagram, &mut gap)
@@ -168,8 +169,8 @@ impl<G: Genuine, N: FeedName> OpenFeed<G, N> {
     }
 
     /// Gives up the messages of the venue that are missing below `number`, and goes on from it: its
-    /// next item is `Skipped`, with the number before. What is ready is pushed before and after. The
-    /// refusals, in this order: UnknownVenue, ItemsReady (the lane is full), PastEnd,
+    /// next item is `Skipped`, with the number before. What is ready is pushed before and after.
+    /// The refusals, in this order: UnknownVenue, ItemsReady (the lane is full), PastEnd,
     /// NothingMissing, HeldBelow. Who joins a session in its middle skips to its first packet.
     pub fn skip_to<W: Wait>(&self, rt: &W, venue: VenueId, number: u64) -> Result<(), GapFault>
         ensures skipped { IsSkippedBy G.Genuine N.lanes venue number result }

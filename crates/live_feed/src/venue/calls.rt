@@ -237,7 +237,8 @@ impl<G: Genuine, N: FeedName> VenueLocks<G, N> {
         requires { AreGenuineBytes G.Genuine seat.old.venue (bytes_of datagram.now) }
         ensures taken { IsTakenBy G.Genuine N.lanes (bytes_of datagram.now)
             seat.old result seat.new }
-        ensures accepts { AcceptsTheirs G.Genuine N.lanes seat.old.venue (bytes_of datagram.now) result }
+        ensures accepts { AcceptsTheirs G.Genuine N.lanes seat.old.venue (bytes_of datagram.now)
+            result }
     {
         match read_packet(datagram.bytes()) {
             Ok(packet) => match self.take_packet(rt, seat, &packet, gap) {

@@ -288,8 +288,8 @@ impl<G: Genuine, N: FeedName> VenueCell<G, N> {
         }
     }
 
-    /// Gives up the messages that are missing below `number`, as [`Arbiter::skip_to`] does. The last
-    /// request for a gap is forgotten. A refused call changes nothing.
+    /// Gives up the messages that are missing below `number`, as [`Arbiter::skip_to`] does. The
+    /// last request for a gap is forgotten. A refused call changes nothing.
     pub fn skip_to(&mut self, number: u64) -> Result<(), SkipFault>
         ensures skip { (h : History) → CellFitsHistory self.old h
             → SkipsGap number result h self.old self.new }
