@@ -7,12 +7,12 @@ use Rattle.std.proofs.lemmas.List.Elements.{recursion_from_All}
 use Rattle.std.proofs.Math.ListN.{length-set}
 use Rattle.mold_packet.specs.laws.EveryReading.{read_or_fault}
 use Rattle.line_arbiter.specs.Packets.{arrival_of, end_of}
-use Rattle.line_arbiter.specs.Histories.{History, new_history, names_of, after_arrival, history_after}
+use Rattle.line_arbiter.specs.Histories.{History, new_history, names_of, after_input, history_after}
 use Rattle.line_arbiter.specs.laws.EveryAnswer.{every_answer, every_renewal}
 use Rattle.feed_text.specs.declared.replay.ReplayConfig.{ReplayConfig}
 use Rattle.feed_text.specs.Capture.{CaptureRecord, datagram_record, renewal_record, self_help_record, record_venue, IsRecord, HoldsBytes}
 use Rattle.feed_text.specs.ReplayEvents.{ReplayEvent, packet_answered, packet_refused, renewal_answered, self_help_declared}
-use Rattle.feed_text.specs.Emitted.{stream_length, gap_emitted, items_emitted, EmitsAt, EmitsRecord, Emits}
+use Rattle.feed_text.specs.Emitted.{last_sent, gap_emitted, items_emitted, EmitsAt, EmitsRecord, Emits}
 use Rattle.feed_text.specs.Texts.{EmitsAll}
 use Rattle.feed_text.specs.Replays.{venues_in}
 use Rattle.feed_types.specs.ListLaws.{get_within}
@@ -22,15 +22,15 @@ tells_at : (window : ℕ) (gaps : Bool) (r : CaptureRecord) (old : History) → 
 tells_at window gaps (datagram_record venue line bytes) old are = elim (read_or_fault bytes are) [
   | inr fault ↦ (packet_refused venue line fault.0 ∷ gap_emitted window gaps venue old, old, inl (record { fault = fault.0; has = fault.1; same = refl; emitted_is = refl }))
   | inl read ↦
-      let given = every_answer old.present.name window (stream_length old) old.present.packets read.0 in
-      let new : History = after_arrival old (arrival_of line read.0 given.0) in (
+      let given = every_answer old.present.name window (last_sent old) old.present.packets read.0 in
+      let new : History = after_input old (arrival_of line read.0 given.0) in (
         packet_answered venue line given.0 ∷ items_emitted venue old new.present.packets ++ gap_emitted window gaps venue new,
         new,
         inr (record { packet = read.0; rest = read.1; answer = given.0; spells = read.2; outcome = given.1; grown = refl; emitted_is = refl }),
       )
 ]
 tells_at window gaps (renewal_record venue name) old are =
-    let given = every_renewal (names_of old) (end_of old.present.packets) (stream_length old) name in
+    let given = every_renewal (names_of old) (end_of old.present.packets) (last_sent old) name in
     (renewal_answered venue given.0 ∷ [], history_after old name given.0, record { answer = given.0; is = given.1; after = refl; emitted_is = refl })
 tells_at window gaps (self_help_record venue on) old are = (self_help_declared venue on ∷ [], old, record { same = refl; emitted_is = refl })
 

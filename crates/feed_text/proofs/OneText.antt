@@ -8,18 +8,18 @@ use Rattle.mold_packet.specs.Faults.{HasFault}
 use Rattle.line_arbiter.specs.declared.outcome.Outcome.{Outcome}
 use Rattle.line_arbiter.specs.declared.outcome.LineFault.{LineFault}
 use Rattle.line_arbiter.specs.declared.faults.RenewFault.{RenewFault}
-use Rattle.line_arbiter.specs.Packets.{Arrival, arrival_of}
+use Rattle.line_arbiter.specs.Packets.{Input, arrival_of}
 use Rattle.line_arbiter.specs.Outcomes.{IsOutcome}
 use Rattle.line_arbiter.specs.laws.OneOutcome.{one_renewal}
 use Rattle.feed_types.specs.declared.journal.Entry.{Entry}
 use Rattle.feed_types.specs.declared.journal.Entry.TheVariants.{Consumed, SelfHelp}
 use Rattle.feed_text.specs.laws.Entries.{entries_more, entries_grow}
 use Rattle.feed_text.proofs.Steps.{tells_one}
-use Rattle.line_arbiter.specs.Histories.{History, names_of, after_arrival, history_after}
+use Rattle.line_arbiter.specs.Histories.{History, names_of, after_input, history_after}
 use Rattle.feed_text.specs.declared.replay.ReplayConfig.{ReplayConfig}
 use Rattle.feed_text.specs.Capture.{CaptureRecord, datagram_record, renewal_record, self_help_record, record_venue}
 use Rattle.feed_text.specs.ReplayEvents.{ReplayEvent, packet_answered, packet_refused, item_taken, gap_left, renewal_answered, self_help_declared, entries_after, entries_of}
-use Rattle.feed_text.specs.Emitted.{stream_length, gap_emitted, items_emitted, EmitsFault, EmitsPacket, EmitsAt, EmitsRecord, Emits}
+use Rattle.feed_text.specs.Emitted.{last_sent, gap_emitted, items_emitted, EmitsFault, EmitsPacket, EmitsAt, EmitsRecord, Emits}
 use Rattle.feed_text.specs.Texts.{last_lines, new_histories, EmitsAll, lines_emitted, HasJournalRoom, IsTextOf, IsLinesOf, IsLinesToFull}
 
 -- the laws of packets and of their answers
@@ -27,7 +27,7 @@ pub record Single : Type 0 where
   pub packet : (bytes : List ℕ) (p q : Content) (rest more : List ℕ) → Spells bytes p rest → Spells bytes q more → p ≡ q
   pub no_fault : (bytes : List ℕ) (p : Content) (rest : List ℕ) (fault : PacketFault) → Spells bytes p rest → HasFault bytes fault → ⊥
   pub fault : (bytes : List ℕ) (f g : PacketFault) → HasFault bytes f → HasFault bytes g → f ≡ g
-  pub outcome : (session : List ℕ) (window sent : ℕ) (P : List Arrival) (p : Content) (a b : Result Outcome LineFault) → IsOutcome session window sent P p a → IsOutcome session window sent P p b → a ≡ b
+  pub outcome : (session : List ℕ) (window sent : ℕ) (P : List Input) (p : Content) (a b : Result Outcome LineFault) → IsOutcome session window sent P p a → IsOutcome session window sent P p b → a ≡ b
 
 one_fault : (window : ℕ) (gaps : Bool) (venue : ℕ) (line : LineId) (bytes : List ℕ) (old n1 n2 : History) (l1 l2 : List ReplayEvent) → Single → EmitsFault window gaps venue line bytes old l1 n1 → EmitsFault window gaps venue line bytes old l2 n2 → (l1 ≡ l2) × (n1 ≡ n2)
 one_fault window gaps venue line bytes old n1 n2 l1 l2 one a b =
@@ -38,11 +38,11 @@ one_fault window gaps venue line bytes old n1 n2 l1 l2 one a b =
 
 one_packet : (window : ℕ) (gaps : Bool) (venue : ℕ) (line : LineId) (bytes : List ℕ) (old n1 n2 : History) (l1 l2 : List ReplayEvent) → Single → EmitsPacket window gaps venue line bytes old l1 n1 → EmitsPacket window gaps venue line bytes old l2 n2 → (l1 ≡ l2) × (n1 ≡ n2)
 one_packet window gaps venue line bytes old n1 n2 l1 l2 one a b =
-    let G : Content → Result Outcome LineFault → History = λ p x. after_arrival old (arrival_of line p x) in
+    let G : Content → Result Outcome LineFault → History = λ p x. after_input old (arrival_of line p x) in
     let F : Result Outcome LineFault → History → List ReplayEvent = λ x h. packet_answered venue line x ∷ items_emitted venue old h.present.packets ++ gap_emitted window gaps venue h in
     let p : a.packet ≡ b.packet = one.packet bytes a.packet b.packet a.rest b.rest a.spells b.spells in
-    let first : IsOutcome old.present.name window (stream_length old) old.present.packets b.packet a.answer = subst (λ (q : Content). IsOutcome old.present.name window (stream_length old) old.present.packets q a.answer) p a.outcome in
-    let x : a.answer ≡ b.answer = one.outcome old.present.name window (stream_length old) old.present.packets b.packet a.answer b.answer first b.outcome in
+    let first : IsOutcome old.present.name window (last_sent old) old.present.packets b.packet a.answer = subst (λ (q : Content). IsOutcome old.present.name window (last_sent old) old.present.packets q a.answer) p a.outcome in
+    let x : a.answer ≡ b.answer = one.outcome old.present.name window (last_sent old) old.present.packets b.packet a.answer b.answer first b.outcome in
     let n : n1 ≡ n2 = a.grown ∙ ap (λ (q : Content). G q a.answer) p ∙ ap (λ (y : Result Outcome LineFault). G b.packet y) x ∙ sym b.grown in
     (a.emitted_is ∙ ap (λ (y : Result Outcome LineFault). F y n1) x ∙ ap (λ (h : History). F b.answer h) n ∙ sym b.emitted_is, n)
 
@@ -52,7 +52,7 @@ one_at window gaps (datagram_record venue line bytes) old n1 n2 l1 l2 one (inl a
 one_at window gaps (datagram_record venue line bytes) old n1 n2 l1 l2 one (inr a) (inl b) = absurd (one.no_fault bytes a.packet a.rest b.fault a.spells b.has)
 one_at window gaps (datagram_record venue line bytes) old n1 n2 l1 l2 one (inr a) (inr b) = one_packet window gaps venue line bytes old n1 n2 l1 l2 one a b
 one_at window gaps (renewal_record venue name) old n1 n2 l1 l2 one a b =
-    let x = one_renewal (names_of old) _ (stream_length old) name a.answer b.answer a.is b.is in
+    let x = one_renewal (names_of old) _ (last_sent old) name a.answer b.answer a.is b.is in
     (a.emitted_is ∙ ap (λ (y : Result ℕ RenewFault). renewal_answered venue y ∷ []) x ∙ sym b.emitted_is, a.after ∙ ap (history_after old name) x ∙ sym b.after)
 one_at window gaps (self_help_record venue on) old n1 n2 l1 l2 one a b = (a.emitted_is ∙ sym b.emitted_is, a.same ∙ sym b.same)
 

@@ -5,18 +5,17 @@ use Rattle.std.proofs.lemmas.List.{map-append}
 use Rattle.feed_types.specs.declared.item.Numbered.{Numbered}
 use Rattle.feed_types.specs.declared.line.LineId.{LineId}
 use Rattle.feed_types.specs.Sessions.{numbered_from}
-use Rattle.mold_packet.specs.Content.{Content}
+use Rattle.mold_packet.specs.Content.{Content, last_number}
 use Rattle.quote_payload.specs.Payload.{item_of}
 use Rattle.line_arbiter.specs.declared.outcome.Outcome.{Outcome}
-use Rattle.line_arbiter.specs.Packets.{Arrival, arrival_of}
-use Rattle.line_arbiter.specs.Streams.{stream_of}
+use Rattle.line_arbiter.specs.Packets.{Input, arrival_of}
+use Rattle.line_arbiter.specs.Streams.{place_of, stream_of}
 use Rattle.line_arbiter.specs.Histories.{History}
 use Rattle.line_arbiter.specs.Outcomes.{IsOutcome}
-use Rattle.line_arbiter.specs.States.{State, KeepsItsPlace, KeepsItsSession}
-use Rattle.line_arbiter.specs.declared.in_order.InOrder.{InOrder}
-use Rattle.line_arbiter.specs.declared.in_order.InOrder.TheVariants.{Next, Repeat}
-use Rattle.line_arbiter.specs.InOrder.{SendsInOrder, SendsPacket, sent_in_order}
+use Rattle.line_arbiter.specs.States.{State, KeepsItsSession}
+use Rattle.line_arbiter.specs.InOrder.{BringsNext, SendsPacket, outcome_of_next}
 use Rattle.line_arbiter.specs.Fits.{Fits}
+use Rattle.line_arbiter.specs.laws.Placing.{place_same}
 use Rattle.feed_text.specs.declared.report.PublishStop.{PublishStop}
 use Rattle.feed_text.specs.ReplayEvents.{ReplayEvent, packet_answered, item_taken}
 use Rattle.feed_text.specs.ReplayStates.{ReplayState, GoesOn, EmitsInto}
@@ -61,32 +60,29 @@ passed_part venue from to items stream line o t0 t1 t2 stop sends head first =
     (tells_more t2 (P ∷ []) (map (item_taken venue) items ++ map (item_taken venue) (drop to stream)) (Err stop) head
     (tells_stop t1 t2 (map (item_taken venue) items) (map (item_taken venue) (drop to stream)) stop first))
 
--- what a next packet sends, up to where the arbiter is then
-pub sends_next : (order : InOrder) (last from to : ℕ) (p : Content) (Q : List Arrival) → order ≡ Next last → to ≡ sent_in_order order from → SendsInOrder order from p Q → SendsPacket from to p Q
-sends_next order last from to p Q is at sends =
-    subst (λ (n : ℕ). SendsPacket from n p Q) (sym (at ∙ ap (λ (o : InOrder). sent_in_order o from) is))
-    (subst (λ (o : InOrder). SendsInOrder o from p Q) is sends)
-
--- what a repeat leaves
-pub stays_repeated : (order : InOrder) (last : ℕ) (old new : State) → order ≡ Repeat last → new.sent ≡ sent_in_order order old.sent → KeepsItsSession old new → KeepsItsPlace old new
-stays_repeated order last old new is sent kept = record {
-  session = kept;
-  sent = sent ∙ ap (λ (o : InOrder). sent_in_order o old.sent) is;
-}
-
 -- a next packet was taken, and then everything that is ready was emitted
 pub passed_told : (width place : ℕ) (h : History) (v : ReplayVenue) (mid new : State) (line : LineId) (p : Content) (o : Outcome) (t0 t1 : ReplayState) (done : Result (Unit {0}) PublishStop)
     → Follows width place v h
-    → ((packets : List Arrival) → Fits v.arbiter packets → IsOutcome v.arbiter.session v.arbiter.window v.arbiter.sent packets p (Ok o))
-    → ((packets : List Arrival) → Fits v.arbiter packets → Fits mid (packets ++ arrival_of line p (Ok o) ∷ []))
-    → ((packets : List Arrival) → Fits v.arbiter packets → SendsPacket v.arbiter.sent mid.sent p (packets ++ arrival_of line p (Ok o) ∷ []))
+    → ((packets : List Input) → Fits v.arbiter packets → BringsNext v.arbiter.session v.arbiter.window v.arbiter.sent packets line p)
+    → o ≡ outcome_of_next p
+    → ((packets : List Input) → Fits v.arbiter packets → Fits mid (packets ++ arrival_of line p (Ok o) ∷ []))
+    → mid.sent ≡ last_number p
     → KeepsItsSession v.arbiter mid
-    → ((from : ℕ) (packets : List Arrival) → Fits mid packets → SendsPacket from mid.sent p packets
-    → EmitsInto t0 (packet_answered place line (Ok o) ∷ map (item_taken place) (drop from (stream_of packets))) t1 done)
+    → ((from : ℕ) (packets : List Input) → Fits mid packets → SendsPacket from mid.sent p packets
+    → EmitsInto t0 (packet_answered place line (Ok o) ∷ map (item_taken place) (drop (place_of packets from) (stream_of packets))) t1 done)
     → OnOk done (SendsReady mid new)
-    → EmitsOutcome width place line p h t0 t1 (record { arbiter = new; sent_before = v.sent_before }) done
-passed_told width place h v mid new line p o t0 t1 done f outcome fits sends kept emits ready =
-    let Q = h.present.packets ++ arrival_of line p (Ok o) ∷ [] in
-    outcome_told width place h v new line p (Ok o) t0 t1 done f (outcome h.present.packets f.history.present)
-    (emits v.arbiter.sent Q (fits h.present.packets f.history.present) (sends h.present.packets f.history.present))
-    (left_ready v Q mid new done (fits h.present.packets f.history.present) kept ready)
+    → EmitsOutcome width place line p h t0 t1 (record { arbiter = new; sent_before = v.sent_before; opens_after = v.opens_after }) done
+passed_told width place h v mid new line p o t0 t1 done f brings is fits sent kept emits ready =
+    let P = h.present.packets in
+    let Q = P ++ arrival_of line p (Ok o) ∷ [] in
+    let b = brings P f.history.present in
+    let there = fits P f.history.present in
+    let sends : SendsPacket v.arbiter.sent mid.sent p Q =
+    subst (λ (n : ℕ). SendsPacket v.arbiter.sent n p Q) (sym sent)
+    (subst (λ (x : Outcome). SendsPacket v.arbiter.sent (last_number p) p (P ++ arrival_of line p (Ok x) ∷ [])) (sym is) b.items) in
+    let outcome : IsOutcome v.arbiter.session v.arbiter.window v.arbiter.sent P p (Ok o) =
+    subst (λ (x : Outcome). IsOutcome v.arbiter.session v.arbiter.window v.arbiter.sent P p (Ok x)) (sym is) b.answer in
+    outcome_told width place h v new line p (Ok o) t0 t1 done f outcome
+    (tells_as t0 t1 done (ap (λ (n : ℕ). packet_answered place line (Ok o) ∷ map (item_taken place) (drop n (stream_of Q))) (place_same P (record { line = line; packet = p; answer = Ok o }) v.arbiter.sent))
+    (emits v.arbiter.sent Q there sends))
+    (left_ready v Q mid new done there kept ready)

@@ -1,7 +1,8 @@
 -- What a venue's steps leave, in terms of plain states.
-use Rattle.std.proofs.Common.{◌≡◌, ℕ, ◌+◌, Bool, true, false, List, [], ◌∷◌, ◌++◌, length, refl, sym, ap, subst, ◌∙◌, append-nil, length-append, inl, inr}
+use Rattle.std.proofs.Common.{◌≡◌, ℕ, ◌+◌, ◌-◌, arith, Bool, true, false, List, [], ◌∷◌, ◌++◌, length, refl, sym, ap, subst, ◌∙◌, append-nil, length-append, inl, inr}
 use Rattle.std.specs.Prelude.{Result, Ok, Err, OnOk, drop, map}
 use Rattle.std.proofs.lemmas.Result.{on_ok_weaker}
+use Rattle.feed_types.specs.declared.item.Numbered.{Numbered}
 use Rattle.feed_types.specs.declared.line.LineId.{LineId}
 use Rattle.feed_types.specs.declared.line.LineId.TheVariants.{A, B, Recovery}
 use Rattle.mold_packet.specs.declared.fault.PacketFault.{PacketFault}
@@ -10,35 +11,46 @@ use Rattle.mold_packet.specs.Faults.{HasFault}
 use Rattle.line_arbiter.specs.declared.outcome.Outcome.{Outcome}
 use Rattle.line_arbiter.specs.declared.outcome.LineFault.{LineFault}
 use Rattle.line_arbiter.specs.declared.faults.RenewFault.{RenewFault}
-use Rattle.line_arbiter.specs.Packets.{Arrival, arrival_of, end_of}
-use Rattle.line_arbiter.specs.Streams.{stream_of, gap_of}
-use Rattle.line_arbiter.specs.Histories.{History, after_arrival, all_begun, history_after, items_of, names_of, new_history, streams_of, wins_in}
+use Rattle.line_arbiter.specs.Packets.{Arrival, Arrived, Input, arrival_of, end_of}
+use Rattle.line_arbiter.specs.Streams.{closed_of, opens_of, place_of, sent_of, stream_of, gap_of}
+use Rattle.line_arbiter.specs.Histories.{History, after_input, all_begun, history_after, items_of, names_of, new_history, streams_of, wins_in}
 use Rattle.line_arbiter.specs.Outcomes.{IsOutcome}
 use Rattle.line_arbiter.specs.Renewals.{IsRenewal}
 use Rattle.line_arbiter.specs.Counts.{shown}
 use Rattle.line_arbiter.specs.States.{State, KeepsItsPlace, KeepsItsSession, IsNew, IsRenewed}
 use Rattle.line_arbiter.specs.Fits.{Fits}
+use Rattle.line_arbiter.specs.laws.Bringing.{opens_same}
 use Rattle.line_arbiter.specs.laws.Histories.{items_push}
+use Rattle.line_arbiter.specs.laws.Placing.{place_same, sent_back}
+use Rattle.line_arbiter.specs.laws.StreamGrowth.{closed_same}
 use Rattle.line_arbiter.specs.laws.FitsHistory.{fits_new, fits_packet, fits_renewal, keeping_its_session_is_transitive, outcome_in, renewal_in, shown_more}
 use Rattle.feed_text.specs.declared.report.PublishStop.{PublishStop}
 use Rattle.feed_text.specs.Capture.{datagram_record, renewal_record}
 use Rattle.feed_text.specs.Lines.{venue_line, wins_by}
 use Rattle.feed_text.specs.ReplayEvents.{ReplayEvent, packet_answered, packet_refused, item_taken, renewal_answered}
-use Rattle.feed_text.specs.Emitted.{stream_length, items_emitted, gap_event, gap_emitted, EmitsAt}
+use Rattle.feed_text.specs.Emitted.{last_sent, items_emitted, gap_event, gap_emitted, EmitsAt}
 use Rattle.feed_text.specs.Texts.{last_line}
 use Rattle.feed_text.specs.ReplayStates.{ReplayState, EmitsInto}
 use Rattle.feed_text.specs.Following.{ReplayVenue, Follows, SendsReady, EmitsOutcome, EmitsOne, Renews}
+use Rattle.feed_text.specs.laws.LastSent.{last_counted}
 use Rattle.feed_text.proofs.Tales.{tells_more, tells_stop, tells_as}
 
 streams_more : (h : History) → length (streams_of h) ≡ length (items_of h.earlier) + length (stream_of h.present.packets)
 streams_more h = ap length (items_push h.earlier h.present) ∙ length-append (items_of h.earlier) (stream_of h.present.packets)
 
+-- the number of the last item sent is that of the last one that was taken
+sent_is : {width place : ℕ} {v : ReplayVenue} (h : History) → Follows width place v h → v.arbiter.sent ≡ last_sent h
+sent_is h f = sym (sent_back f.history.present) ∙ ap (sent_of h.present.packets) f.sent ∙ last_counted h
+
 -- how many items of all sessions were sent
-pub sent_all : {width place : ℕ} {v : ReplayVenue} (h : History) → Follows width place v h → (n : ℕ) → n ≡ shown (v.sent_before + v.arbiter.sent) → n ≡ shown (length (streams_of h))
+pub sent_all : {width place : ℕ} {v : ReplayVenue} (h : History) → Follows width place v h → (n : ℕ) → n ≡ shown (v.sent_before + (v.arbiter.sent - v.opens_after)) → n ≡ shown (length (streams_of h))
 sent_all {v = v} h f n e =
-    e ∙ shown_more v.sent_before (length (items_of h.earlier)) v.arbiter.sent f.sent_before
-    ∙ ap (λ (m : ℕ). shown (length (items_of h.earlier) + m)) f.sent
-    ∙ ap shown (sym (streams_more h))
+    let before : ℕ = length (items_of h.earlier) + length (closed_of h.present.packets) in
+    let sent = f.sent in
+    let opens = f.opens_after in
+    let whole = streams_more h in
+    let all : before + (v.arbiter.sent - v.opens_after) ≡ length (streams_of h) = omega arith in
+    e ∙ shown_more v.sent_before before (v.arbiter.sent - v.opens_after) f.sent_before ∙ ap shown all
 
 pub last_is : (h : History) (place number sent a b recovery : ℕ) → number ≡ place → sent ≡ shown (length (streams_of h))
     → a ≡ shown (wins_in (all_begun h) A) → b ≡ shown (wins_in (all_begun h) B) → recovery ≡ shown (wins_in (all_begun h) Recovery)
@@ -54,10 +66,10 @@ pub packet_told : (width place : ℕ) (h : History) (v : ReplayVenue) (line : Li
     → Spells bytes p rest → EmitsOutcome width place line p h t0 t1 v done
     → EmitsOne width false (datagram_record place line bytes) h t0 t1 v done
 packet_told width place h v line bytes rest p t0 t1 done spells x =
-    let Q : List Arrival = h.present.packets ++ arrival_of line p x.answer ∷ [] in
+    let Q : List Input = h.present.packets ++ arrival_of line p x.answer ∷ [] in
     record {
       emitted = packet_answered place line x.answer ∷ items_emitted place h Q ++ [];
-      after = after_arrival h (arrival_of line p x.answer);
+      after = after_input h (arrival_of line p x.answer);
       at = inr (record { packet = p; rest = rest; answer = x.answer; spells = spells; outcome = x.outcome; grown = refl; emitted_is = refl });
       emits = tells_as t0 t1 done (ap (λ (hs : List ReplayEvent). packet_answered place line x.answer ∷ hs) (sym (append-nil (items_emitted place h Q)))) x.emits;
       follows = x.follows;
@@ -98,12 +110,12 @@ gap_at width place gaps line bytes h after emitted (inr a) =
 -- and then the gap was emitted
 pub gap_added : (width place : ℕ) (h : History) (v : ReplayVenue) (line : LineId) (bytes : List ℕ) (t0 t1 t2 : ReplayState) (done : Result (Unit {0}) PublishStop)
     → EmitsOne width false (datagram_record place line bytes) h t0 t1 v (Ok tt)
-    → ((P : List Arrival) → Fits v.arbiter P → EmitsInto t1 (gap_event place (gap_of v.arbiter.session v.arbiter.window v.arbiter.sent P)) t2 done)
+    → ((P : List Input) → Fits v.arbiter P → EmitsInto t1 (gap_event place (gap_of v.arbiter.session v.arbiter.window v.arbiter.sent P)) t2 done)
     → EmitsOne width true (datagram_record place line bytes) h t0 t2 v done
 gap_added width place h v line bytes t0 t1 t2 done x gap =
     let f : Follows width place v x.after = x.follows in
-    let G : List ReplayEvent = gap_event place (gap_of x.after.present.name width (stream_length x.after) x.after.present.packets) in
-    let there : EmitsInto t1 G t2 done = rw (← f.history.session, ← f.window, ← f.sent) (gap x.after.present.packets f.history.present) in
+    let G : List ReplayEvent = gap_event place (gap_of x.after.present.name width (last_sent x.after) x.after.present.packets) in
+    let there : EmitsInto t1 G t2 done = rw (← f.history.session, ← f.window, ← sent_is x.after f) (gap x.after.present.packets f.history.present) in
     record {
       emitted = x.emitted ++ G;
       after = x.after;
@@ -136,13 +148,13 @@ renewal_told width place gaps h v name answer t0 t1 done x emits = record {
 }
 
 -- what a venue is after a packet and all that it made ready
-pub record Left (v : ReplayVenue) (Q : List Arrival) (new : State) : Type 0 where
+pub record Left (v : ReplayVenue) (Q : List Input) (new : State) : Type 0 where
   pub fits : Fits new Q
-  pub sent : new.sent ≡ length (stream_of Q)
+  pub sent : place_of Q new.sent ≡ length (stream_of Q)
   pub stays : KeepsItsSession v.arbiter new
 
 -- all that the packet made ready was sent
-pub left_ready : (v : ReplayVenue) (Q : List Arrival) (mid new : State) (done : Result (Unit {0}) PublishStop)
+pub left_ready : (v : ReplayVenue) (Q : List Input) (mid new : State) (done : Result (Unit {0}) PublishStop)
     → Fits mid Q → KeepsItsSession v.arbiter mid → OnOk done (SendsReady mid new) → OnOk done (Left v Q new)
 left_ready v Q mid new done fits kept sends =
     let left : SendsReady mid new → Left v Q new = λ s.
@@ -150,45 +162,46 @@ left_ready v Q mid new done fits kept sends =
     on_ok_weaker done left sends
 
 left_follows : (width place : ℕ) (h : History) (v : ReplayVenue) (new : State) (a : Arrival)
-    → Follows width place v h → Left v (h.present.packets ++ a ∷ []) new
-    → Follows width place (record { arbiter = new; sent_before = v.sent_before }) (after_arrival h a)
+    → Follows width place v h → Left v (h.present.packets ++ Arrived a ∷ []) new
+    → Follows width place (record { arbiter = new; sent_before = v.sent_before; opens_after = v.opens_after }) (after_input h (Arrived a))
 left_follows width place h v new a f x = record {
-  history = fits_packet h a f.history x.stays x.fits;
+  history = fits_packet h (Arrived a) f.history x.stays x.fits;
   number = x.stays.venue ∙ f.number;
   window = x.stays.window ∙ f.window;
   sent = x.sent;
-  sent_before = f.sent_before;
+  sent_before = f.sent_before ∙ ap (λ (xs : List Numbered). shown (length (items_of h.earlier) + length xs)) (sym (closed_same h.present.packets a));
+  opens_after = f.opens_after ∙ sym (opens_same h.present.packets a);
 }
 
 -- a packet was answered, and the items that it made ready were emitted after it
 pub outcome_told : (width place : ℕ) (h : History) (v : ReplayVenue) (new : State) (line : LineId) (p : Content) (answer : Result Outcome LineFault) (t0 t1 : ReplayState) (done : Result (Unit {0}) PublishStop)
     → Follows width place v h
     → IsOutcome v.arbiter.session v.arbiter.window v.arbiter.sent h.present.packets p answer
-    → EmitsInto t0 (packet_answered place line answer ∷ map (item_taken place) (drop v.arbiter.sent (stream_of (h.present.packets ++ arrival_of line p answer ∷ [])))) t1 done
+    → EmitsInto t0 (packet_answered place line answer ∷ map (item_taken place) (drop (place_of h.present.packets v.arbiter.sent) (stream_of (h.present.packets ++ arrival_of line p answer ∷ [])))) t1 done
     → OnOk done (Left v (h.present.packets ++ arrival_of line p answer ∷ []) new)
-    → EmitsOutcome width place line p h t0 t1 (record { arbiter = new; sent_before = v.sent_before }) done
+    → EmitsOutcome width place line p h t0 t1 (record { arbiter = new; sent_before = v.sent_before; opens_after = v.opens_after }) done
 outcome_told width place h v new line p answer t0 t1 done f outcome emits left =
     let Q = h.present.packets ++ arrival_of line p answer ∷ [] in
     record {
       answer = answer;
-      outcome = rw (← f.window, ← f.sent) (outcome_in h p answer f.history outcome);
+      outcome = rw (← f.window, ← sent_is h f) (outcome_in h p answer f.history outcome);
       emits = tells_as t0 t1 done (ap (λ (n : ℕ). packet_answered place line answer ∷ map (item_taken place) (drop n (stream_of Q))) f.sent) emits;
-      follows = on_ok_weaker done (left_follows width place h v new (arrival_of line p answer) f) left;
+      follows = on_ok_weaker done (left_follows width place h v new (record { line = line; packet = p; answer = answer }) f) left;
     }
 
 -- a packet was answered, and then everything that is ready was emitted
 pub answered_told : (width place : ℕ) (h : History) (v : ReplayVenue) (mid new : State) (line : LineId) (p : Content) (answer : Result Outcome LineFault) (t0 t1 : ReplayState) (done : Result (Unit {0}) PublishStop)
     → Follows width place v h
-    → ((packets : List Arrival) → Fits v.arbiter packets → IsOutcome v.arbiter.session v.arbiter.window v.arbiter.sent packets p answer)
-    → ((packets : List Arrival) → Fits v.arbiter packets → Fits mid (packets ++ arrival_of line p answer ∷ []))
+    → ((packets : List Input) → Fits v.arbiter packets → IsOutcome v.arbiter.session v.arbiter.window v.arbiter.sent packets p answer)
+    → ((packets : List Input) → Fits v.arbiter packets → Fits mid (packets ++ arrival_of line p answer ∷ []))
     → KeepsItsPlace v.arbiter mid
-    → ((packets : List Arrival) → Fits mid packets → EmitsInto t0 (packet_answered place line answer ∷ map (item_taken place) (drop mid.sent (stream_of packets))) t1 done)
+    → ((packets : List Input) → Fits mid packets → EmitsInto t0 (packet_answered place line answer ∷ map (item_taken place) (drop (place_of packets mid.sent) (stream_of packets))) t1 done)
     → OnOk done (SendsReady mid new)
-    → EmitsOutcome width place line p h t0 t1 (record { arbiter = new; sent_before = v.sent_before }) done
+    → EmitsOutcome width place line p h t0 t1 (record { arbiter = new; sent_before = v.sent_before; opens_after = v.opens_after }) done
 answered_told width place h v mid new line p answer t0 t1 done f outcome fits kept emits sends =
     let Q = h.present.packets ++ arrival_of line p answer ∷ [] in
     outcome_told width place h v new line p answer t0 t1 done f (outcome h.present.packets f.history.present)
-    (tells_as t0 t1 done (ap (λ (n : ℕ). packet_answered place line answer ∷ map (item_taken place) (drop n (stream_of Q))) kept.sent)
+    (tells_as t0 t1 done (ap (λ (n : ℕ). packet_answered place line answer ∷ map (item_taken place) (drop n (stream_of Q))) (ap (place_of Q) kept.sent ∙ place_same h.present.packets (record { line = line; packet = p; answer = answer }) v.arbiter.sent))
     (emits Q (fits h.present.packets f.history.present)))
     (left_ready v Q mid new done (fits h.present.packets f.history.present) kept.session sends)
 
@@ -199,31 +212,33 @@ pub renewed_follows : (width place : ℕ) (h : History) (v : ReplayVenue) (new :
     → IsRenewed v.arbiter new name
     → Fits new []
     → sent ≡ shown (length (streams_of h))
-    → Renews width place name h (record { arbiter = new; sent_before = sent }) (Ok ordinal)
+    → Renews width place name h (record { arbiter = new; sent_before = sent; opens_after = 0 }) (Ok ordinal)
 renewed_follows width place h v new name ordinal sent f is renewed fits count = record {
-  is = subst (λ (n : ℕ). IsRenewal (names_of h) (end_of h.present.packets) n name (Ok ordinal)) f.sent (renewal_in h name (Ok ordinal) f.history is);
+  is = subst (λ (n : ℕ). IsRenewal (names_of h) (end_of h.present.packets) n name (Ok ordinal)) (sent_is h f) (renewal_in h name (Ok ordinal) f.history is);
   follows = record {
     history = fits_renewal h name f.history renewed fits;
     number = renewed.venue ∙ f.number;
     window = renewed.window ∙ f.window;
-    sent = renewed.begun.sent;
-    sent_before = count;
+    sent = ap (place_of []) renewed.begun.sent;
+    sent_before = count ∙ ap shown (omega arith);
+    opens_after = refl;
   };
 }
 
 pub not_renewed : (width place : ℕ) (h : History) (v : ReplayVenue) (name : List ℕ) (fault : RenewFault)
     → Follows width place v h → IsRenewal v.arbiter.sessions v.arbiter.end v.arbiter.sent name (Err fault) → Renews width place name h v (Err fault)
 not_renewed width place h v name fault f is = record {
-  is = subst (λ (n : ℕ). IsRenewal (names_of h) (end_of h.present.packets) n name (Err fault)) f.sent (renewal_in h name (Err fault) f.history is);
+  is = subst (λ (n : ℕ). IsRenewal (names_of h) (end_of h.present.packets) n name (Err fault)) (sent_is h f) (renewal_in h name (Err fault) f.history is);
   follows = f;
 }
 
 -- a venue to which nothing came
-pub new_follows : (width place : ℕ) (s : State) (session : List ℕ) → IsNew s place session width → Fits s [] → Follows width place (record { arbiter = s; sent_before = 0 }) (new_history session)
+pub new_follows : (width place : ℕ) (s : State) (session : List ℕ) → IsNew s place session width → Fits s [] → Follows width place (record { arbiter = s; sent_before = 0; opens_after = 0 }) (new_history session)
 new_follows width place s session new fits = record {
   history = fits_new new fits;
   number = new.venue;
   window = new.window;
-  sent = new.begun.sent;
+  sent = ap (place_of []) new.begun.sent;
   sent_before = refl;
+  opens_after = refl;
 }

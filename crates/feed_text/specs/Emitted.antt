@@ -1,6 +1,6 @@
 -- The events that the records of a capture emit, one record after the other, by the definitions
 -- over what came to each venue.
-use Rattle.std.specs.Prelude.{◌≡◌, ◌⊎◌, ℕ, Bool, List, [], ◌∷◌, ◌++◌, length, drop, map, Option, Some, None, Result, slice_get, slice_set, if◌then◌else◌}
+use Rattle.std.specs.Prelude.{◌≡◌, ◌⊎◌, ℕ, ◌+◌, Bool, List, [], ◌∷◌, ◌++◌, length, drop, map, Option, Some, None, Result, slice_get, slice_set, if◌then◌else◌}
 use Rattle.feed_types.specs.declared.line.LineId.{LineId}
 use Rattle.mold_packet.specs.declared.fault.PacketFault.{PacketFault}
 use Rattle.mold_packet.specs.declared.request.Request.{Request}
@@ -9,9 +9,9 @@ use Rattle.mold_packet.specs.Faults.{HasFault}
 use Rattle.line_arbiter.specs.declared.outcome.Outcome.{Outcome}
 use Rattle.line_arbiter.specs.declared.outcome.LineFault.{LineFault}
 use Rattle.line_arbiter.specs.declared.faults.RenewFault.{RenewFault}
-use Rattle.line_arbiter.specs.Packets.{Arrival, arrival_of, end_of}
-use Rattle.line_arbiter.specs.Streams.{stream_of, gap_of}
-use Rattle.line_arbiter.specs.Histories.{History, names_of, after_arrival, history_after}
+use Rattle.line_arbiter.specs.Packets.{Input, arrival_of, end_of}
+use Rattle.line_arbiter.specs.Streams.{stream_of, gap_of, front_of, end_at}
+use Rattle.line_arbiter.specs.Histories.{History, names_of, after_input, history_after}
 use Rattle.line_arbiter.specs.Outcomes.{IsOutcome}
 use Rattle.line_arbiter.specs.Renewals.{IsRenewal}
 use Rattle.feed_text.specs.Capture.{CaptureRecord, datagram_record, renewal_record, self_help_record, record_venue}
@@ -21,6 +21,13 @@ use Rattle.feed_text.specs.ReplayEvents.{ReplayEvent, packet_answered, packet_re
 abbrev pub stream_length : History → ℕ
 stream_length h = length (stream_of h.present.packets)
 
+-- the number of the last one: of the last message before the first gap, or of the end where that
+-- follows
+abbrev pub last_sent : History → ℕ
+last_sent h =
+    let packets = h.present.packets in
+    front_of packets + length (end_at (end_of packets) (front_of packets + 1))
+
 -- the event of a gap, where there is one
 abbrev pub gap_event : ℕ → Option Request → List ReplayEvent
 gap_event venue None = []
@@ -29,11 +36,11 @@ gap_event venue (Some request) = gap_left venue request ∷ []
 -- the event of the gap that is left, where gaps are asked for
 abbrev pub gap_emitted : ℕ → Bool → ℕ → History → List ReplayEvent
 gap_emitted window gaps venue h =
-    if gaps then gap_event venue (gap_of h.present.name window (stream_length h) h.present.packets)
+    if gaps then gap_event venue (gap_of h.present.name window (last_sent h) h.present.packets)
     else []
 
 -- the events of the items that one more packet made ready
-abbrev pub items_emitted : ℕ → History → List Arrival → List ReplayEvent
+abbrev pub items_emitted : ℕ → History → List Input → List ReplayEvent
 items_emitted venue h packets = map (item_taken venue) (drop (stream_length h) (stream_of packets))
 
 -- a datagram that is no packet emits its fault, and nothing changes
@@ -51,9 +58,9 @@ pub record EmitsPacket (window : ℕ) (gaps : Bool) (venue : ℕ) (line : LineId
   pub rest : List ℕ
   pub answer : Result Outcome LineFault
   pub spells : Spells bytes packet rest
-  pub outcome : IsOutcome old.present.name window (stream_length old) old.present.packets packet
+  pub outcome : IsOutcome old.present.name window (last_sent old) old.present.packets packet
       answer
-  pub grown : new ≡ after_arrival old (arrival_of line packet answer)
+  pub grown : new ≡ after_input old (arrival_of line packet answer)
   pub emitted_is : emitted ≡ packet_answered venue line answer
       ∷ items_emitted venue old new.present.packets ++ gap_emitted window gaps venue new
 
@@ -61,7 +68,7 @@ pub record EmitsPacket (window : ℕ) (gaps : Bool) (venue : ℕ) (line : LineId
 pub record EmitsRenewal (venue : ℕ) (name : List ℕ) (old : History) (emitted : List ReplayEvent)
     (new : History) : Type 0 where
   pub answer : Result ℕ RenewFault
-  pub is : IsRenewal (names_of old) (end_of old.present.packets) (stream_length old) name answer
+  pub is : IsRenewal (names_of old) (end_of old.present.packets) (last_sent old) name answer
   pub after : new ≡ history_after old name answer
   pub emitted_is : emitted ≡ renewal_answered venue answer ∷ []
 

@@ -6,9 +6,9 @@ use Rattle.mold_packet.specs.Content.{Content}
 use Rattle.line_arbiter.specs.declared.outcome.Outcome.{Outcome}
 use Rattle.line_arbiter.specs.declared.outcome.LineFault.{LineFault}
 use Rattle.line_arbiter.specs.declared.faults.RenewFault.{RenewFault}
-use Rattle.line_arbiter.specs.Packets.{Arrival, arrival_of, end_of}
-use Rattle.line_arbiter.specs.Streams.{stream_of}
-use Rattle.line_arbiter.specs.Histories.{History, items_of, names_of, after_arrival, history_after}
+use Rattle.line_arbiter.specs.Packets.{Input, arrival_of, end_of}
+use Rattle.line_arbiter.specs.Streams.{closed_of, opens_of, place_of, stream_of}
+use Rattle.line_arbiter.specs.Histories.{History, items_of, names_of, after_input, history_after}
 use Rattle.line_arbiter.specs.Outcomes.{IsOutcome}
 use Rattle.line_arbiter.specs.Renewals.{IsRenewal}
 use Rattle.line_arbiter.specs.Counts.{shown}
@@ -21,15 +21,16 @@ use Rattle.feed_text.specs.declared.report.PublishStop.TheVariants.{JournalFull,
 use Rattle.feed_text.specs.Capture.{CaptureRecord, record_venue}
 use Rattle.feed_text.specs.Devices.{Wrote}
 use Rattle.feed_text.specs.ReplayEvents.{ReplayEvent, item_taken, packet_answered}
-use Rattle.feed_text.specs.Emitted.{stream_length, items_emitted, EmitsAt, EmitsRecord}
+use Rattle.feed_text.specs.Emitted.{stream_length, last_sent, items_emitted, EmitsAt, EmitsRecord}
 use Rattle.feed_text.specs.Texts.{last_lines}
 use Rattle.feed_text.specs.ReplayStates.{ReplayState, EmitsInto}
 
--- a venue's arbiter, and how many items of the sessions that are over were sent, as far as a u64
--- shows that
+-- a venue's arbiter, how many items were sent before the session's present part, as far as a u64
+-- shows that, and the number after which that part opens
 pub record ReplayVenue : Type 0 where
   pub arbiter : State
   pub sent_before : ℕ
+  pub opens_after : ℕ
 
 -- The venue at this place, with a window of this width, has this history, and everything that is
 -- ready was sent.
@@ -37,20 +38,23 @@ pub record Follows (width place : ℕ) (v : ReplayVenue) (h : History) : Type 0 
   pub history : FitsHistory v.arbiter h
   pub number : v.arbiter.venue ≡ place
   pub window : v.arbiter.window ≡ width
-  pub sent : v.arbiter.sent ≡ stream_length h
-  pub sent_before : v.sent_before ≡ shown (length (items_of h.earlier))
+  pub sent : place_of h.present.packets v.arbiter.sent ≡ stream_length h
+  pub sent_before : v.sent_before
+      ≡ shown (length (items_of h.earlier) + length (closed_of h.present.packets))
+  pub opens_after : v.opens_after + 1 ≡ opens_of h.present.packets
 
 -- All that is ready was sent, and the rest is kept.
 pub record SendsReady (from to : State) : Type 0 where
-  pub fits : (P : List Arrival) → Fits from P → Fits to P × (to.sent ≡ length (stream_of P))
+  pub fits : (P : List Input) → Fits from P
+      → Fits to P × (place_of P to.sent ≡ length (stream_of P))
   pub kept : KeepsAllButSent from to
 
 -- The items that are ready were taken, each once and in sequence. Where all of them were, the
 -- arbiter has sent them, and keeps the rest.
 pub record TakesReady (venue : ℕ) (from to : State) (old new : ReplayState)
     (done : Result (Unit {0}) PublishStop) : Type 0 where
-  pub emits : (P : List Arrival) → Fits from P
-      → EmitsInto old (map (item_taken venue) (drop from.sent (stream_of P))) new done
+  pub emits : (P : List Input) → Fits from P
+      → EmitsInto old (map (item_taken venue) (drop (place_of P from.sent) (stream_of P))) new done
   pub sent : OnOk done (SendsReady from to)
 
 -- A packet's answer and then the items that it made ready were emitted. Where all of them were, the
@@ -58,12 +62,12 @@ pub record TakesReady (venue : ℕ) (from to : State) (old new : ReplayState)
 pub record EmitsOutcome (width place : ℕ) (line : LineId) (packet : Content) (h : History)
     (old new : ReplayState) (v : ReplayVenue) (done : Result (Unit {0}) PublishStop) : Type 0 where
   pub answer : Result Outcome LineFault
-  pub outcome : IsOutcome h.present.name width (stream_length h) h.present.packets packet answer
+  pub outcome : IsOutcome h.present.name width (last_sent h) h.present.packets packet answer
   pub emits : EmitsInto old
       (packet_answered place line answer
       ∷ items_emitted place h (h.present.packets ++ arrival_of line packet answer ∷ []))
       new done
-  pub follows : OnOk done (Follows width place v (after_arrival h (arrival_of line packet answer)))
+  pub follows : OnOk done (Follows width place v (after_input h (arrival_of line packet answer)))
 
 -- The same, whatever history the venue followed.
 abbrev pub PublishesPacket : ℕ → LineId → Content → ReplayVenue → ReplayState → ReplayVenue
@@ -76,7 +80,7 @@ PublishesPacket place line packet old before new after done =
 -- A renewal was answered, and the venue follows the history after it.
 pub record Renews (width place : ℕ) (name : List ℕ) (h : History) (v : ReplayVenue)
     (answer : Result ℕ RenewFault) : Type 0 where
-  pub is : IsRenewal (names_of h) (end_of h.present.packets) (stream_length h) name answer
+  pub is : IsRenewal (names_of h) (end_of h.present.packets) (last_sent h) name answer
   pub follows : Follows width place v (history_after h name answer)
 
 -- The events of one record were emitted, and where all of them were the venue follows the history

@@ -52,6 +52,7 @@ item_word (items.Quote quote) = codes " quote"
 item_word (items.Halt symbol true) = codes " halt"
 item_word (items.Halt symbol false) = codes " trading"
 item_word items.Other = codes " other"
+item_word items.Skipped = codes " skipped"
 item_word items.End = codes " end"
 
 -- item V NUMBER ..: an item that was ready

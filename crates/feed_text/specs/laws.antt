@@ -1,6 +1,7 @@
 -- Laws of the definitions, with their proofs, which nobody has to read: proofs of the crates above cite them.
 pub mod Lists
 pub mod Entries
+pub mod LastSent
 pub mod VenueItemsLaw
 pub mod Readings
 pub mod SaidTexts

@@ -176,6 +176,7 @@ fn place_item_word(room: &mut [u8], at: usize, item: &Item) -> usize
         Item::Halt { halted: true, .. } => place_word(room, at, *b" halt\n  ", 6),
         Item::Halt { halted: false, .. } => place(room, at, *b" trading\n"),
         Item::Other => place_word(room, at, *b" other\n ", 7),
+        Item::Skipped => place(room, at, *b" skipped\n"),
         Item::End => place_word(room, at, *b" end\n   ", 5),
     }
 }

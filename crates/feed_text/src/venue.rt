@@ -3,8 +3,8 @@ ghost use Rattle.std.specs.Prelude.{◌≡◌, ℕ, Bool, false, List, ◌∷◌
 ghost use Rattle.feed_types.specs.Sessions.{numbered_from};
 ghost use Rattle.quote_payload.specs.Payload.{item_of};
 ghost use Rattle.line_arbiter.specs.InOrder.{SendsPacket};
-ghost use Rattle.line_arbiter.specs.Packets.{Arrival};
-ghost use Rattle.line_arbiter.specs.Streams.{gap_of, stream_of};
+ghost use Rattle.line_arbiter.specs.Packets.{Input};
+ghost use Rattle.line_arbiter.specs.Streams.{gap_of, place_of, stream_of};
 ghost use Rattle.line_arbiter.specs.Counts.{shown};
 ghost use Rattle.line_arbiter.specs.Fits.{Fits};
 ghost use Rattle.line_arbiter.specs.Histories.{History, new_history, streams_of};
@@ -19,7 +19,7 @@ use crate::lines::{put_fault, put_gap, put_packet, put_renewal, put_venue};
 use crate::page::LineBuffer;
 use crate::report::{PublishStop, ReplaySink};
 use feed_types::{Anything, LineId, Numbered, VenueId};
-use line_arbiter::{Arbiter, InOrder, LineFault, Outcome, RenewFault};
+use line_arbiter::{Arbiter, LineFault, Outcome, RenewFault};
 use mold_packet::{Messages, Packet, read_packet};
 use quote_payload::{peek_symbol_bytes, read_item};
 use std::alloc::{AllocError, Global};
@@ -29,12 +29,14 @@ use std::marker::Model;
 /// then.
 const MOST_AHEAD: usize = 64;
 
-/// A venue's arbiter, and how many items of the sessions that are over were sent. That count stays
-/// at 2^64 - 1.
+/// A venue's arbiter, how many items were sent before the session's present part, and the number
+/// after which that part opens: 0, or after a skip that of the last message but one that was given
+/// up. The count stays at 2^64 - 1.
 #[derive(Drop)]
 pub struct VenueReplay {
     arbiter: Arbiter<Anything>,
     sent_before: u64,
+    opens_after: u64,
 }
 
 impl Model for VenueReplay {
@@ -42,7 +44,11 @@ impl Model for VenueReplay {
 
     ghost Value = { ReplayVenue };
 
-    ghost view = { λ v. record { arbiter = v.arbiter; sent_before = v.sent_before } };
+    ghost view = { λ v. record {
+      arbiter = v.arbiter;
+      sent_before = v.sent_before;
+      opens_after = v.opens_after;
+    } };
 }
 
 /// Publishes each item that is ready.
@@ -137,7 +143,7 @@ fn look_ahead(venue: VenueId, packet: &Packet<'_>, report: &mut ReplaySink)
 
 /// Publishes the answer of a packet that was the next one, its items, and what is ready after them.
 #[inline(always)]
-fn take_next(
+fn publish_next(
     arbiter: &mut Arbiter<Anything>,
     venue: VenueId,
     line: LineId,
@@ -146,11 +152,11 @@ fn take_next(
     report: &mut ReplaySink,
 ) -> Result<(), PublishStop>
     requires { venue < report.old.journal.venues }
-    ensures emits { (from : ℕ) (packets : List Arrival) → Fits arbiter.old packets
+    ensures emits { (from : ℕ) (packets : List Input) → Fits arbiter.old packets
         → SendsPacket from arbiter.old.sent packet.now packets
         → EmitsInto (state_of_replay report.old)
         (packet_answered venue line (Ok outcome)
-        ∷ map (item_taken venue) (drop from (stream_of packets)))
+        ∷ map (item_taken venue) (drop (place_of packets from) (stream_of packets)))
         (state_of_replay report.new) result }
     ensures sent { OnOk result (SendsReady arbiter.old arbiter.new) }
 {
@@ -169,10 +175,10 @@ fn publish_answer(
     report: &mut ReplaySink,
 ) -> Result<(), PublishStop>
     requires { venue < report.old.journal.venues }
-    ensures emits { (packets : List Arrival) → Fits arbiter.old packets
+    ensures emits { (packets : List Input) → Fits arbiter.old packets
         → EmitsInto (state_of_replay report.old)
         (packet_answered venue line answer.now
-        ∷ map (item_taken venue) (drop arbiter.old.sent (stream_of packets)))
+        ∷ map (item_taken venue) (drop (place_of packets arbiter.old.sent) (stream_of packets)))
         (state_of_replay report.new) result }
     ensures sent { OnOk result (SendsReady arbiter.old arbiter.new) }
 {
@@ -196,6 +202,7 @@ impl VenueReplay {
             Ok(arbiter) => Ok(VenueReplay {
                 arbiter,
                 sent_before: 0,
+                opens_after: 0,
             }),
             Err(_) => Err(AllocError),
         }
@@ -206,7 +213,8 @@ impl VenueReplay {
         ensures { (width place : ℕ) (h : History) → Follows width place self.now h
             → result ≡ shown (length (streams_of h)) }
     {
-        self.sent_before.saturating_add(self.arbiter.status().sent)
+        let in_part = self.arbiter.status().sent.saturating_sub(self.opens_after);
+        self.sent_before.saturating_add(in_part)
     }
 
     /// Takes any packet, and publishes its outcome and each item that is ready then.
@@ -229,7 +237,7 @@ impl VenueReplay {
     }
 
     /// Takes a packet, and publishes its outcome and each item that is ready then. Most go past the
-    /// window, and most of the others bring nothing that wasn't sent.
+    /// window.
     #[inline(always)]
     fn take_packet(
         &mut self,
@@ -242,19 +250,12 @@ impl VenueReplay {
         ensures { PublishesPacket venue line packet.now self.old (state_of_replay report.old)
             self.new (state_of_replay report.new) result }
     {
-        let Some(order) = self.arbiter.peek_in_order(packet) else {
+        if !self.arbiter.is_next(packet) {
             return self.take_any(venue, line, packet, report);
-        };
-        let outcome = self.arbiter.take_in_order(line, order, packet);
-        match order {
-            InOrder::Next { .. } => {
-                look_ahead(venue, packet, report);
-                take_next(&mut self.arbiter, venue, line, packet, outcome, report)
-            }
-            InOrder::Repeat { .. } => {
-                publish_answer(&mut self.arbiter, venue, line, &Ok(outcome), report)
-            }
         }
+        let outcome = self.arbiter.take_next(line, packet);
+        look_ahead(venue, packet, report);
+        publish_next(&mut self.arbiter, venue, line, packet, outcome, report)
     }
 
     /// Takes a datagram of a line, and publishes its outcome and each item that is ready then.
@@ -283,7 +284,7 @@ impl VenueReplay {
     /// has the registers.
     #[inline(never)]
     fn publish_gap(&self, venue: VenueId, report: &mut ReplaySink) -> Result<(), PublishStop>
-        ensures { (P : List Arrival) → Fits self.now.arbiter P
+        ensures { (P : List Input) → Fits self.now.arbiter P
             → EmitsInto (state_of_replay report.old)
             (gap_event venue
             (gap_of self.now.arbiter.session self.now.arbiter.window self.now.arbiter.sent P))
@@ -330,6 +331,7 @@ impl VenueReplay {
         let sent = self.sent();
         let ordinal = self.arbiter.renew(session)?;
         self.sent_before = sent;
+        self.opens_after = 0;
         Ok(ordinal)
     }
 

@@ -1,5 +1,5 @@
 -- The items that are emitted of a venue are its streams.
-use Rattle.std.proofs.Common.{◌≡◌, ◌≢◌, ℕ, zero, suc, Bool, true, false, List, [], ◌∷◌, ◌++◌, length, map, drop, Some, None, Option, Result, Ok, Err, refl, sym, ap, subst, ◌∙◌, arith, append_assoc, append-nil, inl, inr}
+use Rattle.std.proofs.Common.{◌≡◌, ◌≢◌, ◌≤◌, ℕ, zero, suc, Bool, true, false, List, [], ◌∷◌, ◌++◌, length, map, drop, Some, None, Option, Result, Ok, Err, refl, sym, ap, subst, ◌∙◌, arith, append_assoc, append-nil, inl, inr}
 use Rattle.std.specs.Prelude.{◌==◌, slice_get, slice_set, if◌then◌else◌}
 use Rattle.std.specs.List.{AllByRecursion}
 use Rattle.std.proofs.Math.Seq.{drop-append_seam}
@@ -12,11 +12,11 @@ use Rattle.mold_packet.specs.declared.request.Request.{Request}
 use Rattle.line_arbiter.specs.declared.outcome.Outcome.{Outcome}
 use Rattle.line_arbiter.specs.declared.outcome.LineFault.{LineFault}
 use Rattle.line_arbiter.specs.declared.faults.RenewFault.{RenewFault}
-use Rattle.line_arbiter.specs.Packets.{Arrival, arrival_of, end_of}
+use Rattle.line_arbiter.specs.Packets.{Input, arrival_of, end_of}
 use Rattle.line_arbiter.specs.Renewals.{IsRenewal}
-use Rattle.line_arbiter.specs.Streams.{IsComplete, stream_of, gap_of}
+use Rattle.line_arbiter.specs.Streams.{place_of, stream_of, gap_of}
 use Rattle.line_arbiter.specs.Answered.{IsAnswered, AreAnswered}
-use Rattle.line_arbiter.specs.Histories.{Begun, History, new_history, new_session, all_begun, names_of, streams_of, after_arrival, history_after}
+use Rattle.line_arbiter.specs.Histories.{Begun, History, new_history, new_session, all_begun, names_of, streams_of, after_input, history_after}
 use Rattle.line_arbiter.specs.Histories as histories
 use Rattle.line_arbiter.specs.laws.Histories.{items_push}
 use Rattle.line_arbiter.specs.laws.Below.{answered_grows}
@@ -24,9 +24,10 @@ use Rattle.line_arbiter.specs.laws.AnsweredHistories.{IsAnsweredThroughout, new_
 use Rattle.feed_text.specs.declared.replay.ReplayConfig.{ReplayConfig}
 use Rattle.feed_text.specs.Capture.{CaptureRecord, datagram_record, renewal_record, self_help_record, record_venue}
 use Rattle.feed_text.specs.ReplayEvents.{ReplayEvent, item_taken, packet_answered, renewal_answered}
-use Rattle.feed_text.specs.Emitted.{stream_length, gap_event, gap_emitted, EmitsPacket, EmitsAt, EmitsRecord, Emits}
+use Rattle.feed_text.specs.Emitted.{last_sent, stream_length, gap_event, gap_emitted, EmitsPacket, EmitsAt, EmitsRecord, Emits}
 use Rattle.feed_text.specs.Texts.{EmitsAll}
 use Rattle.feed_text.specs.VenueItems.{taken_by, items_taken}
+use Rattle.feed_text.specs.laws.LastSent.{place_last}
 use Rattle.feed_text.specs.laws.Lists.{get_set_same, get_set_other, same_or_not}
 
 -- ---- what came to a venue
@@ -63,7 +64,7 @@ no_gap_items : (place window : ℕ) (gaps : Bool) (venue : ℕ) (h : History)
     → items_taken place (gap_emitted window gaps venue h) ≡ []
 no_gap_items place window false venue h = refl
 no_gap_items place window true venue h =
-    at (gap_of h.present.name window (stream_length h) h.present.packets)
+    at (gap_of h.present.name window (last_sent h) h.present.packets)
   where
     at : (o : Option Request) → items_taken place (gap_event venue o) ≡ []
     at None = refl
@@ -112,12 +113,12 @@ module _ (window : ℕ) (gaps : Bool) (venue : ℕ) where
       → IsAnsweredThroughout window old → EmitsPacket window gaps venue line bytes old emitted new
       → AddsEmittedItems window venue old emitted new
   packet_goes line bytes old new emitted k t =
-      let a : Arrival = arrival_of line t.packet t.answer in
+      let a : Input = arrival_of line t.packet t.answer in
       let b : Begun = old.present in
       let next : Begun = record b { packets = b.packets ++ a ∷ [] } in
       let ready : List Numbered = drop (stream_length old) (stream_of next.packets) in
       let one : IsAnswered b.name window b.packets a =
-      record { content = t.spells.content; sent = stream_length old; outcome = t.outcome } in
+      record { content = t.spells.content; sent = last_sent old; outcome = t.outcome } in
       let items : items_taken venue emitted ≡ ready =
       ready_items line bytes old new emitted t
       ∙ ap (λ (h : History). drop (stream_length old) (stream_of h.present.packets)) t.grown in
@@ -133,18 +134,21 @@ module _ (window : ℕ) (gaps : Bool) (venue : ℕ) where
 
   renewal_goes : (name : List ℕ) (old new : History) (emitted : List ReplayEvent)
       (answer : Result ℕ RenewFault) → IsAnsweredThroughout window old
-      → IsRenewal (names_of old) (end_of old.present.packets) (stream_length old) name answer
+      → IsRenewal (names_of old) (end_of old.present.packets) (last_sent old) name answer
       → new ≡ history_after old name answer → emitted ≡ renewal_answered venue answer ∷ []
       → AddsEmittedItems window venue old emitted new
   renewal_goes name old new emitted (Err fault) k is after emitted_is =
       stays window venue old new emitted k after (ap (items_taken venue) emitted_is)
   renewal_goes name old new emitted (Ok ordinal) k is after emitted_is =
+      let place = place_last old in
+      let all_taken : place_of old.present.packets (last_sent old) ≤ stream_length old =
+      omega arith in
       subst (AddsEmittedItems window venue old emitted) (sym after) (record {
         items =
             items_push (all_begun old) (new_session name)
             ∙ ap (λ (xs : List Numbered). streams_of old ++ xs)
             (sym (ap (items_taken venue) emitted_is));
-        kept = answered_renewal window old k (stream_length old) name (omega arith) is.0;
+        kept = answered_renewal window old k (last_sent old) name all_taken is.0;
       })
 
 pub here : (window : ℕ) (gaps : Bool) (r : CaptureRecord) (old new : History)

@@ -1,11 +1,12 @@
-use Rattle.std.proofs.Common.{◌≤◌, length, refl, sym, ap, ◌∙◌, arith}
+use Rattle.std.proofs.Common.{◌≡◌, ◌+◌, ◌≤◌, length, refl, sym, ap, ◌∙◌, arith}
 use Rattle.std.specs.Prelude.{map}
 use Rattle.std.proofs.lemmas.Result.{err_from_is_err_and}
-use Rattle.line_arbiter.specs.Streams.{stream_of}
+use Rattle.line_arbiter.specs.Streams.{place_of, stream_of}
+use Rattle.line_arbiter.specs.laws.Placing.{place_next, place_within}
 use Rattle.line_arbiter.specs.laws.FitsHistory.{keeping_all_but_sent_is_reflexive, keeping_all_but_sent_is_transitive}
 use Rattle.feed_text.specs.ReplayEvents.{item_taken}
 use Rattle.feed_text.specs.ReplayStates.{state_of_replay}
-use Rattle.feed_text.proofs.Rest.{rest_at, rest_end, no_more}
+use Rattle.feed_text.proofs.Rest.{rest_at, rest_end, rest_next, no_more}
 use Rattle.feed_text.proofs.Tales.{took_none, took_one, took_all, took_stop, same_venues}
 use Rattle.feed_text.proofs.venue.publish_each.Goals as goal
 
@@ -23,23 +24,25 @@ loop-next-preserved c = record {
   kept = keeping_all_but_sent_is_transitive c.loop-next.invariant.kept c.advance.ensures.after.kept;
   venues = same_venues _ c.in_ok-take_item.ensures ∙ c.loop-next.invariant.venues;
   emitted = λ P f.
-      rw c.advance.ensures.after.sent
-      (took_one (item_taken c.args.venue c.in-Some.next) _
-      (ap (map (item_taken c.args.venue)) (rest_at (stream_of P) c.loop-next.arbiter.sent c.in-Some.next (c.in-Some.ensures.stream P (c.loop-next.invariant.fits P f))))
-      (c.loop-next.invariant.emitted P f) c.in_ok-take_item.ensures);
+      let fits = c.loop-next.invariant.fits P f in
+      let one_more : place_of P c.advance.new.self.sent ≡ place_of P c.loop-next.arbiter.sent + 1 =
+      ap (place_of P) c.advance.ensures.after.sent ∙ place_next fits in
+      took_one (item_taken c.args.venue c.in-Some.next) _
+      (ap (map (item_taken c.args.venue)) (rest_next (stream_of P) (place_of P c.loop-next.arbiter.sent) (place_of P c.advance.new.self.sent) c.in-Some.next (c.in-Some.ensures.stream P fits) one_more))
+      (c.loop-next.invariant.emitted P f) c.in_ok-take_item.ensures;
 }
 
 pub returns : goal.returns
 returns c = record {
   emits = λ P f.
       let here = c.next_ready.ensures.stream P (c.loop-next.invariant.fits P f) in
-      took_all (ap (map (item_taken c.args.venue)) (rest_end (stream_of P) c.loop-next.arbiter.sent (sym c.in_default.is ∙ here))) (c.loop-next.invariant.emitted P f);
+      took_all (ap (map (item_taken c.args.venue)) (rest_end (stream_of P) (place_of P c.loop-next.arbiter.sent) (sym c.in_default.is ∙ here))) (c.loop-next.invariant.emitted P f);
   sent = record {
     fits = λ P f.
         let fits = c.loop-next.invariant.fits P f in
         let here = c.next_ready.ensures.stream P fits in
-        let most : length (stream_of P) ≤ c.loop-next.arbiter.sent = no_more (stream_of P) c.loop-next.arbiter.sent (sym c.in_default.is ∙ here) in
-        let least : c.loop-next.arbiter.sent ≤ length (stream_of P) = fits.sent in
+        let most : length (stream_of P) ≤ place_of P c.loop-next.arbiter.sent = no_more (stream_of P) (place_of P c.loop-next.arbiter.sent) (sym c.in_default.is ∙ here) in
+        let least : place_of P c.loop-next.arbiter.sent ≤ length (stream_of P) = place_within fits in
         (fits, omega arith);
     kept = c.loop-next.invariant.kept;
   };
@@ -51,7 +54,7 @@ returns-in_err-take_item c =
     rw (p.1, p.2) (record {
       emits = λ P f.
           took_stop (state_of_replay c.take_item.new.self) (item_taken c.args.venue c.in-Some.next) _ c.in_err-take_item.field-0.0
-          (ap (map (item_taken c.args.venue)) (rest_at (stream_of P) c.loop-next.arbiter.sent c.in-Some.next (c.in-Some.ensures.stream P (c.loop-next.invariant.fits P f))))
+          (ap (map (item_taken c.args.venue)) (rest_at (stream_of P) (place_of P c.loop-next.arbiter.sent) c.in-Some.next (c.in-Some.ensures.stream P (c.loop-next.invariant.fits P f))))
           (c.loop-next.invariant.emitted P f) c.in_err-take_item.ensures;
       sent = tt;
     })

@@ -1,7 +1,7 @@
 use Rattle.std.proofs.Common.{◌≡◌, ◌-◌, ◌^◌, List, drop}
 use Rattle.std.specs.Prelude.{map}
-use Rattle.line_arbiter.specs.Packets.{Arrival}
-use Rattle.line_arbiter.specs.Streams.{stream_of}
+use Rattle.line_arbiter.specs.Packets.{Input}
+use Rattle.line_arbiter.specs.Streams.{place_of, stream_of}
 use Rattle.line_arbiter.specs.States.{KeepsAllButSent}
 use Rattle.line_arbiter.specs.Fits.{Fits}
 use Rattle.feed_text.specs.ReplayEvents.{item_taken}
@@ -11,10 +11,10 @@ use Rattle.feed_text.proofs.venue.publish_each.Given as goal
 
 abbrev pub invariant-loop-next : goal.invariant-loop-next
 invariant-loop-next l = record {
-  fits : (P : List Arrival) → Fits l.fn.arbiter P → Fits l.arbiter P;
+  fits : (P : List Input) → Fits l.fn.arbiter P → Fits l.arbiter P;
   kept : KeepsAllButSent l.fn.arbiter l.arbiter;
   venues : l.report.journal.venues ≡ l.fn.report.journal.venues;
-  emitted : (P : List Arrival) → Fits l.fn.arbiter P → Took (map (item_taken l.venue) (drop l.fn.arbiter.sent (stream_of P))) (map (item_taken l.venue) (drop l.arbiter.sent (stream_of P))) (state_of_replay l.fn.report) (state_of_replay l.report);
+  emitted : (P : List Input) → Fits l.fn.arbiter P → Took (map (item_taken l.venue) (drop (place_of P l.fn.arbiter.sent) (stream_of P))) (map (item_taken l.venue) (drop (place_of P l.arbiter.sent) (stream_of P))) (state_of_replay l.fn.report) (state_of_replay l.report);
 }
 
 abbrev pub decreases-loop-next : goal.decreases-loop-next

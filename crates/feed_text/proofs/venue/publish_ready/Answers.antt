@@ -1,6 +1,7 @@
 use Rattle.std.proofs.Common.{◌≤◌, length, sym, ap, ◌∙◌, arith}
 use Rattle.std.specs.Prelude.{map}
-use Rattle.line_arbiter.specs.Streams.{stream_of}
+use Rattle.line_arbiter.specs.Streams.{place_of, stream_of}
+use Rattle.line_arbiter.specs.laws.Placing.{place_within}
 use Rattle.line_arbiter.specs.laws.FitsHistory.{keeping_all_but_sent_is_reflexive}
 use Rattle.feed_text.specs.ReplayEvents.{item_taken}
 use Rattle.feed_text.specs.ReplayStates.{state_of_replay}
@@ -12,12 +13,12 @@ pub returns-in-None : goal.returns-in-None
 returns-in-None c = record {
   emits = λ P f.
       let here = c.next_ready.ensures.stream P f in
-      took_all (ap (map (item_taken c.args.venue)) (rest_end (stream_of P) c.args.arbiter.now.sent (sym c.in-None.is ∙ here))) (took_none _ (state_of_replay c.args.report.now));
+      took_all (ap (map (item_taken c.args.venue)) (rest_end (stream_of P) (place_of P c.args.arbiter.now.sent) (sym c.in-None.is ∙ here))) (took_none _ (state_of_replay c.args.report.now));
   sent = record {
     fits = λ P f.
         let here = c.next_ready.ensures.stream P f in
-        let most : length (stream_of P) ≤ c.args.arbiter.now.sent = no_more (stream_of P) c.args.arbiter.now.sent (sym c.in-None.is ∙ here) in
-        let least : c.args.arbiter.now.sent ≤ length (stream_of P) = f.sent in
+        let most : length (stream_of P) ≤ place_of P c.args.arbiter.now.sent = no_more (stream_of P) (place_of P c.args.arbiter.now.sent) (sym c.in-None.is ∙ here) in
+        let least : place_of P c.args.arbiter.now.sent ≤ length (stream_of P) = place_within f in
         (f, omega arith);
     kept = keeping_all_but_sent_is_reflexive;
   };

@@ -1,6 +1,6 @@
 use Rattle.std.proofs.Common.{◌≡◌, List, sym, subst, ◌∙◌}
 use Rattle.std.proofs.lemmas.Result.{err_from_is_err_and}
-use Rattle.line_arbiter.specs.Packets.{Arrival}
+use Rattle.line_arbiter.specs.Packets.{Input}
 use Rattle.line_arbiter.specs.Streams.{gap_of}
 use Rattle.line_arbiter.specs.Fits.{Fits}
 use Rattle.feed_text.specs.ReplayStates.{state_of_replay}
@@ -9,8 +9,8 @@ use Rattle.feed_text.proofs.Tales.{gap_goes, no_gap_goes, grows_as}
 use Rattle.feed_text.proofs.venue.VenueReplay.publish_gap.Goals as goal
 use Rattle.feed_text.proofs.venue.VenueReplay.publish_gap.Goals.{After-gap}
 
-gap_is : (c : After-gap) (P : List Arrival) → Fits c.args.self.now.arbiter P → c.gap.result ≡ gap_of c.args.self.now.arbiter.session c.args.self.now.arbiter.window c.args.self.now.arbiter.sent P
-gap_is c = subst (λ (v : ReplayVenue). (P : List Arrival) → Fits v.arbiter P → c.gap.result ≡ gap_of v.arbiter.session v.arbiter.window v.arbiter.sent P) c.self.view_is c.gap.ensures
+gap_is : (c : After-gap) (P : List Input) → Fits c.args.self.now.arbiter P → c.gap.result ≡ gap_of c.args.self.now.arbiter.session c.args.self.now.arbiter.window c.args.self.now.arbiter.sent P
+gap_is c = subst (λ (v : ReplayVenue). (P : List Input) → Fits v.arbiter P → c.gap.result ≡ gap_of v.arbiter.session v.arbiter.window v.arbiter.sent P) c.self.view_is c.gap.ensures
 
 pub returns-in_ok-put_gap-in-Some : goal.returns-in_ok-put_gap-in-Some
 returns-in_ok-put_gap-in-Some c = λ P f.

@@ -10,7 +10,7 @@ use Rattle.feed_types.specs.declared.line.LineId.TheVariants.{A, B, Recovery}
 pub returns : goal.returns
 returns c =
     on_ok_weaker c.put_venue.result (λ put width place h f.
-    let v : ReplayVenue = record { arbiter = c.self.inside.arbiter; sent_before = c.self.inside.sent_before } in
+    let v : ReplayVenue = record { arbiter = c.self.inside.arbiter; sent_before = c.self.inside.sent_before; opens_after = c.self.inside.opens_after } in
     let g : Follows width place v h = subst (λ (w : ReplayVenue). Follows width place w h) (sym c.self.view_is) f in
     put ∙ ap (λ (t : List ℕ). c.args.text.now.items ++ t)
     (last_is h place c.venue.result c.sent.result c.wins.result c.wins-2.result c.wins-3.result

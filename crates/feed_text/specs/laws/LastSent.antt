@@ -1,0 +1,35 @@
+-- The number of the last item that was taken, and how many items were.
+use Rattle.std.proofs.Common.{◌≡◌, arith, length-append}
+use Rattle.line_arbiter.specs.Streams.{closed_of, front_of, part_of, place_of, sent_of}
+use Rattle.line_arbiter.specs.Skips.{AllSent}
+use Rattle.line_arbiter.specs.Histories.{History}
+use Rattle.line_arbiter.specs.laws.Fronts.{front_is, opens_most}
+use Rattle.line_arbiter.specs.laws.Lengths.{length-stream}
+use Rattle.feed_text.specs.Emitted.{last_sent, stream_length}
+
+module _ (h : History) where
+  -- all items of the present part, up to the last one, were taken
+  pub last_all : AllSent h.present.packets (last_sent h)
+  last_all =
+      let packets = h.present.packets in
+      let most = opens_most packets (front_of packets) (front_is packets) in
+      let part = length-stream packets (front_of packets) in
+      omega arith
+
+  -- so many items lie up to the last one
+  pub place_last : place_of h.present.packets (last_sent h) ≡ stream_length h
+  place_last =
+      let packets = h.present.packets in
+      let most = opens_most packets (front_of packets) (front_is packets) in
+      let part = length-stream packets (front_of packets) in
+      let whole = length-append (closed_of packets) (part_of packets) in
+      omega arith
+
+  -- its number follows from their count
+  pub last_counted : sent_of h.present.packets (stream_length h) ≡ last_sent h
+  last_counted =
+      let packets = h.present.packets in
+      let most = opens_most packets (front_of packets) (front_is packets) in
+      let part = length-stream packets (front_of packets) in
+      let whole = length-append (closed_of packets) (part_of packets) in
+      omega arith
