@@ -21,7 +21,8 @@ Replays a capture from standard input and prints what became of it.
 A capture is a list of records, one after the other: the venue (1 byte, from 0), a kind (1 byte),
 a length (2 bytes, big-endian) and that many bytes. Kind A, B or R is a MoldUDP64 datagram that
 came on line A, on line B or from recovery. Kind N has ten bytes, the name of the venue's next
-session. Kind H declares self-help on the venue, which takes its quotations out of the national
+session. Kind K has eight bytes, a number (big-endian): the messages below it that are missing are
+given up. Kind H declares self-help on the venue, which takes its quotations out of the national
 best, and kind W withdraws it; both have length 0.
 
 With --lines the input is a packet capture, pcap or pcapng, as tcpdump and dumpcap write it, and
@@ -46,8 +47,9 @@ Printed lines, V a venue from 0, L a line (A, B or R for recovery):
   packet V L ended               it announces the end of the session
   packet V L ahead               it goes beyond the window
   packet V L refused N           it is malformed or contradicts what came before: see below
-  item V NUMBER KIND             the next message in sequence: quote, halt, trading or other; or
-                                 end, after the last. It is journaled
+  item V NUMBER KIND             the next message in sequence: quote, halt, trading or other;
+                                 skipped, in place of messages that were given up, of which the
+                                 last has the number; or end, after the last. It is journaled
   best NOTICE POSITION SYMBOL BID OFFER STATE
                                  the journal's entry at POSITION, an item or a declaration, has
                                  changed the national best bid or offer of the symbol. BID and
@@ -56,6 +58,8 @@ Printed lines, V a venue from 0, L a line (A, B or R for recovery):
   gap V NUMBER COUNT             with --gaps: COUNT messages from NUMBER on are to be asked for
   renew V ORDINAL                the venue's next session has begun, the second as 2
   renew V refused N              it can't begin: see below
+  skip V NUMBER                  the messages below NUMBER that were missing are given up
+  skip V refused N               they aren't: see below
   declare V on POSITION          self-help stands on the venue; 'off' where it was withdrawn. In
                                  place of the journal's position 'already' where it was so
   venue V sent SENT wins A B R   after the last record, for each venue: how many items were sent,
@@ -99,6 +103,9 @@ Refusals:
   35  the present session isn't over: its end wasn't sent
   36  the venue has used the name
   37  the venue has had " MAX_SESSIONS " sessions
+  61  the number is past the announced end of the session
+  62  no message below the number is missing
+  63  a message below the number has come, after one that is missing
 
 Status:
   0  the capture was replayed to its end, or help or the version was shown
@@ -107,7 +114,8 @@ Status:
        journal full    the next item or declaration has no room in the journal; those of the same
                        datagram that had room were printed, too
        bad record      a record's venue isn't below the number of sessions, its kind isn't A, B, R,
-                       N, H or W, a record N hasn't ten bytes, or a record H or W has any
+                       N, K, H or W, a record N hasn't ten bytes, a record K hasn't eight, or a
+                       record H or W has any
        short record    the capture ends within a record; with --lines, within a header, a packet
                        or a block, or before the first
        bad capture at byte N

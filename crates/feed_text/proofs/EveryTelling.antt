@@ -7,11 +7,12 @@ use Rattle.std.proofs.lemmas.List.Elements.{recursion_from_All}
 use Rattle.std.proofs.Math.ListN.{length-set}
 use Rattle.mold_packet.specs.laws.EveryReading.{read_or_fault}
 use Rattle.line_arbiter.specs.Packets.{arrival_of, end_of}
-use Rattle.line_arbiter.specs.Histories.{History, new_history, names_of, after_input, history_after}
+use Rattle.line_arbiter.specs.Histories.{History, new_history, names_of, after_input, history_after, skip_after}
 use Rattle.line_arbiter.specs.laws.EveryAnswer.{every_answer, every_renewal}
+use Rattle.line_arbiter.specs.laws.SkipAnswers.{every_skip}
 use Rattle.feed_text.specs.declared.replay.ReplayConfig.{ReplayConfig}
-use Rattle.feed_text.specs.Capture.{CaptureRecord, datagram_record, renewal_record, self_help_record, record_venue, IsRecord, HoldsBytes}
-use Rattle.feed_text.specs.ReplayEvents.{ReplayEvent, packet_answered, packet_refused, renewal_answered, self_help_declared}
+use Rattle.feed_text.specs.Capture.{CaptureRecord, datagram_record, renewal_record, skip_record, self_help_record, record_venue, IsRecord, HoldsBytes}
+use Rattle.feed_text.specs.ReplayEvents.{ReplayEvent, packet_answered, packet_refused, renewal_answered, skip_answered, self_help_declared}
 use Rattle.feed_text.specs.Emitted.{last_sent, gap_emitted, items_emitted, EmitsAt, EmitsRecord, Emits}
 use Rattle.feed_text.specs.Texts.{EmitsAll}
 use Rattle.feed_text.specs.Replays.{venues_in}
@@ -32,6 +33,13 @@ tells_at window gaps (datagram_record venue line bytes) old are = elim (read_or_
 tells_at window gaps (renewal_record venue name) old are =
     let given = every_renewal (names_of old) (end_of old.present.packets) (last_sent old) name in
     (renewal_answered venue given.0 ∷ [], history_after old name given.0, record { answer = given.0; is = given.1; after = refl; emitted_is = refl })
+tells_at window gaps (skip_record venue number) old are =
+    let given = every_skip old.present.packets (last_sent old) number in
+    let new : History = skip_after old number given.0 in (
+      skip_answered venue number given.0 ∷ items_emitted venue old new.present.packets,
+      new,
+      record { answer = given.0; is = given.1; after = refl; emitted_is = refl },
+    )
 tells_at window gaps (self_help_record venue on) old are = (self_help_declared venue on ∷ [], old, record { same = refl; emitted_is = refl })
 
 tells_record : (window : ℕ) (gaps : Bool) (r : CaptureRecord) (old : List History) → record_venue r < length old → HoldsBytes r → (emitted : List ReplayEvent) × (new : List History) × EmitsRecord window gaps r old emitted new

@@ -8,17 +8,19 @@ use Rattle.mold_packet.specs.Faults.{HasFault}
 use Rattle.line_arbiter.specs.declared.outcome.Outcome.{Outcome}
 use Rattle.line_arbiter.specs.declared.outcome.LineFault.{LineFault}
 use Rattle.line_arbiter.specs.declared.faults.RenewFault.{RenewFault}
+use Rattle.line_arbiter.specs.declared.faults.SkipFault.{SkipFault}
 use Rattle.line_arbiter.specs.Packets.{Input, arrival_of}
 use Rattle.line_arbiter.specs.Outcomes.{IsOutcome}
 use Rattle.line_arbiter.specs.laws.OneOutcome.{one_renewal}
+use Rattle.line_arbiter.specs.laws.SkipAnswers.{one_skip}
 use Rattle.feed_types.specs.declared.journal.Entry.{Entry}
 use Rattle.feed_types.specs.declared.journal.Entry.TheVariants.{Consumed, SelfHelp}
 use Rattle.feed_text.specs.laws.Entries.{entries_more, entries_grow}
 use Rattle.feed_text.proofs.Steps.{tells_one}
-use Rattle.line_arbiter.specs.Histories.{History, names_of, after_input, history_after}
+use Rattle.line_arbiter.specs.Histories.{History, names_of, after_input, history_after, skip_after}
 use Rattle.feed_text.specs.declared.replay.ReplayConfig.{ReplayConfig}
-use Rattle.feed_text.specs.Capture.{CaptureRecord, datagram_record, renewal_record, self_help_record, record_venue}
-use Rattle.feed_text.specs.ReplayEvents.{ReplayEvent, packet_answered, packet_refused, item_taken, gap_left, renewal_answered, self_help_declared, entries_after, entries_of}
+use Rattle.feed_text.specs.Capture.{CaptureRecord, datagram_record, renewal_record, skip_record, self_help_record, record_venue}
+use Rattle.feed_text.specs.ReplayEvents.{ReplayEvent, packet_answered, packet_refused, item_taken, gap_left, renewal_answered, skip_answered, self_help_declared, entries_after, entries_of}
 use Rattle.feed_text.specs.Emitted.{last_sent, gap_emitted, items_emitted, EmitsFault, EmitsPacket, EmitsAt, EmitsRecord, Emits}
 use Rattle.feed_text.specs.Texts.{last_lines, new_histories, EmitsAll, lines_emitted, HasJournalRoom, IsTextOf, IsLinesOf, IsLinesToFull}
 
@@ -54,6 +56,11 @@ one_at window gaps (datagram_record venue line bytes) old n1 n2 l1 l2 one (inr a
 one_at window gaps (renewal_record venue name) old n1 n2 l1 l2 one a b =
     let x = one_renewal (names_of old) _ (last_sent old) name a.answer b.answer a.is b.is in
     (a.emitted_is ∙ ap (λ (y : Result ℕ RenewFault). renewal_answered venue y ∷ []) x ∙ sym b.emitted_is, a.after ∙ ap (history_after old name) x ∙ sym b.after)
+one_at window gaps (skip_record venue number) old n1 n2 l1 l2 one a b =
+    let F : Result (Unit {0}) SkipFault → History → List ReplayEvent = λ y h. skip_answered venue number y ∷ items_emitted venue old h.present.packets in
+    let x = one_skip old.present.packets (last_sent old) number a.answer b.answer a.is b.is in
+    let n : n1 ≡ n2 = a.after ∙ ap (skip_after old number) x ∙ sym b.after in
+    (a.emitted_is ∙ ap (λ (y : Result (Unit {0}) SkipFault). F y n1) x ∙ ap (λ (h : History). F b.answer h) n ∙ sym b.emitted_is, n)
 one_at window gaps (self_help_record venue on) old n1 n2 l1 l2 one a b = (a.emitted_is ∙ sym b.emitted_is, a.same ∙ sym b.same)
 
 one_record : (window : ℕ) (gaps : Bool) (r : CaptureRecord) (old n1 n2 : List History) (l1 l2 : List ReplayEvent) → Single → EmitsRecord window gaps r old l1 n1 → EmitsRecord window gaps r old l2 n2 → (l1 ≡ l2) × (n1 ≡ n2)

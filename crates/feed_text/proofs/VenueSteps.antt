@@ -11,27 +11,30 @@ use Rattle.mold_packet.specs.Faults.{HasFault}
 use Rattle.line_arbiter.specs.declared.outcome.Outcome.{Outcome}
 use Rattle.line_arbiter.specs.declared.outcome.LineFault.{LineFault}
 use Rattle.line_arbiter.specs.declared.faults.RenewFault.{RenewFault}
-use Rattle.line_arbiter.specs.Packets.{Arrival, Arrived, Input, arrival_of, end_of}
-use Rattle.line_arbiter.specs.Streams.{closed_of, opens_of, place_of, sent_of, stream_of, gap_of}
-use Rattle.line_arbiter.specs.Histories.{History, after_input, all_begun, history_after, items_of, names_of, new_history, streams_of, wins_in}
+use Rattle.line_arbiter.specs.declared.faults.SkipFault.{SkipFault}
+use Rattle.line_arbiter.specs.Packets.{Arrival, Arrived, Input, Skip, arrival_of, end_of, first_of}
+use Rattle.line_arbiter.specs.Streams.{closed_of, front_of, opens_of, place_of, sent_of, stream_of, gap_of}
+use Rattle.line_arbiter.specs.Histories.{History, after_input, all_begun, history_after, items_of, names_of, new_history, skip_after, streams_of, wins_in}
 use Rattle.line_arbiter.specs.Outcomes.{IsOutcome}
 use Rattle.line_arbiter.specs.Renewals.{IsRenewal}
+use Rattle.line_arbiter.specs.Skips.{IsSkip}
 use Rattle.line_arbiter.specs.Counts.{shown}
-use Rattle.line_arbiter.specs.States.{State, KeepsItsPlace, KeepsItsSession, IsNew, IsRenewed}
+use Rattle.line_arbiter.specs.States.{State, KeepsItsPlace, KeepsItsSession, KeepsAllButSent, IsNew, IsRenewed, IsSkipped}
 use Rattle.line_arbiter.specs.Fits.{Fits}
-use Rattle.line_arbiter.specs.laws.Bringing.{opens_same}
+use Rattle.line_arbiter.specs.laws.Bringing.{first_of-push, opens_same}
+use Rattle.line_arbiter.specs.laws.Fronts.{first_most, front_is}
 use Rattle.line_arbiter.specs.laws.Histories.{items_push}
-use Rattle.line_arbiter.specs.laws.Placing.{place_same, sent_back}
-use Rattle.line_arbiter.specs.laws.StreamGrowth.{closed_same}
-use Rattle.line_arbiter.specs.laws.FitsHistory.{fits_new, fits_packet, fits_renewal, keeping_its_session_is_transitive, outcome_in, renewal_in, shown_more}
+use Rattle.line_arbiter.specs.laws.Placing.{place_same, place_skip, sent_back}
+use Rattle.line_arbiter.specs.laws.StreamGrowth.{closed_same, closed_skip}
+use Rattle.line_arbiter.specs.laws.FitsHistory.{fits_new, fits_packet, fits_push, fits_renewal, keeping_its_session_is_transitive, outcome_in, renewal_in, shown_more}
 use Rattle.feed_text.specs.declared.report.PublishStop.{PublishStop}
-use Rattle.feed_text.specs.Capture.{datagram_record, renewal_record}
+use Rattle.feed_text.specs.Capture.{datagram_record, renewal_record, skip_record}
 use Rattle.feed_text.specs.Lines.{venue_line, wins_by}
-use Rattle.feed_text.specs.ReplayEvents.{ReplayEvent, packet_answered, packet_refused, item_taken, renewal_answered}
+use Rattle.feed_text.specs.ReplayEvents.{ReplayEvent, packet_answered, packet_refused, item_taken, renewal_answered, skip_answered}
 use Rattle.feed_text.specs.Emitted.{last_sent, items_emitted, gap_event, gap_emitted, EmitsAt}
 use Rattle.feed_text.specs.Texts.{last_line}
 use Rattle.feed_text.specs.ReplayStates.{ReplayState, EmitsInto}
-use Rattle.feed_text.specs.Following.{ReplayVenue, Follows, SendsReady, EmitsOutcome, EmitsOne, Renews}
+use Rattle.feed_text.specs.Following.{ReplayVenue, Follows, SendsReady, EmitsOutcome, EmitsOne, Renews, GivesUp}
 use Rattle.feed_text.specs.laws.LastSent.{last_counted}
 use Rattle.feed_text.proofs.Tales.{tells_more, tells_stop, tells_as}
 
@@ -231,6 +234,68 @@ not_renewed width place h v name fault f is = record {
   is = subst (λ (n : ℕ). IsRenewal (names_of h) (end_of h.present.packets) n name (Err fault)) (sent_is h f) (renewal_in h name (Err fault) f.history is);
   follows = f;
 }
+
+-- what is missing was given up, and nothing of the part that opens there was sent
+pub given_up : (width place : ℕ) (h : History) (v : ReplayVenue) (new : State) (number sent opens_after : ℕ)
+    → Follows width place v h
+    → IsSkip h.present.packets v.arbiter.sent number (Ok tt)
+    → IsSkipped v.arbiter new number
+    → Fits new (h.present.packets ++ Skip number ∷ [])
+    → sent ≡ shown (length (streams_of h)) → opens_after ≡ new.sent
+    → GivesUp width place number h (record { arbiter = new; sent_before = sent; opens_after = opens_after }) (Ok tt)
+given_up width place h v new number sent opens_after f is skipped fits count last_is =
+    let P : List Input = h.present.packets in
+    let past = is.1.past in
+    let whole : length (streams_of h) ≡ length (items_of h.earlier) + length (closed_of (P ++ Skip number ∷ [])) =
+    streams_more h ∙ ap (λ (xs : List Numbered). length (items_of h.earlier) + length xs) (sym (closed_skip P number)) in
+    let most = first_most P (front_of P) (front_is P) in
+    let first : first_of (P ++ Skip number ∷ []) ≡ number = omega (arith, first_of-push P (Skip number)) in
+    let last = skipped.sent in
+    let opens : opens_after + 1 ≡ opens_of (P ++ Skip number ∷ []) = omega arith in
+    record {
+      is = subst (λ (n : ℕ). IsSkip P n number (Ok tt)) (sent_is h f) is;
+      sent = record {
+        history = fits_packet h (Skip number) f.history (record { venue = skipped.venue; sessions = skipped.sessions; session = skipped.session; window = skipped.window; earlier = skipped.earlier }) fits;
+        number = skipped.venue ∙ f.number;
+        window = skipped.window ∙ f.window;
+        sent = place_skip P number new.sent is.1 skipped.sent;
+        sent_before = count ∙ ap shown whole;
+        opens_after = opens;
+      };
+    }
+
+pub not_given_up : (width place : ℕ) (h : History) (v : ReplayVenue) (number : ℕ) (fault : SkipFault)
+    → Follows width place v h → IsSkip h.present.packets v.arbiter.sent number (Err fault) → GivesUp width place number h v (Err fault)
+not_given_up width place h v number fault f is = record {
+  is = subst (λ (n : ℕ). IsSkip h.present.packets n number (Err fault)) (sent_is h f) is;
+  sent = f;
+}
+
+-- a skip was answered, and the items that it made ready were emitted after it
+pub skip_told : (width place : ℕ) (gaps : Bool) (h : History) (number : ℕ) (v : ReplayVenue) (new : State) (answer : Result (Unit {0}) SkipFault) (t0 t1 : ReplayState) (done : Result (Unit {0}) PublishStop)
+    → GivesUp width place number h v answer
+    → ((P : List Input) → Fits v.arbiter P → EmitsInto t0 (skip_answered place number answer ∷ map (item_taken place) (drop (place_of P v.arbiter.sent) (stream_of P))) t1 done)
+    → OnOk done (SendsReady v.arbiter new)
+    → EmitsOne width gaps (skip_record place number) h t0 t1 (record { arbiter = new; sent_before = v.sent_before; opens_after = v.opens_after }) done
+skip_told width place gaps h number v new answer t0 t1 done x emits sends =
+    let k : History = skip_after h number answer in
+    let P : List Input = k.present.packets in
+    let fits : Fits v.arbiter P = x.sent.history.present in
+    let follows : SendsReady v.arbiter new → Follows width place (record { arbiter = new; sent_before = v.sent_before; opens_after = v.opens_after }) k = λ s. record {
+      history = fits_push k x.sent.history s.kept (s.fits P fits).0;
+      number = s.kept.venue ∙ x.sent.number;
+      window = s.kept.window ∙ x.sent.window;
+      sent = (s.fits P fits).1;
+      sent_before = x.sent.sent_before;
+      opens_after = x.sent.opens_after;
+    } in
+    record {
+      emitted = skip_answered place number answer ∷ items_emitted place h P;
+      after = k;
+      at = record { answer = answer; is = x.is; after = refl; emitted_is = refl };
+      emits = tells_as t0 t1 done (ap (λ (n : ℕ). skip_answered place number answer ∷ map (item_taken place) (drop n (stream_of P))) x.sent.sent) (emits P fits);
+      follows = on_ok_weaker done follows sends;
+    }
 
 -- a venue to which nothing came
 pub new_follows : (width place : ℕ) (s : State) (session : List ℕ) → IsNew s place session width → Fits s [] → Follows width place (record { arbiter = s; sent_before = 0; opens_after = 0 }) (new_history session)

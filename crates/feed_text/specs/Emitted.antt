@@ -9,13 +9,15 @@ use Rattle.mold_packet.specs.Faults.{HasFault}
 use Rattle.line_arbiter.specs.declared.outcome.Outcome.{Outcome}
 use Rattle.line_arbiter.specs.declared.outcome.LineFault.{LineFault}
 use Rattle.line_arbiter.specs.declared.faults.RenewFault.{RenewFault}
+use Rattle.line_arbiter.specs.declared.faults.SkipFault.{SkipFault}
 use Rattle.line_arbiter.specs.Packets.{Input, arrival_of, end_of}
 use Rattle.line_arbiter.specs.Streams.{stream_of, gap_of, front_of, end_at}
-use Rattle.line_arbiter.specs.Histories.{History, names_of, after_input, history_after}
+use Rattle.line_arbiter.specs.Histories.{History, names_of, after_input, history_after, skip_after}
 use Rattle.line_arbiter.specs.Outcomes.{IsOutcome}
 use Rattle.line_arbiter.specs.Renewals.{IsRenewal}
-use Rattle.feed_text.specs.Capture.{CaptureRecord, datagram_record, renewal_record, self_help_record, record_venue}
-use Rattle.feed_text.specs.ReplayEvents.{ReplayEvent, packet_answered, packet_refused, item_taken, gap_left, renewal_answered, self_help_declared}
+use Rattle.line_arbiter.specs.Skips.{IsSkip}
+use Rattle.feed_text.specs.Capture.{CaptureRecord, datagram_record, renewal_record, skip_record, self_help_record, record_venue}
+use Rattle.feed_text.specs.ReplayEvents.{ReplayEvent, packet_answered, packet_refused, item_taken, gap_left, renewal_answered, skip_answered, self_help_declared}
 
 -- how many items of the present session were taken: every item is, once it is ready
 abbrev pub stream_length : History → ℕ
@@ -39,7 +41,7 @@ gap_emitted window gaps venue h =
     if gaps then gap_event venue (gap_of h.present.name window (last_sent h) h.present.packets)
     else []
 
--- the events of the items that one more packet made ready
+-- the events of the items that one more packet made ready, or a skip
 abbrev pub items_emitted : ℕ → History → List Input → List ReplayEvent
 items_emitted venue h packets = map (item_taken venue) (drop (stream_length h) (stream_of packets))
 
@@ -72,6 +74,16 @@ pub record EmitsRenewal (venue : ℕ) (name : List ℕ) (old : History) (emitted
   pub after : new ≡ history_after old name answer
   pub emitted_is : emitted ≡ renewal_answered venue answer ∷ []
 
+-- a skip emits its answer, and then each item that it made ready: where the answer is Ok Skipped,
+-- and what it had held up
+pub record EmitsSkip (venue number : ℕ) (old : History) (emitted : List ReplayEvent)
+    (new : History) : Type 0 where
+  pub answer : Result (Unit {0}) SkipFault
+  pub is : IsSkip old.present.packets (last_sent old) number answer
+  pub after : new ≡ skip_after old number answer
+  pub emitted_is : emitted ≡ skip_answered venue number answer
+      ∷ items_emitted venue old new.present.packets
+
 -- a declaration of self-help leaves the venue's history unchanged
 pub record EmitsSelfHelp (venue : ℕ) (on : Bool) (old : History) (emitted : List ReplayEvent)
     (new : History) : Type 0 where
@@ -85,6 +97,8 @@ EmitsAt window gaps (datagram_record venue line bytes) old emitted new =
     ⊎ EmitsPacket window gaps venue line bytes old emitted new
 EmitsAt window gaps (renewal_record venue name) old emitted new =
     EmitsRenewal venue name old emitted new
+EmitsAt window gaps (skip_record venue number) old emitted new =
+    EmitsSkip venue number old emitted new
 EmitsAt window gaps (self_help_record venue on) old emitted new =
     EmitsSelfHelp venue on old emitted new
 

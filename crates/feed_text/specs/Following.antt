@@ -6,11 +6,13 @@ use Rattle.mold_packet.specs.Content.{Content}
 use Rattle.line_arbiter.specs.declared.outcome.Outcome.{Outcome}
 use Rattle.line_arbiter.specs.declared.outcome.LineFault.{LineFault}
 use Rattle.line_arbiter.specs.declared.faults.RenewFault.{RenewFault}
+use Rattle.line_arbiter.specs.declared.faults.SkipFault.{SkipFault}
 use Rattle.line_arbiter.specs.Packets.{Input, arrival_of, end_of}
 use Rattle.line_arbiter.specs.Streams.{closed_of, opens_of, place_of, stream_of}
-use Rattle.line_arbiter.specs.Histories.{History, items_of, names_of, after_input, history_after}
+use Rattle.line_arbiter.specs.Histories.{History, items_of, names_of, after_input, history_after, skip_after}
 use Rattle.line_arbiter.specs.Outcomes.{IsOutcome}
 use Rattle.line_arbiter.specs.Renewals.{IsRenewal}
+use Rattle.line_arbiter.specs.Skips.{IsSkip}
 use Rattle.line_arbiter.specs.Counts.{shown}
 use Rattle.line_arbiter.specs.States.{State, KeepsAllButSent}
 use Rattle.line_arbiter.specs.Fits.{Fits, FitsHistory}
@@ -32,16 +34,20 @@ pub record ReplayVenue : Type 0 where
   pub sent_before : ℕ
   pub opens_after : ℕ
 
--- The venue at this place, with a window of this width, has this history, and everything that is
--- ready was sent.
-pub record Follows (width place : ℕ) (v : ReplayVenue) (h : History) : Type 0 where
+-- The venue at this place, with a window of this width, has this history, and so many items of its
+-- present session were sent.
+pub record HasSent (width place count : ℕ) (v : ReplayVenue) (h : History) : Type 0 where
   pub history : FitsHistory v.arbiter h
   pub number : v.arbiter.venue ≡ place
   pub window : v.arbiter.window ≡ width
-  pub sent : place_of h.present.packets v.arbiter.sent ≡ stream_length h
+  pub sent : place_of h.present.packets v.arbiter.sent ≡ count
   pub sent_before : v.sent_before
       ≡ shown (length (items_of h.earlier) + length (closed_of h.present.packets))
   pub opens_after : v.opens_after + 1 ≡ opens_of h.present.packets
+
+-- The same, and everything that is ready was sent.
+abbrev pub Follows : ℕ → ℕ → ReplayVenue → History → Type 0
+Follows width place v h = HasSent width place (stream_length h) v h
 
 -- All that is ready was sent, and the rest is kept.
 pub record SendsReady (from to : State) : Type 0 where
@@ -82,6 +88,13 @@ pub record Renews (width place : ℕ) (name : List ℕ) (h : History) (v : Repla
     (answer : Result ℕ RenewFault) : Type 0 where
   pub is : IsRenewal (names_of h) (end_of h.present.packets) (last_sent h) name answer
   pub follows : Follows width place v (history_after h name answer)
+
+-- A skip was answered. Where that is Ok, the history goes on with it, and what was sent is what came
+-- before it.
+pub record GivesUp (width place number : ℕ) (h : History) (v : ReplayVenue)
+    (answer : Result (Unit {0}) SkipFault) : Type 0 where
+  pub is : IsSkip h.present.packets (last_sent h) number answer
+  pub sent : HasSent width place (stream_length h) v (skip_after h number answer)
 
 -- The events of one record were emitted, and where all of them were the venue follows the history
 -- after it.

@@ -17,7 +17,8 @@ use Rattle.line_arbiter.specs.declared.outcome.Outcome.{Outcome}
 use Rattle.line_arbiter.specs.declared.outcome.Outcome.TheVariants.{Taken, Heartbeat, Ended, Ahead}
 use Rattle.line_arbiter.specs.declared.outcome.LineFault.{LineFault}
 use Rattle.line_arbiter.specs.declared.faults.RenewFault.{RenewFault}
-use Rattle.line_arbiter.specs.Codes.{line_fault_code, renew_fault_code}
+use Rattle.line_arbiter.specs.declared.faults.SkipFault.{SkipFault}
+use Rattle.line_arbiter.specs.Codes.{line_fault_code, renew_fault_code, skip_fault_code}
 
 -- a number after a space
 abbrev pub field : ℕ → List ℕ
@@ -94,6 +95,12 @@ declare_line venue on position =
 abbrev pub renew_line : ℕ → Result ℕ RenewFault → List ℕ
 renew_line venue (Ok ordinal) = codes "renew" ++ field venue ++ field ordinal ++ line_end
 renew_line venue (Err fault) = codes "renew" ++ field venue ++ refused_tail (renew_fault_code fault)
+
+-- skip V NUMBER, or skip V refused N: what is missing below the number is given up
+abbrev pub skip_line : ℕ → ℕ → Result (Unit {0}) SkipFault → List ℕ
+skip_line venue number (Ok done) = codes "skip" ++ field venue ++ field number ++ line_end
+skip_line venue number (Err fault) =
+    codes "skip" ++ field venue ++ refused_tail (skip_fault_code fault)
 
 -- venue V sent SENT wins A B R: how many items were sent, and how many numbers each line brought
 -- first

@@ -9,17 +9,19 @@ use Rattle.mold_packet.specs.declared.request.Request.{Request}
 use Rattle.line_arbiter.specs.declared.outcome.Outcome.{Outcome}
 use Rattle.line_arbiter.specs.declared.outcome.LineFault.{LineFault}
 use Rattle.line_arbiter.specs.declared.faults.RenewFault.{RenewFault}
+use Rattle.line_arbiter.specs.declared.faults.SkipFault.{SkipFault}
 use Rattle.nbbo_book.specs.Eligible.{is_so}
 
 -- A packet was answered, a datagram was no packet, an item was ready and taken, a run of messages
--- is to be asked for, a renewal was answered, or self-help was declared or withdrawn: each at a
--- venue.
+-- is to be asked for, a renewal was answered, a skip to a number was answered, or self-help was
+-- declared or withdrawn: each at a venue.
 pub data ReplayEvent : Type 0 where
   packet_answered : (venue : ℕ) (line : LineId) (answer : Result Outcome LineFault) → ReplayEvent
   packet_refused : (venue : ℕ) (line : LineId) (fault : PacketFault) → ReplayEvent
   item_taken : (venue : ℕ) (numbered : Numbered) → ReplayEvent
   gap_left : (venue : ℕ) (request : Request) → ReplayEvent
   renewal_answered : (venue : ℕ) (answer : Result ℕ RenewFault) → ReplayEvent
+  skip_answered : (venue number : ℕ) (answer : Result (Unit {0}) SkipFault) → ReplayEvent
   self_help_declared : (venue : ℕ) (on : Bool) → ReplayEvent
 
 -- The journal after one more event: an item adds its entry, a declaration adds one unless that is
@@ -30,6 +32,7 @@ entries_after entries (packet_refused venue line fault) = entries
 entries_after entries (item_taken venue numbered) = entries ++ Consumed venue numbered ∷ []
 entries_after entries (gap_left venue request) = entries
 entries_after entries (renewal_answered venue answer) = entries
+entries_after entries (skip_answered venue number answer) = entries
 entries_after entries (self_help_declared venue on) =
     if is_so entries venue on then entries else entries ++ SelfHelp venue on ∷ []
 

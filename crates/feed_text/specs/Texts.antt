@@ -9,8 +9,8 @@ use Rattle.line_arbiter.specs.Counts.{shown}
 use Rattle.journal_book.specs.Changes.{notices_since}
 use Rattle.feed_text.specs.declared.replay.ReplayConfig.{ReplayConfig}
 use Rattle.feed_text.specs.Capture.{CaptureRecord}
-use Rattle.feed_text.specs.ReplayEvents.{ReplayEvent, packet_answered, packet_refused, item_taken, gap_left, renewal_answered, self_help_declared, entries_after, entries_of}
-use Rattle.feed_text.specs.Lines.{packet_line, fault_line, item_line, best_line, gap_line, renew_line, declare_line, venue_line}
+use Rattle.feed_text.specs.ReplayEvents.{ReplayEvent, packet_answered, packet_refused, item_taken, gap_left, renewal_answered, skip_answered, self_help_declared, entries_after, entries_of}
+use Rattle.feed_text.specs.Lines.{packet_line, fault_line, item_line, best_line, gap_line, renew_line, skip_line, declare_line, venue_line}
 use Rattle.feed_text.specs.Emitted.{EmitsRecord, Emits}
 
 -- the position of the entry that a declaration adds, unless that is declared already
@@ -25,6 +25,7 @@ line_of entries (packet_refused venue line fault) = fault_line venue line (code_
 line_of entries (item_taken venue numbered) = item_line venue numbered
 line_of entries (gap_left venue request) = gap_line venue request
 line_of entries (renewal_answered venue answer) = renew_line venue answer
+line_of entries (skip_answered venue number answer) = skip_line venue number answer
 line_of entries (self_help_declared venue on) =
     declare_line venue on (position_of entries venue on)
 

@@ -1,8 +1,8 @@
 //! The records of a capture.
-ghost use Rattle.std.specs.Prelude.{◌≡◌, ◌≢◌, ◌<◌, ◌≤◌, ◌+◌, MatchOption, length};
+ghost use Rattle.std.specs.Prelude.{◌≡◌, ◌≢◌, ◌<◌, ◌≤◌, ◌+◌, ◌^◌, MatchOption, length};
 ghost use Rattle.std.specs.Option.{SomeIff};
-ghost use Rattle.feed_text.specs.Capture.{IsKind, StandsAtFront};
-ghost use Rattle.feed_text.specs.Kind.{IsKindOf};
+ghost use Rattle.feed_text.specs.Capture.{HasNumber, IsKind, StandsAtFront, kind_byte, number_bytes, payload_of, record_of, record_venue};
+ghost use Rattle.feed_text.specs.Kind.{IsKindOf, MayHave, byte_of};
 
 use feed_types::{LineId, VenueId};
 
@@ -23,6 +23,11 @@ pub enum Record<'a> {
         venue: VenueId,
         session: [u8; 10],
     },
+    /// What is missing at the venue below the number is given up.
+    Skip {
+        venue: VenueId,
+        number: u64,
+    },
     /// Self-help on the venue is declared, or withdrawn.
     SelfHelp {
         venue: VenueId,
@@ -36,7 +41,7 @@ pub enum Parse<'a> {
     /// A whole record, and its length in bytes: from 4 to 65,539.
     Whole(Record<'a>, usize),
     /// No record, however the bytes go on: of a venue or a kind that isn't there, a renewal whose
-    /// length isn't 10, or a declaration whose length isn't 0.
+    /// length isn't 10, a skip whose length isn't 8, or a declaration whose length isn't 0.
     Bad,
     /// Less than a record. This number of bytes, with those that are there, is needed to go on.
     Wants(usize),
@@ -47,6 +52,7 @@ pub enum Parse<'a> {
 enum Kind {
     Line(LineId),
     Renewal,
+    Skip,
     SelfHelp(bool),
 }
 
@@ -59,6 +65,7 @@ fn other_kind(byte: u8, len: usize) -> Option<Kind>
 {
     match byte {
         b'N' if len == 10 => Some(Kind::Renewal),
+        b'K' if len == 8 => Some(Kind::Skip),
         b'H' if len == 0 => Some(Kind::SelfHelp(true)),
         b'W' if len == 0 => Some(Kind::SelfHelp(false)),
         _ => None,
@@ -100,6 +107,45 @@ fn name_from(bytes: &[u8]) -> [u8; 10]
     session
 }
 
+/// Reads eight bytes as a number, the first one first.
+#[tactic(auto, unfolding(crate::specs::Capture::number_bytes))]
+fn number_from(bytes: &[u8]) -> u64
+    requires { length bytes.now ≡ 8 }
+    ensures { number_bytes result ≡ bytes.now }
+{
+    let mut number = [0; 8];
+    number.copy_from_slice(bytes);
+    u64::from_be_bytes(number)
+}
+
+/// Makes the record of a kind, with the bytes that its length counts.
+#[inline(always)]
+fn record_from(venue: VenueId, kind: Kind, held: &[u8]) -> Record<'_>
+    requires { MayHave kind (length held.now) }
+    ensures venue { record_venue (record_of result) ≡ venue }
+    ensures kind { kind_byte (record_of result) ≡ byte_of kind }
+    ensures payload { payload_of (record_of result) ≡ held.now }
+    ensures fits { IsKind (byte_of kind) (length held.now) }
+    ensures number { HasNumber (record_of result) }
+{
+    match kind {
+        Kind::Line(line) => Record::Datagram {
+            venue,
+            line,
+            bytes: held,
+        },
+        Kind::Renewal => Record::Renewal {
+            venue,
+            session: name_from(held),
+        },
+        Kind::Skip => Record::Skip {
+            venue,
+            number: number_from(held),
+        },
+        Kind::SelfHelp(on) => Record::SelfHelp { venue, on },
+    }
+}
+
 /// Reads the record at the front of `bytes`, in a capture of `venues` venues.
 // With a second caller this and Venues::take were left calls, which took some 50 instructions a
 // record: the answer went through memory. tests/instructions counts them.
@@ -122,17 +168,5 @@ pub fn parse_record(venues: usize, bytes: &[u8]) -> Parse<'_>
         return Parse::Wants(HEADER + len);
     }
     let held = &bytes[HEADER..HEADER + len];
-    let record = match kind {
-        Kind::Line(line) => Record::Datagram {
-            venue,
-            line,
-            bytes: held,
-        },
-        Kind::Renewal => Record::Renewal {
-            venue,
-            session: name_from(held),
-        },
-        Kind::SelfHelp(on) => Record::SelfHelp { venue, on },
-    };
-    Parse::Whole(record, HEADER + len)
+    Parse::Whole(record_from(venue, kind, held), HEADER + len)
 }

@@ -1,7 +1,8 @@
 //! From the bytes of a capture to the lines that a replay prints.
 //!
 //! A capture is a list of records, one after the other: a datagram as it came on a line of a venue,
-//! the name of a venue's next session, or a declaration of self-help (`specs/Capture.antt`). The
+//! the name of a venue's next session, a number below which what a venue lacks is given up, or a
+//! declaration of self-help (`specs/Capture.antt`). The
 //! records emit events (`specs/Emitted.antt`), by the arbiter's definitions over everything that
 //! came to the record's venue before. The events make a journal (`specs/ReplayEvents.antt`): each
 //! item that is taken is an entry, and each declaration that changes something.

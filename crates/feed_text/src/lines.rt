@@ -4,7 +4,7 @@
 //! after them. So a line takes memory at most once, and where that is refused the text is
 //! unchanged.
 ghost use Rattle.std.specs.Prelude.{◌≡◌, ◌+◌, ◌<◌, ◌≤◌, ◌++◌, codes, length, IsTrue, Ok, OnOk, OnErr};
-ghost use Rattle.feed_text.specs.Lines.{field, line_end, packet_head, packet_line, fault_line, refused_tail, outcome_tail, item_word, item_line, side_field, state_tail, best_line, gap_line, renew_line, on_word, declare_line, venue_line, wins_by};
+ghost use Rattle.feed_text.specs.Lines.{field, line_end, packet_head, packet_line, fault_line, refused_tail, outcome_tail, item_word, item_line, side_field, state_tail, best_line, gap_line, renew_line, skip_line, on_word, declare_line, venue_line, wins_by};
 ghost use Rattle.feed_types.specs.Text.{best_text};
 ghost use Rattle.feed_text.specs.Placing.{Placed};
 ghost use Rattle.journal_book.specs.Changes.{notice_of};
@@ -15,7 +15,7 @@ use crate::fields::{
 };
 use crate::page::LineBuffer;
 use feed_types::{Best, Item, LineId, NationalState, Notice, Numbered, VenueId};
-use line_arbiter::{LineFault, Outcome, RenewFault};
+use line_arbiter::{LineFault, Outcome, RenewFault, SkipFault};
 use mold_packet::Request;
 use nbbo_book::Change;
 use std::alloc::AllocError;
@@ -383,6 +383,32 @@ pub(crate) fn put_renewal(
     let at = match *renewal {
         Ok(ordinal) => {
             let at = place_field(room, at, ordinal);
+            place(room, at, *b"\n")
+        }
+        Err(fault) => place_refused(room, at, fault.code()),
+    };
+    text.end = at;
+    Ok(())
+}
+
+/// Appends the line of a skip: the number to go on from, or why nothing is given up.
+pub(crate) fn put_skip(
+    text: &mut LineBuffer,
+    venue: VenueId,
+    number: u64,
+    skip: &Result<(), SkipFault>,
+) -> Result<(), AllocError>
+    ensures line { OnOk result (text.new.items ≡ text.old.items ++ skip_line venue number skip.now) }
+    ensures part { OnErr result (text.new.items ≡ text.old.items) }
+{
+    text.make_room(LINE)?;
+    let at = text.end;
+    let room = text.bytes.as_mut_slice();
+    let at = place(room, at, *b"skip");
+    let at = place_venue(room, at, venue);
+    let at = match *skip {
+        Ok(()) => {
+            let at = place_field(room, at, number);
             place(room, at, *b"\n")
         }
         Err(fault) => place_refused(room, at, fault.code()),

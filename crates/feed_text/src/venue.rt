@@ -8,18 +8,18 @@ ghost use Rattle.line_arbiter.specs.Streams.{gap_of, place_of, stream_of};
 ghost use Rattle.line_arbiter.specs.Counts.{shown};
 ghost use Rattle.line_arbiter.specs.Fits.{Fits};
 ghost use Rattle.line_arbiter.specs.Histories.{History, new_history, streams_of};
-ghost use Rattle.feed_text.specs.Capture.{datagram_record, renewal_record};
+ghost use Rattle.feed_text.specs.Capture.{datagram_record, renewal_record, skip_record};
 ghost use Rattle.feed_text.specs.ReplayEvents.{item_taken, packet_answered};
 ghost use Rattle.feed_text.specs.Emitted.{gap_event};
 ghost use Rattle.feed_text.specs.Texts.{last_line};
 ghost use Rattle.feed_text.specs.ReplayStates.{EmitsInto, state_of_replay};
-ghost use Rattle.feed_text.specs.Following.{Follows, SendsReady, TakesReady, PublishesPacket, EmitsOne, Renews};
+ghost use Rattle.feed_text.specs.Following.{Follows, SendsReady, TakesReady, PublishesPacket, EmitsOne, GivesUp, Renews};
 
-use crate::lines::{put_fault, put_gap, put_packet, put_renewal, put_venue};
+use crate::lines::{put_fault, put_gap, put_packet, put_renewal, put_skip, put_venue};
 use crate::page::LineBuffer;
 use crate::report::{PublishStop, ReplaySink};
 use feed_types::{Anything, LineId, Numbered, VenueId};
-use line_arbiter::{Arbiter, LineFault, Outcome, RenewFault};
+use line_arbiter::{Arbiter, LineFault, Outcome, RenewFault, SkipFault};
 use mold_packet::{Messages, Packet, read_packet};
 use quote_payload::{peek_symbol_bytes, read_item};
 use std::alloc::{AllocError, Global};
@@ -350,6 +350,38 @@ impl VenueReplay {
         let answer = self.next_session(session);
         put_renewal(&mut report.text, venue, &answer)?;
         Ok(())
+    }
+
+    /// Gives up what is missing below the number, where it may be. Nothing that it makes ready is
+    /// sent yet.
+    fn give_up(&mut self, number: u64) -> Result<(), SkipFault>
+        ensures { (width place : ℕ) (h : History) → Follows width place self.old h
+            → GivesUp width place number h self.new result }
+    {
+        let sent = self.sent();
+        self.arbiter.skip_to(number)?;
+        self.sent_before = sent;
+        self.opens_after = self.arbiter.status().sent;
+        Ok(())
+    }
+
+    /// Gives up what is missing below the number, where it may be, and publishes the answer and
+    /// each item that is ready then.
+    #[inline(never)]
+    pub fn skip_to(
+        &mut self,
+        venue: VenueId,
+        number: u64,
+        report: &mut ReplaySink,
+    ) -> Result<(), PublishStop>
+        requires { venue < report.old.journal.venues }
+        ensures { (width : ℕ) (gaps : Bool) (h : History) → Follows width venue self.old h
+            → EmitsOne width gaps (skip_record venue number) h
+            (state_of_replay report.old) (state_of_replay report.new) self.new result }
+    {
+        let answer = self.give_up(number);
+        put_skip(&mut report.text, venue, number, &answer)?;
+        publish_each(&mut self.arbiter, venue, report)
     }
 
     /// Appends the venue's last line.

@@ -72,6 +72,10 @@ impl Venues {
                 let replay = &mut self.venues[venue.index()];
                 replay.renew(venue, session, report)
             }
+            Record::Skip { venue, number } => {
+                let replay = &mut self.venues[venue.index()];
+                replay.skip_to(venue, number, report)
+            }
             Record::SelfHelp { venue, on } => report.declare(venue, on),
         }
     }

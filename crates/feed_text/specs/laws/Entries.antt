@@ -4,7 +4,7 @@ use Rattle.std.specs.Prelude.{if◌then◌else◌}
 use Rattle.feed_types.specs.declared.journal.Entry.{Entry}
 use Rattle.feed_types.specs.declared.journal.Entry.TheVariants.{Consumed, SelfHelp}
 use Rattle.nbbo_book.specs.Eligible.{is_so}
-use Rattle.feed_text.specs.ReplayEvents.{ReplayEvent, packet_answered, packet_refused, item_taken, gap_left, renewal_answered, self_help_declared, entries_after, entries_of}
+use Rattle.feed_text.specs.ReplayEvents.{ReplayEvent, packet_answered, packet_refused, item_taken, gap_left, renewal_answered, skip_answered, self_help_declared, entries_after, entries_of}
 use Rattle.feed_text.specs.Texts.{lines_of, text_of}
 
 pub entries_more : (old : List Entry) (xs ys : List ReplayEvent)
@@ -33,6 +33,7 @@ after_grows old (item_taken venue numbered) =
     let n = length-append old (Consumed venue numbered ∷ []) in omega arith
 after_grows old (gap_left venue request) = omega arith
 after_grows old (renewal_answered venue answer) = omega arith
+after_grows old (skip_answered venue number answer) = omega arith
 after_grows old (self_help_declared venue on) =
     if_grows (is_so old venue on) old (SelfHelp venue on)
 

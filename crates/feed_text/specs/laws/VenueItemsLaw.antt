@@ -2,6 +2,7 @@
 use Rattle.std.proofs.Common.{◌≡◌, ◌≢◌, ◌≤◌, ℕ, zero, suc, Bool, true, false, List, [], ◌∷◌, ◌++◌, length, map, drop, Some, None, Option, Result, Ok, Err, refl, sym, ap, subst, ◌∙◌, arith, append_assoc, append-nil, inl, inr}
 use Rattle.std.specs.Prelude.{◌==◌, slice_get, slice_set, if◌then◌else◌}
 use Rattle.std.specs.List.{AllByRecursion}
+use Rattle.std.proofs.Math.ListN.{drop_of_length-le}
 use Rattle.std.proofs.Math.Seq.{drop-append_seam}
 use Rattle.std.proofs.lemmas.Bool.Decides.{nat_tests}
 use Rattle.std.proofs.lemmas.Grind.{flat_map-append}
@@ -12,19 +13,21 @@ use Rattle.mold_packet.specs.declared.request.Request.{Request}
 use Rattle.line_arbiter.specs.declared.outcome.Outcome.{Outcome}
 use Rattle.line_arbiter.specs.declared.outcome.LineFault.{LineFault}
 use Rattle.line_arbiter.specs.declared.faults.RenewFault.{RenewFault}
-use Rattle.line_arbiter.specs.Packets.{Input, arrival_of, end_of}
+use Rattle.line_arbiter.specs.declared.faults.SkipFault.{SkipFault}
+use Rattle.line_arbiter.specs.Packets.{Input, Skip, arrival_of, end_of}
 use Rattle.line_arbiter.specs.Renewals.{IsRenewal}
+use Rattle.line_arbiter.specs.Skips.{IsSkip}
 use Rattle.line_arbiter.specs.Streams.{place_of, stream_of, gap_of}
 use Rattle.line_arbiter.specs.Answered.{IsAnswered, AreAnswered}
-use Rattle.line_arbiter.specs.Histories.{Begun, History, new_history, new_session, all_begun, names_of, streams_of, after_input, history_after}
+use Rattle.line_arbiter.specs.Histories.{Begun, History, new_history, new_session, all_begun, names_of, streams_of, after_input, history_after, skip_after}
 use Rattle.line_arbiter.specs.Histories as histories
 use Rattle.line_arbiter.specs.laws.Histories.{items_push}
 use Rattle.line_arbiter.specs.laws.Below.{answered_grows}
 use Rattle.line_arbiter.specs.laws.AnsweredHistories.{IsAnsweredThroughout, new_answered, answered_arrival, answered_renewal}
 use Rattle.feed_text.specs.declared.replay.ReplayConfig.{ReplayConfig}
-use Rattle.feed_text.specs.Capture.{CaptureRecord, datagram_record, renewal_record, self_help_record, record_venue}
-use Rattle.feed_text.specs.ReplayEvents.{ReplayEvent, item_taken, packet_answered, renewal_answered}
-use Rattle.feed_text.specs.Emitted.{last_sent, stream_length, gap_event, gap_emitted, EmitsPacket, EmitsAt, EmitsRecord, Emits}
+use Rattle.feed_text.specs.Capture.{CaptureRecord, datagram_record, renewal_record, skip_record, self_help_record, record_venue}
+use Rattle.feed_text.specs.ReplayEvents.{ReplayEvent, item_taken, packet_answered, renewal_answered, skip_answered}
+use Rattle.feed_text.specs.Emitted.{last_sent, stream_length, gap_event, gap_emitted, EmitsPacket, EmitsSkip, EmitsAt, EmitsRecord, Emits}
 use Rattle.feed_text.specs.Texts.{EmitsAll}
 use Rattle.feed_text.specs.VenueItems.{taken_by, items_taken}
 use Rattle.feed_text.specs.laws.LastSent.{place_last}
@@ -109,28 +112,56 @@ module _ (window : ℕ) (gaps : Bool) (venue : ℕ) where
       ap (items_taken venue) t.emitted_is
       ∙ packet_items venue window gaps venue line t.answer ready new ∙ items_same venue ready
 
+  -- the items that a skip made ready
+  pub skip_items : (number : ℕ) (old new : History) (emitted : List ReplayEvent)
+      → EmitsSkip venue number old emitted new
+      → items_taken venue emitted ≡ drop (stream_length old) (stream_of new.present.packets)
+  skip_items number old new emitted t =
+      ap (items_taken venue) t.emitted_is
+      ∙ items_same venue (drop (stream_length old) (stream_of new.present.packets))
+
+  -- one more packet came, or a skip
+  input_goes : (x : Input) (old new : History) (emitted : List ReplayEvent)
+      → IsAnsweredThroughout window old → IsAnswered old.present.name window old.present.packets x
+      → new ≡ after_input old x
+      → items_taken venue emitted ≡ drop (stream_length old) (stream_of new.present.packets)
+      → AddsEmittedItems window venue old emitted new
+  input_goes x old new emitted k one grown ready_is =
+      let b : Begun = old.present in
+      let next : Begun = record b { packets = b.packets ++ x ∷ [] } in
+      let ready : List Numbered = drop (stream_length old) (stream_of next.packets) in
+      let items : items_taken venue emitted ≡ ready =
+      ready_is ∙ ap (λ (h : History). drop (stream_length old) (stream_of h.present.packets)) grown in
+      subst (AddsEmittedItems window venue old emitted) (sym grown) (record {
+        items = items_push old.earlier next
+            ∙ ap (λ (xs : List Numbered). histories.items_of old.earlier ++ xs)
+            (seam (answered_grows b.name window b.packets x k.answered one))
+            ∙ sym (append_assoc (histories.items_of old.earlier) (stream_of b.packets) ready)
+            ∙ ap (λ (xs : List Numbered). xs ++ ready) (sym (items_push old.earlier b))
+            ∙ ap (λ (xs : List Numbered). streams_of old ++ xs) (sym items);
+        kept = answered_arrival window old k x one;
+      })
+
   packet_goes : (line : LineId) (bytes : List ℕ) (old new : History) (emitted : List ReplayEvent)
       → IsAnsweredThroughout window old → EmitsPacket window gaps venue line bytes old emitted new
       → AddsEmittedItems window venue old emitted new
   packet_goes line bytes old new emitted k t =
-      let a : Input = arrival_of line t.packet t.answer in
-      let b : Begun = old.present in
-      let next : Begun = record b { packets = b.packets ++ a ∷ [] } in
-      let ready : List Numbered = drop (stream_length old) (stream_of next.packets) in
-      let one : IsAnswered b.name window b.packets a =
-      record { content = t.spells.content; sent = last_sent old; outcome = t.outcome } in
-      let items : items_taken venue emitted ≡ ready =
-      ready_items line bytes old new emitted t
-      ∙ ap (λ (h : History). drop (stream_length old) (stream_of h.present.packets)) t.grown in
-      subst (AddsEmittedItems window venue old emitted) (sym t.grown) (record {
-        items = items_push old.earlier next
-            ∙ ap (λ (xs : List Numbered). histories.items_of old.earlier ++ xs)
-            (seam (answered_grows b.name window b.packets a k.answered one))
-            ∙ sym (append_assoc (histories.items_of old.earlier) (stream_of b.packets) ready)
-            ∙ ap (λ (xs : List Numbered). xs ++ ready) (sym (items_push old.earlier b))
-            ∙ ap (λ (xs : List Numbered). streams_of old ++ xs) (sym items);
-        kept = answered_arrival window old k a one;
-      })
+      input_goes (arrival_of line t.packet t.answer) old new emitted k
+      (record { content = t.spells.content; sent = last_sent old; outcome = t.outcome }) t.grown
+      (ready_items line bytes old new emitted t)
+
+  skip_goes : (number : ℕ) (old new : History) (emitted : List ReplayEvent)
+      (answer : Result (Unit {0}) SkipFault) → IsAnsweredThroughout window old
+      → IsSkip old.present.packets (last_sent old) number answer
+      → new ≡ skip_after old number answer
+      → items_taken venue emitted ≡ drop (stream_length old) (stream_of new.present.packets)
+      → AddsEmittedItems window venue old emitted new
+  skip_goes number old new emitted (Ok done) k is after items =
+      input_goes (Skip number) old new emitted k is.1 after items
+  skip_goes number old new emitted (Err fault) k is after items =
+      stays window venue old new emitted k after
+      (items ∙ ap (λ (h : History). drop (stream_length old) (stream_of h.present.packets)) after
+      ∙ drop_of_length-le (stream_of old.present.packets) (omega arith))
 
   renewal_goes : (name : List ℕ) (old new : History) (emitted : List ReplayEvent)
       (answer : Result ℕ RenewFault) → IsAnsweredThroughout window old
@@ -161,6 +192,9 @@ here window gaps (datagram_record venue line bytes) old new emitted k t = elim t
 ]
 here window gaps (renewal_record venue name) old new emitted k t =
     renewal_goes window gaps venue name old new emitted t.answer k t.is t.after t.emitted_is
+here window gaps (skip_record venue number) old new emitted k t =
+    skip_goes window gaps venue number old new emitted t.answer k t.is t.after
+    (skip_items window gaps venue number old new emitted t)
 here window gaps (self_help_record venue on) old new emitted k t =
     stays window venue old new emitted k t.same (ap (items_taken venue) t.emitted_is)
 
@@ -178,6 +212,9 @@ no_items window gaps place (datagram_record venue line bytes) old new emitted aw
 ]
 no_items window gaps place (renewal_record venue name) old new emitted away t =
     ap (items_taken place) t.emitted_is
+no_items window gaps place (skip_record venue number) old new emitted away t =
+    ap (items_taken place) t.emitted_is
+    ∙ items_other place venue (drop (stream_length old) (stream_of new.present.packets)) away
 no_items window gaps place (self_help_record venue on) old new emitted away t =
     ap (items_taken place) t.emitted_is
 
