@@ -41,7 +41,8 @@ front : {R : Type 0} (reading : Reading R) (config : ReplayConfig) (lines : List
     → AreOfVenues (venues_in config) lines → HasRead (records_reading reading) config (new_reader lines from) calls mid records rest → Front reading lines (venues_in config) from calls mid records rest
 front {R} reading config lines from calls mid records rest of h =
     let g = has_given reading lines from calls (capture_of records rest) mid h.bytes in
-    let f = front_of_records records g.records (rest ++ mid.pending) (sym g.given_is ∙ append_assoc (spelled records) rest mid.pending) in
+    let are = are_records (venues_in config) lines g.records of g.each in
+    let f = front_of_records (venues_in config) records g.records (rest ++ mid.pending) h.each are (sym g.given_is ∙ append_assoc (spelled records) rest mid.pending) in
     let Q : List CaptureRecord → Type 0 = λ rs. HasReadPieces reading lines from g.inner_calls mid.inner rs mid.point mid.unread in
     let V : List CaptureRecord → Type 0 = λ rs. All (IsRecord (venues_in config)) rs in
     record {
@@ -50,7 +51,7 @@ front {R} reading config lines from calls mid records rest of h =
       others = f.0;
       read = subst Q f.1 g.read;
       left = f.2;
-      each = all_right (IsRecord (venues_in config)) records f.0 (subst V f.1 (are_records (venues_in config) lines g.records of g.each));
+      each = all_right (IsRecord (venues_in config)) records f.0 (subst V f.1 are);
       sound = g.sound;
     }
 

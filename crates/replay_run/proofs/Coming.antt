@@ -19,22 +19,26 @@ use Rattle.mold_packet.specs.Content.{Content, IsContent, Spells, spelling}
 use Rattle.mold_packet.specs.laws.OneReading.{same_packet}
 use Rattle.quote_payload.specs.Payload.{item_of}
 use Rattle.line_arbiter.specs.declared.outcome.Outcome.TheVariants.{Taken, Ended}
-use Rattle.line_arbiter.specs.Packets.{Arrival, arrival_of, carried, end_of, has_number, item_at, message_item}
-use Rattle.line_arbiter.specs.Streams.{IsComplete, front_of, item_numbered, stream_of, end_at}
+use Rattle.line_arbiter.specs.Packets.{Arrival, Arrived, Input, arrival_of, carried, end_of, has_number, item_at, message_item}
+use Rattle.line_arbiter.specs.Streams.{IsComplete, front_of, part_of, stream_of, end_at}
 use Rattle.line_arbiter.specs.Outcomes.{new_count, IsOutcome}
 use Rattle.line_arbiter.specs.Answered.{AreAnswered}
 use Rattle.line_arbiter.specs.Histories.{History, new_history}
-use Rattle.line_arbiter.specs.OfSession.{IsOfSession, AreOfSession, GivesSession}
+use Rattle.line_arbiter.specs.OfSession.{IsOfSession, IsInputOf, AreOfSession, GivesSession}
+use Rattle.line_arbiter.specs.Skips.{IsArrival}
 use Rattle.line_arbiter.specs.laws.Bringing.{carried_same, carried_more, end_of-push, end_same}
 use Rattle.line_arbiter.specs.laws.Below.{answered_more}
 use Rattle.line_arbiter.specs.laws.Fronts.{not_in, front_is, not_none, front_unique}
 use Rattle.line_arbiter.specs.laws.Giving.{gives_session}
+use Rattle.line_arbiter.specs.laws.Lengths.{length-stream}
 use Rattle.line_arbiter.specs.laws.Options.{IsSome-or}
+use Rattle.line_arbiter.specs.laws.Parts.{first_one, one_part}
 use Rattle.feed_core.specs.Worlds.{Setting}
+use Rattle.feed_core.specs.laws.WholeSessionsLaw.{whole}
 use Rattle.feed_text.specs.declared.replay.ReplayConfig.{ReplayConfig}
 use Rattle.feed_text.specs.Capture.{CaptureRecord, datagram_record}
 use Rattle.feed_text.specs.ReplayEvents.{ReplayEvent, packet_answered, item_taken, entries_of}
-use Rattle.feed_text.specs.Emitted.{stream_length, items_emitted, EmitsRecord, Emits}
+use Rattle.feed_text.specs.Emitted.{last_sent, stream_length, items_emitted, EmitsRecord, Emits}
 use Rattle.feed_text.specs.laws.Entries.{entries_more}
 use Rattle.replay_run.specs.Events.{replay_setting, consumed_all, world_of, outcomes_of, IsReplayRun}
 use Rattle.replay_run.specs.VenueItems.{HoldsOnly, HoldOnly}
@@ -75,19 +79,20 @@ end_content name k ten small = record {
 }
 
 abbrev message_arrival : List ℕ → ℕ → List ℕ → Arrival
-message_arrival name k m = arrival_of A (one_message name (k + 1) m) (Ok (Taken 1 0))
+message_arrival name k m = record { line = A; packet = one_message name (k + 1) m; answer = Ok (Taken 1 0) }
 
 abbrev end_arrival : List ℕ → ℕ → Arrival
-end_arrival name k = arrival_of A (end_packet name (k + 1)) (Ok Ended)
+end_arrival name k = record { line = A; packet = end_packet name (k + 1); answer = Ok Ended }
 
 -- ---- the first k messages came
 
-record IsUpTo (s : Session) (window k : ℕ) (P : List Arrival) : Type 0 where
+record IsUpTo (s : Session) (window k : ℕ) (P : List Input) : Type 0 where
   answered : AreAnswered s.name window P
   only : AreOfSession s P
   all : (m : ℕ) → 1 ≤ m → m ≤ k → IsSome (carried P m)
   above : (m : ℕ) → k < m → carried P m ≡ None
   no_end : end_of P ≡ None
+  no_skip : AllByRecursion IsArrival P
 
 none_came : (s : Session) (window : ℕ) → IsUpTo s window 0 []
 none_came s window = record {
@@ -96,6 +101,7 @@ none_came s window = record {
   all = λ m one most. absurd (omega arith);
   above = λ m h. refl;
   no_end = refl;
+  no_skip = tt;
 }
 
 all_push : {X : Type 0} (Q : X → Type 0) (xs : List X) (x : X) → AllByRecursion Q xs → Q x
@@ -103,20 +109,26 @@ all_push : {X : Type 0} (Q : X → Type 0) (xs : List X) (x : X) → AllByRecurs
 all_push Q [] x all one = (one, tt)
 all_push Q (y ∷ xs) x all one = (all.0, all_push Q xs x all.1 one)
 
+front_at : (s : Session) (window k : ℕ) (P : List Input) → IsUpTo s window k P → front_of P ≡ k
+front_at s window k P u =
+    front_unique P (front_of P) k (front_is P) (record { all = u.all; next = u.above (k + 1) (omega arith) })
+
+-- nothing comes after the last message
+no_end_at : (s : Session) (window k : ℕ) (P : List Input) → IsUpTo s window k P
+    → length (end_at (end_of P) (front_of P + 1)) ≡ 0
+no_end_at s window k P u = ap (λ (o : Option ℕ). length (end_at o (front_of P + 1))) u.no_end
+
 -- the stream has `k` items
-stream_len : (s : Session) (window k : ℕ) (P : List Arrival) → IsUpTo s window k P → length (stream_of P) ≡ k
+stream_len : (s : Session) (window k : ℕ) (P : List Input) → IsUpTo s window k P → length (stream_of P) ≡ k
 stream_len s window k P u =
-    let f : ℕ → Numbered = item_numbered P in
-    let front : front_of P ≡ k =
-    front_unique P (front_of P) k (front_is P) (record { all = u.all; next = u.above (k + 1) (omega arith) }) in
-    ap (λ (o : Option ℕ). length (map f (range_with_len 1 (front_of P)) ++ end_at o (front_of P + 1))) u.no_end
-    ∙ ap length (append-nil (map f (range_with_len 1 (front_of P))))
-    ∙ length-map (range_with_len 1 (front_of P)) f
-    ∙ length-range_with_len 1 (front_of P)
-    ∙ front
+    let front = front_at s window k P u in
+    let none = no_end_at s window k P u in
+    let first = first_one P u.no_skip in
+    let part = length-stream P (front_of P) in
+    ap (λ (xs : List Numbered). length xs) (one_part P u.no_skip) ∙ omega arith
 
 -- a message more
-module _ (s : Session) (window k : ℕ) (P : List Arrival) (u : IsUpTo s window k P) (wide : 1 ≤ window) (m : List ℕ)
+module _ (s : Session) (window k : ℕ) (P : List Input) (u : IsUpTo s window k P) (wide : 1 ≤ window) (m : List ℕ)
     (content : IsContent (one_message s.name (k + 1) m)) (at : slice_get s.items k ≡ Some (item_of m)) where
   message_of : IsOfSession s (one_message s.name (k + 1) m)
   message_of = record { name = refl; messages = messages; heartbeat = λ e. absurd cc; end = λ e. absurd cc }
@@ -136,7 +148,7 @@ module _ (s : Session) (window k : ℕ) (P : List Arrival) (u : IsUpTo s window 
     (
       λ end is. absurd (let n : None ≡ Some end = sym u.no_end ∙ is in cc),
       omega arith,
-      λ j item h past is. absurd (let n : None ≡ Some item = sym (u.above (k + 1 + j) (omega arith)) ∙ is in cc),
+      λ j item h past is message. absurd (let n : None ≡ Some item = sym (u.above (k + 1 + j) (omega arith)) ∙ is in cc),
       is_new,
       refl,
     ),
@@ -145,10 +157,9 @@ module _ (s : Session) (window k : ℕ) (P : List Arrival) (u : IsUpTo s window 
   came_more : IsUpTo s window (k + 1) (P ++ arrival_of A (one_message s.name (k + 1) m) (Ok (Taken 1 0)) ∷ [])
   came_more = record {
     answered =
-        answered_more s.name window P (message_arrival s.name k m) u.answered
+        answered_more s.name window P (Arrived (message_arrival s.name k m)) u.answered
         (record { content = content; sent = k; outcome = answer k refl });
-    only = all_push (λ x. x.packet.session ≡ s.name → IsOfSession s x.packet) P (message_arrival s.name k m) u.only
-        (λ e. message_of);
+    only = all_push (IsInputOf s) P (Arrived (message_arrival s.name k m)) u.only (λ e. message_of);
     all = λ n one most. elim (cases_lt k n) [
       | inl lt ↦
           (let is : k + 1 ≡ n = omega arith in
@@ -173,10 +184,11 @@ module _ (s : Session) (window k : ℕ) (P : List Arrival) (u : IsUpTo s window 
         ∙ ap (λ (b : Bool). option_or None (if b then Some (item_at (one_message s.name (k + 1) m) n) else None))
         (not_in (one_message s.name (k + 1) m) n (omega arith));
     no_end = end_same P (message_arrival s.name k m) refl ∙ u.no_end;
+    no_skip = all_push IsArrival P (Arrived (message_arrival s.name k m)) u.no_skip tt;
   }
 
 -- and the end
-module _ (s : Session) (window k : ℕ) (P : List Arrival) (u : IsUpTo s window k P) (all : k ≡ length s.items)
+module _ (s : Session) (window k : ℕ) (P : List Input) (u : IsUpTo s window k P) (all : k ≡ length s.items)
     (content : IsContent (end_packet s.name (k + 1))) where
   end_of_session : IsOfSession s (end_packet s.name (k + 1))
   end_of_session = record {
@@ -198,15 +210,14 @@ module _ (s : Session) (window k : ℕ) (P : List Arrival) (u : IsUpTo s window 
     ),
   )
 
-  whole : stream_of (P ++ arrival_of A (end_packet s.name (k + 1)) (Ok Ended) ∷ []) ≡ whole_session s
-  whole =
-      let Q : List Arrival = P ++ end_arrival s.name k ∷ [] in
+  to_end : stream_of (P ++ arrival_of A (end_packet s.name (k + 1)) (Ok Ended) ∷ []) ≡ whole_session s
+  to_end =
+      let Q : List Input = P ++ Arrived (end_arrival s.name k) ∷ [] in
       let answered : AreAnswered s.name window Q =
-      answered_more s.name window P (end_arrival s.name k) u.answered
+      answered_more s.name window P (Arrived (end_arrival s.name k)) u.answered
       (record { content = content; sent = 0; outcome = end_answer 0 }) in
       let only : AreOfSession s Q =
-      all_push (λ x. x.packet.session ≡ s.name → IsOfSession s x.packet) P (end_arrival s.name k) u.only
-      (λ is. end_of_session) in
+      all_push (IsInputOf s) P (Arrived (end_arrival s.name k)) u.only (λ is. end_of_session) in
       let g : GivesSession s Q = gives_session s window Q answered only in
       let front : front_of Q ≡ k = front_unique Q (front_of Q) k (front_is Q) (record {
         all = λ m one most. subst (λ (o : Option Item). IsSome o) (sym (carried_same P (end_arrival s.name k) m refl))
@@ -215,7 +226,8 @@ module _ (s : Session) (window k : ℕ) (P : List Arrival) (u : IsUpTo s window 
       }) in
       let ends : end_of Q ≡ Some (k + 1) = end_of-push P (end_arrival s.name k)
       ∙ ap (λ (o : Option ℕ). option_or o (Some (k + 1))) u.no_end in
-      (g.whole (ends ∙ ap (λ (n : ℕ). Some (n + 1)) (sym front))).1
+      whole s Q (all_push IsArrival P (Arrived (end_arrival s.name k)) u.no_skip tt) g
+      (ends ∙ ap (λ (n : ℕ). Some (n + 1)) (sym front))
 
 -- ---- the records
 
@@ -251,8 +263,13 @@ first_at s k m ms f =
     subst (λ (n : ℕ). slice_get s.items n ≡ Some (item_of m)) (let e : k + 0 ≡ k = omega arith in e) (f.at 0 m refl)
 
 -- the history of a venue to which these packets came, all of its first session
-abbrev came : Session → List Arrival → History
+abbrev came : Session → List Input → History
 came s P = record { earlier = []; present = record { name = s.name; packets = P } }
+
+-- the last item has the number of the last message
+last_at : (s : Session) (window k : ℕ) (P : List Input) → IsUpTo s window k P → last_sent (came s P) ≡ k
+last_at s window k P u =
+    let front = front_at s window k P u in let none = no_end_at s window k P u in omega arith
 
 -- what these records lead to
 record Reaches (s : Session) (window place k : ℕ) (ms : List (List ℕ)) (hs : List History) : Type 0 where
@@ -260,22 +277,23 @@ record Reaches (s : Session) (window place k : ℕ) (ms : List (List ℕ)) (hs :
   new : List History
   emits : Emits window false (records_from place s.name k ms) hs emitted new
   count : (E : List Entry) → length (entries_of E emitted) ≡ length E + length ms + 1
-  packets : List Arrival
+  packets : List Input
   there : slice_get new place ≡ Some (came s packets)
   whole : stream_of packets ≡ whole_session s
 
 -- a packet that is answered, and makes items ready
-abbrev told_of : ℕ → Session → List Arrival → Arrival → List ReplayEvent
-told_of place s P a = packet_answered place A a.answer ∷ items_emitted place (came s P) (P ++ a ∷ []) ++ []
+abbrev told_of : ℕ → Session → List Input → Arrival → List ReplayEvent
+told_of place s P a =
+    packet_answered place A a.answer ∷ items_emitted place (came s P) (P ++ Arrived a ∷ []) ++ []
 
-tells_one : (s : Session) (window place : ℕ) (P : List Arrival) (p : Content) (hs : List History) (a : Arrival)
-    → a ≡ arrival_of A p a.answer → slice_get hs place ≡ Some (came s P) → IsContent p → p.ignored ≡ 0
-    → IsOutcome s.name window (length (stream_of P)) P p a.answer
+tells_one : (s : Session) (window place : ℕ) (P : List Input) (p : Content) (hs : List History) (a : Arrival)
+    → Arrived a ≡ arrival_of A p a.answer → slice_get hs place ≡ Some (came s P) → IsContent p → p.ignored ≡ 0
+    → IsOutcome s.name window (last_sent (came s P)) P p a.answer
     → EmitsRecord window false (datagram_record place A (spelling p)) hs (told_of place s P a)
-    (slice_set hs place (came s (P ++ a ∷ [])))
+    (slice_set hs place (came s (P ++ Arrived a ∷ [])))
 tells_one s window place P p hs a is there content none answer = record {
   before = came s P;
-  after = came s (P ++ a ∷ []);
+  after = came s (P ++ Arrived a ∷ []);
   at = there;
   emits = inr (record {
     packet = p;
@@ -283,19 +301,19 @@ tells_one s window place P p hs a is there content none answer = record {
     answer = a.answer;
     spells = spells p content none;
     outcome = answer;
-    grown = ap (λ (x : Arrival). came s (P ++ x ∷ [])) is;
+    grown = ap (λ (x : Input). came s (P ++ x ∷ [])) is;
     emitted_is = refl;
   });
   others = refl;
 }
 
-one_entry : (place : ℕ) (s : Session) (P : List Arrival) (a : Arrival)
-    → length (stream_of (P ++ a ∷ [])) ≡ length (stream_of P) + 1
+one_entry : (place : ℕ) (s : Session) (P : List Input) (a : Arrival)
+    → length (stream_of (P ++ Arrived a ∷ [])) ≡ length (stream_of P) + 1
     → (E : List Entry) → length (entries_of E (told_of place s P a)) ≡ length E + 1
 one_entry place s P a grows E =
-    let items : List Numbered = drop (length (stream_of P)) (stream_of (P ++ a ∷ [])) in
-    let n : length items ≡ length (stream_of (P ++ a ∷ [])) - length (stream_of P) =
-    length-drop (length (stream_of P)) (stream_of (P ++ a ∷ [])) in
+    let items : List Numbered = drop (length (stream_of P)) (stream_of (P ++ Arrived a ∷ [])) in
+    let n : length items ≡ length (stream_of (P ++ Arrived a ∷ [])) - length (stream_of P) =
+    length-drop (length (stream_of P)) (stream_of (P ++ Arrived a ∷ [])) in
     let one : length items ≡ 1 = omega arith in
     ap (λ (hs : List ReplayEvent). length (entries_of E hs)) (append-nil (map (item_taken place) items))
     ∙ items_len place items E ∙ ap (λ (x : ℕ). length E + x) one
@@ -308,7 +326,7 @@ whole_len : (s : Session) → length (whole_session s) ≡ length s.items + 1
 whole_len s = length-append (numbered_from 1 s.items) (end_item (length s.items + 1) ∷ [])
     ∙ ap (λ (n : ℕ). n + 1) (numbered_len 1 s.items)
 
-reaches : (s : Session) (window place k : ℕ) (ms : List (List ℕ)) (P : List Arrival) (hs : List History)
+reaches : (s : Session) (window place k : ℕ) (ms : List (List ℕ)) (P : List Input) (hs : List History)
     → length s.name ≡ 10 → 1 ≤ window
     → AreFrom s k ms → IsUpTo s window k P → slice_get hs place ≡ Some (came s P) → Reaches s window place k ms hs
 reaches s window place k [] P hs ten wide f u there =
@@ -316,43 +334,43 @@ reaches s window place k [] P hs ten wide f u there =
     let small : k + 1 < 2 ^ 64 = (let a = f.small in omega arith) in
     let p : Content = end_packet s.name (k + 1) in
     let content : IsContent p = end_content s.name k ten small in
-    let a : Arrival = arrival_of A p (Ok Ended) in
-    let to_end : stream_of (P ++ a ∷ []) ≡ whole_session s = whole s window k P u all content in
+    let a : Arrival = end_arrival s.name k in
+    let ends : stream_of (P ++ Arrived a ∷ []) ≡ whole_session s = to_end s window k P u all content in
     let len : length (stream_of P) ≡ k = stream_len s window k P u in
-    let more : length (stream_of (P ++ a ∷ [])) ≡ length (stream_of P) + 1 = ap length to_end ∙ whole_len s
+    let more : length (stream_of (P ++ Arrived a ∷ [])) ≡ length (stream_of P) + 1 = ap length ends ∙ whole_len s
     ∙ (let b = len in omega arith) in
     record {
       emitted = told_of place s P a ++ [];
-      new = slice_set hs place (came s (P ++ a ∷ []));
+      new = slice_set hs place (came s (P ++ Arrived a ∷ []));
       emits = (
-        slice_set hs place (came s (P ++ a ∷ [])),
+        slice_set hs place (came s (P ++ Arrived a ∷ [])),
         told_of place s P a,
         [],
         tells_one s window place P p hs a
-            refl there content refl (end_answer s window k P u all content (length (stream_of P))),
+            refl there content refl (end_answer s window k P u all content (last_sent (came s P))),
         (refl, refl),
         refl,
       );
       count = λ E. ap (λ (l : List ReplayEvent). length (entries_of E l)) (append-nil (told_of place s P a))
           ∙ one_entry place s P a more E ∙ (let e : length E + 1 ≡ length E + 0 + 1 = omega arith in e);
-      packets = P ++ a ∷ [];
-      there = get_set_here hs place (came s P) (came s (P ++ a ∷ [])) there;
-      whole = to_end;
+      packets = P ++ Arrived a ∷ [];
+      there = get_set_here hs place (came s P) (came s (P ++ Arrived a ∷ [])) there;
+      whole = ends;
     }
 reaches s window place k (m ∷ ms) P hs ten wide f u there =
     let small : k + 2 < 2 ^ 64 = (let a = f.small in omega arith) in
     let p : Content = one_message s.name (k + 1) m in
     let content : IsContent p = message_content s.name k m ten f.each.0 small in
-    let a : Arrival = arrival_of A p (Ok (Taken 1 0)) in
+    let a : Arrival = message_arrival s.name k m in
     let at : slice_get s.items k ≡ Some (item_of m) = first_at s k m ms f in
-    let up : IsUpTo s window (k + 1) (P ++ a ∷ []) = came_more s window k P u wide m content at in
+    let up : IsUpTo s window (k + 1) (P ++ Arrived a ∷ []) = came_more s window k P u wide m content at in
     let len : length (stream_of P) ≡ k = stream_len s window k P u in
-    let len_more : length (stream_of (P ++ a ∷ [])) ≡ k + 1 = stream_len s window (k + 1) (P ++ a ∷ []) up in
-    let more : length (stream_of (P ++ a ∷ [])) ≡ length (stream_of P) + 1 = omega arith in
-    let mid : List History = slice_set hs place (came s (P ++ a ∷ [])) in
+    let len_more : length (stream_of (P ++ Arrived a ∷ [])) ≡ k + 1 = stream_len s window (k + 1) (P ++ Arrived a ∷ []) up in
+    let more : length (stream_of (P ++ Arrived a ∷ [])) ≡ length (stream_of P) + 1 = omega arith in
+    let mid : List History = slice_set hs place (came s (P ++ Arrived a ∷ [])) in
     let r : Reaches s window place (k + 1) ms mid =
-    reaches s window place (k + 1) ms (P ++ a ∷ []) mid ten wide (from_next s k m ms f) up
-    (get_set_here hs place (came s P) (came s (P ++ a ∷ [])) there) in
+    reaches s window place (k + 1) ms (P ++ Arrived a ∷ []) mid ten wide (from_next s k m ms f) up
+    (get_set_here hs place (came s P) (came s (P ++ Arrived a ∷ [])) there) in
     record {
       emitted = told_of place s P a ++ r.emitted;
       new = r.new;
@@ -361,7 +379,7 @@ reaches s window place k (m ∷ ms) P hs ten wide f u there =
         told_of place s P a,
         r.emitted,
         tells_one s window place P p hs a refl there content refl
-            (answer s window k P u wide m content at (length (stream_of P)) len),
+            (answer s window k P u wide m content at (last_sent (came s P)) (last_at s window k P u)),
         r.emits,
         refl,
       );

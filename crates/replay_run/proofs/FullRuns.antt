@@ -15,7 +15,7 @@ use Rattle.line_arbiter.specs.Streams.{stream_of, gap_of}
 use Rattle.line_arbiter.specs.Histories.{History, new_history, streams_of}
 use Rattle.filter_terms.specs.declared.terms.Terms.{Terms}
 use Rattle.feed_core.specs.declared.event.Event.{Event}
-use Rattle.feed_core.specs.declared.event.Event.TheVariants.{Packet, Push, Consume, Declare}
+use Rattle.feed_core.specs.declared.event.Event.TheVariants.{Packet, Push, Consume, Declare, Skip}
 use Rattle.feed_core.specs.declared.event.Done.{Done}
 use Rattle.feed_core.specs.declared.event.Done.TheVariants as outcome
 use Rattle.feed_core.specs.Worlds.{Venue, World, Setting, new_venue, new_world}
@@ -26,9 +26,9 @@ use Rattle.feed_core.specs.Steps as steps
 use Rattle.feed_core.specs.VenueHalf.{BringsOnly, BringOnly}
 use Rattle.feed_core.specs.laws.HeadlineLaw.{headline}
 use Rattle.feed_text.specs.declared.replay.ReplayConfig.{ReplayConfig}
-use Rattle.feed_text.specs.Capture.{CaptureRecord, datagram_record, renewal_record, self_help_record, record_venue}
-use Rattle.feed_text.specs.ReplayEvents.{ReplayEvent, packet_answered, packet_refused, item_taken, gap_left, renewal_answered, self_help_declared, entries_after, entries_of}
-use Rattle.feed_text.specs.Emitted.{stream_length, gap_event, gap_emitted, EmitsFault, EmitsPacket, EmitsSelfHelp, EmitsAt, EmitsRecord}
+use Rattle.feed_text.specs.Capture.{CaptureRecord, datagram_record, renewal_record, skip_record, self_help_record, record_venue}
+use Rattle.feed_text.specs.ReplayEvents.{ReplayEvent, packet_answered, packet_refused, item_taken, gap_left, renewal_answered, skip_answered, self_help_declared, entries_after, entries_of}
+use Rattle.feed_text.specs.Emitted.{last_sent, stream_length, gap_event, gap_emitted, EmitsFault, EmitsPacket, EmitsSkip, EmitsSelfHelp, EmitsAt, EmitsRecord}
 use Rattle.feed_text.specs.Texts.{IsLinesToFull}
 use Rattle.feed_text.specs.VenueItems.{taken_by, items_taken}
 use Rattle.feed_text.specs.laws.Lists.{get_set_same, get_set_other, same_or_not}
@@ -37,9 +37,9 @@ use Rattle.feed_text.specs.laws.Entries.{entries_grow}
 use Rattle.line_arbiter.specs.laws.AnsweredHistories.{IsAnsweredThroughout}
 use Rattle.feed_text.specs.laws.VenueItemsLaw.{Each, items_same, items_other, new_each, all_kept, taken_are_streams}
 use Rattle.replay_run.specs.VenueItems.{HoldsOnly, HoldOnly}
-use Rattle.replay_run.specs.Events.{slice_of, event_of, drains, AreEvents, outcomes_of, replay_setting, consumed_all, world_of}
+use Rattle.replay_run.specs.Events.{slice_of, event_of, drains, AreEvents, outcomes_by, outcomes_of, replay_setting, consumed_all, world_of}
 use Rattle.replay_run.specs.Full.{StopsAt, IsRunToFull}
-use Rattle.replay_run.proofs.Runs.{at, venue_at, venue_more, at_venue, get_map, get_set_here, get_seam, push_step, drain, items_len, packet_begins, ready_behind, outcomes_more, run_more, RanAll, all_ran, begins, with_venues, all_more, drains_only, event_only, events_only}
+use Rattle.replay_run.proofs.Runs.{at, venue_at, venue_more, at_venue, get_map, get_set_here, get_seam, push_step, drain, items_len, packet_begins, ready_behind, skip_begins, skip_behind, outcomes_more, run_more, RanAll, all_ran, begins, with_venues, all_more, drains_only, event_only, events_only}
 
 -- ---- the event that finds no room
 
@@ -79,7 +79,7 @@ in_gap : (window : ℕ) (gaps : Bool) (venue : ℕ) (h : History) (E : List Entr
     (next : ReplayEvent) → gap_emitted window gaps venue h ≡ first ++ next ∷ others → Adds E next → ⊥
 in_gap window false venue h E first others next e adds = none_is first next others e
 in_gap window true venue h E first others next e adds =
-    by (gap_of h.present.name window (stream_length h) h.present.packets) e
+    by (gap_of h.present.name window (last_sent h) h.present.packets) e
   where
     by : (o : Option Request) → gap_event venue o ≡ first ++ next ∷ others → ⊥
     by None e = none_is first next others e
@@ -204,26 +204,33 @@ module _ (s : Setting) (gaps : Bool) (lane : 1 ≤ s.lane) (hs : List History) (
             ∙ sym (ap (λ (x : Venue). x.lane.received) old.2))
       ]
 
-  packet_stops : (line : LineId) (bytes : List ℕ) (first others : List ReplayEvent) (next : ReplayEvent) (new : History)
-      → EmitsPacket s.window gaps venue line bytes h (first ++ next ∷ others) new
+  -- the record's event leaves the venue so, and then one of the items that it made ready finds no
+  -- room; what is emitted of the event itself adds no entry
+  ready_stops : (r : CaptureRecord) (e : Event) (d : Done) (x : ReplayEvent) (ready : List Numbered) (some : Bool)
+      (first others : List ReplayEvent) (next : ReplayEvent) (new : History)
+      → IsStep s (world_of hs E) e d (at (map consumed_all hs) venue (venue_at new (streams_of h)) E)
+      → ((l : List Entry) → entries_after l x ≡ l) → ((l : List Entry) → outcomes_by l x ≡ d ∷ [])
+      → ((place : ℕ) → taken_by place x ≡ [])
+      → ((n : ℕ) → StopsAt r (e ∷ drains venue n ++ Push venue ∷ []) (Consume venue))
+      → x ∷ map (item_taken venue) ready ++ gap_emitted s.window some venue new ≡ first ++ next ∷ others
+      → streams_of new ≡ streams_of h ++ ready
       → length (entries_of E first) ≤ s.journal → s.journal < length (entries_after (entries_of E first) next)
-      → LastRan s (datagram_record venue line bytes) hs E emitted first
-  packet_stops line bytes first others next new t room short =
-      let ready : List Numbered = drop (stream_length h) (stream_of new.present.packets) in
+      → LastRan s r hs E emitted first
+  ready_stops r e d x ready some first others next new step quiet told none_taken stops tells behind room short =
       let F : List Entry = entries_of E first in
-      let p = past F (packet_answered venue line t.answer)
-      (map (item_taken venue) ready ++ gap_emitted s.window gaps venue new) first others next (sym t.emitted_is) refl
-      (omega arith) in
-      let i = in_items s.window gaps venue new F ready p.rest others next p.rest_are (omega arith) in
+      let p = past F x (map (item_taken venue) ready ++ gap_emitted s.window some venue new) first others next tells
+      (quiet F) (omega arith) in
+      let i = in_items s.window some venue new F ready p.rest others next p.rest_are (omega arith) in
       let taken : List ReplayEvent = map (item_taken venue) i.had in
-      let first_is : first ≡ packet_answered venue line t.answer ∷ taken =
-      p.first_is ∙ ap (λ (xs : List ReplayEvent). packet_answered venue line t.answer ∷ xs) i.first_are in
-      let after : F ≡ entries_of E taken = ap (entries_of E) first_is in
-      let outcomes : outcomes_of E first ≡ steps.packet_done t.answer ∷ outcomes_of E taken =
-      ap (outcomes_of E) first_is in
+      let first_is : first ≡ x ∷ taken = p.first_is ∙ ap (λ (xs : List ReplayEvent). x ∷ xs) i.first_are in
+      let after : F ≡ entries_of E taken =
+      ap (entries_of E) first_is ∙ ap (λ (l : List Entry). entries_of l taken) (quiet E) in
+      let outcomes : outcomes_of E first ≡ d ∷ outcomes_of E taken =
+      ap (outcomes_of E) first_is
+      ∙ ap (λ (l : List Entry). outcomes_by E x ++ outcomes_of l taken) (quiet E)
+      ∙ ap (λ (ds : List Done). ds ++ outcomes_of E taken) (told E) in
       let all : streams_of new ≡ streams_of h ++ (i.had ++ i.item ∷ i.rest) =
-      ready_behind s gaps lane hs E venue h there kept line bytes (first ++ next ∷ others) new t
-      ∙ ap (λ (xs : List Numbered). streams_of h ++ xs) i.ready_are in
+      behind ∙ ap (λ (xs : List Numbered). streams_of h ++ xs) i.ready_are in
       let w : World = world_of hs E in
       let mid : World = at (map consumed_all hs) venue (venue_at new (streams_of h)) E in
       let drained : World =
@@ -237,10 +244,10 @@ module _ (s : Setting) (gaps : Bool) (lane : 1 ≤ s.lane) (hs : List History) (
       (let n : length (entries_after F next) ≡ length (F ++ entry.Consumed venue i.item ∷ []) =
       ap (λ (x : ReplayEvent). length (entries_after F x)) i.next_is in let m =
       length-append F (entry.Consumed venue i.item ∷ []) in omega arith) in
-      let ran : IsRun s w (Packet venue line (slice_of bytes) ∷ drains venue (length i.had) ++ Push venue ∷ [])
-      ((steps.packet_done t.answer ∷ outcomes_of E taken) ++ outcome.Pushed i.item.number ∷ []) full = (
+      let ran : IsRun s w (e ∷ drains venue (length i.had) ++ Push venue ∷ [])
+      ((d ∷ outcomes_of E taken) ++ outcome.Pushed i.item.number ∷ []) full = (
         mid,
-        packet_begins s gaps lane hs E venue h there kept line bytes (first ++ next ∷ others) new t,
+        step,
         run_more s mid drained full (drains venue (length i.had)) (Push venue ∷ []) (outcomes_of E taken)
             (outcome.Pushed i.item.number ∷ [])
             (drain s lane (map consumed_all hs) venue (consumed_all h) there_is new i.had (streams_of h)
@@ -253,19 +260,45 @@ module _ (s : Setting) (gaps : Bool) (lane : 1 ≤ s.lane) (hs : List History) (
             ),
       ) in
       record {
-        events = Packet venue line (slice_of bytes) ∷ drains venue (length i.had) ++ Push venue ∷ [];
+        events = e ∷ drains venue (length i.had) ++ Push venue ∷ [];
         refused = Consume venue;
-        stops = (length i.had, refl, refl);
+        stops = stops (length i.had);
         pushed = outcome.Pushed i.item.number ∷ [];
         full = full;
         run = subst
-            (λ (ds : List Done). IsRun s w
-            (Packet venue line (slice_of bytes) ∷ drains venue (length i.had) ++ Push venue ∷ [])
+            (λ (ds : List Done). IsRun s w (e ∷ drains venue (length i.had) ++ Push venue ∷ [])
             (ds ++ outcome.Pushed i.item.number ∷ []) full) (sym outcomes) ran;
         entries_are = sym after;
-        items = items_more new i.had i.item (entries_of E taken) first (λ place. ap (items_taken place) first_is);
+        items = items_more new i.had i.item (entries_of E taken) first
+            (λ place. ap (items_taken place) first_is
+            ∙ ap (λ (xs : List Numbered). xs ++ items_taken place taken) (none_taken place));
         next = refused_next new (streams_of h ++ i.had) i.item (entries_of E taken) no_room;
       }
+
+  packet_stops : (line : LineId) (bytes : List ℕ) (first others : List ReplayEvent) (next : ReplayEvent) (new : History)
+      → EmitsPacket s.window gaps venue line bytes h (first ++ next ∷ others) new
+      → length (entries_of E first) ≤ s.journal → s.journal < length (entries_after (entries_of E first) next)
+      → LastRan s (datagram_record venue line bytes) hs E emitted first
+  packet_stops line bytes first others next new t room short =
+      ready_stops (datagram_record venue line bytes) (Packet venue line (slice_of bytes)) (steps.packet_done t.answer)
+      (packet_answered venue line t.answer) (drop (stream_length h) (stream_of new.present.packets)) gaps first others
+      next new (packet_begins s gaps lane hs E venue h there kept line bytes (first ++ next ∷ others) new t)
+      (λ l. refl) (λ l. refl) (λ place. refl) (λ n. (n, refl, refl)) (sym t.emitted_is)
+      (ready_behind s gaps lane hs E venue h there kept line bytes (first ++ next ∷ others) new t) room short
+
+  skip_stops : (number : ℕ) (first others : List ReplayEvent) (next : ReplayEvent) (new : History)
+      → EmitsSkip venue number h (first ++ next ∷ others) new
+      → length (entries_of E first) ≤ s.journal → s.journal < length (entries_after (entries_of E first) next)
+      → LastRan s (skip_record venue number) hs E emitted first
+  skip_stops number first others next new t room short =
+      let ready : List Numbered = drop (stream_length h) (stream_of new.present.packets) in
+      ready_stops (skip_record venue number) (Skip venue number) (steps.skip_done number t.answer)
+      (skip_answered venue number t.answer) ready false first others next new
+      (skip_begins s gaps lane hs E venue h there kept number (first ++ next ∷ others) new t)
+      (λ l. refl) (λ l. refl) (λ place. refl) (λ n. (n, refl, refl))
+      (ap (λ (xs : List ReplayEvent). skip_answered venue number t.answer ∷ xs)
+      (append-nil (map (item_taken venue) ready)) ∙ sym t.emitted_is)
+      (skip_behind s gaps lane hs E venue h there kept number (first ++ next ∷ others) new t) room short
 
   fault_stops : (line : LineId) (bytes : List ℕ) (first others : List ReplayEvent) (next : ReplayEvent) (new : History)
       → EmitsFault s.window gaps venue line bytes h (first ++ next ∷ others) new
@@ -340,6 +373,8 @@ last_ran s gaps lane hs after E r emitted first others next each t room short =
         let p = past (entries_of E first) (renewal_answered venue x.answer) [] first others next (sym x.emitted_is) refl
         (omega arith) in
         absurd (none_is p.rest next others p.rest_are)
+    by (skip_record venue number) at kept x =
+        skip_stops s gaps lane hs E emitted venue t.before at kept number first others next t.after x room short
     by (self_help_record venue on) at kept x =
         self_help_stops s gaps lane hs E emitted venue t.before at kept on first others next x.emitted_is room short
 
@@ -354,6 +389,12 @@ stops_only place session (datagram_record venue line bytes) events refused x may
           (drains_only place venue session x.0) (tt, tt),
     )
 stops_only place session (renewal_record venue name) events refused x may = absurd x
+stops_only place session (skip_record venue number) events refused x may =
+    subst (λ (es : List Event). BringOnly place es session) (sym x.1) (
+      tt,
+      all_more (BringsOnly place session) (drains venue x.0) (Push venue ∷ [])
+          (drains_only place venue session x.0) (tt, tt),
+    )
 stops_only place session (self_help_record venue on) events refused x may =
     subst (λ (es : List Event). BringOnly place es session) (sym x.0) tt
 

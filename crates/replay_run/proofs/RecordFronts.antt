@@ -12,12 +12,12 @@ use Rattle.line_captures.specs.Lists.{AreOfVenues}
 use Rattle.line_captures.specs.Records.{IsOfLine, spelled}
 
 -- where the bytes of records are those of others and then some, the others come first
-pub front_of_records : (ys xs : List CaptureRecord) (s : List ℕ) → spelled xs ≡ capture_of ys s → (others : List CaptureRecord) × (xs ≡ ys ++ others) × (s ≡ spelled others)
-front_of_records [] xs s e = (xs, refl, sym e)
-front_of_records (y ∷ ys) [] s e = absurd (cc)
-front_of_records (y ∷ ys) (x ∷ xs) s e =
-    let f = same_front x y (spelled xs) (capture_of ys s) (e ∙ append_assoc (bytes_of_record y) (spelled ys) s) in
-    let g = front_of_records ys xs s f.1 in
+pub front_of_records : (venues : ℕ) (ys xs : List CaptureRecord) (s : List ℕ) → All (IsRecord venues) ys → All (IsRecord venues) xs → spelled xs ≡ capture_of ys s → (others : List CaptureRecord) × (xs ≡ ys ++ others) × (s ≡ spelled others)
+front_of_records venues [] xs s i j e = (xs, refl, sym e)
+front_of_records venues (y ∷ ys) [] s i j e = absurd (cc)
+front_of_records venues (y ∷ ys) (x ∷ xs) s i j e =
+    let f = same_front x y (spelled xs) (capture_of ys s) (j 0 x (omega arith)).number (i 0 y (omega arith)).number (e ∙ append_assoc (bytes_of_record y) (spelled ys) s) in
+    let g = front_of_records venues ys xs s (All-tail (IsRecord venues) y ys i) (All-tail (IsRecord venues) x xs j) f.1 in
     let head : x ≡ y = f.0 in
     let tail : xs ≡ ys ++ g.0 = g.1 in
     (g.0, cc, g.2)
@@ -60,6 +60,7 @@ is_record venues lines of r o = subst (IsRecord venues) (sym o.is) (record {
   venue = of o.place o.line o.listed;
   kind = line_kind o.line.line (length o.bytes);
   len = o.short;
+  number = tt;
 })
 
 pub are_records : (venues : ℕ) (lines : List CapturedLine) (records : List CaptureRecord) → AreOfVenues venues lines → All (IsOfLine lines) records → All (IsRecord venues) records

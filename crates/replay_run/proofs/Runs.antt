@@ -13,36 +13,40 @@ use Rattle.mold_packet.specs.Faults.{code_of}
 use Rattle.nbbo_book.specs.Eligible.{is_self_helped, is_so}
 use Rattle.line_arbiter.specs.declared.faults.RenewFault.{RenewFault}
 use Rattle.line_arbiter.specs.Packets.{end_of}
-use Rattle.line_arbiter.specs.Streams.{stream_of, gap_of}
+use Rattle.line_arbiter.specs.Streams.{stream_of, sent_of, gap_of}
 use Rattle.line_arbiter.specs.Histories.{History, new_history, items_of, streams_of, names_of, history_after}
 use Rattle.line_arbiter.specs.Outcomes.{IsOutcome}
 use Rattle.line_arbiter.specs.Renewals.{IsRenewal}
+use Rattle.line_arbiter.specs.Skips.{IsSkip}
 use Rattle.filter_terms.specs.declared.terms.Terms.{Terms}
 use Rattle.feed_core.specs.declared.event.Event.{Event}
-use Rattle.feed_core.specs.declared.event.Event.TheVariants.{Packet, Push, Consume, Declare, Renew}
+use Rattle.feed_core.specs.declared.event.Event.TheVariants.{Packet, Push, Consume, Declare, Renew, Skip}
 use Rattle.feed_core.specs.declared.event.Done.{Done}
 use Rattle.feed_core.specs.declared.event.Done.TheVariants as done
-use Rattle.feed_core.specs.Worlds.{Lane, is_full, Venue, session_sent, World, Setting, new_venue, new_world}
-use Rattle.feed_core.specs.Steps.{Stays, Applies, Refused, Changes, next_in, next_out, push_next, journal_item, consume_next, journal_full, unknown_venue, already_so, declare_help, Intake, put_venue, with_sent, with_intake, AddsArrival, AddsRenewal, RefusesBytes, AnswersRenewal}
+use Rattle.feed_core.specs.Worlds.{Lane, is_full, Venue, session_count, session_sent, World, Setting, new_venue, new_world}
+use Rattle.feed_core.specs.Steps.{Stays, Applies, Refused, Changes, next_in, next_out, push_next, journal_item, consume_next, journal_full, unknown_venue, already_so, declare_help, Intake, put_venue, with_sent, with_intake, AddsArrival, AddsRenewal, RefusesBytes, AnswersRenewal, AnswersSkip}
 use Rattle.feed_core.specs.OneStep.{IsStep}
 use Rattle.feed_core.specs.Runs.{IsRun}
 use Rattle.feed_core.specs.Steps as steps
-use Rattle.feed_core.specs.VenueHalf.{BringsOnly, BringOnly, VenueHalf}
+use Rattle.feed_core.specs.VenueHalf.{BringsOnly, BringOnly, VenueHalf, waiting}
 use Rattle.feed_core.specs.Headline.{Headline}
+use Rattle.feed_core.specs.WholeSessions.{SkipsOnly, GiveNothingUp}
 use Rattle.feed_core.specs.laws.HeadlineLaw.{headline}
+use Rattle.feed_core.specs.laws.WholeSessionsLaw.{session_whole, sessions_whole}
 use Rattle.line_arbiter.specs.laws.Histories.{items_push}
 use Rattle.feed_text.specs.declared.replay.ReplayConfig.{ReplayConfig}
-use Rattle.feed_text.specs.Capture.{CaptureRecord, datagram_record, renewal_record, self_help_record, record_venue}
+use Rattle.feed_text.specs.Capture.{CaptureRecord, datagram_record, renewal_record, skip_record, self_help_record, record_venue}
 use Rattle.feed_text.specs.ReplayEvents.{ReplayEvent, item_taken, entries_after, entries_of}
-use Rattle.feed_text.specs.Emitted.{stream_length, gap_event, gap_emitted, items_emitted, EmitsFault, EmitsPacket, EmitsRenewal, EmitsSelfHelp, EmitsAt, EmitsRecord, Emits}
+use Rattle.feed_text.specs.Emitted.{last_sent, stream_length, gap_event, gap_emitted, items_emitted, EmitsFault, EmitsPacket, EmitsRenewal, EmitsSkip, EmitsSelfHelp, EmitsAt, EmitsRecord, Emits}
 use Rattle.feed_text.specs.Texts.{EmitsAll, HasJournalRoom}
+use Rattle.feed_text.specs.laws.LastSent.{last_counted}
 use Rattle.feed_text.specs.laws.Lists.{same_set}
 use Rattle.feed_text.specs.laws.Entries.{entries_more}
 use Rattle.feed_text.specs.laws.Entries.{entries_grow}
 use Rattle.feed_text.specs.VenueItems.{items_taken}
 use Rattle.line_arbiter.specs.laws.AnsweredHistories.{IsAnsweredThroughout}
-use Rattle.feed_text.specs.laws.VenueItemsLaw.{Each, ready_items, here, one_came, new_each, taken_are_streams}
-use Rattle.replay_run.specs.VenueItems.{HoldsOnly, HoldOnly, TellsSessions}
+use Rattle.feed_text.specs.laws.VenueItemsLaw.{Each, ready_items, skip_items, here, one_came, new_each, taken_are_streams}
+use Rattle.replay_run.specs.VenueItems.{HoldsOnly, HoldOnly, SkipsNothing, SkipNothing, TellsSessions, TellsWhole}
 use Rattle.replay_run.specs.Events.{slice_of, event_of, drains, AreEvents, outcomes_by, outcomes_of, replay_setting, consumed_all, world_of, IsReplayRun}
 
 -- ---- lists
@@ -110,7 +114,7 @@ record IsSilent (hs : List ReplayEvent) : Type 0 where
 
 gap_silent : (window : ℕ) (gaps : Bool) (venue : ℕ) (h : History) → IsSilent (gap_emitted window gaps venue h)
 gap_silent window false venue h = record { outcomes = λ old. refl; entries = λ old. refl }
-gap_silent window true venue h = at (gap_of h.present.name window (stream_length h) h.present.packets)
+gap_silent window true venue h = at (gap_of h.present.name window (last_sent h) h.present.packets)
   where
     at : (o : Option Request) → IsSilent (gap_event venue o)
     at None = record { outcomes = λ old. refl; entries = λ old. refl }
@@ -220,11 +224,12 @@ items_len venue (x ∷ xs) entries =
     let more = items_len venue xs (entries ++ entry.Consumed venue x ∷ []) in
     omega arith
 
-counted : (h : History) → session_sent (consumed_all h) ≡ stream_length h
+counted : (h : History) → session_sent (consumed_all h) ≡ last_sent h
 counted h =
     let n : length (streams_of h) ≡ length (items_of h.earlier) + length (stream_of h.present.packets) =
     ap length (items_push h.earlier h.present) ∙ length-append (items_of h.earlier) (stream_of h.present.packets) in
-    omega arith
+    let count : session_count (consumed_all h) ≡ stream_length h = omega arith in
+    ap (sent_of h.present.packets) count ∙ last_counted h
 
 run_as : (s : Setting) (a : World) (es : List Event) (ds gs : List Done) (b c : World) → ds ≡ gs → b ≡ c
     → IsRun s a es ds b → IsRun s a es gs c
@@ -308,14 +313,44 @@ module _ (s : Setting) (gaps : Bool) (lane : 1 ≤ s.lane) (hs : List History) (
       (here s.window gaps (datagram_record venue line bytes) h new emitted kept (inr t)).items
       ∙ ap (λ (xs : List Numbered). streams_of h ++ xs) (ready_items s.window gaps venue line bytes h new emitted t)
 
+  -- the event left the venue so, and then its ready items are pushed and consumed
+  drained : (e : Event) (d : Done) (ready : List Numbered) (emitted : List ReplayEvent) (new : History)
+      → IsStep s (world_of hs entries) e d (at (map consumed_all hs) venue (venue_at new (streams_of h)) entries)
+      → outcomes_of entries emitted ≡ d ∷ outcomes_of entries (map (item_taken venue) ready)
+      → entries_of entries emitted ≡ entries_of entries (map (item_taken venue) ready)
+      → streams_of new ≡ streams_of h ++ ready → length (entries_of entries emitted) ≤ s.journal
+      → (n : ℕ) × IsRun s (world_of hs entries) (e ∷ drains venue n) (outcomes_of entries emitted)
+      (world_of (slice_set hs venue new) (entries_of entries emitted))
+  drained e d ready emitted new step outcomes after streams room =
+      let w : World = world_of hs entries in
+      let mid : World = at (map consumed_all hs) venue (venue_at new (streams_of h)) entries in
+      let hs1 : List ReplayEvent = map (item_taken venue) ready in
+      let all : streams_of new ≡ streams_of h ++ (ready ++ []) =
+      streams ∙ ap (λ (xs : List Numbered). streams_of h ++ xs) (sym (append-nil ready)) in
+      let fits : length entries + length ready ≤ s.journal =
+      (let n = items_len venue ready entries in let m : length (entries_of entries emitted) ≡ length
+      (entries_of entries hs1) = ap length after in omega arith) in (
+        length ready,
+        run_as s w (e ∷ drains venue (length ready)) (d ∷ outcomes_of entries hs1) (outcomes_of entries emitted)
+            (at (map consumed_all hs) venue (venue_at new (streams_of h ++ ready)) (entries_of entries hs1))
+            (world_of (slice_set hs venue new) (entries_of entries emitted))
+            (sym outcomes)
+            (ap (λ (xs : List Numbered). at (map consumed_all hs) venue (venue_at new xs) (entries_of entries hs1))
+            (sym streams) ∙ settled new (entries_of entries hs1)
+            ∙ ap (λ (E : List Entry). world_of (slice_set hs venue new) E) (sym after)) (
+              mid,
+              step,
+              drain s lane (map consumed_all hs) venue
+                  (consumed_all h) there_is new ready (streams_of h) [] entries all fits,
+            ),
+      )
+
   packet_ran : (line : LineId) (bytes : List ℕ) (emitted : List ReplayEvent) (new : History)
       → EmitsPacket s.window gaps venue line bytes h emitted new → length (entries_of entries emitted) ≤ s.journal
       → Ran s (datagram_record venue line bytes) hs entries emitted (slice_set hs venue new)
   packet_ran line bytes emitted new t room =
-      let w : World = world_of hs entries in
       let d : Done = steps.packet_done t.answer in
       let ready : List Numbered = drop (stream_length h) (stream_of new.present.packets) in
-      let mid : World = at (map consumed_all hs) venue (venue_at new (streams_of h)) entries in
       let silent = gap_silent s.window gaps venue new in
       let hs1 : List ReplayEvent = map (item_taken venue) ready in
       let outcomes : outcomes_of entries emitted ≡ d ∷ outcomes_of entries hs1 =
@@ -327,27 +362,45 @@ module _ (s : Setting) (gaps : Bool) (lane : 1 ≤ s.lane) (hs : List History) (
       let after : entries_of entries emitted ≡ entries_of entries hs1 =
       ap (entries_of entries) t.emitted_is ∙ entries_more entries hs1 (gap_emitted s.window gaps venue new)
       ∙ silent.entries (entries_of entries hs1) in
-      let streams : streams_of new ≡ streams_of h ++ ready = ready_behind line bytes emitted new t in
-      let all : streams_of new ≡ streams_of h ++ (ready ++ []) =
-      streams ∙ ap (λ (xs : List Numbered). streams_of h ++ xs) (sym (append-nil ready)) in
-      let fits : length entries + length ready ≤ s.journal =
-      (let n = items_len venue ready entries in let m : length (entries_of entries emitted) ≡ length
-      (entries_of entries hs1) = ap length after in omega arith) in (
-        length ready,
-        run_as s w (Packet venue line (slice_of bytes) ∷ drains venue (length ready)) (d ∷ outcomes_of entries hs1)
-            (outcomes_of entries emitted)
-            (at (map consumed_all hs) venue (venue_at new (streams_of h ++ ready)) (entries_of entries hs1))
-            (world_of (slice_set hs venue new) (entries_of entries emitted))
-            (sym outcomes)
-            (ap (λ (xs : List Numbered). at (map consumed_all hs) venue (venue_at new xs) (entries_of entries hs1))
-            (sym streams) ∙ settled new (entries_of entries hs1)
-            ∙ ap (λ (E : List Entry). world_of (slice_set hs venue new) E) (sym after)) (
-              mid,
-              packet_begins line bytes emitted new t,
-              drain s lane (map consumed_all hs) venue
-                  (consumed_all h) there_is new ready (streams_of h) [] entries all fits,
-            ),
-      )
+      drained (Packet venue line (slice_of bytes)) d ready emitted new (packet_begins line bytes emitted new t) outcomes
+      after (ready_behind line bytes emitted new t) room
+
+  -- the skip is answered, and nothing is pushed yet
+  pub skip_begins : (number : ℕ) (emitted : List ReplayEvent) (new : History)
+      (t : EmitsSkip venue number h emitted new)
+      → IsStep s (world_of hs entries) (Skip venue number) (steps.skip_done number t.answer)
+      (at (map consumed_all hs) venue (venue_at new (streams_of h)) entries)
+  skip_begins number emitted new t =
+      let w : World = world_of hs entries in
+      let d : Done = steps.skip_done number t.answer in
+      let mid : World = at (map consumed_all hs) venue (venue_at new (streams_of h)) entries in
+      at_venue w venue (consumed_all h) d mid (λ v. AnswersSkip venue v number w d mid) there_is (record {
+        answer = t.answer;
+        history = new;
+        skipped = record {
+          right = subst (λ (n : ℕ). IsSkip h.present.packets n number t.answer) (sym (counted h)) t.is;
+          is = t.after;
+        };
+        outcome_is = refl;
+        new_is = refl;
+      })
+
+  -- the items that it made ready follow the streams
+  pub skip_behind : (number : ℕ) (emitted : List ReplayEvent) (new : History)
+      → EmitsSkip venue number h emitted new
+      → streams_of new ≡ streams_of h ++ drop (stream_length h) (stream_of new.present.packets)
+  skip_behind number emitted new t =
+      (here s.window gaps (skip_record venue number) h new emitted kept t).items
+      ∙ ap (λ (xs : List Numbered). streams_of h ++ xs) (skip_items s.window gaps venue number h new emitted t)
+
+  skip_ran : (number : ℕ) (emitted : List ReplayEvent) (new : History) → EmitsSkip venue number h emitted new
+      → length (entries_of entries emitted) ≤ s.journal
+      → Ran s (skip_record venue number) hs entries emitted (slice_set hs venue new)
+  skip_ran number emitted new t room =
+      drained (Skip venue number) (steps.skip_done number t.answer)
+      (drop (stream_length h) (stream_of new.present.packets)) emitted new (skip_begins number emitted new t)
+      (ap (outcomes_of entries) t.emitted_is) (ap (entries_of entries) t.emitted_is)
+      (skip_behind number emitted new t) room
 
   renewal_ran : (name : List ℕ) (emitted : List ReplayEvent) (new : History) → EmitsRenewal venue name h emitted new
       → Ran s (renewal_record venue name) hs entries emitted (slice_set hs venue new)
@@ -440,6 +493,8 @@ record_ran s gaps lane hs new entries r emitted each t room =
     ]
     by (renewal_record venue name) at kept x =
         renewal_ran s gaps lane hs entries venue t.before at kept name emitted t.after x
+    by (skip_record venue number) at kept x =
+        skip_ran s gaps lane hs entries venue t.before at kept number emitted t.after x room
     by (self_help_record venue on) at kept x =
         self_help_ran s gaps lane hs entries venue t.before at kept on emitted t.after x room
 
@@ -499,6 +554,7 @@ pub event_only : (place : ℕ) (session : Session) (r : CaptureRecord) → Holds
     → BringsOnly place session (event_of r)
 event_only place session (datagram_record venue line bytes) may = may
 event_only place session (renewal_record venue name) may = tt
+event_only place session (skip_record venue number) may = tt
 event_only place session (self_help_record venue on) may = tt
 
 pub events_only : (place : ℕ) (session : Session) (rs : List CaptureRecord) (events : List Event)
@@ -509,6 +565,28 @@ events_only place session (r ∷ rs) events (ready, others, more, is) may =
     (all_more (BringsOnly place session) (event_of r ∷ drains (record_venue r) ready) others
     (event_only place session r may.0, drains_only place (record_venue r) session ready)
     (events_only place session rs others more may.1))
+
+-- ---- the premise that nothing is given up
+
+drains_nothing : (place venue n : ℕ) → GiveNothingUp place (drains venue n)
+drains_nothing place venue zero = tt
+drains_nothing place venue (suc n) = (tt, (tt, drains_nothing place venue n))
+
+event_nothing : (place : ℕ) (r : CaptureRecord) → SkipsNothing place r
+    → SkipsOnly (λ number. ⊥) place (event_of r)
+event_nothing place (datagram_record venue line bytes) none = tt
+event_nothing place (renewal_record venue name) none = tt
+event_nothing place (skip_record venue number) none = none
+event_nothing place (self_help_record venue on) none = tt
+
+events_nothing : (place : ℕ) (rs : List CaptureRecord) (events : List Event) → AreEvents rs events
+    → SkipNothing place rs → GiveNothingUp place events
+events_nothing place [] events are none = subst (GiveNothingUp place) (sym are) tt
+events_nothing place (r ∷ rs) events (ready, others, more, is) none =
+    subst (GiveNothingUp place) (sym is)
+    (all_more (SkipsOnly (λ number. ⊥) place) (event_of r ∷ drains (record_venue r) ready) others
+    (event_nothing place r none.0, drains_nothing place (record_venue r) ready)
+    (events_nothing place rs others more none.1))
 
 -- ---- the items that were emitted
 
@@ -527,9 +605,22 @@ tells_sessions : (place : ℕ) (records : List CaptureRecord) (events : List Eve
 tells_sessions place records events emitted h only items half = record {
   items = items;
   session = λ s may. half.session s (only s may);
-  sessions = λ earlier present e all. items ∙ sym half.items
-      ∙ half.sessions earlier present e (brought place records events only (earlier ++ present ∷ []) all);
+  sessions = λ began named all. items ∙ sym half.items
+      ∙ half.sessions began named (brought place records events only began all);
 }
+
+tells_whole : (place : ℕ) (records : List CaptureRecord) (events : List Event) (emitted : List ReplayEvent)
+    (h : History) → ((session : Session) → HoldOnly place records session → BringOnly place events session)
+    → items_taken place emitted ≡ streams_of h → VenueHalf events place (consumed_all h) → GiveNothingUp place events
+    → TellsWhole records place emitted h
+tells_whole place records events emitted h only items half none =
+    let all : List Numbered = streams_of h ++ waiting (consumed_all h) in
+    record {
+      session = λ s may. session_whole events place all h half none s (only s may);
+      sessions = λ earlier present e every. items ∙ sym half.items
+          ∙ sessions_whole events place all h half none earlier present e
+          (brought place records events only (earlier ++ present ∷ []) every);
+    }
 
 -- ---- from the first record on
 
@@ -562,4 +653,8 @@ replay_run config lane filters records emitted hs some emits room =
       items = λ place h at. tells_sessions place records ran.0 emitted h (only place)
           (taken_are_streams config records emitted hs emits place h at)
           (head.venues place (consumed_all h) (get_map consumed_all hs place h at));
+      whole = λ place h at none. tells_whole place records ran.0 emitted h (only place)
+          (taken_are_streams config records emitted hs emits place h at)
+          (head.venues place (consumed_all h) (get_map consumed_all hs place h at))
+          (events_nothing place records ran.0 ran.1 none);
     }

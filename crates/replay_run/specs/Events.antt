@@ -9,18 +9,18 @@ use Rattle.nbbo_book.specs.Eligible.{is_so}
 use Rattle.line_arbiter.specs.Histories.{History, streams_of}
 use Rattle.filter_terms.specs.declared.terms.Terms.{Terms}
 use Rattle.feed_core.specs.declared.event.Event.{Event}
-use Rattle.feed_core.specs.declared.event.Event.TheVariants.{Packet, Push, Consume, Declare, Renew}
+use Rattle.feed_core.specs.declared.event.Event.TheVariants.{Packet, Push, Consume, Declare, Renew, Skip}
 use Rattle.feed_core.specs.declared.event.Done.{Done}
 use Rattle.feed_core.specs.declared.event.Done.TheVariants as done
 use Rattle.feed_core.specs.Worlds.{Venue, World, Setting, new_world}
-use Rattle.feed_core.specs.Steps.{packet_done, renewal_done, already_so}
+use Rattle.feed_core.specs.Steps.{packet_done, renewal_done, skip_done, already_so}
 use Rattle.feed_core.specs.Runs.{IsRun}
 use Rattle.feed_core.specs.VenueHalf.{BringOnly}
 use Rattle.feed_core.specs.Headline.{Headline}
 use Rattle.feed_text.specs.declared.replay.ReplayConfig.{ReplayConfig}
-use Rattle.feed_text.specs.Capture.{CaptureRecord, datagram_record, renewal_record, self_help_record, record_venue}
-use Rattle.feed_text.specs.ReplayEvents.{ReplayEvent, packet_answered, packet_refused, item_taken, gap_left, renewal_answered, self_help_declared, entries_after, entries_of}
-use Rattle.replay_run.specs.VenueItems.{HoldOnly, TellsSessions}
+use Rattle.feed_text.specs.Capture.{CaptureRecord, datagram_record, renewal_record, skip_record, self_help_record, record_venue}
+use Rattle.feed_text.specs.ReplayEvents.{ReplayEvent, packet_answered, packet_refused, item_taken, gap_left, renewal_answered, skip_answered, self_help_declared, entries_after, entries_of}
+use Rattle.replay_run.specs.VenueItems.{HoldOnly, SkipNothing, TellsSessions, TellsWhole}
 
 -- a slice of these bytes, wherever they are
 abbrev pub slice_of : List ℕ → Bor (List ℕ)
@@ -30,6 +30,7 @@ slice_of bytes = record { ref_ptr = (0, 0); now = bytes }
 abbrev pub event_of : CaptureRecord → Event
 event_of (datagram_record venue line bytes) = Packet venue line (slice_of bytes)
 event_of (renewal_record venue name) = Renew venue name
+event_of (skip_record venue number) = Skip venue number
 event_of (self_help_record venue on) = Declare venue on
 
 -- the next items of a venue, this many, are pushed, and each is consumed at once
@@ -52,6 +53,7 @@ outcomes_by entries (item_taken venue numbered) =
     done.Pushed numbered.number ∷ done.Consumed (length entries + 1) ∷ []
 outcomes_by entries (gap_left venue request) = []
 outcomes_by entries (renewal_answered venue answer) = renewal_done answer ∷ []
+outcomes_by entries (skip_answered venue number answer) = skip_done number answer ∷ []
 outcomes_by entries (self_help_declared venue on) =
     (if is_so entries venue on then already_so else done.Declared (length entries + 1)) ∷ []
 
@@ -91,7 +93,8 @@ world_of histories entries = record {
 -- What these records emit is a run of the machine: over the records as events, with the outcomes
 -- that were emitted, to the world of these histories and of what was journaled; and the headline
 -- holds of it. Its premise on sessions is one on the records, and what it says of a venue's items
--- holds of those that were emitted.
+-- holds of those that were emitted, part by part; of whole sessions, where no record is a skip of
+-- the venue.
 pub record IsReplayRun (s : Setting) (records : List CaptureRecord) (emitted : List ReplayEvent)
     (histories : List History) : Type 0 where
   pub events : List Event
@@ -103,3 +106,5 @@ pub record IsReplayRun (s : Setting) (records : List CaptureRecord) (emitted : L
   pub headline : Headline s events (world_of histories (entries_of [] emitted))
   pub items : (place : ℕ) (h : History) → slice_get histories place ≡ Some h
       → TellsSessions records place emitted h
+  pub whole : (place : ℕ) (h : History) → slice_get histories place ≡ Some h
+      → SkipNothing place records → TellsWhole records place emitted h

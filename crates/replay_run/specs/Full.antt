@@ -2,7 +2,7 @@
 use Rattle.std.specs.Prelude.{◌≡◌, ℕ, List, [], ◌∷◌, ◌++◌, Some, slice_get}
 use Rattle.feed_types.specs.Sessions.{Session}
 use Rattle.feed_core.specs.declared.event.Event.{Event}
-use Rattle.feed_core.specs.declared.event.Event.TheVariants.{Packet, Push, Consume, Declare}
+use Rattle.feed_core.specs.declared.event.Event.TheVariants.{Packet, Push, Consume, Declare, Skip}
 use Rattle.feed_core.specs.declared.event.Done.{Done}
 use Rattle.feed_core.specs.Worlds.{Venue, World, Setting, new_world}
 use Rattle.feed_core.specs.Steps.{journal_full}
@@ -10,18 +10,21 @@ use Rattle.feed_core.specs.OneStep.{IsStep}
 use Rattle.feed_core.specs.Runs.{IsRun}
 use Rattle.feed_core.specs.VenueHalf.{BringOnly}
 use Rattle.feed_core.specs.Headline.{Headline}
-use Rattle.feed_text.specs.Capture.{CaptureRecord, datagram_record, renewal_record, self_help_record}
+use Rattle.feed_text.specs.Capture.{CaptureRecord, datagram_record, renewal_record, skip_record, self_help_record}
 use Rattle.feed_text.specs.ReplayEvents.{ReplayEvent, entries_of}
 use Rattle.feed_text.specs.VenueItems.{items_taken}
 use Rattle.replay_run.specs.Events.{slice_of, drains, AreEvents, outcomes_of}
 use Rattle.replay_run.specs.VenueItems.{HoldOnly}
 
--- The record's events up to the one that finds no room, and that one: of a datagram, some of its
--- items were consumed, and the next one was pushed; a declaration is refused itself.
+-- The record's events up to the one that finds no room, and that one: of a datagram or a skip,
+-- some of its items were consumed, and the next one was pushed; a declaration is refused itself.
 abbrev pub StopsAt : CaptureRecord → List Event → Event → Type 0
 StopsAt (datagram_record venue line bytes) done refused =
     (ready : ℕ)
     × (done ≡ Packet venue line (slice_of bytes) ∷ drains venue ready ++ Push venue ∷ [])
+    × (refused ≡ Consume venue)
+StopsAt (skip_record venue number) done refused =
+    (ready : ℕ) × (done ≡ Skip venue number ∷ drains venue ready ++ Push venue ∷ [])
     × (refused ≡ Consume venue)
 StopsAt (self_help_record venue on) done refused = (done ≡ []) × (refused ≡ Declare venue on)
 StopsAt (renewal_record venue name) done refused = ⊥
