@@ -32,7 +32,7 @@ use Rattle.feed_core.specs.VenueHalf.{BringsOnly, BringOnly, VenueHalf, waiting}
 use Rattle.feed_core.specs.Headline.{Headline}
 use Rattle.feed_core.specs.WholeSessions.{SkipsOnly, GiveNothingUp}
 use Rattle.feed_core.specs.laws.HeadlineLaw.{headline}
-use Rattle.feed_core.specs.laws.WholeSessionsLaw.{session_whole, sessions_whole}
+use Rattle.feed_core.specs.laws.WholeSessionsLaw.{session_whole, sessions_whole, skips_within}
 use Rattle.line_arbiter.specs.laws.Histories.{items_push}
 use Rattle.feed_text.specs.declared.replay.ReplayConfig.{ReplayConfig}
 use Rattle.feed_text.specs.Capture.{CaptureRecord, datagram_record, renewal_record, skip_record, self_help_record, record_venue}
@@ -46,7 +46,7 @@ use Rattle.feed_text.specs.laws.Entries.{entries_grow}
 use Rattle.feed_text.specs.VenueItems.{items_taken}
 use Rattle.line_arbiter.specs.laws.AnsweredHistories.{IsAnsweredThroughout}
 use Rattle.feed_text.specs.laws.VenueItemsLaw.{Each, ready_items, skip_items, here, one_came, new_each, taken_are_streams}
-use Rattle.replay_run.specs.VenueItems.{HoldsOnly, HoldOnly, SkipsNothing, SkipNothing, TellsSessions, TellsWhole}
+use Rattle.replay_run.specs.VenueItems.{HoldsOnly, HoldOnly, HoldsSkips, HoldNoSkip, HoldSkipsWithin, TellsSessions, TellsWhole}
 use Rattle.replay_run.specs.Events.{slice_of, event_of, drains, AreEvents, outcomes_by, outcomes_of, replay_setting, consumed_all, world_of, IsReplayRun}
 
 -- ---- lists
@@ -566,27 +566,27 @@ events_only place session (r ∷ rs) events (ready, others, more, is) may =
     (event_only place session r may.0, drains_only place (record_venue r) session ready)
     (events_only place session rs others more may.1))
 
--- ---- the premise that nothing is given up
+-- ---- what is said of the skips
 
-drains_nothing : (place venue n : ℕ) → GiveNothingUp place (drains venue n)
-drains_nothing place venue zero = tt
-drains_nothing place venue (suc n) = (tt, (tt, drains_nothing place venue n))
+module _ (May : ℕ → Type 0) (place : ℕ) where
+  drains_skip : (venue n : ℕ) → AllByRecursion (SkipsOnly May place) (drains venue n)
+  drains_skip venue zero = tt
+  drains_skip venue (suc n) = (tt, (tt, drains_skip venue n))
 
-event_nothing : (place : ℕ) (r : CaptureRecord) → SkipsNothing place r
-    → SkipsOnly (λ number. ⊥) place (event_of r)
-event_nothing place (datagram_record venue line bytes) none = tt
-event_nothing place (renewal_record venue name) none = tt
-event_nothing place (skip_record venue number) none = none
-event_nothing place (self_help_record venue on) none = tt
+  event_skips : (r : CaptureRecord) → HoldsSkips May place r → SkipsOnly May place (event_of r)
+  event_skips (datagram_record venue line bytes) may = tt
+  event_skips (renewal_record venue name) may = tt
+  event_skips (skip_record venue number) may = may
+  event_skips (self_help_record venue on) may = tt
 
-events_nothing : (place : ℕ) (rs : List CaptureRecord) (events : List Event) → AreEvents rs events
-    → SkipNothing place rs → GiveNothingUp place events
-events_nothing place [] events are none = subst (GiveNothingUp place) (sym are) tt
-events_nothing place (r ∷ rs) events (ready, others, more, is) none =
-    subst (GiveNothingUp place) (sym is)
-    (all_more (SkipsOnly (λ number. ⊥) place) (event_of r ∷ drains (record_venue r) ready) others
-    (event_nothing place r none.0, drains_nothing place (record_venue r) ready)
-    (events_nothing place rs others more none.1))
+  events_skip : (rs : List CaptureRecord) (events : List Event) → AreEvents rs events
+      → AllByRecursion (HoldsSkips May place) rs → AllByRecursion (SkipsOnly May place) events
+  events_skip [] events are may = subst (AllByRecursion (SkipsOnly May place)) (sym are) tt
+  events_skip (r ∷ rs) events (ready, others, more, is) may =
+      subst (AllByRecursion (SkipsOnly May place)) (sym is)
+      (all_more (SkipsOnly May place) (event_of r ∷ drains (record_venue r) ready) others
+      (event_skips r may.0, drains_skip (record_venue r) ready)
+      (events_skip rs others more may.1))
 
 -- ---- the items that were emitted
 
@@ -600,13 +600,15 @@ brought place records events only (session ∷ sessions) all =
 
 tells_sessions : (place : ℕ) (records : List CaptureRecord) (events : List Event) (emitted : List ReplayEvent)
     (h : History) → ((session : Session) → HoldOnly place records session → BringOnly place events session)
-    → items_taken place emitted ≡ streams_of h → VenueHalf events place (consumed_all h)
+    → items_taken place emitted ≡ streams_of h → VenueHalf events place (consumed_all h) → AreEvents records events
     → TellsSessions records place emitted h
-tells_sessions place records events emitted h only items half = record {
+tells_sessions place records events emitted h only items half are = record {
   items = items;
   session = λ s may. half.session s (only s may);
   sessions = λ began named all. items ∙ sym half.items
       ∙ half.sessions began named (brought place records events only began all);
+  within = λ s may. skips_within events place (streams_of h ++ waiting (consumed_all h)) h half s
+      (events_skip (λ number. number ≤ length s.items + 1) place records events are may);
 }
 
 tells_whole : (place : ℕ) (records : List CaptureRecord) (events : List Event) (emitted : List ReplayEvent)
@@ -652,9 +654,9 @@ replay_run config lane filters records emitted hs some emits room =
       headline = head;
       items = λ place h at. tells_sessions place records ran.0 emitted h (only place)
           (taken_are_streams config records emitted hs emits place h at)
-          (head.venues place (consumed_all h) (get_map consumed_all hs place h at));
+          (head.venues place (consumed_all h) (get_map consumed_all hs place h at)) ran.1;
       whole = λ place h at none. tells_whole place records ran.0 emitted h (only place)
           (taken_are_streams config records emitted hs emits place h at)
           (head.venues place (consumed_all h) (get_map consumed_all hs place h at))
-          (events_nothing place records ran.0 ran.1 none);
+          (events_skip (λ number. ⊥) place records ran.0 ran.1 none);
     }

@@ -20,7 +20,7 @@ use Rattle.feed_core.specs.Headline.{Headline}
 use Rattle.feed_text.specs.declared.replay.ReplayConfig.{ReplayConfig}
 use Rattle.feed_text.specs.Capture.{CaptureRecord, datagram_record, renewal_record, skip_record, self_help_record, record_venue}
 use Rattle.feed_text.specs.ReplayEvents.{ReplayEvent, packet_answered, packet_refused, item_taken, gap_left, renewal_answered, skip_answered, self_help_declared, entries_after, entries_of}
-use Rattle.replay_run.specs.VenueItems.{HoldOnly, SkipNothing, TellsSessions, TellsWhole}
+use Rattle.replay_run.specs.VenueItems.{HoldOnly, HoldNoSkip, TellsSessions, TellsWhole}
 
 -- a slice of these bytes, wherever they are
 abbrev pub slice_of : List ℕ → Bor (List ℕ)
@@ -107,4 +107,4 @@ pub record IsReplayRun (s : Setting) (records : List CaptureRecord) (emitted : L
   pub items : (place : ℕ) (h : History) → slice_get histories place ≡ Some h
       → TellsSessions records place emitted h
   pub whole : (place : ℕ) (h : History) → slice_get histories place ≡ Some h
-      → SkipNothing place records → TellsWhole records place emitted h
+      → HoldNoSkip place records → TellsWhole records place emitted h
