@@ -1,12 +1,12 @@
 -- What is counted of the happenings that lines report. A count stays at 2^64 - 1 once it is there.
-use Rattle.std.specs.Prelude.{ℕ, Bool, true, false, ◌&&◌, ◌||◌, ◌==◌, not, List, [], ◌∷◌, length, flat_map, fold, max, nat_lt, if◌then◌else◌}
+use Rattle.std.specs.Prelude.{ℕ, ◌-◌, Bool, true, false, ◌&&◌, ◌||◌, ◌==◌, not, List, [], ◌∷◌, length, flat_map, fold, max, nat_lt, if◌then◌else◌}
 use Rattle.std.specs.List.{count_by, sum_by}
 use Rattle.feed_types.specs.declared.line.LineId.{LineId}
 use Rattle.feed_types.specs.declared.line.LineId.TheVariants.{A, B, Recovery}
 use Rattle.feed_types.specs.Text.{line_letter}
 use Rattle.line_captures.specs.Counts.{count_after}
 use Rattle.capture_stats.specs.declared.happening.AtVenue.{AtVenue}
-use Rattle.capture_stats.specs.declared.happening.AtVenue.TheVariants.{Packet, Item, Gap, Renewal, Declaration, LeadsBid, LeadsOffer}
+use Rattle.capture_stats.specs.declared.happening.AtVenue.TheVariants.{Packet, Item, Gap, Renewal, Skip, Declaration, LeadsBid, LeadsOffer}
 use Rattle.capture_stats.specs.declared.happening.ItemKind.{ItemKind}
 use Rattle.capture_stats.specs.declared.happening.ItemKind.TheVariants as kinds
 use Rattle.capture_stats.specs.declared.happening.PacketAnswer.{PacketAnswer}
@@ -16,6 +16,7 @@ use Rattle.capture_stats.specs.declared.line_stats.Refusals.{Refusals}
 use Rattle.capture_stats.specs.declared.venue_stats.GapStats.{GapStats}
 use Rattle.capture_stats.specs.declared.venue_stats.ItemStats.{ItemStats}
 use Rattle.capture_stats.specs.declared.venue_stats.Missing.{Missing}
+use Rattle.capture_stats.specs.declared.venue_stats.SkipStats.{SkipStats}
 use Rattle.capture_stats.specs.declared.venue_stats.VenueStats.{VenueStats}
 
 -- ---- a line: its packets, by their answers
@@ -106,6 +107,7 @@ answer_on line (Packet other answer) =
 answer_on line (Item number kind) = []
 answer_on line (Gap number count) = []
 answer_on line (Renewal granted) = []
+answer_on line (Skip granted) = []
 answer_on line (Declaration on already) = []
 answer_on line LeadsBid = []
 answer_on line LeadsOffer = []
@@ -118,6 +120,7 @@ is_quote_kind kinds.Quote = true
 is_quote_kind kinds.Halt = false
 is_quote_kind kinds.Trading = false
 is_quote_kind kinds.Other = false
+is_quote_kind kinds.Skipped = false
 is_quote_kind kinds.End = false
 
 abbrev pub is_halt_kind : ItemKind → Bool
@@ -125,6 +128,7 @@ is_halt_kind kinds.Quote = false
 is_halt_kind kinds.Halt = true
 is_halt_kind kinds.Trading = false
 is_halt_kind kinds.Other = false
+is_halt_kind kinds.Skipped = false
 is_halt_kind kinds.End = false
 
 abbrev pub is_trading_kind : ItemKind → Bool
@@ -132,6 +136,7 @@ is_trading_kind kinds.Quote = false
 is_trading_kind kinds.Halt = false
 is_trading_kind kinds.Trading = true
 is_trading_kind kinds.Other = false
+is_trading_kind kinds.Skipped = false
 is_trading_kind kinds.End = false
 
 abbrev pub is_other_kind : ItemKind → Bool
@@ -139,6 +144,7 @@ is_other_kind kinds.Quote = false
 is_other_kind kinds.Halt = false
 is_other_kind kinds.Trading = false
 is_other_kind kinds.Other = true
+is_other_kind kinds.Skipped = false
 is_other_kind kinds.End = false
 
 abbrev pub is_end_kind : ItemKind → Bool
@@ -146,6 +152,7 @@ is_end_kind kinds.Quote = false
 is_end_kind kinds.Halt = false
 is_end_kind kinds.Trading = false
 is_end_kind kinds.Other = false
+is_end_kind kinds.Skipped = false
 is_end_kind kinds.End = true
 
 -- whether it is an item of such a kind
@@ -154,6 +161,7 @@ is_item of_kind (Packet line answer) = false
 is_item of_kind (Item number kind) = of_kind kind
 is_item of_kind (Gap number count) = false
 is_item of_kind (Renewal granted) = false
+is_item of_kind (Skip granted) = false
 is_item of_kind (Declaration on already) = false
 is_item of_kind LeadsBid = false
 is_item of_kind LeadsOffer = false
@@ -164,6 +172,7 @@ last_number_after last (Packet line answer) = last
 last_number_after last (Item number kind) = number
 last_number_after last (Gap number count) = last
 last_number_after last (Renewal granted) = last
+last_number_after last (Skip granted) = last
 last_number_after last (Declaration on already) = last
 last_number_after last LeadsBid = last
 last_number_after last LeadsOffer = last
@@ -198,9 +207,36 @@ gap_after s (Gap number count) = record {
   standing = record { number = number; count = count };
 }
 gap_after s (Renewal granted) = s
+gap_after s (Skip granted) = s
 gap_after s (Declaration on already) = s
 gap_after s LeadsBid = s
 gap_after s LeadsOffer = s
+
+-- how many messages an item stands for that were given up, after the session's item of the number
+-- `last`
+abbrev pub given_up_by : ℕ → ℕ → ItemKind → ℕ
+given_up_by last number kinds.Quote = 0
+given_up_by last number kinds.Halt = 0
+given_up_by last number kinds.Trading = 0
+given_up_by last number kinds.Other = 0
+given_up_by last number kinds.Skipped = number - last
+given_up_by last number kinds.End = 0
+
+-- The skips after one more happening. With a next session numbers begin anew.
+abbrev pub skips_after : SkipStats → AtVenue → SkipStats
+skips_after s (Packet line answer) = s
+skips_after s (Item number kind) = record s {
+  messages = count_after s.messages (given_up_by s.last number kind);
+  last = number;
+}
+skips_after s (Gap number count) = s
+skips_after s (Renewal true) = record s { last = 0 }
+skips_after s (Renewal false) = s
+skips_after s (Skip true) = record s { granted = count_after s.granted 1 }
+skips_after s (Skip false) = record s { refused = count_after s.refused 1 }
+skips_after s (Declaration on already) = s
+skips_after s LeadsBid = s
+skips_after s LeadsOffer = s
 
 abbrev pub is_renewal : Bool → AtVenue → Bool
 is_renewal well (Packet line answer) = false
@@ -208,6 +244,7 @@ is_renewal well (Item number kind) = false
 is_renewal well (Gap number count) = false
 is_renewal true (Renewal granted) = granted
 is_renewal false (Renewal granted) = not granted
+is_renewal well (Skip granted) = false
 is_renewal well (Declaration on already) = false
 is_renewal well LeadsBid = false
 is_renewal well LeadsOffer = false
@@ -217,6 +254,7 @@ is_declaration so (Packet line answer) = false
 is_declaration so (Item number kind) = false
 is_declaration so (Gap number count) = false
 is_declaration so (Renewal granted) = false
+is_declaration so (Skip granted) = false
 is_declaration so (Declaration on already) = so on already
 is_declaration so LeadsBid = false
 is_declaration so LeadsOffer = false
@@ -226,6 +264,7 @@ leads_bid (Packet line answer) = false
 leads_bid (Item number kind) = false
 leads_bid (Gap number count) = false
 leads_bid (Renewal granted) = false
+leads_bid (Skip granted) = false
 leads_bid (Declaration on already) = false
 leads_bid LeadsBid = true
 leads_bid LeadsOffer = false
@@ -235,6 +274,7 @@ leads_offer (Packet line answer) = false
 leads_offer (Item number kind) = false
 leads_offer (Gap number count) = false
 leads_offer (Renewal granted) = false
+leads_offer (Skip granted) = false
 leads_offer (Declaration on already) = false
 leads_offer LeadsBid = false
 leads_offer LeadsOffer = true
@@ -247,6 +287,7 @@ venue_after s whats = record {
   recovery = line_after s.recovery (answers_on Recovery whats);
   items = items_after s.items whats;
   gaps = fold gap_after s.gaps whats;
+  skips = fold skips_after s.skips whats;
   renewals = count_after s.renewals (count_by (is_renewal true) whats);
   renewals_refused = count_after s.renewals_refused (count_by (is_renewal false) whats);
   declared = count_after s.declared

@@ -7,7 +7,7 @@ use Rattle.feed_types.specs.declared.national.NationalState.{NationalState}
 use Rattle.feed_types.specs.declared.national.NationalState.TheVariants.{Empty, OneSided, Normal, Locked, Crossed}
 use Rattle.best_lines.specs.Rows.{is_none_word, part_before, venue_in, words_from}
 use Rattle.capture_stats.specs.declared.happening.AtVenue.{AtVenue}
-use Rattle.capture_stats.specs.declared.happening.AtVenue.TheVariants.{Packet, Item, Gap, Renewal, Declaration, LeadsBid, LeadsOffer}
+use Rattle.capture_stats.specs.declared.happening.AtVenue.TheVariants.{Packet, Item, Gap, Renewal, Skip, Declaration, LeadsBid, LeadsOffer}
 use Rattle.capture_stats.specs.declared.happening.ItemKind.{ItemKind}
 use Rattle.capture_stats.specs.declared.happening.ItemKind.TheVariants as kinds
 use Rattle.capture_stats.specs.declared.happening.PacketAnswer.{PacketAnswer}
@@ -73,6 +73,7 @@ kind_named word =
     else if bytes_eq word (codes "halt") then Some kinds.Halt
     else if bytes_eq word (codes "trading") then Some kinds.Trading
     else if bytes_eq word (codes "other") then Some kinds.Other
+    else if bytes_eq word (codes "skipped") then Some kinds.Skipped
     else if bytes_eq word (codes "end") then Some kinds.End
     else None
 
@@ -90,6 +91,8 @@ told_of_venue f =
     then Some (Gap (number_spelled f.third) (number_spelled f.fourth))
     else if bytes_eq f.first (codes "renew")
     then Some (Renewal (not (bytes_eq f.third (codes "refused"))))
+    else if bytes_eq f.first (codes "skip")
+    then Some (Skip (not (bytes_eq f.third (codes "refused"))))
     else if bytes_eq f.first (codes "declare")
     then Some (Declaration (bytes_eq f.third (codes "on")) (bytes_eq f.fourth (codes "already")))
     else None

@@ -61,6 +61,9 @@ counts_json s =
     pieces_text 0 (
     (codes "},\"renewals\":", s.renewals)
     ∷ (codes ",\"renewals_refused\":", s.renewals_refused)
+    ∷ (codes ",\"given_up\":", s.skips.messages)
+    ∷ (codes ",\"skips\":", s.skips.granted)
+    ∷ (codes ",\"skips_refused\":", s.skips.refused)
     ∷ (codes ",\"self_help_declared\":", s.declared)
     ∷ (codes ",\"self_help_withdrawn\":", s.withdrawn)
     ∷ (codes ",\"self_help_already\":", s.already)

@@ -12,6 +12,7 @@ use Rattle.capture_stats.specs.declared.stats.StateStats.{StateStats}
 use Rattle.capture_stats.specs.declared.venue_stats.GapStats.{GapStats}
 use Rattle.capture_stats.specs.declared.venue_stats.ItemStats.{ItemStats}
 use Rattle.capture_stats.specs.declared.venue_stats.Missing.{Missing}
+use Rattle.capture_stats.specs.declared.venue_stats.SkipStats.{SkipStats}
 use Rattle.capture_stats.specs.declared.venue_stats.VenueStats.{VenueStats}
 use Rattle.capture_stats.specs.Counts.{venue_after}
 use Rattle.capture_stats.specs.Happenings.{Happening, at_venue, changed_to, told_by_all}
@@ -129,6 +130,9 @@ no_items = record { quotes = 0; halts = 0; resumptions = 0; others = 0; ends = 0
 abbrev pub no_gaps : GapStats
 no_gaps = record { found = 0; longest = 0; before = nothing_missing; standing = nothing_missing }
 
+abbrev pub no_skips : SkipStats
+no_skips = record { granted = 0; refused = 0; messages = 0; last = 0 }
+
 -- a venue where nothing happened
 abbrev pub nothing_at : VenueStats
 nothing_at = record {
@@ -137,6 +141,7 @@ nothing_at = record {
   recovery = no_packets;
   items = no_items;
   gaps = no_gaps;
+  skips = no_skips;
   renewals = 0;
   renewals_refused = 0;
   declared = 0;

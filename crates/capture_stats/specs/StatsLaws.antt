@@ -14,7 +14,7 @@ use Rattle.capture_stats.specs.declared.line_stats.Refusals.{Refusals}
 use Rattle.capture_stats.specs.declared.stats.StateStats.{StateStats}
 use Rattle.capture_stats.specs.declared.venue_stats.ItemStats.{ItemStats}
 use Rattle.capture_stats.specs.declared.venue_stats.VenueStats.{VenueStats}
-use Rattle.capture_stats.specs.Counts.{answer_on, answers_on, first_in, gap_after, answered_ahead, is_declaration, is_end_kind, answered_ended, is_halt_kind, answered_heartbeat, is_item, is_other_kind, is_quote_kind, is_refused, is_renewal, is_trading_kind, answered_taken, items_after, last_number_after, leads_bid, leads_offer, line_after, refused_after, repeated_in, venue_after}
+use Rattle.capture_stats.specs.Counts.{answer_on, answers_on, first_in, gap_after, answered_ahead, is_declaration, is_end_kind, answered_ended, is_halt_kind, answered_heartbeat, is_item, is_other_kind, is_quote_kind, is_refused, is_renewal, is_trading_kind, answered_taken, items_after, last_number_after, leads_bid, leads_offer, line_after, refused_after, repeated_in, venue_after, skips_after}
 use Rattle.capture_stats.specs.Happenings.{Happening}
 use Rattle.capture_stats.specs.Stats.{Counted, all_at, counted_after, is_change, is_crossed, is_empty_state, is_locked, is_normal, is_one_sided, states_after, venues_after, what_at}
 
@@ -98,6 +98,7 @@ venue_twice s xs ys =
     let j = counted (is_declaration (λ on already. already)) s.already xs ys in
     let k = counted leads_bid s.bids xs ys in
     let l = counted leads_offer s.offers xs ys in
+    let m = folded skips_after s.skips xs ys in
     cc
 
 venues_twice : (venue : ℕ) (ss : List VenueStats) (xs ys : List Happening)

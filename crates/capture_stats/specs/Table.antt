@@ -112,6 +112,9 @@ counts_table s =
     pieces_text 14 (
     (codes "\n  next sessions begun         ", s.renewals)
     ∷ (codes "\n    refused                   ", s.renewals_refused)
+    ∷ (codes "\n  messages given up           ", s.skips.messages)
+    ∷ (codes "\n    skips                     ", s.skips.granted)
+    ∷ (codes "\n    refused                   ", s.skips.refused)
     ∷ (codes "\n  self-help declared          ", s.declared)
     ∷ (codes "\n    withdrawn                 ", s.withdrawn)
     ∷ (codes "\n    already so                ", s.already)

@@ -21,6 +21,8 @@ pub enum ItemKind {
     Halt,
     Trading,
     Other,
+    /// It stands for messages that were given up, of which the last has its number.
+    Skipped,
     End,
 }
 
@@ -35,6 +37,8 @@ pub enum AtVenue {
     Gap { number: u64, count: u64 },
     /// A next session was asked for.
     Renewal { granted: bool },
+    /// Missing messages were to be given up.
+    Skip { granted: bool },
     /// Self-help was declared or withdrawn, unless it already was.
     Declaration { on: bool, already: bool },
     /// The venue has the best bid of a national best that changed.

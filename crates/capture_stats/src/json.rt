@@ -84,6 +84,9 @@ fn put_counts(text: &mut Vec<u8>, s: &VenueStats) -> Result<(), AllocError>
     let pieces = [
         ("},\"renewals\":", s.renewals),
         (",\"renewals_refused\":", s.renewals_refused),
+        (",\"given_up\":", s.skips.messages),
+        (",\"skips\":", s.skips.granted),
+        (",\"skips_refused\":", s.skips.refused),
         (",\"self_help_declared\":", s.declared),
         (",\"self_help_withdrawn\":", s.withdrawn),
         (",\"self_help_already\":", s.already),

@@ -114,6 +114,8 @@ fn kind_named(word: &[u8]) -> Option<ItemKind>
         Some(ItemKind::Trading)
     } else if word == b"other".as_slice() {
         Some(ItemKind::Other)
+    } else if word == b"skipped".as_slice() {
+        Some(ItemKind::Skipped)
     } else if word == b"end".as_slice() {
         Some(ItemKind::End)
     } else {
@@ -148,6 +150,9 @@ pub(crate) fn told_of_venue(words: LineWords<'_>) -> Option<AtVenue>
     } else if words.first == b"renew".as_slice() {
         let granted = words.third != b"refused".as_slice();
         Some(AtVenue::Renewal { granted })
+    } else if words.first == b"skip".as_slice() {
+        let granted = words.third != b"refused".as_slice();
+        Some(AtVenue::Skip { granted })
     } else if words.first == b"declare".as_slice() {
         let on = words.third == b"on".as_slice();
         let already = words.fourth == b"already".as_slice();

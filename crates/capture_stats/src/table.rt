@@ -170,6 +170,9 @@ fn put_counts(text: &mut Vec<u8>, s: &VenueStats) -> Result<(), AllocError>
     let pieces = [
         ("\n  next sessions begun         ", s.renewals),
         ("\n    refused                   ", s.renewals_refused),
+        ("\n  messages given up           ", s.skips.messages),
+        ("\n    skips                     ", s.skips.granted),
+        ("\n    refused                   ", s.skips.refused),
         ("\n  self-help declared          ", s.declared),
         ("\n    withdrawn                 ", s.withdrawn),
         ("\n    already so                ", s.already),

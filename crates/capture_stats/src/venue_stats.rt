@@ -1,6 +1,6 @@
 //! The counts of a venue.
 ghost use Rattle.std.specs.Prelude.{◌≡◌, ◌∷◌, []};
-ghost use Rattle.capture_stats.specs.Counts.{continues, gap_after, items_after, venue_after};
+ghost use Rattle.capture_stats.specs.Counts.{continues, gap_after, given_up_by, items_after, skips_after, venue_after};
 
 use crate::happening::{AtVenue, ItemKind};
 use crate::line_stats::{LineStats, raised};
@@ -29,6 +29,7 @@ impl ItemStats {
             ItemKind::Halt => self.halts = raised(self.halts, 1),
             ItemKind::Trading => self.resumptions = raised(self.resumptions, 1),
             ItemKind::Other => self.others = raised(self.others, 1),
+            ItemKind::Skipped => {}
             ItemKind::End => self.ends = raised(self.ends, 1),
         }
     }
@@ -92,6 +93,38 @@ impl GapStats {
     }
 }
 
+/// How many messages an item stands for that were given up, after the session's item of the number
+/// `last`.
+fn given_up_by(last: u64, number: u64, kind: ItemKind) -> u64
+    ensures { result ≡ given_up_by last number kind }
+{
+    match kind {
+        ItemKind::Skipped => number.saturating_sub(last),
+        ItemKind::Quote | ItemKind::Halt | ItemKind::Trading | ItemKind::Other | ItemKind::End => 0,
+    }
+}
+
+/// The skips of a venue.
+#[derive(Clone, Copy, Debug, Default, PartialEq, Eq)]
+pub struct SkipStats {
+    pub granted: u64,
+    pub refused: u64,
+    /// The messages that were given up.
+    pub messages: u64,
+    /// The number of the present session's last item, 0 where there is none.
+    pub last: u64,
+}
+
+impl SkipStats {
+    /// Takes an item.
+    fn take_item(&mut self, number: u64, kind: ItemKind)
+        ensures { self.new ≡ skips_after self.old (AtVenue.Item number kind) }
+    {
+        self.messages = raised(self.messages, given_up_by(self.last, number, kind));
+        self.last = number;
+    }
+}
+
 /// The counts of one venue.
 #[derive(Clone, Copy, Debug, Default, PartialEq, Eq)]
 pub struct VenueStats {
@@ -100,6 +133,7 @@ pub struct VenueStats {
     pub recovery: LineStats,
     pub items: ItemStats,
     pub gaps: GapStats,
+    pub skips: SkipStats,
     /// The next sessions that began.
     pub renewals: u64,
     pub renewals_refused: u64,
@@ -127,12 +161,20 @@ impl VenueStats {
                     LineId::Recovery => self.recovery.add(answer),
                 }
             }
-            AtVenue::Item { number, kind } => self.items.add(number, kind),
+            AtVenue::Item { number, kind } => {
+                self.items.add(number, kind);
+                self.skips.take_item(number, kind);
+            }
             AtVenue::Gap { number, count } => self.gaps.take_gap(number, count),
-            AtVenue::Renewal { granted: true } => self.renewals = raised(self.renewals, 1),
+            AtVenue::Renewal { granted: true } => {
+                self.renewals = raised(self.renewals, 1);
+                self.skips.last = 0;
+            }
             AtVenue::Renewal { granted: false } => {
                 self.renewals_refused = raised(self.renewals_refused, 1);
             }
+            AtVenue::Skip { granted: true } => self.skips.granted = raised(self.skips.granted, 1),
+            AtVenue::Skip { granted: false } => self.skips.refused = raised(self.skips.refused, 1),
             AtVenue::Declaration { already: true, .. } => self.already = raised(self.already, 1),
             AtVenue::Declaration { on: true, .. } => self.declared = raised(self.declared, 1),
             AtVenue::Declaration { on: false, .. } => self.withdrawn = raised(self.withdrawn, 1),

@@ -43,6 +43,8 @@ Printed for each venue, from 0:
                              most messages that one gap lacked; and how many are missing still, of
                              the first gap, and from which number
   next sessions begun        by records of kind N, and how many of these were refused
+  messages given up          by records of kind K; how many of these there were, and how many more
+                             were refused
   self-help                  declared, withdrawn, and either where it was so already
   changes of national bests  after which the best bid, or the best offer, is the venue's; also
                              those that have changed the other side alone
