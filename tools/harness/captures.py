@@ -6,9 +6,9 @@ from typing import NamedTuple
 
 HEAD = struct.Struct('>BcH')
 LINE_A, LINE_B, RECOVERY = b'A', b'B', b'R'
-RENEWAL, SELF_HELP, WITHDRAWN = b'N', b'H', b'W'
+RENEWAL, SKIP, SELF_HELP, WITHDRAWN = b'N', b'K', b'H', b'W'
 DATAGRAMS = (LINE_A, LINE_B, RECOVERY)
-KINDS = (*DATAGRAMS, RENEWAL, SELF_HELP, WITHDRAWN)
+KINDS = (*DATAGRAMS, RENEWAL, SKIP, SELF_HELP, WITHDRAWN)
 
 
 class BadCapture(Exception):
