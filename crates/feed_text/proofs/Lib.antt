@@ -1,5 +1,7 @@
 pub mod Ranges
 pub mod Calls
+pub mod Taking
+pub mod RuleSteps
 pub mod Steps
 pub mod Rest
 pub mod VenueSteps

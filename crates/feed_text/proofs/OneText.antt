@@ -1,6 +1,6 @@
 -- Records print one text.
-use Rattle.std.proofs.Common.{◌≡◌, ◌<◌, ◌≤◌, append_assoc, length, length-append, ℕ, Bool, List, [], ◌∷◌, ◌++◌, Some, Option, refl, sym, ap, subst, ◌∙◌, arith, inl, inr}
-use Rattle.std.specs.Prelude.{Result, Ok, Err, true, false, if◌then◌else◌, slice_set}
+use Rattle.std.proofs.Common.{◌≡◌, ◌<◌, ◌≤◌, append_assoc, length, ℕ, Bool, List, [], ◌∷◌, ◌++◌, Some, refl, sym, ap, subst, ◌∙◌, arith, inl, inr}
+use Rattle.std.specs.Prelude.{Result, slice_set}
 use Rattle.feed_types.specs.declared.line.LineId.{LineId}
 use Rattle.mold_packet.specs.declared.fault.PacketFault.{PacketFault}
 use Rattle.mold_packet.specs.Content.{Content, Spells}
@@ -14,15 +14,14 @@ use Rattle.line_arbiter.specs.Outcomes.{IsOutcome}
 use Rattle.line_arbiter.specs.laws.OneOutcome.{one_renewal}
 use Rattle.line_arbiter.specs.laws.SkipAnswers.{one_skip}
 use Rattle.feed_types.specs.declared.journal.Entry.{Entry}
-use Rattle.feed_types.specs.declared.journal.Entry.TheVariants.{Consumed, SelfHelp}
 use Rattle.feed_text.specs.laws.Entries.{entries_more, entries_grow}
-use Rattle.feed_text.proofs.Steps.{tells_one}
+use Rattle.feed_text.specs.Rules.{AreTakenOf, IsTakenNext, PutsIn, SkipsAt, first_come, skip_at}
 use Rattle.line_arbiter.specs.Histories.{History, names_of, after_input, history_after, skip_after}
 use Rattle.feed_text.specs.declared.replay.ReplayConfig.{ReplayConfig}
 use Rattle.feed_text.specs.Capture.{CaptureRecord, datagram_record, renewal_record, skip_record, self_help_record, record_venue}
-use Rattle.feed_text.specs.ReplayEvents.{ReplayEvent, packet_answered, packet_refused, item_taken, gap_left, renewal_answered, skip_answered, self_help_declared, entries_after, entries_of}
+use Rattle.feed_text.specs.ReplayEvents.{ReplayEvent, packet_answered, packet_refused, renewal_answered, skip_answered, entries_after, entries_of}
 use Rattle.feed_text.specs.Emitted.{last_sent, gap_emitted, items_emitted, EmitsFault, EmitsPacket, EmitsAt, EmitsRecord, Emits}
-use Rattle.feed_text.specs.Texts.{last_lines, new_histories, EmitsAll, lines_emitted, HasJournalRoom, IsTextOf, IsLinesOf, IsLinesToFull}
+use Rattle.feed_text.specs.Texts.{last_lines, new_histories, AreAllTaken, EmitsAll, lines_emitted, HasJournalRoom, IsTextOf, IsLinesOf, IsLinesToFull}
 
 -- the laws of packets and of their answers
 pub record Single : Type 0 where
@@ -77,14 +76,58 @@ one_told window gaps (r ∷ rs) old n1 n2 l1 l2 one (m, first, others, record_is
     let y = one_told window gaps rs k n1 n2 others tail one (subst (λ (h : List History). Emits window gaps rs h others n1) x.1 more) rest in
     (whole ∙ ap (λ (t : List ReplayEvent). t ++ others) x.0 ∙ ap (λ (t : List ReplayEvent). head ++ t) y.0 ∙ sym all, y.1)
 
+-- before a record a rule puts in one skip, or none
+one_skip_at : (config : ReplayConfig) (r : CaptureRecord) (h : History) (m n : ℕ) → Single → SkipsAt config.skips config.window r h m → SkipsAt config.skips config.window r h n → m ≡ n
+one_skip_at config (datagram_record venue line bytes) h m n one (p, rest, spells, x) (q, more, others, y) =
+    let same = one.packet bytes p q rest more spells others in
+    x.first ∙ ap (first_come config.window h) same ∙ sym y.first
+one_skip_at config (renewal_record venue name) h m n one x y = absurd x
+one_skip_at config (skip_record venue number) h m n one x y = absurd x
+one_skip_at config (self_help_record venue on) h m n one x y = absurd x
+
+one_put : (config : ReplayConfig) (hs : List History) (r : CaptureRecord) (m n : ℕ) → Single → PutsIn config hs r m → PutsIn config hs r n → m ≡ n
+one_put config hs r m n one x y =
+    let some : Some x.before ≡ Some y.before = sym x.at ∙ y.at in
+    let same : x.before ≡ y.before = cc in
+    one_skip_at config r y.before m n one (subst (λ (h : History). SkipsAt config.skips config.window r h m) same x.skips) y.skips
+
+-- of these records one is taken next
+one_next : (config : ReplayConfig) (hs : List History) (rs : List CaptureRecord) (t u : CaptureRecord) (left others : List CaptureRecord) → Single → IsTakenNext config hs rs t left → IsTakenNext config hs rs u others → (t ≡ u) × (left ≡ others)
+one_next config hs [] t u left others one x y = absurd x
+one_next config hs (r ∷ rs) t u left others one (inl x) (inl y) =
+    (x.0.2 ∙ ap (skip_at r) (one_put config hs r x.0.0 y.0.0 one x.0.1 y.0.1) ∙ sym y.0.2, x.1 ∙ sym y.1)
+one_next config hs (r ∷ rs) t u left others one (inl x) (inr y) = absurd (y.0 x.0.0 x.0.1)
+one_next config hs (r ∷ rs) t u left others one (inr x) (inl y) = absurd (x.0 y.0.0 y.0.1)
+one_next config hs (r ∷ rs) t u left others one (inr x) (inr y) = (x.1 ∙ sym y.1, x.2 ∙ sym y.2)
+
+-- so all that is taken of records is one list
+one_taken : (config : ReplayConfig) (rs ts us : List CaptureRecord) (old n1 n2 : List History) → Single → AreTakenOf config rs old ts [] n1 → AreTakenOf config rs old us [] n2 → ts ≡ us
+one_taken config rs [] [] old n1 n2 one x y = refl
+one_taken config rs [] (u ∷ us) old n1 n2 one x (others, emitted, mid, next, tells, rest) =
+    absurd (subst (λ (l : List CaptureRecord). IsTakenNext config old l u others) (sym x.0) next)
+one_taken config rs (t ∷ ts) [] old n1 n2 one (others, emitted, mid, next, tells, rest) y =
+    absurd (subst (λ (l : List CaptureRecord). IsTakenNext config old l t others) (sym y.0) next)
+one_taken config rs (t ∷ ts) (u ∷ us) old n1 n2 one (others, emitted, mid, next, tells, rest) (ends, told, between, is, here, more) =
+    let n = one_next config old rs t u others ends one next is in
+    let r = one_record config.window config.gaps u old mid between emitted told one (subst (λ (k : CaptureRecord). EmitsRecord config.window config.gaps k old emitted mid) n.0 tells) here in
+    let tail : AreTakenOf config ends between ts [] n1 =
+    subst (λ (l : List CaptureRecord). AreTakenOf config l between ts [] n1) n.1 (subst (λ (hs : List History). AreTakenOf config others hs ts [] n1) r.1 rest) in
+    let same = one_taken config ends ts us between n1 n2 one tail more in
+    ap (λ (k : CaptureRecord). k ∷ ts) n.0 ∙ ap (λ (l : List CaptureRecord). u ∷ l) same
+
+one_all : (config : ReplayConfig) (records ts us : List CaptureRecord) (x y : List ReplayEvent) (hs ks : List History) → Single → AreAllTaken config records ts hs → AreAllTaken config records us ks → EmitsAll config ts x hs → EmitsAll config us y ks → (x ≡ y) × (hs ≡ ks)
+one_all config records ts us x y hs ks one a b e f =
+    let same = one_taken config records ts us (new_histories config) hs ks one a b in
+    one_told config.window config.gaps us (new_histories config) hs ks x y one (subst (λ (l : List CaptureRecord). EmitsAll config l x hs) same e) f
+
 pub one_text : (config : ReplayConfig) (records : List CaptureRecord) (t u : List ℕ) → Single → IsTextOf config records t → IsTextOf config records u → t ≡ u
 one_text config records t u one a b =
-    let x = one_told config.window config.gaps records (new_histories config) a.histories b.histories a.emitted b.emitted one a.emits b.emits in
+    let x = one_all config records a.taken b.taken a.emitted b.emitted a.histories b.histories one a.are_taken b.are_taken a.emits b.emits in
     a.text_is ∙ ap (λ (hs : List ReplayEvent). lines_emitted config hs ++ last_lines 0 a.histories) x.0 ∙ ap (λ (hs : List History). lines_emitted config b.emitted ++ last_lines 0 hs) x.1 ∙ sym b.text_is
 
 pub one_lines : (config : ReplayConfig) (records : List CaptureRecord) (t u : List ℕ) → Single → IsLinesOf config records t → IsLinesOf config records u → t ≡ u
 one_lines config records t u one a b =
-    let x = one_told config.window config.gaps records (new_histories config) a.histories b.histories a.emitted b.emitted one a.emits b.emits in
+    let x = one_all config records a.taken b.taken a.emitted b.emitted a.histories b.histories one a.are_taken b.are_taken a.emits b.emits in
     a.lines_are ∙ ap (lines_emitted config) x.0 ∙ sym b.lines_are
 
 -- what had room up to the next event is the same prefix
@@ -112,18 +155,6 @@ one_front limit old (h ∷ f) (k ∷ g) x y xs ys e fit_f fit_g full_f full_g =
     let tails : f ≡ g = one_front limit (entries_after old h) f g x y xs ys rest fit_f (rw same at fit_g) full_f (rw same at full_g) in
     cc
 
--- the same lists with one more element each
-last_one : {X : Type 0} (xs ys : List X) (x y : X) → xs ++ x ∷ [] ≡ ys ++ y ∷ [] → (xs ≡ ys) × (x ≡ y)
-last_one [] [] x y e = (refl, cc)
-last_one [] (z ∷ ys) x y e = let n = ap length e in let m = length-append ys (y ∷ []) in absurd (omega arith)
-last_one (z ∷ xs) [] x y e = let n = ap length e in let m = length-append xs (x ∷ []) in absurd (omega arith)
-last_one (z ∷ xs) (w ∷ ys) x y e =
-    let head : z ≡ w = cc in
-    let tail : xs ++ x ∷ [] ≡ ys ++ y ∷ [] = cc in
-    let rest = last_one xs ys x y tail in
-    let back : xs ≡ ys = rest.0 in
-    (cc, rest.1)
-
 -- what has room, and what has none, after what was emitted before
 room_behind : (config : ReplayConfig) (emitted more : List ReplayEvent) → HasJournalRoom config (emitted ++ more) → length (entries_of (entries_of [] emitted) more) ≤ config.journal
 room_behind config emitted more h = subst (λ (es : List Entry). length es ≤ config.journal) (entries_more [] emitted more) h
@@ -132,35 +163,166 @@ full_behind : (config : ReplayConfig) (emitted first : List ReplayEvent) (next :
 full_behind config emitted first next h =
     subst (λ (es : List Entry). config.journal < length es) (ap (entries_of []) (append_assoc emitted first (next ∷ [])) ∙ entries_more [] emitted (first ++ next ∷ [])) h
 
+-- what was taken up to a full journal: of the last one the first events had room, and the next one
+-- had none
+record Filled (config : ReplayConfig) (old : List Entry) (rs ts : List CaptureRecord) (hs : List History) (emitted : List ReplayEvent) : Type 0 where
+  read_last : CaptureRecord
+  mid : List History
+  are : AreTakenOf config rs hs ts (read_last ∷ []) mid
+  emits : Emits config.window config.gaps ts hs emitted mid
+  last : CaptureRecord
+  left : List CaptureRecord
+  is_last : IsTakenNext config mid (read_last ∷ []) last left
+  first : List ReplayEvent
+  next : ReplayEvent
+  others : List ReplayEvent
+  after : List History
+  tells : EmitsRecord config.window config.gaps last mid (first ++ next ∷ others) after
+  room : length (entries_of (entries_of old emitted) first) ≤ config.journal
+  full : config.journal < length (entries_of (entries_of old emitted) (first ++ next ∷ []))
+
+filled : (config : ReplayConfig) (records : List CaptureRecord) (t : List ℕ) (x : IsLinesToFull config records t) → Filled config [] records x.earlier (new_histories config) x.emitted
+filled config records t x = record {
+  read_last = x.read_last;
+  mid = x.histories;
+  are = x.are_taken;
+  emits = x.emits;
+  last = x.last;
+  left = x.left;
+  is_last = x.is_last;
+  first = x.first;
+  next = x.next;
+  others = x.others;
+  after = x.after;
+  tells = x.last_tells;
+  room = room_behind config x.emitted x.first x.room;
+  full = full_behind config x.emitted x.first x.next x.full;
+}
+
+-- the first of what was taken, and what came after it
+filled_on : (config : ReplayConfig) (old : List Entry) (rs ts : List CaptureRecord) (t : CaptureRecord) (hs : List History) (emitted head tail : List ReplayEvent) (mid : List History) (others : List CaptureRecord) (x : Filled config old rs (t ∷ ts) hs emitted)
+    → emitted ≡ head ++ tail → AreTakenOf config others mid ts (x.read_last ∷ []) x.mid → Emits config.window config.gaps ts mid tail x.mid → Filled config (entries_of old head) others ts mid tail
+filled_on config old rs ts t hs emitted head tail mid others x e are emits =
+    let both : entries_of old emitted ≡ entries_of (entries_of old head) tail = ap (entries_of old) e ∙ entries_more old head tail in
+    record {
+      read_last = x.read_last;
+      mid = x.mid;
+      are = are;
+      emits = emits;
+      last = x.last;
+      left = x.left;
+      is_last = x.is_last;
+      first = x.first;
+      next = x.next;
+      others = x.others;
+      after = x.after;
+      tells = x.tells;
+      room = subst (λ (es : List Entry). length (entries_of es x.first) ≤ config.journal) both x.room;
+      full = subst (λ (es : List Entry). config.journal < length (entries_of es (x.first ++ x.next ∷ []))) both x.full;
+    }
+
+-- what had no room has none with more after it
+no_room : (limit : ℕ) (old : List Entry) (first : List ReplayEvent) (next : ReplayEvent) (others more : List ReplayEvent) → limit < length (entries_of old (first ++ next ∷ [])) → length (entries_of (entries_of old (first ++ next ∷ others)) more) ≤ limit → ⊥
+no_room limit old first next others more full room =
+    let split : first ++ next ∷ others ≡ (first ++ next ∷ []) ++ others = sym (append_assoc first (next ∷ []) others) in
+    let all : entries_of (entries_of old (first ++ next ∷ others)) more ≡ entries_of (entries_of (entries_of old (first ++ next ∷ [])) others) more =
+    ap (λ (hs : List ReplayEvent). entries_of (entries_of old hs) more) split ∙ ap (λ (es : List Entry). entries_of es more) (entries_more old (first ++ next ∷ []) others) in
+    let one = entries_grow (entries_of old (first ++ next ∷ [])) others in
+    let two = entries_grow (entries_of (entries_of old (first ++ next ∷ [])) others) more in
+    let len = ap length all in
+    omega arith
+
+-- where one is full at what the other takes first, with room
+not_first : (config : ReplayConfig) (old : List Entry) (rs ts : List CaptureRecord) (u : CaptureRecord) (hs : List History) (none emitted head tail more : List ReplayEvent) (mid : List History) (left : List CaptureRecord) → Single → (x : Filled config old rs [] hs none)
+    → IsTakenNext config hs rs u left → EmitsRecord config.window config.gaps u hs head mid → emitted ≡ head ++ tail → length (entries_of (entries_of old emitted) more) ≤ config.journal → ⊥
+not_first config old rs ts u hs none emitted head tail more mid left one x next tells e room =
+    let here : IsTakenNext config hs rs x.last x.left = subst (λ (l : List CaptureRecord). IsTakenNext config hs l x.last x.left) x.are.0 (subst (λ (k : List History). IsTakenNext config k (x.read_last ∷ []) x.last x.left) x.are.1 x.is_last) in
+    let n = one_next config hs rs x.last u x.left left one here next in
+    let mine : EmitsRecord config.window config.gaps u hs (x.first ++ x.next ∷ x.others) x.after =
+    subst (λ (r : CaptureRecord). EmitsRecord config.window config.gaps r hs (x.first ++ x.next ∷ x.others) x.after) n.0 (subst (λ (k : List History). EmitsRecord config.window config.gaps x.last k (x.first ++ x.next ∷ x.others) x.after) x.are.1 x.tells) in
+    let y = one_record config.window config.gaps u hs x.after mid (x.first ++ x.next ∷ x.others) head one mine tells in
+    let all : emitted ≡ (x.first ++ x.next ∷ x.others) ++ tail = e ∙ ap (λ (l : List ReplayEvent). l ++ tail) (sym y.0) in
+    let full : config.journal < length (entries_of old (x.first ++ x.next ∷ [])) = subst (λ (l : List ReplayEvent). config.journal < length (entries_of (entries_of old l) (x.first ++ x.next ∷ []))) x.emits.0 x.full in
+    let later : entries_of (entries_of old emitted) more ≡ entries_of (entries_of old (x.first ++ x.next ∷ x.others)) (tail ++ more) =
+    ap (λ (l : List ReplayEvent). entries_of (entries_of old l) more) all
+    ∙ ap (λ (es : List Entry). entries_of es more) (entries_more old (x.first ++ x.next ∷ x.others) tail)
+    ∙ sym (entries_more (entries_of old (x.first ++ x.next ∷ x.others)) tail more) in
+    no_room config.journal old x.first x.next x.others (tail ++ more) full (subst (λ (es : List Entry). length es ≤ config.journal) later room)
+
+-- where the same has room up to the same place, what had room is the same
+filled_once : (config : ReplayConfig) (old : List Entry) (rs ts us : List CaptureRecord) (hs : List History) (e f : List ReplayEvent) → Single → (x : Filled config old rs ts hs e) → (y : Filled config old rs us hs f) → e ++ x.first ≡ f ++ y.first
+unfolding filled_on
+filled_once config old rs [] [] hs e f one x y =
+    let here : IsTakenNext config hs rs x.last x.left = subst (λ (l : List CaptureRecord). IsTakenNext config hs l x.last x.left) x.are.0 (subst (λ (k : List History). IsTakenNext config k (x.read_last ∷ []) x.last x.left) x.are.1 x.is_last) in
+    let there : IsTakenNext config hs rs y.last y.left = subst (λ (l : List CaptureRecord). IsTakenNext config hs l y.last y.left) y.are.0 (subst (λ (k : List History). IsTakenNext config k (y.read_last ∷ []) y.last y.left) y.are.1 y.is_last) in
+    let n = one_next config hs rs x.last y.last x.left y.left one here there in
+    let mine : EmitsRecord config.window config.gaps y.last hs (x.first ++ x.next ∷ x.others) x.after =
+    subst (λ (r : CaptureRecord). EmitsRecord config.window config.gaps r hs (x.first ++ x.next ∷ x.others) x.after) n.0 (subst (λ (k : List History). EmitsRecord config.window config.gaps x.last k (x.first ++ x.next ∷ x.others) x.after) x.are.1 x.tells) in
+    let theirs : EmitsRecord config.window config.gaps y.last hs (y.first ++ y.next ∷ y.others) y.after = subst (λ (k : List History). EmitsRecord config.window config.gaps y.last k (y.first ++ y.next ∷ y.others) y.after) y.are.1 y.tells in
+    let same = one_record config.window config.gaps y.last hs x.after y.after (x.first ++ x.next ∷ x.others) (y.first ++ y.next ∷ y.others) one mine theirs in
+    let front : x.first ≡ y.first = one_front config.journal old x.first y.first x.next y.next x.others y.others same.0
+    (subst (λ (l : List ReplayEvent). length (entries_of (entries_of old l) x.first) ≤ config.journal) x.emits.0 x.room)
+    (subst (λ (l : List ReplayEvent). length (entries_of (entries_of old l) y.first) ≤ config.journal) y.emits.0 y.room)
+    (subst (λ (l : List ReplayEvent). config.journal < length (entries_of (entries_of old l) (x.first ++ x.next ∷ []))) x.emits.0 x.full)
+    (subst (λ (l : List ReplayEvent). config.journal < length (entries_of (entries_of old l) (y.first ++ y.next ∷ []))) y.emits.0 y.full) in
+    ap (λ (l : List ReplayEvent). l ++ x.first) (x.emits.0 ∙ sym y.emits.0) ∙ ap (λ (l : List ReplayEvent). f ++ l) front
+filled_once config old rs [] (u ∷ us) hs e f one x y =
+    let (others, told, mid, next, tells, rest) = y.are in
+    let (m, head, tail, is, more, all) = y.emits in
+    absurd (not_first config old rs us u hs e f head tail y.first m others one x next is all y.room)
+filled_once config old rs (t ∷ ts) [] hs e f one x y =
+    let (others, told, mid, next, tells, rest) = x.are in
+    let (m, head, tail, is, more, all) = x.emits in
+    absurd (not_first config old rs ts t hs f e head tail x.first m others one y next is all x.room)
+filled_once config old rs (t ∷ ts) (u ∷ us) hs e f one x y =
+    let (others, told, mid, next, tells, rest) = x.are in
+    let (m, head, tail, is, more, all) = x.emits in
+    let (ends, said, between, here, says, most) = y.are in
+    let (k, front, back, at, later, whole) = y.emits in
+    let a = one_record config.window config.gaps t hs mid m told head one tells is in
+    let b = one_record config.window config.gaps u hs between k said front one says at in
+    let n = one_next config hs rs t u others ends one next here in
+    let c = one_record config.window config.gaps u hs m k head front one (subst (λ (r : CaptureRecord). EmitsRecord config.window config.gaps r hs head m) n.0 is) at in
+    let left : AreTakenOf config ends k ts (x.read_last ∷ []) x.mid =
+    subst (λ (l : List CaptureRecord). AreTakenOf config l k ts (x.read_last ∷ []) x.mid) n.1 (subst (λ (l : List History). AreTakenOf config others l ts (x.read_last ∷ []) x.mid) (a.1 ∙ c.1) rest) in
+    let right : AreTakenOf config ends k us (y.read_last ∷ []) y.mid = subst (λ (l : List History). AreTakenOf config ends l us (y.read_last ∷ []) y.mid) b.1 most in
+    let p = filled_on config old rs ts t hs e front tail k ends x (all ∙ ap (λ (l : List ReplayEvent). l ++ tail) c.0) left (subst (λ (l : List History). Emits config.window config.gaps ts l tail x.mid) c.1 more) in
+    let q = filled_on config old rs us u hs f front back k ends y whole right later in
+    let tails : tail ++ x.first ≡ back ++ y.first = filled_once config (entries_of old front) ends ts us k tail back one p q in
+    ap (λ (l : List ReplayEvent). l ++ x.first) (all ∙ ap (λ (l : List ReplayEvent). l ++ tail) c.0)
+    ∙ append_assoc front tail x.first ∙ ap (λ (l : List ReplayEvent). front ++ l) tails
+    ∙ sym (append_assoc front back y.first) ∙ ap (λ (l : List ReplayEvent). l ++ y.first) (sym whole)
+
 pub one_full : (config : ReplayConfig) (records : List CaptureRecord) (t u : List ℕ) → Single → IsLinesToFull config records t → IsLinesToFull config records u → t ≡ u
+unfolding filled
 one_full config records t u one a b =
-    let s = last_one a.earlier b.earlier a.last b.last (sym a.records_are ∙ b.records_are) in
-    let before : EmitsAll config b.earlier a.emitted a.histories = subst (λ (rs : List CaptureRecord). EmitsAll config rs a.emitted a.histories) s.0 a.emits in
-    let x = one_told config.window config.gaps b.earlier (new_histories config) a.histories b.histories a.emitted b.emitted one before b.emits in
-    let here : EmitsRecord config.window config.gaps b.last b.histories (a.first ++ a.next ∷ a.others) a.after =
-    subst (λ (r : CaptureRecord). EmitsRecord config.window config.gaps r b.histories (a.first ++ a.next ∷ a.others) a.after) s.1
-    (subst (λ (hs : List History). EmitsRecord config.window config.gaps a.last hs (a.first ++ a.next ∷ a.others) a.after) x.1 a.last_tells) in
-    let y = one_record config.window config.gaps b.last b.histories a.after b.after (a.first ++ a.next ∷ a.others) (b.first ++ b.next ∷ b.others) one here b.last_tells in
-    let front : a.first ≡ b.first =
-    one_front config.journal (entries_of [] b.emitted) a.first b.first a.next b.next a.others b.others y.0
-    (room_behind config b.emitted a.first (subst (λ (hs : List ReplayEvent). HasJournalRoom config (hs ++ a.first)) x.0 a.room))
-    (room_behind config b.emitted b.first b.room)
-    (full_behind config b.emitted a.first a.next (subst (λ (hs : List ReplayEvent). config.journal < length (entries_of [] (hs ++ a.first ++ a.next ∷ []))) x.0 a.full))
-    (full_behind config b.emitted b.first b.next b.full) in
-    a.lines_are ∙ ap (λ (hs : List ReplayEvent). lines_emitted config (hs ++ a.first)) x.0 ∙ ap (λ (hs : List ReplayEvent). lines_emitted config (b.emitted ++ hs)) front ∙ sym b.lines_are
+    let same = filled_once config [] records a.earlier b.earlier (new_histories config) a.emitted b.emitted one (filled config records t a) (filled config records u b) in
+    a.lines_are ∙ ap (lines_emitted config) same ∙ sym b.lines_are
+
+-- what all has room isn't full
+all_or_full : (config : ReplayConfig) (old : List Entry) (rs ts us : List CaptureRecord) (hs new : List History) (e f : List ReplayEvent) → Single → AreTakenOf config rs hs ts [] new → Emits config.window config.gaps ts hs e new → length (entries_of old e) ≤ config.journal → Filled config old rs us hs f → ⊥
+all_or_full config old rs [] [] hs new e f one are emits room y =
+    let none : [] ≡ y.read_last ∷ [] = are.0 ∙ sym y.are.0 in
+    absurd (cc)
+all_or_full config old rs [] (u ∷ us) hs new e f one are emits room y =
+    let (others, told, mid, next, tells, rest) = y.are in
+    absurd (subst (λ (l : List CaptureRecord). IsTakenNext config hs l u others) (sym are.0) next)
+all_or_full config old rs (t ∷ ts) [] hs new e f one (others, told, mid, next, tells, rest) (m, head, tail, is, more, all) room y =
+    not_first config old rs ts t hs f e head tail [] m others one y next is all room
+all_or_full config old rs (t ∷ ts) (u ∷ us) hs new e f one (others, told, mid, next, tells, rest) (m, head, tail, is, more, all) room y =
+    let (ends, said, between, here, says, most) = y.are in
+    let (k, front, back, at, later, whole) = y.emits in
+    let a = one_record config.window config.gaps t hs mid m told head one tells is in
+    let b = one_record config.window config.gaps u hs between k said front one says at in
+    let n = one_next config hs rs t u others ends one next here in
+    let c = one_record config.window config.gaps u hs m k head front one (subst (λ (r : CaptureRecord). EmitsRecord config.window config.gaps r hs head m) n.0 is) at in
+    let left : AreTakenOf config ends k ts [] new =
+    subst (λ (l : List CaptureRecord). AreTakenOf config l k ts [] new) n.1 (subst (λ (l : List History). AreTakenOf config others l ts [] new) (a.1 ∙ c.1) rest) in
+    let right : AreTakenOf config ends k us (y.read_last ∷ []) y.mid = subst (λ (l : List History). AreTakenOf config ends l us (y.read_last ∷ []) y.mid) b.1 most in
+    let q = filled_on config old rs us u hs f front back k ends y whole right later in
+    let both : entries_of old e ≡ entries_of (entries_of old front) tail = ap (entries_of old) (all ∙ ap (λ (l : List ReplayEvent). l ++ tail) c.0) ∙ entries_more old front tail in
+    all_or_full config (entries_of old front) ends ts us k new tail back one left (subst (λ (l : List History). Emits config.window config.gaps ts l tail new) c.1 more) (subst (λ (es : List Entry). length es ≤ config.journal) both room) q
 
 pub not_both : (config : ReplayConfig) (records : List CaptureRecord) (t u : List ℕ) → Single → IsLinesOf config records t → IsLinesToFull config records u → ⊥
 not_both config records t u one a b =
-    let all : EmitsAll config (b.earlier ++ b.last ∷ []) (b.emitted ++ (b.first ++ b.next ∷ b.others)) b.after =
-    tells_one config.window config.gaps b.earlier b.last (new_histories config) b.histories b.after b.emitted (b.first ++ b.next ∷ b.others) b.emits b.last_tells in
-    let mine : EmitsAll config (b.earlier ++ b.last ∷ []) a.emitted a.histories = subst (λ (rs : List CaptureRecord). EmitsAll config rs a.emitted a.histories) b.records_are a.emits in
-    let x = one_told config.window config.gaps (b.earlier ++ b.last ∷ []) (new_histories config) a.histories b.after a.emitted (b.emitted ++ (b.first ++ b.next ∷ b.others)) one mine all in
-    let F : List ReplayEvent = b.emitted ++ b.first ++ b.next ∷ [] in
-    let split : b.emitted ++ (b.first ++ b.next ∷ b.others) ≡ F ++ b.others =
-    sym (append_assoc b.emitted b.first (b.next ∷ b.others))
-    ∙ sym (append_assoc (b.emitted ++ b.first) (b.next ∷ []) b.others) in
-    let room : HasJournalRoom config (F ++ b.others) = subst (HasJournalRoom config) (x.0 ∙ split) a.room in
-    let behind : length (entries_of (entries_of [] F) b.others) ≤ config.journal = room_behind config F b.others room in
-    let grown = entries_grow (entries_of [] F) b.others in
-    let full : config.journal < length (entries_of [] F) = b.full in
-    omega arith
+    all_or_full config [] records a.taken b.earlier (new_histories config) a.histories a.emitted b.emitted one a.are_taken a.emits a.room (filled config records u b)

@@ -1,5 +1,5 @@
 -- Steps of a replay: how what is known so far grows, and what follows from it at the end.
-use Rattle.std.proofs.Common.{◌≡◌, inl, inr, ℕ, Bool, ◌+◌, ◌<◌, ◌≤◌, List, [], ◌∷◌, ◌++◌, length, take, drop, append_assoc, append-nil, refl, sym, ap, ◌∙◌, subst, arith, length-append}
+use Rattle.std.proofs.Common.{◌≡◌, inl, inr, ℕ, ◌+◌, ◌<◌, ◌≤◌, List, [], ◌∷◌, ◌++◌, length, take, drop, append_assoc, append-nil, refl, sym, ap, ◌∙◌, subst, arith, length-append}
 use Rattle.std.specs.Prelude.{flat_map, slice_index, Result, Ok, Err, OnErr, ◌⊎◌, ⊤}
 use Rattle.std.proofs.lemmas.Grind.{flat_map-append}
 use Rattle.std.proofs.lemmas.List.{places, length-map}
@@ -12,14 +12,17 @@ use Rattle.feed_types.specs.declared.journal.Entry.{Entry}
 use Rattle.line_arbiter.specs.Histories.{History, new_history}
 use Rattle.feed_text.specs.declared.report.PublishStop.TheVariants as stops
 use Rattle.feed_text.specs.ReplayEvents.{ReplayEvent, entries_after, entries_of}
-use Rattle.feed_text.specs.Emitted.{EmitsRecord, Emits}
-use Rattle.feed_text.specs.Texts.{text_of, new_histories, EmitsAll, HasJournalRoom, lines_emitted, IsLinesOf, IsTextOf, IsLinesToFull}
+use Rattle.feed_text.specs.Emitted.{EmitsRecord}
+use Rattle.feed_text.specs.Texts.{text_of, new_histories, EmitsAll, HasJournalRoom, lines_emitted, AreAllTaken, IsLinesOf, IsTextOf, IsLinesToFull}
 use Rattle.feed_text.specs.ReplayStates.{ReplayState, IsWithinJournal, GoesOn}
-use Rattle.feed_text.specs.Following.{VenueList, FollowAll, TakesRecord, PrintsLast}
+use Rattle.feed_text.specs.Following.{VenueList, FollowAll, KeepsVenues, LeavesLacks, PrintsLast, StoppedAt, TakesNext}
+use Rattle.feed_text.specs.Lacks.{AppendsLacks}
+use Rattle.feed_text.specs.declared.lack.Lack.{Lack}
 use Rattle.feed_text.specs.Replays.{venues_in, HasRead, WroteAll, WroteLines, WroteLinesUntil, WrotePrefix, texts_of}
 use Rattle.journal_book.specs.Streaming.{StreamingState, new_streaming}
 use Rattle.feed_text.specs.laws.Entries.{entries_more, text_more}
 use Rattle.feed_text.proofs.Tales.{tale_with, tale_from}
+use Rattle.feed_text.proofs.Taking.{taken_longer, taken_more, tells_records}
 
 -- the laws of a reader and a writer
 pub record Laws {R W : Type 0} (reading : Reading R) (writing : Writing W) : Type 0 where
@@ -44,17 +47,19 @@ pub record Told (config : ReplayConfig) (emitted : List ReplayEvent) (shown : Li
 pub told_none : {config : ReplayConfig} (j : StreamingState) (text : List ℕ) → j ≡ new_streaming config.symbols.now (venues_in config) config.journal → text ≡ [] → Told config [] [] (tale_from j text)
 told_none j text e none = rw (e, none) (record { symbols = refl; venues = refl; journal = refl; entries = refl; within = omega arith; all = refl })
 
--- `calls` calls read these records and then this rest, the venues follow the histories that the
--- records lead to, the state is that after their events, and of its lines these were written and
--- the text is what is left.
+-- `calls` calls read these records and then this rest, the venues follow the histories that lead to
+-- what is taken of the records, the state is that after their events, and of its lines these were
+-- written and the text is what is left.
 pub record SoFar {R W : Type 0} (reading : Reading R) (writing : Writing W) (config : ReplayConfig)
     (from : R) (calls : ℕ) (to : R) (before after : W) (venues : VenueList) (rest : List ℕ) (state : ReplayState)
     : Type 0 where
   pub records : List CaptureRecord
   pub read : HasRead reading config from calls to records rest
+  pub taken : List CaptureRecord
   pub emitted : List ReplayEvent
   pub histories : List History
-  pub emits : EmitsAll config records emitted histories
+  pub are_taken : AreAllTaken config records taken histories
+  pub emits : EmitsAll config taken emitted histories
   pub follow : FollowAll config.window venues.items histories
   pub gaps : venues.gaps ≡ config.gaps
   pub count : length venues.items ≡ venues_in config
@@ -70,8 +75,10 @@ pub so_far_none : {R W : Type 0} {reading : Reading R} {writing : Writing W} {co
 so_far_none {reading = reading} {writing = writing} {config = config} laws from before calls zero_calls no_rest follow gaps t = rw (zero_calls, no_rest) (record {
   records = [];
   read = record { each = All-nil (IsRecord (venues_in config)); bytes = laws.gives_none from };
+  taken = [];
   emitted = [];
   histories = new_histories config;
+  are_taken = (refl, refl);
   emits = (refl, refl);
   follow = follow;
   gaps = gaps;
@@ -87,17 +94,6 @@ capture_more records e rest left s =
     let F : List ℕ = flat_map bytes_of_record records in
     let spelled : flat_map bytes_of_record (records ++ e ∷ []) ≡ F ++ bytes_of_record e = flat_map-append bytes_of_record records (e ∷ []) ∙ ap (λ (xs : List ℕ). F ++ xs) (append-nil (bytes_of_record e)) in
     ap (λ (xs : List ℕ). F ++ xs) s ∙ (sym (append_assoc F (bytes_of_record e) left) ∙ ap (λ (xs : List ℕ). xs ++ left) (sym spelled))
-
--- records after records
-tells_records : (window : ℕ) (gaps : Bool) (rs qs : List CaptureRecord) (old mid new : List History) (xs ys : List ReplayEvent) → Emits window gaps rs old xs mid → Emits window gaps qs mid ys new → Emits window gaps (rs ++ qs) old (xs ++ ys) new
-tells_records window gaps [] qs old mid new xs ys a b =
-    subst (λ (hs : List History). Emits window gaps qs hs (xs ++ ys) new) a.1 (subst (λ (ls : List ReplayEvent). Emits window gaps qs mid (ls ++ ys) new) (sym a.0) b)
-tells_records window gaps (r ∷ rs) qs old mid new xs ys (m, first, others, one, more, whole) b =
-    (m, first, others ++ ys, one, tells_records window gaps rs qs m mid new others ys more b, ap (λ (ls : List ReplayEvent). ls ++ ys) whole ∙ append_assoc first others ys)
-
--- one record more
-pub tells_one : (window : ℕ) (gaps : Bool) (rs : List CaptureRecord) (r : CaptureRecord) (old mid new : List History) (xs ys : List ReplayEvent) → Emits window gaps rs old xs mid → EmitsRecord window gaps r mid ys new → Emits window gaps (rs ++ r ∷ []) old (xs ++ ys) new
-tells_one window gaps rs r old mid new xs ys a b = tells_records window gaps rs (r ∷ []) old mid new xs ys a (new, ys, [], b, (refl, refl), sym (append-nil ys))
 
 -- the state goes on
 told_more : {config : ReplayConfig} {shown : List ℕ} {t u : ReplayState} (emitted more : List ReplayEvent) → Told config emitted shown t → GoesOn t more u → Told config (emitted ++ more) shown u
@@ -134,10 +130,11 @@ told_room x = rw (← x.entries, ← x.journal) x.within
 
 -- the record that begins the unread bytes is taken, and they are what follows it
 pub so_far_step : {R W : Type 0} {reading : Reading R} {writing : Writing W} {config : ReplayConfig} {from to : R} {calls : ℕ} {before after : W} {venues next : VenueList} {unread : List ℕ} {t u : ReplayState}
-    (e : CaptureRecord) (len : ℕ) (seen left : List ℕ) → IsRecord (venues_in config) e → seen ≡ unread → seen ≡ bytes_of_record e ++ drop len seen → left ≡ drop len unread → TakesRecord venues e t u next (Ok tt)
+    (e : CaptureRecord) (len : ℕ) (seen left : List ℕ) → IsRecord (venues_in config) e → seen ≡ unread → seen ≡ bytes_of_record e ++ drop len seen → left ≡ drop len unread → KeepsVenues venues next
+    → ((hs : List History) → FollowAll config.window venues.items hs → TakesNext config e hs t u next.items (Ok tt))
     → SoFar reading writing config from calls to before after venues unread t → SoFar reading writing config from calls to before after next left u
-so_far_step {reading = reading} {config = config} {from = from} {to = to} {calls = calls} {unread = unread} e len seen left i same front gone takes x =
-    let one = takes.emitted config.window x.histories x.follow in
+so_far_step {reading = reading} {config = config} {from = from} {to = to} {calls = calls} {unread = unread} e len seen left i same front gone kept takes x =
+    let one = takes x.histories x.follow in
     let cut : unread ≡ bytes_of_record e ++ left = sym same ∙ (front ∙ ap (λ (xs : List ℕ). bytes_of_record e ++ xs) (ap (drop len) same ∙ sym gone)) in
     record {
       records = x.records ++ e ∷ [];
@@ -145,15 +142,17 @@ so_far_step {reading = reading} {config = config} {from = from} {to = to} {calls
         each = All-push (IsRecord (venues_in config)) x.records e x.read.each i;
         bytes = subst (λ (xs : List ℕ). reading.gives from calls xs to) (capture_more x.records e unread left cut) x.read.bytes;
       };
-      emitted = x.emitted ++ one.emitted;
+      taken = x.taken ++ one.took.taken;
+      emitted = x.emitted ++ one.took.emitted;
       histories = one.after;
-      emits = tells_one config.window config.gaps x.records e _ x.histories one.after x.emitted one.emitted x.emits (subst (λ (g : Bool). EmitsRecord config.window g e x.histories one.emitted one.after) x.gaps one.record_tells);
+      are_taken = taken_more config (x.records ++ e ∷ []) x.taken one.took.taken _ (e ∷ []) x.histories [] one.after (taken_longer config x.records (e ∷ []) x.taken _ [] x.histories x.are_taken) one.took.are;
+      emits = tells_records config.window config.gaps x.taken one.took.taken _ x.histories one.after x.emitted one.took.emitted x.emits one.took.emits;
       follow = one.follow;
-      gaps = takes.gaps ∙ x.gaps;
-      count = takes.count ∙ x.count;
+      gaps = kept.gaps ∙ x.gaps;
+      count = kept.count ∙ x.count;
       shown = x.shown;
       wrote = x.wrote;
-      tale_is = told_more x.emitted one.emitted x.tale_is one.emits;
+      tale_is = told_more x.emitted one.took.emitted x.tale_is one.took.goes;
     }
 
 pub so_far_moved : {R W : Type 0} {reading : Reading R} {writing : Writing W} {config : ReplayConfig} {from to : R} {calls : ℕ} {before mid after : W} {venues : VenueList} {rest left : List ℕ} {t : ReplayState}
@@ -161,8 +160,10 @@ pub so_far_moved : {R W : Type 0} {reading : Reading R} {writing : Writing W} {c
 so_far_moved {left = left} laws x m = record {
   records = x.records;
   read = x.read;
+  taken = x.taken;
   emitted = x.emitted;
   histories = x.histories;
+  are_taken = x.are_taken;
   emits = x.emits;
   follow = x.follow;
   gaps = x.gaps;
@@ -187,8 +188,10 @@ so_far_read {reading = reading} {from = from} {to = to} {calls = calls} {n = n} 
         each = x.read.each;
         bytes = subst (λ (j : ℕ). reading.gives from j (capture_of x.records longer) to) e (subst (λ (xs : List ℕ). reading.gives from (calls + n) xs to) joined (laws.gives_more _ _ _ _ _ _ _ x.read.bytes m.given));
       };
+      taken = x.taken;
       emitted = x.emitted;
       histories = x.histories;
+      are_taken = x.are_taken;
       emits = x.emits;
       follow = x.follow;
       gaps = x.gaps;
@@ -200,7 +203,7 @@ so_far_read {reading = reading} {from = from} {to = to} {calls = calls} {n = n} 
 
 -- the lines of the records
 lines_of : {R W : Type 0} {reading : Reading R} {writing : Writing W} {config : ReplayConfig} {from to : R} {calls : ℕ} {before after : W} {venues : VenueList} {rest : List ℕ} {t : ReplayState} (x : SoFar reading writing config from calls to before after venues rest t) → IsLinesOf config x.records (lines_emitted config x.emitted)
-lines_of x = record { emitted = x.emitted; histories = x.histories; emits = x.emits; room = told_room x.tale_is; lines_are = refl }
+lines_of x = record { taken = x.taken; emitted = x.emitted; histories = x.histories; are_taken = x.are_taken; emits = x.emits; room = told_room x.tale_is; lines_are = refl }
 
 -- no text is left, so all of the lines were written
 shown_all : {R W : Type 0} {reading : Reading R} {writing : Writing W} {config : ReplayConfig} {from to : R} {calls : ℕ} {before after : W} {venues : VenueList} {rest : List ℕ} {t : ReplayState} (x : SoFar reading writing config from calls to before after venues rest t) → t.text ≡ [] → x.shown ≡ lines_emitted config x.emitted
@@ -259,17 +262,18 @@ pub record FullHere {R W : Type 0} (reading : Reading R) (writing : Writing W) (
   pub wrote : writing.adds before shown after
   pub all : shown ++ text ≡ lines
 
--- the record that begins the unread bytes had no room in the journal
-pub full_here : {R W : Type 0} {reading : Reading R} {writing : Writing W} {config : ReplayConfig} {from to : R} {calls : ℕ} {before after : W} {venues next : VenueList} {unread : List ℕ} {t u : ReplayState}
-    (e : CaptureRecord) (len : ℕ) (seen : List ℕ) → IsRecord (venues_in config) e → seen ≡ unread → seen ≡ bytes_of_record e ++ drop len seen → TakesRecord venues e t u next (Err stops.JournalFull)
-    → SoFar reading writing config from calls to before after venues unread t → FullHere reading writing config from calls to before after u.text
-full_here {reading = reading} {config = config} {from = from} {to = to} {calls = calls} {unread = unread} {u = u} e len seen i same front takes x =
-    let one = takes.emitted config.window x.histories x.follow in
-    let full = one.emits in
-    let all = told_more x.emitted full.first x.tale_is full.goes in
+-- the record that begins the unread bytes, or a skip before it, had no room in the journal
+pub full_here : {R W : Type 0} {reading : Reading R} {writing : Writing W} {config : ReplayConfig} {from to : R} {calls : ℕ} {before after : W} {venues : VenueList} {unread : List ℕ} {t u : ReplayState}
+    (e : CaptureRecord) (len : ℕ) (seen : List ℕ) → IsRecord (venues_in config) e → seen ≡ unread → seen ≡ bytes_of_record e ++ drop len seen
+    → (x : SoFar reading writing config from calls to before after venues unread t) → StoppedAt config e x.histories t u stops.JournalFull → FullHere reading writing config from calls to before after u.text
+full_here {reading = reading} {config = config} {from = from} {to = to} {calls = calls} {unread = unread} {u = u} e len seen i same front x one =
+    let full = one.stopped in
+    let told = x.emitted ++ one.took.emitted in
+    let before = told_more x.emitted one.took.emitted x.tale_is one.took.goes in
+    let all = told_more told full.first before full.goes in
     let cut : unread ≡ bytes_of_record e ++ drop len unread = sym same ∙ (front ∙ ap (λ (xs : List ℕ). bytes_of_record e ++ xs) (ap (drop len) same)) in
-    let last : entries_of [] (x.emitted ++ full.first ++ full.next ∷ []) ≡ entries_after u.entries full.next =
-    entries_more [] (x.emitted ++ full.first) (full.next ∷ [])
+    let last : entries_of [] (told ++ full.first ++ full.next ∷ []) ≡ entries_after u.entries full.next =
+    entries_more [] (told ++ full.first) (full.next ∷ [])
     ∙ ap (λ (es : List Entry). entries_after es full.next) (sym all.entries) in
     record {
       records = x.records ++ e ∷ [];
@@ -278,19 +282,22 @@ full_here {reading = reading} {config = config} {from = from} {to = to} {calls =
         each = All-push (IsRecord (venues_in config)) x.records e x.read.each i;
         bytes = subst (λ (xs : List ℕ). reading.gives from calls xs to) (capture_more x.records e unread (drop len unread) cut) x.read.bytes;
       };
-      lines = lines_emitted config (x.emitted ++ full.first);
+      lines = lines_emitted config (told ++ full.first);
       are = record {
-        earlier = x.records;
-        last = e;
-        records_are = refl;
-        emitted = x.emitted;
-        histories = x.histories;
-        emits = x.emits;
+        earlier = x.taken ++ one.took.taken;
+        read_last = e;
+        emitted = told;
+        histories = one.mid;
+        are_taken = taken_more config (x.records ++ e ∷ []) x.taken one.took.taken _ (e ∷ []) x.histories (e ∷ []) one.mid (taken_longer config x.records (e ∷ []) x.taken _ [] x.histories x.are_taken) one.took.are;
+        emits = tells_records config.window config.gaps x.taken one.took.taken _ x.histories one.mid x.emitted one.took.emitted x.emits one.took.emits;
+        last = one.last;
+        left = one.left;
+        is_last = one.is_last;
         first = full.first;
         next = full.next;
         others = full.others;
         after = one.after;
-        last_tells = subst (λ (hs : List ReplayEvent). EmitsRecord config.window config.gaps e x.histories hs one.after) full.emitted_is (subst (λ (g : Bool). EmitsRecord config.window g e x.histories one.emitted one.after) x.gaps one.record_tells);
+        last_tells = subst (λ (hs : List ReplayEvent). EmitsRecord config.window config.gaps one.last one.mid hs one.after) full.emitted_is one.last_tells;
         room = told_room all;
         full = rw (last, ← all.journal) full.full;
         lines_are = refl;
@@ -339,8 +346,10 @@ full_front {writing = writing} {before = before} {after = after} {text = text} l
 -- the text of the records, and the last lines
 text_closed : {R W : Type 0} {reading : Reading R} {writing : Writing W} {config : ReplayConfig} {from to : R} {calls : ℕ} {before after : W} {venues : VenueList} {rest lines : List ℕ} {t : ReplayState} (x : SoFar reading writing config from calls to before after venues rest t) → PrintsLast venues [] lines → IsTextOf config x.records (lines_emitted config x.emitted ++ lines)
 text_closed {config = config} x last = record {
+  taken = x.taken;
   emitted = x.emitted;
   histories = x.histories;
+  are_taken = x.are_taken;
   emits = x.emits;
   room = told_room x.tale_is;
   text_is = ap (λ (ls : List ℕ). lines_emitted config x.emitted ++ ls) (last config.window x.histories x.follow);
@@ -380,6 +389,21 @@ front_closed {writing = writing} {config = config} {before = before} {after = af
       wrote = record { count = length x.shown + w.count; taken = subst (λ (xs : List ℕ). writing.adds before xs after) (sym front) (laws.adds_more _ _ _ _ _ x.wrote w.taken) };
     }
 
+-- what the venues lack was appended, once all was read
+pub lacks_all : {R W : Type 0} {reading : Reading R} {writing : Writing W} {config : ReplayConfig} {from mid to : R} {calls : ℕ} {before after : W} {venues : VenueList} {rest : List ℕ} {t : ReplayState} {old new : List Lack}
+    → SoFar reading writing config from calls mid before after venues rest t → rest ≡ [] → reading.ends mid to → LeavesLacks venues old new → AppendsLacks reading config from to old new
+lacks_all {reading = reading} {config = config} {from = from} {mid = mid} {calls = calls} x none end leaves = record {
+  records = x.records;
+  calls = calls;
+  mid = mid;
+  read = subst (λ (xs : List ℕ). HasRead reading config from calls mid x.records xs) none x.read;
+  end = end;
+  taken = x.taken;
+  histories = x.histories;
+  are_taken = x.are_taken;
+  lacks = leaves config.window x.histories x.follow;
+}
+
 -- memory was refused before anything was read
 pub nothing_replayed : {R W : Type 0} {reading : Reading R} {writing : Writing W} → Laws reading writing → (config : ReplayConfig) (from : R) (before : W)
     → WroteLinesUntil reading writing config (IsLinesOf config) (λ rest. ⊤) (λ mid. (mid ≡ from) ⊎ reading.ends mid from) from before before
@@ -392,7 +416,7 @@ nothing_replayed laws config from before = record {
     left = tt;
     read = record { each = All-nil (IsRecord (venues_in config)); bytes = laws.gives_none from };
     lines = [];
-    are = record { emitted = []; histories = new_histories config; emits = (refl, refl); room = omega arith; lines_are = refl };
+    are = record { taken = []; emitted = []; histories = new_histories config; are_taken = (refl, refl); emits = (refl, refl); room = omega arith; lines_are = refl };
     wrote = laws.adds_none before;
   };
   came_to = inl refl;

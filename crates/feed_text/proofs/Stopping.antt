@@ -10,8 +10,10 @@ use Rattle.feed_text.specs.Devices.{Reading, Writing, HasGiven, HasGivenUpTo, Wr
 use Rattle.feed_text.specs.declared.report.PublishStop.{PublishStop}
 use Rattle.feed_text.specs.declared.report.PublishStop.TheVariants as stops
 use Rattle.feed_text.specs.ReplayStates.{ReplayState, Grows}
-use Rattle.feed_text.specs.Following.{VenueList, TakesRecord, PrintsLast, Closes, Stops, left_by, fault_by}
+use Rattle.line_arbiter.specs.Histories.{History}
+use Rattle.feed_text.specs.Following.{ReplayVenue, VenueList, FollowAll, TakesNext, PrintsLast, Closes, Stops, left_by, fault_by}
 use Rattle.feed_text.specs.Replays.{Replays, venues_in}
+use Rattle.feed_text.proofs.Tales.{goes_grows, grows_on}
 use Rattle.feed_text.proofs.Steps.{Laws, SoFar, so_far_read, replays_to, replays_until, refused_of, front_wrote, replays_all, front_closed, full_here, full_until, full_front}
 
 -- a text that has only grown, cut where it ended before
@@ -55,20 +57,21 @@ pub stops_failed : {W : Type 0} (adds : W → List ℕ → W → Type 0) (failur
 stops_failed adds failures stop whole text here before after fault e only failed part =
     record { ways = inr (only_fault fault only, subst (λ (xs : List ℕ). Wrote adds before xs after) e part, failed) }
 
--- within a record memory was refused, or the journal was full
-pub stopped_by : {R W : Type 0} {reading : Reading R} {writing : Writing W} {config : ReplayConfig} {from to : R} {calls : ℕ} {before written : W} {venues next : VenueList} {rest : List ℕ} {t u : ReplayState}
-    (stop : PublishStop) (fault : ReplayFault) (after : W) (e : CaptureRecord) (len whole : ℕ) (seen : List ℕ) → Laws reading writing → SoFar reading writing config from calls to before written venues rest t → writing.failures written ≡ writing.failures before
-    → IsRecord (venues_in config) e → seen ≡ rest → seen ≡ bytes_of_record e ++ drop len seen → TakesRecord venues e t u next (Err stop) → whole ≡ length t.text
+-- within a record, or a skip before it, memory was refused, or the journal was full
+pub stopped_by : {R W : Type 0} {reading : Reading R} {writing : Writing W} {config : ReplayConfig} {from to : R} {calls : ℕ} {before written : W} {venues : VenueList} {rest : List ℕ} {t u : ReplayState}
+    (vs : List ReplayVenue) (stop : PublishStop) (fault : ReplayFault) (after : W) (e : CaptureRecord) (len whole : ℕ) (seen : List ℕ) → Laws reading writing → SoFar reading writing config from calls to before written venues rest t → writing.failures written ≡ writing.failures before
+    → IsRecord (venues_in config) e → seen ≡ rest → seen ≡ bytes_of_record e ++ drop len seen → ((hs : List History) → FollowAll config.window venues.items hs → TakesNext config e hs t u vs (Err stop)) → whole ≡ length t.text
     → Stops writing.adds writing.failures stop whole u.text written after fault → Replays reading writing config from to before after (Err fault)
-stopped_by {reading = reading} {writing = writing} {config = config} {from = from} {to = to} {before = before} {t = t} {u = u} stops.NoMemory fault after e len whole seen laws x kept i same front takes cut s =
-    let one = takes.emitted config.window x.histories x.follow in
-    let text : take whole u.text ≡ t.text = rw cut (cut_back one.emits) in
+stopped_by {reading = reading} {writing = writing} {config = config} {from = from} {to = to} {before = before} {t = t} {u = u} vs stops.NoMemory fault after e len whole seen laws x kept i same front takes cut s =
+    let one = takes x.histories x.follow in
+    let grows : Grows t.text u.text = grows_on (goes_grows one.took.emitted one.took.goes) one.stopped in
+    let text : take whole u.text ≡ t.text = rw cut (cut_back grows) in
     elim s.ways [
       | inl a ↦ subst (λ (f : ReplayFault). Replays reading writing config from to before after (Err f)) (sym a.0) (refused_of laws x (rw (← text) a.1))
       | inr a ↦ subst (λ (f : ReplayFault). Replays reading writing config from to before after (Err f)) (sym a.0) (front_wrote laws x (rw (← text) a.1), a.2 ∙ ap (λ (n : ℕ). n + 1) kept)
     ]
-stopped_by {reading = reading} {writing = writing} {config = config} {from = from} {to = to} {before = before} stops.JournalFull fault after e len whole seen laws x kept i same front takes cut s =
-    let f = full_here e len seen i same front takes x in
+stopped_by {reading = reading} {writing = writing} {config = config} {from = from} {to = to} {before = before} vs stops.JournalFull fault after e len whole seen laws x kept i same front takes cut s =
+    let f = full_here e len seen i same front x (takes x.histories x.follow) in
     elim s.ways [
       | inl a ↦ subst (λ (g : ReplayFault). Replays reading writing config from to before after (Err g)) (sym a.0) (full_until laws f a.1)
       | inr a ↦ subst (λ (g : ReplayFault). Replays reading writing config from to before after (Err g)) (sym a.0) (full_front laws f a.1, a.2 ∙ ap (λ (n : ℕ). n + 1) kept)

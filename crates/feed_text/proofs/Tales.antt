@@ -16,7 +16,7 @@ use Rattle.feed_text.specs.ReplayEvents.{ReplayEvent, item_taken, gap_left, self
 use Rattle.mold_packet.specs.declared.request.Request.{Request}
 use Rattle.feed_text.specs.Emitted.{gap_event}
 use Rattle.feed_text.specs.Lines.{best_line, gap_line, item_line, declare_line}
-use Rattle.feed_text.specs.Texts.{line_of, lines_of, text_of}
+use Rattle.feed_text.specs.Texts.{line_of, text_of}
 use Rattle.feed_text.specs.laws.Entries.{entries_more, text_more}
 use Rattle.feed_text.specs.ReplayStates.{ReplayState, state_after, IsWithinJournal, Grows, GoesOn, GoesToFull, EmitsInto}
 

@@ -1,5 +1,5 @@
 -- One more record, and the venue that it is of goes on.
-use Rattle.std.proofs.Common.{◌≡◌, ◌≢◌, ℕ, zero, suc, ◌+◌, ◌<◌, ◌≤◌, List, [], ◌∷◌, ◌++◌, length, map, take, drop, get_or, length-append, Some, refl, sym, ap, subst, ◌∙◌, append_assoc, append-nil, arith, inl, inr}
+use Rattle.std.proofs.Common.{◌≡◌, ℕ, zero, suc, ◌+◌, ◌<◌, ◌≤◌, List, [], ◌∷◌, ◌++◌, length, map, take, drop, get_or, length-append, Some, refl, sym, ap, subst, ◌∙◌, append_assoc, append-nil, arith, inl, inr}
 use Rattle.std.specs.Prelude.{◌⊎◌, Bool, Result, slice_get, slice_set}
 use Rattle.std.proofs.lemmas.Result.{on_ok_weaker}
 use Rattle.std.proofs.Math.ListN.{length-set, drop_of_length-le}
@@ -15,6 +15,8 @@ use Rattle.feed_text.specs.ReplayEvents.{self_help_declared}
 use Rattle.feed_text.specs.Following.{ReplayVenue, VenueList, Follows, FollowAll, EmitsOne, TakesRecord}
 use Rattle.feed_types.specs.ListLaws.{get_within}
 use Rattle.feed_text.specs.laws.Lists.{get_set_same, get_set_other, same_or_not, same_set}
+use Rattle.feed_text.specs.declared.lack.Lack.{Lack}
+use Rattle.feed_text.specs.Lacks.{lack_of, lacks_of}
 use Rattle.feed_text.proofs.VenueSteps.{on_ok}
 use Rattle.feed_text.proofs.Rest.{rest_at}
 
@@ -115,3 +117,12 @@ close_more hs i h old new all at put is =
 -- and then there is none
 pub close_done : (hs : List History) (i : ℕ) (text all : List ℕ) → length hs ≤ i → text ++ last_lines i (drop i hs) ≡ all → text ≡ all
 close_done hs i text all h is = sym (append-nil text) ∙ ap (λ (t : List ℕ). text ++ t) (sym (ap (last_lines i) (drop_of_length-le hs h))) ∙ is
+
+-- what one more venue lacks
+pub lacks_more : (window : ℕ) (hs : List History) (i : ℕ) (h : History) (old new all : List Lack) → slice_get hs i ≡ Some h → new ≡ old ++ lack_of window i h → old ++ lacks_of window i (drop i hs) ≡ all → new ++ lacks_of window (i + 1) (drop (i + 1) hs) ≡ all
+lacks_more window hs i h old new all at put is =
+    let L = lacks_of window (i + 1) (drop (i + 1) hs) in
+    ap (λ (t : List Lack). t ++ L) put ∙ append_assoc old (lack_of window i h) L ∙ ap (λ (t : List Lack). old ++ t) (sym (ap (lacks_of window i) (rest_at hs i h (sym at)))) ∙ is
+
+pub lacks_done : (window : ℕ) (hs : List History) (i : ℕ) (lacks all : List Lack) → length hs ≤ i → lacks ++ lacks_of window i (drop i hs) ≡ all → lacks ≡ all
+lacks_done window hs i lacks all h is = sym (append-nil lacks) ∙ ap (λ (t : List Lack). lacks ++ t) (sym (ap (lacks_of window i) (drop_of_length-le hs h))) ∙ is

@@ -19,8 +19,8 @@ use Rattle.line_arbiter.specs.Outcomes.{IsOutcome}
 use Rattle.line_arbiter.specs.Renewals.{IsRenewal}
 use Rattle.line_arbiter.specs.Skips.{IsSkip}
 use Rattle.line_arbiter.specs.Counts.{shown}
-use Rattle.line_arbiter.specs.States.{State, KeepsItsPlace, KeepsItsSession, KeepsAllButSent, IsNew, IsRenewed, IsSkipped}
-use Rattle.line_arbiter.specs.Fits.{Fits}
+use Rattle.line_arbiter.specs.States.{State, KeepsItsPlace, KeepsItsSession, IsNew, IsRenewed, IsSkipped}
+use Rattle.line_arbiter.specs.Fits.{Fits, cursors_of}
 use Rattle.line_arbiter.specs.laws.Bringing.{first_of-push, opens_same}
 use Rattle.line_arbiter.specs.laws.Fronts.{first_most, front_is}
 use Rattle.line_arbiter.specs.laws.Histories.{items_push}
@@ -44,6 +44,17 @@ streams_more h = ap length (items_push h.earlier h.present) ∙ length-append (i
 -- the number of the last item sent is that of the last one that was taken
 sent_is : {width place : ℕ} {v : ReplayVenue} (h : History) → Follows width place v h → v.arbiter.sent ≡ last_sent h
 sent_is h f = sym (sent_back f.history.present) ∙ ap (sent_of h.present.packets) f.sent ∙ last_counted h
+
+-- so its cursors and its gap are the history's
+pub cursors_shown : {width place : ℕ} {v : ReplayVenue} (h : History) → Follows width place v h → cursors_of v.arbiter.sent h.present.packets ≡ cursors_of (last_sent h) h.present.packets
+cursors_shown h f = ap (λ (n : ℕ). cursors_of n h.present.packets) (sent_is h f)
+
+pub gap_shown : {width place : ℕ} {v : ReplayVenue} (h : History) → Follows width place v h → gap_of v.arbiter.session v.arbiter.window v.arbiter.sent h.present.packets ≡ gap_of h.present.name width (last_sent h) h.present.packets
+gap_shown {width = width} {v = v} h f =
+    let packets = h.present.packets in
+    ap (λ (name : List ℕ). gap_of name v.arbiter.window v.arbiter.sent packets) f.history.session
+    ∙ ap (λ (n : ℕ). gap_of h.present.name n v.arbiter.sent packets) f.window
+    ∙ ap (λ (n : ℕ). gap_of h.present.name width n packets) (sent_is h f)
 
 -- how many items of all sessions were sent
 pub sent_all : {width place : ℕ} {v : ReplayVenue} (h : History) → Follows width place v h → (n : ℕ) → n ≡ shown (v.sent_before + (v.arbiter.sent - v.opens_after)) → n ≡ shown (length (streams_of h))
@@ -283,8 +294,8 @@ skip_told width place gaps h number v new answer t0 t1 done x emits sends =
     let fits : Fits v.arbiter P = x.sent.history.present in
     let follows : SendsReady v.arbiter new → Follows width place (record { arbiter = new; sent_before = v.sent_before; opens_after = v.opens_after }) k = λ s. record {
       history = fits_push k x.sent.history s.kept (s.fits P fits).0;
-      number = s.kept.venue ∙ x.sent.number;
-      window = s.kept.window ∙ x.sent.window;
+      number = s.kept.session.venue ∙ x.sent.number;
+      window = s.kept.session.window ∙ x.sent.window;
       sent = (s.fits P fits).1;
       sent_before = x.sent.sent_before;
       opens_after = x.sent.opens_after;

@@ -18,14 +18,18 @@ use Rattle.line_arbiter.specs.States.{State, KeepsAllButSent}
 use Rattle.line_arbiter.specs.Fits.{Fits, FitsHistory}
 use Rattle.feed_text.specs.declared.fault.ReplayFault.{ReplayFault}
 use Rattle.feed_text.specs.declared.fault.ReplayFault.TheVariants as faults
+use Rattle.feed_text.specs.declared.replay.ReplayConfig.{ReplayConfig}
 use Rattle.feed_text.specs.declared.report.PublishStop.{PublishStop}
 use Rattle.feed_text.specs.declared.report.PublishStop.TheVariants.{JournalFull, NoMemory}
 use Rattle.feed_text.specs.Capture.{CaptureRecord, record_venue}
 use Rattle.feed_text.specs.Devices.{Wrote}
 use Rattle.feed_text.specs.ReplayEvents.{ReplayEvent, item_taken, packet_answered}
-use Rattle.feed_text.specs.Emitted.{stream_length, last_sent, items_emitted, EmitsAt, EmitsRecord}
+use Rattle.feed_text.specs.Emitted.{stream_length, last_sent, items_emitted, EmitsAt, EmitsRecord, Emits}
+use Rattle.feed_text.specs.Rules.{AreTakenOf, IsTakenNext, PutsIn}
 use Rattle.feed_text.specs.Texts.{last_lines}
-use Rattle.feed_text.specs.ReplayStates.{ReplayState, EmitsInto}
+use Rattle.feed_text.specs.declared.lack.Lack.{Lack}
+use Rattle.feed_text.specs.Lacks.{lacks_of}
+use Rattle.feed_text.specs.ReplayStates.{ReplayState, EmitsInto, GoesOn}
 
 -- a venue's arbiter, how many items were sent before the session's present part, as far as a u64
 -- shows that, and the number after which that part opens
@@ -138,10 +142,77 @@ pub record TakesRecord (from : VenueList) (r : CaptureRecord) (old new : ReplayS
   pub emitted : (window : ℕ) (hs : List History) → FollowAll window from.items hs
       → EmitsNext window from.gaps r hs old new to.items done
 
+-- These were taken of a record that was read last, the skips before it or these and itself, and
+-- their events were emitted.
+pub record TookSome (config : ReplayConfig) (read left : List CaptureRecord) (hs : List History)
+    (old new : ReplayState) (after : List History) : Type 0 where
+  pub taken : List CaptureRecord
+  pub emitted : List ReplayEvent
+  pub are : AreTakenOf config read hs taken left after
+  pub emits : Emits config.window config.gaps taken hs emitted after
+  pub goes : GoesOn old emitted new
+
+-- A record was taken, after the skips that the rule puts in before it, and the venues follow the
+-- histories after it.
+pub record TookNext (config : ReplayConfig) (r : CaptureRecord) (hs : List History)
+    (old new : ReplayState) (vs : List ReplayVenue) : Type 0 where
+  pub after : List History
+  pub took : TookSome config (r ∷ []) [] hs old new after
+  pub follow : FollowAll config.window vs after
+
+-- The skips before a record were taken, and the venues follow the histories after them: none is put
+-- in any more.
+pub record TookSkips (config : ReplayConfig) (r : CaptureRecord) (hs : List History)
+    (old new : ReplayState) (vs : List ReplayVenue) : Type 0 where
+  pub after : List History
+  pub took : TookSome config (r ∷ []) (r ∷ []) hs old new after
+  pub follow : FollowAll config.window vs after
+  pub none : (number : ℕ) → PutsIn config after r number → ⊥
+
+-- A stop came within a record, or within a skip before it.
+pub record StoppedAt (config : ReplayConfig) (r : CaptureRecord) (hs : List History)
+    (old new : ReplayState) (stop : PublishStop) : Type 0 where
+  pub mid : List History
+  pub state : ReplayState
+  pub took : TookSome config (r ∷ []) (r ∷ []) hs old state mid
+  pub last : CaptureRecord
+  pub left : List CaptureRecord
+  pub is_last : IsTakenNext config mid (r ∷ []) last left
+  pub emitted : List ReplayEvent
+  pub after : List History
+  pub last_tells : EmitsRecord config.window config.gaps last mid emitted after
+  pub stopped : EmitsInto state emitted new (Err stop)
+
+-- A record and the skips before it, by the answer; or the skips before it alone.
+abbrev pub TakesNext : ReplayConfig → CaptureRecord → List History → ReplayState → ReplayState
+    → List ReplayVenue → Result (Unit {0}) PublishStop → Type 0
+TakesNext config r hs old new vs (Ok done) = TookNext config r hs old new vs
+TakesNext config r hs old new vs (Err stop) = StoppedAt config r hs old new stop
+
+abbrev pub TakesSkips : ReplayConfig → CaptureRecord → List History → ReplayState → ReplayState
+    → List ReplayVenue → Result (Unit {0}) PublishStop → Type 0
+TakesSkips config r hs old new vs (Ok done) = TookSkips config r hs old new vs
+TakesSkips config r hs old new vs (Err stop) = StoppedAt config r hs old new stop
+
+-- The venues stay as many, and gap lines are asked for as before.
+pub record KeepsVenues (from to : VenueList) : Type 0 where
+  pub gaps : to.gaps ≡ from.gaps
+  pub count : length to.items ≡ length from.items
+
+-- the venues follow some histories
+abbrev pub FollowSome : ReplayConfig → VenueList → Type 0
+FollowSome config at = (hs : List History) × FollowAll config.window at.items hs
+
 -- The venues' last lines follow the old text, whatever histories the venues follow.
 abbrev pub PrintsLast : VenueList → List ℕ → List ℕ → Type 0
 PrintsLast at old new =
     (window : ℕ) (hs : List History) → FollowAll window at.items hs → new ≡ old ++ last_lines 0 hs
+
+-- What the venues lack follows the old list, whatever histories the venues follow.
+abbrev pub LeavesLacks : VenueList → List Lack → List Lack → Type 0
+LeavesLacks at old new =
+    (window : ℕ) (hs : List History) → FollowAll window at.items hs
+    → new ≡ old ++ lacks_of window 0 hs
 
 -- the text that is still to be written after a stop, where `whole` is the length of the text of the
 -- records before: all of it after a full journal, or that of these records

@@ -5,11 +5,13 @@ pub mod DeviceLaws
 pub mod Lines
 pub mod ReplayEvents
 pub mod Emitted
+pub mod Rules
 pub mod VenueItems
 pub mod Texts
 pub mod ReplayStates
 pub mod Following
 pub mod Replays
+pub mod Lacks
 pub mod Placing
 pub mod Pages
 pub mod StandardError

@@ -12,6 +12,7 @@ use Rattle.feed_text.specs.Capture.{CaptureRecord}
 use Rattle.feed_text.specs.ReplayEvents.{ReplayEvent, packet_answered, packet_refused, item_taken, gap_left, renewal_answered, skip_answered, self_help_declared, entries_after, entries_of}
 use Rattle.feed_text.specs.Lines.{packet_line, fault_line, item_line, best_line, gap_line, renew_line, skip_line, declare_line, venue_line}
 use Rattle.feed_text.specs.Emitted.{EmitsRecord, Emits}
+use Rattle.feed_text.specs.Rules.{AreTakenOf, IsTakenNext}
 
 -- the position of the entry that a declaration adds, unless that is declared already
 abbrev pub position_of : List Entry → ℕ → Bool → Option ℕ
@@ -56,10 +57,17 @@ last_lines venue (h ∷ hs) = last_line venue h ++ last_lines (venue + 1) hs
 abbrev pub new_histories : ReplayConfig → List History
 new_histories config = map new_history config.sessions.now
 
--- records emit these events, and lead to these histories
+-- records that are taken emit these events, and lead to these histories
 abbrev pub EmitsAll : ReplayConfig → List CaptureRecord → List ReplayEvent → List History → Type 0
 EmitsAll config records emitted histories =
     Emits config.window config.gaps records (new_histories config) emitted histories
+
+-- of these records, all of which were read, these are taken, and lead to these histories: the
+-- records themselves, and the skips that the rule puts in
+abbrev pub AreAllTaken : ReplayConfig → List CaptureRecord → List CaptureRecord → List History
+    → Type 0
+AreAllTaken config records taken histories =
+    AreTakenOf config records (new_histories config) taken [] histories
 
 -- the events have room in the journal
 abbrev pub HasJournalRoom : ReplayConfig → List ReplayEvent → Type 0
@@ -72,32 +80,40 @@ lines_emitted config emitted = text_of config.symbols.now [] emitted
 -- the lines of records that have room in the journal, without the last lines of the venues
 pub record IsLinesOf (config : ReplayConfig) (records : List CaptureRecord) (lines : List ℕ)
     : Type 0 where
+  pub taken : List CaptureRecord
   pub emitted : List ReplayEvent
   pub histories : List History
-  pub emits : EmitsAll config records emitted histories
+  pub are_taken : AreAllTaken config records taken histories
+  pub emits : EmitsAll config taken emitted histories
   pub room : HasJournalRoom config emitted
   pub lines_are : lines ≡ lines_emitted config emitted
 
 -- the text of a whole capture: the lines of its records, and then the last lines
 pub record IsTextOf (config : ReplayConfig) (records : List CaptureRecord) (text : List ℕ)
     : Type 0 where
+  pub taken : List CaptureRecord
   pub emitted : List ReplayEvent
   pub histories : List History
-  pub emits : EmitsAll config records emitted histories
+  pub are_taken : AreAllTaken config records taken histories
+  pub emits : EmitsAll config taken emitted histories
   pub room : HasJournalRoom config emitted
   pub text_is : text ≡ lines_emitted config emitted ++ last_lines 0 histories
 
--- The lines up to a full journal: all records but the last have room; the first events of the last
--- record have room, too, and the next one would add an entry past the journal's end. The lines are
--- those of all events that had room.
+-- The lines up to a full journal: all that is taken before the last one has room, which is the
+-- record that was read last, or a skip before it; its first events have room, too, and the next one
+-- would add an entry past the journal's end. The lines are those of all events that had room.
 pub record IsLinesToFull (config : ReplayConfig) (records : List CaptureRecord) (lines : List ℕ)
     : Type 0 where
   pub earlier : List CaptureRecord
-  pub last : CaptureRecord
-  pub records_are : records ≡ earlier ++ last ∷ []
+  pub read_last : CaptureRecord
   pub emitted : List ReplayEvent
   pub histories : List History
+  pub are_taken : AreTakenOf config records (new_histories config) earlier (read_last ∷ [])
+      histories
   pub emits : EmitsAll config earlier emitted histories
+  pub last : CaptureRecord
+  pub left : List CaptureRecord
+  pub is_last : IsTakenNext config histories (read_last ∷ []) last left
   pub first : List ReplayEvent
   pub next : ReplayEvent
   pub others : List ReplayEvent

@@ -1,18 +1,24 @@
 //! The replay of a capture.
-ghost use Rattle.std.specs.Prelude.{◌≡◌, ◌≤◌, [], length, IfOk};
+ghost use Rattle.std.specs.Prelude.{◌≡◌, ◌≤◌, ℕ, List, [], length, IfOk, OnErr, OnOk};
 ghost use Rattle.std.specs.List.{IsDistinct};
 ghost use Rattle.std.specs.Str.{bytes_eq};
 ghost use Rattle.journal_book.specs.Streaming.{new_streaming};
-ghost use Rattle.feed_text.specs.Following.{Closes, Stops, fault_by, left_by};
+ghost use Rattle.line_arbiter.specs.Histories.{History};
+ghost use Rattle.feed_text.specs.Capture.{IsRecord, record_of};
+ghost use Rattle.feed_text.specs.Following.{Closes, FollowAll, FollowSome, KeepsVenues, LeavesLacks, Stops, TakesSkips, fault_by, left_by};
+ghost use Rattle.feed_text.specs.Lacks.{AppendsLacks};
 ghost use Rattle.feed_text.specs.Replays.{CanReplay, Replays};
+ghost use Rattle.feed_text.specs.ReplayStates.{state_of_replay};
 
-use crate::capture::{Parse, parse_record};
+use crate::capture::{Parse, Record, parse_record};
 use crate::devices::{CaptureIn, TextOut};
 use crate::fault::ReplayFault;
 use crate::input::fill;
+use crate::lack::Lack;
 use crate::output::{flush, flush_full};
 use crate::page::LineBuffer;
 use crate::report::{PublishStop, ReplaySink};
+use crate::skip_rule::SkipRule;
 use crate::unread::{RECORDS_ROOM, ReadBuffer};
 use crate::venues::Venues;
 use feed_types::SymbolName;
@@ -35,6 +41,8 @@ pub struct ReplayConfig<'a> {
     pub journal: u32,
     /// Whether a gap line is printed where a datagram leaves a gap.
     pub gaps: bool,
+    /// When a replay gives up what a venue lacks, beside the capture's own skips.
+    pub skips: SkipRule,
     /// The most calls of the reader that may be made.
     pub turns: u64,
 }
@@ -92,20 +100,76 @@ fn new_report(alloc: Global, config: &ReplayConfig<'_>) -> Result<ReplaySink, Al
     }
 }
 
-/// Writes the last lines.
+/// Writes the last lines, and appends what each venue lacks.
 fn close<W: TextOut>(
     venues: &Venues,
     mut text: LineBuffer,
     writer: &mut W,
+    lacks: &mut Vec<Lack>,
 ) -> Result<(), ReplayFault>
     requires { text.items ≡ [] }
-    ensures { Closes W.adds W.failures venues.now writer.old writer.new result }
+    ensures closes { Closes W.adds W.failures venues.now writer.old writer.new result }
+    ensures lacks { OnOk result (LeavesLacks venues.now lacks.old.items lacks.new.items) }
 {
     venues.put_last(&mut text)?;
+    venues.put_lacks(lacks)?;
     flush(&mut text, writer)
 }
 
+/// Takes the skips that the rule puts in before a record, one after the other, and publishes the
+/// events of each.
+#[inline(never)]
+fn take_skips(
+    config: &ReplayConfig<'_>,
+    venues: &mut Venues,
+    next: &Record<'_>,
+    report: &mut ReplaySink,
+) -> Result<(), PublishStop>
+    requires kind { IsRecord (length venues.old.items) (record_of next.now) }
+    requires venues { report.old.journal.venues ≡ length venues.old.items }
+    requires gaps { venues.old.gaps ≡ config.now.gaps }
+    requires follow { FollowSome config.now venues.old }
+    ensures kept { OnOk result (KeepsVenues venues.old venues.new) }
+    ensures journal { OnOk result (report.new.journal.venues ≡ report.old.journal.venues) }
+    ensures taken { (hs : List History) → FollowAll config.now.window venues.old.items hs
+        → TakesSkips config.now (record_of next.now) hs (state_of_replay report.old)
+        (state_of_replay report.new) venues.new.items result }
+{
+    let venue = next.venue();
+    while let Some(number) = venues.skip_before(config, next) {
+        venues.skip_to(venue, number, report)?;
+    }
+    Ok(())
+}
+
+/// Takes the skips before a record where there is a rule for them.
+// Without a rule the loop over records goes past it at once.
+#[inline(always)]
+fn follow_rule(
+    config: &ReplayConfig<'_>,
+    venues: &mut Venues,
+    next: &Record<'_>,
+    report: &mut ReplaySink,
+) -> Result<(), PublishStop>
+    requires kind { IsRecord (length venues.old.items) (record_of next.now) }
+    requires venues { report.old.journal.venues ≡ length venues.old.items }
+    requires gaps { venues.old.gaps ≡ config.now.gaps }
+    requires follow { FollowSome config.now venues.old }
+    ensures kept { OnOk result (KeepsVenues venues.old venues.new) }
+    ensures journal { OnOk result (report.new.journal.venues ≡ report.old.journal.venues) }
+    ensures taken { (hs : List History) → FollowAll config.now.window venues.old.items hs
+        → TakesSkips config.now (record_of next.now) hs (state_of_replay report.old)
+        (state_of_replay report.new) venues.new.items result }
+{
+    match config.skips {
+        SkipRule::Never => Ok(()),
+        _ => take_skips(config, venues, next, report),
+    }
+}
+
 /// Reads a capture to its end, and writes the lines of its records and then those of its venues.
+/// Where the configuration has a rule for it, what a venue lacks is given up as though the capture
+/// had skips for it. What each venue lacks at the end is appended to `lacks`.
 ///
 /// What is ready is written before the reader is called again, so that a pipe shows lines as they
 /// come, and before a fault of the input, of the journal or of memory is answered. Every call of
@@ -118,12 +182,16 @@ pub fn replay<R: CaptureIn, W: TextOut>(
     config: &ReplayConfig<'_>,
     reader: &mut R,
     writer: &mut W,
+    lacks: &mut Vec<Lack>,
 ) -> Result<(), ReplayFault>
     requires { CanReplay config.now }
-    ensures { Replays
+    ensures replays { Replays
         (record { gives = R.gives; ends = R.ends; failures = R.failures; fails = R.fails })
         (record { adds = W.adds; failures = W.failures })
         config.now reader.old reader.new writer.old writer.new result }
+    ensures lacks { OnOk result (AppendsLacks
+        (record { gives = R.gives; ends = R.ends; failures = R.failures; fails = R.fails })
+        config.now reader.old reader.new lacks.old.items lacks.new.items) }
 {
     let mut venues = Venues::new(alloc, config.sessions, config.window, config.gaps)?;
     let mut report = new_report(alloc, config)?;
@@ -133,6 +201,9 @@ pub fn replay<R: CaptureIn, W: TextOut>(
         match parse_record(config.sessions.len(), unread.bytes()) {
             Parse::Whole(record, len) => {
                 let whole = report.text.len();
+                if let Err(stop) = follow_rule(config, &mut venues, &record, &mut report) {
+                    return Err(stopped(stop, &mut report.text, whole, writer));
+                }
                 match venues.take(record, &mut report) {
                     Ok(()) => unread.advance(len),
                     Err(stop) => return Err(stopped(stop, &mut report.text, whole, writer)),
@@ -151,7 +222,7 @@ pub fn replay<R: CaptureIn, W: TextOut>(
                 if !unread.is_empty() {
                     return Err(ReplayFault::ShortRecord);
                 }
-                return close(&venues, report.text, writer);
+                return close(&venues, report.text, writer, lacks);
             }
         }
     }

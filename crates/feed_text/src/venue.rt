@@ -11,10 +11,12 @@ ghost use Rattle.line_arbiter.specs.Histories.{History, new_history, streams_of}
 ghost use Rattle.feed_text.specs.Capture.{datagram_record, renewal_record, skip_record};
 ghost use Rattle.feed_text.specs.ReplayEvents.{item_taken, packet_answered};
 ghost use Rattle.feed_text.specs.Emitted.{gap_event};
+ghost use Rattle.feed_text.specs.Lacks.{lack_of};
 ghost use Rattle.feed_text.specs.Texts.{last_line};
 ghost use Rattle.feed_text.specs.ReplayStates.{EmitsInto, state_of_replay};
 ghost use Rattle.feed_text.specs.Following.{Follows, SendsReady, TakesReady, PublishesPacket, EmitsOne, GivesUp, Renews};
 
+use crate::lack::Lack;
 use crate::lines::{put_fault, put_gap, put_packet, put_renewal, put_skip, put_venue};
 use crate::page::LineBuffer;
 use crate::report::{PublishStop, ReplaySink};
@@ -34,7 +36,7 @@ const MOST_AHEAD: usize = 64;
 /// up. The count stays at 2^64 - 1.
 #[derive(Drop)]
 pub struct VenueReplay {
-    arbiter: Arbiter<Anything>,
+    pub(crate) arbiter: Arbiter<Anything>,
     sent_before: u64,
     opens_after: u64,
 }
@@ -382,6 +384,18 @@ impl VenueReplay {
         let answer = self.give_up(number);
         put_skip(&mut report.text, venue, number, &answer)?;
         publish_each(&mut self.arbiter, venue, report)
+    }
+
+    /// Appends what the venue lacks, if it lacks anything.
+    pub fn put_lack(&self, lacks: &mut Vec<Lack>) -> Result<(), AllocError>
+        ensures { OnOk result
+            ((width place : ℕ) (h : History) → Follows width place self.now h
+            → lacks.new.items ≡ lacks.old.items ++ lack_of width place h) }
+    {
+        if let Some(gap) = self.arbiter.gap() {
+            lacks.push(Lack::of(self.arbiter.venue(), &gap))?;
+        }
+        Ok(())
     }
 
     /// Appends the venue's last line.

@@ -1,12 +1,15 @@
 //! The venues of a replay.
-ghost use Rattle.std.specs.Prelude.{◌≡◌, ◌<◌, ◌≤◌, IfOk, OnOk, length, map};
-ghost use Rattle.feed_text.specs.Capture.{IsRecord, record_of};
-ghost use Rattle.line_arbiter.specs.Histories.{new_history};
+ghost use Rattle.std.specs.Prelude.{◌≡◌, ◌<◌, ◌≤◌, ℕ, List, IfOk, MatchOption, OnOk, length, map};
+ghost use Rattle.feed_text.specs.Capture.{IsRecord, record_of, skip_record};
+ghost use Rattle.line_arbiter.specs.Histories.{History, new_history};
 ghost use Rattle.feed_text.specs.ReplayStates.{state_of_replay};
-ghost use Rattle.feed_text.specs.Following.{FollowAll, PrintsLast, TakesRecord};
+ghost use Rattle.feed_text.specs.Following.{FollowAll, LeavesLacks, PrintsLast, TakesRecord};
+ghost use Rattle.feed_text.specs.Rules.{PutsIn};
 
 use crate::capture::Record;
+use crate::lack::Lack;
 use crate::page::LineBuffer;
+use crate::replay::ReplayConfig;
 use crate::report::{PublishStop, ReplaySink};
 use crate::venue::VenueReplay;
 use feed_types::VenueId;
@@ -52,6 +55,23 @@ impl Venues {
         Ok(Venues { venues, gaps })
     }
 
+    /// Gives up what the venue lacks below the number, where it may be, and publishes the events of
+    /// that.
+    pub fn skip_to(
+        &mut self,
+        venue: VenueId,
+        number: u64,
+        report: &mut ReplaySink,
+    ) -> Result<(), PublishStop>
+        requires venue { venue < length self.old.items }
+        requires venues { report.old.journal.venues ≡ length self.old.items }
+        ensures { TakesRecord self.old (skip_record venue number)
+            (state_of_replay report.old) (state_of_replay report.new) self.new result }
+    {
+        let replay = &mut self.venues[venue.index()];
+        replay.skip_to(venue, number, report)
+    }
+
     /// Takes a record, and publishes its events. After a stop no other record can be taken: for a
     /// full journal all events that had room were published, and where memory was refused some may
     /// be.
@@ -72,12 +92,37 @@ impl Venues {
                 let replay = &mut self.venues[venue.index()];
                 replay.renew(venue, session, report)
             }
-            Record::Skip { venue, number } => {
-                let replay = &mut self.venues[venue.index()];
-                replay.skip_to(venue, number, report)
-            }
+            Record::Skip { venue, number } => self.skip_to(venue, number, report),
             Record::SelfHelp { venue, on } => report.declare(venue, on),
         }
+    }
+
+    /// Returns the number below which the rule gives up what the record's venue lacks before it, if
+    /// it gives anything up.
+    pub fn skip_before(&self, config: &ReplayConfig<'_>, next: &Record<'_>) -> Option<u64>
+        requires { IsRecord (length self.now.items) (record_of next.now) }
+        ensures { (hs : List History) → FollowAll config.now.window self.now.items hs
+            → MatchOption result
+            ((number : ℕ) → PutsIn config.now hs (record_of next.now) number → ⊥)
+            (λ number. PutsIn config.now hs (record_of next.now) number) }
+    {
+        match next {
+            Record::Datagram { venue, bytes, .. } => {
+                let replay = &self.venues[venue.index()];
+                replay.skip_before_datagram(config.skips, config.window, bytes)
+            }
+            _ => None,
+        }
+    }
+
+    /// Appends what each venue lacks, of each that lacks anything.
+    pub fn put_lacks(&self, lacks: &mut Vec<Lack>) -> Result<(), AllocError>
+        ensures { OnOk result (LeavesLacks self.now lacks.old.items lacks.new.items) }
+    {
+        for venue in &self.venues {
+            venue.put_lack(lacks)?;
+        }
+        Ok(())
     }
 
     /// Appends the venues' last lines.

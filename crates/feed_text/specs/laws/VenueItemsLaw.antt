@@ -1,7 +1,6 @@
 -- The items that are emitted of a venue are its streams.
 use Rattle.std.proofs.Common.{◌≡◌, ◌≢◌, ◌≤◌, ℕ, zero, suc, Bool, true, false, List, [], ◌∷◌, ◌++◌, length, map, drop, Some, None, Option, Result, Ok, Err, refl, sym, ap, subst, ◌∙◌, arith, append_assoc, append-nil, inl, inr}
 use Rattle.std.specs.Prelude.{◌==◌, slice_get, slice_set, if◌then◌else◌}
-use Rattle.std.specs.List.{AllByRecursion}
 use Rattle.std.proofs.Math.ListN.{drop_of_length-le}
 use Rattle.std.proofs.Math.Seq.{drop-append_seam}
 use Rattle.std.proofs.lemmas.Bool.Decides.{nat_tests}
@@ -18,7 +17,7 @@ use Rattle.line_arbiter.specs.Packets.{Input, Skip, arrival_of, end_of}
 use Rattle.line_arbiter.specs.Renewals.{IsRenewal}
 use Rattle.line_arbiter.specs.Skips.{IsSkip}
 use Rattle.line_arbiter.specs.Streams.{place_of, stream_of, gap_of}
-use Rattle.line_arbiter.specs.Answered.{IsAnswered, AreAnswered}
+use Rattle.line_arbiter.specs.Answered.{IsAnswered}
 use Rattle.line_arbiter.specs.Histories.{Begun, History, new_history, new_session, all_begun, names_of, streams_of, after_input, history_after, skip_after}
 use Rattle.line_arbiter.specs.Histories as histories
 use Rattle.line_arbiter.specs.laws.Histories.{items_push}
@@ -26,7 +25,7 @@ use Rattle.line_arbiter.specs.laws.Below.{answered_grows}
 use Rattle.line_arbiter.specs.laws.AnsweredHistories.{IsAnsweredThroughout, new_answered, answered_arrival, answered_renewal}
 use Rattle.feed_text.specs.declared.replay.ReplayConfig.{ReplayConfig}
 use Rattle.feed_text.specs.Capture.{CaptureRecord, datagram_record, renewal_record, skip_record, self_help_record, record_venue}
-use Rattle.feed_text.specs.ReplayEvents.{ReplayEvent, item_taken, packet_answered, renewal_answered, skip_answered}
+use Rattle.feed_text.specs.ReplayEvents.{ReplayEvent, item_taken, packet_answered, renewal_answered}
 use Rattle.feed_text.specs.Emitted.{last_sent, stream_length, gap_event, gap_emitted, EmitsPacket, EmitsSkip, EmitsAt, EmitsRecord, Emits}
 use Rattle.feed_text.specs.Texts.{EmitsAll}
 use Rattle.feed_text.specs.VenueItems.{taken_by, items_taken}

@@ -10,6 +10,7 @@ invariant-records g l = record {
   room : length l.unread < 131073;
   reads : g.R.CaptureIn.failures l.reader ≡ g.R.CaptureIn.failures l.fn.reader;
   writes : g.W.TextOut.failures l.writer ≡ g.W.TextOut.failures l.fn.writer;
+  lacks : l.lacks.items ≡ l.fn.lacks.items;
 }
 
 abbrev pub decreases-records : goal.decreases-records

@@ -1,7 +1,7 @@
 use Rattle.std.proofs.Common.{rules, ◌<◌, ℕ, List, length, refl, ap, subst}
 use Rattle.std.specs.Prelude.{slice_set}
 use Rattle.std.proofs.lemmas.Option.{slice_get_read}
-use Rattle.feed_text.specs.Capture.{CaptureRecord, record_venue, datagram_record, renewal_record, skip_record}
+use Rattle.feed_text.specs.Capture.{CaptureRecord, record_venue, datagram_record, renewal_record}
 use Rattle.feed_text.specs.ReplayStates.{state_of_replay}
 use Rattle.feed_text.specs.Following.{ReplayVenue, VenueList, TakesRecord}
 use Rattle.feed_text.proofs.Telling.{takes_one, takes_self_help}
@@ -24,33 +24,21 @@ returns-in-Datagram c =
 
 pub returns-in-Renewal : goal.returns-in-Renewal
 returns-in-Renewal c =
-    let items : List ReplayVenue = c.self.inside.venues.items in
-    let from : VenueList = record { items = items; gaps = c.self.inside.gaps } in
-    let to : VenueList = record { items = slice_set items c.index-in-Renewal.result c.renew.new.self; gaps = c.self.inside.gaps } in
+    let items : List ReplayVenue = c.self-in-Renewal.inside.venues.items in
+    let from : VenueList = record { items = items; gaps = c.self-in-Renewal.inside.gaps } in
+    let to : VenueList = record { items = slice_set items c.index-in-Renewal.result c.renew.new.self; gaps = c.self-in-Renewal.inside.gaps } in
     let r : CaptureRecord = renewal_record c.in-Renewal.venue c.in-Renewal.session in
     let there : record_venue r < length items = rw (← c.index-in-Renewal.ensures.value) (search rules) in
     rw c.in-Renewal.is
-    (subst (λ (s : VenueList). TakesRecord s r (state_of_replay c.args.report.now) (state_of_replay c.renew.new.report) to c.renew.result) c.self.view_is
+    (subst (λ (s : VenueList). TakesRecord s r (state_of_replay c.args.report.now) (state_of_replay c.renew.new.report) to c.renew.result) c.self-in-Renewal.view_is
     (takes_one from to r (state_of_replay c.args.report.now) (state_of_replay c.renew.new.report) c.renew.result c.index_mut-replay-in-Renewal.result.now c.renew.new.self
     (slice_get_read items (length items) (record_venue r) _ refl there (rw (← c.index-in-Renewal.ensures.value) c.index_mut-replay-in-Renewal.ensures.value))
     (ap (λ (i : ℕ). slice_set items i c.renew.new.self) c.index-in-Renewal.ensures.value)
     refl
-    (λ width h f. c.renew.ensures width c.self.inside.gaps h f)))
+    (λ width h f. c.renew.ensures width c.self-in-Renewal.inside.gaps h f)))
 
 pub returns-in-Skip : goal.returns-in-Skip
-returns-in-Skip c =
-    let items : List ReplayVenue = c.self.inside.venues.items in
-    let from : VenueList = record { items = items; gaps = c.self.inside.gaps } in
-    let to : VenueList = record { items = slice_set items c.index-in-Skip.result c.skip_to.new.self; gaps = c.self.inside.gaps } in
-    let r : CaptureRecord = skip_record c.in-Skip.venue c.in-Skip.number in
-    let there : record_venue r < length items = rw (← c.index-in-Skip.ensures.value) (search rules) in
-    rw c.in-Skip.is
-    (subst (λ (s : VenueList). TakesRecord s r (state_of_replay c.args.report.now) (state_of_replay c.skip_to.new.report) to c.skip_to.result) c.self.view_is
-    (takes_one from to r (state_of_replay c.args.report.now) (state_of_replay c.skip_to.new.report) c.skip_to.result c.index_mut-replay-in-Skip.result.now c.skip_to.new.self
-    (slice_get_read items (length items) (record_venue r) _ refl there (rw (← c.index-in-Skip.ensures.value) c.index_mut-replay-in-Skip.ensures.value))
-    (ap (λ (i : ℕ). slice_set items i c.skip_to.new.self) c.index-in-Skip.ensures.value)
-    refl
-    (λ width h f. c.skip_to.ensures width c.self.inside.gaps h f)))
+returns-in-Skip c = rw c.in-Skip.is c.skip_to.ensures
 
 pub returns-in-SelfHelp : goal.returns-in-SelfHelp
 returns-in-SelfHelp c =

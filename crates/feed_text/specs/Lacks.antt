@@ -1,0 +1,40 @@
+-- What venues lack at the end of a capture.
+use Rattle.std.specs.Prelude.{◌≡◌, ℕ, ◌+◌, List, [], ◌∷◌, ◌++◌, Option, Some, None}
+use Rattle.mold_packet.specs.declared.request.Request.{Request}
+use Rattle.line_arbiter.specs.Streams.{gap_of}
+use Rattle.line_arbiter.specs.Histories.{History}
+use Rattle.feed_text.specs.declared.lack.Lack.{Lack}
+use Rattle.feed_text.specs.declared.replay.ReplayConfig.{ReplayConfig}
+use Rattle.feed_text.specs.Capture.{CaptureRecord}
+use Rattle.feed_text.specs.Devices.{Reading}
+use Rattle.feed_text.specs.Emitted.{last_sent}
+use Rattle.feed_text.specs.Replays.{HasRead}
+use Rattle.feed_text.specs.Texts.{AreAllTaken}
+
+-- what a venue lacks by its gap
+abbrev pub lack_by : ℕ → Option Request → List Lack
+lack_by venue None = []
+lack_by venue (Some gap) = record { venue = venue; number = gap.number; count = gap.count } ∷ []
+
+-- what a venue with this history lacks
+abbrev pub lack_of : ℕ → ℕ → History → List Lack
+lack_of window venue h =
+    lack_by venue (gap_of h.present.name window (last_sent h) h.present.packets)
+
+-- what these venues lack, from this venue on, of each that lacks anything
+abbrev pub lacks_of : ℕ → ℕ → List History → List Lack
+lacks_of window venue [] = []
+lacks_of window venue (h ∷ hs) = lack_of window venue h ++ lacks_of window (venue + 1) hs
+
+-- A whole capture was read, and what its venues lack at the end was appended.
+pub record AppendsLacks {R : Type 0} (reading : Reading R) (config : ReplayConfig) (from to : R)
+    (old new : List Lack) : Type 0 where
+  pub records : List CaptureRecord
+  pub calls : ℕ
+  pub mid : R
+  pub read : HasRead reading config from calls mid records []
+  pub end : reading.ends mid to
+  pub taken : List CaptureRecord
+  pub histories : List History
+  pub are_taken : AreAllTaken config records taken histories
+  pub lacks : new ≡ old ++ lacks_of config.window 0 histories

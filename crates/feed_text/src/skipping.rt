@@ -1,0 +1,107 @@
+//! What a rule gives up of a venue before a packet.
+ghost use Rattle.std.specs.Prelude.{◌≡◌, ◌≤◌, ◌+◌, ℕ, MatchBool, MatchOption};
+ghost use Rattle.feed_types.specs.declared.line.LineId.{LineId};
+ghost use Rattle.mold_packet.specs.Content.{Content};
+ghost use Rattle.line_arbiter.specs.Fits.{cursors_of};
+ghost use Rattle.line_arbiter.specs.Histories.{History};
+ghost use Rattle.feed_text.specs.Capture.{datagram_record};
+ghost use Rattle.feed_text.specs.Emitted.{last_sent};
+ghost use Rattle.feed_text.specs.Following.{Follows};
+ghost use Rattle.feed_text.specs.Rules.{Allows, IsAhead, SkipsAt, SkipsBefore, first_come};
+
+use crate::skip_rule::SkipRule;
+use crate::venue::VenueReplay;
+use line_arbiter::ArbiterStatus;
+use mold_packet::{Kind, Packet, read_packet};
+
+/// Returns whether the rule gives anything up of a venue with these cursors.
+fn allows(rule: SkipRule, cursors: &ArbiterStatus) -> bool
+    ensures { (h : History) → cursors.now ≡ cursors_of (last_sent h) h.present.packets
+        → MatchBool result (Allows rule h) (Allows rule h → ⊥) }
+{
+    match rule {
+        SkipRule::Never => false,
+        SkipRule::Join => cursors.front == 0 && cursors.held == 0,
+        SkipRule::Gaps => true,
+    }
+}
+
+impl VenueReplay {
+    /// Returns whether the packet would be answered Ahead. `window` is that of the venue.
+    fn is_ahead(&self, cursors: &ArbiterStatus, window: u32, packet: &Packet<'_>) -> bool
+        ensures { (place : ℕ) (h : History) → Follows window place self.now h
+            → cursors.now ≡ cursors_of (last_sent h) h.present.packets
+            → MatchBool result (IsAhead window h packet.now) (IsAhead window h packet.now → ⊥) }
+    {
+        if packet.session() != self.arbiter.session() || packet.kind() != Kind::Messages {
+            return false;
+        }
+        let last = packet.last_number();
+        if let Some(end) = cursors.end {
+            if last >= end {
+                return false;
+            }
+        }
+        last > cursors.sent && last - cursors.sent > u64::from(window)
+    }
+
+    /// Returns how far past the front the first number is that has come, of a held message or the
+    /// packet's own, which is `own` past the front.
+    fn first_past(&self, cursors: &ArbiterStatus, own: u64) -> u64
+        ensures most { result ≤ own }
+        ensures first { (window place : ℕ) (h : History) (p : Content)
+            → Follows window place self.now h
+            → cursors.now ≡ cursors_of (last_sent h) h.present.packets
+            → p.number ≡ cursors.now.front + own
+            → cursors.now.front + result ≡ first_come window h p }
+    {
+        if cursors.held == 0 {
+            return own;
+        }
+        let missing = match self.arbiter.gap() {
+            Some(gap) => u64::from(gap.count),
+            None => 0,
+        };
+        if own <= missing { own } else { missing + 1 }
+    }
+
+    /// Returns the number below which the rule gives up what is missing before the packet, if it
+    /// gives anything up. `window` is that of the venue.
+    fn skip_before(&self, rule: SkipRule, window: u32, packet: &Packet<'_>) -> Option<u64>
+        ensures { (place : ℕ) (h : History) → Follows window place self.now h
+            → MatchOption result
+            ((number : ℕ) → SkipsBefore rule window h packet.now number → ⊥)
+            (λ number. SkipsBefore rule window h packet.now number) }
+    {
+        let cursors = self.arbiter.status();
+        if !allows(rule, &cursors) || !self.is_ahead(&cursors, window, packet) {
+            return None;
+        }
+        let number = packet.number();
+        if number <= cursors.front {
+            return None;
+        }
+        let past = self.first_past(&cursors, number - cursors.front);
+        if past > 1 {
+            Some(cursors.front + past)
+        } else {
+            None
+        }
+    }
+
+    /// Returns the number below which the rule gives up what is missing before a datagram of these
+    /// bytes, if it gives anything up. `window` is that of the venue.
+    pub fn skip_before_datagram(&self, rule: SkipRule, window: u32, bytes: &[u8]) -> Option<u64>
+        ensures { (place : ℕ) (line : LineId) (h : History) → Follows window place self.now h
+            → MatchOption result
+            ((number : ℕ)
+            → SkipsAt rule window (datagram_record place line bytes.now) h number → ⊥)
+            (λ number. SkipsAt rule window (datagram_record place line bytes.now) h number) }
+    {
+        mold_packet::one_reading();
+        match read_packet(bytes) {
+            Ok(packet) => self.skip_before(rule, window, &packet),
+            Err(_) => None,
+        }
+    }
+}
