@@ -1,27 +1,30 @@
 -- A replay of a packet capture's lines, by the replay of its reader of records.
 use Rattle.std.proofs.Common.{◌≡◌, inl, inr, ◌⊎◌, ℕ, ◌+◌, ◌≤◌, List, [], ◌++◌, Option, Some, None, Result, Ok, Err, length, refl, sym, ap, subst, ◌∙◌, arith, append_assoc, append-nil, length-append}
-use Rattle.std.specs.Prelude.{All}
+use Rattle.std.specs.Prelude.{All, OnOk}
+use Rattle.std.proofs.lemmas.Result.{on_ok_weaker}
 use Rattle.packet_capture.specs.Captures.{Context, ArePieces, frames_of, new_context}
 use Rattle.feed_text.specs.declared.fault.ReplayFault.{ReplayFault}
 use Rattle.feed_text.specs.declared.fault.ReplayFault.TheVariants.{ReadFailed, WriteFailed, BadRecord, ShortRecord, TooManyTurns, JournalFull, NoMemory}
 use Rattle.feed_text.specs.declared.replay.ReplayConfig.{ReplayConfig}
-use Rattle.feed_text.specs.Capture.{CaptureRecord, IsRecord, IsBadRecord, NoRecord, IsShort, IsUnfinished, bytes_of_record, capture_of}
-use Rattle.feed_text.specs.Devices.{Reading, Writing, Wrote}
+use Rattle.feed_text.specs.Capture.{CaptureRecord, IsRecord, IsBadRecord, NoRecord, IsShort, IsUnfinished, capture_of}
+use Rattle.feed_text.specs.Devices.{Reading, Writing}
+use Rattle.feed_text.specs.declared.lack.Lack.{Lack}
+use Rattle.feed_text.specs.Lacks.{AppendsLacks}
 use Rattle.feed_text.specs.Texts.{IsLinesOf, new_histories}
-use Rattle.feed_text.specs.Replays.{TextFacts, HasRead, WroteAll, WroteLines, WroteLinesUntil, WrotePrefix, AnswersReplay, venues_in}
+use Rattle.feed_text.specs.Replays.{TextFacts, HasRead, WroteAll, WroteLinesUntil, WrotePrefix, AnswersReplay, venues_in}
 use Rattle.line_captures.specs.declared.captured_line.CapturedLine.{CapturedLine}
 use Rattle.line_captures.specs.declared.fault.InputFault.{InputFault}
 use Rattle.line_captures.specs.declared.fault.InputFault.TheVariants.{BadCapture, ShortCapture}
 use Rattle.line_captures.specs.declared.report.LinesFault.{LinesFault}
-use Rattle.line_captures.specs.declared.report.LinesFault.TheVariants.{Input, Run}
+use Rattle.line_captures.specs.declared.report.LinesFault.TheVariants.{Run}
 use Rattle.line_captures.specs.declared.report.CaptureReport.{CaptureReport}
 use Rattle.line_captures.specs.Lists.{AreOfVenues}
 use Rattle.line_captures.specs.Records.{AreOfFrames, IsCaptureOf, spelled}
 use Rattle.line_captures.specs.Readers.{CapturePoint, LineReader, EndsRecords, FailsBy, FailsRecords, IsFault, count_of, all_failures, new_reader, new_point, new_progress, records_reading}
 use Rattle.line_captures.specs.CountLaws.{counts_none}
 use Rattle.line_captures.specs.Reports.{HasReadPieces, ReportsPoint, BeginsNoPiece, IsRestOf, IsKnownBy, outcome_by}
-use Rattle.line_captures.specs.ReaderLaws.{HasGivenRecords, has_given, whole_capture}
-use Rattle.replay_run.specs.LineReplays.{WroteCaptureText, WroteCaptureLines, WroteFrontLines, WroteCapturePrefix, AnswersLineReplay, ReplaysLines}
+use Rattle.line_captures.specs.ReaderLaws.{has_given, whole_capture}
+use Rattle.replay_run.specs.LineReplays.{AppendsLineLacks, WroteCaptureText, WroteCaptureLines, WroteFrontLines, WroteCapturePrefix, AnswersLineReplay, ReplaysLines}
 use Rattle.replay_run.specs.Printed.{AreLinesOfRun, texts_of_run}
 use Rattle.replay_run.proofs.Prints.{lines_of_run}
 use Rattle.replay_run.proofs.RecordFronts.{front_of_records, none_left, all_right, no_bad, are_records}
@@ -73,6 +76,48 @@ no_record venues rest (inr short) = inr (inr short)
 
 told_run : (fault : ReplayFault) (o : Option InputFault) → o ≡ None → outcome_by o (Err fault) ≡ Err (Run fault)
 told_run fault o e = ap (λ (x : Option InputFault). outcome_by x (Err fault)) e
+
+-- what venues lack, as the replay of the reader of records appends it
+pub lacks_so : {R : Type 0} (reading : Reading R) (config : ReplayConfig) (lines : List CapturedLine) (from : R) (t : LineReader R) (old new : List Lack) → AreOfVenues (venues_in config) lines
+    → AppendsLacks (records_reading reading) config (new_reader lines from) t old new → AppendsLineLacks reading config lines from t.inner old new
+lacks_so reading config lines from t old new of x =
+    let f = front reading config lines from x.calls x.mid x.records [] of x.read in
+    let e = x.end in
+    let U : List ℕ → Type 0 = λ xs. HasReadPieces reading lines from f.inner_calls x.mid.inner x.records x.mid.point xs in
+    let read = subst U e.unread (read_all reading lines (venues_in config) from x.calls x.mid x.records [] f e.pending (inl refl)) in
+    record {
+      calls = f.inner_calls;
+      mid = x.mid.inner;
+      records = x.records;
+      point = x.mid.point;
+      read = read;
+      is_capture = whole_capture lines read.bytes read.pieces x.mid.point.context x.records read.are read.records_are e.begun;
+      end = e.inner;
+      taken = x.taken;
+      histories = x.histories;
+      are_taken = x.are_taken;
+      lacks = x.lacks;
+    }
+
+-- the report's answer is Ok where the replay's is
+pub on_report : (P : Type 0) (fault : Option InputFault) (outcome : Result (Unit {0}) ReplayFault) → OnOk outcome P → OnOk (outcome_by fault outcome) P
+on_report P fault (Ok done) p = p
+on_report P None (Err fault) p = tt
+on_report P (Some input) (Err ReadFailed) p = tt
+on_report P (Some input) (Err WriteFailed) p = tt
+on_report P (Some input) (Err BadRecord) p = tt
+on_report P (Some input) (Err ShortRecord) p = tt
+on_report P (Some input) (Err TooManyTurns) p = tt
+on_report P (Some input) (Err JournalFull) p = tt
+on_report P (Some input) (Err NoMemory) p = tt
+
+pub lacks_by : {R : Type 0} (reading : Reading R) (config : ReplayConfig) (lines : List CapturedLine) (from : R) (first t : LineReader R) (old new : List Lack) (outcome : Result (Unit {0}) ReplayFault) (report : CaptureReport R) → AreOfVenues (venues_in config) lines
+    → first ≡ new_reader lines from → OnOk outcome (AppendsLacks (records_reading reading) config first t old new) → report.input ≡ t.inner → report.outcome ≡ outcome_by t.fault outcome
+    → OnOk report.outcome (AppendsLineLacks reading config lines from report.input old new)
+lacks_by {R} reading config lines from first t old new outcome report of begun appends input told =
+    let P : R → Type 0 = λ r. AppendsLineLacks reading config lines from r old new in
+    let all : OnOk outcome (P t.inner) = on_ok_weaker outcome (λ x. lacks_so reading config lines from t old new of (subst (λ (r : LineReader R). AppendsLacks (records_reading reading) config r t old new) begun x)) appends in
+    rw (told, input) (on_report (P t.inner) t.fault outcome all)
 
 -- ---- the answers
 
@@ -284,7 +329,7 @@ replays_nothing {R} {W} reading writing config lines from before after report gi
     let I : R → Type 0 = λ r. WroteFrontLines reading writing lines (AreLinesOfRun config) (λ mid. (mid ≡ r) ⊎ reading.ends mid r) from before after new_point in
     let A : W → Type 0 = λ w. writing.adds before [] w in
     let O : Result (Unit {0}) LinesFault → Type 0 = λ o. AnswersLineReplay reading writing config lines (texts_of_run config) from report.input before after new_point o in
-    let none : IsLinesOf config [] [] = record { emitted = []; histories = new_histories config; emits = (refl, refl); room = omega arith; lines_are = refl } in
+    let none : IsLinesOf config [] [] = record { taken = []; emitted = []; histories = new_histories config; are_taken = (refl, refl); emits = (refl, refl); room = omega arith; lines_are = refl } in
     record {
       point = new_point;
       reports = point;

@@ -1,13 +1,11 @@
 -- A session whose packets come, a message in each, is consumed to its end.
-use Rattle.std.proofs.Common.{◌≡◌, ℕ, zero, suc, ◌+◌, ◌-◌, ◌<◌, ◌≤◌, Bool, true, false, List, [], ◌∷◌, ◌++◌, length, map, drop, Some, None, Option, Ok, refl, sym, ap, subst, ◌∙◌, arith, append_assoc, append-nil, length-append, inl, inr}
-use Rattle.std.specs.Prelude.{slice_get, slice_set, IsSome, count_by, is_none, ◌^◌, if◌then◌else◌}
-use Rattle.std.specs.List.{AllByRecursion, range_with_len}
+use Rattle.std.proofs.Common.{◌≡◌, ℕ, zero, suc, ◌+◌, ◌-◌, ◌<◌, ◌≤◌, Bool, true, false, List, [], ◌∷◌, ◌++◌, length, map, drop, Some, None, Option, Ok, refl, sym, ap, subst, ◌∙◌, arith, append-nil, length-append, inl, inr}
+use Rattle.std.specs.Prelude.{slice_get, slice_set, IsSome, ◌^◌, if◌then◌else◌}
+use Rattle.std.specs.List.{AllByRecursion}
 use Rattle.std.specs.Option.{option_or}
-use Rattle.std.specs.Borrow.{Bor}
 use Rattle.std.proofs.lemmas.Bool.{cases_lt}
 use Rattle.std.proofs.lemmas.Bool.Decides.{nat_tests}
 use Rattle.std.proofs.lemmas.List.{length-map, length-drop}
-use Rattle.std.proofs.lemmas.List.FromFn.{length-range_with_len}
 use Rattle.feed_types.specs.declared.item.Item.{Item}
 use Rattle.feed_types.specs.declared.item.Numbered.{Numbered}
 use Rattle.feed_types.specs.declared.journal.Entry.{Entry}
@@ -20,7 +18,7 @@ use Rattle.mold_packet.specs.laws.OneReading.{same_packet}
 use Rattle.quote_payload.specs.Payload.{item_of}
 use Rattle.line_arbiter.specs.declared.outcome.Outcome.TheVariants.{Taken, Ended}
 use Rattle.line_arbiter.specs.Packets.{Arrival, Arrived, Input, arrival_of, carried, end_of, has_number, item_at, message_item}
-use Rattle.line_arbiter.specs.Streams.{IsComplete, front_of, part_of, stream_of, end_at}
+use Rattle.line_arbiter.specs.Streams.{front_of, stream_of, end_at}
 use Rattle.line_arbiter.specs.Outcomes.{new_count, IsOutcome}
 use Rattle.line_arbiter.specs.Answered.{AreAnswered}
 use Rattle.line_arbiter.specs.Histories.{History, new_history}
@@ -36,11 +34,12 @@ use Rattle.line_arbiter.specs.laws.Parts.{first_one, one_part}
 use Rattle.feed_core.specs.Worlds.{Setting}
 use Rattle.feed_core.specs.laws.WholeSessionsLaw.{whole}
 use Rattle.feed_text.specs.declared.replay.ReplayConfig.{ReplayConfig}
+use Rattle.feed_text.specs.declared.skip_rule.SkipRule.TheVariants.{Never}
 use Rattle.feed_text.specs.Capture.{CaptureRecord, datagram_record}
 use Rattle.feed_text.specs.ReplayEvents.{ReplayEvent, packet_answered, item_taken, entries_of}
-use Rattle.feed_text.specs.Emitted.{last_sent, stream_length, items_emitted, EmitsRecord, Emits}
+use Rattle.feed_text.specs.Emitted.{last_sent, items_emitted, EmitsRecord, Emits}
 use Rattle.feed_text.specs.laws.Entries.{entries_more}
-use Rattle.replay_run.specs.Events.{replay_setting, consumed_all, world_of, outcomes_of, IsReplayRun}
+use Rattle.replay_run.specs.Events.{consumed_all, world_of, outcomes_of, IsReplayRun}
 use Rattle.replay_run.specs.VenueItems.{HoldsOnly, HoldOnly}
 use Rattle.replay_run.specs.Moving.{session_of, ComesThrough}
 use Rattle.replay_run.proofs.Runs.{get_map, get_set_here, items_len, replay_run}
@@ -440,6 +439,7 @@ config_of s = record {
   window = s.window;
   journal = s.journal;
   gaps = false;
+  skips = Never;
   turns = 0;
 }
 

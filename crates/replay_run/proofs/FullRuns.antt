@@ -1,5 +1,5 @@
 -- A run up to a full journal.
-use Rattle.std.proofs.Common.{◌≡◌, ◌≢◌, ℕ, zero, suc, ◌+◌, ◌<◌, ◌≤◌, Bool, true, false, List, [], ◌∷◌, ◌++◌, length, map, drop, Some, None, Option, refl, sym, ap, subst, ◌∙◌, arith, append_assoc, append-nil, length-append, inl, inr}
+use Rattle.std.proofs.Common.{◌≡◌, ℕ, zero, suc, ◌+◌, ◌<◌, ◌≤◌, Bool, true, false, List, [], ◌∷◌, ◌++◌, length, map, drop, Some, None, Option, refl, sym, ap, subst, ◌∙◌, arith, append_assoc, append-nil, length-append, inl, inr}
 use Rattle.std.specs.Prelude.{slice_get, slice_set, nat_le, if◌then◌else◌}
 use Rattle.std.specs.List.{AllByRecursion}
 use Rattle.std.proofs.lemmas.Bool.{le-leb}
@@ -28,7 +28,7 @@ use Rattle.feed_core.specs.laws.HeadlineLaw.{headline}
 use Rattle.feed_text.specs.declared.replay.ReplayConfig.{ReplayConfig}
 use Rattle.feed_text.specs.Capture.{CaptureRecord, datagram_record, renewal_record, skip_record, self_help_record, record_venue}
 use Rattle.feed_text.specs.ReplayEvents.{ReplayEvent, packet_answered, packet_refused, item_taken, gap_left, renewal_answered, skip_answered, self_help_declared, entries_after, entries_of}
-use Rattle.feed_text.specs.Emitted.{last_sent, stream_length, gap_event, gap_emitted, EmitsFault, EmitsPacket, EmitsSkip, EmitsSelfHelp, EmitsAt, EmitsRecord}
+use Rattle.feed_text.specs.Emitted.{last_sent, stream_length, gap_event, gap_emitted, EmitsFault, EmitsPacket, EmitsSkip, EmitsAt, EmitsRecord}
 use Rattle.feed_text.specs.Texts.{IsLinesToFull}
 use Rattle.feed_text.specs.VenueItems.{taken_by, items_taken}
 use Rattle.feed_text.specs.laws.Lists.{get_set_same, get_set_other, same_or_not}
@@ -36,10 +36,10 @@ use Rattle.feed_text.specs.laws.Entries.{entries_more}
 use Rattle.feed_text.specs.laws.Entries.{entries_grow}
 use Rattle.line_arbiter.specs.laws.AnsweredHistories.{IsAnsweredThroughout}
 use Rattle.feed_text.specs.laws.VenueItemsLaw.{Each, items_same, items_other, new_each, all_kept, taken_are_streams}
-use Rattle.replay_run.specs.VenueItems.{HoldsOnly, HoldOnly}
-use Rattle.replay_run.specs.Events.{slice_of, event_of, drains, AreEvents, outcomes_by, outcomes_of, replay_setting, consumed_all, world_of}
+use Rattle.replay_run.specs.VenueItems.{HoldsOnly}
+use Rattle.replay_run.specs.Events.{slice_of, drains, outcomes_by, outcomes_of, replay_setting, consumed_all, world_of}
 use Rattle.replay_run.specs.Full.{StopsAt, IsRunToFull}
-use Rattle.replay_run.proofs.Runs.{at, venue_at, venue_more, at_venue, get_map, get_set_here, get_seam, push_step, drain, items_len, packet_begins, ready_behind, skip_begins, skip_behind, outcomes_more, run_more, RanAll, all_ran, begins, with_venues, all_more, drains_only, event_only, events_only}
+use Rattle.replay_run.proofs.Runs.{at, venue_at, venue_more, at_venue, get_map, get_set_here, push_step, drain, items_len, packet_begins, ready_behind, skip_begins, skip_behind, outcomes_more, run_more, RanAll, all_ran, begins, with_venues, all_more, drains_only, events_only}
 
 -- ---- the event that finds no room
 

@@ -15,14 +15,14 @@ pub lines_of_run : (config : ReplayConfig) (records : List CaptureRecord) (lines
     → IsLinesOf config records lines → AreLinesOfRun config records lines
 lines_of_run config records lines x = record {
   are = x;
-  run = λ lane filters some. replay_run config lane filters records x.emitted x.histories some x.emits x.room;
+  run = λ lane filters some. replay_run config lane filters x.taken x.emitted x.histories some x.emits x.room;
 }
 
 pub text_of_run : (config : ReplayConfig) (records : List CaptureRecord) (text : List ℕ)
     → IsTextOf config records text → IsTextOfRun config records text
 text_of_run config records text x = record {
   is = x;
-  run = λ lane filters some. replay_run config lane filters records x.emitted x.histories some x.emits x.room;
+  run = λ lane filters some. replay_run config lane filters x.taken x.emitted x.histories some x.emits x.room;
 }
 
 pub lines_to_full : (config : ReplayConfig) (records : List CaptureRecord) (lines : List ℕ)

@@ -1,11 +1,11 @@
 -- The records that begin the bytes of records, and what is left of them.
-use Rattle.std.proofs.Common.{◌≡◌, inl, inr, ℕ, ◌+◌, ◌<◌, ◌≤◌, List, [], ◌∷◌, ◌++◌, length, refl, sym, ap, ◌∙◌, subst, arith, append_assoc, length-append}
+use Rattle.std.proofs.Common.{◌≡◌, inl, inr, ℕ, ◌≤◌, List, [], ◌∷◌, ◌++◌, length, refl, sym, ap, ◌∙◌, subst, arith, append_assoc, length-append}
 use Rattle.std.specs.Prelude.{All, slice_index_or}
 use Rattle.std.proofs.lemmas.List.Elements.{All-tail}
 use Rattle.feed_types.specs.declared.line.LineId.{LineId}
 use Rattle.feed_types.specs.declared.line.LineId.TheVariants.{A, B, Recovery}
 use Rattle.feed_types.specs.Text.{line_letter}
-use Rattle.feed_text.specs.Capture.{CaptureRecord, datagram_record, bytes_of_record, capture_of, IsKind, IsRecord, IsHeader, IsBadRecord, NoRecord}
+use Rattle.feed_text.specs.Capture.{CaptureRecord, bytes_of_record, capture_of, IsKind, IsRecord, IsHeader, IsBadRecord, NoRecord}
 use Rattle.feed_text.specs.laws.Readings.{same_front, begins_header, no_front}
 use Rattle.line_captures.specs.declared.captured_line.CapturedLine.{CapturedLine}
 use Rattle.line_captures.specs.Lists.{AreOfVenues}

@@ -1,6 +1,6 @@
 -- The events of records are a run of the machine.
-use Rattle.std.proofs.Common.{◌≡◌, ℕ, zero, suc, ◌+◌, ◌-◌, ◌<◌, ◌≤◌, Bool, true, false, List, [], ◌∷◌, ◌++◌, length, map, drop, Some, None, Option, Result, Ok, Err, refl, sym, ap, subst, ◌∙◌, arith, append_assoc, append-nil, length-append, inl, inr}
-use Rattle.std.specs.Prelude.{◌⊎◌, MatchOption, slice_get, slice_set, nat_le, not, if◌then◌else◌}
+use Rattle.std.proofs.Common.{◌≡◌, ℕ, zero, suc, ◌+◌, ◌-◌, ◌<◌, ◌≤◌, Bool, true, false, List, [], ◌∷◌, ◌++◌, length, map, drop, Some, None, Option, refl, sym, ap, subst, ◌∙◌, arith, append_assoc, append-nil, length-append, inl, inr}
+use Rattle.std.specs.Prelude.{◌⊎◌, MatchOption, slice_get, slice_set, nat_le, if◌then◌else◌}
 use Rattle.std.specs.List.{AllByRecursion}
 use Rattle.std.proofs.lemmas.Bool.{lt-leb}
 use Rattle.feed_types.specs.declared.item.Numbered.{Numbered}
@@ -10,11 +10,10 @@ use Rattle.feed_types.specs.declared.line.LineId.{LineId}
 use Rattle.feed_types.specs.Sessions.{Session}
 use Rattle.mold_packet.specs.declared.request.Request.{Request}
 use Rattle.mold_packet.specs.Faults.{code_of}
-use Rattle.nbbo_book.specs.Eligible.{is_self_helped, is_so}
-use Rattle.line_arbiter.specs.declared.faults.RenewFault.{RenewFault}
+use Rattle.nbbo_book.specs.Eligible.{is_so}
 use Rattle.line_arbiter.specs.Packets.{end_of}
 use Rattle.line_arbiter.specs.Streams.{stream_of, sent_of, gap_of}
-use Rattle.line_arbiter.specs.Histories.{History, new_history, items_of, streams_of, names_of, history_after}
+use Rattle.line_arbiter.specs.Histories.{History, new_history, items_of, streams_of, names_of}
 use Rattle.line_arbiter.specs.Outcomes.{IsOutcome}
 use Rattle.line_arbiter.specs.Renewals.{IsRenewal}
 use Rattle.line_arbiter.specs.Skips.{IsSkip}
@@ -23,7 +22,7 @@ use Rattle.feed_core.specs.declared.event.Event.{Event}
 use Rattle.feed_core.specs.declared.event.Event.TheVariants.{Packet, Push, Consume, Declare, Renew, Skip}
 use Rattle.feed_core.specs.declared.event.Done.{Done}
 use Rattle.feed_core.specs.declared.event.Done.TheVariants as done
-use Rattle.feed_core.specs.Worlds.{Lane, is_full, Venue, session_count, session_sent, World, Setting, new_venue, new_world}
+use Rattle.feed_core.specs.Worlds.{is_full, Venue, session_count, session_sent, World, Setting, new_venue, new_world}
 use Rattle.feed_core.specs.Steps.{Stays, Applies, Refused, Changes, next_in, next_out, push_next, journal_item, consume_next, journal_full, unknown_venue, already_so, declare_help, Intake, put_venue, with_sent, with_intake, AddsArrival, AddsRenewal, RefusesBytes, AnswersRenewal, AnswersSkip}
 use Rattle.feed_core.specs.OneStep.{IsStep}
 use Rattle.feed_core.specs.Runs.{IsRun}
@@ -37,7 +36,7 @@ use Rattle.line_arbiter.specs.laws.Histories.{items_push}
 use Rattle.feed_text.specs.declared.replay.ReplayConfig.{ReplayConfig}
 use Rattle.feed_text.specs.Capture.{CaptureRecord, datagram_record, renewal_record, skip_record, self_help_record, record_venue}
 use Rattle.feed_text.specs.ReplayEvents.{ReplayEvent, item_taken, entries_after, entries_of}
-use Rattle.feed_text.specs.Emitted.{last_sent, stream_length, gap_event, gap_emitted, items_emitted, EmitsFault, EmitsPacket, EmitsRenewal, EmitsSkip, EmitsSelfHelp, EmitsAt, EmitsRecord, Emits}
+use Rattle.feed_text.specs.Emitted.{last_sent, stream_length, gap_event, gap_emitted, EmitsFault, EmitsPacket, EmitsRenewal, EmitsSkip, EmitsSelfHelp, EmitsAt, EmitsRecord, Emits}
 use Rattle.feed_text.specs.Texts.{EmitsAll, HasJournalRoom}
 use Rattle.feed_text.specs.laws.LastSent.{last_counted}
 use Rattle.feed_text.specs.laws.Lists.{same_set}
@@ -46,7 +45,7 @@ use Rattle.feed_text.specs.laws.Entries.{entries_grow}
 use Rattle.feed_text.specs.VenueItems.{items_taken}
 use Rattle.line_arbiter.specs.laws.AnsweredHistories.{IsAnsweredThroughout}
 use Rattle.feed_text.specs.laws.VenueItemsLaw.{Each, ready_items, skip_items, here, one_came, new_each, taken_are_streams}
-use Rattle.replay_run.specs.VenueItems.{HoldsOnly, HoldOnly, HoldsSkips, HoldNoSkip, HoldSkipsWithin, TellsSessions, TellsWhole}
+use Rattle.replay_run.specs.VenueItems.{HoldsOnly, HoldOnly, HoldsSkips, TellsSessions, TellsWhole}
 use Rattle.replay_run.specs.Events.{slice_of, event_of, drains, AreEvents, outcomes_by, outcomes_of, replay_setting, consumed_all, world_of, IsReplayRun}
 
 -- ---- lists

@@ -5,6 +5,10 @@ use Rattle.feed_text.specs.declared.fault.ReplayFault.TheVariants.{ReadFailed, W
 use Rattle.feed_text.specs.declared.replay.ReplayConfig.{ReplayConfig}
 use Rattle.feed_text.specs.Capture.{CaptureRecord}
 use Rattle.feed_text.specs.Devices.{Reading, Writing, Wrote}
+use Rattle.line_arbiter.specs.Histories.{History}
+use Rattle.feed_text.specs.declared.lack.Lack.{Lack}
+use Rattle.feed_text.specs.Lacks.{lacks_of}
+use Rattle.feed_text.specs.Texts.{AreAllTaken}
 use Rattle.feed_text.specs.Replays.{TextFacts}
 use Rattle.line_captures.specs.declared.captured_line.CapturedLine.{CapturedLine}
 use Rattle.line_captures.specs.declared.report.LinesFault.{LinesFault}
@@ -30,6 +34,22 @@ pub record WroteCaptureText {R W : Type 0} (reading : Reading R) (writing : Writ
   pub text : List ℕ
   pub is : texts.IsText records text
   pub wrote : writing.adds before text after
+
+-- A whole packet capture was read, one more call showed the end, and what the venues of its lines
+-- lack was appended.
+pub record AppendsLineLacks {R : Type 0} (reading : Reading R) (config : ReplayConfig)
+    (lines : List CapturedLine) (from to : R) (old new : List Lack) : Type 0 where
+  pub calls : ℕ
+  pub mid : R
+  pub records : List CaptureRecord
+  pub point : CapturePoint
+  pub read : HasReadPieces reading lines from calls mid records point []
+  pub is_capture : IsCaptureOf lines read.bytes records
+  pub end : reading.ends mid to
+  pub taken : List CaptureRecord
+  pub histories : List History
+  pub are_taken : AreAllTaken config records taken histories
+  pub lacks : new ≡ old ++ lacks_of config.window 0 histories
 
 -- Some calls read pieces and then a rest of this kind, and the lines of the pieces' records were
 -- written, and no venue line. Then the reader came to its last state so.

@@ -1,6 +1,5 @@
 -- What a replay prints is what a run of the machine leads to.
 use Rattle.std.specs.Prelude.{ℕ, ◌≤◌, List, ◌++◌}
-use Rattle.line_arbiter.specs.Histories.{History}
 use Rattle.filter_terms.specs.declared.terms.Terms.{Terms}
 use Rattle.feed_core.specs.Worlds.{Setting}
 use Rattle.feed_text.specs.declared.replay.ReplayConfig.{ReplayConfig}
@@ -15,19 +14,19 @@ abbrev pub InAnySetting : ReplayConfig → (Setting → Type 0) → Type 0
 InAnySetting config Is =
     (lane : ℕ) (filters : List Terms) → 1 ≤ lane → Is (replay_setting config lane filters)
 
--- the lines of records whose events are a run
+-- the lines of records, where the events of what is taken of them are a run
 pub record AreLinesOfRun (config : ReplayConfig) (records : List CaptureRecord) (lines : List ℕ)
     : Type 0 where
   pub are : IsLinesOf config records lines
-  pub run : InAnySetting config (λ s. IsReplayRun s records are.emitted are.histories)
+  pub run : InAnySetting config (λ s. IsReplayRun s are.taken are.emitted are.histories)
 
--- the text of a capture whose records' events are a run
+-- the text of a capture, where the events of what is taken of its records are a run
 pub record IsTextOfRun (config : ReplayConfig) (records : List CaptureRecord) (text : List ℕ)
     : Type 0 where
   pub is : IsTextOf config records text
-  pub run : InAnySetting config (λ s. IsReplayRun s records is.emitted is.histories)
+  pub run : InAnySetting config (λ s. IsReplayRun s is.taken is.emitted is.histories)
 
--- the lines of records up to a full journal, whose events are a run up to it
+-- the lines of records up to a full journal, where the events of what is taken are a run up to it
 pub record AreLinesOfRunToFull (config : ReplayConfig) (records : List CaptureRecord)
     (lines : List ℕ) : Type 0 where
   pub are : IsLinesToFull config records lines

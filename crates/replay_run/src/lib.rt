@@ -8,7 +8,7 @@
 //! says so of what it wrote.
 #![tactic(auto)]
 
-ghost use Rattle.std.specs.Prelude.{◌≡◌, ◌<◌, ◌≤◌, ◌+◌, ◌^◌, ℕ, List, Some, length, slice_get};
+ghost use Rattle.std.specs.Prelude.{◌≡◌, ◌<◌, ◌≤◌, ◌+◌, ◌^◌, ℕ, List, OnOk, Some, length, slice_get};
 ghost use Rattle.std.specs.List.{AllByRecursion};
 ghost use Rattle.mold_packet.specs.Block.{IsMessage};
 ghost use Rattle.line_arbiter.specs.Histories.{History};
@@ -16,6 +16,7 @@ ghost use Rattle.filter_terms.specs.declared.terms.Terms.{Terms};
 ghost use Rattle.feed_core.specs.Worlds.{Setting};
 ghost use Rattle.feed_text.specs.declared.replay.ReplayConfig.{ReplayConfig};
 ghost use Rattle.feed_text.specs.Capture.{CaptureRecord};
+ghost use Rattle.feed_text.specs.Lacks.{AppendsLacks};
 ghost use Rattle.feed_text.specs.ReplayEvents.{ReplayEvent};
 ghost use Rattle.feed_text.specs.Texts.{EmitsAll, HasJournalRoom, IsLinesOf, IsLinesToFull, IsTextOf};
 ghost use Rattle.feed_text.specs.Replays.{CanReplay, Replays, AnswersReplay};
@@ -26,7 +27,7 @@ ghost use Rattle.replay_run.specs.Printed.{AreLinesOfRun, AreLinesOfRunToFull, I
 mod lines;
 
 use feed_text::replay::ReplayConfig;
-use feed_text::{CaptureIn, ReplayFault, TextOut};
+use feed_text::{CaptureIn, Lack, ReplayFault, TextOut};
 pub use lines::replay_lines;
 use std::alloc::Global;
 
@@ -64,13 +65,15 @@ pub fn a_session_comes_through()
 {}
 
 /// Reads a capture to its end, and writes its text ([`feed_text::replay::replay`]): that of a run
-/// of the machine over the capture's records, of which the headline holds. So are the lines that
-/// are written before a fault is answered.
+/// of the machine over what is taken of the capture's records, of which the headline holds. So are
+/// the lines that are written before a fault is answered. What each venue lacks at the end is
+/// appended to `lacks`.
 pub fn replay<R: CaptureIn, W: TextOut>(
     alloc: Global,
     config: &ReplayConfig<'_>,
     reader: &mut R,
     writer: &mut W,
+    lacks: &mut Vec<Lack>,
 ) -> Result<(), ReplayFault>
     requires { CanReplay config.now }
     ensures replays { Replays
@@ -81,6 +84,9 @@ pub fn replay<R: CaptureIn, W: TextOut>(
         (record { gives = R.gives; ends = R.ends; failures = R.failures; fails = R.fails })
         (record { adds = W.adds; failures = W.failures })
         config.now (texts_of_run config.now) reader.old reader.new writer.old writer.new result }
+    ensures lacks { OnOk result (AppendsLacks
+        (record { gives = R.gives; ends = R.ends; failures = R.failures; fails = R.fails })
+        config.now reader.old reader.new lacks.old.items lacks.new.items) }
 {
-    feed_text::replay::replay(alloc, config, reader, writer)
+    feed_text::replay::replay(alloc, config, reader, writer, lacks)
 }

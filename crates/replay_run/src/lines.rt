@@ -1,12 +1,12 @@
 //! The replay of a packet capture for lines.
-ghost use Rattle.std.specs.Prelude.{length};
+ghost use Rattle.std.specs.Prelude.{OnOk, length};
 ghost use Rattle.feed_text.specs.Replays.{CanReplay};
 ghost use Rattle.line_captures.specs.Lists.{AreOfVenues};
-ghost use Rattle.replay_run.specs.LineReplays.{ReplaysLines};
+ghost use Rattle.replay_run.specs.LineReplays.{AppendsLineLacks, ReplaysLines};
 
 use crate::replay;
 use feed_text::replay::ReplayConfig;
-use feed_text::{CaptureIn, TextOut};
+use feed_text::{CaptureIn, Lack, TextOut};
 use line_captures::{CaptureReport, CapturedLine, LineBuffers, LinesIn};
 use std::alloc::Global;
 
@@ -22,18 +22,22 @@ pub fn replay_lines<R: CaptureIn + Drop, W: TextOut>(
     lines: &[CapturedLine],
     input: R,
     writer: &mut W,
+    lacks: &mut Vec<Lack>,
 ) -> CaptureReport<R>
     requires config { CanReplay config.now }
     requires venues { AreOfVenues (length config.now.sessions.now) lines.now }
-    ensures { ReplaysLines
+    ensures replays { ReplaysLines
         (record { gives = R.gives; ends = R.ends; failures = R.failures; fails = R.fails })
         (record { adds = W.adds; failures = W.failures })
         config.now lines.now input result writer.old writer.new }
+    ensures lacks { OnOk result.outcome (AppendsLineLacks
+        (record { gives = R.gives; ends = R.ends; failures = R.failures; fails = R.fails })
+        config.now lines.now input result.input lacks.old.items lacks.new.items) }
 {
     let Ok(buffers) = LineBuffers::new(alloc) else {
         return CaptureReport::without_memory(input);
     };
     let mut reader = LinesIn::new(buffers, lines, input);
-    let outcome = replay(alloc, config, &mut reader, writer);
+    let outcome = replay(alloc, config, &mut reader, writer, lacks);
     reader.into_report(outcome)
 }

@@ -86,7 +86,7 @@ ended s end front is all =
     ∙ ap (λ (b : Bool). numbered_from 1 s.items
     ++ (if b then end_item (length s.items + 1) ∷ [] else [])) (same (length s.items)))
 
-whole : (s : Session) (packets : List Input) → AllByRecursion IsArrival packets
+pub whole : (s : Session) (packets : List Input) → AllByRecursion IsArrival packets
     → GivesSession s packets → IsComplete packets → stream_of packets ≡ whole_session s
 whole s packets all gives complete =
     whole_part s packets all gives
