@@ -15,5 +15,6 @@ pub mod Lacks
 pub mod Placing
 pub mod Pages
 pub mod StandardError
+pub mod LackTexts
 -- laws, which proofs of the crates above cite
 pub mod laws
