@@ -16,10 +16,12 @@ use Rattle.command_words.specs.Addresses.{HasLinesFault, NameLines, NamesRequest
 use Rattle.command_words.specs.CapturedLines.{HasAllLinesFault, HasCapturedLinesFault, NameAllLines, NameCapturedLines}
 use Rattle.feed_text.specs.declared.formats.BestFormat.{BestFormat}
 use Rattle.feed_text.specs.declared.formats.StatsFormat.{StatsFormat}
+use Rattle.feed_text.specs.declared.skip_rule.SkipRule.{SkipRule}
 use Rattle.command_words.specs.BestFormats.{HasFormatFault, NamesFormat}
 use Rattle.command_words.specs.Commands.{nbbo_app}
 use Rattle.command_words.specs.EndRules.{NamesEndRule, NamesNoEndRule}
 use Rattle.command_words.specs.Sessions.{sessions_in}
+use Rattle.command_words.specs.SkipRules.{skip_rule_by}
 use Rattle.command_words.specs.declared.addresses.LinesFault.{LinesFault}
 use Rattle.command_words.specs.declared.addresses.LinesFault.TheVariants as lines
 use Rattle.command_words.specs.StatsFormats.{NamesNoStatsFormat, NamesStatsFormat}
@@ -117,6 +119,14 @@ pub record GivesBadFormat (rows : List Row) : Type 0 where
   pub flag : IsFlag (one_of (codes "best-only") rows) best_only
   pub fault : HasFormatFault best_only (first_of (codes "format") rows)
 
+-- The values of the options of replay, or of stats, give up gaps by this rule.
+pub record GivesSkips (rows : List Row) (skips : SkipRule) : Type 0 where
+  pub join : Bool
+  pub join_flag : IsFlag (one_of (codes "join") rows) join
+  pub skip_gaps : Bool
+  pub skip_gaps_flag : IsFlag (one_of (codes "skip-gaps") rows) skip_gaps
+  pub is : skips ≡ skip_rule_by join skip_gaps
+
 -- The values of the options give these settings of a feed, whatever its journal.
 pub record GivesFeed (rows : List Row) (feed : FeedSettings) : Type 0 where
   pub sessions : sessions_in (list_in rows) ≡ Ok feed.sessions.items
@@ -129,6 +139,7 @@ pub record Gives (rows : List Row) (settings : ReplaySettings) : Type 0 where
   pub journal : IsCount (one_of (codes "journal") rows) settings.feed.journal
   pub gaps : IsFlag (one_of (codes "gaps") rows) settings.gaps
   pub bests : GivesBests rows settings.bests
+  pub skips : GivesSkips rows settings.skips
 
 -- The values of the options of replay give these settings for a packet capture.
 pub record GivesLineReplay (rows : List Row) (settings : LineReplaySettings) : Type 0 where
@@ -149,6 +160,8 @@ pub record GivesListening (rows : List Row) (settings : ListenSettings) : Type 0
   pub lines : NameLines (lines_in rows) (length settings.feed.sessions.items) settings.lines.items
   pub request : NamesRequest settings.lines.items (first_of (codes "request") rows)
       settings.request
+  pub join : IsFlag (one_of (codes "join") rows) settings.join
+  pub skip_after : IsGivenCount (one_of (codes "skip-after") rows) settings.skip_after
   pub datagrams : IsCount (one_of (codes "datagrams") rows) settings.datagrams
   pub end : NamesEndRule (first_of (codes "end") rows) settings.end
   pub buffer : IsGivenCount (one_of (codes "buffer") rows) settings.buffer
@@ -172,6 +185,7 @@ pub record GivesCounted (rows : List Row) (settings : ReplaySettings) : Type 0 w
   pub feed : GivesFeed rows settings.feed
   pub journal : settings.feed.journal ≡ 4294967295
   pub gaps : settings.gaps ≡ true
+  pub skips : GivesSkips rows settings.skips
 
 -- The values of the options of stats give these settings for a packet capture.
 pub record GivesCountedLines (rows : List Row) (settings : LineReplaySettings) : Type 0 where

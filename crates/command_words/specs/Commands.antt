@@ -1,8 +1,8 @@
 -- The commands of the program with their options, as the crate clap sees them.
 use Rattle.std.specs.Prelude.{codes, true}
 use Rattle.clap.specs.Simple.{App, new_app, on_top, with_rule, with_subcommand}
-use Rattle.command_words.specs.ListenOptions.{buffer_rule, datagrams_rule, follow_rule, request_rule, seconds_rule, stats_rule, until_input_ends_rule, which_end_rule}
-use Rattle.command_words.specs.Options.{captured_lines_rule, format_rule, journal_rule, lines_rule, sessions_rule, symbols_rule, window_rule}
+use Rattle.command_words.specs.ListenOptions.{buffer_rule, datagrams_rule, follow_rule, request_rule, seconds_rule, skip_after_rule, stats_rule, until_input_ends_rule, which_end_rule}
+use Rattle.command_words.specs.Options.{captured_lines_rule, format_rule, join_rule, journal_rule, lines_rule, sessions_rule, skip_gaps_rule, symbols_rule, window_rule}
 use Rattle.command_words.specs.ReplayOptions.{best_only_rule, gaps_rule}
 
 -- replay with its options that have a value
@@ -11,10 +11,14 @@ options_app =
     with_rule (with_rule (with_rule (new_app (codes "replay")) sessions_rule) window_rule)
     journal_rule
 
+-- and with those that say which gaps are given up
+abbrev pub skipping_app : App
+skipping_app = with_rule (with_rule options_app join_rule) skip_gaps_rule
+
 -- and with those that say what is read, and which lines are printed
 abbrev pub choices_app : App
 choices_app =
-    with_rule (with_rule (with_rule options_app captured_lines_rule) gaps_rule) best_only_rule
+    with_rule (with_rule (with_rule skipping_app captured_lines_rule) gaps_rule) best_only_rule
 
 abbrev pub replay_app : App
 replay_app = with_rule (with_rule choices_app format_rule) symbols_rule
@@ -25,9 +29,13 @@ lines_app =
     with_rule (with_rule (with_rule (new_app (codes "listen")) sessions_rule) lines_rule)
     request_rule
 
+-- listen with its options that say how long a gap is waited for, too
+abbrev pub waits_app : App
+waits_app = with_rule (with_rule lines_app join_rule) skip_after_rule
+
 -- listen with its options that say how much, too
 abbrev pub counts_app : App
-counts_app = with_rule (with_rule (with_rule lines_app window_rule) journal_rule) datagrams_rule
+counts_app = with_rule (with_rule (with_rule waits_app window_rule) journal_rule) datagrams_rule
 
 -- listen with its options that say when it ends, too
 abbrev pub ends_app : App
@@ -71,8 +79,12 @@ counting_app =
     with_rule (with_rule (with_rule (new_app (codes "stats")) sessions_rule) captured_lines_rule)
     window_rule
 
+-- stats with its options that say which gaps are given up, too
+abbrev pub stats_skips_app : App
+stats_skips_app = with_rule (with_rule counting_app join_rule) skip_gaps_rule
+
 abbrev pub stats_app : App
-stats_app = with_rule (with_rule counting_app format_rule) symbols_rule
+stats_app = with_rule (with_rule stats_skips_app format_rule) symbols_rule
 
 abbrev pub nbbo_app : App
 nbbo_app = with_subcommand converting_app stats_app.top

@@ -8,5 +8,6 @@ pub mod ListenOptions
 pub mod Options
 pub mod ReplayOptions
 pub mod Sessions
+pub mod SkipRules
 pub mod StatsFormats
 pub mod Symbols

@@ -12,6 +12,14 @@ request_rule = record (new_rule (codes "request")) {
   value_names = 1;
 }
 
+-- --skip-after MS, a number from 1 to 4294967295
+abbrev pub skip_after_rule : Rule
+skip_after_rule = record (new_rule (codes "skip-after")) {
+  long = Some (codes "skip-after");
+  value_names = 1;
+  parser = Some (Signed (pos 1) (pos 4294967295));
+}
+
 -- --datagrams N, a number from 0 to 4294967295, by default 1000000
 abbrev pub datagrams_rule : Rule
 datagrams_rule = record (new_rule (codes "datagrams")) {

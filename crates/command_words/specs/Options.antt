@@ -3,6 +3,7 @@ use Rattle.std.specs.Prelude.{◌∷◌, [], Some, codes, pos, true}
 use Rattle.clap.specs.Lexer.{usize_max}
 use Rattle.clap.specs.Walk.{Rule}
 use Rattle.clap.specs.Simple.{new_rule}
+use Rattle.clap.specs.declared.builder.action.ArgAction.TheVariants.{SetTrue}
 use Rattle.clap.specs.declared.builder.value_parser.ValueParser.TheVariants.{Signed}
 
 -- --sessions LIST, without which there is no replay and nothing to listen to
@@ -44,6 +45,17 @@ journal_rule = record (new_rule (codes "journal")) {
   value_names = 1;
   parser = Some (Signed (pos 0) (pos 4294967295));
   defaults = codes "1000000" ∷ [];
+}
+
+-- --join
+abbrev pub join_rule : Rule
+join_rule = record (new_rule (codes "join")) { long = Some (codes "join"); action = Some SetTrue }
+
+-- --skip-gaps
+abbrev pub skip_gaps_rule : Rule
+skip_gaps_rule = record (new_rule (codes "skip-gaps")) {
+  long = Some (codes "skip-gaps");
+  action = Some SetTrue;
 }
 
 -- --format FORMAT

@@ -21,6 +21,7 @@ use crate::listen_settings::ListenSettings;
 use crate::refusal::Refusal;
 use crate::replay_settings::ReplaySettings;
 use crate::sessions::read_sessions;
+use crate::skip_words::skips_of;
 use crate::stats_words::stats_of;
 use crate::symbols::{SymbolsFault, read_symbols};
 use crate::task::Task;
@@ -118,7 +119,7 @@ fn given_count_of(options: &ArgMatches<'_>, name: &str) -> Option<u32>
 }
 
 /// Whether the flag of this name is given.
-fn flag_of(options: &ArgMatches<'_>, name: &str) -> bool
+pub fn flag_of(options: &ArgMatches<'_>, name: &str) -> bool
     ensures { IsFlag (one_of name.now (rows_of (found_of options.now))) result }
 {
     options.get_flag(name)
@@ -197,6 +198,7 @@ pub fn settings_of(alloc: Global, replay: &ArgMatches<'_>) -> Result<ReplaySetti
         feed: feed_of(alloc, replay, count_of(replay, "journal"))?,
         gaps: flag_of(replay, "gaps"),
         bests: bests_of(replay)?,
+        skips: skips_of(replay),
     })
 }
 
@@ -219,6 +221,8 @@ fn listening_of(alloc: Global, listen: &ArgMatches<'_>) -> Result<ListenSettings
         feed,
         lines,
         request,
+        join: flag_of(listen, "join"),
+        skip_after: given_count_of(listen, "skip-after"),
         datagrams: count_of(listen, "datagrams"),
         end,
         buffer: given_count_of(listen, "buffer"),

@@ -4,7 +4,7 @@
 //! or the [`Refusal`] that they get: a text and a status. `specs/CommandLine.antt` says which of
 //! them, over clap's reading of the words (`specs/Commands.antt`) and the definitions of each kind
 //! of value (`specs/Sessions.antt`, `specs/Symbols.antt`, `specs/Addresses.antt`,
-//! `specs/CapturedLines.antt`).
+//! `specs/CapturedLines.antt`, `specs/SkipRules.antt`).
 //!
 //! Begin with `command_line.rt`, then `commands.rt` and a command, as `listen_command.rt`. An option
 //! stands with its texts in `options.rt` if commands share it, else in `listen_options.rt`,
@@ -31,6 +31,7 @@ mod replay_command;
 mod replay_options;
 mod replay_settings;
 mod sessions;
+mod skip_words;
 mod stats_command;
 mod stats_format;
 mod stats_settings;

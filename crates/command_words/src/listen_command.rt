@@ -2,11 +2,11 @@
 ghost use Rattle.std.specs.Prelude.{◌≡◌, IfOk, false, codes};
 ghost use Rattle.clap.specs.Simple.{app_of, new_app};
 ghost use Rattle.clap.specs.declared.builder.command.Command.TheViews.{out-Command as fields_of};
-ghost use Rattle.command_words.specs.Commands.{counts_app, ends_app, lines_app, listen_app, meanwhile_app};
+ghost use Rattle.command_words.specs.Commands.{counts_app, ends_app, lines_app, listen_app, meanwhile_app, waits_app};
 
 use crate::listen_options::{
-    buffer_option, datagrams_option, follow_flag, lines_option, request_option, seconds_option,
-    stats_option, until_input_ends_flag, which_end_option,
+    buffer_option, datagrams_option, follow_flag, lines_option, live_join_flag, request_option,
+    seconds_option, skip_after_option, stats_option, until_input_ends_flag, which_end_option,
 };
 use crate::options::{journal_option, sessions_option, symbols_argument, window_option};
 use clap::Command;
@@ -131,12 +131,22 @@ fn lines_command<'a>(alloc: Global) -> Result<Command<'a>, AllocError>
         .arg(request_option(alloc))
 }
 
+/// `listen` with its options that say how long a gap is waited for, too.
+fn waits_command<'a>(alloc: Global) -> Result<Command<'a>, AllocError>
+    ensures app { IfOk result (λ c. app_of c ≡ waits_app) }
+    ensures local { IfOk result (λ c. (fields_of c).has_globals ≡ false) }
+{
+    lines_command(alloc)?
+        .arg(live_join_flag(alloc))?
+        .arg(skip_after_option(alloc))
+}
+
 /// `listen` with its options that say how much, too.
 fn counts_command<'a>(alloc: Global) -> Result<Command<'a>, AllocError>
     ensures app { IfOk result (λ c. app_of c ≡ counts_app) }
     ensures local { IfOk result (λ c. (fields_of c).has_globals ≡ false) }
 {
-    lines_command(alloc)?
+    waits_command(alloc)?
         .arg(window_option(alloc))?
         .arg(journal_option(alloc))?
         .arg(datagrams_option(alloc))

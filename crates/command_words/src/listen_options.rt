@@ -2,8 +2,8 @@
 //! `specs/ListenOptions.antt`.
 ghost use Rattle.std.specs.Prelude.{◌≡◌, false};
 ghost use Rattle.clap.specs.Walk.{rule_of};
-ghost use Rattle.command_words.specs.ListenOptions.{buffer_rule, datagrams_rule, follow_rule, request_rule, seconds_rule, stats_rule, until_input_ends_rule, which_end_rule};
-ghost use Rattle.command_words.specs.Options.{lines_rule};
+ghost use Rattle.command_words.specs.ListenOptions.{buffer_rule, datagrams_rule, follow_rule, request_rule, seconds_rule, skip_after_rule, stats_rule, until_input_ends_rule, which_end_rule};
+ghost use Rattle.command_words.specs.Options.{join_rule, lines_rule};
 
 use crate::limits::{MAX_BUFFER, text};
 use clap::{Arg, ArgAction, value_parser};
@@ -49,6 +49,43 @@ pub fn request_option<'a>(alloc: Global) -> Arg<'a>
         .value_name("ADDR")
         .help("Where messages that are missing are asked for")
         .long_help(REQUEST_HELP)
+}
+
+const JOIN_HELP: &str = "\
+Joins a session that is under way: messages that are missing before the first one in
+sequence are given up at once, and neither waited nor asked for. Without this option they
+are waited for, as those of any other gap";
+
+/// `--join` of a command that listens.
+pub fn live_join_flag<'a>(alloc: Global) -> Arg<'a>
+    ensures rule { rule_of result ≡ join_rule }
+    ensures local { result.global ≡ false }
+{
+    Arg::new(alloc, "join")
+        .long("join")
+        .action(ArgAction::SetTrue)
+        .help("Gives up at once what is missing before the first message in sequence")
+        .long_help(JOIN_HELP)
+}
+
+const SKIP_AFTER_HELP: &str = text!("\
+After how many milliseconds a gap is given up that stands so long: 1 to " MAX_COUNT ". The
+sequence then goes on with the first message that has come after it. What was given up and
+comes later isn't taken. Without this option a gap is waited for as long as the run goes");
+
+/// `--skip-after MS`.
+pub fn skip_after_option<'a>(alloc: Global) -> Arg<'a>
+    ensures rule { rule_of result ≡ skip_after_rule }
+    ensures local { result.global ≡ false }
+{
+    Arg::new(alloc, "skip-after")
+        .long("skip-after")
+        .value_name("MS")
+        .value_parser(value_parser!(u32).range(1..=i64::from(u32::MAX)))
+        .help(text!(
+            "After how many milliseconds a gap is given up that stands so long, 1 to " MAX_COUNT
+        ))
+        .long_help(SKIP_AFTER_HELP)
 }
 
 const DATAGRAMS_HELP: &str = text!("\

@@ -14,6 +14,10 @@ pub struct ListenSettings {
     pub lines: Vec<SocketAddr>,
     /// The address that requests for missing messages go to, if there is one.
     pub request: Option<SocketAddr>,
+    /// Whether a gap before the first message in sequence is given up at once.
+    pub join: bool,
+    /// After how many milliseconds a gap is given up that stands so long, if after any number.
+    pub skip_after: Option<u32>,
     /// The most datagrams that a line reads.
     pub datagrams: u32,
     /// Which ends of session end a line.

@@ -2,10 +2,10 @@
 //! `specs/Options.antt`.
 ghost use Rattle.std.specs.Prelude.{◌≡◌, false};
 ghost use Rattle.clap.specs.Walk.{rule_of};
-ghost use Rattle.command_words.specs.Options.{captured_lines_rule, journal_rule, sessions_rule, symbols_rule, window_rule};
+ghost use Rattle.command_words.specs.Options.{captured_lines_rule, join_rule, journal_rule, sessions_rule, skip_gaps_rule, symbols_rule, window_rule};
 
 use crate::limits::text;
-use clap::{Arg, value_parser};
+use clap::{Arg, ArgAction, value_parser};
 use feed_types::MAX_WINDOW;
 use std::alloc::Global;
 
@@ -82,6 +82,42 @@ pub fn journal_option<'a>(alloc: Global) -> Arg<'a>
         .default_value(text!(DEFAULT_COUNT))
         .help(text!("How many items and declarations of self-help there may be, 0 to " MAX_COUNT))
         .long_help(JOURNAL_HELP)
+}
+
+const JOIN_HELP: &str = "\
+Joins a session that is under way: where the first packet of it that comes lies past the
+window, the messages before that packet are given up, as by a record of kind K, and the
+sequence begins with it. Without this option such packets are 'ahead': nothing of them is
+taken";
+
+/// `--join` of a command that reads captures.
+pub fn join_flag<'a>(alloc: Global) -> Arg<'a>
+    ensures rule { rule_of result ≡ join_rule }
+    ensures local { result.global ≡ false }
+{
+    Arg::new(alloc, "join")
+        .long("join")
+        .action(ArgAction::SetTrue)
+        .help("Begins with a session's first packet, also where that lies past the window")
+        .long_help(JOIN_HELP)
+}
+
+const SKIP_GAPS_HELP: &str = "\
+Gives up what is missing where a packet lies past the window, as a record of kind K does:
+the messages up to the first one that has come, and again as long as the packet lies past
+the window. So none is 'ahead'. What was given up and comes later isn't taken. It joins a
+session that is under way, too, so that --join beside it changes nothing";
+
+/// `--skip-gaps`.
+pub fn skip_gaps_flag<'a>(alloc: Global) -> Arg<'a>
+    ensures rule { rule_of result ≡ skip_gaps_rule }
+    ensures local { result.global ≡ false }
+{
+    Arg::new(alloc, "skip-gaps")
+        .long("skip-gaps")
+        .action(ArgAction::SetTrue)
+        .help("Gives up messages that are missing where a packet lies past the window")
+        .long_help(SKIP_GAPS_HELP)
 }
 
 const SYMBOLS_HELP: &str = text!("\

@@ -2,11 +2,12 @@
 ghost use Rattle.std.specs.Prelude.{◌≡◌, IfOk, false, codes};
 ghost use Rattle.clap.specs.Simple.{app_of, new_app};
 ghost use Rattle.clap.specs.declared.builder.command.Command.TheViews.{out-Command as fields_of};
-ghost use Rattle.command_words.specs.Commands.{choices_app, options_app, replay_app};
+ghost use Rattle.command_words.specs.Commands.{choices_app, options_app, replay_app, skipping_app};
 
 use crate::limits::text;
 use crate::options::{
-    captured_lines_option, journal_option, sessions_option, symbols_argument, window_option,
+    captured_lines_option, join_flag, journal_option, sessions_option, skip_gaps_flag,
+    symbols_argument, window_option,
 };
 use crate::replay_options::{best_only_flag, format_option, gaps_flag};
 use clap::Command;
@@ -58,7 +59,9 @@ Printed lines, V a venue from 0, L a line (A, B or R for recovery):
   gap V NUMBER COUNT             with --gaps: COUNT messages from NUMBER on are to be asked for
   renew V ORDINAL                the venue's next session has begun, the second as 2
   renew V refused N              it can't begin: see below
-  skip V NUMBER                  the messages below NUMBER that were missing are given up
+  skip V NUMBER                  the messages below NUMBER that were missing are given up, by a
+                                 record of kind K, or by --join or --skip-gaps, which then do so
+                                 before the packet that goes beyond the window
   skip V refused N               they aren't: see below
   declare V on POSITION          self-help stands on the venue; 'off' where it was withdrawn. In
                                  place of the journal's position 'already' where it was so
@@ -69,6 +72,11 @@ With --lines standard error says at the end what a line may have lost, with a co
 datagrams, frames that were cut when they were captured, malformed packets, frames that can't be
 read (of a link type or with an IPv6 extension header that this program doesn't know), frames out
 of time order, and whether no datagram goes to a line.
+
+At the end of a whole capture standard error says what each venue still lacks: the first messages
+that never came, though later ones did, as far as the window goes:
+  nbbo: venue V lacks COUNT messages from NUMBER
+It does where it is a terminal, and where --lines, --best-only, --join or --skip-gaps is given.
 
 Examples:
   $ nbbo replay --sessions NORTH,SOUTH ACME < capture
@@ -155,12 +163,22 @@ fn options_command<'a>(alloc: Global) -> Result<Command<'a>, AllocError>
         .arg(journal_option(alloc))
 }
 
+/// `replay` with its options that say which gaps are given up, too.
+fn skipping_command<'a>(alloc: Global) -> Result<Command<'a>, AllocError>
+    ensures app { IfOk result (λ c. app_of c ≡ skipping_app) }
+    ensures local { IfOk result (λ c. (fields_of c).has_globals ≡ false) }
+{
+    options_command(alloc)?
+        .arg(join_flag(alloc))?
+        .arg(skip_gaps_flag(alloc))
+}
+
 /// `replay` with its options that say what is read, and which lines are printed, too.
 fn choices_command<'a>(alloc: Global) -> Result<Command<'a>, AllocError>
     ensures app { IfOk result (λ c. app_of c ≡ choices_app) }
     ensures local { IfOk result (λ c. (fields_of c).has_globals ≡ false) }
 {
-    options_command(alloc)?
+    skipping_command(alloc)?
         .arg(captured_lines_option(alloc))?
         .arg(gaps_flag(alloc))?
         .arg(best_only_flag(alloc))

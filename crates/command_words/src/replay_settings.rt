@@ -1,7 +1,7 @@
 //! The settings of `nbbo replay`.
 
 use crate::feed_settings::FeedSettings;
-use feed_text::BestFormat;
+use feed_text::{BestFormat, SkipRule};
 
 /// The settings of `nbbo replay`.
 #[derive(Debug, Drop)]
@@ -12,4 +12,6 @@ pub struct ReplaySettings {
     pub gaps: bool,
     /// The format of the best lines where they alone are printed.
     pub bests: Option<BestFormat>,
+    /// Which gaps are given up.
+    pub skips: SkipRule,
 }

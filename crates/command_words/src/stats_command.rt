@@ -3,11 +3,13 @@ ghost use Rattle.std.specs.Prelude.{◌≡◌, IfOk, false, codes};
 ghost use Rattle.clap.specs.Simple.{app_of, new_app};
 ghost use Rattle.clap.specs.Walk.{rule_of};
 ghost use Rattle.clap.specs.declared.builder.command.Command.TheViews.{out-Command as fields_of};
-ghost use Rattle.command_words.specs.Commands.{counting_app, stats_app};
+ghost use Rattle.command_words.specs.Commands.{counting_app, stats_app, stats_skips_app};
 ghost use Rattle.command_words.specs.Options.{format_rule, symbols_rule};
 
 use crate::limits::text;
-use crate::options::{captured_lines_option, sessions_option, window_option};
+use crate::options::{
+    captured_lines_option, join_flag, sessions_option, skip_gaps_flag, window_option,
+};
 use clap::{Arg, Command};
 use std::alloc::{AllocError, Global};
 
@@ -73,7 +75,8 @@ Status:
   2  the command line was refused: 'bad format' where the format is none of those; else as of
      'nbbo replay'
 
-With --lines standard error also counts what was passed over, as of 'nbbo replay --lines'.";
+At the end of a whole capture standard error says what each venue still lacks, as of 'nbbo replay',
+and with --lines it counts what was passed over, as of 'nbbo replay --lines'.";
 
 const FORMAT_HELP: &str = "\
 The format of the counts: 'table', as without this option, or 'json', an object on a line
@@ -134,12 +137,22 @@ fn counting_command<'a>(alloc: Global) -> Result<Command<'a>, AllocError>
         .arg(window_option(alloc))
 }
 
+/// `stats` with its options that say which gaps are given up, too.
+fn stats_skips_command<'a>(alloc: Global) -> Result<Command<'a>, AllocError>
+    ensures app { IfOk result (λ c. app_of c ≡ stats_skips_app) }
+    ensures local { IfOk result (λ c. (fields_of c).has_globals ≡ false) }
+{
+    counting_command(alloc)?
+        .arg(join_flag(alloc))?
+        .arg(skip_gaps_flag(alloc))
+}
+
 /// The whole of `stats`.
 pub fn stats_command<'a>(alloc: Global) -> Result<Command<'a>, AllocError>
     ensures app { IfOk result (λ c. app_of c ≡ stats_app) }
     ensures local { IfOk result (λ c. (fields_of c).has_globals ≡ false) }
 {
-    counting_command(alloc)?
+    stats_skips_command(alloc)?
         .arg(stats_format_option(alloc))?
         .arg(counted_symbols_argument(alloc))
 }

@@ -11,6 +11,7 @@ use crate::command_line::feed_of;
 use crate::line_replay_settings::LineReplaySettings;
 use crate::refusal::Refusal;
 use crate::replay_settings::ReplaySettings;
+use crate::skip_words::skips_of;
 use crate::stats_format::read_stats_format;
 use crate::stats_settings::{StatsInput, StatsSettings};
 use clap::ArgMatches;
@@ -29,6 +30,7 @@ fn counted_replay(alloc: Global, stats: &ArgMatches<'_>) -> Result<ReplaySetting
         feed: feed_of(alloc, stats, MAX_JOURNAL)?,
         gaps: true,
         bests: None,
+        skips: skips_of(stats),
     })
 }
 
