@@ -1,11 +1,12 @@
 -- `nbbo listen`: its settings, what it prints of what came, and how it ends. The texts are this
 -- project's own.
-use Rattle.std.specs.Prelude.{◌≡◌, ◌⊎◌, ℕ, ◌+◌, ◌≤◌, ◌==◌, Bool, false, List, [], ◌∷◌, ◌++◌, length, drop, flat_map, slice_get, take, Option, Some, None, Result, Ok, Err, if◌then◌else◌, codes, decimal}
+use Rattle.std.specs.Prelude.{◌≡◌, ◌⊎◌, ℕ, ◌+◌, ◌≤◌, Bool, false, List, [], ◌∷◌, ◌++◌, length, drop, flat_map, slice_get, take, Option, Some, None, Result, Ok, Err, if◌then◌else◌, codes, decimal}
 use Rattle.feed_types.specs.declared.config.FeedConfig.{FeedConfig}
 use Rattle.feed_types.specs.declared.line.LineId.{LineId}
 use Rattle.feed_types.specs.declared.line.LineId.TheVariants.{A, B, Recovery}
 use Rattle.feed_types.specs.PerLines.{on_line}
 use Rattle.feed_text.specs.Devices.{Writing, Wrote}
+use Rattle.feed_text.specs.LackTexts.{lack_texts}
 use Rattle.feed_text.specs.Lines.{best_line, venue_line}
 use Rattle.live_feed.specs.declared.run.report.Stop.{Stop}
 use Rattle.live_feed.specs.declared.run.report.Stop.TheVariants as stops
@@ -19,7 +20,6 @@ use Rattle.udp_listening.specs.UdpLines.{UdpLineState}
 use Rattle.udp_listening.specs.declared.desk.Desk.{Desk}
 use Rattle.udp_listening.specs.declared.desk.Following.{Following}
 use Rattle.udp_listening.specs.declared.desk.Following.TheVariants.{On, Off, Failed}
-use Rattle.udp_listening.specs.declared.lack.Lack.{Lack}
 use Rattle.command_words.specs.declared.listen_settings.ListenSettings.{ListenSettings}
 use Rattle.udp_listening.specs.declared.listening.ListenFault.{ListenFault}
 use Rattle.udp_listening.specs.declared.listening.ListenFault.TheVariants.{NoMemory, Unsettled}
@@ -160,20 +160,6 @@ read_out_tail Recovery = codes " R ended by --datagrams\n"
 -- a line has read as many datagrams as it may
 abbrev pub read_out_texts : ℕ × LineId → List (List ℕ)
 read_out_texts line = line_texts line.0 (read_out_tail line.1)
-
-abbrev pub messages_text : ℕ → List ℕ
-messages_text count = if count == 1 then codes " message from " else codes " messages from "
-
--- what a venue lacks: its number, then how many messages, and the first of them
-abbrev pub lacking_texts : ℕ → List (List ℕ)
-lacking_texts venue = codes "nbbo: venue " ∷ decimal venue ∷ codes " lacks " ∷ []
-
-abbrev pub missing_texts : ℕ → ℕ → List (List ℕ)
-missing_texts count number =
-    decimal count ∷ messages_text count ∷ decimal number ∷ codes "\n" ∷ []
-
-abbrev pub lack_texts : Lack → List (List ℕ)
-lack_texts lack = lacking_texts lack.venue ++ missing_texts lack.count lack.number
 
 abbrev pub stop_text : Stop → List ℕ
 stop_text stops.JournalFull = codes "nbbo: journal full\n"

@@ -3,9 +3,10 @@ ghost use Rattle.std.specs.Prelude.{◌≡◌, IfOk};
 
 use crate::attendant::Attendant;
 use crate::ended_lines::{EndedLines, part_lines};
-use crate::lack::{Lack, lacks_in};
+use crate::lack::lacks_in;
 use crate::listening::ListenFault;
 use crate::udp_line::UdpLine;
+use feed_text::Lack;
 use feed_types::Anything;
 use live_feed::{FeedName, LineEnd, Stop, SubscriberLog, VenueStatus};
 use std::alloc::Global;

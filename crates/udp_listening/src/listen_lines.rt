@@ -1,12 +1,12 @@
 //! What `nbbo listen` says on standard error.
-ghost use Rattle.std.specs.Prelude.{◌≡◌, ◌++◌, flat_map, decimal};
+ghost use Rattle.std.specs.Prelude.{◌≡◌, ◌++◌, flat_map};
 ghost use Rattle.feed_text.specs.Devices.{Writing};
-ghost use Rattle.feed_text.specs.StandardError.{Says, SaysEach};
-ghost use Rattle.udp_listening.specs.Listening.{failed_tail, failed_texts, lack_texts, lacking_texts, line_texts, messages_text, missing_texts, read_out_tail, read_out_texts, report_texts, stop_text, stop_texts};
+ghost use Rattle.feed_text.specs.LackTexts.{lack_texts};
+ghost use Rattle.feed_text.specs.StandardError.{SaysEach};
+ghost use Rattle.udp_listening.specs.Listening.{failed_tail, failed_texts, line_texts, read_out_tail, read_out_texts, report_texts, stop_text, stop_texts};
 
-use crate::lack::Lack;
 use crate::listening::ListenReport;
-use feed_text::{TextOut, write_number, write_stderr};
+use feed_text::{TextOut, write_lacks, write_number, write_stderr};
 use feed_types::{LineId, VenueId};
 use live_feed::Stop;
 
@@ -62,57 +62,6 @@ fn write_each_read_out<E: TextOut>(read_out: &[(VenueId, LineId)], errors: &mut 
     }
 }
 
-/// What stands between a count of messages and the first of them.
-fn messages(count: u16) -> &'static str
-    ensures { result.now ≡ messages_text count }
-{
-    if count == 1 {
-        " message from "
-    } else {
-        " messages from "
-    }
-}
-
-/// Writes which venue lacks something.
-fn write_lacking<E: TextOut>(venue: VenueId, errors: &mut E)
-    ensures { SaysEach (record { adds = E.adds; failures = E.failures })
-        (lacking_texts venue) errors.old errors.new }
-{
-    write_stderr("nbbo: venue ", errors);
-    write_number(venue.index() as u64, errors);
-    write_stderr(" lacks ", errors);
-}
-
-/// Writes how many messages are missing, and then the first of them.
-fn write_missing<E: TextOut>(count: u16, number: u64, errors: &mut E)
-    ensures { SaysEach (record { adds = E.adds; failures = E.failures })
-        (missing_texts count number) errors.old errors.new }
-{
-    write_number(count as u64, errors);
-    write_stderr(messages(count), errors);
-    write_number(number, errors);
-    write_stderr("\n", errors);
-}
-
-/// Writes what a venue lacks.
-fn write_lack<E: TextOut>(lack: &Lack, errors: &mut E)
-    ensures { SaysEach (record { adds = E.adds; failures = E.failures })
-        (lack_texts lack.now) errors.old errors.new }
-{
-    write_lacking(lack.venue, errors);
-    write_missing(lack.count, lack.number, errors);
-}
-
-/// Writes what venues lack.
-fn write_each_lack<E: TextOut>(lacking: &[Lack], errors: &mut E)
-    ensures { SaysEach (record { adds = E.adds; failures = E.failures })
-        (flat_map lack_texts lacking.now) errors.old errors.new }
-{
-    for lack in lacking {
-        write_lack(lack, errors);
-    }
-}
-
 /// The line for an early stop.
 fn stop_line(stop: Stop) -> &'static str
     ensures { result.now ≡ stop_text stop }
@@ -151,7 +100,7 @@ fn write_gaps<E: TextOut>(report: &ListenReport, errors: &mut E)
         ++ flat_map lack_texts report.now.lacking.items) errors.old errors.new }
 {
     write_each_read_out(report.read_out.as_slice(), errors);
-    write_each_lack(report.lacking.as_slice(), errors);
+    write_lacks(report.lacking.as_slice(), errors);
 }
 
 /// Writes which lines failed, why the run stopped early, if it did, which lines have read as many datagrams as they

@@ -2,8 +2,9 @@ use Rattle.std.proofs.Common.{ℕ, List, flat_map, subst}
 use Rattle.feed_text.specs.Devices.{Writing}
 use Rattle.feed_text.specs.StandardError.{SaysEach}
 use Rattle.feed_types.specs.declared.line.LineId.{LineId}
-use Rattle.udp_listening.specs.Listening.{lack_texts, read_out_texts}
-use Rattle.udp_listening.specs.declared.lack.Lack.{Lack}
+use Rattle.feed_text.specs.LackTexts.{lack_texts}
+use Rattle.feed_text.specs.declared.lack.Lack.{Lack}
+use Rattle.udp_listening.specs.Listening.{read_out_texts}
 use Rattle.feed_text.specs.laws.SaidTexts.{says_each}
 use Rattle.udp_listening.proofs.listen_lines.write_gaps.Goals as goal
 
@@ -11,8 +12,8 @@ pub returns : goal.returns
 returns g c =
     let w : Writing g.row.E.Denot = record { adds = g.E.TextOut.adds; failures = g.E.TextOut.failures } in
     says_each w (flat_map read_out_texts c.args.report.now.read_out.items) (flat_map lack_texts c.args.report.now.lacking.items)
-    c.args.errors.now c.write_each_read_out.new.errors c.write_each_lack.new.errors
+    c.args.errors.now c.write_each_read_out.new.errors c.write_lacks.new.errors
     (subst (λ (lines : List (ℕ × LineId)). SaysEach w (flat_map read_out_texts lines) c.args.errors.now c.write_each_read_out.new.errors)
     c.as_slice.ensures.value c.write_each_read_out.ensures)
-    (subst (λ (lacks : List Lack). SaysEach w (flat_map lack_texts lacks) c.write_each_read_out.new.errors c.write_each_lack.new.errors)
-    c.as_slice-2.ensures.value c.write_each_lack.ensures)
+    (subst (λ (lacks : List Lack). SaysEach w (flat_map lack_texts lacks) c.write_each_read_out.new.errors c.write_lacks.new.errors)
+    c.as_slice-2.ensures.value c.write_lacks.ensures)

@@ -1,6 +1,7 @@
 use Rattle.std.proofs.Common.{flat_map, ◌++◌}
 use Rattle.feed_text.specs.Devices.{Writing}
-use Rattle.udp_listening.specs.Listening.{failed_texts, lack_texts, read_out_texts, stop_texts}
+use Rattle.feed_text.specs.LackTexts.{lack_texts}
+use Rattle.udp_listening.specs.Listening.{failed_texts, read_out_texts, stop_texts}
 use Rattle.feed_text.specs.laws.SaidTexts.{says_each}
 use Rattle.udp_listening.proofs.listen_lines.write_report_lines.Goals as goal
 
