@@ -1,1 +1,2 @@
 pub mod CaptureCounts
+pub mod LacksTold

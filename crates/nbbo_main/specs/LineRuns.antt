@@ -1,5 +1,5 @@
 -- Runs of the program over packet captures.
-use Rattle.std.specs.Prelude.{◌≡◌, ◌⊎◌, ℕ, zero, suc, List, [], ◌∷◌, ◌++◌, Bool, codes, decimal, Option, Some, None, Result, Ok, Err}
+use Rattle.std.specs.Prelude.{◌≡◌, ◌⊎◌, ℕ, zero, suc, List, [], ◌∷◌, ◌++◌, Bool, codes, decimal, true, Option, Some, None, OnOk, Result, Ok, Err}
 use Rattle.clap.specs.Walk.{Text}
 use Rattle.packet_capture.specs.declared.fault.CaptureFault.{CaptureFault}
 use Rattle.packet_capture.specs.declared.fault.CaptureFault.TheVariants.{NotCapture, UnknownVersion, TooLong, BadByteOrder, BadBlockLength, LengthsDiffer, ShortBlock, UnknownInterface, FramePastBlock, OptionPastBlock, TooManyInterfaces}
@@ -7,6 +7,7 @@ use Rattle.feed_text.specs.declared.replay.ReplayConfig.{ReplayConfig}
 use Rattle.feed_text.specs.declared.fault.ReplayFault.TheVariants as replay
 use Rattle.feed_text.specs.Devices.{Reading, Writing}
 use Rattle.feed_text.specs.StandardError.{Says, SaysEach}
+use Rattle.feed_text.specs.declared.lack.Lack.{Lack}
 use Rattle.best_lines.specs.Rows.{has_times}
 use Rattle.best_lines.specs.Writers.{IsNewOver, below}
 use Rattle.best_lines.specs.declared.times_in.TimesSink.{TimesSink}
@@ -22,10 +23,12 @@ use Rattle.line_captures.specs.declared.report.LinesFault.TheVariants.{Input, Ru
 use Rattle.line_captures.specs.declared.capture_tap.CaptureTap.{CaptureTap}
 use Rattle.line_captures.specs.Conversions.{Converts}
 use Rattle.line_captures.specs.Taps.{reader_below, reading_along}
-use Rattle.replay_run.specs.LineReplays.{ReplaysLines}
+use Rattle.replay_run.specs.LineReplays.{AppendsLineLacks, ReplaysLines}
 use Rattle.command_words.specs.CommandLine.{AsksConversion, AsksLineReplay}
 use Rattle.nbbo_main.specs.Ending.{fault_text}
+use Rattle.nbbo_main.specs.Lacks.{told_lacks}
 use Rattle.nbbo_main.specs.Runs.{ClosesBests, IsConfigOf, bests_writing, hint_text}
+use Rattle.nbbo_main.specs.declared.terminals.Terminals.{Terminals}
 use Rattle.command_words.specs.declared.line_replay_settings.LineReplaySettings.{LineReplaySettings}
 
 -- ---- what is said of a packet capture on standard error
@@ -104,10 +107,10 @@ pub record TellsCapture {R E : Type 0} (telling : Writing E) (report : CaptureRe
 
 -- A packet capture was replayed onto output, as the settings say, and what was written is that of a
 -- run of the machine over the records of its lines' datagrams, of which the headline holds.
--- Standard error has the hint, and then the report.
+-- Standard error has the hint, then what venues lack, and then the report.
 pub record RunsLineReplay {R W E : Type 0}
     (reading : Reading R) (writing : Writing W) (telling : Writing E)
-    (settings : LineReplaySettings) (at_terminal : Bool)
+    (settings : LineReplaySettings) (terminals : Terminals)
     (from to : R) (before after : W) (silent told : E) (status : ℕ) : Type 0 where
   pub config : ReplayConfig
   pub is : IsConfigOf settings.replay config
@@ -115,15 +118,21 @@ pub record RunsLineReplay {R W E : Type 0}
   pub replays : ReplaysLines reading writing config settings.lines.items from report before after
   pub left : to ≡ report.input
   pub hinted : E
-  pub hint : Says telling (hint_text at_terminal) silent hinted
-  pub tells : TellsCapture telling report hinted told status
+  pub hint : Says telling (hint_text terminals.input) silent hinted
+  pub lacks : List Lack
+  pub are_lacks : OnOk report.outcome
+      (AppendsLineLacks reading config settings.lines.items from report.input [] lacks)
+  pub said : E
+  pub says_lacks : SaysEach telling (told_lacks report.outcome true lacks) hinted said
+  pub tells : TellsCapture telling report said told status
 
 -- A packet capture was replayed, read along for times, onto a writer of best lines over output, and
 -- what that had pending at the end was written. Each reading is that of the reader below. The rows
 -- have times where those of the format can. The report is that of the replay, but for its outcome.
+-- If a whole capture was read, these are what venues lack.
 pub record PassesLineBests {R W : Type 0} (reading : Reading R) (writing : Writing W)
     (settings : LineReplaySettings) (format : BestFormat)
-    (from : R) (report : CaptureReport R) (before after : W) : Type 0 where
+    (from : R) (report : CaptureReport R) (before after : W) (lacks : List Lack) : Type 0 where
   pub config : ReplayConfig
   pub is : IsConfigOf settings.replay config
   pub along : CaptureTap R TimesSink
@@ -134,6 +143,8 @@ pub record PassesLineBests {R W : Type 0} (reading : Reading R) (writing : Writi
   pub mid : BestsOut W
   pub replays : ReplaysLines (reading_along reading) (bests_writing writing) config
       settings.lines.items along seen start mid
+  pub are_lacks : OnOk seen.outcome (AppendsLineLacks (reading_along reading) config
+      settings.lines.items along seen.input [] lacks)
   pub end : BestsOut W
   pub closes : ClosesBests writing (Run replay.WriteFailed) mid end seen.outcome report.outcome
   pub position : report.position ≡ seen.position
@@ -151,35 +162,38 @@ pub record PassesNoLine {R W : Type 0} (from : R) (report : CaptureReport R) (be
 -- the best lines of a packet capture were passed on, unless memory was refused
 abbrev pub PassesLines : {R W : Type 0} (reading : Reading R) (writing : Writing W)
     (settings : LineReplaySettings) (format : BestFormat)
-    (from : R) (report : CaptureReport R) (before after : W) → Type 0
-PassesLines reading writing settings format from report before after =
-    PassesLineBests reading writing settings format from report before after
+    (from : R) (report : CaptureReport R) (before after : W) (lacks : List Lack) → Type 0
+PassesLines reading writing settings format from report before after lacks =
+    PassesLineBests reading writing settings format from report before after lacks
     ⊎ PassesNoLine from report before after
 
 -- A packet capture was replayed, and its best lines alone are on output.
 pub record RunsLineBests {R W E : Type 0}
     (reading : Reading R) (writing : Writing W) (telling : Writing E)
-    (settings : LineReplaySettings) (format : BestFormat) (at_terminal : Bool)
+    (settings : LineReplaySettings) (format : BestFormat) (terminals : Terminals)
     (from to : R) (before after : W) (silent told : E) (status : ℕ) : Type 0 where
   pub report : CaptureReport R
-  pub passes : PassesLines reading writing settings format from report before after
+  pub lacks : List Lack
+  pub passes : PassesLines reading writing settings format from report before after lacks
   pub left : to ≡ report.input
   pub hinted : E
-  pub hint : Says telling (hint_text at_terminal) silent hinted
-  pub tells : TellsCapture telling report hinted told status
+  pub hint : Says telling (hint_text terminals.input) silent hinted
+  pub said : E
+  pub says_lacks : SaysEach telling (told_lacks report.outcome true lacks) hinted said
+  pub tells : TellsCapture telling report said told status
 
 -- a replay of a packet capture that prints the best lines alone, or all lines
 abbrev pub RunsLinesBy : {R W E : Type 0}
     (reading : Reading R) (writing : Writing W) (telling : Writing E)
-    (bests : Option BestFormat) (settings : LineReplaySettings) (at_terminal : Bool)
+    (bests : Option BestFormat) (settings : LineReplaySettings) (terminals : Terminals)
     (from to : R) (before after : W) (silent told : E) (status : ℕ) → Type 0
-RunsLinesBy reading writing telling None settings at_terminal from to before after
+RunsLinesBy reading writing telling None settings terminals from to before after
     silent told status =
-    RunsLineReplay reading writing telling settings at_terminal
+    RunsLineReplay reading writing telling settings terminals
     from to before after silent told status
-RunsLinesBy reading writing telling (Some format) settings at_terminal from to before after
+RunsLinesBy reading writing telling (Some format) settings terminals from to before after
     silent told status =
-    RunsLineBests reading writing telling settings format at_terminal
+    RunsLineBests reading writing telling settings format terminals
     from to before after silent told status
 
 -- A packet capture was converted onto output: what was written is the bytes of the records of its
@@ -198,11 +212,11 @@ pub record RunsConversion {R W E : Type 0}
 -- The words ask for a replay of a packet capture, and it was run.
 pub record ReplayedLines {R W E : Type 0}
     (reading : Reading R) (writing : Writing W) (telling : Writing E)
-    (words : List Text) (at_terminal : Bool)
+    (words : List Text) (terminals : Terminals)
     (from to : R) (before after : W) (silent told : E) (status : ℕ) : Type 0 where
   pub settings : LineReplaySettings
   pub asked : AsksLineReplay words settings
-  pub runs : RunsLinesBy reading writing telling settings.replay.bests settings at_terminal
+  pub runs : RunsLinesBy reading writing telling settings.replay.bests settings terminals
       from to before after silent told status
 
 -- The words ask to convert a packet capture, and it was converted.

@@ -3,20 +3,24 @@
 --
 -- Standard input, output and error are seen by the members of the traits CaptureIn and TextOut
 -- (Reading, Writing).
-use Rattle.std.specs.Prelude.{◌≡◌, ◌≢◌, ◌⊎◌, ℕ, ◌+◌, List, [], Bool, false, codes, if◌then◌else◌, Option, Some, None, Result, Err}
+use Rattle.std.specs.Prelude.{◌≡◌, ◌≢◌, ◌⊎◌, ℕ, ◌+◌, List, [], Bool, false, codes, if◌then◌else◌, Option, Some, None, OnOk, Result, Err}
 use Rattle.clap.specs.Walk.{Text}
 use Rattle.feed_text.specs.declared.fault.ReplayFault.{ReplayFault}
 use Rattle.feed_text.specs.declared.fault.ReplayFault.TheVariants.{NoMemory, WriteFailed}
 use Rattle.feed_text.specs.declared.replay.ReplayConfig.{ReplayConfig}
 use Rattle.feed_text.specs.Devices.{Reading, Writing, Wrote}
 use Rattle.feed_text.specs.Replays.{Replays, AnswersReplay}
-use Rattle.feed_text.specs.StandardError.{Says}
+use Rattle.feed_text.specs.StandardError.{Says, SaysEach}
+use Rattle.feed_text.specs.declared.lack.Lack.{Lack}
+use Rattle.feed_text.specs.Lacks.{AppendsLacks}
 use Rattle.best_lines.specs.Writers.{AddsBests, IsNewOver, PassedOn, below, pending_of}
 use Rattle.best_lines.specs.declared.bests_out.BestsOut.{BestsOut}
 use Rattle.feed_text.specs.declared.formats.BestFormat.{BestFormat}
 use Rattle.replay_run.specs.Printed.{texts_of_run}
 use Rattle.command_words.specs.CommandLine.{Asks, AsksReplay, IsRefused, refusal_status, refusal_text}
 use Rattle.nbbo_main.specs.Ending.{ending_status, ending_text}
+use Rattle.nbbo_main.specs.Lacks.{tells_lacks, told_lacks}
+use Rattle.nbbo_main.specs.declared.terminals.Terminals.{Terminals}
 use Rattle.command_words.specs.declared.refusal.Refusal.{Refusal}
 use Rattle.command_words.specs.declared.listen_settings.ListenSettings.{ListenSettings}
 use Rattle.command_words.specs.declared.replay_settings.ReplaySettings.{ReplaySettings}
@@ -36,14 +40,16 @@ pub record IsConfigOf (settings : ReplaySettings) (config : ReplayConfig) : Type
   pub window : config.window ≡ settings.feed.window
   pub journal : config.journal ≡ settings.feed.journal
   pub gaps : config.gaps ≡ settings.gaps
+  pub skips : config.skips ≡ settings.skips
   pub turns : config.turns ≡ 1000000000
 
 -- Input was replayed onto output, as the settings say, and what was written is that of a run of the
 -- machine over the records that were read, of which the headline holds. Standard error has the
--- hint, and then the line of the replay's outcome; the status is that of the outcome.
+-- hint, then what venues lack, if that is told, and then the line of the replay's outcome; the
+-- status is that of the outcome.
 pub record RunsReplay {R W E : Type 0}
     (reading : Reading R) (writing : Writing W) (telling : Writing E)
-    (settings : ReplaySettings) (at_terminal : Bool)
+    (settings : ReplaySettings) (terminals : Terminals)
     (from to : R) (before after : W) (silent told : E) (status : ℕ) : Type 0 where
   pub config : ReplayConfig
   pub is : IsConfigOf settings config
@@ -51,8 +57,13 @@ pub record RunsReplay {R W E : Type 0}
   pub replays : Replays reading writing config from to before after outcome
   pub run : AnswersReplay reading writing config (texts_of_run config) from to before after outcome
   pub hinted : E
-  pub hint : Says telling (hint_text at_terminal) silent hinted
-  pub line : Says telling (ending_text outcome) hinted told
+  pub hint : Says telling (hint_text terminals.input) silent hinted
+  pub lacks : List Lack
+  pub are_lacks : OnOk outcome (AppendsLacks reading config from to [] lacks)
+  pub said : E
+  pub says_lacks : SaysEach telling
+      (told_lacks outcome (tells_lacks settings terminals) lacks) hinted said
+  pub line : Says telling (ending_text outcome) said told
   pub ends : status ≡ ending_status outcome
 
 -- ---- the best lines alone
@@ -85,10 +96,10 @@ ClosesBests writing failed from to seen outcome =
     × (writing.failures (below to) ≡ writing.failures (below from) + 1))
 
 -- Input was replayed onto a writer of best lines over output, of rows without times, and what that
--- had pending at the end was written.
+-- had pending at the end was written. If a whole capture was read, these are what venues lack.
 pub record PassesBests {R W : Type 0} (reading : Reading R) (writing : Writing W)
     (config : ReplayConfig) (format : BestFormat) (from to : R) (before after : W)
-    (outcome : Result (Unit {0}) ReplayFault) : Type 0 where
+    (outcome : Result (Unit {0}) ReplayFault) (lacks : List Lack) : Type 0 where
   pub start : BestsOut W
   pub new : IsNewOver before format false start
   pub seen : Result (Unit {0}) ReplayFault
@@ -96,6 +107,7 @@ pub record PassesBests {R W : Type 0} (reading : Reading R) (writing : Writing W
   pub replays : Replays reading (bests_writing writing) config from to start mid seen
   pub run : AnswersReplay reading (bests_writing writing) config (texts_of_run config)
       from to start mid seen
+  pub are_lacks : OnOk seen (AppendsLacks reading config from to [] lacks)
   pub end : BestsOut W
   pub closes : ClosesBests writing WriteFailed mid end seen outcome
   pub output : after ≡ below end
@@ -108,31 +120,35 @@ pub record PassesNothing {R W : Type 0} (from to : R) (before after : W)
   pub unwritten : after ≡ before
 
 -- Input was replayed, and its best lines alone are on output. Standard error and the status are
--- those of the outcome, as where all lines are printed.
+-- those of what venues lack and of the outcome, as where all lines are printed.
 pub record RunsBests {R W E : Type 0}
     (reading : Reading R) (writing : Writing W) (telling : Writing E)
-    (settings : ReplaySettings) (format : BestFormat) (at_terminal : Bool)
+    (settings : ReplaySettings) (format : BestFormat) (terminals : Terminals)
     (from to : R) (before after : W) (silent told : E) (status : ℕ) : Type 0 where
   pub config : ReplayConfig
   pub is : IsConfigOf settings config
   pub outcome : Result (Unit {0}) ReplayFault
-  pub passes : PassesBests reading writing config format from to before after outcome
+  pub lacks : List Lack
+  pub passes : PassesBests reading writing config format from to before after outcome lacks
       ⊎ PassesNothing from to before after outcome
   pub hinted : E
-  pub hint : Says telling (hint_text at_terminal) silent hinted
-  pub line : Says telling (ending_text outcome) hinted told
+  pub hint : Says telling (hint_text terminals.input) silent hinted
+  pub said : E
+  pub says_lacks : SaysEach telling
+      (told_lacks outcome (tells_lacks settings terminals) lacks) hinted said
+  pub line : Says telling (ending_text outcome) said told
   pub ends : status ≡ ending_status outcome
 
 -- a replay that prints the best lines alone, or all lines
 abbrev pub RunsBy : {R W E : Type 0}
     (reading : Reading R) (writing : Writing W) (telling : Writing E)
-    (bests : Option BestFormat) (settings : ReplaySettings) (at_terminal : Bool)
+    (bests : Option BestFormat) (settings : ReplaySettings) (terminals : Terminals)
     (from to : R) (before after : W) (silent told : E) (status : ℕ) → Type 0
-RunsBy reading writing telling None settings at_terminal from to before after silent told status =
-    RunsReplay reading writing telling settings at_terminal from to before after silent told status
-RunsBy reading writing telling (Some format) settings at_terminal from to before after
+RunsBy reading writing telling None settings terminals from to before after silent told status =
+    RunsReplay reading writing telling settings terminals from to before after silent told status
+RunsBy reading writing telling (Some format) settings terminals from to before after
     silent told status =
-    RunsBests reading writing telling settings format at_terminal
+    RunsBests reading writing telling settings format terminals
     from to before after silent told status
 
 -- ---- refusals, and the whole
@@ -165,11 +181,11 @@ pub record TellsRefusal {W E : Type 0} (writing : Writing W) (telling : Writing 
 -- The words ask for a replay, and it was run.
 pub record Replayed {R W E : Type 0}
     (reading : Reading R) (writing : Writing W) (telling : Writing E)
-    (words : List Text) (at_terminal : Bool)
+    (words : List Text) (terminals : Terminals)
     (from to : R) (before after : W) (silent told : E) (status : ℕ) : Type 0 where
   pub settings : ReplaySettings
   pub asked : AsksReplay words settings
-  pub runs : RunsBy reading writing telling settings.bests settings at_terminal
+  pub runs : RunsBy reading writing telling settings.bests settings terminals
       from to before after silent told status
 
 -- The words are refused, and nothing was read.
@@ -182,10 +198,10 @@ pub record Refused {R W E : Type 0} (writing : Writing W) (telling : Writing E) 
 
 -- The result of a run: the last argument is the status of the program.
 abbrev pub Runs : {R W E : Type 0} (reading : Reading R) (writing : Writing W) (telling : Writing E)
-    (words : List Text) (at_terminal : Bool)
+    (words : List Text) (terminals : Terminals)
     (from to : R) (before after : W) (silent told : E) (status : ℕ) → Type 0
-Runs reading writing telling words at_terminal from to before after silent told status =
-    Replayed reading writing telling words at_terminal from to before after silent told status
+Runs reading writing telling words terminals from to before after silent told status =
+    Replayed reading writing telling words terminals from to before after silent told status
     ⊎ Refused writing telling words from to before after silent told status
 
 -- The words ask to listen, and nothing was read or written.

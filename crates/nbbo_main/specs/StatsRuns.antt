@@ -1,6 +1,6 @@
 -- Runs of the program that print the statistics of a capture: a replay writes its lines to a writer
 -- that counts what they report, and then the counts are on output.
-use Rattle.std.specs.Prelude.{◌≡◌, ◌⊎◌, ℕ, ◌+◌, List, [], Bool, Result, Ok, Err}
+use Rattle.std.specs.Prelude.{◌≡◌, ◌⊎◌, ℕ, ◌+◌, List, [], OnOk, Result, Ok, Err, true}
 use Rattle.clap.specs.Walk.{Text}
 use Rattle.feed_text.specs.declared.fault.ReplayFault.{ReplayFault}
 use Rattle.feed_text.specs.declared.fault.ReplayFault.TheVariants.{ReadFailed, WriteFailed, BadRecord, ShortRecord, TooManyTurns, JournalFull, NoMemory}
@@ -8,7 +8,9 @@ use Rattle.feed_text.specs.declared.replay.ReplayConfig.{ReplayConfig}
 use Rattle.feed_text.specs.Devices.{Reading, Writing, Wrote}
 use Rattle.feed_text.specs.Capture.{CaptureRecord}
 use Rattle.feed_text.specs.Replays.{Replays, AnswersReplay, TextFacts, WroteAll, venues_in}
-use Rattle.feed_text.specs.StandardError.{Says}
+use Rattle.feed_text.specs.StandardError.{Says, SaysEach}
+use Rattle.feed_text.specs.declared.lack.Lack.{Lack}
+use Rattle.feed_text.specs.Lacks.{AppendsLacks}
 use Rattle.capture_stats.specs.Stats.{Counted, IsCountOf}
 use Rattle.capture_stats.specs.Texts.{text_of_stats}
 use Rattle.capture_stats.specs.Writers.{AddsStats, IsNewFor}
@@ -21,12 +23,14 @@ use Rattle.line_captures.specs.declared.captured_line.CapturedLine.{CapturedLine
 use Rattle.line_captures.specs.declared.report.CaptureReport.{CaptureReport}
 use Rattle.line_captures.specs.declared.report.LinesFault.{LinesFault}
 use Rattle.line_captures.specs.declared.report.LinesFault.TheVariants.{Run}
-use Rattle.replay_run.specs.LineReplays.{ReplaysLines, WroteCaptureText}
+use Rattle.replay_run.specs.LineReplays.{AppendsLineLacks, ReplaysLines, WroteCaptureText}
 use Rattle.replay_run.specs.Printed.{IsTextOfRun, texts_of_run}
 use Rattle.command_words.specs.CommandLine.{AsksStats}
 use Rattle.nbbo_main.specs.Ending.{ending_status, ending_text}
+use Rattle.nbbo_main.specs.Lacks.{told_lacks}
 use Rattle.nbbo_main.specs.LineRuns.{PassesNoLine, TellsCapture}
 use Rattle.nbbo_main.specs.Runs.{IsConfigOf, PassesNothing, hint_text}
+use Rattle.nbbo_main.specs.declared.terminals.Terminals.{Terminals}
 use Rattle.command_words.specs.declared.line_replay_settings.LineReplaySettings.{LineReplaySettings}
 use Rattle.command_words.specs.declared.replay_settings.ReplaySettings.{ReplaySettings}
 use Rattle.command_words.specs.declared.stats_settings.StatsInput.{StatsInput}
@@ -100,16 +104,18 @@ counts_texts config format =
 
 -- Input was replayed onto a new writer that counts, and then the counts were printed: those of the
 -- text that the replay wrote. So where nothing went wrong a whole capture was read, and the counts
--- of its text were written, and nothing else.
+-- of its text were written, and nothing else. If a whole capture was read, these are what venues
+-- lack.
 pub record PrintsCounts {R W : Type 0} (reading : Reading R) (writing : Writing W)
     (config : ReplayConfig) (format : StatsFormat) (from to : R) (before after : W)
-    (outcome : Result (Unit {0}) ReplayFault) : Type 0 where
+    (outcome : Result (Unit {0}) ReplayFault) (lacks : List Lack) : Type 0 where
   pub start : StatsOut
   pub new : IsNewFor (venues_in config) start
   pub seen : Result (Unit {0}) ReplayFault
   pub mid : StatsOut
   pub replays : Replays reading stats_writing config from to start mid seen
   pub run : AnswersReplay reading stats_writing config (texts_of_run config) from to start mid seen
+  pub are_lacks : OnOk seen (AppendsLacks reading config from to [] lacks)
   pub printed : Result (Unit {0}) ReplayFault
   pub prints : PrintsStats writing mid format [] before after printed
   pub ends : outcome ≡ ended_by seen printed
@@ -118,27 +124,30 @@ pub record PrintsCounts {R W : Type 0} (reading : Reading R) (writing : Writing 
       from to before after
 
 -- Input was replayed, and the counts of its lines alone are on output, up to a fault too. Standard
--- error and the status are those of the outcome, as of a replay.
+-- error has what venues lack, and then, as the status, what is due to the outcome.
 pub record RunsOwnStats {R W E : Type 0}
     (reading : Reading R) (writing : Writing W) (telling : Writing E)
-    (settings : ReplaySettings) (format : StatsFormat) (at_terminal : Bool)
+    (settings : ReplaySettings) (format : StatsFormat) (terminals : Terminals)
     (from to : R) (before after : W) (silent told : E) (status : ℕ) : Type 0 where
   pub config : ReplayConfig
   pub is : IsConfigOf settings config
   pub outcome : Result (Unit {0}) ReplayFault
-  pub counts : PrintsCounts reading writing config format from to before after outcome
+  pub lacks : List Lack
+  pub counts : PrintsCounts reading writing config format from to before after outcome lacks
       ⊎ PassesNothing from to before after outcome
   pub hinted : E
-  pub hint : Says telling (hint_text at_terminal) silent hinted
-  pub line : Says telling (ending_text outcome) hinted told
+  pub hint : Says telling (hint_text terminals.input) silent hinted
+  pub said : E
+  pub says_lacks : SaysEach telling (told_lacks outcome true lacks) hinted said
+  pub line : Says telling (ending_text outcome) said told
   pub ends : status ≡ ending_status outcome
 
 -- A packet capture, which was read along, was replayed onto a new writer that counts, and then the
 -- counts were printed. The report is that of the replay, but for its outcome, and of the reader
--- below.
+-- below. If a whole capture was read, these are what venues lack.
 pub record PrintsLineCounts {R W : Type 0} (reading : Reading R) (writing : Writing W)
     (config : ReplayConfig) (lines : List CapturedLine) (format : StatsFormat)
-    (from : R) (report : CaptureReport R) (before after : W) : Type 0 where
+    (from : R) (report : CaptureReport R) (before after : W) (lacks : List Lack) : Type 0 where
   pub start : StatsOut
   pub new : IsNewFor (venues_in config) start
   pub along : CaptureTap R CaptureTiming
@@ -146,6 +155,8 @@ pub record PrintsLineCounts {R W : Type 0} (reading : Reading R) (writing : Writ
   pub seen : CaptureReport (CaptureTap R CaptureTiming)
   pub mid : StatsOut
   pub replays : ReplaysLines (reading_along reading) stats_writing config lines along seen start mid
+  pub are_lacks : OnOk seen.outcome
+      (AppendsLineLacks (reading_along reading) config lines along seen.input [] lacks)
   pub printed : Result (Unit {0}) ReplayFault
   pub prints : PrintsTimedStats writing mid format before after printed
   pub ends : report.outcome ≡ lines_ended_by seen.outcome printed
@@ -159,39 +170,42 @@ pub record PrintsLineCounts {R W : Type 0} (reading : Reading R) (writing : Writ
 -- A packet capture was replayed, and the counts of its lines alone are on output.
 pub record RunsLineStats {R W E : Type 0}
     (reading : Reading R) (writing : Writing W) (telling : Writing E)
-    (settings : LineReplaySettings) (format : StatsFormat) (at_terminal : Bool)
+    (settings : LineReplaySettings) (format : StatsFormat) (terminals : Terminals)
     (from to : R) (before after : W) (silent told : E) (status : ℕ) : Type 0 where
   pub config : ReplayConfig
   pub is : IsConfigOf settings.replay config
   pub report : CaptureReport R
+  pub lacks : List Lack
   pub counts : PrintsLineCounts reading writing config settings.lines.items format
-      from report before after
+      from report before after lacks
       ⊎ PassesNoLine from report before after
   pub left : to ≡ report.input
   pub hinted : E
-  pub hint : Says telling (hint_text at_terminal) silent hinted
-  pub tells : TellsCapture telling report hinted told status
+  pub hint : Says telling (hint_text terminals.input) silent hinted
+  pub said : E
+  pub says_lacks : SaysEach telling (told_lacks report.outcome true lacks) hinted said
+  pub tells : TellsCapture telling report said told status
 
 -- the statistics of a capture of the project's own, or of a packet capture
 abbrev pub RunsStats : {R W E : Type 0}
     (reading : Reading R) (writing : Writing W) (telling : Writing E)
-    (input : StatsInput) (format : StatsFormat) (at_terminal : Bool)
+    (input : StatsInput) (format : StatsFormat) (terminals : Terminals)
     (from to : R) (before after : W) (silent told : E) (status : ℕ) → Type 0
-RunsStats reading writing telling (Own settings) format at_terminal
+RunsStats reading writing telling (Own settings) format terminals
     from to before after silent told status =
-    RunsOwnStats reading writing telling settings format at_terminal
+    RunsOwnStats reading writing telling settings format terminals
     from to before after silent told status
-RunsStats reading writing telling (Packets settings) format at_terminal
+RunsStats reading writing telling (Packets settings) format terminals
     from to before after silent told status =
-    RunsLineStats reading writing telling settings format at_terminal
+    RunsLineStats reading writing telling settings format terminals
     from to before after silent told status
 
 -- The words ask for statistics, and they were printed.
 pub record PrintedStats {R W E : Type 0}
     (reading : Reading R) (writing : Writing W) (telling : Writing E)
-    (words : List Text) (at_terminal : Bool)
+    (words : List Text) (terminals : Terminals)
     (from to : R) (before after : W) (silent told : E) (status : ℕ) : Type 0 where
   pub settings : StatsSettings
   pub asked : AsksStats words settings
-  pub runs : RunsStats reading writing telling settings.input settings.format at_terminal
+  pub runs : RunsStats reading writing telling settings.input settings.format terminals
       from to before after silent told status

@@ -1,5 +1,5 @@
 //! Runs of the program that print all lines, or the best ones alone.
-ghost use Rattle.std.specs.Prelude.{◌≡◌, ◌≢◌, Err, IfErr, IfOk, is_some, true, false};
+ghost use Rattle.std.specs.Prelude.{◌≡◌, ◌≢◌, [], Err, IfErr, IfOk, is_some, true, false};
 ghost use Rattle.best_lines.specs.Rows.{has_times};
 ghost use Rattle.best_lines.specs.Writers.{IsNewOver};
 ghost use Rattle.line_captures.specs.Taps.{reader_below};
@@ -7,12 +7,14 @@ ghost use Rattle.nbbo_main.specs.LineRuns.{PassesLines, RunsLineBests, RunsLines
 ghost use Rattle.nbbo_main.specs.Runs.{ClosesBests, RunsBests, RunsBy};
 
 use crate::ending::ending;
+use crate::lacks::{tell_lacks, tells_lacks};
 use crate::line_runs::{EndedRun, run_line_replay, tell_capture};
 use crate::run::{config_of, hint, run_replay};
+use crate::terminals::Terminals;
 use best_lines::{BestsOut, FrameTimes, TimesIn, has_times, tap_times};
 use command_words::{LineReplaySettings, ReplaySettings};
 use feed_text::replay::ReplayConfig;
-use feed_text::{BestFormat, CaptureIn, ReplayFault, TextOut, write_stderr};
+use feed_text::{BestFormat, CaptureIn, Lack, ReplayFault, TextOut, write_stderr};
 use line_captures::{CaptureReport, CapturedLine, LinesFault};
 use replay_run::{replay, replay_lines};
 use std::alloc::{AllocError, Global};
@@ -45,7 +47,7 @@ fn run_bests<R: CaptureIn, W: TextOut, E: TextOut>(
     alloc: Global,
     settings: &ReplaySettings,
     format: BestFormat,
-    at_terminal: bool,
+    terminals: Terminals,
     input: &mut R,
     output: W,
     errors: &mut E,
@@ -54,10 +56,10 @@ fn run_bests<R: CaptureIn, W: TextOut, E: TextOut>(
         (record { gives = R.gives; ends = R.ends; failures = R.failures; fails = R.fails })
         (record { adds = W.adds; failures = W.failures })
         (record { adds = E.adds; failures = E.failures })
-        settings.now format at_terminal
+        settings.now format terminals
         input.old input.new output result.1 errors.old errors.new result.0 }
 {
-    write_stderr(hint(at_terminal), errors);
+    write_stderr(hint(terminals.input), errors);
     let config = config_of(settings);
     let mut bests = match BestsOut::new(alloc, output, format) {
         Ok(bests) => bests,
@@ -67,9 +69,12 @@ fn run_bests<R: CaptureIn, W: TextOut, E: TextOut>(
             return (status, output);
         }
     };
-    let seen = replay(alloc, &config, input, &mut bests);
+    let mut lacks = Vec::new(alloc);
+    let seen = replay(alloc, &config, input, &mut bests, &mut lacks);
     let has_failed = matches!(seen, Err(ReplayFault::WriteFailed));
     let outcome = close_bests(seen, has_failed, ReplayFault::WriteFailed, &mut bests);
+    let is_told = tells_lacks(settings, terminals);
+    tell_lacks(&outcome, is_told, lacks.as_slice(), errors);
     let (status, line) = ending(&outcome);
     write_stderr(line, errors);
     (status, bests.into_inner())
@@ -80,7 +85,7 @@ fn run_bests<R: CaptureIn, W: TextOut, E: TextOut>(
 pub fn run_settings<R: CaptureIn, W: TextOut, E: TextOut>(
     alloc: Global,
     settings: &ReplaySettings,
-    at_terminal: bool,
+    terminals: Terminals,
     input: &mut R,
     mut output: W,
     errors: &mut E,
@@ -89,13 +94,13 @@ pub fn run_settings<R: CaptureIn, W: TextOut, E: TextOut>(
         (record { gives = R.gives; ends = R.ends; failures = R.failures; fails = R.fails })
         (record { adds = W.adds; failures = W.failures })
         (record { adds = E.adds; failures = E.failures })
-        settings.now.bests settings.now at_terminal
+        settings.now.bests settings.now terminals
         input.old input.new output result.1 errors.old errors.new result.0 }
 {
     match settings.bests {
-        Some(format) => run_bests(alloc, settings, format, at_terminal, input, output, errors),
+        Some(format) => run_bests(alloc, settings, format, terminals, input, output, errors),
         None => {
-            let status = run_replay(alloc, settings, at_terminal, input, &mut output, errors);
+            let status = run_replay(alloc, settings, terminals, input, &mut output, errors);
             (status, output)
         }
     }
@@ -144,18 +149,20 @@ fn timed_run<'a, R, W>(
 }
 
 /// Replays the packet capture that the input is, and passes on the best lines alone to the output.
-/// Returns the output beside the report.
+/// Returns the output beside the report. What venues lack at the end is appended to `lacks`.
 fn pass_line_bests<R: CaptureIn + Drop, W: TextOut>(
     alloc: Global,
     settings: &LineReplaySettings,
     format: BestFormat,
     input: R,
     output: W,
+    lacks: &mut Vec<Lack>,
 ) -> (CaptureReport<R>, W)
+    requires { lacks.old.items ≡ [] }
     ensures { PassesLines
         (record { gives = R.gives; ends = R.ends; failures = R.failures; fails = R.fails })
         (record { adds = W.adds; failures = W.failures })
-        settings.now format input result.0 output result.1 }
+        settings.now format input result.0 output result.1 lacks.new.items }
 {
     let Ok(times) = times_for(alloc, format) else {
         return (CaptureReport::without_memory(input), output);
@@ -167,7 +174,7 @@ fn pass_line_bests<R: CaptureIn + Drop, W: TextOut>(
     };
     let config = config_of(&settings.replay);
     let TimedRun { input, mut bests } = run;
-    let seen = replay_lines(alloc, &config, lines, input, &mut bests);
+    let seen = replay_lines(alloc, &config, lines, input, &mut bests, lacks);
     let failed = LinesFault::Run(ReplayFault::WriteFailed);
     let has_failed = matches!(seen.outcome, Err(LinesFault::Run(ReplayFault::WriteFailed)));
     let report = CaptureReport {
@@ -185,7 +192,7 @@ fn run_line_bests<R: CaptureIn + Drop, W: TextOut, E: TextOut>(
     alloc: Global,
     settings: &LineReplaySettings,
     format: BestFormat,
-    at_terminal: bool,
+    terminals: Terminals,
     input: R,
     output: W,
     errors: &mut E,
@@ -194,11 +201,13 @@ fn run_line_bests<R: CaptureIn + Drop, W: TextOut, E: TextOut>(
         (record { gives = R.gives; ends = R.ends; failures = R.failures; fails = R.fails })
         (record { adds = W.adds; failures = W.failures })
         (record { adds = E.adds; failures = E.failures })
-        settings.now format at_terminal
+        settings.now format terminals
         input result.0.input output result.1 errors.old errors.new result.0.status }
 {
-    write_stderr(hint(at_terminal), errors);
-    let (report, output) = pass_line_bests(alloc, settings, format, input, output);
+    write_stderr(hint(terminals.input), errors);
+    let mut lacks = Vec::new(alloc);
+    let (report, output) = pass_line_bests(alloc, settings, format, input, output, &mut lacks);
+    tell_lacks(&report.outcome, true, lacks.as_slice(), errors);
     let status = tell_capture(&report, errors);
     let input = report.input;
     (EndedRun { status, input }, output)
@@ -209,7 +218,7 @@ fn run_line_bests<R: CaptureIn + Drop, W: TextOut, E: TextOut>(
 pub fn run_lines<R: CaptureIn + Drop, W: TextOut, E: TextOut>(
     alloc: Global,
     settings: &LineReplaySettings,
-    at_terminal: bool,
+    terminals: Terminals,
     input: R,
     mut output: W,
     errors: &mut E,
@@ -218,15 +227,15 @@ pub fn run_lines<R: CaptureIn + Drop, W: TextOut, E: TextOut>(
         (record { gives = R.gives; ends = R.ends; failures = R.failures; fails = R.fails })
         (record { adds = W.adds; failures = W.failures })
         (record { adds = E.adds; failures = E.failures })
-        settings.now.replay.bests settings.now at_terminal
+        settings.now.replay.bests settings.now terminals
         input result.0.input output result.1 errors.old errors.new result.0.status }
 {
     match settings.replay.bests {
         Some(format) => {
-            run_line_bests(alloc, settings, format, at_terminal, input, output, errors)
+            run_line_bests(alloc, settings, format, terminals, input, output, errors)
         }
         None => {
-            let run = run_line_replay(alloc, settings, at_terminal, input, &mut output, errors);
+            let run = run_line_replay(alloc, settings, terminals, input, &mut output, errors);
             (run, output)
         }
     }

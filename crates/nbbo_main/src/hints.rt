@@ -71,9 +71,14 @@ fn is_file<F: Files>(files: &F, word: &str) -> bool {
     }
 }
 
+/// Whether the word is an option of `nbbo replay` or `nbbo stats` that has no value.
+fn is_flag(word: &str) -> bool {
+    word == "--gaps" || word == "--best-only" || word == "--join" || word == "--skip-gaps"
+}
+
 /// Whether a word after this one may be a symbol: an option may take it as its value.
 fn is_no_option(before: &str) -> bool {
-    !before.starts_with('-') || before == "--" || before == "--gaps" || before == "--best-only"
+    !before.starts_with('-') || before == "--" || is_flag(before)
 }
 
 /// Whether the command takes symbols and reads a capture.

@@ -5,7 +5,9 @@ ghost use Rattle.feed_text.specs.StandardError.{SaysEach};
 ghost use Rattle.nbbo_main.specs.LineRuns.{RunsConversion, RunsLineReplay, TellsCapture, capture_fault_text, capture_outcome_texts, capture_status, count_texts, input_texts, lost_texts, no_line_texts, other_texts, passed_texts};
 
 use crate::ending::fault_line;
+use crate::lacks::tell_lacks;
 use crate::run::{MAX_TURNS, config_of, hint};
+use crate::terminals::Terminals;
 use command_words::LineReplaySettings;
 use feed_text::{CaptureIn, TextOut, write_number, write_stderr};
 use line_captures::{CaptureReport, CapturedLine, InputFault, LinesFault, PassedOver, convert};
@@ -176,7 +178,7 @@ pub fn tell_capture<R, E: TextOut>(report: &CaptureReport<R>, errors: &mut E) ->
 pub fn run_line_replay<R: CaptureIn + Drop, W: TextOut, E: TextOut>(
     alloc: Global,
     settings: &LineReplaySettings,
-    at_terminal: bool,
+    terminals: Terminals,
     input: R,
     output: &mut W,
     errors: &mut E,
@@ -185,17 +187,20 @@ pub fn run_line_replay<R: CaptureIn + Drop, W: TextOut, E: TextOut>(
         (record { gives = R.gives; ends = R.ends; failures = R.failures; fails = R.fails })
         (record { adds = W.adds; failures = W.failures })
         (record { adds = E.adds; failures = E.failures })
-        settings.now at_terminal
+        settings.now terminals
         input result.input output.old output.new errors.old errors.new result.status }
 {
-    write_stderr(hint(at_terminal), errors);
+    write_stderr(hint(terminals.input), errors);
+    let mut lacks = Vec::new(alloc);
     let report = replay_lines(
         alloc,
         &config_of(&settings.replay),
         settings.lines.as_slice(),
         input,
         output,
+        &mut lacks,
     );
+    tell_lacks(&report.outcome, true, lacks.as_slice(), errors);
     let status = tell_capture(&report, errors);
     EndedRun {
         status,

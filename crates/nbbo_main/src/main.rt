@@ -1,13 +1,15 @@
 //! The program `nbbo`.
 //!
-//! `nbbo replay --sessions LIST [--window N] [--journal N] [--gaps] [--best-only [--format FORMAT]]
-//! [SYMBOL]...` reads a capture from standard input and writes its lines to standard output, or the
+//! `nbbo replay --sessions LIST [--window N] [--journal N] [--join] [--skip-gaps] [--gaps]
+//! [--best-only [--format FORMAT]] [SYMBOL]...` reads a capture from standard input and writes its lines to standard output, or the
 //! best ones alone. `feed_text` says, and proves, what a capture is and what its lines are.
 //!
-//! `nbbo stats --sessions LIST [--lines LIST] [--window N] [--format FORMAT] [SYMBOL]...` replays a capture and prints
-//! what its lines report, counted (`capture_stats`).
+//! `nbbo stats --sessions LIST [--lines LIST] [--window N] [--join] [--skip-gaps] [--format FORMAT] [SYMBOL]...` replays
+//! a capture and prints what its lines report, counted (`capture_stats`).
 //!
-//! `nbbo listen --sessions LIST --lines LIST [--request ADDR] [--window N] [--journal N]
+//! At the end of a replay standard error says what venues lack (`lacks.rt`).
+//!
+//! `nbbo listen --sessions LIST --lines LIST [--request ADDR] [--join] [--skip-after MS] [--window N] [--journal N]
 //! [--datagrams N] [--end WHICH] [--buffer BYTES] [SYMBOL]...` receives the lines of live venues by UDP, runs them as a live feed
 //! (`live_feed`), and prints what they came to once all have ended.
 //!
@@ -28,10 +30,12 @@ mod best_runs;
 mod ending;
 mod hints;
 mod kept_start;
+mod lacks;
 mod line_runs;
 mod noted_errors;
 mod run;
 mod stats_runs;
+mod terminals;
 
 use command_words::{ListenSettings, Refusal};
 use feed_text::{CaptureIn, Count, StreamIn, StreamOut, TextOut, write_stderr};
@@ -48,6 +52,7 @@ use std::sync::Wait;
 use std::sync::ledger::{Blank, Ledger};
 use std::thread::Threads;
 use std::{env, io};
+use terminals::Terminals;
 use udp_listening::{NO_MEMORY, bind_sockets, enlarge, listen_with, listening_line};
 
 /// The words of the command line, the program's name first.
@@ -125,20 +130,25 @@ fn run_words<R: CaptureIn + Drop, W: TextOut, E: TextOut>(
             return (Next::Ended(status), output);
         }
     };
-    let hints = rt.stderr().is_terminal();
-    if hints {
+    let terminals = Terminals {
+        input: rt.stdin().is_terminal(),
+        errors: rt.stderr().is_terminal(),
+    };
+    if terminals.errors {
         hint_at_file(rt, words.as_slice(), errors);
     }
-    let at_terminal = rt.stdin().is_terminal();
     let ran = run(
         rt.alloc(),
         words.as_slice(),
-        at_terminal,
+        terminals,
         input,
         output,
         errors,
     );
-    if hints && matches!(ran.next, Next::Ended(_)) && !asks_for_packets(words.as_slice()) {
+    if terminals.errors
+        && matches!(ran.next, Next::Ended(_))
+        && !asks_for_packets(words.as_slice())
+    {
         write_stderr(format_hint(ran.input.start()), errors);
     }
     (ran.next, ran.output)

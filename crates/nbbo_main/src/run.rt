@@ -6,8 +6,10 @@ ghost use Rattle.feed_text.specs.StandardError.{Says};
 
 use crate::best_runs::{run_lines, run_settings};
 use crate::ending::ending;
+use crate::lacks::{tell_lacks, tells_lacks};
 use crate::line_runs::run_conversion;
 use crate::stats_runs::run_stats;
+use crate::terminals::Terminals;
 use command_words::{ListenSettings, Refusal, ReplaySettings, Task, settings};
 use feed_text::replay::ReplayConfig;
 use feed_text::{CaptureIn, ReplayFault, TextOut, write_all, write_stderr};
@@ -47,6 +49,7 @@ pub fn config_of(settings: &ReplaySettings) -> ReplayConfig<'_>
         window: settings.feed.window,
         journal: settings.feed.journal,
         gaps: settings.gaps,
+        skips: settings.skips,
         turns: MAX_TURNS,
     }
 }
@@ -61,7 +64,7 @@ pub fn hint(at_terminal: bool) -> &'static str
 pub fn run_replay<R: CaptureIn, W: TextOut, E: TextOut>(
     alloc: Global,
     settings: &ReplaySettings,
-    at_terminal: bool,
+    terminals: Terminals,
     input: &mut R,
     output: &mut W,
     errors: &mut E,
@@ -70,11 +73,14 @@ pub fn run_replay<R: CaptureIn, W: TextOut, E: TextOut>(
         (record { gives = R.gives; ends = R.ends; failures = R.failures; fails = R.fails })
         (record { adds = W.adds; failures = W.failures })
         (record { adds = E.adds; failures = E.failures })
-        settings.now at_terminal
+        settings.now terminals
         input.old input.new output.old output.new errors.old errors.new result }
 {
-    write_stderr(hint(at_terminal), errors);
-    let outcome = replay(alloc, &config_of(settings), input, output);
+    write_stderr(hint(terminals.input), errors);
+    let mut lacks = Vec::new(alloc);
+    let outcome = replay(alloc, &config_of(settings), input, output, &mut lacks);
+    let is_told = tells_lacks(settings, terminals);
+    tell_lacks(&outcome, is_told, lacks.as_slice(), errors);
     let (status, line) = ending(&outcome);
     write_stderr(line, errors);
     status
@@ -124,7 +130,7 @@ fn ended<R, W>(status: u8, input: R, output: W) -> ProgramRun<R, W>
 pub fn run<R: CaptureIn + Drop, W: TextOut, E: TextOut>(
     alloc: Global,
     words: &[String],
-    at_terminal: bool,
+    terminals: Terminals,
     mut input: R,
     mut output: W,
     errors: &mut E,
@@ -133,33 +139,28 @@ pub fn run<R: CaptureIn + Drop, W: TextOut, E: TextOut>(
         (record { gives = R.gives; ends = R.ends; failures = R.failures; fails = R.fails })
         (record { adds = W.adds; failures = W.failures })
         (record { adds = E.adds; failures = E.failures })
-        (map (λ word. string_bytes word) words.now) at_terminal
+        (map (λ word. string_bytes word) words.now) terminals
         input result.input output result.output errors.old errors.new result.next }
 {
     match settings(alloc, words) {
         Ok(task) => match task {
             Task::Replay(settings) => {
                 let (status, output) = run_settings(
-                    alloc,
-                    &settings,
-                    at_terminal,
-                    &mut input,
-                    output,
-                    errors,
+                    alloc, &settings, terminals, &mut input, output, errors,
                 );
                 ended(status, input, output)
             }
             Task::ReplayLines(settings) => {
-                let (run, output) = run_lines(alloc, &settings, at_terminal, input, output, errors);
+                let (run, output) = run_lines(alloc, &settings, terminals, input, output, errors);
                 ended(run.status, run.input, output)
             }
             Task::Convert(lines) => {
                 let lines = lines.as_slice();
-                let run = run_conversion(alloc, lines, at_terminal, input, &mut output, errors);
+                let run = run_conversion(alloc, lines, terminals.input, input, &mut output, errors);
                 ended(run.status, run.input, output)
             }
             Task::Stats(settings) => {
-                let run = run_stats(alloc, &settings, at_terminal, input, &mut output, errors);
+                let run = run_stats(alloc, &settings, terminals, input, &mut output, errors);
                 ended(run.status, run.input, output)
             }
             Task::Listen(settings) => ProgramRun {

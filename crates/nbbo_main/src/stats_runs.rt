@@ -7,8 +7,10 @@ ghost use Rattle.line_captures.specs.Taps.{reader_below};
 ghost use Rattle.nbbo_main.specs.StatsRuns.{PrintsStats, PrintsText, PrintsTimedStats, RunsLineStats, RunsOwnStats, RunsStats, ended_by, lines_ended_by};
 
 use crate::ending::ending;
+use crate::lacks::tell_lacks;
 use crate::line_runs::{EndedRun, tell_capture};
 use crate::run::{config_of, hint};
+use crate::terminals::Terminals;
 use capture_stats::{Stats, StatsOut, stats_text};
 use capture_timing::{CaptureTiming, timing_text};
 use command_words::{LineReplaySettings, ReplaySettings, StatsInput, StatsSettings};
@@ -101,7 +103,7 @@ fn run_own_stats<R: CaptureIn, W: TextOut, E: TextOut>(
     alloc: Global,
     settings: &ReplaySettings,
     format: StatsFormat,
-    at_terminal: bool,
+    terminals: Terminals,
     input: &mut R,
     output: &mut W,
     errors: &mut E,
@@ -110,10 +112,10 @@ fn run_own_stats<R: CaptureIn, W: TextOut, E: TextOut>(
         (record { gives = R.gives; ends = R.ends; failures = R.failures; fails = R.fails })
         (record { adds = W.adds; failures = W.failures })
         (record { adds = E.adds; failures = E.failures })
-        settings.now format at_terminal
+        settings.now format terminals
         input.old input.new output.old output.new errors.old errors.new result }
 {
-    write_stderr(hint(at_terminal), errors);
+    write_stderr(hint(terminals.input), errors);
     let config = config_of(settings);
     let mut counts = match StatsOut::new(alloc, config.sessions.len()) {
         Ok(counts) => counts,
@@ -123,9 +125,11 @@ fn run_own_stats<R: CaptureIn, W: TextOut, E: TextOut>(
             return status;
         }
     };
-    let seen = replay(alloc, &config, input, &mut counts);
+    let mut lacks = Vec::new(alloc);
+    let seen = replay(alloc, &config, input, &mut counts, &mut lacks);
     let printed = print_stats(alloc, counts, format, output);
     let outcome = ended_by(seen, printed);
+    tell_lacks(&outcome, true, lacks.as_slice(), errors);
     let (status, line) = ending(&outcome);
     write_stderr(line, errors);
     status
@@ -161,7 +165,7 @@ fn run_line_stats<R: CaptureIn + Drop, W: TextOut, E: TextOut>(
     alloc: Global,
     settings: &LineReplaySettings,
     format: StatsFormat,
-    at_terminal: bool,
+    terminals: Terminals,
     input: R,
     output: &mut W,
     errors: &mut E,
@@ -170,10 +174,10 @@ fn run_line_stats<R: CaptureIn + Drop, W: TextOut, E: TextOut>(
         (record { gives = R.gives; ends = R.ends; failures = R.failures; fails = R.fails })
         (record { adds = W.adds; failures = W.failures })
         (record { adds = E.adds; failures = E.failures })
-        settings.now format at_terminal
+        settings.now format terminals
         input result.input output.old output.new errors.old errors.new result.status }
 {
-    write_stderr(hint(at_terminal), errors);
+    write_stderr(hint(terminals.input), errors);
     let config = config_of(&settings.replay);
     let lines = settings.lines.as_slice();
     let (mut counts, reader) = match make_counts(alloc, &config, lines, input) {
@@ -185,7 +189,8 @@ fn run_line_stats<R: CaptureIn + Drop, W: TextOut, E: TextOut>(
             return EndedRun { status, input };
         }
     };
-    let seen = replay_lines(alloc, &config, lines, reader, &mut counts);
+    let mut lacks = Vec::new(alloc);
+    let seen = replay_lines(alloc, &config, lines, reader, &mut counts, &mut lacks);
     let (input, timing) = seen.input.into_parts();
     let printed = print_timed_stats(alloc, counts, &timing, format, output);
     let report = CaptureReport {
@@ -194,6 +199,7 @@ fn run_line_stats<R: CaptureIn + Drop, W: TextOut, E: TextOut>(
         passed: seen.passed,
         input,
     };
+    tell_lacks(&report.outcome, true, lacks.as_slice(), errors);
     let status = tell_capture(&report, errors);
     let input = report.input;
     EndedRun { status, input }
@@ -204,7 +210,7 @@ fn run_line_stats<R: CaptureIn + Drop, W: TextOut, E: TextOut>(
 pub fn run_stats<R: CaptureIn + Drop, W: TextOut, E: TextOut>(
     alloc: Global,
     settings: &StatsSettings,
-    at_terminal: bool,
+    terminals: Terminals,
     mut input: R,
     output: &mut W,
     errors: &mut E,
@@ -213,25 +219,19 @@ pub fn run_stats<R: CaptureIn + Drop, W: TextOut, E: TextOut>(
         (record { gives = R.gives; ends = R.ends; failures = R.failures; fails = R.fails })
         (record { adds = W.adds; failures = W.failures })
         (record { adds = E.adds; failures = E.failures })
-        settings.now.input settings.now.format at_terminal
+        settings.now.input settings.now.format terminals
         input result.input output.old output.new errors.old errors.new result.status }
 {
     let format = settings.format;
     match &settings.input {
         StatsInput::Own(replay) => {
             let status = run_own_stats(
-                alloc,
-                replay,
-                format,
-                at_terminal,
-                &mut input,
-                output,
-                errors,
+                alloc, replay, format, terminals, &mut input, output, errors,
             );
             EndedRun { status, input }
         }
         StatsInput::Packets(packets) => {
-            run_line_stats(alloc, packets, format, at_terminal, input, output, errors)
+            run_line_stats(alloc, packets, format, terminals, input, output, errors)
         }
     }
 }

@@ -5,6 +5,7 @@ use Rattle.line_captures.specs.declared.captured_line.CapturedLine.{CapturedLine
 use Rattle.line_captures.specs.Taps.{reading_along}
 use Rattle.replay_run.specs.LineReplays.{ReplaysLines}
 use Rattle.nbbo_main.specs.Runs.{bests_writing}
+use Rattle.nbbo_main.proofs.LacksTold.{line_lacks_of_new}
 use Rattle.nbbo_main.proofs.best_runs.pass_line_bests.Goals as goal
 
 pub returns : goal.returns
@@ -24,7 +25,8 @@ returns g c =
       new = subst (λ (timed : Bool). IsNewOver c.args.output c.args.format timed run.bests) (c.as_ref.ensures.variant ∙ c.in-Ok.ensures) c.in-Ok-timed_run.ensures.new;
       seen = seen;
       mid = mid;
-      replays = subst (λ (lines : List CapturedLine). ReplaysLines (reading_along reading) (bests_writing writing) config lines run.input seen run.bests mid) c.as_slice-lines.ensures.value c.replay_lines-seen.ensures;
+      replays = subst (λ (lines : List CapturedLine). ReplaysLines (reading_along reading) (bests_writing writing) config lines run.input seen run.bests mid) c.as_slice-lines.ensures.value c.replay_lines-seen.ensures.replays;
+      are_lacks = line_lacks_of_new (reading_along reading) config _ _ run.input seen.input seen.outcome _ _ c.as_slice-lines.ensures.value c.requires c.replay_lines-seen.ensures.lacks;
       end = c.close_bests.new.bests;
       closes = c.close_bests.ensures;
       position = refl;

@@ -15,7 +15,7 @@ returns-in-Replay g c =
     let reading : Reading g.row.R.Denot = record { gives = g.R.CaptureIn.gives; ends = g.R.CaptureIn.ends; failures = g.R.CaptureIn.failures; fails = g.R.CaptureIn.fails } in
     let writing : Writing g.row.W.Denot = record { adds = g.W.TextOut.adds; failures = g.W.TextOut.failures } in
     let told : Writing g.row.E.Denot = record { adds = g.E.TextOut.adds; failures = g.E.TextOut.failures } in
-    let P : ProgramRun g.row.R.Denot g.row.W.Denot → Type 0 = λ run. Leads reading writing told words c.args.at_terminal c.args.input run.input c.args.output run.output c.args.errors.now c.run_settings-status.new.errors run.next in
+    let P : ProgramRun g.row.R.Denot g.row.W.Denot → Type 0 = λ run. Leads reading writing told words c.args.terminals c.args.input run.input c.args.output run.output c.args.errors.now c.run_settings-status.new.errors run.next in
     subst P (sym c.ended.ensures) (inl (inl (record {
       settings = c.in-Replay.settings;
       asked = subst (λ (task : Task). Asks words task) c.in-Replay.is c.in-Ok.ensures.ok;
@@ -28,7 +28,7 @@ returns-in-ReplayLines g c =
     let reading : Reading g.row.R.Denot = record { gives = g.R.CaptureIn.gives; ends = g.R.CaptureIn.ends; failures = g.R.CaptureIn.failures; fails = g.R.CaptureIn.fails } in
     let writing : Writing g.row.W.Denot = record { adds = g.W.TextOut.adds; failures = g.W.TextOut.failures } in
     let told : Writing g.row.E.Denot = record { adds = g.E.TextOut.adds; failures = g.E.TextOut.failures } in
-    let P : ProgramRun g.row.R.Denot g.row.W.Denot → Type 0 = λ run. Leads reading writing told words c.args.at_terminal c.args.input run.input c.args.output run.output c.args.errors.now c.run_lines-run.new.errors run.next in
+    let P : ProgramRun g.row.R.Denot g.row.W.Denot → Type 0 = λ run. Leads reading writing told words c.args.terminals c.args.input run.input c.args.output run.output c.args.errors.now c.run_lines-run.new.errors run.next in
     subst P (sym c.ended-in-ReplayLines.ensures) (inr (inl (record {
       settings = c.in-ReplayLines.settings;
       asked = subst (λ (task : Task). Asks words task) c.in-ReplayLines.is c.in-Ok.ensures.ok;
@@ -42,11 +42,11 @@ returns-in-Convert g c =
     let writing : Writing g.row.W.Denot = record { adds = g.W.TextOut.adds; failures = g.W.TextOut.failures } in
     let told : Writing g.row.E.Denot = record { adds = g.E.TextOut.adds; failures = g.E.TextOut.failures } in
     let ran = c.run_conversion-run in
-    let P : ProgramRun g.row.R.Denot g.row.W.Denot → Type 0 = λ run. Leads reading writing told words c.args.at_terminal c.args.input run.input c.args.output run.output c.args.errors.now ran.new.errors run.next in
+    let P : ProgramRun g.row.R.Denot g.row.W.Denot → Type 0 = λ run. Leads reading writing told words c.args.terminals c.args.input run.input c.args.output run.output c.args.errors.now ran.new.errors run.next in
     subst P (sym c.ended-in-Convert.ensures) (inr (inr (inl (record {
       lines = c.in-Convert.lines.items;
       asked = subst (λ (task : Task). Asks words task) c.in-Convert.is c.in-Ok.ensures.ok;
-      runs = subst (λ (lines : List CapturedLine). RunsConversion reading writing told lines c.args.at_terminal c.args.input ran.result.input c.args.output ran.new.output c.args.errors.now ran.new.errors ran.result.status) c.as_slice-lines.ensures.value ran.ensures;
+      runs = subst (λ (lines : List CapturedLine). RunsConversion reading writing told lines c.args.terminals.input c.args.input ran.result.input c.args.output ran.new.output c.args.errors.now ran.new.errors ran.result.status) c.as_slice-lines.ensures.value ran.ensures;
     }))))
 
 pub returns-in-Stats : goal.returns-in-Stats
@@ -55,7 +55,7 @@ returns-in-Stats g c =
     let reading : Reading g.row.R.Denot = record { gives = g.R.CaptureIn.gives; ends = g.R.CaptureIn.ends; failures = g.R.CaptureIn.failures; fails = g.R.CaptureIn.fails } in
     let writing : Writing g.row.W.Denot = record { adds = g.W.TextOut.adds; failures = g.W.TextOut.failures } in
     let told : Writing g.row.E.Denot = record { adds = g.E.TextOut.adds; failures = g.E.TextOut.failures } in
-    let P : ProgramRun g.row.R.Denot g.row.W.Denot → Type 0 = λ run. Leads reading writing told words c.args.at_terminal c.args.input run.input c.args.output run.output c.args.errors.now c.run_stats-run.new.errors run.next in
+    let P : ProgramRun g.row.R.Denot g.row.W.Denot → Type 0 = λ run. Leads reading writing told words c.args.terminals c.args.input run.input c.args.output run.output c.args.errors.now c.run_stats-run.new.errors run.next in
     subst P (sym c.ended-in-Stats.ensures) (inr (inr (inr (record {
       settings = c.in-Stats.settings;
       asked = subst (λ (task : Task). Asks words task) c.in-Stats.is c.in-Ok.ensures.ok;

@@ -1,4 +1,4 @@
-use Rattle.std.proofs.Common.{◌≡◌, ◌∙◌, List, ℕ, Ok, Err, inl, inr, refl, subst, sym}
+use Rattle.std.proofs.Common.{◌≡◌, ◌∙◌, List, [], ℕ, Ok, Err, inl, inr, refl, subst, sym}
 use Rattle.std.specs.Prelude.{Result}
 use Rattle.feed_text.specs.declared.fault.ReplayFault.{ReplayFault}
 use Rattle.feed_text.specs.declared.replay.ReplayConfig.{ReplayConfig}
@@ -19,6 +19,7 @@ use Rattle.line_captures.specs.declared.report.LinesFault.TheVariants.{Run}
 use Rattle.replay_run.specs.LineReplays.{AnswersLineReplay, ReplaysLines, WroteCaptureText}
 use Rattle.replay_run.specs.Printed.{texts_of_run}
 use Rattle.nbbo_main.specs.StatsRuns.{PrintsTimedStats, counts_texts, lines_ended_by, stats_writing}
+use Rattle.nbbo_main.proofs.LacksTold.{line_lacks_of_new, tells_items}
 use Rattle.nbbo_main.proofs.stats_runs.run_line_stats.Goals as goal
 
 -- where nothing went wrong the counts are those of a whole packet capture
@@ -87,6 +88,9 @@ returns-in-Err g c =
       left = refl;
       hinted = hinted;
       hint = subst (λ (text : List ℕ). Says told text c.args.errors.now hinted) c.hint.ensures c.write_stderr.ensures;
+      lacks = [];
+      said = hinted;
+      says_lacks = refl;
       tells = c.tell_capture-status.ensures;
     }
 
@@ -110,7 +114,7 @@ returns g c =
     let printed = c.print_timed_stats-printed.new.output in
     let replays : ReplaysLines (reading_along reading) stats_writing config lines along seen start mid =
     subst (λ (lines : List CapturedLine). ReplaysLines (reading_along reading) stats_writing config lines along seen start mid)
-    c.as_slice-lines.ensures.value c.replay_lines-seen.ensures in
+    c.as_slice-lines.ensures.value c.replay_lines-seen.ensures.replays in
     let Whole : g.row.R.Denot → g.row.R.Denot → Type 0 = λ a b.
     WroteCaptureText reading writing config lines (counts_texts config c.args.format) a b c.args.output.now printed replays.point in
     record {
@@ -130,6 +134,7 @@ returns g c =
         seen = seen;
         mid = mid;
         replays = replays;
+        are_lacks = line_lacks_of_new (reading_along reading) config _ _ along seen.input seen.outcome _ _ c.as_slice-lines.ensures.value c.new-lacks.ensures.items c.replay_lines-seen.ensures.lacks;
         printed = c.print_timed_stats-printed.result;
         prints = c.print_timed_stats-printed.ensures;
         ends = c.lines_ended_by.ensures;
@@ -146,5 +151,8 @@ returns g c =
       left = refl;
       hinted = hinted;
       hint = subst (λ (text : List ℕ). Says told text c.args.errors.now hinted) c.hint.ensures c.write_stderr.ensures;
+      lacks = c.replay_lines-seen.new.lacks.items;
+      said = c.tell_lacks.new.errors;
+      says_lacks = tells_items told c.lines_ended_by.result _ _ _ _ hinted c.tell_lacks.new.errors refl c.as_slice.ensures.value c.tell_lacks.ensures;
       tells = c.tell_capture-status-2.ensures;
     }

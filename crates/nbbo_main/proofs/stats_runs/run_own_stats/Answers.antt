@@ -12,6 +12,7 @@ use Rattle.feed_text.specs.declared.formats.StatsFormat.{StatsFormat}
 use Rattle.capture_stats.specs.declared.stats_out.StatsOut.{StatsOut}
 use Rattle.replay_run.specs.Printed.{texts_of_run}
 use Rattle.nbbo_main.specs.StatsRuns.{IsCountsText, PrintsStats, ended_by, stats_writing}
+use Rattle.nbbo_main.proofs.LacksTold.{lacks_of_new, tells_items}
 use Rattle.nbbo_main.proofs.stats_runs.run_own_stats.Goals as goal
 
 -- where nothing went wrong the counts are those of a whole capture
@@ -63,6 +64,9 @@ returns-in-Err g c =
       counts = inr (record { refused = refl; unread = refl; unwritten = refl });
       hinted = hinted;
       hint = subst (λ (text : List ℕ). Says told text c.args.errors.now hinted) c.hint.ensures c.write_stderr.ensures;
+      lacks = [];
+      said = hinted;
+      says_lacks = refl;
       line = subst (λ (text : List ℕ). Says told text hinted c.write_stderr-in-Err.new.errors)
           c.ending-status.ensures.text c.write_stderr-in-Err.ensures;
       ends = c.ending-status.ensures.status;
@@ -90,6 +94,7 @@ returns g c =
         mid = c.replay-seen.new.writer;
         replays = c.replay-seen.ensures.replays;
         run = c.replay-seen.ensures.headline;
+        are_lacks = lacks_of_new reading c.config_of-config.result _ _ c.replay-seen.result _ _ c.new-lacks.ensures.items c.replay-seen.ensures.lacks;
         printed = c.print_stats-printed.result;
         prints = c.print_stats-printed.ensures;
         ends = c.ended_by-outcome.ensures;
@@ -101,7 +106,10 @@ returns g c =
       });
       hinted = hinted;
       hint = subst (λ (text : List ℕ). Says told text c.args.errors.now hinted) c.hint.ensures c.write_stderr.ensures;
-      line = subst (λ (text : List ℕ). Says told text hinted c.write_stderr-2.new.errors)
+      lacks = c.replay-seen.new.lacks.items;
+      said = c.tell_lacks.new.errors;
+      says_lacks = tells_items told c.ended_by-outcome.result _ _ _ _ hinted c.tell_lacks.new.errors refl c.as_slice.ensures.value c.tell_lacks.ensures;
+      line = subst (λ (text : List ℕ). Says told text c.tell_lacks.new.errors c.write_stderr-2.new.errors)
           c.ending-status-2.ensures.text c.write_stderr-2.ensures;
       ends = c.ending-status-2.ensures.status;
     }
