@@ -53,8 +53,8 @@ pub fn request_option<'a>(alloc: Global) -> Arg<'a>
 
 const JOIN_HELP: &str = "\
 Joins a session that is under way: messages that are missing before the first one in
-sequence are given up at once, and neither waited nor asked for. Without this option they
-are waited for, as those of any other gap";
+sequence are given up at once. Without this option they are waited for, as those of any
+other gap";
 
 /// `--join` of a command that listens.
 pub fn live_join_flag<'a>(alloc: Global) -> Arg<'a>
@@ -71,7 +71,7 @@ pub fn live_join_flag<'a>(alloc: Global) -> Arg<'a>
 const SKIP_AFTER_HELP: &str = text!("\
 After how many milliseconds a gap is given up that stands so long: 1 to " MAX_COUNT ". The
 sequence then goes on with the first message that has come after it. What was given up and
-comes later isn't taken. Without this option a gap is waited for as long as the run goes");
+comes later changes nothing. Without this option a gap is waited for as long as the run goes");
 
 /// `--skip-after MS`.
 pub fn skip_after_option<'a>(alloc: Global) -> Arg<'a>

@@ -105,8 +105,9 @@ pub fn join_flag<'a>(alloc: Global) -> Arg<'a>
 const SKIP_GAPS_HELP: &str = "\
 Gives up what is missing where a packet lies past the window, as a record of kind K does:
 the messages up to the first one that has come, and again as long as the packet lies past
-the window. So none is 'ahead'. What was given up and comes later isn't taken. It joins a
-session that is under way, too, so that --join beside it changes nothing";
+the window. What was given up and comes later changes nothing. A packet is 'ahead' only
+where it has more messages than the window. Sessions that are under way are joined, too, so
+that --join beside it changes nothing";
 
 /// `--skip-gaps`.
 pub fn skip_gaps_flag<'a>(alloc: Global) -> Arg<'a>
