@@ -1,10 +1,10 @@
-use Rattle.std.proofs.Common.{◌≡◌, ◌∙◌, List, [], ℕ, Ok, Err, inl, inr, refl, subst, sym}
+use Rattle.std.proofs.Common.{◌≡◌, ◌∙◌, List, [], ℕ, Ok, Err, inl, inr, refl, subst, sym, true}
 use Rattle.std.specs.Prelude.{Result}
 use Rattle.feed_text.specs.declared.fault.ReplayFault.{ReplayFault}
 use Rattle.feed_text.specs.declared.replay.ReplayConfig.{ReplayConfig}
 use Rattle.feed_text.specs.Devices.{Reading, Writing}
 use Rattle.feed_text.specs.Replays.{venues_in}
-use Rattle.feed_text.specs.StandardError.{Says}
+use Rattle.feed_text.specs.StandardError.{Says, SaysEach}
 use Rattle.capture_stats.specs.Texts.{text_of_stats}
 use Rattle.capture_stats.specs.Writers.{IsNewFor}
 use Rattle.feed_text.specs.declared.formats.StatsFormat.{StatsFormat}
@@ -18,6 +18,7 @@ use Rattle.line_captures.specs.declared.report.LinesFault.{LinesFault}
 use Rattle.line_captures.specs.declared.report.LinesFault.TheVariants.{Run}
 use Rattle.replay_run.specs.LineReplays.{AnswersLineReplay, ReplaysLines, WroteCaptureText}
 use Rattle.replay_run.specs.Printed.{texts_of_run}
+use Rattle.nbbo_main.specs.Lacks.{told_lacks}
 use Rattle.nbbo_main.specs.StatsRuns.{PrintsTimedStats, counts_texts, lines_ended_by, stats_writing}
 use Rattle.nbbo_main.proofs.LacksTold.{line_lacks_of_new, tells_items}
 use Rattle.nbbo_main.proofs.stats_runs.run_line_stats.Goals as goal
@@ -90,7 +91,8 @@ returns-in-Err g c =
       hint = subst (λ (text : List ℕ). Says told text c.args.errors.now hinted) c.hint.ensures c.write_stderr.ensures;
       lacks = [];
       said = hinted;
-      says_lacks = refl;
+      says_lacks = subst (λ (outcome : Result (Unit {0}) LinesFault). SaysEach told (told_lacks outcome true []) hinted hinted)
+          (sym c.without_memory-report.ensures.outcome) refl;
       tells = c.tell_capture-status.ensures;
     }
 
