@@ -14,7 +14,8 @@ use Rattle.line_arbiter.specs.Holding.{Held, held_at}
 use Rattle.line_arbiter.specs.Filling.{fresh_to, put_all, HeldAgrees}
 use Rattle.line_arbiter.specs.Comparing.{AreThere, IsThere}
 use Rattle.line_arbiter.specs.States.{State, held_of}
-use Rattle.line_arbiter.specs.Steps.{IsSent, IsSound, KindStep, MessagesStep, PacketStep, raised}
+use Rattle.line_arbiter.specs.InOrder.{IsSent}
+use Rattle.line_arbiter.specs.Steps.{IsSound, KindStep, MessagesStep, PacketStep, raised}
 use Rattle.line_arbiter.proofs.Counting.{count_none}
 use Rattle.line_arbiter.proofs.LineCounts.{counted_none}
 use Rattle.line_arbiter.proofs.Soundness.{sent_known}

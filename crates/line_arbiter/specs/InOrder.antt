@@ -1,5 +1,5 @@
--- A packet that needs no place in the window, since it goes on where nothing is held: which packet
--- it is, and what taking it brings.
+-- Packets that need no place in the window: one that goes on where nothing is held, and what taking
+-- it brings; and one whose messages were all sent.
 use Rattle.std.specs.Prelude.{◌≡◌, ℕ, ◌+◌, ◌<◌, ◌≤◌, List, [], ◌∷◌, ◌++◌, Ok, None, drop, length, map}
 use Rattle.feed_types.specs.declared.line.LineId.{LineId}
 use Rattle.feed_types.specs.Prefix.{IsPrefix}
@@ -56,3 +56,11 @@ pub record IsNext (s : State) (p : Content) : Type 0 where
   pub empty : IsEmpty (held_of s)
   pub before : IsBefore s.end (last_number p)
   pub within : length p.messages ≤ s.window
+
+-- A packet of messages of the session, all of which were sent, before the end, in terms of an
+-- arbiter's state.
+pub record IsSent (s : State) (p : Content) : Type 0 where
+  pub name : p.session ≡ s.session
+  pub kind : p.kind ≡ kinds.Messages
+  pub all : last_number p ≤ s.sent
+  pub before : IsBefore s.end (last_number p)

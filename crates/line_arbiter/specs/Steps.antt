@@ -128,13 +128,6 @@ PacketStep line old new p answer =
     ((p.session ≢ old.session) × (answer ≡ Err OtherSession) × (new ≡ old))
     ⊎ ((p.session ≡ old.session) × KindStep p.kind line old new p answer)
 
--- a packet of messages of the session, all of which were sent, before the end
-pub record IsSent (s : State) (p : Content) : Type 0 where
-  pub name : p.session ≡ s.session
-  pub kind : p.kind ≡ kinds.Messages
-  pub all : last_number p ≤ s.sent
-  pub before : IsBefore s.end (last_number p)
-
 -- the cursors have gone past the packet, and still nothing is held
 pub record GoesPast (line : LineId) (old new : State) (p : Content) : Type 0 where
   pub empty : IsEmpty (held_of new)

@@ -1,12 +1,15 @@
-//! A packet that needs no place in the window, since it goes on where nothing is held.
+//! Packets that need no place in the window: one that goes on where nothing is held, and one whose
+//! messages were all sent, as on the line that comes second.
 //!
 //! A caller asks, may do first what it has to do with the packet's messages, and takes the packet
 //! then. No message moves through the window.
 
-ghost use Rattle.std.specs.Prelude.{◌≡◌, ◌∷◌, ◌++◌, List, [], Ok, IsTrue, MatchBool, length};
+ghost use Rattle.std.specs.Prelude.{◌≡◌, ◌∷◌, ◌++◌, List, [], Ok, IfSome, IsTrue, MatchBool, MatchOption, length};
 ghost use Rattle.mold_packet.specs.Content.{IsContent, last_number};
 ghost use Rattle.line_arbiter.specs.Packets.{Input, arrival_of};
-ghost use Rattle.line_arbiter.specs.InOrder.{BringsNext, IsNext, IsNextPacket, outcome_of_next};
+ghost use Rattle.line_arbiter.specs.InOrder.{BringsNext, IsNext, IsNextPacket, IsSent, outcome_of_next};
+ghost use Rattle.line_arbiter.specs.Outcomes.{IsOutcome};
+ghost use Rattle.feed_types.specs.declared.line.LineId.{LineId};
 ghost use Rattle.line_arbiter.specs.States.{KeepsItsSession};
 ghost use Rattle.line_arbiter.specs.Fits.{Fits};
 ghost use Rattle.line_arbiter.specs.Steps.{GoesPast};
@@ -26,9 +29,9 @@ impl<G: Genuine> Arbiter<G> {
         ensures { MatchBool result (IsNext self.now packet.now) (IsNext self.now packet.now → ⊥) }
     {
         let sent = self.held.base();
-        is_same_name(&packet.session(), &self.session_name)
+        packet.number() - 1 == sent
+            && is_same_name(&packet.session(), &self.session_name)
             && packet.kind() == Kind::Messages
-            && packet.number() - 1 == sent
             && self.run_to == sent
             && self.held.is_empty()
             && u32::from(packet.count()) <= self.held.width()
@@ -87,5 +90,29 @@ impl<G: Genuine> Arbiter<G> {
         let _number = packet.number();
         let _held = &self.held;
         self.pass(line, packet)
+    }
+
+    /// Returns the answer of `take` to a packet of messages of the session that were all sent,
+    /// before the end; None for any other packet. Such a packet changes nothing.
+    #[inline(always)]
+    pub fn repeat(&self, packet: &Packet<'_>) -> Option<Outcome>
+        ensures exact { MatchOption result (IsSent self.now packet.now → ⊥)
+            (λ outcome. IsSent self.now packet.now
+            × (outcome ≡ Outcome.Taken 0 (length packet.now.messages))) }
+        ensures answer { (packets : List Input) → Fits self.now packets
+            → IfSome result (λ outcome. IsOutcome self.now.session self.now.window self.now.sent
+            packets packet.now (Ok outcome)) }
+        ensures fits { (packets : List Input) (line : LineId) → Fits self.now packets
+            → IfSome result (λ outcome. Fits self.now
+            (packets ++ arrival_of line packet.now (Ok outcome) ∷ [])) }
+        ensures content { IsContent packet.now }
+    {
+        // For the prover alone: the ranges of the packet.
+        let _number = packet.number();
+        if self.is_sent(packet) {
+            Some(self.repeat_of(packet))
+        } else {
+            None
+        }
     }
 }

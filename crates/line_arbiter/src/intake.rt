@@ -39,8 +39,10 @@ fn compare_one(window: &Window, number: u64, message: &[u8]) -> Comparison
     ensures { ComparesOne window.now number (item_of message.now) result }
 {
     match window.get(number) {
-        Some(Item::Skipped) => Comparison::Repeats,
-        Some(found) if differ(found, &read_item(message)) => Comparison::Differs,
+        Some(found) if differ(found, &read_item(message)) => match found {
+            Item::Skipped => Comparison::Repeats,
+            _ => Comparison::Differs,
+        },
         Some(_) => Comparison::Repeats,
         None if number <= window.base() => Comparison::Repeats,
         None => Comparison::Agrees,

@@ -8,7 +8,8 @@ ghost use Rattle.line_arbiter.specs.States.{held_of};
 ghost use Rattle.line_arbiter.specs.Filling.{HeldAgrees};
 ghost use Rattle.line_arbiter.specs.Comparing.{AreThere};
 ghost use Rattle.feed_types.specs.declared.line.LineId.{LineId};
-ghost use Rattle.line_arbiter.specs.Steps.{IsSent, IsSound, MessagesStep, HeartbeatStep, EndStep, PacketStep, raised as raised_to};
+ghost use Rattle.line_arbiter.specs.InOrder.{IsSent};
+ghost use Rattle.line_arbiter.specs.Steps.{IsSound, MessagesStep, HeartbeatStep, EndStep, PacketStep, raised as raised_to};
 
 use crate::arbiter::Arbiter;
 use crate::intake::{Intake, next_after, run_after, take_all};
@@ -148,19 +149,19 @@ impl<G: Genuine> Arbiter<G> {
     }
 
     /// Returns whether the packet has messages of the session that were all sent, before the end.
+    /// Its numbers are looked at first: they tell most packets apart.
     #[inline(always)]
-    fn is_sent(&self, packet: &Packet<'_>) -> bool
+    pub(crate) fn is_sent(&self, packet: &Packet<'_>) -> bool
         ensures { MatchBool result (IsSent self.now packet.now) (IsSent self.now packet.now → ⊥) }
     {
-        packet.session() == self.session_name
+        packet.last_number() <= self.held.base()
+            && is_same_name(&packet.session(), &self.session_name)
             && packet.kind() == Kind::Messages
-            && packet.last_number() <= self.held.base()
             && !is_past(self.end_number, packet.last_number())
     }
 
-    /// Takes a packet that isn't one of messages that were all sent. It is a call of its own, so
-    /// that the answer to such a one costs none.
-    #[inline(never)]
+    /// Takes a packet that isn't one of messages that were all sent.
+    #[inline(always)]
     fn take_unsent(&mut self, line: LineId, packet: &Packet<'_>) -> Result<Outcome, LineFault>
         requires { IsSent self.old packet.now → ⊥ }
         ensures step { PacketStep line self.old self.new packet.now result }
