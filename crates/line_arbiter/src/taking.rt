@@ -1,7 +1,7 @@
 //! The taking of a packet, on whichever line: which refusal fits first, what is held of it, and
 //! where the cursors are then.
 
-ghost use Rattle.std.specs.Prelude.{◌≡◌, ℕ, ◌+◌, ◌<◌, ◌≤◌, Ok, MatchBool, Some, None};
+ghost use Rattle.std.specs.Prelude.{◌≡◌, ℕ, ◌+◌, ◌<◌, ◌≤◌, Ok, MatchBool, Some, None, length};
 ghost use Rattle.mold_packet.specs.Content.{IsContent, last_number};
 ghost use Rattle.line_arbiter.specs.Outcomes.{IsBefore, IsPast};
 ghost use Rattle.line_arbiter.specs.States.{held_of};
@@ -57,7 +57,8 @@ impl<G: Genuine> Arbiter<G> {
         requires within { last_number packet.now ≤ self.now.sent + self.now.window }
         requires there { AreThere (held_of self.now) packet.now }
         requires agrees { HeldAgrees (held_of self.now) packet.now }
-        ensures { (line : LineId) → MessagesStep line self.now self.now packet.now (Ok result) }
+        ensures step { (line : LineId) → MessagesStep line self.now self.now packet.now (Ok result) }
+        ensures outcome { result ≡ Outcome.Taken 0 (length packet.now.messages) }
     {
         // For the prover alone: what an arbiter keeps.
         let _held = &self.held;

@@ -2,8 +2,8 @@ use Rattle.line_arbiter.proofs.Repeating.{repeats}
 use Rattle.line_arbiter.proofs.Turns.{messages_some}
 use Rattle.line_arbiter.proofs.arbiter.Arbiter.repeat_of.Goals as goal
 
-pub returns : goal.returns
-returns g c line =
+pub returns-clause-step : goal.returns-clause-step
+returns-clause-step g c line =
     let there = rw (← c.self.view_is) at c.requires.there in
     let agrees = rw (← c.self.view_is) at c.requires.agrees in
     let within = rw (← c.self.view_is) at c.requires.within in

@@ -24,7 +24,7 @@ returns-in-Repeats g c =
     let with = before_with g (goal.at.returns-in-Repeats g c).After-repeat_of in
     let after = with c.take_all.new.window in
     let step : MessagesStep c.args.line (with c.self.inside.held) after c.args.packet.now (Ok c.repeat_of.result) =
-    subst (λ (w : Held). MessagesStep c.args.line (with w) after c.args.packet.now (Ok c.repeat_of.result)) came.0 (c.repeat_of.ensures c.args.line) in
+    subst (λ (w : Held). MessagesStep c.args.line (with w) after c.args.packet.now (Ok c.repeat_of.result)) came.0 (c.repeat_of.ensures.step c.args.line) in
     subst (λ (s : State). MessagesStep c.args.line s after c.args.packet.now (Ok c.repeat_of.result)) c.self.view_is step
 
 module _ (g : Over) (c : After-add_wins g) where
