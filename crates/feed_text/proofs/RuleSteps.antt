@@ -28,7 +28,7 @@ use Rattle.feed_text.specs.declared.replay.ReplayConfig.{ReplayConfig}
 use Rattle.feed_text.specs.declared.skip_rule.SkipRule.{SkipRule}
 use Rattle.feed_text.specs.Capture.{CaptureRecord, datagram_record, renewal_record, skip_record, self_help_record, record_venue}
 use Rattle.feed_text.specs.Emitted.{last_sent, EmitsAt}
-use Rattle.feed_text.specs.Rules.{IsAhead, PutsIn, SkipsAt, SkipsBefore, first_come, held_after, skip_at}
+use Rattle.feed_text.specs.Rules.{IsAhead, PutsIn, SkipsAt, SkipsBefore, first_come, held_at_last, skip_at}
 use Rattle.feed_text.specs.ReplayStates.{ReplayState}
 use Rattle.feed_text.specs.Following.{ReplayVenue, FollowAll, EmitsNext}
 use Rattle.feed_text.specs.laws.LastSent.{last_all}
@@ -112,12 +112,12 @@ gap_none name window sent packets e = elim (cases_Bool (missing_count window sen
 ]
 
 -- the first number that has come, by what is held
-pub first_unheld : (window : ℕ) (h : History) (p : Content) → held_after h ≡ 0 → first_come window h p ≡ p.number
+pub first_unheld : (window : ℕ) (h : History) (p : Content) → held_at_last h ≡ 0 → first_come window h p ≡ p.number
 first_unheld window h p none = rw none refl
 
-pub first_held : (window : ℕ) (h : History) (p : Content) → (held_after h ≡ 0 → ⊥) → first_come window h p ≡ min p.number (front_of h.present.packets + 1 + missing_count window (last_sent h) h.present.packets)
+pub first_held : (window : ℕ) (h : History) (p : Content) → (held_at_last h ≡ 0 → ⊥) → first_come window h p ≡ min p.number (front_of h.present.packets + 1 + missing_count window (last_sent h) h.present.packets)
 first_held window h p some =
-    let other : (held_after h == 0) ≡ false = grind (arith, nat_tests) in
+    let other : (held_at_last h == 0) ≡ false = grind (arith, nat_tests) in
     rw other refl
 
 module _ (rule : SkipRule) (window : ℕ) (h : History) (p : Content) (n : ℕ) (c : IsContent p) (x : SkipsBefore rule window h p n) where
@@ -125,7 +125,7 @@ module _ (rule : SkipRule) (window : ℕ) (h : History) (p : Content) (n : ℕ) 
   packets = h.present.packets
 
   first_by_own : n ≤ p.number
-  first_by_own = elim (cases_Bool (held_after h == 0)) [
+  first_by_own = elim (cases_Bool (held_at_last h == 0)) [
     | inl none ↦ let first = rw none at x.first in omega arith
     | inr some ↦ let first = rw some at x.first in omega arith
   ]
@@ -144,9 +144,9 @@ module _ (rule : SkipRule) (window : ℕ) (h : History) (p : Content) (n : ℕ) 
       omega arith
 
   none_came : (m : ℕ) → front_of packets < m → m < n → carried packets m ≡ None
-  none_came m past below = elim (cases_Bool (held_after h == 0)) [
+  none_came m past below = elim (cases_Bool (held_at_last h == 0)) [
     | inl none ↦
-        let held : held_after h ≡ 0 = grind (arith, nat_tests) in
+        let held : held_at_last h ≡ 0 = grind (arith, nat_tests) in
         let last = last_is_front in
         none_held packets (last_sent h) m held (omega arith)
     | inr some ↦

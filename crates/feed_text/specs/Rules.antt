@@ -14,13 +14,13 @@ use Rattle.feed_text.specs.ReplayEvents.{ReplayEvent}
 use Rattle.feed_text.specs.Emitted.{last_sent, EmitsRecord}
 
 -- how many messages are held once all that is ready was taken
-abbrev pub held_after : History → ℕ
-held_after h = held_count (last_sent h) h.present.packets
+abbrev pub held_at_last : History → ℕ
+held_at_last h = held_count (last_sent h) h.present.packets
 
 -- no message of the session was taken or given up
 pub record IsFresh (h : History) : Type 0 where
   pub front : front_of h.present.packets ≡ 0
-  pub held : held_after h ≡ 0
+  pub held : held_at_last h ≡ 0
 
 -- the rule gives something up of a venue with this history
 abbrev pub Allows : SkipRule → History → Type 0
@@ -31,7 +31,7 @@ Allows Gaps h = Unit {0}
 -- the first number past the front that has come: that of a held message, or the packet's own
 abbrev pub first_come : ℕ → History → Content → ℕ
 first_come window h p =
-    if held_after h == 0 then p.number
+    if held_at_last h == 0 then p.number
     else min p.number
     (front_of h.present.packets + 1 + missing_count window (last_sent h) h.present.packets)
 

@@ -35,20 +35,6 @@ pub enum Record<'a> {
     },
 }
 
-impl Record<'_> {
-    /// Returns the record's venue.
-    pub fn venue(&self) -> VenueId
-        ensures { result ≡ record_venue (record_of self.now) }
-    {
-        match self {
-            Record::Datagram { venue, .. }
-            | Record::Renewal { venue, .. }
-            | Record::Skip { venue, .. }
-            | Record::SelfHelp { venue, .. } => *venue,
-        }
-    }
-}
-
 /// The answer of [`parse_record`].
 #[derive(Clone, Copy, Debug, PartialEq, Eq)]
 pub enum Parse<'a> {

@@ -1,10 +1,11 @@
 //! The replay of a capture.
-ghost use Rattle.std.specs.Prelude.{◌≡◌, ◌≤◌, ℕ, List, [], length, IfOk, OnErr, OnOk};
+ghost use Rattle.std.specs.Prelude.{◌≡◌, ◌<◌, ◌≤◌, ℕ, List, [], length, IfOk, OnErr, OnOk};
 ghost use Rattle.std.specs.List.{IsDistinct};
 ghost use Rattle.std.specs.Str.{bytes_eq};
 ghost use Rattle.journal_book.specs.Streaming.{new_streaming};
+ghost use Rattle.feed_types.specs.declared.line.LineId.{LineId};
 ghost use Rattle.line_arbiter.specs.Histories.{History};
-ghost use Rattle.feed_text.specs.Capture.{IsRecord, record_of};
+ghost use Rattle.feed_text.specs.Capture.{IsRecord, datagram_record, record_of};
 ghost use Rattle.feed_text.specs.Following.{Closes, FollowAll, FollowSome, KeepsVenues, LeavesLacks, Stops, TakesSkips, fault_by, left_by};
 ghost use Rattle.feed_text.specs.Lacks.{AppendsLacks};
 ghost use Rattle.feed_text.specs.Replays.{CanReplay, Replays};
@@ -21,7 +22,7 @@ use crate::report::{PublishStop, ReplaySink};
 use crate::skip_rule::SkipRule;
 use crate::unread::{RECORDS_ROOM, ReadBuffer};
 use crate::venues::Venues;
-use feed_types::SymbolName;
+use feed_types::{SymbolName, VenueId};
 use journal_book::StreamingJournal;
 use std::alloc::{AllocError, Global};
 
@@ -116,34 +117,36 @@ fn close<W: TextOut>(
     flush(&mut text, writer)
 }
 
-/// Takes the skips that the rule puts in before a record, one after the other, and publishes the
-/// events of each.
+/// Takes the skips that the rule puts in before a datagram of these bytes, one after the other, and
+/// publishes the events of each.
 #[inline(never)]
 fn take_skips(
     config: &ReplayConfig<'_>,
     venues: &mut Venues,
-    next: &Record<'_>,
+    venue: VenueId,
+    bytes: &[u8],
     report: &mut ReplaySink,
 ) -> Result<(), PublishStop>
-    requires kind { IsRecord (length venues.old.items) (record_of next.now) }
+    requires venue { venue < length venues.old.items }
     requires venues { report.old.journal.venues ≡ length venues.old.items }
     requires gaps { venues.old.gaps ≡ config.now.gaps }
     requires follow { FollowSome config.now venues.old }
     ensures kept { OnOk result (KeepsVenues venues.old venues.new) }
     ensures journal { OnOk result (report.new.journal.venues ≡ report.old.journal.venues) }
-    ensures taken { (hs : List History) → FollowAll config.now.window venues.old.items hs
-        → TakesSkips config.now (record_of next.now) hs (state_of_replay report.old)
-        (state_of_replay report.new) venues.new.items result }
+    ensures taken { (line : LineId) (hs : List History)
+        → FollowAll config.now.window venues.old.items hs
+        → TakesSkips config.now (datagram_record venue line bytes.now) hs
+        (state_of_replay report.old) (state_of_replay report.new) venues.new.items result }
 {
-    let venue = next.venue();
-    while let Some(number) = venues.skip_before(config, next) {
+    while let Some(number) = venues.skip_before(config, venue, bytes) {
         venues.skip_to(venue, number, report)?;
     }
     Ok(())
 }
 
 /// Takes the skips before a record where there is a rule for them.
-// Without a rule the loop over records goes past it at once.
+// Without a rule the loop over records goes past it at once. The record isn't lent any further: it
+// would be kept in memory then, which took some 15 instructions a record.
 #[inline(always)]
 fn follow_rule(
     config: &ReplayConfig<'_>,
@@ -163,7 +166,12 @@ fn follow_rule(
 {
     match config.skips {
         SkipRule::Never => Ok(()),
-        _ => take_skips(config, venues, next, report),
+        _ => match next {
+            Record::Datagram { venue, bytes, .. } => {
+                take_skips(config, venues, *venue, bytes, report)
+            }
+            _ => Ok(()),
+        },
     }
 }
 

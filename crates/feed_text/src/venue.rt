@@ -253,7 +253,12 @@ impl VenueReplay {
             self.new (state_of_replay report.new) result }
     {
         if !self.arbiter.is_next(packet) {
-            return self.take_any(venue, line, packet, report);
+            return match self.arbiter.repeat(packet) {
+                Some(outcome) => {
+                    publish_answer(&mut self.arbiter, venue, line, &Ok(outcome), report)
+                }
+                None => self.take_any(venue, line, packet, report),
+            };
         }
         let outcome = self.arbiter.take_next(line, packet);
         look_ahead(venue, packet, report);

@@ -1,6 +1,7 @@
 //! The venues of a replay.
 ghost use Rattle.std.specs.Prelude.{◌≡◌, ◌<◌, ◌≤◌, ℕ, List, IfOk, MatchOption, OnOk, length, map};
-ghost use Rattle.feed_text.specs.Capture.{IsRecord, record_of, skip_record};
+ghost use Rattle.feed_text.specs.Capture.{IsRecord, datagram_record, record_of, skip_record};
+ghost use Rattle.feed_types.specs.declared.line.LineId.{LineId};
 ghost use Rattle.line_arbiter.specs.Histories.{History, new_history};
 ghost use Rattle.feed_text.specs.ReplayStates.{state_of_replay};
 ghost use Rattle.feed_text.specs.Following.{FollowAll, LeavesLacks, PrintsLast, TakesRecord};
@@ -97,22 +98,24 @@ impl Venues {
         }
     }
 
-    /// Returns the number below which the rule gives up what the record's venue lacks before it, if
-    /// it gives anything up.
-    pub fn skip_before(&self, config: &ReplayConfig<'_>, next: &Record<'_>) -> Option<u64>
-        requires { IsRecord (length self.now.items) (record_of next.now) }
-        ensures { (hs : List History) → FollowAll config.now.window self.now.items hs
+    /// Returns the number below which the rule gives up what the venue lacks before a datagram of
+    /// these bytes, if it gives anything up.
+    pub fn skip_before(
+        &self,
+        config: &ReplayConfig<'_>,
+        venue: VenueId,
+        bytes: &[u8],
+    ) -> Option<u64>
+        requires { venue < length self.now.items }
+        ensures { (line : LineId) (hs : List History)
+            → FollowAll config.now.window self.now.items hs
             → MatchOption result
-            ((number : ℕ) → PutsIn config.now hs (record_of next.now) number → ⊥)
-            (λ number. PutsIn config.now hs (record_of next.now) number) }
+            ((number : ℕ)
+            → PutsIn config.now hs (datagram_record venue line bytes.now) number → ⊥)
+            (λ number. PutsIn config.now hs (datagram_record venue line bytes.now) number) }
     {
-        match next {
-            Record::Datagram { venue, bytes, .. } => {
-                let replay = &self.venues[venue.index()];
-                replay.skip_before_datagram(config.skips, config.window, bytes)
-            }
-            _ => None,
-        }
+        let replay = &self.venues[venue.index()];
+        replay.skip_before_datagram(config.skips, config.window, bytes)
     }
 
     /// Appends what each venue lacks, of each that lacks anything.

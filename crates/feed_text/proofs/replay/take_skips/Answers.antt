@@ -1,8 +1,10 @@
 use Rattle.std.proofs.Common.{List, refl, ◌∙◌, arith, Ok, Err}
 use Rattle.std.proofs.lemmas.Result.{err_from_is_err_and}
+use Rattle.feed_types.specs.declared.line.LineId.{LineId}
+use Rattle.feed_types.specs.declared.line.LineId.TheVariants.{A}
 use Rattle.line_arbiter.specs.Histories.{History}
 use Rattle.feed_text.specs.declared.report.PublishStop.{PublishStop}
-use Rattle.feed_text.specs.Capture.{CaptureRecord, record_of}
+use Rattle.feed_text.specs.Capture.{CaptureRecord, datagram_record}
 use Rattle.feed_text.specs.ReplayStates.{ReplayState, state_of_replay}
 use Rattle.feed_text.specs.Rules.{skip_at}
 use Rattle.feed_text.specs.Following.{EmitsNext, FollowAll}
@@ -14,47 +16,52 @@ use Rattle.feed_text.proofs.replay.take_skips.Goals as goal
 pub loop-number-smaller : goal.loop-number-smaller
 loop-number-smaller c =
     let some = c.requires.follow in
-    let s = c.loop-number.invariant.taken some.0 some.1 in
-    let r : CaptureRecord = record_of c.args.next.now in
-    let puts = c.in-Some.ensures s.after s.follow in
-    let e = skip_emits c.args.config.now r c.venue-venue.result c.in-Some.number s.after c.loop-number.venues c.skip_to.new.self (state_of_replay c.loop-number.report) (state_of_replay c.skip_to.new.report) (Ok tt) c.venue-venue.ensures (c.loop-number.invariant.kept.gaps ∙ c.requires.gaps) s.follow c.in_ok-skip_to.ensures in
+    let s = c.loop-number.invariant.taken A some.0 some.1 in
+    let r : CaptureRecord = datagram_record c.args.venue A c.args.bytes.now in
+    let puts = c.in-Some.ensures A s.after s.follow in
+    let e = skip_emits c.args.config.now r c.args.venue c.in-Some.number s.after c.loop-number.venues c.skip_to.new.self (state_of_replay c.loop-number.report) (state_of_replay c.skip_to.new.report) (Ok tt) refl (c.loop-number.invariant.kept.gaps ∙ c.requires.gaps) s.follow c.in_ok-skip_to.ensures in
     let on = skip_progress c.args.config.now r c.in-Some.number s.after c.loop-number.venues.items c.skip_to.new.self.items (state_of_replay c.loop-number.report) (state_of_replay c.skip_to.new.report) s.follow puts e in
     omega (arith, on.0, on.1, on.2)
 
 pub loop-number-preserved : goal.loop-number-preserved
 loop-number-preserved c =
-    let r : CaptureRecord = record_of c.args.next.now in
+    let at : LineId → CaptureRecord = λ line. datagram_record c.args.venue line c.args.bytes.now in
     let old : ReplayState = state_of_replay c.loop-number.report in
     let new : ReplayState = state_of_replay c.skip_to.new.report in
     let gaps = c.loop-number.invariant.kept.gaps ∙ c.requires.gaps in
-    let one : (hs : List History) → FollowAll c.args.config.now.window c.loop-number.venues.items hs → EmitsNext c.args.config.now.window c.args.config.now.gaps (skip_at r c.in-Some.number) hs old new c.skip_to.new.self.items (Ok tt) = λ hs f.
-    skip_emits c.args.config.now r c.venue-venue.result c.in-Some.number hs c.loop-number.venues c.skip_to.new.self old new (Ok tt) c.venue-venue.ensures gaps f c.in_ok-skip_to.ensures in
+    let one : (line : LineId) (hs : List History) → FollowAll c.args.config.now.window c.loop-number.venues.items hs → EmitsNext c.args.config.now.window c.args.config.now.gaps (skip_at (at line) c.in-Some.number) hs old new c.skip_to.new.self.items (Ok tt) = λ line hs f.
+    skip_emits c.args.config.now (at line) c.args.venue c.in-Some.number hs c.loop-number.venues c.skip_to.new.self old new (Ok tt) refl gaps f c.in_ok-skip_to.ensures in
     let some = c.requires.follow in
-    let s = c.loop-number.invariant.taken some.0 some.1 in
+    let s = c.loop-number.invariant.taken A some.0 some.1 in
     record {
       kept = record {
         gaps = c.in_ok-skip_to.ensures.gaps ∙ c.loop-number.invariant.kept.gaps;
         count = c.in_ok-skip_to.ensures.count ∙ c.loop-number.invariant.kept.count;
       };
-      journal = same_venues (one s.after s.follow).emitted (one s.after s.follow).emits ∙ c.loop-number.invariant.journal;
-      taken = λ hs f.
-          let k = c.loop-number.invariant.taken hs f in
-          let e = one k.after k.follow in
+      journal = same_venues (one A s.after s.follow).emitted (one A s.after s.follow).emits ∙ c.loop-number.invariant.journal;
+      taken = λ line hs f.
+          let k = c.loop-number.invariant.taken line hs f in
+          let e = one line k.after k.follow in
           record {
             after = e.after;
-            took = skip_taken c.args.config.now r (skip_at r c.in-Some.number) hs k.after (state_of_replay c.args.report.now) old new c.skip_to.new.self.items k.took (c.in-Some.number, c.in-Some.ensures k.after k.follow, refl) e;
+            took = skip_taken c.args.config.now (at line) (skip_at (at line) c.in-Some.number) hs k.after (state_of_replay c.args.report.now) old new c.skip_to.new.self.items k.took (c.in-Some.number, c.in-Some.ensures line k.after k.follow, refl) e;
             follow = e.follow;
           };
     }
 
 pub returns-in_err-skip_to-clause-taken : goal.returns-in_err-skip_to-clause-taken
-returns-in_err-skip_to-clause-taken c = λ hs f.
-    let r : CaptureRecord = record_of c.args.next.now in
+returns-in_err-skip_to-clause-taken c = λ line hs f.
+    let r : CaptureRecord = datagram_record c.args.venue line c.args.bytes.now in
     let old : ReplayState = state_of_replay c.loop-number.report in
     let new : ReplayState = state_of_replay c.skip_to.new.report in
     let p = err_from_is_err_and c.from_residual.result c.from_residual.ensures.1 in
-    let k = c.loop-number.invariant.taken hs f in
+    let k = c.loop-number.invariant.taken line hs f in
     let stop : PublishStop = c.in_err-skip_to.field-0.0 in
-    let e = skip_emits c.args.config.now r c.venue-venue.result c.in-Some.number k.after c.loop-number.venues c.skip_to.new.self old new (Err stop) c.venue-venue.ensures (c.loop-number.invariant.kept.gaps ∙ c.requires.gaps) k.follow c.in_err-skip_to.ensures in
+    let e = skip_emits c.args.config.now r c.args.venue c.in-Some.number k.after c.loop-number.venues c.skip_to.new.self old new (Err stop) refl (c.loop-number.invariant.kept.gaps ∙ c.requires.gaps) k.follow c.in_err-skip_to.ensures in
     rw (p.1, p.2)
-    (skip_stopped c.args.config.now r (skip_at r c.in-Some.number) hs k.after (state_of_replay c.args.report.now) old new c.skip_to.new.self.items stop k.took (c.in-Some.number, c.in-Some.ensures k.after k.follow, refl) e)
+    (skip_stopped c.args.config.now r (skip_at r c.in-Some.number) hs k.after (state_of_replay c.args.report.now) old new c.skip_to.new.self.items stop k.took (c.in-Some.number, c.in-Some.ensures line k.after k.follow, refl) e)
+
+pub returns-clause-taken : goal.returns-clause-taken
+returns-clause-taken c = λ line hs f.
+    let k = c.loop-number.invariant.taken line hs f in
+    record { after = k.after; took = k.took; follow = k.follow; none = c.in_default.ensures line k.after k.follow }

@@ -1,6 +1,7 @@
 use Rattle.std.proofs.Common.{◌≡◌, ◌-◌, ◌^◌, List}
 use Rattle.line_arbiter.specs.Histories.{History}
-use Rattle.feed_text.specs.Capture.{record_of, record_venue}
+use Rattle.feed_types.specs.declared.line.LineId.{LineId}
+use Rattle.feed_text.specs.Capture.{datagram_record}
 use Rattle.feed_text.specs.Following.{FollowAll, KeepsVenues}
 use Rattle.feed_text.specs.ReplayStates.{state_of_replay}
 use Rattle.feed_text.proofs.RuleSteps.{front_at}
@@ -11,8 +12,8 @@ abbrev pub invariant-loop-number : goal.invariant-loop-number
 invariant-loop-number l = record {
   kept : KeepsVenues l.fn.venues l.venues;
   journal : l.report.journal.venues ≡ l.fn.report.journal.venues;
-  taken : (hs : List History) → FollowAll l.config.window l.fn.venues.items hs → TookSoFar l.config (record_of l.fn.next) hs (state_of_replay l.fn.report) (state_of_replay l.report) l.venues.items;
+  taken : (line : LineId) (hs : List History) → FollowAll l.config.window l.fn.venues.items hs → TookSoFar l.config (datagram_record l.venue line l.bytes) hs (state_of_replay l.fn.report) (state_of_replay l.report) l.venues.items;
 }
 
 abbrev pub decreases-loop-number : goal.decreases-loop-number
-decreases-loop-number l = 2 ^ 64 - front_at l.venues.items (record_venue (record_of l.fn.next))
+decreases-loop-number l = 2 ^ 64 - front_at l.venues.items l.venue

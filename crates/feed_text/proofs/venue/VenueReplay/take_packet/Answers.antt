@@ -1,8 +1,10 @@
-use Rattle.std.proofs.Common.{sym, subst}
+use Rattle.std.proofs.Common.{rules, sym, subst}
+use Rattle.std.specs.Prelude.{Ok}
 use Rattle.feed_text.specs.ReplayStates.{state_of_replay}
 use Rattle.feed_text.specs.declared.report.ReplaySink.{ReplaySink}
 use Rattle.feed_text.specs.Following.{ReplayVenue, Follows, EmitsOutcome}
 use Rattle.feed_text.proofs.Passing.{passed_told}
+use Rattle.feed_text.proofs.VenueSteps.{answered_told}
 use Rattle.feed_text.proofs.venue.VenueReplay.take_packet.Goals as goal
 
 pub returns : goal.returns
@@ -18,3 +20,13 @@ returns c = λ width h f.
     c.take_next-outcome.ensures.answer c.take_next-outcome.ensures.fits c.take_next-outcome.ensures.sent
     c.take_next-outcome.ensures.kept
     c.publish_next.ensures.emits c.publish_next.ensures.sent)
+
+pub returns-in-Some : goal.returns-in-Some
+returns-in-Some c = λ width h f.
+    answered_told width c.args.venue h
+    (record { arbiter = c.self.inside.arbiter; sent_before = c.self.inside.sent_before; opens_after = c.self.inside.opens_after })
+    c.self.inside.arbiter c.publish_answer.new.arbiter c.args.line c.args.packet.now (Ok c.in-Some.outcome)
+    (state_of_replay c.args.report.now) (state_of_replay c.publish_answer.new.report) c.publish_answer.result
+    (subst (λ (v : ReplayVenue). Follows width c.args.venue v h) (sym c.self.view_is) f)
+    c.in-Some.ensures.answer (λ packets fits. c.in-Some.ensures.fits packets c.args.line fits) (search rules)
+    c.publish_answer.ensures.emits c.publish_answer.ensures.sent

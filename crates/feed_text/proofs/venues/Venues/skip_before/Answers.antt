@@ -1,9 +1,9 @@
-use Rattle.std.proofs.Common.{rules, ◌≡◌, ◌<◌, ℕ, List, length, Option, Some, None, refl, ap, sym, subst, ◌∙◌}
+use Rattle.std.proofs.Common.{rules, ◌≡◌, ◌<◌, ℕ, List, length, Option, Some, None, refl, sym, subst, ◌∙◌}
 use Rattle.std.specs.Prelude.{MatchOption, slice_get}
 use Rattle.std.proofs.lemmas.Option.{slice_get_read}
 use Rattle.line_arbiter.specs.Histories.{History}
 use Rattle.feed_text.specs.declared.replay.ReplayConfig.{ReplayConfig}
-use Rattle.feed_text.specs.Capture.{CaptureRecord, datagram_record, record_of, record_venue}
+use Rattle.feed_text.specs.Capture.{CaptureRecord, datagram_record, record_venue}
 use Rattle.feed_text.specs.Following.{ReplayVenue, VenueList, FollowAll}
 use Rattle.feed_text.specs.Rules.{PutsIn, SkipsAt}
 use Rattle.feed_text.proofs.Telling.{history_at}
@@ -19,15 +19,13 @@ at_venue config hs r h None at none = λ number x.
     none number (subst (λ (k : History). SkipsAt config.skips config.window r k number) same x.skips)
 at_venue config hs r h (Some n) at some = record { before = h; at = at; skips = some }
 
-pub returns-in-Datagram : goal.returns-in-Datagram
-returns-in-Datagram c = λ hs f.
-    let r : CaptureRecord = datagram_record c.in-Datagram.venue c.in-Datagram.line c.in-Datagram.bytes.now in
-    let is : record_of c.args.next.now ≡ r = ap record_of c.in-Datagram.is in
+pub returns : goal.returns
+returns c = λ line hs f.
+    let r : CaptureRecord = datagram_record c.args.venue line c.args.bytes.now in
     let items : List ReplayVenue = c.self.inside.venues.items in
     let g : FollowAll c.args.config.now.window items hs = subst (λ (s : VenueList). FollowAll c.args.config.now.window s.items hs) (sym c.self.view_is) f in
     let there : record_venue r < length items = rw (← c.index.ensures.value) (search rules) in
     let at = slice_get_read items (length items) (record_venue r) _ refl there (rw (← c.index.ensures.value) c.index-replay.ensures) in
     let h = history_at c.args.config.now.window items hs (record_venue r) c.index-replay.result.now g at in
-    rw is
-    (at_venue c.args.config.now hs r h.0 c.skip_before_datagram.result h.1
-    (c.skip_before_datagram.ensures (record_venue r) c.in-Datagram.line h.0 h.2))
+    at_venue c.args.config.now hs r h.0 c.skip_before_datagram.result h.1
+    (c.skip_before_datagram.ensures (record_venue r) line h.0 h.2)
