@@ -1,5 +1,5 @@
 -- What venues lack at the end of a replay, from an empty list on, and what is told of it.
-use Rattle.std.proofs.Common.{◌≡◌, List, [], ℕ, subst}
+use Rattle.std.proofs.Common.{◌≡◌, List, [], subst}
 use Rattle.std.specs.Prelude.{Bool, OnOk, Result}
 use Rattle.feed_text.specs.Devices.{Reading, Writing}
 use Rattle.feed_text.specs.Lacks.{AppendsLacks}
