@@ -1,6 +1,7 @@
 pub mod Crossing
 pub mod Ends
 pub mod Following
+pub mod RunTelling
 pub mod Seeing
 pub mod Telling
 pub mod Watching

@@ -1,28 +1,28 @@
 -- What is said of lines, one thing after the other.
-use Rattle.std.proofs.Common.{List, [], ◌∷◌, ◌++◌, ◌≡◌, ◌≢◌, ◌∙◌, ◌<◌, ℕ, zero, suc, Contains, ap, drop, flat_map, get_or, length, map, refl, sym, subst, take, arith}
+use Rattle.std.proofs.Common.{List, [], ◌∷◌, ◌++◌, ◌≡◌, ◌≢◌, ◌∙◌, ◌<◌, ℕ, zero, suc, Contains, ap, flat_map, get_or, length, map, refl, sym, subst, arith}
 use Rattle.std.specs.Prelude.{Bool, false, ◌==◌, if◌then◌else◌}
 use Rattle.std.proofs.lemmas.Bool.Decides.{nat_tests}
 use Rattle.std.proofs.lemmas.Grind.{flat_map-append}
-use Rattle.std.proofs.lemmas.List.{append-nil, get_or-map, length-map, map-append, take-append-drop}
-use Rattle.std.proofs.lemmas.List.Elements.{All-append, Contains-append_left}
+use Rattle.std.proofs.lemmas.List.{append-nil, get_or-map, length-map, map-append}
+use Rattle.std.proofs.lemmas.List.Elements.{All-append}
 use Rattle.feed_types.specs.declared.line.LineId.{LineId}
 use Rattle.feed_text.specs.Devices.{Writing}
 use Rattle.feed_text.specs.StandardError.{SaysEach}
 use Rattle.feed_text.specs.laws.SaidTexts.{says_each}
-use Rattle.udp_listening.specs.News.{LineTally, SaysNews, SaysOfLines, SaysTotals, news_texts, total_if, total_texts, totals_of}
+use Rattle.udp_listening.specs.News.{LineTally, SaysNews, SaysTotals, news_texts, total_if, total_texts, totals_of}
 use Rattle.udp_listening.specs.declared.line_news.LineCounted.{LineCounted}
 use Rattle.udp_listening.specs.declared.line_news.LineCounted.TheVariants.{Passed, Unsent}
 use Rattle.udp_listening.specs.declared.line_news.LineNews.{LineNews}
 use Rattle.udp_listening.specs.declared.line_news.LineTotal.{LineTotal}
 
 -- the texts of one thing
-each_of_one : {E X : Type 0} (w : Writing E) (f : X → List (List ℕ)) (x : X) (s t : E)
+pub each_of_one : {E X : Type 0} (w : Writing E) (f : X → List (List ℕ)) (x : X) (s t : E)
     → SaysEach w (f x) s t → SaysEach w (flat_map f (x ∷ [])) s t
 each_of_one w f x s t said =
     subst (λ (texts : List (List ℕ)). SaysEach w texts s t) (sym (append-nil (f x))) said
 
 -- the texts of things after those of others
-each_of_more : {E X : Type 0} (w : Writing E) (f : X → List (List ℕ)) (xs ys : List X) (s t u : E)
+pub each_of_more : {E X : Type 0} (w : Writing E) (f : X → List (List ℕ)) (xs ys : List X) (s t u : E)
     → SaysEach w (flat_map f xs) s t → SaysEach w (flat_map f ys) t u
     → SaysEach w (flat_map f (xs ++ ys)) s u
 each_of_more w f xs ys s t u a b =
@@ -30,12 +30,12 @@ each_of_more w f xs ys s t u a b =
     (says_each w (flat_map f xs) (flat_map f ys) s t u a b)
 
 -- what is so of one thing is so at each place of a list of one
-at_one : {X : Type 0} (P : X → Type 0) (x : X) → P x → (k : ℕ) (d : X) → k < 1 → P (get_or (x ∷ []) k d)
+pub at_one : {X : Type 0} (P : X → Type 0) (x : X) → P x → (k : ℕ) (d : X) → k < 1 → P (get_or (x ∷ []) k d)
 at_one P x holds zero d inside = holds
 at_one P x holds (suc k) d inside = absurd (omega (arith, inside))
 
 -- what is in a list of one is in each list that has that one
-within_one : {X : Type 0} (xs : List X) (x y : X) → Contains xs x → (k : ℕ) → k < 1
+pub within_one : {X : Type 0} (xs : List X) (x y : X) → Contains xs x → (k : ℕ) → k < 1
     → get_or (x ∷ []) k y ≡ y → Contains xs y
 within_one xs x y there zero inside same = subst (λ z. Contains xs z) same there
 within_one xs x y there (suc k) inside same = absurd (omega (arith, inside))
@@ -137,34 +137,3 @@ more_totals w lines more s t u a b = record {
       (sym (flat_map-append totals_of a.counts b.counts))
       (each_of_more w total_texts (flat_map totals_of a.counts) (flat_map totals_of b.counts) s t u a.says b.says);
 }
-
--- nothing was said of lines
-pub nothing_of_lines : {E : Type 0} (w : Writing E) (lines : List (ℕ × LineId)) (s : E)
-    → SaysOfLines w lines s s
-nothing_of_lines w lines s =
-    record { mid = s; news = no_news w lines s; totals = no_totals w lines s }
-
--- news, and then the same and totals
-pub more_of_lines : {E : Type 0} (w : Writing E) (lines : List (ℕ × LineId)) (s t u : E)
-    → SaysNews w lines s t → SaysOfLines w lines t u → SaysOfLines w lines s u
-more_of_lines w lines s t u a b = record {
-  mid = b.mid;
-  news = more_news w lines s t b.mid a b.news;
-  totals = b.totals;
-}
-
--- what is said of the first lines is said of all
-pub said_of_first : {E : Type 0} (w : Writing E) (count : ℕ) (lines : List (ℕ × LineId)) (s t : E)
-    → SaysOfLines w (take count lines) s t → SaysOfLines w lines s t
-said_of_first w count lines s t said =
-    let first = take count lines in
-    let rest = drop count lines in
-    subst (λ all. SaysOfLines w all s t) (take-append-drop count lines) (record {
-      mid = said.mid;
-      news = record {
-        news = said.news.news;
-        named = λ k d inside. Contains-append_left first rest _ (said.news.named k d inside);
-        says = said.news.says;
-      };
-      totals = more_totals w first rest said.mid t t said.totals (no_totals w rest t);
-    })

@@ -14,8 +14,8 @@ use Rattle.live_feed.specs.declared.subscriber.logged.Logged.{Logged}
 use Rattle.live_feed.specs.venue.Seats.{SeatState}
 use Rattle.live_feed.specs.settle.Settlements.{SettlementState, VenueEndState, SubscriberEndState}
 use Rattle.feed_text.specs.StandardError.{Says, SaysEach}
-use Rattle.udp_listening.specs.News.{SaysOfLines}
-use Rattle.udp_listening.specs.RunLines.{listened_lines}
+use Rattle.udp_listening.specs.RunLines.{listened_run}
+use Rattle.udp_listening.specs.RunNews.{SaysOfRun}
 use Rattle.udp_listening.specs.UdpLines.{UdpLineState}
 use Rattle.udp_listening.specs.declared.desk.Desk.{Desk}
 use Rattle.udp_listening.specs.declared.desk.Following.{Following}
@@ -274,10 +274,10 @@ ListensToEnd writing telling (Err fault) before after silent told status =
     × Says telling (listen_fault_text fault) silent told × (status ≡ 1)
 
 -- However it is asked to end and to print, listening ends in one of these ways. Before, standard
--- error has whatever counts the settings ask for, and where they ask for none what is said of lines.
+-- error has whatever counts the settings ask for, and where they ask for none what is said of the run.
 pub record Listens {W E : Type 0} (writing : Writing W) (telling : Writing E)
     (settings : ListenSettings) (before after : W) (silent told : E) (status : ℕ) : Type 0 where
   pub outcome : Result ListenReport ListenFault
   pub counted : E
-  pub quiet : settings.stats ≡ None → SaysOfLines telling (listened_lines settings) silent counted
+  pub quiet : settings.stats ≡ None → SaysOfRun telling (listened_run settings) silent counted
   pub ends : ListensToEnd writing telling outcome before after counted told status

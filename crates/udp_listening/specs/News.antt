@@ -94,10 +94,3 @@ pub record SaysTotals {E : Type 0} (writing : Writing E) (lines : List (ℕ × L
   pub counts : List LineTally
   pub one_each : map (λ c. c.line) counts ≡ lines
   pub says : SaysEach writing (flat_map total_texts (flat_map totals_of counts)) before after
-
--- news of these lines, and then totals of each
-pub record SaysOfLines {E : Type 0} (writing : Writing E) (lines : List (ℕ × LineId))
-    (before after : E) : Type 0 where
-  pub mid : E
-  pub news : SaysNews writing lines before mid
-  pub totals : SaysTotals writing lines mid after

@@ -1,11 +1,21 @@
--- The lines of a run, each by its venue's number.
-use Rattle.std.specs.Prelude.{ℕ, ◌/◌, ◌%◌, ◌==◌, List, map, vec_len, if◌then◌else◌}
+-- What is watched of a run: its lines, each by its venue's number, and the venues whose gaps may be given
+-- up.
+use Rattle.std.specs.Prelude.{ℕ, ◌/◌, ◌%◌, ◌==◌, List, [], map, vec_len, if◌then◌else◌}
 use Rattle.std.specs.List.{range_with_len}
 use Rattle.feed_types.specs.declared.line.LineId.{LineId}
 use Rattle.feed_types.specs.declared.line.LineId.TheVariants.{A, B}
 use Rattle.command_words.specs.declared.listen_settings.ListenSettings.{ListenSettings}
+use Rattle.udp_listening.specs.Gaps.{gives_up, rule_of}
+use Rattle.udp_listening.specs.declared.gap_watch.GapWatch.{GapWatch}
+use Rattle.udp_listening.specs.declared.gap_watches.GapWatches.{GapWatches}
 use Rattle.udp_listening.specs.declared.line_watch.LineWatch.{LineWatch}
 use Rattle.udp_listening.specs.declared.line_watch.LineWatches.{LineWatches}
+use Rattle.udp_listening.specs.declared.run_watches.RunWatches.{RunWatches}
+
+-- the lines, and the venues whose gaps may be given up
+pub record WatchedRun : Type 0 where
+  pub lines : List (ℕ × LineId)
+  pub venues : List ℕ
 
 -- the line of an address: line A's and then line B's, those of venue 0 first
 abbrev pub line_at : ℕ → LineId
@@ -26,3 +36,26 @@ watched watch = (watch.venue, watch.line)
 -- the lines that are watched, in their order
 abbrev pub watched_lines : LineWatches → List (ℕ × LineId)
 watched_lines watches = map watched watches.lines.items
+
+-- the venues of the settings whose gaps may be given up: each, or none where the settings let no gap be
+abbrev pub skipping_venues : ListenSettings → List ℕ
+skipping_venues settings =
+    if gives_up (rule_of settings) then range_with_len 0 (vec_len settings.feed.sessions) else []
+
+-- the run of the settings
+abbrev pub listened_run : ListenSettings → WatchedRun
+listened_run settings =
+    record { lines = listened_lines settings; venues = skipping_venues settings }
+
+-- the venue that is watched
+abbrev pub watched_venue : GapWatch → ℕ
+watched_venue watch = watch.venue
+
+-- the venues that are watched, in their order
+abbrev pub watched_venues : GapWatches → List ℕ
+watched_venues watches = map watched_venue watches.gaps.items
+
+-- the run that is watched
+abbrev pub watched_run : RunWatches → WatchedRun
+watched_run watches =
+    record { lines = watched_lines watches.lines; venues = watched_venues watches.gaps }

@@ -1,17 +1,17 @@
 //! The attendant of a run at its work, beside the run's thread: it takes what the subscriber is offered,
-//! prints it where that is asked for, says what is new of the lines and what was counted, and stops the run where it is
-//! to end.
+//! prints it where that is asked for, says what is new of the lines and what was counted, gives up the gaps that are to
+//! be given up, and stops the run where it is to end.
 ghost use Rattle.std.specs.Prelude.{◌≡◌, IfOk, None};
 ghost use Rattle.feed_text.specs.Devices.{Writing};
 ghost use Rattle.udp_listening.specs.Listening.{KeepsFollowing};
-ghost use Rattle.udp_listening.specs.News.{SaysNews, SaysOfLines};
-ghost use Rattle.udp_listening.specs.RunLines.{watched_lines};
+ghost use Rattle.udp_listening.specs.RunLines.{watched_run};
+ghost use Rattle.udp_listening.specs.RunNews.{SaysOfRun, SaysRunNews};
 
 use crate::attendant::{Attendant, Turn};
 use crate::closed_run::{ClosedRun, RunOutcome, closed_run};
 use crate::desk::Desk;
-use crate::line_watch::LineWatches;
 use crate::listening::ListenFault;
+use crate::run_watches::RunWatches;
 use feed_text::{LineBuffer, TextOut};
 use feed_types::VenueId;
 use live_feed::{FeedName, StopHandle, SubscriberLog, VenueStatus};
@@ -24,8 +24,8 @@ use std::time::Clock;
 pub struct Attendance<N: FeedName, C, W, E> {
     pub attendant: Attendant<C>,
     pub desk: Desk<W, E>,
-    /// The lines of the run.
-    pub watches: LineWatches,
+    /// The lines of the run, and the gaps of its venues.
+    pub watches: RunWatches,
     pub log: SubscriberLog<N>,
     /// Where lines are put together.
     pub text: LineBuffer,
@@ -33,18 +33,27 @@ pub struct Attendance<N: FeedName, C, W, E> {
 
 impl<N: FeedName, C: Clock + Drop, W: TextOut, E: TextOut> Attendance<N, C, W, E> {
     /// Attends a run until it is over, and stops it where it is to end. Where the run doesn't begin it
-    /// stops it, and gives up. `status` returns what a venue has come to, or None where there is none.
-    pub fn attend<R, S>(self, rt: &R, stop: &StopHandle, status: S) -> Attendance<N, C, W, E>
+    /// stops it, and gives up. `status` returns what a venue has come to, or None where there is none; `skip` goes on
+    /// from a message of a venue, and returns whether it did.
+    pub fn attend<R, S, K>(
+        self,
+        rt: &R,
+        stop: &StopHandle,
+        status: S,
+        skip: K,
+    ) -> Attendance<N, C, W, E>
     where
         R: Wait,
         S: Fn(VenueId) -> Option<VenueStatus>,
-        requires { S.IsAlwaysCallable status }
+        K: Fn(VenueId, u64) -> bool,
+        requires status { S.IsAlwaysCallable status }
+        requires skip { K.IsAlwaysCallable skip }
         ensures shows { KeepsFollowing (record { adds = W.adds; failures = W.failures })
             self.log.lines self.desk result.log.lines result.desk }
-        ensures lines { watched_lines result.watches ≡ watched_lines self.watches }
+        ensures run { watched_run result.watches ≡ watched_run self.watches }
         ensures quiet { self.attendant.counts ≡ None
-            → SaysNews (record { adds = E.adds; failures = E.failures })
-            (watched_lines self.watches) self.desk.errors result.desk.errors × (result.attendant.counts ≡ None) }
+            → SaysRunNews (record { adds = E.adds; failures = E.failures })
+            (watched_run self.watches) self.desk.errors result.desk.errors × (result.attendant.counts ≡ None) }
     {
         let mut attendance = self;
         for _ in rt.forever() {
@@ -56,7 +65,7 @@ impl<N: FeedName, C: Clock + Drop, W: TextOut, E: TextOut> Attendance<N, C, W, E
                 }
                 Turn::Stop => stop.stop(),
                 Turn::Tell => attendance.tell_each(&status),
-                Turn::Look => {}
+                Turn::Look => attendance.give_up_gaps(&status, &skip),
             }
         }
         attendance
@@ -67,9 +76,9 @@ impl<N: FeedName, C: Clock + Drop, W: TextOut, E: TextOut> Attendance<N, C, W, E
     fn turn<R: Wait>(&mut self, rt: &R) -> Turn
         ensures shows { KeepsFollowing (record { adds = W.adds; failures = W.failures })
             self.old.log.lines self.old.desk self.new.log.lines self.new.desk }
-        ensures lines { watched_lines self.new.watches ≡ watched_lines self.old.watches }
-        ensures news { SaysNews (record { adds = E.adds; failures = E.failures })
-            (watched_lines self.old.watches) self.old.desk.errors self.new.desk.errors }
+        ensures run { watched_run self.new.watches ≡ watched_run self.old.watches }
+        ensures news { SaysRunNews (record { adds = E.adds; failures = E.failures })
+            (watched_run self.old.watches) self.old.desk.errors self.new.desk.errors }
         ensures counts { self.new.attendant.counts ≡ self.old.attendant.counts }
     {
         let is_over = self.attendant.is_over();
@@ -86,12 +95,34 @@ impl<N: FeedName, C: Clock + Drop, W: TextOut, E: TextOut> Attendance<N, C, W, E
         ensures desk { self.new.desk ≡ record (self.old.desk) { errors = self.new.desk.errors } }
         ensures log { self.new.log ≡ self.old.log }
         ensures attendant { self.new.attendant ≡ self.old.attendant }
-        ensures lines { watched_lines self.new.watches ≡ watched_lines self.old.watches }
-        ensures news { SaysNews (record { adds = E.adds; failures = E.failures })
-            (watched_lines self.old.watches) self.old.desk.errors self.new.desk.errors }
+        ensures run { watched_run self.new.watches ≡ watched_run self.old.watches }
+        ensures news { SaysRunNews (record { adds = E.adds; failures = E.failures })
+            (watched_run self.old.watches) self.old.desk.errors self.new.desk.errors }
     {
         let second = self.attendant.elapsed_ms() / 1_000;
         self.watches.write_news(second, &mut self.desk.errors);
+    }
+
+    /// Gives up the gaps that are due, and says so, unless the run is over: nothing is printed of what comes then.
+    fn give_up_gaps<S, K>(&mut self, status: S, skip: K)
+    where
+        S: Fn(VenueId) -> Option<VenueStatus>,
+        K: Fn(VenueId, u64) -> bool,
+        requires status { S.IsAlwaysCallable status }
+        requires skip { K.IsAlwaysCallable skip }
+        ensures desk { self.new.desk ≡ record (self.old.desk) { errors = self.new.desk.errors } }
+        ensures log { self.new.log ≡ self.old.log }
+        ensures attendant { self.new.attendant ≡ self.old.attendant }
+        ensures run { watched_run self.new.watches ≡ watched_run self.old.watches }
+        ensures news { SaysRunNews (record { adds = E.adds; failures = E.failures })
+            (watched_run self.old.watches) self.old.desk.errors self.new.desk.errors }
+    {
+        if self.attendant.is_over() {
+            return;
+        }
+        let elapsed_ms = self.attendant.elapsed_ms();
+        let errors = &mut self.desk.errors;
+        self.watches.give_up_gaps(elapsed_ms, status, skip, errors);
     }
 
     /// Says what is new of the lines of a run that is over, and then what was counted of them.
@@ -99,8 +130,8 @@ impl<N: FeedName, C: Clock + Drop, W: TextOut, E: TextOut> Attendance<N, C, W, E
         ensures desk { self.new.desk ≡ record (self.old.desk) { errors = self.new.desk.errors } }
         ensures log { self.new.log ≡ self.old.log }
         ensures attendant { self.new.attendant ≡ self.old.attendant }
-        ensures says { SaysOfLines (record { adds = E.adds; failures = E.failures })
-            (watched_lines self.old.watches) self.old.desk.errors self.new.desk.errors }
+        ensures says { SaysOfRun (record { adds = E.adds; failures = E.failures })
+            (watched_run self.old.watches) self.old.desk.errors self.new.desk.errors }
     {
         self.say_news();
         self.watches.write_totals(&mut self.desk.errors);
@@ -145,8 +176,8 @@ impl<N: FeedName, C: Clock + Drop, W: TextOut, E: TextOut> Attendance<N, C, W, E
         ensures log { IfOk result.0 (λ closed. closed.log ≡ self.log) }
         ensures desk { result.1 ≡ record (self.desk) { errors = result.1.errors } }
         ensures quiet { self.attendant.counts ≡ None
-            → SaysOfLines (record { adds = E.adds; failures = E.failures })
-            (watched_lines self.watches) self.desk.errors result.1.errors }
+            → SaysOfRun (record { adds = E.adds; failures = E.failures })
+            (watched_run self.watches) self.desk.errors result.1.errors }
     {
         let mut attendance = self;
         attendance.say_of_lines();

@@ -33,7 +33,7 @@ pub enum Turn {
     Stop,
     /// What was counted is to be printed.
     Tell,
-    /// Another look.
+    /// Another look, once the gaps were looked at.
     Look,
 }
 

@@ -6,8 +6,10 @@ ghost use Rattle.udp_listening.specs.Listening.{Listens, PrintsEnd, PrintsFailed
 
 use crate::attendant::Attendant;
 use crate::desk::{Desk, Following};
+use crate::gap_watches::GapWatches;
 use crate::listen_lines::write_report_lines;
 use crate::listening::{ListenFault, ListenReport, ListenTask, Listened, config_of, run_feed};
+use crate::run_watches::RunWatches;
 use crate::sources::lines_over;
 use crate::summary::summary_of;
 use command_words::ListenSettings;
@@ -137,7 +139,8 @@ fn following_of(settings: &ListenSettings) -> Following
 /// the program: 0, or 1 where a line failed, the run stopped early, or not all was printed.
 ///
 /// Where the settings ask for it, best lines are printed as they come, and counts on standard error. That has also what
-/// is news of the lines, as it comes, and at the end what was counted of them.
+/// is news of the lines, as it comes, and which gaps were given up, as the settings say, and at the end what was counted
+/// of the lines.
 pub fn listen_with<R, C, W, E>(
     rt: &R,
     clock: &C,
@@ -159,9 +162,10 @@ where
         settings.now output result.1 errors result.2 result.0 }
 {
     let mut desk = Desk::new(output, errors, following_of(settings));
-    let (Ok(feed), Ok(lines), Ok(attendant)) = (
+    let (Ok(feed), Ok(lines), Ok(gaps), Ok(attendant)) = (
         LiveFeed::<Anything>::new(alloc, &config_of(settings)),
         lines_over(alloc, settings, sockets, clock),
+        GapWatches::of(alloc, settings),
         Attendant::of(alloc, settings, input, clock),
     ) else {
         let status = print_end(alloc, &Err(ListenFault::NoMemory), &mut desk);
@@ -169,7 +173,7 @@ where
     };
     let task = ListenTask {
         sources: lines.sources,
-        watches: lines.watches,
+        watches: RunWatches::new(lines.watches, gaps),
         terms: Terms::All,
         attendant,
         desk,

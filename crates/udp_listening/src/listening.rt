@@ -2,14 +2,14 @@
 ghost use Rattle.std.specs.Prelude.{◌≡◌, Err, None};
 ghost use Rattle.feed_text.specs.Devices.{Writing};
 ghost use Rattle.udp_listening.specs.Listening.{HasListened, IsFeedOf, IsUnprinted, KeepsFollowing};
-ghost use Rattle.udp_listening.specs.News.{SaysNews, SaysOfLines};
-ghost use Rattle.udp_listening.specs.RunLines.{watched_lines};
+ghost use Rattle.udp_listening.specs.RunLines.{watched_run};
+ghost use Rattle.udp_listening.specs.RunNews.{SaysOfRun, SaysRunNews};
 
 use crate::attendance::Attendance;
 use crate::attendant::Attendant;
 use crate::closed_run::ClosedRun;
 use crate::desk::Desk;
-use crate::line_watch::LineWatches;
+use crate::run_watches::RunWatches;
 use crate::sources::seated;
 use crate::udp_line::UdpLine;
 use command_words::ListenSettings;
@@ -70,12 +70,12 @@ pub fn config_of(settings: &ListenSettings) -> FeedConfig<'_>
     }
 }
 
-/// What is run: the lines' sources in the order of the settings, the same lines for the attendant, what the subscriber
-/// wants, the run's attendant, and where the program prints.
+/// What is run: the lines' sources in the order of the settings, the same lines and their venues for the attendant, what
+/// the subscriber wants, the run's attendant, and where the program prints.
 #[derive(Drop)]
 pub struct ListenTask<C, W, E> {
     pub sources: Vec<UdpLine<C>>,
-    pub watches: LineWatches,
+    pub watches: RunWatches,
     pub terms: Terms,
     pub attendant: Attendant<C>,
     pub desk: Desk<W, E>,
@@ -150,8 +150,8 @@ where
         task.desk.output result.outcome result.desk.following result.desk.printed
         result.desk.output }
     ensures quiet { task.attendant.counts ≡ None
-        → SaysOfLines (record { adds = E.adds; failures = E.failures })
-        (watched_lines task.watches) task.desk.errors result.desk.errors }
+        → SaysOfRun (record { adds = E.adds; failures = E.failures })
+        (watched_run task.watches) task.desk.errors result.desk.errors }
 {
     let ListenTask {
         sources,
@@ -197,12 +197,19 @@ where
         || -> Attendance<N, C, W, E>
             ensures shows { KeepsFollowing (record { adds = W.adds; failures = W.failures })
                 attendance.log.lines attendance.desk result.log.lines result.desk }
-            ensures lines { watched_lines result.watches ≡ watched_lines attendance.watches }
+            ensures run { watched_run result.watches ≡ watched_run attendance.watches }
             ensures quiet { attendance.attendant.counts ≡ None
-                → SaysNews (record { adds = E.adds; failures = E.failures })
-                (watched_lines attendance.watches) attendance.desk.errors result.desk.errors
+                → SaysRunNews (record { adds = E.adds; failures = E.failures })
+                (watched_run attendance.watches) attendance.desk.errors result.desk.errors
                 × (result.attendant.counts ≡ None) }
-        { attendance.attend(rt, &stop, |venue| feed.status(rt, venue).ok()) },
+        {
+            attendance.attend(
+                rt,
+                &stop,
+                |venue| feed.status(rt, venue).ok(),
+                |venue, number| feed.skip_to(rt, venue, number).is_ok(),
+            )
+        },
     );
     let statuses = statuses_by(alloc, |venue| feed.status(rt, venue).ok());
     let (closed, desk) = attendance.close(alloc, ran, statuses);

@@ -1,10 +1,10 @@
-use Rattle.std.proofs.Common.{[], ◌≡◌, Err, ap, length, subst, sym}
+use Rattle.std.proofs.Common.{[], ◌≡◌, ◌∙◌, Err, ap, length, subst, sym, take}
 use Rattle.feed_text.specs.Devices.{Writing}
 use Rattle.udp_listening.specs.Listening.{ListensToEnd}
-use Rattle.udp_listening.specs.News.{SaysOfLines}
-use Rattle.udp_listening.specs.RunLines.{listened_lines}
+use Rattle.udp_listening.specs.RunLines.{listened_lines, listened_run, skipping_venues, watched_run, watched_venues}
+use Rattle.udp_listening.specs.RunNews.{SaysOfRun}
 use Rattle.udp_listening.specs.declared.listening.ListenFault.TheVariants.{NoMemory}
-use Rattle.udp_listening.proofs.Telling.{nothing_of_lines, said_of_first}
+use Rattle.udp_listening.proofs.RunTelling.{nothing_of_run, said_of_first}
 use Rattle.udp_listening.proofs.Wholes.{listened}
 use Rattle.udp_listening.proofs.listen.listen_with.Goals as goal
 
@@ -19,8 +19,8 @@ returns-in_default g c =
       outcome = Err NoMemory;
       counted = desk.errors;
       quiet = λ none.
-          subst (λ (told : g.row.E.Denot). SaysOfLines telling (listened_lines c.args.settings.now) c.args.errors told)
-          (sym (ap (λ d. d.errors) c.new-desk.ensures.desk)) (nothing_of_lines telling (listened_lines c.args.settings.now) c.args.errors);
+          subst (λ (told : g.row.E.Denot). SaysOfRun telling (listened_run c.args.settings.now) c.args.errors told)
+          (sym (ap (λ d. d.errors) c.new-desk.ensures.desk)) (nothing_of_run telling (listened_run c.args.settings.now) c.args.errors);
       ends =
           subst (λ (first : g.row.W.Denot). ListensToEnd writing telling (Err NoMemory) first
           ended.new.desk.output desk.errors ended.new.desk.errors ended.result) output
@@ -42,12 +42,17 @@ returns g c =
       outcome = outcome;
       counted = desk.errors;
       quiet = λ none.
-          let lines = listened_lines c.args.settings.now in
-          subst (λ (silent : g.row.E.Denot). SaysOfLines telling lines silent desk.errors)
+          let settings = c.args.settings.now in
+          let same : watched_run c.new-2.result ≡ record { lines = take (length c.args.sockets.items) (listened_lines settings); venues = skipping_venues settings } =
+          ap (λ w. watched_run w) c.new-2.ensures
+          ∙ ap (λ first. record { lines = first; venues = watched_venues c.in-Ok-Ok-Ok-Ok.gaps }) c.in-Ok-Ok-Ok-Ok.ensures'
+          ∙ ap (λ venues. record { lines = take (length c.args.sockets.items) (listened_lines settings); venues = venues }) c.in-Ok-Ok-Ok-Ok.ensures'' in
+          subst (λ (silent : g.row.E.Denot). SaysOfRun telling (listened_run settings) silent desk.errors)
           (ap (λ d. d.errors) c.new-desk.ensures.desk)
-          (said_of_first telling (length c.args.sockets.items) lines before.errors desk.errors
-          (subst (λ first. SaysOfLines telling first before.errors desk.errors) c.in-Ok-Ok-Ok.ensures'
-          (c.run_feed-outcome.ensures.quiet (c.in-Ok-Ok-Ok.ensures'' none))));
+          (said_of_first telling (length c.args.sockets.items) (listened_lines settings) (skipping_venues settings)
+          before.errors desk.errors
+          (subst (λ first. SaysOfRun telling first before.errors desk.errors) same
+          (c.run_feed-outcome.ensures.quiet (c.in-Ok-Ok-Ok-Ok.ensures''' none))));
       ends =
           subst (λ (first : g.row.W.Denot). ListensToEnd writing telling outcome first
           ended.new.desk.output desk.errors ended.new.desk.errors ended.result) output

@@ -1,4 +1,4 @@
-use Rattle.std.proofs.Common.{◌≡◌, ℕ, [], ◌∷◌, ◌∙◌, ap, map, subst, sym, List}
+use Rattle.std.proofs.Common.{◌≡◌, [], ◌∷◌, ◌∙◌, ap, map, subst, sym, List}
 use Rattle.std.proofs.lemmas.Result.{IfOk-at_ok}
 use Rattle.std.specs.Prelude.{Result, Err, codes}
 use mir.Syntax.{Sym, named}
@@ -15,15 +15,14 @@ use Rattle.std.specs.contracts.alloc.Global as Global
 use Rattle.std.specs.contracts.impls.GlobalAllocator.TheImpl.{ghosts as heap}
 use Rattle.feed_types.specs.contracts.genuine.Anything as Anything
 use Rattle.feed_types.specs.contracts.genuine.AnythingGenuine.TheImpl.{ghosts as anything}
-use Rattle.feed_types.specs.declared.line.LineId.{LineId}
 use Rattle.feed_text.specs.Devices.{Writing}
 use Rattle.filter_terms.specs.contracts.filter.Filter.of.dyn-1.{slots}
 use Rattle.live_feed.specs.contracts.feed.open_feed.OpenFeed as OpenFeed
 use Rattle.live_feed.specs.contracts.run.line.Line as Line
 use Rattle.live_feed.specs.declared.subscriber.logged.Logged.{Logged}
 use Rattle.udp_listening.specs.Listening.{HasFollowed, HasListened}
-use Rattle.udp_listening.specs.News.{SaysOfLines}
-use Rattle.udp_listening.specs.RunLines.{watched_lines}
+use Rattle.udp_listening.specs.RunLines.{WatchedRun, watched_run}
+use Rattle.udp_listening.specs.RunNews.{SaysOfRun}
 use Rattle.udp_listening.specs.declared.desk.Desk.{Desk}
 use Rattle.udp_listening.specs.declared.listening.ListenFault.{ListenFault}
 use Rattle.udp_listening.specs.declared.listening.ListenFault.TheVariants.{NoMemory}
@@ -34,10 +33,10 @@ use Rattle.udp_listening.specs.contracts.udp_line.UdpLine as UdpLine
 use Rattle.udp_listening.specs.contracts.udp_line.UdpLineLineSourceAnything.TheImpl.{ghosts as source, no_dict}
 use Rattle.udp_listening.proofs.run_progress.RunProgress.TheSendSync.{the_send as progress_send}
 use Rattle.udp_listening.proofs.Crossing.{five_send, lines_send}
-use Rattle.udp_listening.proofs.Telling.{more_of_lines, nothing_of_lines}
+use Rattle.udp_listening.proofs.RunTelling.{more_of_run, nothing_of_run}
 use Rattle.udp_listening.proofs.Wholes.{settled_log_of}
 use Rattle.udp_listening.proofs.listening.run_feed.Goals.{in-Ok-settle, in-Err-settle}
-use Rattle.udp_listening.proofs.listening.run_feed.Lts.{arg-41-1}
+use Rattle.udp_listening.proofs.listening.run_feed.Lts.{arg-42-1}
 use Rattle.udp_listening.proofs.listening.run_feed.OwnLists.{own-1, lawful-own-1}
 use Rattle.udp_listening.proofs.listening.run_feed.Goals as goal
 
@@ -107,37 +106,37 @@ returns-clause-quiet g c =
     λ none.
     let w : Writing g.row.E.Denot = record { adds = g.E.TextOut.adds; failures = g.E.TextOut.failures } in
     let beside = c.join-ran.ensures.second.1.1 none in
-    more_of_lines w (watched_lines c.args.task.watches) c.args.task.desk.errors c.join-ran.result.1.desk.errors
+    more_of_run w (watched_run c.args.task.watches) c.args.task.desk.errors c.join-ran.result.1.desk.errors
     c.close-closed.result.1.errors beside.0
-    (subst (λ lines. SaysOfLines w lines c.join-ran.result.1.desk.errors c.close-closed.result.1.errors)
+    (subst (λ run. SaysOfRun w run c.join-ran.result.1.desk.errors c.close-closed.result.1.errors)
     c.join-ran.ensures.second.1.0 (c.close-closed.ensures.quiet beside.1))
 
 -- where there is no report
-untold : {W E : Type 0} (w : Writing E) (lines : List (ℕ × LineId)) (s : E) (desk : Desk W E) (fault : ListenFault) (r : Listened W E)
-    → r ≡ record { outcome = Err fault; desk = desk } → SaysOfLines w lines s desk.errors
-    → SaysOfLines w lines s r.desk.errors
-untold w lines s desk fault r is said = subst (λ r. SaysOfLines w lines s r.desk.errors) (sym is) said
+untold : {W E : Type 0} (w : Writing E) (run : WatchedRun) (s : E) (desk : Desk W E) (fault : ListenFault) (r : Listened W E)
+    → r ≡ record { outcome = Err fault; desk = desk } → SaysOfRun w run s desk.errors
+    → SaysOfRun w run s r.desk.errors
+untold w run s desk fault r is said = subst (λ r. SaysOfRun w run s r.desk.errors) (sym is) said
 
 pub returns-in_default-clause-quiet : goal.returns-in_default-clause-quiet
 returns-in_default-clause-quiet g c =
     λ none.
     let w : Writing g.row.E.Denot = record { adds = g.E.TextOut.adds; failures = g.E.TextOut.failures } in
-    untold w (watched_lines c.args.task.watches) c.args.task.desk.errors c.args.task.desk NoMemory _ c.unreported.ensures
-    (nothing_of_lines w (watched_lines c.args.task.watches) c.args.task.desk.errors)
+    untold w (watched_run c.args.task.watches) c.args.task.desk.errors c.args.task.desk NoMemory _ c.unreported.ensures
+    (nothing_of_run w (watched_run c.args.task.watches) c.args.task.desk.errors)
 
 pub returns-in-Err-clause-quiet : goal.returns-in-Err-clause-quiet
 returns-in-Err-clause-quiet g c =
     λ none.
     let w : Writing g.row.E.Denot = record { adds = g.E.TextOut.adds; failures = g.E.TextOut.failures } in
-    untold w (watched_lines c.args.task.watches) c.args.task.desk.errors c.args.task.desk _ _ c.unreported-in-Err.ensures
-    (nothing_of_lines w (watched_lines c.args.task.watches) c.args.task.desk.errors)
+    untold w (watched_run c.args.task.watches) c.args.task.desk.errors c.args.task.desk _ _ c.unreported-in-Err.ensures
+    (nothing_of_run w (watched_run c.args.task.watches) c.args.task.desk.errors)
 
 pub returns-in_default-2-clause-quiet : goal.returns-in_default-2-clause-quiet
 returns-in_default-2-clause-quiet g c =
     λ none.
     let w : Writing g.row.E.Denot = record { adds = g.E.TextOut.adds; failures = g.E.TextOut.failures } in
-    untold w (watched_lines c.args.task.watches) c.args.task.desk.errors c.args.task.desk NoMemory _ c.unreported-in_default-2.ensures
-    (nothing_of_lines w (watched_lines c.args.task.watches) c.args.task.desk.errors)
+    untold w (watched_run c.args.task.watches) c.args.task.desk.errors c.args.task.desk NoMemory _ c.unreported-in_default-2.ensures
+    (nothing_of_run w (watched_run c.args.task.watches) c.args.task.desk.errors)
 
 pub returns-in_default-2-clause-listened : goal.returns-in_default-2-clause-listened
 returns-in_default-2-clause-listened g c =
@@ -150,10 +149,10 @@ returns-in-Err-closed-clause-quiet g c =
     λ none.
     let w : Writing g.row.E.Denot = record { adds = g.E.TextOut.adds; failures = g.E.TextOut.failures } in
     let beside = c.join-ran.ensures.second.1.1 none in
-    untold w (watched_lines c.args.task.watches) c.args.task.desk.errors c.close-closed.result.1 _ _ c.unreported-in-Err-closed.ensures
-    (more_of_lines w (watched_lines c.args.task.watches) c.args.task.desk.errors c.join-ran.result.1.desk.errors
+    untold w (watched_run c.args.task.watches) c.args.task.desk.errors c.close-closed.result.1 _ _ c.unreported-in-Err-closed.ensures
+    (more_of_run w (watched_run c.args.task.watches) c.args.task.desk.errors c.join-ran.result.1.desk.errors
     c.close-closed.result.1.errors beside.0
-    (subst (λ lines. SaysOfLines w lines c.join-ran.result.1.desk.errors c.close-closed.result.1.errors)
+    (subst (λ run. SaysOfRun w run c.join-ran.result.1.desk.errors c.close-closed.result.1.errors)
     c.join-ran.ensures.second.1.0 (c.close-closed.ensures.quiet beside.1)))
 
 pub returns-in_default-from_array-clause-quiet : goal.returns-in_default-from_array-clause-quiet
@@ -161,10 +160,10 @@ returns-in_default-from_array-clause-quiet g c =
     λ none.
     let w : Writing g.row.E.Denot = record { adds = g.E.TextOut.adds; failures = g.E.TextOut.failures } in
     let beside = c.join-ran.ensures.second.1.1 none in
-    untold w (watched_lines c.args.task.watches) c.args.task.desk.errors c.close-closed.result.1 NoMemory _ c.unreported-in_default-from_array.ensures
-    (more_of_lines w (watched_lines c.args.task.watches) c.args.task.desk.errors c.join-ran.result.1.desk.errors
+    untold w (watched_run c.args.task.watches) c.args.task.desk.errors c.close-closed.result.1 NoMemory _ c.unreported-in_default-from_array.ensures
+    (more_of_run w (watched_run c.args.task.watches) c.args.task.desk.errors c.join-ran.result.1.desk.errors
     c.close-closed.result.1.errors beside.0
-    (subst (λ lines. SaysOfLines w lines c.join-ran.result.1.desk.errors c.close-closed.result.1.errors)
+    (subst (λ run. SaysOfRun w run c.join-ran.result.1.desk.errors c.close-closed.result.1.errors)
     c.join-ran.ensures.second.1.0 (c.close-closed.ensures.quiet beside.1)))
 
 -- The closure that runs the feed has where it marks its progress, references to the feed, to the
@@ -193,7 +192,7 @@ join-ran-requires-send-F g c κs within =
     (shr_send (named 8) κs.1.1.1.1.1.1.1.1.0 Global.the_row sync)
     lines in
     param_send 1
-    (arg-41-1 g.row.N g.row.R g.row.C g.row.W g.row.E g.N.laws g.R.laws g.C.laws g.W.laws g.E.laws
+    (arg-42-1 g.row.N g.row.R g.row.C g.row.W g.row.E g.N.laws g.R.laws g.C.laws g.W.laws g.E.laws
     g.N.FeedName g.N.FeedName-dict g.R.Threads g.R.Threads-dict g.R.Wait g.R.Wait-dict g.C.Clock g.C.Clock-dict
     g.W.TextOut g.W.TextOut-dict g.E.TextOut g.E.TextOut-dict g.C.Destruct-dict g.W.Destruct-dict g.E.Destruct-dict κs)
     (search (arg_send) depth 4)

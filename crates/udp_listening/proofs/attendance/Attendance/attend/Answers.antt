@@ -1,13 +1,12 @@
-use Rattle.std.proofs.Common.{◌≡◌, ◌∙◌, ℕ, List, Option, None, ap, refl, subst, sym}
-use Rattle.feed_types.specs.declared.line.LineId.{LineId}
+use Rattle.std.proofs.Common.{◌≡◌, ◌∙◌, List, Option, None, ap, refl, subst, sym}
 use Rattle.feed_text.specs.Devices.{Writing}
 use Rattle.live_feed.specs.declared.subscriber.logged.Logged.{Logged}
 use Rattle.udp_listening.specs.Listening.{HasFollowed}
-use Rattle.udp_listening.specs.News.{SaysNews}
-use Rattle.udp_listening.specs.RunLines.{watched_lines}
+use Rattle.udp_listening.specs.RunLines.{WatchedRun, watched_run}
+use Rattle.udp_listening.specs.RunNews.{SaysRunNews}
 use Rattle.udp_listening.specs.declared.desk.Desk.{Desk}
 use Rattle.udp_listening.specs.declared.listen_counts.ListenCounts.{ListenCounts}
-use Rattle.udp_listening.proofs.Telling.{more_news, no_news}
+use Rattle.udp_listening.proofs.RunTelling.{more_run_news, no_run_news}
 use Rattle.udp_listening.proofs.attendance.Attendance.attend.Goals.{in-None, in-Some+in-Over, in-Some+in-GiveUp}
 use Rattle.udp_listening.proofs.attendance.Attendance.attend.Goals as goal
 
@@ -21,11 +20,11 @@ shown_beside w first log longer before after same_log same shown =
     (subst (λ lines. HasFollowed w first lines before.following before.printed before.output) (sym same_log) shown)
 
 -- what standard error has without counts, after the news of one more turn
-turned : {E : Type 0} (w : Writing E) (lines now : List (ℕ × LineId)) (s t u : E)
-    (counts after : Option ListenCounts) → now ≡ lines → SaysNews w lines s t × (counts ≡ None)
-    → SaysNews w now t u → after ≡ counts → SaysNews w lines s u × (after ≡ None)
-turned w lines now s t u counts after same before news kept = (
-  more_news w lines s t u before.0 (subst (λ l. SaysNews w l t u) same news),
+turned : {E : Type 0} (w : Writing E) (run now : WatchedRun) (s t u : E)
+    (counts after : Option ListenCounts) → now ≡ run → SaysRunNews w run s t × (counts ≡ None)
+    → SaysRunNews w now t u → after ≡ counts → SaysRunNews w run s u × (after ≡ None)
+turned w run now s t u counts after same before news kept = (
+  more_run_news w run s t u before.0 (subst (λ r. SaysRunNews w r t u) same news),
   kept ∙ before.1,
 )
 
@@ -33,7 +32,7 @@ pub loop-init : goal.loop-init
 loop-init g c =
     let w : Writing g.row.E.Denot = record { adds = g.E.TextOut.adds; failures = g.E.TextOut.failures } in
     let s = c.args.self in
-    (tt, tt, λ first h. h, refl, λ none. (no_news w (watched_lines s.watches) s.desk.errors, none))
+    (tt, tt, λ first h. h, refl, λ none. (no_run_news w (watched_run s.watches) s.desk.errors, none))
 
 pub loop-preserved-in-Stop : goal.loop-preserved-in-Stop
 loop-preserved-in-Stop g c =
@@ -41,18 +40,29 @@ loop-preserved-in-Stop g c =
       tt,
       tt,
       λ first h. c.turn.ensures.shows first (c.loop.invariant.2 first h),
-      c.turn.ensures.lines ∙ c.loop.invariant.3,
+      c.turn.ensures.run ∙ c.loop.invariant.3,
       λ none. turned w _ _ _ _ _ _ _ c.loop.invariant.3 (c.loop.invariant.4 none) c.turn.ensures.news c.turn.ensures.counts,
     )
 
 pub loop-preserved : goal.loop-preserved
 loop-preserved g c =
-    let w : Writing g.row.E.Denot = record { adds = g.E.TextOut.adds; failures = g.E.TextOut.failures } in (
+    let out : Writing g.row.W.Denot = record { adds = g.W.TextOut.adds; failures = g.W.TextOut.failures } in
+    let w : Writing g.row.E.Denot = record { adds = g.E.TextOut.adds; failures = g.E.TextOut.failures } in
+    let at = c.turn.new.self in
+    let now = c.give_up_gaps.new.self in
+    let before = c.turn.ensures.run ∙ c.loop.invariant.3 in (
       tt,
       tt,
-      λ first h. c.turn.ensures.shows first (c.loop.invariant.2 first h),
-      c.turn.ensures.lines ∙ c.loop.invariant.3,
-      λ none. turned w _ _ _ _ _ _ _ c.loop.invariant.3 (c.loop.invariant.4 none) c.turn.ensures.news c.turn.ensures.counts,
+      λ first h.
+          shown_beside out first at.log.lines now.log.lines at.desk now.desk
+          (ap (λ log. log.lines) c.give_up_gaps.ensures.log) c.give_up_gaps.ensures.desk
+          (c.turn.ensures.shows first (c.loop.invariant.2 first h)),
+      c.give_up_gaps.ensures.run ∙ before,
+      λ none.
+          let news =
+          turned w _ _ _ _ _ _ _ c.loop.invariant.3 (c.loop.invariant.4 none) c.turn.ensures.news c.turn.ensures.counts in
+          turned w _ _ _ _ _ _ _ before news c.give_up_gaps.ensures.news
+          (ap (λ attendant. attendant.counts) c.give_up_gaps.ensures.attendant),
     )
 
 pub loop-preserved-in-Tell : goal.loop-preserved-in-Tell
@@ -60,29 +70,29 @@ loop-preserved-in-Tell g c =
     let out : Writing g.row.W.Denot = record { adds = g.W.TextOut.adds; failures = g.W.TextOut.failures } in
     let w : Writing g.row.E.Denot = record { adds = g.E.TextOut.adds; failures = g.E.TextOut.failures } in
     let at = c.turn.new.self in
-    let lines = watched_lines c.args.self.watches in (
+    let run = watched_run c.args.self.watches in (
       tt,
       tt,
       λ first h.
           shown_beside out first at.log.lines c.tell_each.new.self.log.lines at.desk c.tell_each.new.self.desk
           (ap (λ log. log.lines) c.tell_each.ensures.log) c.tell_each.ensures.desk
           (c.turn.ensures.shows first (c.loop.invariant.2 first h)),
-      ap (λ watches. watched_lines watches) c.tell_each.ensures.watches ∙ c.turn.ensures.lines ∙ c.loop.invariant.3,
+      ap (λ watches. watched_run watches) c.tell_each.ensures.watches ∙ c.turn.ensures.run ∙ c.loop.invariant.3,
       λ none.
           let news =
           turned w _ _ _ _ _ _ _ c.loop.invariant.3 (c.loop.invariant.4 none) c.turn.ensures.news c.turn.ensures.counts in
           let told = c.tell_each.ensures.quiet news.1 in (
-            subst (λ (errors : g.row.E.Denot). SaysNews w lines c.args.self.desk.errors errors) (sym told.0) news.0,
+            subst (λ (errors : g.row.E.Denot). SaysRunNews w run c.args.self.desk.errors errors) (sym told.0) news.0,
             told.1,
           ),
     )
 
-pub returns-clause-lines : goal.returns-clause-lines
-returns-clause-lines g c =
+pub returns-clause-run : goal.returns-clause-run
+returns-clause-run g c =
     elim c.match-next.branch [
       | in-None w' ↦ rw w'.attendance-is c.loop.invariant.3
-      | in-Some+in-Over w' ↦ rw w'.attendance-is (w'.turn.ensures.lines ∙ c.loop.invariant.3)
-      | in-Some+in-GiveUp w' ↦ rw w'.attendance-is (w'.turn.ensures.lines ∙ c.loop.invariant.3)
+      | in-Some+in-Over w' ↦ rw w'.attendance-is (w'.turn.ensures.run ∙ c.loop.invariant.3)
+      | in-Some+in-GiveUp w' ↦ rw w'.attendance-is (w'.turn.ensures.run ∙ c.loop.invariant.3)
     ]
 
 pub returns-clause-quiet : goal.returns-clause-quiet

@@ -1,4 +1,4 @@
-use Rattle.std.proofs.Common.{subst}
+use Rattle.std.proofs.Common.{ap, subst}
 use Rattle.feed_text.specs.Devices.{Writing}
 use Rattle.udp_listening.specs.News.{SaysTotals}
 use Rattle.udp_listening.proofs.attendance.Attendance.say_of_lines.Goals as goal
@@ -10,6 +10,6 @@ returns-clause-says g c =
       mid = mid;
       news = c.say_news.ensures.news;
       totals =
-          subst (λ lines. SaysTotals w lines mid c.write_totals.new.errors) c.say_news.ensures.lines
+          subst (λ lines. SaysTotals w lines mid c.write_totals.new.errors) (ap (λ run. run.lines) c.say_news.ensures.run)
           c.write_totals.ensures;
     }
