@@ -39,10 +39,14 @@ pub(crate) struct RowStyle<'q> {
 }
 
 impl RowStyle<'_> {
-    /// Goes on to the next datagram where this is the line of its packet.
+    /// Goes on to the next datagram where this is the line of its packet. A skip stands before the packet line of
+    /// the datagram that a rule puts it in before.
     #[inline(always)]
     pub(crate) fn go_on(self, line: &[u8], clock: &mut RowClock) {
         if let Some(times) = self.times {
+            if line.starts_with(b"skip ") {
+                clock.time = times.get(clock.packets);
+            }
             if line.starts_with(b"packet ") {
                 clock.time = times.get(clock.packets);
                 clock.packets = clock.packets.saturating_add(1);

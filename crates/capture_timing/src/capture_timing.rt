@@ -2,6 +2,7 @@
 
 use crate::peak_rate::PeakRate;
 use crate::venue_timing::VenueTiming;
+use feed_text::SkipRule;
 use feed_types::VenueId;
 use line_captures::{DatagramSink, LineDatagram};
 use mold_packet::read_packet;
@@ -26,16 +27,18 @@ pub struct CaptureTiming {
 
 impl CaptureTiming {
     /// Of a capture of which nothing was read: the names of the venues' first sessions, of which the
-    /// first 16 count, and a window of 1 to 65,535 messages.
+    /// first 16 count, a window of 1 to 65,535 messages, and the rule by which gaps are given up.
     pub fn new(
         alloc: Global,
         sessions: &[[u8; 10]],
         window: u32,
+        skips: SkipRule,
     ) -> Result<CaptureTiming, AllocError> {
         let mut venues = Vec::new(alloc);
         for place in 0..sessions.len() {
             if let Some(venue) = VenueId::from_index(place) {
-                venues.push(VenueTiming::new(alloc, venue, sessions[place], window)?)?;
+                let timing = VenueTiming::new(alloc, venue, sessions[place], window, skips)?;
+                venues.push(timing)?;
             }
         }
         Ok(CaptureTiming {

@@ -2,6 +2,7 @@
 
 use crate::line_leads::LineLeads;
 use crate::missing_spells::MissingSpells;
+use feed_text::{SkipRule, skip_before};
 use feed_types::{Anything, LineId, VenueId};
 use line_arbiter::{Arbiter, Outcome};
 use mold_packet::Packet;
@@ -11,6 +12,9 @@ use std::alloc::{AllocError, Global};
 #[derive(Drop)]
 pub struct VenueTiming {
     arbiter: Arbiter<Anything>,
+    window: u32,
+    /// By which rule gaps are given up.
+    skips: SkipRule,
     /// By how much which line is first.
     pub leads: LineLeads,
     /// How long messages are missing.
@@ -24,12 +28,15 @@ impl VenueTiming {
         venue: VenueId,
         session: [u8; 10],
         window: u32,
+        skips: SkipRule,
     ) -> Result<VenueTiming, AllocError> {
         let Ok(arbiter) = Arbiter::new(alloc, venue, session, window) else {
             return Err(AllocError);
         };
         Ok(VenueTiming {
             arbiter,
+            window,
+            skips,
             leads: LineLeads::new(alloc, window as usize)?,
             missing: MissingSpells::new(),
         })
@@ -45,9 +52,23 @@ impl VenueTiming {
         }
     }
 
+    /// Gives up what the rule gives up before a packet, as a replay does.
+    fn give_up(&mut self, packet: &Packet<'_>) {
+        for _ in 0..u64::MAX {
+            let Some(number) = skip_before(self.skips, self.window, &self.arbiter, packet) else {
+                return;
+            };
+            if self.arbiter.skip_to(number).is_err() {
+                return;
+            }
+            self.pass_ready();
+        }
+    }
+
     /// Takes a packet that came on a line at a time in nanoseconds. One that the arbiter refuses changes
     /// nothing.
     pub(crate) fn take(&mut self, line: LineId, time: u64, packet: &Packet<'_>) {
+        self.give_up(packet);
         match self.arbiter.take(line, packet) {
             Ok(Outcome::Taken { .. }) => {
                 self.leads

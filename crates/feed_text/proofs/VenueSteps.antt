@@ -35,6 +35,7 @@ use Rattle.feed_text.specs.Emitted.{last_sent, items_emitted, gap_event, gap_emi
 use Rattle.feed_text.specs.Texts.{last_line}
 use Rattle.feed_text.specs.ReplayStates.{ReplayState, EmitsInto}
 use Rattle.feed_text.specs.Following.{ReplayVenue, Follows, SendsReady, EmitsOutcome, EmitsOne, Renews, GivesUp}
+use Rattle.feed_text.specs.Rules.{HasSentAll}
 use Rattle.feed_text.specs.laws.LastSent.{last_counted}
 use Rattle.feed_text.proofs.Tales.{tells_more, tells_stop, tells_as}
 
@@ -45,16 +46,20 @@ streams_more h = ap length (items_push h.earlier h.present) ∙ length-append (i
 sent_is : {width place : ℕ} {v : ReplayVenue} (h : History) → Follows width place v h → v.arbiter.sent ≡ last_sent h
 sent_is h f = sym (sent_back f.history.present) ∙ ap (sent_of h.present.packets) f.sent ∙ last_counted h
 
--- so its cursors and its gap are the history's
-pub cursors_shown : {width place : ℕ} {v : ReplayVenue} (h : History) → Follows width place v h → cursors_of v.arbiter.sent h.present.packets ≡ cursors_of (last_sent h) h.present.packets
-cursors_shown h f = ap (λ (n : ℕ). cursors_of n h.present.packets) (sent_is h f)
+-- so it has sent all that is ready
+pub all_sent : {width place : ℕ} {v : ReplayVenue} (h : History) → Follows width place v h → HasSentAll width v.arbiter h
+all_sent h f = record { history = f.history; width = f.window; sent = sent_is h f }
 
-pub gap_shown : {width place : ℕ} {v : ReplayVenue} (h : History) → Follows width place v h → gap_of v.arbiter.session v.arbiter.window v.arbiter.sent h.present.packets ≡ gap_of h.present.name width (last_sent h) h.present.packets
-gap_shown {width = width} {v = v} h f =
+-- the cursors and the gap of an arbiter that has are the history's
+pub cursors_shown : {width : ℕ} {s : State} (h : History) → HasSentAll width s h → cursors_of s.sent h.present.packets ≡ cursors_of (last_sent h) h.present.packets
+cursors_shown h f = ap (λ (n : ℕ). cursors_of n h.present.packets) f.sent
+
+pub gap_shown : {width : ℕ} {s : State} (h : History) → HasSentAll width s h → gap_of s.session s.window s.sent h.present.packets ≡ gap_of h.present.name width (last_sent h) h.present.packets
+gap_shown {width = width} {s = s} h f =
     let packets = h.present.packets in
-    ap (λ (name : List ℕ). gap_of name v.arbiter.window v.arbiter.sent packets) f.history.session
-    ∙ ap (λ (n : ℕ). gap_of h.present.name n v.arbiter.sent packets) f.window
-    ∙ ap (λ (n : ℕ). gap_of h.present.name width n packets) (sent_is h f)
+    ap (λ (name : List ℕ). gap_of name s.window s.sent packets) f.history.session
+    ∙ ap (λ (n : ℕ). gap_of h.present.name n s.sent packets) f.width
+    ∙ ap (λ (n : ℕ). gap_of h.present.name width n packets) f.sent
 
 -- how many items of all sessions were sent
 pub sent_all : {width place : ℕ} {v : ReplayVenue} (h : History) → Follows width place v h → (n : ℕ) → n ≡ shown (v.sent_before + (v.arbiter.sent - v.opens_after)) → n ≡ shown (length (streams_of h))

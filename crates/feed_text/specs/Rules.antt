@@ -3,8 +3,10 @@
 use Rattle.std.specs.Prelude.{◌≡◌, ℕ, ◌+◌, ◌<◌, ◌⊎◌, ◌==◌, List, [], ◌∷◌, min, Some, Ok, slice_get, if◌then◌else◌}
 use Rattle.mold_packet.specs.Content.{Content, Spells}
 use Rattle.line_arbiter.specs.declared.outcome.Outcome.TheVariants.{Ahead}
+use Rattle.line_arbiter.specs.Fits.{FitsHistory}
 use Rattle.line_arbiter.specs.Histories.{History}
 use Rattle.line_arbiter.specs.Outcomes.{IsOutcome}
+use Rattle.line_arbiter.specs.States.{State}
 use Rattle.line_arbiter.specs.Streams.{front_of, held_count, missing_count}
 use Rattle.feed_text.specs.declared.skip_rule.SkipRule.{SkipRule}
 use Rattle.feed_text.specs.declared.skip_rule.SkipRule.TheVariants.{Never, Join, Gaps}
@@ -12,6 +14,12 @@ use Rattle.feed_text.specs.declared.replay.ReplayConfig.{ReplayConfig}
 use Rattle.feed_text.specs.Capture.{CaptureRecord, datagram_record, renewal_record, skip_record, self_help_record, record_venue}
 use Rattle.feed_text.specs.ReplayEvents.{ReplayEvent}
 use Rattle.feed_text.specs.Emitted.{last_sent, EmitsRecord}
+
+-- An arbiter with a window of this width has this history, and has sent all that is ready.
+pub record HasSentAll (window : ℕ) (s : State) (h : History) : Type 0 where
+  pub history : FitsHistory s h
+  pub width : s.window ≡ window
+  pub sent : s.sent ≡ last_sent h
 
 -- how many messages are held once all that is ready was taken
 abbrev pub held_at_last : History → ℕ

@@ -63,6 +63,7 @@ pub use memory::{MemoryIn, MemoryOut};
 pub use output::write_all;
 pub use page::LineBuffer;
 pub use skip_rule::SkipRule;
+pub use skipping::skip_before;
 pub use standard_error::{write_number, write_stderr};
 pub use system::{StreamIn, StreamOut};
 pub use unread::{RECORDS_ROOM, ReadBuffer, ReadStep};

@@ -7,11 +7,12 @@ ghost use Rattle.line_arbiter.specs.Histories.{History};
 ghost use Rattle.feed_text.specs.Capture.{datagram_record};
 ghost use Rattle.feed_text.specs.Emitted.{last_sent};
 ghost use Rattle.feed_text.specs.Following.{Follows};
-ghost use Rattle.feed_text.specs.Rules.{Allows, IsAhead, SkipsAt, SkipsBefore, first_come};
+ghost use Rattle.feed_text.specs.Rules.{Allows, HasSentAll, IsAhead, SkipsAt, SkipsBefore, first_come};
 
 use crate::skip_rule::SkipRule;
 use crate::venue::VenueReplay;
-use line_arbiter::ArbiterStatus;
+use feed_types::Anything;
+use line_arbiter::{Arbiter, ArbiterStatus};
 use mold_packet::{Kind, Packet, read_packet};
 
 /// Returns whether the rule gives anything up of a venue with these cursors.
@@ -26,69 +27,78 @@ fn allows(rule: SkipRule, cursors: &ArbiterStatus) -> bool
     }
 }
 
-impl VenueReplay {
-    /// Returns whether the packet would be answered Ahead. `window` is that of the venue.
-    fn is_ahead(&self, cursors: &ArbiterStatus, window: u32, packet: &Packet<'_>) -> bool
-        ensures { (place : ℕ) (h : History) → Follows window place self.now h
-            → cursors.now ≡ cursors_of (last_sent h) h.present.packets
-            → MatchBool result (IsAhead window h packet.now) (IsAhead window h packet.now → ⊥) }
-    {
-        if packet.session() != self.arbiter.session() || packet.kind() != Kind::Messages {
+/// Returns whether the packet would be answered Ahead. `window` is the arbiter's.
+fn is_ahead(
+    arbiter: &Arbiter<Anything>,
+    cursors: &ArbiterStatus,
+    window: u32,
+    packet: &Packet<'_>,
+) -> bool
+    ensures { (h : History) → HasSentAll window arbiter.now h
+        → cursors.now ≡ cursors_of (last_sent h) h.present.packets
+        → MatchBool result (IsAhead window h packet.now) (IsAhead window h packet.now → ⊥) }
+{
+    if packet.session() != arbiter.session() || packet.kind() != Kind::Messages {
+        return false;
+    }
+    let last = packet.last_number();
+    if let Some(end) = cursors.end {
+        if last >= end {
             return false;
         }
-        let last = packet.last_number();
-        if let Some(end) = cursors.end {
-            if last >= end {
-                return false;
-            }
-        }
-        last > cursors.sent && last - cursors.sent > u64::from(window)
     }
+    last > cursors.sent && last - cursors.sent > u64::from(window)
+}
 
-    /// Returns how far past the front the first number is that has come, of a held message or the
-    /// packet's own, which is `own` past the front.
-    fn first_past(&self, cursors: &ArbiterStatus, own: u64) -> u64
-        ensures most { result ≤ own }
-        ensures first { (window place : ℕ) (h : History) (p : Content)
-            → Follows window place self.now h
-            → cursors.now ≡ cursors_of (last_sent h) h.present.packets
-            → p.number ≡ cursors.now.front + own
-            → cursors.now.front + result ≡ first_come window h p }
-    {
-        if cursors.held == 0 {
-            return own;
-        }
-        let missing = match self.arbiter.gap() {
-            Some(gap) => u64::from(gap.count),
-            None => 0,
-        };
-        if own <= missing { own } else { missing + 1 }
+/// Returns how far past the front the first number is that has come, of a held message or the
+/// packet's own, which is `own` past the front.
+fn first_past(arbiter: &Arbiter<Anything>, cursors: &ArbiterStatus, own: u64) -> u64
+    ensures most { result ≤ own }
+    ensures first { (window : ℕ) (h : History) (p : Content) → HasSentAll window arbiter.now h
+        → cursors.now ≡ cursors_of (last_sent h) h.present.packets
+        → p.number ≡ cursors.now.front + own
+        → cursors.now.front + result ≡ first_come window h p }
+{
+    if cursors.held == 0 {
+        return own;
     }
+    let missing = match arbiter.gap() {
+        Some(gap) => u64::from(gap.count),
+        None => 0,
+    };
+    if own <= missing { own } else { missing + 1 }
+}
 
-    /// Returns the number below which the rule gives up what is missing before the packet, if it
-    /// gives anything up. `window` is that of the venue.
-    fn skip_before(&self, rule: SkipRule, window: u32, packet: &Packet<'_>) -> Option<u64>
-        ensures { (place : ℕ) (h : History) → Follows window place self.now h
-            → MatchOption result
-            ((number : ℕ) → SkipsBefore rule window h packet.now number → ⊥)
-            (λ number. SkipsBefore rule window h packet.now number) }
-    {
-        let cursors = self.arbiter.status();
-        if !allows(rule, &cursors) || !self.is_ahead(&cursors, window, packet) {
-            return None;
-        }
-        let number = packet.number();
-        if number <= cursors.front {
-            return None;
-        }
-        let past = self.first_past(&cursors, number - cursors.front);
-        if past > 1 {
-            Some(cursors.front + past)
-        } else {
-            None
-        }
+/// Returns the number below which the rule gives up what is missing before the packet, if it gives
+/// anything up, of an arbiter that has sent all that is ready. `window` is the arbiter's.
+pub fn skip_before(
+    rule: SkipRule,
+    window: u32,
+    arbiter: &Arbiter<Anything>,
+    packet: &Packet<'_>,
+) -> Option<u64>
+    ensures { (h : History) → HasSentAll window arbiter.now h
+        → MatchOption result
+        ((number : ℕ) → SkipsBefore rule window h packet.now number → ⊥)
+        (λ number. SkipsBefore rule window h packet.now number) }
+{
+    let cursors = arbiter.status();
+    if !allows(rule, &cursors) || !is_ahead(arbiter, &cursors, window, packet) {
+        return None;
     }
+    let number = packet.number();
+    if number <= cursors.front {
+        return None;
+    }
+    let past = first_past(arbiter, &cursors, number - cursors.front);
+    if past > 1 {
+        Some(cursors.front + past)
+    } else {
+        None
+    }
+}
 
+impl VenueReplay {
     /// Returns the number below which the rule gives up what is missing before a datagram of these
     /// bytes, if it gives anything up. `window` is that of the venue.
     pub fn skip_before_datagram(&self, rule: SkipRule, window: u32, bytes: &[u8]) -> Option<u64>
@@ -100,7 +110,7 @@ impl VenueReplay {
     {
         mold_packet::one_reading();
         match read_packet(bytes) {
-            Ok(packet) => self.skip_before(rule, window, &packet),
+            Ok(packet) => skip_before(rule, window, &self.arbiter, &packet),
             Err(_) => None,
         }
     }

@@ -150,7 +150,7 @@ fn make_counts<'a, R>(
     let Ok(counts) = StatsOut::new(alloc, config.sessions.len()) else {
         return Err(input);
     };
-    let Ok(timing) = CaptureTiming::new(alloc, config.sessions, config.window) else {
+    let Ok(timing) = CaptureTiming::new(alloc, config.sessions, config.window, config.skips) else {
         return Err(input);
     };
     match CaptureTap::new(alloc, lines, timing, input) {

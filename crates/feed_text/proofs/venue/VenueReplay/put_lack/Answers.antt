@@ -6,7 +6,7 @@ use Rattle.feed_text.specs.declared.lack.Lack.{Lack}
 use Rattle.feed_text.specs.Emitted.{last_sent}
 use Rattle.feed_text.specs.Following.{ReplayVenue, Follows}
 use Rattle.feed_text.specs.Lacks.{lack_by}
-use Rattle.feed_text.proofs.VenueSteps.{gap_shown}
+use Rattle.feed_text.proofs.VenueSteps.{all_sent, gap_shown}
 use Rattle.feed_text.proofs.venue.VenueReplay.put_lack.Goals as goal
 use Rattle.feed_text.proofs.venue.VenueReplay.put_lack.Goals.{After-gap}
 
@@ -14,7 +14,7 @@ gap_is : (c : After-gap) (width place : ℕ) (h : History) → Follows width pla
 gap_is c width place h f =
     let v : ReplayVenue = record { arbiter = c.self.inside.arbiter; sent_before = c.self.inside.sent_before; opens_after = c.self.inside.opens_after } in
     let g : Follows width place v h = subst (λ (w : ReplayVenue). Follows width place w h) (sym c.self.view_is) f in
-    c.gap.ensures h.present.packets g.history.present ∙ gap_shown h g
+    c.gap.ensures h.present.packets g.history.present ∙ gap_shown h (all_sent h g)
 
 pub returns-in_ok-push : goal.returns-in_ok-push
 returns-in_ok-push c = λ width place h f.

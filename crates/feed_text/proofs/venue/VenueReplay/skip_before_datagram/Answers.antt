@@ -1,9 +1,11 @@
-use Rattle.std.proofs.Common.{◌≡◌, ℕ, List, Option, Some, None, subst}
+use Rattle.std.proofs.Common.{◌≡◌, ℕ, List, Option, Some, None, subst, sym}
 use Rattle.std.specs.Prelude.{MatchOption}
 use Rattle.mold_packet.specs.Content.{Content, Spells}
 use Rattle.line_arbiter.specs.Histories.{History}
 use Rattle.feed_text.specs.declared.skip_rule.SkipRule.{SkipRule}
+use Rattle.feed_text.specs.Following.{ReplayVenue, Follows}
 use Rattle.feed_text.specs.Rules.{SkipsBefore}
+use Rattle.feed_text.proofs.VenueSteps.{all_sent}
 use Rattle.feed_text.proofs.venue.VenueReplay.skip_before_datagram.Goals as goal
 
 by_packet : (rule : SkipRule) (window : ℕ) (h : History) (bytes : List ℕ) (p : Content) (rest : List ℕ) (o : Option ℕ)
@@ -16,4 +18,4 @@ by_packet rule window h bytes p rest (Some n) one spells some = (p, rest, spells
 pub returns-in-Ok : goal.returns-in-Ok
 returns-in-Ok c = λ place line h f.
     by_packet c.args.rule c.args.window h c.args.bytes.now c.in-Ok.packet c.in-Ok.ensures.spelled.0 c.skip_before.result
-    (λ x y more less a b. c.one_reading.ensures.packet c.args.bytes.now x y more less a b) c.in-Ok.ensures.spelled.1 (c.skip_before.ensures place h f)
+    (λ x y more less a b. c.one_reading.ensures.packet c.args.bytes.now x y more less a b) c.in-Ok.ensures.spelled.1 (c.skip_before.ensures h (all_sent h (subst (λ (w : ReplayVenue). Follows c.args.window place w h) (sym c.self.view_is) f)))

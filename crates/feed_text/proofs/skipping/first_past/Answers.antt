@@ -1,18 +1,15 @@
-use Rattle.std.proofs.Common.{◌≡◌, arith, sym, subst, ap, ◌∙◌}
+use Rattle.std.proofs.Common.{◌≡◌, arith, sym, ap, ◌∙◌}
 use Rattle.line_arbiter.specs.Streams.{missing_count}
 use Rattle.line_arbiter.specs.declared.arbiter.ArbiterStatus.{ArbiterStatus}
 use Rattle.feed_text.specs.Emitted.{last_sent}
-use Rattle.feed_text.specs.Following.{ReplayVenue, Follows}
 use Rattle.feed_text.proofs.VenueSteps.{gap_shown}
 use Rattle.feed_text.proofs.RuleSteps.{first_held, gap_none, gap_some}
-use Rattle.feed_text.proofs.venue.VenueReplay.first_past.Goals as goal
-use Rattle.feed_text.proofs.venue.VenueReplay.first_past.Goals.{in-Some, in-None}
+use Rattle.feed_text.proofs.skipping.first_past.Goals as goal
+use Rattle.feed_text.proofs.skipping.first_past.Goals.{in-Some, in-None}
 
 pub returns-then-own-missing-clause-first : goal.returns-then-own-missing-clause-first
-returns-then-own-missing-clause-first c = λ window place h p f cursors number.
-    let v : ReplayVenue = record { arbiter = c.self.inside.arbiter; sent_before = c.self.inside.sent_before; opens_after = c.self.inside.opens_after } in
-    let g : Follows window place v h = subst (λ (w : ReplayVenue). Follows window place w h) (sym c.self.view_is) f in
-    let is = c.gap.ensures h.present.packets g.history.present ∙ gap_shown h g in
+returns-then-own-missing-clause-first c = λ window h p f cursors number.
+    let is = c.gap.ensures h.present.packets f.history.present ∙ gap_shown h f in
     let missing : c.match-gap.missing ≡ missing_count window (last_sent h) h.present.packets = elim c.match-gap.branch [
       | in-Some w ↦ w.missing-is ∙ w.from-missing.ensures ∙ gap_some h.present.name window (last_sent h) h.present.packets w.in-Some.gap (sym w.in-Some.is ∙ is)
       | in-None w ↦ w.missing-is ∙ sym (gap_none h.present.name window (last_sent h) h.present.packets (sym w.in-None.is ∙ is))
@@ -25,10 +22,8 @@ returns-then-own-missing-clause-first c = λ window place h p f cursors number.
     omega (arith, missing, front, first, test, number)
 
 pub returns-else-own-missing-clause-first : goal.returns-else-own-missing-clause-first
-returns-else-own-missing-clause-first c = λ window place h p f cursors number.
-    let v : ReplayVenue = record { arbiter = c.self.inside.arbiter; sent_before = c.self.inside.sent_before; opens_after = c.self.inside.opens_after } in
-    let g : Follows window place v h = subst (λ (w : ReplayVenue). Follows window place w h) (sym c.self.view_is) f in
-    let is = c.gap.ensures h.present.packets g.history.present ∙ gap_shown h g in
+returns-else-own-missing-clause-first c = λ window h p f cursors number.
+    let is = c.gap.ensures h.present.packets f.history.present ∙ gap_shown h f in
     let missing : c.match-gap.missing ≡ missing_count window (last_sent h) h.present.packets = elim c.match-gap.branch [
       | in-Some w ↦ w.missing-is ∙ w.from-missing.ensures ∙ gap_some h.present.name window (last_sent h) h.present.packets w.in-Some.gap (sym w.in-Some.is ∙ is)
       | in-None w ↦ w.missing-is ∙ sym (gap_none h.present.name window (last_sent h) h.present.packets (sym w.in-None.is ∙ is))
