@@ -8,16 +8,16 @@ use Rattle.command_words.specs.declared.replay_settings.ReplaySettings.{ReplaySe
 use Rattle.nbbo_main.specs.declared.terminals.Terminals.{Terminals}
 
 -- whether any gaps are given up
-abbrev pub gives_up : SkipRule → Bool
-gives_up Never = false
-gives_up Join = true
-gives_up Gaps = true
+abbrev pub has_rule : SkipRule → Bool
+has_rule Never = false
+has_rule Join = true
+has_rule Gaps = true
 
 -- A replay of a capture of the project's own format tells it where standard error is a terminal,
 -- and where the best lines alone are printed or gaps are given up. So it stays silent by default.
 abbrev pub tells_lacks : ReplaySettings → Terminals → Bool
 tells_lacks settings terminals =
-    terminals.errors || (is_some settings.bests || gives_up settings.skips)
+    terminals.errors || (is_some settings.bests || has_rule settings.skips)
 
 -- After a run that ended well a line for each venue that lacks anything, if that is told; after
 -- another one it isn't known what they lack.

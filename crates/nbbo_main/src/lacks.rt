@@ -1,15 +1,15 @@
 //! What is told of the messages that venues lack at the end of a replay.
 ghost use Rattle.std.specs.Prelude.{◌≡◌};
 ghost use Rattle.feed_text.specs.StandardError.{SaysEach};
-ghost use Rattle.nbbo_main.specs.Lacks.{gives_up, tells_lacks, told_lacks};
+ghost use Rattle.nbbo_main.specs.Lacks.{has_rule, tells_lacks, told_lacks};
 
 use crate::terminals::Terminals;
 use command_words::ReplaySettings;
 use feed_text::{Lack, SkipRule, TextOut, write_lacks};
 
 /// Whether any gaps are given up.
-fn gives_up(skips: SkipRule) -> bool
-    ensures { result ≡ gives_up skips }
+fn has_rule(skips: SkipRule) -> bool
+    ensures { result ≡ has_rule skips }
 {
     match skips {
         SkipRule::Never => false,
@@ -22,7 +22,7 @@ fn gives_up(skips: SkipRule) -> bool
 pub fn tells_lacks(settings: &ReplaySettings, terminals: Terminals) -> bool
     ensures { result ≡ tells_lacks settings.now terminals }
 {
-    terminals.errors || settings.bests.is_some() || gives_up(settings.skips)
+    terminals.errors || settings.bests.is_some() || has_rule(settings.skips)
 }
 
 /// Writes what venues lack after a run with this outcome, if that is told.
