@@ -4,6 +4,7 @@ ghost use Rattle.std.specs.Prelude.{◌≡◌, ◌++◌, ◌+◌, ◌<◌, ◌�
 ghost use Rattle.std.specs.List.{AllByRecursion};
 ghost use Rattle.std.specs.Vec.{vec_len, vec_capacity};
 ghost use Rattle.std.specs.Option.{option_to_list};
+ghost use Rattle.feed_types.specs.declared.item.Quote.{Quote};
 ghost use Rattle.nbbo_book.specs.Rows.{IsRowRanked, row_ended, row_helped, row_stepped, told_where, AppliesStep};
 ghost use Rattle.nbbo_book.specs.Tables.{IsTable, symbols_in_rows};
 
@@ -11,7 +12,7 @@ use crate::change::Change;
 use crate::row::Row;
 use crate::table::{Table, find};
 use crate::venues::Venues;
-use feed_types::{Best, Entry, Item, National, VenueId};
+use feed_types::{Best, Entry, Item, National, Numbered, Quote, VenueId};
 
 /// One more entry, with its position.
 #[derive(Clone, Copy)]
@@ -82,6 +83,40 @@ fn recheck_rows(rows: &mut [Row], step: &Step<'_>, venue: VenueId, out: &mut Vec
     }
 }
 
+/// Applies the entry of an item that is no quotation, which few are. It is a call of its own, so
+/// that a quotation is told by one compare.
+#[inline(never)]
+fn apply_other(
+    table: &Table,
+    rows: &mut [Row],
+    step: &Step<'_>,
+    venue: VenueId,
+    numbered: &Numbered,
+    out: &mut Vec<Change>,
+)
+    requires entry { step.now.entry.now ≡ Entry.Consumed venue numbered.now }
+    requires other { (quote : Quote) → numbered.now.item ≡ Item.Quote quote → ⊥ }
+    requires table { IsTable (symbols_in_rows rows.old) table.now.symbols.keys }
+    requires ranked { AllByRecursion (IsRowRanked step.now.age) rows.old }
+    requires room { vec_len out.old + length rows.old ≤ vec_capacity out.old }
+    ensures applies { AppliesStep step.now rows.old rows.new out.old.items out.new.items }
+    ensures len { vec_len out.new ≤ vec_len out.old + length rows.old }
+    ensures capacity { vec_capacity out.new ≡ vec_capacity out.old }
+{
+    match &numbered.item {
+        Item::Halt { symbol, halted } => {
+            if let Some(i) = find(table, rows, *symbol) {
+                let row = &mut rows[i];
+                let has_changed = row.take_halt(step.venues, venue, *halted);
+                append_change(has_changed, step.position, row, out);
+            }
+        }
+        Item::Other => {}
+        Item::End | Item::Skipped => end_rows(rows, step, venue, out),
+        Item::Quote(_) => unreachable!(),
+    }
+}
+
 /// Applies the entry to the symbols that it concerns, and appends their changes in order; the
 /// flags of self-help are those after it.
 #[inline(always)]
@@ -102,15 +137,7 @@ pub fn apply_step(table: &Table, rows: &mut [Row], step: &Step<'_>, out: &mut Ve
                     append_change(has_changed, step.position, row, out);
                 }
             }
-            Item::Halt { symbol, halted } => {
-                if let Some(i) = find(table, rows, *symbol) {
-                    let row = &mut rows[i];
-                    let has_changed = row.take_halt(step.venues, *venue, *halted);
-                    append_change(has_changed, step.position, row, out);
-                }
-            }
-            Item::Other => {}
-            Item::End | Item::Skipped => end_rows(rows, step, *venue, out),
+            _ => apply_other(table, rows, step, *venue, numbered, out),
         },
         Entry::SelfHelp { venue, on: _ } => recheck_rows(rows, step, *venue, out),
     }
