@@ -3,3 +3,4 @@ pub mod Fields
 pub mod FieldWords
 pub mod Lanes
 pub mod OfSessions
+pub mod Fieldwise

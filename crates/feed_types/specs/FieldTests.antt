@@ -1,5 +1,5 @@
 -- A symbol's field as one word, tested in all its bytes at once. Cited by private clauses alone.
-use Rattle.std.specs.Prelude.{ℕ, ◌+◌, ◌*◌, ◌≡◌, ◌<◌, ◌≤◌, Bool, true, false, ◌&&◌, not, if◌then◌else◌, nat_le, ◌==◌, List, [], ◌∷◌, map, length, IsTrue}
+use Rattle.std.specs.Prelude.{ℕ, ◌+◌, ◌*◌, ◌≡◌, Bool, true, false, ◌&&◌, not, if◌then◌else◌, nat_le, ◌==◌, List, [], ◌∷◌, map, length, IsTrue}
 use Rattle.std.specs.List.{list_all}
 
 -- the word that has these bytes, the first one lowest

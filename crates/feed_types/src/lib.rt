@@ -11,6 +11,7 @@
 #![tactic(auto)]
 
 mod config;
+mod front;
 mod genuine;
 mod ids;
 mod item;
@@ -19,11 +20,13 @@ mod laws;
 mod limits;
 mod line;
 mod national;
+mod past;
 mod per_line;
 mod price;
 mod symbol;
 
 pub use config::FeedConfig;
+pub use front::drop_front;
 pub use genuine::{Anything, Genuine};
 pub use ids::{SubscriberId, VenueId};
 pub use item::{Item, Numbered, Quote};
@@ -32,6 +35,7 @@ pub use laws::{every_prefix_is_in_sequence, one_more_in_sequence, sequence_is_of
 pub use limits::{MAX_LANE, MAX_SESSIONS, MAX_SUBSCRIBERS, MAX_SYMBOLS, MAX_VENUES, MAX_WINDOW};
 pub use line::{LineId, Side};
 pub use national::{Best, National, NationalState};
+pub use past::Past;
 pub use per_line::PerLine;
 pub use price::Price;
 pub use symbol::SymbolName;

@@ -1,4 +1,4 @@
-use Rattle.std.proofs.Common.{rules, tests, ◌≡◌, ◌+◌, ℕ, Bool, true, false, not, List, length, refl, sym, ap, ◌∙◌, arith, cond}
+use Rattle.std.proofs.Common.{rules, tests, ◌≡◌, ◌+◌, ℕ, true, false, not, List, length, refl, sym, ap, ◌∙◌, arith, cond}
 use Rattle.std.specs.List.{prefix_len}
 use Rattle.std.specs.Option.{unwrap_or}
 use Rattle.std.proofs.lemmas.Iterator.{IsFirst-from_position, YieldsList-from_slice, index_from_first}
