@@ -1,41 +1,73 @@
 -- Cursors, and what they are past.
-use Rattle.std.proofs.Common.{ℕ, zero, suc, ◌≡◌, ◌≤◌, List, [], ◌∷◌, ◌++◌, ap, refl, subst, length, arith, map, filter}
+use Rattle.std.proofs.Common.{ℕ, suc, ◌≡◌, ◌+◌, ◌<◌, ◌≤◌, List, [], ◌∷◌, ◌++◌, ap, refl, length, arith, map, filter, inl, inr}
+use Rattle.std.proofs.lemmas.Bool.{cases_lt}
 use Rattle.filter_terms.specs.Terms.{meets}
-use Rattle.std.specs.Prelude.{slice_get, slice_set, Some}
+use Rattle.std.specs.Prelude.{slice_get, Some, min, ◌⊎◌}
 use Rattle.std.specs.List.{AllByRecursion}
-use Rattle.std.proofs.lemmas.List.{length-append, take-append-le}
+use Rattle.std.proofs.lemmas.List.{take-append-le}
 use Rattle.feed_types.specs.declared.journal.Notice.{Notice}
 use Rattle.journal_book.specs.declared.cursor.Cursor.{Cursor}
 use Rattle.journal_book.specs.Journals.{subscription_of}
+use Rattle.journal_book.specs.Keeping.{IsWithin}
+use Rattle.journal_book.specs.Slowest.{slowest}
 
-pub all_put : {X : Type 0} (P : X → Type 0) (xs : List X) (x : X) → AllByRecursion P xs → P x → AllByRecursion P (xs ++ x ∷ [])
-all_put P [] x h k = (k, tt)
-all_put P (y ∷ ys) x h k = (h.0, all_put P ys x h.1 k)
+-- cursors within some changes are within more of them
+pub still_within : (cursors : List Cursor) (first end more : ℕ) → end ≤ more → AllByRecursion (IsWithin first end) cursors
+    → AllByRecursion (IsWithin first more) cursors
+still_within [] first end more le h = tt
+still_within (c ∷ cs) first end more le h =
+    let here = h.0 in
+    (record { from = here.from; to = omega (arith, here.to) }, still_within cs first end more le h.1)
 
-pub all_set : {X : Type 0} (P : X → Type 0) (xs : List X) (i : ℕ) (x : X) → AllByRecursion P xs → P x → AllByRecursion P (slice_set xs i x)
-all_set P [] i x h k = tt
-all_set P (y ∷ ys) zero x h k = (k, h.1)
-all_set P (y ∷ ys) (suc i) x h k = (h.0, all_set P ys i x h.1 k)
-
-pub all_get : {X : Type 0} (P : X → Type 0) (xs : List X) (i : ℕ) (x : X) → AllByRecursion P xs → slice_get xs i ≡ Some x → P x
-all_get P [] i x h e = absurd cc
-all_get P (y ∷ ys) zero x h e = let same : y ≡ x = cc in subst P same h.0
-all_get P (y ∷ ys) (suc i) x h e = all_get P ys i x h.1 e
-
-all_weaker : {X : Type 0} (P Q : X → Type 0) (xs : List X) → ((x : X) → P x → Q x) → AllByRecursion P xs → AllByRecursion Q xs
-all_weaker P Q [] f h = tt
-all_weaker P Q (x ∷ xs) f h = (f x h.0, all_weaker P Q xs f h.1)
-
--- cursors within some notices are within more of them
-pub still_seen : (cursors : List Cursor) (notices more : List Notice) → AllByRecursion (λ c. c.seen ≤ length notices) cursors → AllByRecursion (λ c. c.seen ≤ length (notices ++ more)) cursors
-still_seen cursors notices more h = all_weaker (λ c. c.seen ≤ length notices) (λ c. c.seen ≤ length (notices ++ more)) cursors
-    (λ c k. omega (arith, k, length-append notices more)) h
-
--- and more notices change nothing of what was offered
-pub same_offered : (cursors : List Cursor) (notices more : List Notice) → AllByRecursion (λ c. c.seen ≤ length notices) cursors
+-- and more changes change nothing of what was offered
+pub same_offered : (cursors : List Cursor) (first : ℕ) (notices more : List Notice) → AllByRecursion (IsWithin first (length notices)) cursors
     → map (subscription_of (notices ++ more)) cursors ≡ map (subscription_of notices) cursors
-same_offered [] notices more h = refl
-same_offered (c ∷ cs) notices more h = λ i. one i ∷ same_offered cs notices more h.1 i
+same_offered [] first notices more h = refl
+same_offered (c ∷ cs) first notices more h = λ i. one i ∷ same_offered cs first notices more h.1 i
   where
     one : subscription_of (notices ++ more) c ≡ subscription_of notices c
-    one = ap (λ l. record { terms = c.terms; offered = length (filter (meets c.terms) l) }) (take-append-le c.seen notices more h.0)
+    one = ap (λ l. record { terms = c.terms; offered = length (filter (meets c.terms) l) }) (take-append-le c.seen notices more h.0.to)
+
+-- ---- the slowest one
+
+-- it isn't past the end
+pub slowest_within : (end : ℕ) (cursors : List Cursor) → slowest end cursors ≤ end
+slowest_within end [] = omega arith
+slowest_within end (c ∷ cs) = let h = slowest_within (min end c.seen) cs in omega arith
+
+-- nor before what none was before
+pub slowest_from : (first to end : ℕ) (cursors : List Cursor) → first ≤ end → AllByRecursion (IsWithin first to) cursors
+    → first ≤ slowest end cursors
+slowest_from first to end [] le h = le
+slowest_from first to end (c ∷ cs) le h =
+    let here = h.0 in slowest_from first to (min end c.seen) cs (omega (arith, here.from)) h.1
+
+-- and none is before it
+pub within_slowest : (n first to end : ℕ) (cursors : List Cursor) → n ≤ slowest end cursors → AllByRecursion (IsWithin first to) cursors
+    → AllByRecursion (IsWithin n to) cursors
+within_slowest n first to end [] le h = tt
+within_slowest n first to end (c ∷ cs) le h =
+    let here = h.0 in
+    let least = slowest_within (min end c.seen) cs in
+    (record { from = omega (arith, le, least); to = here.to }, within_slowest n first to (min end c.seen) cs le h.1)
+
+-- a cursor that is behind by more than this
+pub record HasBehind (most last : ℕ) (cursors : List Cursor) : Type 0 where
+  pub id : ℕ
+  pub cursor : Cursor
+  pub at : slice_get cursors id ≡ Some cursor
+  pub behind : cursor.seen + most < last
+
+one_behind : (most last end : ℕ) (cursors : List Cursor) → slowest end cursors + most < last
+    → (end + most < last) ⊎ HasBehind most last cursors
+one_behind most last end [] h = inl h
+one_behind most last end (c ∷ cs) h = elim (one_behind most last (min end c.seen) cs h) [
+  | inl low ↦ elim (cases_lt (c.seen + most) last) [
+    | inl below ↦ inr (record { id = 0; cursor = c; at = refl; behind = below })
+    | inr above ↦ inl (omega arith)
+  ]
+  | inr found ↦ inr (record { id = suc found.id; cursor = found.cursor; at = found.at; behind = found.behind })
+]
+
+pub some_behind : (most end : ℕ) (cursors : List Cursor) → slowest end cursors + most < end → HasBehind most end cursors
+some_behind most end cursors h = elim (one_behind most end end cursors h) [ inl low ↦ absurd (omega arith) | inr found ↦ found ]

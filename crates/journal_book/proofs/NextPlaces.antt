@@ -1,15 +1,13 @@
 -- What the search for the next wanted notice found.
-use Rattle.std.proofs.Common.{ℕ, zero, suc, ◌≡◌, ◌<◌, ◌≤◌, List, [], ◌∷◌, Bool, true, Option, Some, ap, subst, ◌∙◌, sym, refl, length, take, filter, get_or, arith}
+use Rattle.std.proofs.Common.{ℕ, zero, suc, ◌≡◌, ◌+◌, ◌<◌, ◌≤◌, List, [], ◌∷◌, ◌++◌, Bool, true, Option, ap, subst, ◌∙◌, sym, length, take, drop, filter, get_or, arith, length-drop, append-nil}
 use Rattle.std.specs.Prelude.{slice_get, IfSome, IsTrue}
 use Rattle.std.proofs.lemmas.List.{take_all}
+use Rattle.std.proofs.lemmas.Option.{slice_get-get_or}
+use Rattle.std.proofs.lemmas.List.Elements.{filter-append}
+use Rattle.std.proofs.Math.Seq.{take-add}
 use Rattle.feed_types.specs.declared.journal.Notice.{Notice}
 use Rattle.journal_book.specs.Places.{IsNextPlace}
 use Rattle.journal_book.specs.PlaceLaws.{past_end}
-
-get_is : {X : Type 0} (xs : List X) (i : ℕ) (d : X) → i < length xs → slice_get xs i ≡ Some (get_or xs i d)
-get_is [] i d h = absurd (omega arith)
-get_is (x ∷ xs) zero d h = refl
-get_is (x ∷ xs) (suc i) d h = get_is xs i d (omega arith)
 
 module _ (wants : Notice → Bool) (notices : List Notice) (from : ℕ) where
   -- it was found here
@@ -18,7 +16,7 @@ module _ (wants : Notice → Bool) (notices : List Notice) (from : ℕ) where
   found_here place d below met passed = record {
     within = omega arith;
     passed = passed;
-    wanted = subst (λ (o : Option Notice). IfSome o (λ n. IsTrue (wants n))) (sym (get_is notices place d below)) met;
+    wanted = subst (λ (o : Option Notice). IfSome o (λ n. IsTrue (wants n))) (sym (slice_get-get_or notices place d below)) met;
   }
 
   -- all were gone through
@@ -29,3 +27,23 @@ module _ (wants : Notice → Bool) (notices : List Notice) (from : ℕ) where
     passed = ap (filter wants) (take_all (length notices) notices (omega arith)) ∙ ap (filter wants) (sym (take_all place notices end)) ∙ passed;
     wanted = subst (λ (o : Option Notice). IfSome o (λ n. IsTrue (wants n))) (sym (past_end notices (length notices) (omega arith))) tt;
   }
+
+-- what is got further on
+pub get_past : {X : Type 0} (n k : ℕ) (xs : List X) → n ≤ length xs → slice_get (drop n xs) k ≡ slice_get xs (n + k)
+get_past zero k xs h = ap (slice_get xs) (omega arith)
+get_past (suc n) k [] h = absurd (omega arith)
+get_past (suc n) k (x ∷ xs) h =
+    let next : suc n + k ≡ suc (n + k) = omega arith in
+    get_past n k xs (omega arith) ∙ ap (slice_get (x ∷ xs)) (sym next)
+
+-- the next one of those from a place on is the next one from there
+pub next_past : (wants : Notice → Bool) (xs : List Notice) (n k : ℕ) → n ≤ length xs → IsNextPlace wants (drop n xs) 0 k
+    → IsNextPlace wants xs n (n + k)
+next_past wants xs n k le next = record {
+  within = omega (arith, next.within, length-drop n xs);
+  passed = ap (filter wants) (take-add n k xs)
+      ∙ filter-append wants (take n xs) (take k (drop n xs))
+      ∙ ap (λ (l : List Notice). filter wants (take n xs) ++ l) next.passed
+      ∙ append-nil (filter wants (take n xs));
+  wanted = subst (λ (o : Option Notice). IfSome o (λ x. IsTrue (wants x))) (get_past n k xs le) next.wanted;
+}

@@ -1,59 +1,52 @@
 -- What moving a subscriber's cursor does to what was offered.
-use Rattle.std.proofs.Common.{ℕ, zero, suc, ◌≡◌, ◌+◌, ◌<◌, List, [], ◌∷◌, ap, ◌∙◌, sym, refl, subst, length, map, None, Some, Option, arith, length-append}
-use Rattle.std.specs.Prelude.{slice_get, slice_set, IsSome, IfSome, MatchOption, option_and_then}
+use Rattle.std.proofs.Common.{ℕ, ◌≡◌, ◌+◌, ◌<◌, ◌≤◌, List, ap, ◌∙◌, sym, subst, length, drop, None, Some, Option, arith}
+use Rattle.std.specs.Prelude.{slice_get, slice_set, IfSome, MatchOption}
 use Rattle.std.specs.Option.{option_map}
 use Rattle.feed_types.specs.declared.journal.Notice.{Notice}
 use Rattle.filter_terms.specs.declared.terms.Terms.{Terms}
 use Rattle.filter_terms.specs.Terms.{meets}
 use Rattle.journal_book.specs.declared.cursor.Cursor.{Cursor}
-use Rattle.journal_book.specs.Journals.{JournalState, Subscription, changes, cursor_at, terms_at, subscription_of, subscriptions_of}
-use Rattle.journal_book.specs.Consolidators.{next_for, next_at, CountsOffer}
-use Rattle.journal_book.specs.Wanted.{wanted_of}
+use Rattle.journal_book.specs.Journals.{JournalState, changes, terms_at}
 use Rattle.journal_book.specs.Places.{IsNextPlace}
-use Rattle.journal_book.specs.PlaceLaws.{is_wanted, next_of_wanted, one_more_wanted, some_there}
-use Rattle.journal_book.specs.Cursors.{MovesCursor, GoesToNext, StandsAtWanted, AdvancesCursor}
-use Rattle.journal_book.specs.CursorLaws.{get_set, goes_past, goes_stays}
+use Rattle.journal_book.proofs.NextPlaces.{get_past, next_past}
+use Rattle.journal_book.specs.PlaceLaws.{is_wanted, some_there}
+use Rattle.journal_book.specs.Cursors.{IsUnseen, HasUnseen, MovesOn, GoesToNext, StandsAtWanted}
+use Rattle.journal_book.specs.CursorLaws.{get_set}
 
 some_is : {X : Type 0} (x y : X) → Some x ≡ Some y → x ≡ y
 some_is x y e = cc
 
-get_map : {X Y : Type 0} (f : X → Y) (xs : List X) (i : ℕ) → slice_get (map f xs) i ≡ option_map f (slice_get xs i)
-get_map f [] i = refl
-get_map f (x ∷ xs) zero = refl
-get_map f (x ∷ xs) (suc i) = get_map f xs i
-
-map_set : {X Y : Type 0} (f : X → Y) (xs : List X) (i : ℕ) (x : X) → map f (slice_set xs i x) ≡ slice_set (map f xs) i (f x)
-map_set f [] i x = refl
-map_set f (y ∷ ys) zero x = refl
-map_set f (y ∷ ys) (suc i) x = ap (λ l. f y ∷ l) (map_set f ys i x)
-
--- an item written over itself
-set_same : {X : Type 0} (xs : List X) (i : ℕ) (x : X) → slice_get xs i ≡ Some x → slice_set xs i x ≡ xs
-set_same [] i x e = refl
-set_same (y ∷ ys) zero x e = let same : y ≡ x = some_is y x e in ap (λ z. z ∷ ys) (sym same)
-set_same (y ∷ ys) (suc i) x e = ap (λ l. y ∷ l) (set_same ys i x e)
-
 -- ---- one subscriber's cursor
 
--- where the search ended, and what stands there
-pub goes_on : (old new : JournalState) (id from place : ℕ) (terms : Terms) (notices : List Notice) (found : Option Notice) → cursor_at old id ≡ Some from → terms_at old id ≡ Some terms → notices ≡ changes old
-    → IsNextPlace (meets terms) notices from place → MovesCursor old id place new → found ≡ slice_get (changes new) place → GoesToNext old id found new
-goes_on old new id from place terms notices found seen of are next moves there = by (slice_get old.cursors id) refl seen of moves
-  where
-    by : (o : Option Cursor) → slice_get old.cursors id ≡ o → option_map (λ c. c.seen) o ≡ Some from → option_map (λ c. c.terms) o ≡ Some terms
-        → MatchOption o ⊥ (λ c. new ≡ record old { cursors = slice_set old.cursors id (record c { seen = place }) }) → GoesToNext old id found new
-    by None e s t m = absurd m
-    by (Some c) e s t m =
-        let from_is : c.seen ≡ from = some_is c.seen from s in
-        let terms_is : c.terms ≡ terms = some_is c.terms terms t in
-        record {
-          cursor = c;
-          at = e;
-          place = place;
-          next = subst (λ (x : (Terms × List Notice) × ℕ). IsNextPlace (meets x.0.0) x.0.1 x.1 place) (λ i. ((sym terms_is i, are i), sym from_is i)) next;
-          found_is = there ∙ ap (λ (s : JournalState). slice_get (changes s) place) m;
-          moved = m;
-        }
+module _ (old : JournalState) (id step : ℕ) (terms : Terms) (unseen : List Notice) (of : terms_at old id ≡ Some terms)
+    (rest : IsUnseen old id unseen) (next : IsNextPlace (meets terms) unseen 0 step) where
+  terms_is : rest.cursor.terms ≡ terms
+  terms_is = some_is rest.cursor.terms terms (sym (ap (option_map (λ (c : Cursor). c.terms)) rest.at) ∙ of)
+
+  there_is : IsNextPlace (meets rest.cursor.terms) (changes old) rest.cursor.seen (rest.cursor.seen + step)
+  there_is =
+      let here : IsNextPlace (meets terms) (drop rest.cursor.seen (changes old)) 0 step =
+      subst (λ (l : List Notice). IsNextPlace (meets terms) l 0 step) rest.is next in
+      next_past (meets rest.cursor.terms) (changes old) rest.cursor.seen step rest.within
+      (subst (λ (t : Terms). IsNextPlace (meets t) (drop rest.cursor.seen (changes old)) 0 step) (sym terms_is) here)
+
+  -- the search doesn't go past the end
+  pub goes_within : HasUnseen old id step
+  goes_within =
+      subst (λ (o : Option Cursor). MatchOption o ⊥ (λ c. c.seen + step ≤ length (changes old))) (sym rest.at) there_is.within
+
+  -- where the search ended, and what stands there
+  pub goes_on : (new : JournalState) (found : Option Notice) → MovesOn old id step new → found ≡ slice_get unseen step
+      → GoesToNext old id found new
+  goes_on new found moves there = record {
+    cursor = rest.cursor;
+    at = rest.at;
+    place = rest.cursor.seen + step;
+    next = there_is;
+    found_is = there ∙ ap (λ (l : List Notice). slice_get l step) rest.is ∙ get_past rest.cursor.seen step (changes old) rest.within;
+    moved = subst (λ (o : Option Cursor). MatchOption o ⊥
+        (λ c. new ≡ record old { cursors = slice_set old.cursors id (record c { seen = c.seen + step }) })) rest.at moves;
+  }
 
 -- a cursor that found a change stands at one that is wanted
 pub stands_there : (old new : JournalState) (id : ℕ) (found : Option Notice) → GoesToNext old id found new → IfSome found (λ _. StandsAtWanted new id)
@@ -70,82 +63,7 @@ stands_there old new id found goes = by found goes.found_is
     }
 
 -- it stands before the end
-pub stands_within : (state : JournalState) (id place : ℕ) → StandsAtWanted state id → cursor_at state id ≡ Some place → place < length (changes state)
-stands_within state id place stands seen =
-    let here : stands.cursor.seen ≡ place = some_is stands.cursor.seen place (sym (ap (option_map (λ (c : Cursor). c.seen)) stands.at) ∙ seen) in
+pub stands_within : (state : JournalState) (id : ℕ) → StandsAtWanted state id → HasUnseen state id 1
+stands_within state id stands =
     let below : stands.cursor.seen < length (changes state) = some_there (changes state) stands.cursor.seen stands.notice stands.here in
-    omega arith
-
-pub stands_known : (state : JournalState) (id : ℕ) → StandsAtWanted state id → id < length state.cursors
-stands_known state id stands = some_there state.cursors id stands.cursor stands.at
-
--- one place on
-pub advances : (old new : JournalState) (id place : ℕ) → cursor_at old id ≡ Some place → MovesCursor old id (place + 1) new → AdvancesCursor old id new
-advances old new id place seen moves = by (slice_get old.cursors id) seen moves
-  where
-    by : (o : Option Cursor) → option_map (λ c. c.seen) o ≡ Some place → MatchOption o ⊥ (λ c. new ≡ record old { cursors = slice_set old.cursors id (record c { seen = place + 1 }) })
-        → MatchOption o ⊥ (λ c. new ≡ record old { cursors = slice_set old.cursors id (record c { seen = c.seen + 1 }) })
-    by None s m = absurd m
-    by (Some c) s m =
-        let here : c.seen ≡ place = some_is c.seen place s in
-        m ∙ ap (λ (k : ℕ). record old { cursors = slice_set old.cursors id (record c { seen = k + 1 }) }) (sym here)
-
--- ---- what was offered
-
-module _ (old between : JournalState) (id : ℕ) (found : Option Notice) (goes : GoesToNext old id found between) where
-  abbrev there : Cursor
-  there = record goes.cursor { seen = goes.place }
-
-  abbrev of_cursor : Cursor → Subscription
-  of_cursor = subscription_of (changes old)
-
-  subscription_here : slice_get (subscriptions_of old) id ≡ Some (of_cursor goes.cursor)
-  subscription_here = get_map of_cursor old.cursors id ∙ ap (option_map of_cursor) goes.at
-
-  -- what it found is the next wanted change
-  pub next_is : found ≡ next_at old id
-  next_is =
-      goes.found_is ∙ next_of_wanted (meets goes.cursor.terms) (changes old) goes.cursor.seen goes.place goes.next
-      ∙ sym (ap (option_and_then (next_for old)) subscription_here)
-
-  -- nothing was offered
-  pub none_offered : subscriptions_of between ≡ subscriptions_of old
-  none_offered =
-      let same : of_cursor there ≡ of_cursor goes.cursor = ap (λ (xs : List Notice). record { terms = goes.cursor.terms; offered = length xs }) goes.next.passed in
-      ap subscriptions_of goes.moved ∙ map_set of_cursor old.cursors id there
-      ∙ ap (slice_set (subscriptions_of old) id) same ∙ set_same (subscriptions_of old) id (of_cursor goes.cursor) subscription_here
-
-  -- and what is next is so still
-  pub next_stays : found ≡ next_at between id
-  next_stays = next_is ∙ sym (λ i. option_and_then (λ (s : Subscription). slice_get (wanted_of (goes_stays old between id found goes i).symbols s.terms (goes_stays old between id found goes i).entries) s.offered) (slice_get (none_offered i) id))
-
-  -- where there is a next one, the cursor stands at it
-  pub stands_still : IfSome found (λ _. StandsAtWanted between id) → IsSome (next_at old id) → StandsAtWanted between id
-  stands_still stands some = by found stands (subst (λ (o : Option Notice). IsSome o) (sym next_is) some)
-    where
-      by : (o : Option Notice) → IfSome o (λ _. StandsAtWanted between id) → IsSome o → StandsAtWanted between id
-      by None h k = absurd cc
-      by (Some n) h k = h
-
-  module _ (new : JournalState) (past : AdvancesCursor between id new) where
-    moved_past : new ≡ record old { cursors = slice_set old.cursors id (record goes.cursor { seen = goes.place + 1 }) }
-    moved_past = goes_past old between new id found goes past
-
-    -- going past it offers it
-    pub one_offered : IsSome (next_at old id) → CountsOffer (subscriptions_of old) id (subscriptions_of new)
-    one_offered some = by found goes.found_is (subst (λ (o : Option Notice). IsSome o) (sym next_is) some)
-      where
-        by : (o : Option Notice) → o ≡ slice_get (changes old) goes.place → IsSome o → CountsOffer (subscriptions_of old) id (subscriptions_of new)
-        by None e k = absurd cc
-        by (Some n) e k =
-            let wanted = filter_more n e in
-            let here : of_cursor (record goes.cursor { seen = goes.place + 1 }) ≡ record (of_cursor goes.cursor) { offered = (of_cursor goes.cursor).offered + 1 }
-            = ap (λ (k : ℕ). record { terms = goes.cursor.terms; offered = k }) wanted in
-            let is : subscriptions_of new ≡ slice_set (subscriptions_of old) id (record (of_cursor goes.cursor) { offered = (of_cursor goes.cursor).offered + 1 }) =
-            ap subscriptions_of moved_past ∙ map_set of_cursor old.cursors id (record goes.cursor { seen = goes.place + 1 }) ∙ ap (slice_set (subscriptions_of old) id) here in
-            subst (λ (o : Option Subscription). MatchOption o ⊥ (λ s. subscriptions_of new ≡ slice_set (subscriptions_of old) id (record s { offered = s.offered + 1 }))) (sym subscription_here) is
-          where
-            filter_more : (n : Notice) → Some n ≡ slice_get (changes old) goes.place → (of_cursor (record goes.cursor { seen = goes.place + 1 })).offered ≡ (of_cursor goes.cursor).offered + 1
-            filter_more n e =
-                ap length (one_more_wanted (meets goes.cursor.terms) (changes old) goes.cursor.seen goes.place goes.next n (sym e))
-                ∙ length-append _ (n ∷ [])
+    subst (λ (o : Option Cursor). MatchOption o ⊥ (λ c. c.seen + 1 ≤ length (changes state))) (sym stands.at) (omega arith)

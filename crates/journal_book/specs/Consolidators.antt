@@ -7,8 +7,8 @@ use Rattle.filter_terms.specs.Copies.{IsCopy}
 use Rattle.filter_terms.specs.Filters.{terms_of}
 use Rattle.journal_book.specs.declared.consolidator.Consolidator.{Consolidator}
 use Rattle.journal_book.specs.declared.fault.JournalFault.{JournalFault}
-use Rattle.journal_book.specs.declared.fault.JournalFault.TheVariants.{NoMemory, JournalFull, UnknownVenue, AlreadySo, TooManySubscribers}
-use Rattle.journal_book.specs.Journals.{JournalState, Subscription, subscriptions_of, AddsSubscription}
+use Rattle.journal_book.specs.declared.fault.JournalFault.TheVariants.{NoMemory, TooManySubscribers, TooLate}
+use Rattle.journal_book.specs.Journals.{JournalState, Subscription, subscriptions_of, AddsSubscription, IsLate}
 use Rattle.journal_book.specs.Wanted.{wanted_of}
 
 -- the journal without the filters
@@ -41,6 +41,8 @@ SubscribesFilter old filter (Ok id) new =
     (copy : Terms) × IsCopy (terms_of filter) copy × AddsSubscription old copy (Ok id) new
 SubscribesFilter old filter (Err (TooManySubscribers, back)) new =
     (32 ≤ length old.cursors) × (back ≡ filter) × (new ≡ old)
+SubscribesFilter old filter (Err (TooLate, back)) new =
+    (length old.cursors < 32) × (back ≡ filter) × (new ≡ old) × IsLate old
 SubscribesFilter old filter (Err (NoMemory, back)) new =
-    (length old.cursors < 32) × (back ≡ filter) × (new ≡ old)
+    (length old.cursors < 32) × (back ≡ filter) × (new ≡ old) × (¬ IsLate old)
 SubscribesFilter old filter _ new = ⊥

@@ -1,17 +1,30 @@
 -- How a subscriber's cursor moves: on to the next change that it wants, and past that once it was
 -- offered.
-use Rattle.std.specs.Prelude.{◌≡◌, ℕ, ◌+◌, Option, Some, MatchOption, IsTrue, slice_get, slice_set}
+use Rattle.std.specs.Prelude.{◌≡◌, ℕ, ◌+◌, ◌≤◌, List, Option, Some, MatchOption, IsTrue, length, drop, slice_get, slice_set}
 use Rattle.feed_types.specs.declared.journal.Notice.{Notice}
 use Rattle.filter_terms.specs.Terms.{meets}
 use Rattle.journal_book.specs.declared.cursor.Cursor.{Cursor}
 use Rattle.journal_book.specs.Journals.{JournalState, changes}
 use Rattle.journal_book.specs.Places.{IsNextPlace}
 
--- the cursor is at this place, and nothing else is another than before
-abbrev pub MovesCursor : JournalState → ℕ → ℕ → JournalState → Type 0
-MovesCursor old id place new = MatchOption (slice_get old.cursors id) ⊥
-    (λ cursor.
-    new ≡ record old { cursors = slice_set old.cursors id (record cursor { seen = place }) })
+-- these are the changes that weren't looked at for the subscriber
+pub record IsUnseen (state : JournalState) (id : ℕ) (unseen : List Notice) : Type 0 where
+  pub cursor : Cursor
+  pub at : slice_get state.cursors id ≡ Some cursor
+  pub within : cursor.seen ≤ length (changes state)
+  pub is : unseen ≡ drop cursor.seen (changes state)
+
+-- there is such a subscriber, and so many changes weren't looked at for it
+abbrev pub HasUnseen : JournalState → ℕ → ℕ → Type 0
+HasUnseen state id step = MatchOption (slice_get state.cursors id) ⊥
+    (λ cursor. cursor.seen + step ≤ length (changes state))
+
+-- the cursor is this many places further on, and nothing else is another than before
+abbrev pub MovesOn : JournalState → ℕ → ℕ → JournalState → Type 0
+MovesOn old id step new = MatchOption (slice_get old.cursors id) ⊥
+    (λ cursor. new ≡ record old {
+      cursors = slice_set old.cursors id (record cursor { seen = cursor.seen + step });
+    })
 
 -- The cursor is at the next change that meets the subscriber's terms, or at the end, and this is
 -- the change there; nothing else is another than before.
@@ -35,7 +48,4 @@ pub record StandsAtWanted (state : JournalState) (id : ℕ) : Type 0 where
 
 -- the cursor is past the change where it stood, and nothing else is another than before
 abbrev pub AdvancesCursor : JournalState → ℕ → JournalState → Type 0
-AdvancesCursor old id new = MatchOption (slice_get old.cursors id) ⊥
-    (λ cursor. new ≡ record old {
-      cursors = slice_set old.cursors id (record cursor { seen = cursor.seen + 1 });
-    })
+AdvancesCursor old id new = MovesOn old id 1 new

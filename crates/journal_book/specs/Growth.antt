@@ -5,7 +5,6 @@ use Rattle.std.proofs.lemmas.Grind.{flat_map-append}
 use Rattle.std.proofs.lemmas.List.{append-nil}
 use Rattle.std.specs.List.{filter_map, flat_map, range_with_len}
 use Rattle.feed_types.specs.declared.journal.Entry.{Entry}
-use Rattle.feed_types.specs.declared.journal.Notice.{Notice}
 use Rattle.feed_types.specs.Prefix.{IsPrefix}
 use Rattle.nbbo_book.specs.declared.change.Change.{Change}
 use Rattle.nbbo_book.specs.Changes.{change_of, changes_by}
@@ -94,18 +93,6 @@ changes-put symbols es e =
     ∙ ap (λ k. changes_of symbols es ++ notices_from (k + 1)
     (changes_by symbols es (length es + 1) e))
     (sym (length-numbered 1 (all_changes symbols es)))
-
--- the notices of one more entry, as they are pushed
-pub notices-put : (symbols : List (List ℕ)) (es : List Entry) (e : Entry) (notices : List Notice)
-    (made : List Change) (n p : ℕ)
-    → notices ≡ changes_of symbols es → n ≡ length notices → p ≡ length es + 1
-    → made ≡ changes_by symbols es p e
-    → notices ++ notices_from (n + 1) made ≡ changes_of symbols (es ++ e ∷ [])
-notices-put symbols es e notices made n p all long place h =
-    let count : n + 1 ≡ length (changes_of symbols es) + 1 =
-    ap (λ k. k + 1) (long ∙ ap length all) in
-    (λ i. all i ++ notices_from (count i) ((h ∙ ap (λ k. changes_by symbols es k e) place) i))
-    ∙ sym (changes-put symbols es e)
 
 -- a longer journal's changes begin with a shorter one's
 pub changes_begin : (symbols : List (List ℕ)) (es fs : List Entry)

@@ -1,12 +1,12 @@
 -- Laws of what the last entry of a journal made; proved here, and nobody has to read them.
-use Rattle.std.proofs.Common.{ℕ, ◌≡◌, ◌+◌, ◌-◌, List, [], ◌∷◌, ◌++◌, ap, ◌∙◌, length, take, drop, arith}
+use Rattle.std.proofs.Common.{ℕ, ◌≡◌, ◌+◌, ◌-◌, List, [], ◌∷◌, ◌++◌, ap, ◌∙◌, sym, length, take, drop, arith}
 use Rattle.std.proofs.lemmas.List.{length-append, take-append-le, take_all}
 use Rattle.std.proofs.Math.Seq.{drop-append_seam}
 use Rattle.feed_types.specs.declared.journal.Entry.{Entry}
 use Rattle.feed_types.specs.declared.journal.Notice.{Notice}
 use Rattle.nbbo_book.specs.Changes.{changes_by}
 use Rattle.journal_book.specs.Changes.{changes_of, notices_from}
-use Rattle.journal_book.specs.Streaming.{before_last, latest_of}
+use Rattle.journal_book.specs.NumberedBooks.{before_last, latest_of}
 use Rattle.journal_book.specs.Growth.{changes-put, length-numbered}
 
 -- the entries before the one that was put
@@ -41,3 +41,11 @@ count-put symbols es e =
     ∙ length-append (changes_of symbols es) (notices_from (length (changes_of symbols es) + 1) made)
     ∙ ap (λ (n : ℕ). length (changes_of symbols es) + n)
     (length-numbered (length (changes_of symbols es) + 1) made)
+
+-- they come after those of the entries before
+pub latest-after : (symbols : List (List ℕ)) (es : List Entry) (e : Entry)
+    → changes_of symbols es ++ latest_of symbols (es ++ e ∷ [])
+    ≡ changes_of symbols (es ++ e ∷ [])
+latest-after symbols es e =
+    ap (λ (l : List Notice). changes_of symbols es ++ l) (latest-put symbols es e)
+    ∙ sym (changes-put symbols es e)

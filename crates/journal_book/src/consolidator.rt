@@ -1,7 +1,7 @@
 //! The journal with its subscribers' filters.
 
-ghost use Rattle.std.specs.Prelude.{◌≡◌, ◌<◌, ◌≤◌, ◌↔◌, length, IsTrue, IsSome, IfSome, IfOk, Some};
-ghost use Rattle.journal_book.specs.Journals.{new_journal, changes, subscriptions_of, Journals, Reserves, Declares, terms_at};
+ghost use Rattle.std.specs.Prelude.{◌≡◌, ◌<◌, ◌≤◌, ◌↔◌, length, IsTrue, IsSome, IfSome, IfNone, IfOk, Some};
+ghost use Rattle.journal_book.specs.Journals.{new_journal, changes, kept_of, subscriptions_of, Journals, Reserves, Declares, terms_at};
 
 use crate::fault::JournalFault;
 use crate::journal::Journal;
@@ -45,8 +45,7 @@ impl Consolidator {
         }
     }
 
-    /// Makes room for one entry and all changes that it can make: JournalFull where the journal
-    /// has as many entries as it holds, else NoMemory where room was missing and refused.
+    /// Makes room for one entry and all changes that it can make, as [`Journal::reserve_one`].
     pub fn reserve_one(&mut self) -> Result<(), JournalFault>
         ensures { Reserves (journal_in self.old) result (journal_in self.new) }
     {
@@ -94,12 +93,16 @@ impl Consolidator {
 
     /// Adds a subscriber, to which nothing was offered, and returns its id, the next one from 0 on.
     /// Its notices begin with the first change of the journal, whenever it subscribes. It is
-    /// refused, with the filter, as TooManySubscribers where there are 32, else as NoMemory.
+    /// refused, with the filter, as TooManySubscribers where there are 32, as TooLate where not all
+    /// changes are kept and there is one, else as NoMemory.
     pub fn subscribe(&mut self, filter: Filter) -> Result<SubscriberId, (JournalFault, Filter)>
         ensures { SubscribesFilter (journal_in self.old) filter result (journal_in self.new) }
     {
         if !self.journal.has_subscriber_room() {
             return Err((JournalFault::TooManySubscribers, filter));
+        }
+        if self.journal.is_late() {
+            return Err((JournalFault::TooLate, filter));
         }
         if self.filters.reserve(1).is_err() {
             return Err((JournalFault::NoMemory, filter));
@@ -170,17 +173,18 @@ impl Consolidator {
         self.journal.venue_count()
     }
 
-    /// The entries, each at its position less one.
+    /// The entries, each at its position less one; none where not all is kept.
     pub fn entries(&self) -> &[Entry]
-        ensures value { result.now ≡ (journal_in self.now).entries }
+        ensures value { result.now
+            ≡ kept_of (journal_in self.now).kept (journal_in self.now).entries }
         ensures within { length result.now ≤ (journal_in self.now).journal }
     {
         self.journal.entries()
     }
 
-    /// The changes of the entries, numbered from 1.
+    /// The changes of the entries, numbered from 1; where not all are kept, those that are.
     pub fn changes(&self) -> &[Notice]
-        ensures { result.now ≡ changes (journal_in self.now) }
+        ensures { IfNone (journal_in self.now).kept (result.now ≡ changes (journal_in self.now)) }
     {
         self.journal.changes()
     }

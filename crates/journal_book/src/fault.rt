@@ -23,10 +23,16 @@ pub enum JournalFault {
     /// There are 32 subscribers.
     #[error("there are 32 subscribers")]
     TooManySubscribers,
+    /// A subscriber is behind by more changes than it may be.
+    #[error("a subscriber is too far behind")]
+    SubscriberBehind,
+    /// Not all changes are kept, and there is one already.
+    #[error("the first change may be gone")]
+    TooLate,
 }
 
 impl JournalFault {
-    /// The code of the fault: 12 or 17 to 20.
+    /// The code of the fault: 12, 17 to 20, 51 or 64.
     pub fn code(self) -> u8
         ensures { result ≡ journal_fault_code self }
     {
@@ -36,6 +42,8 @@ impl JournalFault {
             JournalFault::UnknownVenue => 18,
             JournalFault::AlreadySo => 19,
             JournalFault::TooManySubscribers => 20,
+            JournalFault::SubscriberBehind => 51,
+            JournalFault::TooLate => 64,
         }
     }
 }

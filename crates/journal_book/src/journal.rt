@@ -1,18 +1,21 @@
 //! The journal of entries with the changes that they make, and a cursor for each subscriber.
 
-ghost use Rattle.std.specs.Prelude.{◌≡◌, ◌<◌, ◌≤◌, ◌^◌, ◌↔◌, ◌∷◌, [], ◌++◌, length, IsTrue, IsSome, IfSome, IfOk, Some};
+ghost use Rattle.std.specs.Prelude.{◌≡◌, ℕ, ◌+◌, ◌<◌, ◌≤◌, ◌^◌, ◌↔◌, ◌∷◌, [], ◌++◌, drop, length, slice_get, IsTrue, IsSome, IfSome, IfNone, IfOk, Some};
 ghost use Rattle.std.specs.Vec.{vec_len, vec_capacity};
-ghost use Rattle.journal_book.specs.Keeping.{Keeps, CursorMoves};
+ghost use Rattle.journal_book.specs.Keeping.{CursorMoves};
+ghost use Rattle.journal_book.specs.Journals.{kept_of};
 
 use crate::cursor::Cursor;
 use crate::fault::JournalFault;
+use crate::item_counts::ItemCounts;
 use crate::notices::push_notices;
 use crate::numbered_book::NumberedBook;
 use crate::room::make_room;
 use crate::search::{next_wanted, notice_at};
+use crate::slowest::slowest;
 use feed_types::{
     Entry, Item, MAX_SUBSCRIBERS, National, Notice, Numbered, Quote, SubscriberId, SymbolName,
-    VenueId,
+    VenueId, drop_front,
 };
 use filter_terms::{Filter, Terms};
 use nbbo_book::BookFault;
@@ -22,14 +25,20 @@ use std::marker::Model;
 /// The entries, in the order in which they were taken, the changes of the national best that they
 /// made, numbered from 1, and a cursor for each subscriber. It holds no closure.
 ///
+/// One that [`keeps few`](Journal::keeping) keeps no entry, and of the changes no more than some
+/// subscriber still wants: the numbers go on, and its memory is that which it takes when it is
+/// made. Where a subscriber is too far behind it takes no further entry until that one goes on.
+///
 /// Take a [`Journal`] where the filters are kept beside it, as under a lock whose contract names
 /// more than this crate does; take a [`Consolidator`](crate::Consolidator) where one value is to
-/// keep both, and a [`StreamingJournal`](crate::StreamingJournal) where nothing of it is read
-/// later.
+/// keep both, and a [`NumberedBook`] where nothing of it is read later.
 #[derive(Drop)]
 pub struct Journal {
     numbered: NumberedBook,
+    counted: ItemCounts,
+    most: Option<u32>,
     entries: Vec<Entry>,
+    first: usize,
     notices: Vec<Notice>,
     cursors: Vec<Cursor>,
 }
@@ -50,31 +59,49 @@ impl Model for Journal {
       symbols = j.numbered.symbols;
       venues = j.numbered.venues;
       journal = j.numbered.journal;
-      entries = j.entries.items;
+      kept = j.most;
+      entries = j.numbered.entries;
       cursors = j.cursors.items;
-      ready = has_room j.numbered.journal (length j.numbered.symbols) (vec_len j.entries)
-          (vec_capacity j.entries) (vec_len j.notices) (vec_capacity j.notices);
+      ready = has_room j.numbered.journal (length j.numbered.symbols) (length j.numbered.entries)
+          (vec_len j.entries) (vec_capacity j.entries) (vec_len j.notices)
+          (vec_capacity j.notices);
     } };
 
-    ghost invariant = { λ j. Keeps j.numbered j.entries.items j.notices.items j.cursors.items };
+    ghost invariant = { λ j. Keeps j.numbered j.counted j.most j.entries.items (vec_capacity j.entries)
+        j.first j.notices.items (vec_capacity j.notices) j.cursors.items };
 }
 
 /// Appends the entry, for which there is room.
 #[inline(always)]
 fn push_entry(entries: &mut Vec<Entry>, entry: Entry)
     requires { vec_len entries.old < vec_capacity entries.old }
-    ensures { entries.new.items ≡ entries.old.items ++ entry ∷ [] }
+    ensures items { entries.new.items ≡ entries.old.items ++ entry ∷ [] }
+    ensures capacity { vec_capacity entries.new ≡ vec_capacity entries.old }
 {
     let _named: Option<(Numbered, Item, Quote)> = None;
     entries.push_reserved(entry);
 }
 
-/// Moves the subscriber's cursor to this place.
-fn move_cursor(cursors: &mut Vec<Cursor>, index: usize, place: usize)
-    requires { index < vec_len cursors.old }
-    ensures { CursorMoves cursors.old.items index place cursors.new.items }
+/// Lets go of the entries, where not all is kept.
+#[inline(always)]
+fn let_entries_go(entries: &mut Vec<Entry>, most: Option<u32>)
+    ensures items { entries.new.items ≡ kept_of most entries.old.items }
+    ensures capacity { vec_capacity entries.new ≡ vec_capacity entries.old }
 {
-    cursors[index].seen = place;
+    if most.is_some() {
+        entries.clear();
+    }
+}
+
+/// Moves the subscriber's cursor this many places on.
+fn move_cursor(cursors: &mut Vec<Cursor>, index: usize, step: usize)
+    requires known { index < vec_len cursors.old }
+    requires fits { IfSome (slice_get cursors.old.items index)
+        (λ cursor. cursor.seen + step < 2 ^ 64) }
+    ensures { CursorMoves cursors.old.items index step cursors.new.items }
+{
+    let cursor = &mut cursors[index];
+    cursor.seen += step;
 }
 
 impl Journal {
@@ -83,11 +110,12 @@ impl Journal {
     ghost use Rattle.nbbo_book.specs.Nationals.{national_of};
     ghost use Rattle.nbbo_book.specs.Refusals.{ConfiguresBook};
     ghost use Rattle.nbbo_book.specs.Eligible.{is_self_helped};
-    ghost use Rattle.journal_book.specs.Journals.{JournalState, new_journal, changes, subscriptions_of, Journals, Reserves, Declares, AddsSubscription, terms_at, cursor_at};
-    ghost use Rattle.journal_book.specs.Cursors.{MovesCursor, GoesToNext, StandsAtWanted, AdvancesCursor};
+    ghost use Rattle.journal_book.specs.Journals.{JournalState, new_journal, changes, subscriptions_of, Journals, Reserves, Declares, AddsSubscription, IsLate, terms_at};
+    ghost use Rattle.journal_book.specs.ItemsIn.{items_in};
+    ghost use Rattle.journal_book.specs.Cursors.{IsUnseen, HasUnseen, MovesOn, GoesToNext, StandsAtWanted, AdvancesCursor};
 
     /// A journal of no entries and no subscribers, over `venue_count` venues, 1 to 16, and these
-    /// symbols, at most 4,096 and each once. It holds at most `journal` entries.
+    /// symbols, at most 4,096 and each once. It takes at most `journal` entries, and keeps all.
     ///
     /// The refusals are those of [`nbbo_book::Book::new`], in its order.
     pub fn new(
@@ -102,31 +130,76 @@ impl Journal {
         let numbered = NumberedBook::new(alloc, symbols, venue_count, journal)?;
         Ok(Journal {
             numbered,
+            counted: ItemCounts::none(),
+            most: None,
             entries: Vec::new(alloc),
+            first: 0,
             notices: Vec::new(alloc),
             cursors: Vec::new(alloc),
         })
     }
 
+    /// The same, but it keeps no entry, and of the changes those that some subscriber still wants.
+    /// A subscriber may be behind by `kept` changes. There is room for twice as many, so that they
+    /// are seldom moved. All memory but that of subscribers is asked for here.
+    pub fn keeping(
+        alloc: Global,
+        symbols: &[SymbolName],
+        venue_count: usize,
+        journal: u32,
+        kept: u32,
+    ) -> Result<Journal, BookFault>
+        ensures new { IfOk result (λ made. made
+            ≡ record (new_journal symbols.now venue_count journal) {
+              kept = Some kept;
+              ready = made.ready;
+            }) }
+        ensures answer { ConfiguresBook symbols.now venue_count result }
+    {
+        let numbered = NumberedBook::new(alloc, symbols, venue_count, journal)?;
+        let room = kept as usize * 2 + symbols.len();
+        let (Ok(entries), Ok(notices)) = (
+            Vec::with_capacity(alloc, 1),
+            Vec::with_capacity(alloc, room),
+        ) else {
+            return Err(BookFault::NoMemory);
+        };
+        Ok(Journal {
+            numbered,
+            counted: ItemCounts::none(),
+            most: Some(kept),
+            entries,
+            first: 0,
+            notices,
+            cursors: Vec::new(alloc),
+        })
+    }
+
     /// Makes room for one entry and all changes that it can make: JournalFull where the journal
-    /// has as many entries as it holds, else NoMemory where room was missing and refused.
+    /// has as many entries as it takes. Else, where room was missing: NoMemory, if all is kept and
+    /// memory was refused; if not all is kept, SubscriberBehind, where a subscriber is behind by
+    /// more changes than it may be.
     pub fn reserve_one(&mut self) -> Result<(), JournalFault>
         ensures { Reserves self.old result self.new }
     {
-        if self.entries.len() >= self.numbered.limit() as usize {
+        if !self.numbered.has_room() {
             return Err(JournalFault::JournalFull);
         }
         if self.has_room() {
             return Ok(());
         }
-        self.grow()
+        match self.most {
+            None => self.grow(),
+            Some(kept) => self.let_go(kept as usize),
+        }
     }
 
-    /// Does the same, where the journal may hold one more entry and there is no room for it.
+    /// Makes room where all is kept, and where there is none for one more entry.
     #[inline(never)]
     fn grow(&mut self) -> Result<(), JournalFault>
         requires more { length self.old.entries < self.old.journal }
         requires full { self.old.ready ≡ false }
+        requires all { self.old.kept ≡ None }
         ensures { Reserves self.old result self.new }
     {
         let enough = self.numbered.limit() as usize;
@@ -140,18 +213,37 @@ impl Journal {
         Ok(())
     }
 
+    /// Lets go of the changes that all subscribers have passed, where not all are kept, and where
+    /// there is no room for one more entry.
+    #[inline(never)]
+    fn let_go(&mut self, kept: usize) -> Result<(), JournalFault>
+        requires more { length self.old.entries < self.old.journal }
+        requires full { self.old.ready ≡ false }
+        requires few { self.old.kept ≡ Some kept }
+        ensures { Reserves self.old result self.new }
+    {
+        let end = self.numbered.change_count();
+        let first = slowest(self.cursors.as_slice(), end);
+        if end - first > kept {
+            return Err(JournalFault::SubscriberBehind);
+        }
+        drop_front(&mut self.notices, first - self.first);
+        self.first = first;
+        Ok(())
+    }
+
     /// Whether there is room for one more entry and all changes that it can make.
     pub fn has_room(&self) -> bool
         ensures { result ≡ self.now.ready }
     {
         let most = self.numbered.book().symbol_count();
-        self.entries.len() < self.numbered.limit() as usize
+        self.numbered.entry_count() < u64::from(self.numbered.limit())
             && self.entries.len() < self.entries.capacity()
             && self.notices.len() + most <= self.notices.capacity()
     }
 
     /// Journals the entry and its changes, and returns its position. The entry is written where it
-    /// stays, and read there.
+    /// stays, if all is kept, and read there.
     #[inline(always)]
     fn add(&mut self, entry: Entry) -> u64
         requires ready { IsTrue self.old.ready }
@@ -161,10 +253,11 @@ impl Journal {
         ensures offered { subscriptions_of self.new ≡ subscriptions_of self.old }
     {
         let place = self.entries.len();
-        let position = place as u64 + 1;
+        self.counted.count(&entry);
         push_entry(&mut self.entries, entry);
-        self.numbered.take(position, &self.entries[place]);
+        let position = self.numbered.add(&self.entries[place]);
         push_notices(&mut self.notices, self.numbered.latest());
+        let_entries_go(&mut self.entries, self.most);
         position
     }
 
@@ -207,17 +300,25 @@ impl Journal {
         self.numbered.book().venue_count()
     }
 
-    /// The entries, each at its position less one.
+    /// The entries, each at its position less one; none where not all is kept.
     pub fn entries(&self) -> &[Entry]
-        ensures value { result.now ≡ self.now.entries }
+        ensures value { result.now ≡ kept_of self.now.kept self.now.entries }
         ensures within { length result.now ≤ self.now.journal }
     {
         self.entries.as_slice()
     }
 
-    /// The changes of the entries, numbered from 1.
+    /// Returns how many items of the venue were journaled.
+    pub fn consumed_count(&self, venue: VenueId) -> u32
+        ensures { result ≡ length (items_in self.now.entries venue) }
+    {
+        self.counted.of(venue)
+    }
+
+    /// The changes of the entries, numbered from 1; where not all are kept, those that are.
     pub fn changes(&self) -> &[Notice]
-        ensures { result.now ≡ changes self.now }
+        ensures value { IfNone self.now.kept (result.now ≡ changes self.now) }
+        ensures kept { (first : ℕ) × (result.now ≡ drop first (changes self.now)) }
     {
         self.notices.as_slice()
     }
@@ -232,8 +333,8 @@ impl Journal {
     }
 
     /// Adds a subscriber of these terms, to which nothing was offered, and returns its id, the next
-    /// one from 0 on. It is refused, with the terms, as TooManySubscribers where there are 32, else
-    /// as NoMemory.
+    /// one from 0 on. It is refused, with the terms, as TooManySubscribers where there are 32, as
+    /// TooLate where not all changes are kept and there is one, else as NoMemory.
     pub fn subscribe(&mut self, terms: Terms) -> Result<SubscriberId, (JournalFault, Terms)>
         ensures { AddsSubscription self.old terms result self.new }
     {
@@ -241,6 +342,9 @@ impl Journal {
         let Some(id) = SubscriberId::new(count as u8) else {
             return Err((JournalFault::TooManySubscribers, terms));
         };
+        if self.is_late() {
+            return Err((JournalFault::TooLate, terms));
+        }
         if self.cursors.reserve(1).is_err() {
             return Err((JournalFault::NoMemory, terms));
         }
@@ -278,24 +382,29 @@ impl Journal {
         &self.cursors[id.index()].terms
     }
 
-    /// How many of the changes were looked at for the subscriber.
-    pub fn cursor(&self, id: SubscriberId) -> usize
-        requires { id < length self.now.cursors }
-        ensures value { cursor_at self.now id ≡ Some result }
-        ensures within { result ≤ length (changes self.now) }
-        ensures small { result < 2 ^ 63 }
+    /// Whether not all changes are kept, and there is one: then no further subscriber is taken.
+    pub fn is_late(&self) -> bool
+        ensures { IsTrue result ↔ IsLate self.now }
     {
-        self.cursors[id.index()].seen
+        self.most.is_some() && self.numbered.change_count() > 0
     }
 
-    /// Moves the subscriber's cursor to `place`.
-    #[inline(always)]
-    fn move_to(&mut self, id: SubscriberId, place: usize)
-        requires known { id < length self.old.cursors }
-        requires within { place ≤ length (changes self.old) }
-        ensures { MovesCursor self.old id place self.new }
+    /// The changes that weren't looked at for the subscriber. They are all kept.
+    pub fn unseen(&self, id: SubscriberId) -> &[Notice]
+        requires { id < length self.now.cursors }
+        ensures { IsUnseen self.now id result.now }
     {
-        move_cursor(&mut self.cursors, id.index(), place);
+        let from = self.cursors[id.index()].seen - self.first;
+        &self.notices.as_slice()[from..]
+    }
+
+    /// Moves the subscriber's cursor this many places on.
+    #[inline(always)]
+    fn move_on(&mut self, id: SubscriberId, step: usize)
+        requires { HasUnseen self.old id step }
+        ensures { MovesOn self.old id step self.new }
+    {
+        move_cursor(&mut self.cursors, id.index(), step);
     }
 
     /// Moves the subscriber's cursor on to the next change that it wants, or to the end, and
@@ -307,10 +416,11 @@ impl Journal {
         ensures goes { GoesToNext self.old id result self.new }
         ensures stands { IfSome result (λ _. StandsAtWanted self.new id) }
     {
-        let from = self.cursor(id);
-        let place = next_wanted(filter, self.terms(id), self.changes(), from);
-        self.move_to(id, place);
-        notice_at(self.changes(), place)
+        let unseen = self.unseen(id);
+        let step = next_wanted(filter, self.terms(id), unseen);
+        let found = notice_at(unseen, step);
+        self.move_on(id, step);
+        found
     }
 
     /// Moves the subscriber's cursor past the change where it stands, which is one that it wants:
@@ -320,7 +430,6 @@ impl Journal {
         requires { StandsAtWanted self.old id }
         ensures { AdvancesCursor self.old id self.new }
     {
-        let place = self.cursor(id);
-        self.move_to(id, place + 1);
+        self.move_on(id, 1);
     }
 }

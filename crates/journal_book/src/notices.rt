@@ -1,22 +1,22 @@
-//! The numbering of changes.
+//! The changes that a journal keeps.
 
 ghost use Rattle.std.specs.Prelude.{◌≡◌, ◌<◌, ◌≤◌, ◌+◌, ◌++◌, ◌∷◌, [], length};
 ghost use Rattle.std.specs.Vec.{vec_len, vec_capacity};
 ghost use Rattle.journal_book.specs.Changes.{notice_of, notices_from};
 
+use crate::numbered_book::EntryChanges;
 use feed_types::{Best, National, Notice};
 use nbbo_book::Change;
 
-/// Appends the change under the next number.
+/// Appends the change under this number.
 #[inline(never)]
-fn push_notice(notices: &mut Vec<Notice>, change: &Change)
+fn push_notice(notices: &mut Vec<Notice>, number: u64, change: &Change)
     requires { vec_len notices.old < vec_capacity notices.old }
     ensures items { notices.new.items
-        ≡ notices.old.items ++ notice_of (vec_len notices.old + 1) change.now ∷ [] }
+        ≡ notices.old.items ++ notice_of number change.now ∷ [] }
     ensures len { vec_len notices.new ≡ vec_len notices.old + 1 }
     ensures capacity { vec_capacity notices.new ≡ vec_capacity notices.old }
 {
-    let number = notices.len() as u64 + 1;
     // The prover is told here of the types that are nested in what is pushed.
     let bid: Option<Best> = change.national.bid;
     let offer: Option<Best> = change.national.offer;
@@ -28,15 +28,18 @@ fn push_notice(notices: &mut Vec<Notice>, change: &Change)
     });
 }
 
-/// Appends the changes under the next numbers. There is room for them.
+/// Appends the changes under their numbers. There is room for them.
 #[inline(always)]
-pub(crate) fn push_notices(notices: &mut Vec<Notice>, made: &[Change])
-    requires { vec_len notices.old + length made.now ≤ vec_capacity notices.old }
+pub(crate) fn push_notices(notices: &mut Vec<Notice>, latest: EntryChanges<'_>)
+    requires room { vec_len notices.old + length latest.changes.now ≤ vec_capacity notices.old }
+    requires numbers { latest.first + length latest.changes.now ≤ 18446744073709551615 }
     ensures items { notices.new.items
-        ≡ notices.old.items ++ notices_from (vec_len notices.old + 1) made.now }
+        ≡ notices.old.items ++ notices_from latest.entry.first latest.entry.changes.now }
     ensures capacity { vec_capacity notices.new ≡ vec_capacity notices.old }
 {
-    for change in made {
-        push_notice(notices, change);
+    let mut number = latest.first;
+    for change in latest.changes {
+        push_notice(notices, number, change);
+        number += 1;
     }
 }

@@ -1,32 +1,45 @@
 //! A book whose entries are numbered.
 
-ghost use Rattle.std.specs.Prelude.{◌≡◌, ◌+◌, ◌<◌, ◌≤◌, ◌↔◌, length, IsTrue, IfOk};
+ghost use Rattle.std.specs.Prelude.{◌≡◌, ◌+◌, ◌^◌, ◌<◌, ◌≤◌, ◌↔◌, length, IsTrue, IfOk};
 ghost use Rattle.feed_types.specs.declared.journal.Entry.{Entry};
 ghost use Rattle.nbbo_book.specs.Books.{FitsBook, venue_of};
+ghost use Rattle.nbbo_book.specs.Eligible.{is_so};
 ghost use Rattle.nbbo_book.specs.Refusals.{ConfiguresBook};
+ghost use Rattle.journal_book.specs.Changes.{changes_of, notices_from};
 ghost use Rattle.journal_book.specs.Declares.{DeclaresBy};
 
 use crate::fault::JournalFault;
-use crate::journaled_entries::JournaledEntries;
-use feed_types::{Entry, SymbolName, VenueId};
+use feed_types::{Entry, Numbered, Past, SymbolName, VenueId};
 use nbbo_book::{Book, BookFault, Change};
 use std::alloc::Global;
 use std::marker::Model;
 
-/// A book that takes entries up to a limit and numbers them from 1, with the changes that the last
-/// one made. It keeps no entry: a journal stands round it. All its memory is asked for in `new`.
+/// The changes that one entry made, in the order of the symbols, and the number of the first one:
+/// the others count on from it.
+#[derive(Clone, Copy, Debug)]
+pub struct EntryChanges<'a> {
+    pub first: u64,
+    pub changes: &'a [Change],
+}
+
+/// A journal that keeps no entry and no notice: it numbers entries up to a limit, knows what the
+/// next one changes, and shows what the last one changed.
+///
+/// Take it where what is journaled is written elsewhere, as a replay prints it. It takes all its
+/// memory when it is made, however many entries come.
 #[derive(Drop)]
-pub(crate) struct NumberedBook {
+pub struct NumberedBook {
     book: Book,
     limit: u32,
+    earlier: u64,
     latest: Vec<Change>,
-    past: JournaledEntries,
+    past: Past<Entry>,
 }
 
 impl Model for NumberedBook {
     ghost use Rattle.std.specs.Vec.{vec_capacity};
     ghost use Rattle.journal_book.specs.NumberedBooks.{NumberedState};
-    ghost use Rattle.journal_book.specs.Keeping.{FitsEntries};
+    ghost use Rattle.journal_book.specs.Keeping.{NumbersEntries};
 
     ghost Value = { NumberedState };
 
@@ -34,19 +47,21 @@ impl Model for NumberedBook {
       symbols = b.book.symbols;
       venues = b.book.venues;
       journal = b.limit;
-      entries = b.past.entries;
-      latest = b.latest.items;
+      entries = b.past.items;
     } };
 
-    ghost invariant = { λ b. FitsEntries b.book (vec_capacity b.latest) b.past.entries };
+    ghost invariant = { λ b. NumbersEntries b.book b.limit b.past.items b.earlier b.latest.items
+        (vec_capacity b.latest) };
 }
 
 impl NumberedBook {
-    ghost use Rattle.journal_book.specs.NumberedBooks.{NumberedState, new_numbered, TakesEntry};
+    ghost use Rattle.journal_book.specs.NumberedBooks.{NumberedState, new_numbered, before_last, latest_of, GoesOnBy, DeclaresNext};
 
-    /// Makes a book of no entries over `venue_count` venues and these symbols, which takes at most
-    /// `limit` entries. The refusals are those of [`Book::new`], in its order.
-    pub(crate) fn new(
+    /// A book of no entries over `venue_count` venues, 1 to 16, and these symbols, at most 4,096
+    /// and each once. It takes at most `limit` entries.
+    ///
+    /// The refusals are those of [`nbbo_book::Book::new`], in its order.
+    pub fn new(
         alloc: Global,
         symbols: &[SymbolName],
         venue_count: usize,
@@ -62,8 +77,9 @@ impl NumberedBook {
         Ok(NumberedBook {
             book,
             limit,
+            earlier: 0,
             latest,
-            past: JournaledEntries::new(),
+            past: Past::new(),
         })
     }
 
@@ -86,25 +102,82 @@ impl NumberedBook {
         self.limit
     }
 
-    /// Returns whether one more entry is taken.
+    /// Returns how many entries were taken.
     #[inline(always)]
-    pub(crate) fn has_room(&self) -> bool
+    pub(crate) fn entry_count(&self) -> u64
+        ensures { result ≡ length self.now.entries }
+    {
+        self.book.last_position()
+    }
+
+    /// Whether one more entry may be journaled.
+    #[inline(always)]
+    pub fn has_room(&self) -> bool
         ensures { IsTrue result ↔ (length self.now.entries < self.now.journal) }
     {
         self.book.last_position() < u64::from(self.limit)
+    }
+
+    /// Journals the entry, and returns its position.
+    #[inline(always)]
+    pub(crate) fn add(&mut self, entry: &Entry) -> u64
+        requires room { length self.old.entries < self.old.journal }
+        requires venue { venue_of entry.now < self.old.venues }
+        ensures goes_on { GoesOnBy self.old entry.now self.new }
+        ensures position { result ≡ length self.new.entries }
+    {
+        let position = self.book.last_position() + 1;
+        self.earlier += self.latest.len() as u64;
+        self.latest.clear();
+        self.book.apply(position, entry, &mut self.latest);
+        self.past = self.past.with(entry);
+        position
+    }
+
+    /// Journals the venue's item, and returns its position, which counts from 1. There is room, and
+    /// the venue is below the count.
+    #[inline(always)]
+    pub fn record(&mut self, venue: VenueId, numbered: Numbered) -> u64
+        requires room { length self.old.entries < self.old.journal }
+        requires venue { venue < self.old.venues }
+        ensures goes_on { GoesOnBy self.old (Entry.Consumed venue numbered) self.new }
+        ensures position { result ≡ length self.new.entries }
+    {
+        self.add(&Entry::Consumed { venue, numbered })
+    }
+
+    /// Reads what the venue's quotation of a symbol will read of the book, where a message to come
+    /// has this field, as [`nbbo_book::Book::prefetch`] does. It changes no answer. Returns whether
+    /// that pays.
+    #[inline(always)]
+    pub fn prefetch(&mut self, venue: VenueId, field: [u8; 8]) -> bool
+        ensures { self.new ≡ self.old }
+    {
+        self.book.prefetch(venue, field)
+    }
+
+    /// Returns whether self-help on the venue is as declared, on or off.
+    fn is_so(&self, venue: VenueId, on: bool) -> bool
+        ensures { result ≡ is_so self.now.entries venue on }
+    {
+        if self.book.is_self_helped(venue) {
+            on
+        } else {
+            !on
+        }
     }
 
     /// Returns whether self-help may be declared on the venue, or withdrawn. It is refused as
     /// UnknownVenue, AlreadySo where the venue's self-help is in that state, or JournalFull: the
     /// first that fits.
     pub(crate) fn may_declare(&self, venue: VenueId, on: bool) -> Result<(), JournalFault>
-        ensures { DeclaresBy self.now.venues self.now.journal self.now.entries (Unit {0}) ⊥
+        ensures { DeclaresBy self.now.venues self.now.journal self.now.entries (Unit {0}) (λ _. ⊥)
             (λ _. Unit {0}) venue on result }
     {
         if venue.index() >= self.book.venue_count() {
             return Err(JournalFault::UnknownVenue);
         }
-        if self.book.is_self_helped(venue) == on {
+        if self.is_so(venue, on) {
             return Err(JournalFault::AlreadySo);
         }
         if !self.has_room() {
@@ -113,45 +186,38 @@ impl NumberedBook {
         Ok(())
     }
 
-    /// Returns the position of the next entry, of which there is room for one.
-    #[inline(always)]
-    pub(crate) fn next_position(&self) -> u64
-        requires { length self.now.entries < self.now.journal }
-        ensures { result ≡ length self.now.entries + 1 }
+    /// Declares self-help on the venue, or withdraws it, and returns the entry's position. It is
+    /// refused as UnknownVenue, AlreadySo where the venue's self-help is in that state (off at
+    /// first), or JournalFull: the first that fits.
+    pub fn declare(&mut self, venue: VenueId, on: bool) -> Result<u64, JournalFault>
+        ensures { DeclaresNext self.old venue on result self.new }
     {
-        let _bounds_it = self.limit;
-        self.book.last_position() + 1
+        self.may_declare(venue, on)?;
+        Ok(self.add(&Entry::SelfHelp { venue, on }))
     }
 
-    /// Applies the next entry, whose position this is.
-    #[inline(always)]
-    pub(crate) fn take(&mut self, position: u64, entry: &Entry)
-        requires next { position ≡ length self.old.entries + 1 }
-        requires venue { venue_of entry.now < self.old.venues }
-        ensures takes { TakesEntry self.old entry.now self.new }
-        ensures few { length self.new.latest ≤ length self.new.symbols }
-        ensures most { length self.new.symbols ≤ 4096 }
+    /// Returns how many changes all entries made.
+    pub(crate) fn change_count(&self) -> usize
+        ensures value { result ≡ length (changes_of self.now.symbols self.now.entries) }
+        ensures small { result < 2 ^ 44 }
     {
-        self.latest.clear();
-        self.book.apply(position, entry, &mut self.latest);
-        self.past = self.past.with(entry);
+        self.earlier as usize + self.latest.len()
     }
 
-    /// Lends the changes that the last entry made, in the order of the symbols; none before there
-    /// is one.
+    /// The changes that the last entry made; none before there is one.
     #[inline(always)]
-    pub(crate) fn latest(&self) -> &[Change]
-        ensures { result.now ≡ self.now.latest }
+    pub fn latest(&self) -> EntryChanges<'_>
+        ensures first { result.first
+            ≡ length (changes_of self.now.symbols (before_last self.now.entries)) + 1 }
+        ensures notices { notices_from result.first result.changes.now
+            ≡ latest_of self.now.symbols self.now.entries }
+        ensures few { length result.changes.now ≤ length self.now.symbols }
+        ensures numbers { result.first + length result.changes.now ≤ 18446744073709551615 }
+        ensures small { length (changes_of self.now.symbols self.now.entries) < 2 ^ 44 }
     {
-        self.latest.as_slice()
-    }
-
-    /// Reads what the venue's quotation of a symbol will read of the book, where a message to come
-    /// has this field, as [`Book::prefetch`] does. It changes no answer. Returns whether that pays.
-    #[inline(always)]
-    pub(crate) fn prefetch(&mut self, venue: VenueId, field: [u8; 8]) -> bool
-        ensures { self.new ≡ self.old }
-    {
-        self.book.prefetch(venue, field)
+        EntryChanges {
+            first: self.earlier + 1,
+            changes: self.latest.as_slice(),
+        }
     }
 }

@@ -1,6 +1,6 @@
 //! The search for the next notice that a subscriber wants.
 
-ghost use Rattle.std.specs.Prelude.{◌≡◌, ◌<◌, ◌^◌, slice_get};
+ghost use Rattle.std.specs.Prelude.{◌≡◌, slice_get};
 ghost use Rattle.filter_terms.specs.Terms.{meets};
 ghost use Rattle.journal_book.specs.Places.{IsNextPlace};
 
@@ -17,13 +17,12 @@ fn is_wanted(filter: Option<&Filter>, terms: &Terms, notice: &Notice) -> bool
     }
 }
 
-/// Returns the place of the first of `notices` from `from` on that meets `terms`, or the end. The
-/// filter is asked about each notice on the way; its terms are these, or a copy of them.
-pub fn next_wanted(filter: Option<&Filter>, terms: &Terms, notices: &[Notice], from: usize) -> usize
-    ensures next { IsNextPlace (meets terms.now) notices.now from result }
-    ensures small { result < 2 ^ 63 }
+/// Returns the place of the first of `notices` that meets `terms`, or the end. The filter is asked
+/// about each notice on the way; its terms are these, or a copy of them.
+pub(crate) fn next_wanted(filter: Option<&Filter>, terms: &Terms, notices: &[Notice]) -> usize
+    ensures { IsNextPlace (meets terms.now) notices.now 0 result }
 {
-    for place in from..notices.len() {
+    for place in 0..notices.len() {
         if is_wanted(filter, terms, &notices[place]) {
             return place;
         }
@@ -32,7 +31,7 @@ pub fn next_wanted(filter: Option<&Filter>, terms: &Terms, notices: &[Notice], f
 }
 
 /// Returns the notice at `place`, `None` where that is the end.
-pub fn notice_at(notices: &[Notice], place: usize) -> Option<Notice>
+pub(crate) fn notice_at(notices: &[Notice], place: usize) -> Option<Notice>
     ensures { result ≡ slice_get notices.now place }
 {
     notices.get(place).copied()

@@ -1,5 +1,5 @@
 use Rattle.journal_book.specs.CursorLaws.{past_stays, past_many}
-use Rattle.journal_book.proofs.Offering.{stands_still, one_offered}
+use Rattle.journal_book.specs.OfferLaws.{stands_still, one_offered}
 use Rattle.journal_book.proofs.consolidator.Consolidator.advance_cursor.Goals as goal
 
 pub advance_cursor-requires : goal.advance_cursor-requires

@@ -1,5 +1,5 @@
 use Rattle.journal_book.specs.CursorLaws.{goes_stays, goes_many}
-use Rattle.journal_book.proofs.Offering.{next_is, none_offered, next_stays}
+use Rattle.journal_book.specs.OfferLaws.{next_is, none_offered, next_stays}
 use Rattle.journal_book.proofs.consolidator.Consolidator.next_offer.Goals as goal
 
 pub returns-clause-next : goal.returns-clause-next

@@ -1,4 +1,4 @@
 use Rattle.journal_book.proofs.journal.Journal.national.Goals as goal
 
 pub returns-clause-value : goal.returns-clause-value
-returns-clause-value c = rw (← c.self.view_is, c.self.invariant.same) (c.national.ensures.value _ c.book.ensures.fits)
+returns-clause-value c = rw (← c.self.view_is) (c.national.ensures.value _ c.book.ensures.fits)

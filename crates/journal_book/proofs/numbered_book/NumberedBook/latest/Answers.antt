@@ -1,5 +1,5 @@
 use Rattle.std.proofs.Common.{arith}
-use Rattle.journal_book.proofs.streaming.StreamingJournal.latest.Goals as goal
+use Rattle.journal_book.proofs.numbered_book.NumberedBook.latest.Goals as goal
 
 pub overflow_add-result : goal.overflow_add-result
 overflow_add-result c =
